@@ -1,0 +1,4 @@
+pub mod Token
+pub mod Glue
+pub mod Number
+pub mod Quote

@@ -1,0 +1,5 @@
+pub mod Directory
+pub mod Sinks
+pub mod Reading
+pub mod Memory
+pub mod Machine

@@ -1,0 +1,32 @@
+-- What reading a file to its end answers.
+use Rattle.std.specs.Prelude.{◌≡◌, ℕ, ◌^◌, ◌≤◌, ◌<◌, List, length, drop, Option, Some, None, IsSomeAnd, Result, Ok, Err}
+use Rattle.std.specs.Str.{IsUtf8}
+use Rattle.isle_outside.specs.Directory.{Current, Nothing, Reading, InFolder}
+use Rattle.isle_outside.specs.declared.errors.IoCause.{IoCause}
+use Rattle.isle_outside.specs.declared.errors.IoCause.TheVariants as cause
+use Rattle.isle_outside.specs.declared.errors.ReadFail.{ReadFail}
+use Rattle.isle_outside.specs.declared.errors.ReadFail.TheVariants as fail
+
+-- why the file of a name is not read: what it holds is told, or that there is none
+abbrev pub IsCause : IoCause → Option (List ℕ) → Type 0
+IsCause cause.Fault file = Unit {0}
+IsCause cause.Absent file = file ≡ None
+IsCause cause.TooLong file = IsSomeAnd file (λ bytes. 2 ^ 24 < length bytes)
+IsCause cause.NotUtf8 file = IsSomeAnd file (λ bytes. (length bytes ≤ 2 ^ 24) × (IsUtf8 bytes → ⊥))
+
+-- a file that can be read: it is there, is not too long and is text
+abbrev pub IsText : List ℕ → Option (List ℕ) → Type 0
+IsText text file = (file ≡ Some text) × (length text ≤ 2 ^ 24) × IsUtf8 text
+
+-- the answer to reading a file, where its directory tells it; `view` shows the bytes of what was read
+abbrev pub Answers : {X : Type 0} → (X → List ℕ) → Result X ReadFail → Option (List ℕ) → Type 0
+Answers view (Ok x) file = IsText (view x) file
+Answers view (Err (fail.Io why)) file = IsCause why file
+Answers view (Err fail.Memory) file = Unit {0}
+
+-- of the file's bytes at most so many were taken, where the directory tells them
+abbrev pub TakenAtMost : ℕ → Option (List ℕ) → Current → Type 0
+TakenAtMost most file Nothing = Unit {0}
+TakenAtMost most file (InFolder name) = Unit {0}
+TakenAtMost most file (Reading None) = Unit {0}
+TakenAtMost most file (Reading (Some left)) = IsSomeAnd file (λ bytes. (n : ℕ) × (n ≤ most) × (left ≡ drop n bytes))

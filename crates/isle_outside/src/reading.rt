@@ -1,0 +1,34 @@
+ghost use Rattle.std.specs.Prelude.{◌≡◌, ◌≤◌, ◌^◌, ◌+◌, IfSome, Err, IsErrOf};
+ghost use Rattle.std.specs.String.{string_bytes};
+ghost use Rattle.isle_outside.specs.Directory.{IsReading, Rose, bytes_of};
+ghost use Rattle.isle_outside.specs.Reading.{Answers, TakenAtMost};
+
+use crate::dir::{Dir, Found};
+use crate::errors::{IoCause, ReadFail};
+use std::alloc::Global;
+
+/// The most bytes of an input.
+const MAX_BYTES: usize = 1 << 24;
+
+/// The text of the file of a name. It takes at most 2^24 + 1 bytes of the file, at least one a turn.
+///
+/// `Io` gives the cause; `Fault` comes only where the directory's count of faults rose.
+pub fn read_text<D: Dir>(alloc: Global, dir: &mut D, name: &str) -> Result<String, ReadFail>
+    ensures exact { IfSome (D.files dir.old) (λ files. Answers string_bytes result (bytes_of files name.now)) }
+    ensures bounded { IfSome (D.files dir.old) (λ files. TakenAtMost (2 ^ 24 + 1) (bytes_of files name.now) (D.current dir.new)) }
+    ensures fault { result ≡ Err (ReadFail.Io IoCause.Fault) → Rose (D.faults dir.old) (D.faults dir.new) }
+    ensures files { D.files dir.new ≡ D.files dir.old }
+    ensures later { D.faults dir.old ≤ D.faults dir.new }
+{
+    match dir.find(name) {
+        Err(_) => Err(ReadFail::Io(IoCause::Fault)),
+        Ok(Found::File) => {
+            let bytes = rest(alloc, dir)?;
+            match String::from_utf8(bytes) {
+                Ok(text) => Ok(text),
+                Err(_) => Err(ReadFail::Io(IoCause::NotUtf8)),
+            }
+        }
+        Ok(_) => Err(ReadFail::Io(IoCause::Absent)),
+    }
+}
