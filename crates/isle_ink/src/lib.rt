@@ -1,8 +1,10 @@
 //! Target text, seen as the tokens that it spells: a printer, numbers and strings.
 #![tactic(auto)]
 
+mod comment;
 mod numeral;
 mod printer;
 
+pub use comment::push_comment;
 pub use numeral::push_numeral;
 pub use printer::Printer;

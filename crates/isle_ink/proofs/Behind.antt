@@ -1,0 +1,52 @@
+-- A text behind one that ends between tokens: the tokens of both.
+use Rattle.std.proofs.Common.{◌≡◌, ℕ, List, [], ◌∷◌, ◌++◌, Bool, true, false, cond, eqb, refl, sym, ap, ◌∙◌, append_assoc}
+use Rattle.std.specs.Prelude.{◌&&◌, ◌||◌, fold}
+use Rattle.std.proofs.lemmas.List.{append-nil}
+use Rattle.isle_ink.specs.Token.{Token, Word, Mark, Quoted, Stray, State, Between, InWord, AfterMark, InComment, InQuotes, Escaped, Scan, is_word_byte, is_blank, joins, begun, step, last_of, scan, finished, tokens_of}
+use Rattle.isle_ink.proofs.Scans.{scan-append}
+
+-- a scan with tokens before its own
+unfoldable pub behind : List Token → Scan → Scan
+behind ts x = record { tokens = ts ++ x.tokens; state = x.state }
+
+-- either way of a choice
+choice_behind : (ts : List Token) (b : Bool) (x y x' y' : Scan) → x' ≡ behind ts x → y' ≡ behind ts y → cond b x' y' ≡ behind ts (cond b x y)
+choice_behind ts true x y x' y' e k = e
+choice_behind ts false x y x' y' e k = k
+
+begun_behind : (ts us : List Token) (b : ℕ) → begun (ts ++ us) b ≡ behind ts (begun us b)
+unfolding begun behind
+begun_behind ts us b = choice_behind ts (is_word_byte b) _ _ _ _ refl (choice_behind ts (is_blank b) _ _ _ _ refl (choice_behind ts (eqb b 34) _ _ _ _ refl refl))
+
+step_behind : (ts us : List Token) (st : State) (b : ℕ) → step (record { tokens = ts ++ us; state = st }) b ≡ behind ts (step (record { tokens = us; state = st }) b)
+unfolding step behind
+step_behind ts us Between b = begun_behind ts us b
+step_behind ts us (InWord w) b =
+    choice_behind ts (is_word_byte b) _ _ _ _ refl (ap (λ l. begun l b) (append_assoc ts us (Word w ∷ [])) ∙ begun_behind ts (us ++ Word w ∷ []) b)
+step_behind ts us (AfterMark a) b =
+    choice_behind ts (joins a b) _ _ _ _ (ap (λ l. record { tokens = l; state = Between }) (append_assoc ts us (Mark (a ∷ b ∷ []) ∷ [])))
+    (choice_behind ts (eqb a 47 && eqb b 47) _ _ _ _ refl (ap (λ l. begun l b) (append_assoc ts us (Mark (a ∷ []) ∷ [])) ∙ begun_behind ts (us ++ Mark (a ∷ []) ∷ []) b))
+step_behind ts us InComment b = choice_behind ts (eqb b 10) _ _ _ _ refl refl
+step_behind ts us (InQuotes w) b =
+    choice_behind ts (eqb b 34) _ _ _ _ (ap (λ l. record { tokens = l; state = Between }) (append_assoc ts us (Quoted w ∷ []))) (choice_behind ts (eqb b 92) _ _ _ _ refl refl)
+step_behind ts us (Escaped w) b =
+    choice_behind ts (eqb b 34 || eqb b 92) _ _ _ _ refl (ap (λ l. record { tokens = l; state = InQuotes w }) (append_assoc ts us (Stray ∷ [])))
+
+pub fold-behind : (ts : List Token) (x : Scan) (text : List ℕ) → fold step (behind ts x) text ≡ behind ts (fold step x text)
+unfolding behind
+fold-behind ts x [] = refl
+fold-behind ts x (b ∷ bs) = ap (λ s. fold step s bs) (step_behind ts x.tokens x.state b) ∙ fold-behind ts (step x b) bs
+
+pub scan-behind : (s text : List ℕ) → (scan s).state ≡ Between → scan (s ++ text) ≡ record { tokens = (scan s).tokens ++ (scan text).tokens; state = (scan text).state }
+unfolding behind
+scan-behind s text h =
+    scan-append s text
+    ∙ ap (λ x. fold step x text) (ap (λ st. record { tokens = (scan s).tokens; state = st }) h ∙ ap (λ ts. record { tokens = ts; state = Between }) (sym (append-nil (scan s).tokens)))
+    ∙ fold-behind (scan s).tokens (record { tokens = []; state = Between }) text
+
+-- where the first text ends between tokens, the second adds its own
+pub tokens-behind : (s text : List ℕ) → (scan s).state ≡ Between → tokens_of (s ++ text) ≡ tokens_of s ++ tokens_of text
+tokens-behind s text h =
+    ap finished (scan-behind s text h)
+    ∙ append_assoc (scan s).tokens (scan text).tokens (last_of (scan text).state)
+    ∙ sym (ap (λ ts. ts ++ tokens_of text) (ap (λ st. (scan s).tokens ++ last_of st) h ∙ append-nil (scan s).tokens))

@@ -1,0 +1,14 @@
+use Rattle.std.proofs.Common.{◌++◌, ap, ◌∙◌, arith}
+use Rattle.isle_ink.specs.Number.{numeral}
+use Rattle.isle_ink.proofs.Numerals.{numbered_is_word}
+use Rattle.isle_ink.proofs.printer.Printer.numbered.Goals as goal
+
+pub word-requires : goal.word-requires
+word-requires c =
+    let spelled = c.deref.ensures ∙ c.in_ok-push_numeral.ensures ∙ ap (λ w. w ++ numeral 10 c.args.n) c.in_ok-name.ensures.ok in
+    rw spelled (numbered_is_word c.args.prefix.now 10 c.args.n (omega arith) (omega arith) c.requires)
+
+pub returns : goal.returns
+returns c =
+    let spelled = c.deref.ensures ∙ c.in_ok-push_numeral.ensures ∙ ap (λ w. w ++ numeral 10 c.args.n) c.in_ok-name.ensures.ok in
+    rw spelled at c.word.ensures

@@ -1,0 +1,262 @@
+//! The printer. Its value is the list of the tokens printed so far: blanks, lines and comments are its own affair.
+
+ghost use Rattle.std.specs.Prelude.{◌≡◌, ◌++◌, [], ◌∷◌, OnOk, IfOk, IsTrue, string_bytes, encode_utf8};
+ghost use Rattle.std.specs.List.{list_all};
+ghost use Rattle.isle_ink.specs.Token.{Word, Mark, Quoted, is_word, is_word_byte, is_mark, goes_on, tokens_of, scan, Between};
+ghost use Rattle.isle_ink.specs.Glue.{Settles, Ends, meets, noted};
+ghost use Rattle.isle_ink.specs.Number.{numeral};
+ghost use Rattle.isle_ink.specs.Quote.{escaped, quoted};
+
+use crate::numeral::push_numeral;
+use std::alloc::{AllocError, Global};
+use std::marker::Model;
+
+/// What the text ends with and a next byte may go on.
+#[derive(Clone, Copy)]
+enum Last {
+    Nothing,
+    Word,
+    Mark(u8),
+}
+
+/// A text on its way, token by token.
+#[derive(Drop)]
+pub struct Printer {
+    text: String,
+    last: Last,
+    depth: usize,
+}
+
+impl Model for Printer {
+    ghost use Rattle.std.specs.Prelude.{List, string_bytes};
+    ghost use Rattle.isle_ink.specs.Token.{Token, tokens_of, scan};
+
+    ghost Value = { List Token };
+
+    ghost use Rattle.isle_ink.specs.Glue.{Settles};
+
+    ghost view = { λ p. tokens_of (string_bytes p.text) };
+
+    ghost invariant = { λ p. Settles p.last (scan (string_bytes p.text)).state };
+}
+
+// A letter, a digit or _.
+fn is_word_byte(b: u8) -> bool
+    ensures { result ≡ is_word_byte b }
+{
+    b.is_ascii_alphanumeric() || b == b'_'
+}
+
+// Whether the second byte goes on the mark that the first began.
+fn goes_on(a: u8, b: u8) -> bool
+    ensures { result ≡ goes_on a b }
+{
+    matches!(
+        (a, b),
+        (b':', b':')
+            | (b'-', b'>')
+            | (b'=', b'>')
+            | (b'=', b'=')
+            | (b'>', b'=')
+            | (b'.', b'.')
+            | (b'|', b'|')
+            | (b'/', b'/')
+    )
+}
+
+// Whether the byte would go on what the text ends with.
+fn meets(last: Last, next: u8) -> bool
+    ensures { result ≡ meets last next }
+{
+    match last {
+        Last::Nothing => false,
+        Last::Word => is_word_byte(next),
+        Last::Mark(a) => goes_on(a, next),
+    }
+}
+
+// What a mark leaves that may be gone on with.
+fn noted(mark: &[u8]) -> Last
+    ensures { result ≡ noted mark.now }
+{
+    match mark {
+        [a] => Last::Mark(*a),
+        _ => Last::Nothing,
+    }
+}
+
+// A blank, where the byte would go on what the text ends with.
+fn part_from(text: &mut String, last: &mut Last, next: u8) -> Result<(), AllocError>
+    requires { Settles last.old (scan (string_bytes text.old)).state }
+    ensures ok { OnOk result (Ends (scan (string_bytes text.new)).state next) }
+    ensures settled { Settles last.new (scan (string_bytes text.new)).state }
+    ensures same { tokens_of (string_bytes text.new) ≡ tokens_of (string_bytes text.old) }
+{
+    if meets(*last, next) {
+        text.push_str(" ")?;
+        *last = Last::Nothing;
+    }
+    Ok(())
+}
+
+// The end of the line, where the text is not at the begin of one.
+fn end_line(text: &mut String, last: &mut Last) -> Result<(), AllocError>
+    requires { Settles last.old (scan (string_bytes text.old)).state }
+    ensures ok { OnOk result ((scan (string_bytes text.new)).state ≡ Between) }
+    ensures settled { Settles last.new (scan (string_bytes text.new)).state }
+    ensures same { tokens_of (string_bytes text.new) ≡ tokens_of (string_bytes text.old) }
+{
+    if let Last::Nothing = *last {
+        if text.is_empty() || text.ends_with('\n') {
+            return Ok(());
+        }
+    }
+    part_from(text, last, b'\n')?;
+    text.push_str("\n")?;
+    *last = Last::Nothing;
+    Ok(())
+}
+
+// The blanks before a line.
+fn pad(text: &mut String, depth: usize) -> Result<(), AllocError>
+    requires { (scan (string_bytes text.old)).state ≡ Between }
+    ensures { scan (string_bytes text.new) ≡ scan (string_bytes text.old) }
+{
+    for _ in 0..depth {
+        text.push_str("    ")?;
+    }
+    Ok(())
+}
+
+// A character between quotes.
+fn push_escaped(out: &mut String, c: char) -> Result<(), AllocError>
+    ensures { OnOk result (string_bytes out.new ≡ string_bytes out.old ++ escaped (encode_utf8 c)) }
+{
+    match c {
+        '"' => out.push_str("\\\"")?,
+        '\\' => out.push_str("\\\\")?,
+        _ => out.push(c)?,
+    }
+    Ok(())
+}
+
+// A text between quotes.
+fn quoted(alloc: Global, text: &str) -> Result<String, AllocError>
+    ensures { IfOk result (λ t. string_bytes t ≡ quoted text.now) }
+{
+    let mut out = String::from_str(alloc, "\"")?;
+    for c in text.chars() {
+        push_escaped(&mut out, c)?;
+    }
+    out.push_str("\"")?;
+    Ok(out)
+}
+
+impl Printer {
+    /// A printer that has printed nothing.
+    pub fn new(alloc: Global) -> Self
+        ensures { result ≡ [] }
+    {
+        Printer {
+            text: String::new(alloc),
+            last: Last::Nothing,
+            depth: 0,
+        }
+    }
+
+    /// The text that spells the tokens.
+    pub fn into_text(self) -> String
+        ensures { tokens_of (string_bytes result) ≡ self }
+    {
+        self.text
+    }
+
+    /// Prints a name, a keyword or a number. What is printed after an error is left open.
+    pub fn word(&mut self, word: &str) -> Result<(), AllocError>
+        requires { IsTrue (is_word word.now) }
+        ensures { OnOk result (self.new ≡ self.old ++ Word word.now ∷ []) }
+    {
+        part_from(&mut self.text, &mut self.last, word.as_bytes()[0])?;
+        self.text.push_str(word)?;
+        self.last = Last::Word;
+        Ok(())
+    }
+
+    /// Prints a mark, as ; or ::. What is printed after an error is left open.
+    pub fn mark(&mut self, mark: &str) -> Result<(), AllocError>
+        requires { IsTrue (is_mark mark.now) }
+        ensures { OnOk result (self.new ≡ self.old ++ Mark mark.now ∷ []) }
+    {
+        let bytes = mark.as_bytes();
+        part_from(&mut self.text, &mut self.last, bytes[0])?;
+        self.text.push_str(mark)?;
+        self.last = noted(bytes);
+        Ok(())
+    }
+
+    /// Prints one word: some letters and behind them a number, as v12. What is printed after an error is left open.
+    pub fn numbered(&mut self, alloc: Global, prefix: &str, n: usize) -> Result<(), AllocError>
+        requires { IsTrue (list_all is_word_byte prefix.now) }
+        ensures { OnOk result (self.new ≡ self.old ++ Word (prefix.now ++ numeral 10 n) ∷ []) }
+    {
+        let mut name = String::from_str(alloc, prefix)?;
+        push_numeral(&mut name, n as u128, 10)?;
+        self.word(&name)
+    }
+
+    /// Prints a text between quotes, whatever it holds. What is printed after an error is left open.
+    pub fn quoted(&mut self, alloc: Global, text: &str) -> Result<(), AllocError>
+        ensures { OnOk result (self.new ≡ self.old ++ Quoted text.now ∷ []) }
+    {
+        let text = quoted(alloc, text)?;
+        part_from(&mut self.text, &mut self.last, b'"')?;
+        self.text.push_str(&text)?;
+        self.last = Last::Nothing;
+        Ok(())
+    }
+
+    /// Prints a whole text as it is, from the begin of a line on. What is printed after an error is left open.
+    pub fn fixed(&mut self, fixed: &str) -> Result<(), AllocError>
+        requires { (scan fixed.now).state ≡ Between }
+        ensures { OnOk result (self.new ≡ self.old ++ tokens_of fixed.now) }
+    {
+        end_line(&mut self.text, &mut self.last)?;
+        self.text.push_str(fixed)?;
+        self.last = Last::Nothing;
+        Ok(())
+    }
+
+    /// Begins a line, as far in as the depth says.
+    pub fn line(&mut self) -> Result<(), AllocError>
+        ensures { self.new ≡ self.old }
+    {
+        part_from(&mut self.text, &mut self.last, b'\n')?;
+        self.text.push_str("\n")?;
+        self.last = Last::Nothing;
+        pad(&mut self.text, self.depth)
+    }
+
+    /// Puts a blank, for the eye.
+    pub fn space(&mut self) -> Result<(), AllocError>
+        ensures { self.new ≡ self.old }
+    {
+        part_from(&mut self.text, &mut self.last, b' ')?;
+        self.text.push_str(" ")?;
+        self.last = Last::Nothing;
+        Ok(())
+    }
+
+    /// Lines begin four blanks further in from here on.
+    pub fn indent(&mut self)
+        ensures { self.new ≡ self.old }
+    {
+        self.depth = self.depth.saturating_add(1);
+    }
+
+    /// Lines begin four blanks less far in from here on, as far as they can.
+    pub fn dedent(&mut self)
+        ensures { self.new ≡ self.old }
+    {
+        self.depth = self.depth.saturating_sub(1);
+    }
+}
