@@ -1,0 +1,31 @@
+//! The types that the other crates speak of, with the definitions of what rules and values mean.
+#![tactic(auto)]
+
+mod blocks;
+mod errors;
+mod files;
+mod options;
+mod position;
+mod rule_sets;
+mod rules;
+mod types;
+mod values;
+
+pub use blocks::{Block, ControlFlow, EvalStep, MatchArm};
+pub use errors::{Error, Errors};
+pub use files::Files;
+pub use isle_base::{
+    BindingId, Boxed, FieldId, List, RuleId, Sym, TermId, Text, TupleIndex, TypeId, VarId,
+    VariantId,
+};
+pub use options::{CodegenOptions, Prefix};
+pub use position::{Pos, Span};
+pub use rule_sets::{Binding, Constraint, FlatRule, RuleSet};
+pub use rules::{Expr, IfLet, LetBinding, Pattern, Rule};
+pub use types::{
+    BuiltinType, ConstructorKind, ExternalSig, ExtractorKind, Field, Fields, IntType, ReturnKind,
+    Term, TermEnv, TermKind, TypeDef, TypeEnv, Variant,
+};
+pub use values::{
+    Answer, Answers, CallMade, Callee, End, Outcome, PureAnswers, TurnAnswers, Value,
+};

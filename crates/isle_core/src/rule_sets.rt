@@ -1,0 +1,94 @@
+use crate::position::Pos;
+use isle_base::{BindingId, List, Sym, TermId, TupleIndex, TypeId, VariantId};
+
+/// A value that a rule speaks of, by the values that it comes from.
+#[derive(Debug, Drop)]
+pub enum Binding {
+    ConstBool {
+        val: bool,
+        ty: TypeId,
+    },
+    ConstInt {
+        val: i128,
+        ty: TypeId,
+    },
+    ConstPrim {
+        val: Sym,
+    },
+    Argument {
+        index: usize,
+    },
+    Extractor {
+        term: TermId,
+        parameter: BindingId,
+    },
+    /// The instance numbers the occurrences of impure calls from 1; it is 0 for pure ones.
+    Constructor {
+        term: TermId,
+        parameters: List<BindingId>,
+        instance: usize,
+    },
+    Iterator {
+        source: BindingId,
+    },
+    MakeVariant {
+        ty: TypeId,
+        variant: VariantId,
+        fields: List<BindingId>,
+    },
+    MakeStruct {
+        ty: TypeId,
+        fields: List<BindingId>,
+    },
+    MatchVariant {
+        source: BindingId,
+        variant: VariantId,
+        field: TupleIndex,
+    },
+    ExtractStruct {
+        source: BindingId,
+        field: TupleIndex,
+    },
+    MakeSome {
+        inner: BindingId,
+    },
+    MatchSome {
+        source: BindingId,
+    },
+    MatchTuple {
+        source: BindingId,
+        field: TupleIndex,
+    },
+}
+
+/// A test of one binding.
+#[derive(Clone, Copy, Debug, PartialEq, Eq)]
+pub enum Constraint {
+    Variant { ty: TypeId, variant: VariantId },
+    Struct { ty: TypeId },
+    ConstBool { val: bool },
+    ConstInt { val: i128, ty: TypeId },
+    ConstPrim { val: Sym },
+    Some,
+}
+
+/// A rule as tests of bindings.
+#[derive(Debug, Drop)]
+pub struct FlatRule {
+    pub pos: Pos,
+    pub constraints: List<(BindingId, Constraint)>,
+    pub equals: List<(BindingId, BindingId)>,
+    /// The rule's calls of `multi` terms, each once.
+    pub iterators: List<BindingId>,
+    pub prio: i64,
+    /// The right side's impure calls, fallible calls, and calls of `multi` terms on impure ones, in source order.
+    pub ordered: List<BindingId>,
+    pub result: BindingId,
+}
+
+/// The rules of a term over shared bindings.
+#[derive(Debug, Drop)]
+pub struct RuleSet {
+    pub bindings: List<Binding>,
+    pub rules: List<FlatRule>,
+}
