@@ -1,1 +1,13 @@
 pub mod Int
+pub mod Value
+pub mod Meaning
+pub mod ValueViews
+pub mod Pattern
+pub mod Expr
+pub mod Rule
+pub mod RuleViews
+pub mod HasType
+pub mod Match
+pub mod Eval
+pub mod Outcome
+pub mod Lawful

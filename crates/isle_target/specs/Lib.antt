@@ -5,3 +5,4 @@ pub mod Fixed
 pub mod Spelling
 pub mod WellFormed
 pub mod Reading
+pub mod Run

@@ -1,0 +1,56 @@
+-- What the rules of a term prescribe.
+use Rattle.std.specs.Prelude.{◌≡◌, ℕ, ℤ, ◌<ℤ◌, ◌⊎◌, List, [], Option, Some, None, Bool, true, false, Contains, option_and_then}
+use Rattle.isle_core.specs.declared.types.TermKind.{TermKind}
+use Rattle.isle_core.specs.declared.types.TermKind.TheVariants as kind
+use Rattle.isle_core.specs.declared.types.Term.{Term}
+use Rattle.isle_core.specs.Value.{Value, Made}
+use Rattle.isle_core.specs.Meaning.{Meaning}
+use Rattle.isle_core.specs.Match.{Names, no_names, matches_all}
+use Rattle.isle_core.specs.Eval.{Evaluated, Answered, Failed, evaluated, iflets_names}
+use Rattle.isle_core.specs.Rule.{Environment, Rule}
+
+-- a value, a failure, or that no rule of a term that must answer matches
+pub data Result : Type 0 where
+  Value' : Value → Result
+  Failure : Result
+  Unmatched : Result
+
+-- the result, and the impure calls in order
+pub record Prescription : Type 0 where
+  pub result : Result
+  pub calls : List Made
+
+-- the names of a rule that matches: its patterns match the arguments and its conditions hold
+abbrev pub rule_names : Environment → Meaning → List Value → Rule → Option Names
+rule_names env m args r = option_and_then (iflets_names env m r.iflets) (matches_all env m r.args args no_names)
+
+-- no rule matches
+abbrev pub NoneMatches : Environment → Meaning → List Value → List Rule → Type 0
+NoneMatches env m args rules = (r : Rule) → Contains rules r → rule_names env m args r ≡ None
+
+-- the rule matches with these names, and each other that matches has a lower priority
+pub record IsHighest (env : Environment) (m : Meaning) (args : List Value) (rules : List Rule) (r : Rule) (names : Names) : Type 0 where
+  pub among : Contains rules r
+  pub matched : rule_names env m args r ≡ Some names
+  pub above : (q : Rule) (others : Names) → Contains rules q → rule_names env m args q ≡ Some others → (q ≡ r) ⊎ (q.prio <ℤ r.prio)
+
+-- a term that may answer nothing
+abbrev pub is_partial : TermKind → Bool
+is_partial (kind.Variant ty variant) = false
+is_partial (kind.Struct ty) = false
+is_partial (kind.Decl pure multi partial recursive constructor extractor) = partial
+
+-- where no rule matches
+abbrev pub unmatched : Bool → Result
+unmatched true = Failure
+unmatched false = Unmatched
+
+-- what the evaluation of a right side gives
+abbrev pub prescription_of : Evaluated → Prescription
+prescription_of (Answered v calls) = record { result = Value' v; calls = calls }
+prescription_of (Failed calls) = record { result = Failure; calls = calls }
+
+-- what the rules of a term without `multi` prescribe: no rule matches, or the one highest that does answers or fails
+pub data Prescribed (env : Environment) (m : Meaning) (args : List Value) (rules : List Rule) (partial : Bool) : Prescription → Type 0 where
+  no_rule : NoneMatches env m args rules → Prescribed env m args rules partial (record { result = unmatched partial; calls = [] })
+  one_rule : (r : Rule) (names : Names) → IsHighest env m args rules r names → Prescribed env m args rules partial (prescription_of (evaluated env m r.rhs names []))

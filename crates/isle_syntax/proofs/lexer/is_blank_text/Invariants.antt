@@ -1,0 +1,11 @@
+use Rattle.std.proofs.Common.{◌≡◌, ◌≤◌, [], take}
+use Rattle.isle_syntax.specs.Token.{scan}
+use Rattle.isle_syntax.specs.LexerViews.{state, outer_of}
+use Rattle.isle_syntax.proofs.lexer.is_blank_text.Given as goal
+
+abbrev pub invariant-loop-at : goal.invariant-loop-at
+invariant-loop-at l = record {
+  state : state l.begin ≡ (scan (take l.at l.text)).state;
+  none : (scan (take l.at l.text)).tokens ≡ [];
+  outer : outer_of l.begin ≤ l.at;
+}

@@ -1,0 +1,6 @@
+pub mod Tree
+pub mod Views
+pub mod Token
+pub mod Spelling
+pub mod LexerViews
+pub mod Lexer
