@@ -3,8 +3,10 @@
 
 mod dir;
 mod errors;
+mod failures;
 mod mem_dir;
 mod mem_sink;
+mod names;
 mod reading;
 mod sink;
 mod std_dir;

@@ -1,0 +1,3 @@
+pub mod TakeLaws
+pub mod ReadLaws
+pub mod NameLaws

@@ -1,0 +1,41 @@
+-- What a directory in memory stands for.
+use Rattle.std.specs.Prelude.{◌≡◌, ℕ, ◌^◌, ◌<◌, ◌+◌, ◌-◌, List, [], ◌∷◌, map, take, drop, min, length, Bool, ◌==◌, nat_lt, Option, Some, None, if◌then◌else◌, slice_get, Vec, String}
+use Rattle.std.specs.String.{string_bytes}
+use Rattle.std.specs.Str.{bytes_eq}
+use Rattle.std.specs.declared.alloc.Global.{Global}
+use Rattle.isle_outside.specs.Directory.{Files, Current, Nothing, Reading, InFolder}
+use Rattle.isle_outside.specs.declared.mem_dir.State.{State}
+use Rattle.isle_outside.specs.declared.mem_dir.State.TheVariants as state
+
+-- a file as it is kept: its name and its bytes
+abbrev pub Kept : Type 0
+Kept = String Global × Vec ℕ Global
+
+-- a kept file as the directory tells it
+abbrev pub file_of : Kept → List ℕ × List ℕ
+file_of kept = (string_bytes kept.0, kept.1.items)
+
+-- the files that are kept, in their order
+abbrev pub files_of : List Kept → Files
+files_of = map file_of
+
+-- the bytes of the kept file from a place on
+abbrev pub reading_from : Option Kept → ℕ → Current
+reading_from None at = Nothing
+reading_from (Some kept) at = Reading (Some (drop at kept.1.items))
+
+-- the folder whose name the kept file's name begins with
+abbrev pub folder_before : Option Kept → ℕ → Current
+folder_before None len = Nothing
+folder_before (Some kept) len = InFolder (take len (string_bytes kept.0))
+
+-- what is current where the place is kept as numbers
+abbrev pub current_at : State → List Kept → Current
+current_at state.Nothing files = Nothing
+current_at (state.Reading file at) files = reading_from (slice_get files file) at
+current_at (state.Folder file len) files = folder_before (slice_get files file) len
+
+-- the files with these bytes in the first file of the name, or in a new file at their end
+abbrev pub written : Files → List ℕ → List ℕ → Files
+written [] name bytes = (name, bytes) ∷ []
+written (file ∷ files) name bytes = if bytes_eq file.0 name then (file.0, bytes) ∷ files else file ∷ written files name bytes
