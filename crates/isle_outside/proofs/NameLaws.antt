@@ -1,5 +1,5 @@
 -- What stands in a file's name behind a folder's.
-use Rattle.std.proofs.Common.{◌≡◌, ◌≢◌, ℕ, Bool, true, false, cond, eqb, List, [], ◌∷◌, ◌++◌, length, drop, Option, Some, None, MatchOption, Bor, refl, ap, sym, ◌∙◌}
+use Rattle.std.proofs.Common.{◌≡◌, ◌≢◌, ℕ, Bool, true, false, cond, eqb, List, [], ◌∷◌, ◌++◌, length, take, is_some, Option, Some, None, MatchOption, Bor, refl, ap, sym, ◌∙◌}
 use Rattle.std.specs.Option.{option_copied}
 use Rattle.std.proofs.lemmas.Bool.{eqb-true, eq-eqb}
 use Rattle.isle_outside.specs.Directory.{behind}
@@ -34,3 +34,13 @@ behind_lacks (c ∷ folder) (b ∷ file) lacks = lacks_at c b folder file (eqb b
 pub behind_stripped : (rest : List ℕ) (r : Option (Bor (List ℕ))) → MatchOption r ((after : List ℕ) → rest ≢ 47 ∷ after) (λ x. rest ≡ 47 ∷ x.now) → option_copied r ≡ behind [] rest
 behind_stripped rest None lacks = sym (behind_slash rest lacks)
 behind_stripped rest (Some x) is = sym (ap (behind []) is)
+
+front_at : (c b : ℕ) (folder file : List ℕ) (t : Bool) → eqb b c ≡ t → (is_some (behind folder file) ≡ true → take (length folder) file ≡ folder) → is_some (cond t (behind folder file) None) ≡ true → b ∷ take (length folder) file ≡ c ∷ folder
+front_at c b folder file true is later below = ap (λ x. x ∷ take (length folder) file) (eqb-true b c is) ∙ ap (λ xs. c ∷ xs) (later below)
+front_at c b folder file false is later below = cc
+
+-- a file in a folder has the folder's name at its front
+pub front_of_name : (folder file : List ℕ) → is_some (behind folder file) ≡ true → take (length folder) file ≡ folder
+front_of_name [] file below = refl
+front_of_name (c ∷ folder) [] below = cc
+front_of_name (c ∷ folder) (b ∷ file) below = front_at c b folder file (eqb b c) refl (front_of_name folder file) below

@@ -1,5 +1,5 @@
 -- What is left of a file behind some reads, and that a text is UTF-8.
-use Rattle.std.proofs.Common.{◌≡◌, ℕ, ◌+◌, ◌≤◌, List, ◌++◌, length, drop, Some, None, ap, sym, ◌∙◌, subst}
+use Rattle.std.proofs.Common.{ℕ, ◌+◌, ◌≤◌, List, length, drop, Some, None, ap, sym, ◌∙◌, subst}
 use Rattle.std.proofs.Math.Seq.{drop-append-add}
 use Rattle.std.proofs.lemmas.Str.{IsUtf8-string_bytes}
 use Rattle.isle_outside.specs.Directory.{Current, Nothing, Reading, InFolder, Gives}

@@ -4,6 +4,7 @@
 mod dir;
 mod errors;
 mod failures;
+mod kept;
 mod mem_dir;
 mod mem_sink;
 mod names;
