@@ -2,7 +2,7 @@
 use Rattle.std.proofs.Common.{ℕ, ◌+◌, ◌≤◌, List, length, drop, Some, None, ap, sym, ◌∙◌, subst}
 use Rattle.std.proofs.Math.Seq.{drop-append-add}
 use Rattle.std.proofs.lemmas.Str.{IsUtf8-string_bytes}
-use Rattle.isle_outside.specs.Directory.{Current, Nothing, Reading, InFolder, Gives}
+use Rattle.isle_outside.specs.Directory.{Current, Nothing, Reading, InFolder, Gives, IsReading}
 use Rattle.isle_outside.specs.Reading.{Front, TakenAtMost, left_of}
 
 pub ruleset texts = (IsUtf8-string_bytes)
@@ -15,3 +15,10 @@ taken_in_all (Reading None) mid now bytes buf n most front gives within = subst 
 taken_in_all (Reading (Some all)) mid now bytes buf n most front gives within =
     let given = rw front.1 at gives in
     subst (TakenAtMost most (Some all)) (sym given.2) (length bytes + n, within, sym (ap (drop (length bytes + n)) front.2 ∙ drop-append-add bytes front.0 n))
+
+-- behind a read the file is current still
+pub reads_on : (old now : Current) (n : ℕ) (buf : List ℕ) → Gives old now n buf → IsReading now
+reads_on Nothing now n buf gives = absurd gives
+reads_on (InFolder name) now n buf gives = absurd gives
+reads_on (Reading None) now n buf gives = subst IsReading (sym gives) tt
+reads_on (Reading (Some left)) now n buf gives = subst IsReading (sym gives.2) tt

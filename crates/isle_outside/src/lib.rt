@@ -12,6 +12,8 @@ mod reading;
 mod sink;
 mod std_dir;
 mod std_sink;
+#[cfg(test)]
+mod tests;
 mod writing;
 
 pub use dir::{Dir, Found};
