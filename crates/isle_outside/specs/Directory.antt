@@ -1,5 +1,5 @@
 -- What a directory is, apart from how it is kept.
-use Rattle.std.specs.Prelude.{◌≡◌, ℕ, ◌-◌, ◌^◌, ◌≤◌, ◌<◌, ◌⊎◌, List, [], ◌∷◌, length, take, drop, Bool, true, false, ◌==◌, Option, Some, None, IfSome, IsSomeAnd, IsTrue, if◌then◌else◌, option_and_then, IsPermutation}
+use Rattle.std.specs.Prelude.{◌≡◌, ℕ, ◌-◌, ◌^◌, ◌≤◌, ◌<◌, ◌⊎◌, List, [], ◌∷◌, length, take, drop, Bool, true, false, ◌==◌, Option, Some, None, IfSome, IsSomeAnd, if◌then◌else◌, option_and_then, IsPermutation}
 use Rattle.std.specs.Option.{is_some}
 use Rattle.std.specs.List.{filter_map, list_any}
 use Rattle.std.specs.Str.{bytes_eq}

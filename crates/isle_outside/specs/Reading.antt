@@ -1,5 +1,5 @@
 -- What reading a file to its end answers.
-use Rattle.std.specs.Prelude.{◌≡◌, ℕ, ◌^◌, ◌≤◌, ◌<◌, List, length, drop, Option, Some, None, IsSomeAnd, Result, Ok, Err}
+use Rattle.std.specs.Prelude.{◌≡◌, ℕ, ◌^◌, ◌≤◌, ◌<◌, List, ◌++◌, length, drop, Option, Some, None, IsSomeAnd, Result, Ok, Err}
 use Rattle.std.specs.Str.{IsUtf8}
 use Rattle.isle_outside.specs.Directory.{Current, Nothing, Reading, InFolder}
 use Rattle.isle_outside.specs.declared.errors.IoCause.{IoCause}
@@ -30,3 +30,25 @@ TakenAtMost most file Nothing = Unit {0}
 TakenAtMost most file (InFolder name) = Unit {0}
 TakenAtMost most file (Reading None) = Unit {0}
 TakenAtMost most file (Reading (Some left)) = IsSomeAnd file (λ bytes. (n : ℕ) × (n ≤ most) × (left ≡ drop n bytes))
+
+-- what is left of the current file, where the directory tells it
+abbrev pub left_of : Current → Option (List ℕ)
+left_of Nothing = None
+left_of (InFolder name) = None
+left_of (Reading left) = left
+
+-- these bytes were read since, and now the others are left, where the directory tells them
+abbrev pub Front : Current → Current → List ℕ → Type 0
+Front (Reading None) now bytes = now ≡ Reading None
+Front (Reading (Some all)) now bytes = (left : List ℕ) × (now ≡ Reading (Some left)) × (all ≡ bytes ++ left)
+Front Nothing now bytes = ⊥
+Front (InFolder name) now bytes = ⊥
+
+-- the answer to reading all bytes that are left; `view` shows those that were read
+abbrev pub Told : {X : Type 0} → (X → List ℕ) → Result X ReadFail → List ℕ → Type 0
+Told view (Ok x) all = (view x ≡ all) × (length all ≤ 2 ^ 24)
+Told view (Err (fail.Io cause.TooLong)) all = 2 ^ 24 < length all
+Told view (Err (fail.Io cause.Fault)) all = Unit {0}
+Told view (Err (fail.Io cause.Absent)) all = ⊥
+Told view (Err (fail.Io cause.NotUtf8)) all = ⊥
+Told view (Err fail.Memory) all = Unit {0}

@@ -3,12 +3,17 @@
 
 mod dir;
 mod errors;
+mod failures;
+mod kept;
 mod mem_dir;
 mod mem_sink;
+mod names;
 mod reading;
 mod sink;
 mod std_dir;
 mod std_sink;
+#[cfg(test)]
+mod tests;
 mod writing;
 
 pub use dir::{Dir, Found};

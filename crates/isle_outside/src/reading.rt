@@ -1,7 +1,7 @@
 ghost use Rattle.std.specs.Prelude.{◌≡◌, ◌≤◌, ◌^◌, ◌+◌, IfSome, Err, IsErrOf};
 ghost use Rattle.std.specs.String.{string_bytes};
 ghost use Rattle.isle_outside.specs.Directory.{IsReading, Rose, bytes_of};
-ghost use Rattle.isle_outside.specs.Reading.{Answers, TakenAtMost};
+ghost use Rattle.isle_outside.specs.Reading.{Answers, TakenAtMost, Told, left_of};
 
 use crate::dir::{Dir, Found};
 use crate::errors::{IoCause, ReadFail};
@@ -13,6 +13,7 @@ const MAX_BYTES: usize = 1 << 24;
 /// The text of the file of a name. It takes at most 2^24 + 1 bytes of the file, at least one a turn.
 ///
 /// `Io` gives the cause; `Fault` comes only where the directory's count of faults rose.
+#[tactic(auto, using(crate::proofs::ReadLaws::texts))]
 pub fn read_text<D: Dir>(alloc: Global, dir: &mut D, name: &str) -> Result<String, ReadFail>
     ensures exact { IfSome (D.files dir.old) (λ files. Answers string_bytes result (bytes_of files name.now)) }
     ensures bounded { IfSome (D.files dir.old) (λ files. TakenAtMost (2 ^ 24 + 1) (bytes_of files name.now) (D.current dir.new)) }
@@ -30,5 +31,32 @@ pub fn read_text<D: Dir>(alloc: Global, dir: &mut D, name: &str) -> Result<Strin
             }
         }
         Ok(_) => Err(ReadFail::Io(IoCause::Absent)),
+    }
+}
+
+/// What is left of the current file. It takes at most 2^24 + 1 bytes.
+fn rest<D: Dir>(alloc: Global, dir: &mut D) -> Result<Vec<u8>, ReadFail>
+    requires { IsReading (D.current dir.old) }
+    ensures exact { IfSome (left_of (D.current dir.old)) (Told (λ bytes. bytes.items) result) }
+    ensures bounded { TakenAtMost (2 ^ 24 + 1) (left_of (D.current dir.old)) (D.current dir.new) }
+    ensures fault { result ≡ Err (ReadFail.Io IoCause.Fault) → Rose (D.faults dir.old) (D.faults dir.new) }
+    ensures files { D.files dir.new ≡ D.files dir.old }
+    ensures later { D.faults dir.old ≤ D.faults dir.new }
+{
+    let mut buf = [0u8; 4096];
+    let mut bytes = Vec::new(alloc);
+    'read: loop {
+        let most = buf.len().min(MAX_BYTES + 1 - bytes.len());
+        let n = match dir.next(&mut buf[..most]) {
+            Ok(n) => n,
+            Err(_) => return Err(ReadFail::Io(IoCause::Fault)),
+        };
+        if n == 0 {
+            return Ok(bytes);
+        }
+        if n > MAX_BYTES - bytes.len() {
+            return Err(ReadFail::Io(IoCause::TooLong));
+        }
+        bytes.extend_from_slice(&buf[..n])?;
     }
 }

@@ -1,0 +1,5 @@
+pub mod TakeLaws
+pub mod ReadLaws
+pub mod NameLaws
+pub mod WriteLaws
+pub mod PlaceLaws

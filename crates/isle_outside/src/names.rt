@@ -1,0 +1,25 @@
+ghost use Rattle.std.specs.Prelude.{◌≡◌, option_and_then};
+ghost use Rattle.std.specs.Option.{option_copied};
+ghost use Rattle.isle_outside.specs.Directory.{behind, plain};
+
+/// What stands in a file's name behind the folder's name and a slash.
+pub fn part_behind<'a>(file: &'a str, folder: &str) -> Option<&'a str>
+    ensures { option_copied result ≡ behind folder.now file.now }
+{
+    match file.strip_prefix(folder) {
+        Some(rest) => rest.strip_prefix('/'),
+        None => None,
+    }
+}
+
+/// The name within the folder of a file that lies directly in it.
+pub fn entry<'a>(file: &'a str, folder: &str) -> Option<&'a str>
+    ensures { option_copied result ≡ option_and_then plain (behind folder.now file.now) }
+{
+    let rest = part_behind(file, folder)?;
+    if rest.as_bytes().contains(&b'/') {
+        None
+    } else {
+        Some(rest)
+    }
+}

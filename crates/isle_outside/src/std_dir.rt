@@ -1,0 +1,212 @@
+ghost use Rattle.std.specs.Prelude.{◌≡◌, ◌≤◌, ◌+◌, ◌-◌, ◌^◌, ◌↔◌, ◌⊎◌, IsTrue, None, min, IfOk};
+ghost use Rattle.std.specs.String.{string_bytes};
+ghost use Rattle.std.specs.Path.{path_buf_bytes, path_join};
+ghost use Rattle.std.specs.IoError.{error_kind};
+ghost use Rattle.isle_outside.specs.Directory.{Rose};
+
+use crate::dir::{Dir, Found};
+use crate::errors::{DirFault, Failed};
+use std::alloc::{AllocError, Global};
+use std::fs::File;
+use std::io::{ErrorKind, Read};
+use std::path::{Path, PathBuf};
+use std::rt::Files;
+use std::{fs, io};
+
+/// The most entries of a folder that is listed.
+const MAX_ENTRIES: usize = 1 << 24;
+
+/// A directory of the machine, below one folder of it. It tells no files.
+///
+/// A link is followed. What is neither a folder nor absent, and can be opened, is a file.
+#[derive(Drop)]
+pub struct StdDir<R: Files> {
+    rt: R,
+    root: String,
+    file: Option<R::File>,
+    folder: Option<String>,
+    faults: u64,
+}
+
+impl<R: Files + AllocGlobal + Clone + Drop> StdDir<R> {
+    /// The directory below a folder of the machine; the empty name is the current folder. Nothing is opened yet.
+    pub fn new(rt: R, folder: String) -> StdDir<R>
+        ensures root { result.root ≡ folder }
+        ensures file { result.file ≡ None }
+        ensures folder { result.folder ≡ None }
+        ensures faults { result.faults ≡ 0 }
+    {
+        StdDir {
+            rt,
+            root: folder,
+            file: None,
+            folder: None,
+            faults: 0,
+        }
+    }
+
+    /// How often it has failed, up to 2^64 - 1.
+    pub fn faults(&self) -> u64
+        ensures { result ≡ self.now.faults }
+    {
+        self.faults
+    }
+
+    /// Makes nothing current.
+    fn close(&mut self)
+        ensures file { self.new.file ≡ None }
+        ensures folder { self.new.folder ≡ None }
+        ensures faults { self.new.faults ≡ self.old.faults }
+    {
+        self.file = None;
+        self.folder = None;
+    }
+
+    /// Counts a fault, and makes nothing current.
+    fn fault(&mut self) -> Failed
+        ensures file { self.new.file ≡ None }
+        ensures folder { self.new.folder ≡ None }
+        ensures faults { self.new.faults ≡ min (self.old.faults + 1) (2 ^ 64 - 1) }
+        ensures later { self.old.faults ≤ self.new.faults }
+        ensures rose { Rose self.old.faults self.new.faults }
+    {
+        self.file = None;
+        self.folder = None;
+        self.faults = self.faults.saturating_add(1);
+        Failed
+    }
+
+    /// A name as a path of the machine.
+    fn path(&self, name: &str) -> Result<PathBuf, AllocError>
+        ensures { IfOk result (λ path. path_buf_bytes path ≡ path_join (string_bytes self.now.root) name.now) }
+    {
+        Path::new(self.root.as_str()).join(self.rt.alloc(), name)
+    }
+}
+
+impl<R: Files + AllocGlobal + Clone + Drop> Dir for StdDir<R> {
+    ghost use Rattle.std.specs.Prelude.{None};
+    ghost use Rattle.isle_outside.specs.Machine.{opened};
+
+    ghost files = { λ d. None };
+
+    ghost current = { λ d. opened d.file d.folder };
+
+    ghost faults = { λ d. d.faults };
+
+    fn find(&mut self, name: &str) -> Result<Found, Failed> {
+        self.close();
+        let Ok(path) = self.path(name) else {
+            return Err(self.fault());
+        };
+        let found = match fs::metadata(&self.rt, path.as_path()) {
+            Ok(found) => found,
+            Err(e) if is_absence(&e) => return Ok(Found::Absent),
+            Err(_) => return Err(self.fault()),
+        };
+        if found.is_dir() {
+            let Ok(name) = String::from_str(self.rt.alloc(), name) else {
+                return Err(self.fault());
+            };
+            self.folder = Some(name);
+            return Ok(Found::Folder);
+        }
+        match File::open(&self.rt, path.as_path()) {
+            Ok(file) => {
+                self.file = Some(file);
+                Ok(Found::File)
+            }
+            Err(e) if is_absence(&e) => Ok(Found::Absent),
+            Err(_) => Err(self.fault()),
+        }
+    }
+
+    fn next(&mut self, buf: &mut [u8]) -> Result<usize, Failed> {
+        let Some(file) = &mut self.file else {
+            return Err(self.fault());
+        };
+        match file.read(buf) {
+            Ok(n) => Ok(n),
+            Err(_) => Err(self.fault()),
+        }
+    }
+
+    fn list(&mut self, alloc: Global, name: &str) -> Result<Vec<String>, DirFault> {
+        self.close();
+        let Ok(path) = self.path(name) else {
+            return Err(DirFault::Memory);
+        };
+        match names_in(&self.rt, alloc, path.as_path()) {
+            Ok(names) => Ok(names),
+            Err(DirFault::Memory) => Err(DirFault::Memory),
+            Err(DirFault::Failed) => {
+                self.fault();
+                Err(DirFault::Failed)
+            }
+        }
+    }
+
+    fn write_file(&mut self, name: &str, bytes: &[u8]) -> Result<(), DirFault> {
+        self.close();
+        let Ok(path) = self.path(name) else {
+            return Err(DirFault::Memory);
+        };
+        match fs::write(&self.rt, path.as_path(), bytes) {
+            Ok(()) => Ok(()),
+            Err(_) => {
+                self.fault();
+                Err(DirFault::Failed)
+            }
+        }
+    }
+}
+
+/// The names of the files of a folder of the machine. A folder in it, and what is absent behind a link, is left out.
+fn names_in<R: Files + AllocGlobal + Clone + Drop>(
+    rt: &R,
+    alloc: Global,
+    folder: Path<'_>,
+) -> Result<Vec<String>, DirFault> {
+    let entries = fs::read_dir(rt, folder).map_err(|e| fault_of(&e))?;
+    let mut names = Vec::new(alloc);
+    let mut seen = 0;
+    for entry in entries {
+        if seen == MAX_ENTRIES {
+            return Err(DirFault::Failed);
+        }
+        seen += 1;
+        let entry = entry.map_err(|e| fault_of(&e))?;
+        if is_file(rt, entry.path())? {
+            names.push(String::from_str(alloc, entry.file_name())?)?;
+        }
+    }
+    Ok(names)
+}
+
+/// Whether something other than a folder stands at the path.
+fn is_file(rt: &impl Files, path: Path<'_>) -> Result<bool, DirFault> {
+    match fs::metadata(rt, path) {
+        Ok(found) => Ok(!found.is_dir()),
+        Err(e) if is_absence(&e) => Ok(false),
+        Err(e) => Err(fault_of(&e)),
+    }
+}
+
+/// Whether an error says that nothing stands at a path; a path that goes on behind a file is one such.
+fn is_absence(e: &io::Error) -> bool
+    ensures { IsTrue result ↔ (error_kind e.now ≡ ErrorKind.NotFound) ⊎ (error_kind e.now ≡ ErrorKind.NotADirectory) }
+{
+    let kind = e.kind();
+    kind == ErrorKind::NotFound || kind == ErrorKind::NotADirectory
+}
+
+/// Want of memory, or a fault.
+fn fault_of(e: &io::Error) -> DirFault
+    ensures { (result ≡ DirFault.Memory) ↔ (error_kind e.now ≡ ErrorKind.OutOfMemory) }
+{
+    if e.kind() == ErrorKind::OutOfMemory {
+        DirFault::Memory
+    } else {
+        DirFault::Failed
+    }
+}
