@@ -1,5 +1,5 @@
 -- What a program is spelled as is read as that program, and as no other.
-use Rattle.std.proofs.Common.{◌≡◌, ℕ, List, [], ◌∷◌, ◌++◌, map, Bool, true, false, Option, Some, None, refl, sym, ap, ◌∙◌}
+use Rattle.std.proofs.Common.{◌≡◌, ℕ, List, [], ◌∷◌, ◌++◌, map, Bool, true, false, Option, Some, None, refl, sym, ap, ◌∙◌, append_assoc}
 use Rattle.std.specs.List.{AllByRecursion, list_all}
 use Rattle.std.proofs.lemmas.Bool.{and_parts}
 use Rattle.std.proofs.lemmas.List.{append-nil}
@@ -67,14 +67,18 @@ items_again : (allow : Bool) → read_items (allow, items) ≡ Some (bare allow)
 unfolding items bare
 items_again allow = rw (phrase_again uses_tokens (trait_head ++ (close ++ fixed_tokens)) uses_whole, fixed_again) refl
 
+items_apart : phrase allow_tokens items ≡ None
+unfolding items
+items_apart = uses_apart (trait_head ++ (close ++ fixed_tokens))
+
 bare_again : (allow : Bool) → read_program (allow_part allow ++ items) ≡ Some (bare allow)
 unfolding read_program
 bare_again true = rw (phrase_again allow_tokens items allow_whole) (items_again true)
-bare_again false = ?
+bare_again false = rw items_apart (items_again false)
 
 none : {A : Type 0} (P : A → Type 0) → ((a : A) → P a → ⊥) → (xs : List A) → AllByRecursion P xs → xs ≡ []
-none P no [] all = refl
-none P no (x ∷ xs) all = absurd (no x all.0)
+none P never [] all = refl
+none P never (x ∷ xs) all = absurd (never x all.0)
 
 -- a well-formed program has nothing of its own
 bare_if_well_formed : (p : Program) → IsWellFormed p → bare p.allow ≡ p
@@ -98,3 +102,20 @@ spells_only text p h e =
       spells = record { reads = reads; well_formed = h };
       only = λ q s. let other = s.reads in cc;
     }
+
+-- what a printer has printed behind the head, the trait and the fixed items
+pub printed_program : (p : Program) (text : List ℕ) (fresh head body whole : List Token)
+    → IsWellFormed p
+    → fresh ≡ []
+    → head ≡ fresh ++ (allow_part p.allow ++ uses_tokens)
+    → body ≡ head ++ (trait_head ++ close)
+    → whole ≡ body ++ fixed_tokens
+    → tokens_of text ≡ whole
+    → SpellsOnly text p
+printed_program p text fresh head body whole h e1 e2 e3 e4 e5 =
+    spells_only text p h
+        (e5
+        ∙ e4
+        ∙ ap (λ l. l ++ fixed_tokens) e3
+        ∙ ap (λ l. (l ++ (trait_head ++ close)) ++ fixed_tokens) (e2 ∙ ap (λ l. l ++ (allow_part p.allow ++ uses_tokens)) e1)
+        ∙ simp append_assoc)
