@@ -1,10 +1,12 @@
 -- How a number of a builtin integer type is spelled.
-use Rattle.std.specs.Prelude.{ℕ, suc, ℤ, pos, negsuc, List, [], ◌∷◌, ◌++◌, codes, if◌then◌else◌}
-use Rattle.isle_core.specs.Int.{is_signed}
+use Rattle.std.specs.Prelude.{ℕ, suc, ℤ, pos, negsuc, List, [], ◌∷◌, ◌++◌, ◌==◌, ◌&&◌, codes, if◌then◌else◌, Option, Some, None}
+use Rattle.std.specs.Int.{cast_signed}
+use Rattle.isle_core.specs.Int.{is_signed, width}
 use Rattle.isle_core.specs.declared.types.IntType.{IntType}
 use Rattle.isle_core.specs.declared.types.IntType.TheVariants.{U8, U16, U32, U64, U128, USize, I8, I16, I32, I64, I128, ISize}
 use Rattle.isle_ink.specs.Token.{Token, Word, Mark}
-use Rattle.isle_ink.specs.Number.{numeral}
+use Rattle.isle_ink.specs.Number.{numeral, numeral_of}
+use Rattle.isle_ink.specs.Bytes.{same_bytes}
 
 -- the type's name in Rust
 abbrev pub type_name : IntType → List ℕ
@@ -38,3 +40,51 @@ literal_text ty (negsuc n) = codes "-" ++ literal_word ty (suc n)
 abbrev pub literal_tokens : IntType → ℤ → List Token
 literal_tokens ty (pos n) = Word (literal_word ty n) ∷ []
 literal_tokens ty (negsuc n) = Mark (codes "-") ∷ Word (literal_word ty (suc n)) ∷ []
+
+-- the number that a type's bits stand for
+abbrev pub of_bits : IntType → ℕ → ℤ
+of_bits ty n = if is_signed ty then cast_signed (width ty) n else pos n
+
+-- ---- reading a magnitude with its type
+
+-- what stands before the first _, and what behind it
+abbrev pub parted : List ℕ → List ℕ × List ℕ
+parted [] = ([], [])
+parted (b ∷ bs) = if b == 95 then ([], bs) else (b ∷ (parted bs).0, (parted bs).1)
+
+-- the type of this name
+abbrev pub type_named : List ℕ → Option IntType
+type_named w =
+    if same_bytes (codes "u8") w then Some U8
+    else (if same_bytes (codes "u16") w then Some U16
+    else (if same_bytes (codes "u32") w then Some U32
+    else (if same_bytes (codes "u64") w then Some U64
+    else (if same_bytes (codes "u128") w then Some U128
+    else (if same_bytes (codes "usize") w then Some USize
+    else (if same_bytes (codes "i8") w then Some I8
+    else (if same_bytes (codes "i16") w then Some I16
+    else (if same_bytes (codes "i32") w then Some I32
+    else (if same_bytes (codes "i64") w then Some I64
+    else (if same_bytes (codes "i128") w then Some I128
+    else (if same_bytes (codes "isize") w then Some ISize
+    else None)))))))))))
+
+-- the number whose hexadecimal digits stand behind 0x
+abbrev pub behind_0x : List ℕ → Option ℕ
+behind_0x [] = None
+behind_0x (a ∷ []) = None
+behind_0x (a ∷ b ∷ ds) = if (a == 48) && (b == 120) then numeral_of 16 ds else None
+
+-- a number beside its type
+abbrev pub beside : IntType → Option ℕ → Option (IntType × ℕ)
+beside ty None = None
+beside ty (Some n) = Some (ty, n)
+
+-- the magnitude that the digits spell at the type
+abbrev pub magnitude_at : Option IntType → List ℕ → Option (IntType × ℕ)
+magnitude_at None ds = None
+magnitude_at (Some ty) ds = beside ty (if is_signed ty then numeral_of 10 ds else behind_0x ds)
+
+-- the type and the magnitude that the word spells, or none
+unfoldable pub literal_of : List ℕ → Option (IntType × ℕ)
+literal_of w = magnitude_at (type_named (parted w).1) (parted w).0

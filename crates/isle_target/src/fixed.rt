@@ -1,4 +1,7 @@
+//! The parts of a program's text that are the same for all programs.
+
 ghost use Rattle.std.specs.Prelude.{◌≡◌, ◌++◌, OnOk};
+ghost use Rattle.isle_target.specs.Fixed.{allow_tokens, uses_tokens, fixed_tokens};
 
 use isle_ink::Printer;
 use std::alloc::AllocError;
@@ -71,3 +74,24 @@ impl<L: Length, C> Length for ContextIterWrapper<L, C> {
     fn len(&self) -> usize { self.iter.len() }
 }
 ";
+
+/// Prints the lines that keep rustc from warning.
+pub fn print_allow(out: &mut Printer) -> Result<(), AllocError>
+    ensures { OnOk result (out.new ≡ out.old ++ allow_tokens) }
+{
+    out.fixed(ALLOW)
+}
+
+/// Prints the uses.
+pub fn print_uses(out: &mut Printer) -> Result<(), AllocError>
+    ensures { OnOk result (out.new ≡ out.old ++ uses_tokens) }
+{
+    out.fixed(USES)
+}
+
+/// Prints the fixed items.
+pub fn print_fixed(out: &mut Printer) -> Result<(), AllocError>
+    ensures { OnOk result (out.new ≡ out.old ++ fixed_tokens) }
+{
+    out.fixed(FIXED)
+}

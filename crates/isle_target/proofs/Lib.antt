@@ -1,0 +1,4 @@
+pub mod Wraps
+pub mod Literals
+pub mod Again
+pub mod Empty

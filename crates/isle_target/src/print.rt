@@ -1,0 +1,51 @@
+//! The text of a program.
+
+ghost use Rattle.std.specs.Prelude.{◌≡◌, ◌++◌, OnOk, IfOk, string_bytes};
+ghost use Rattle.isle_ink.specs.Token.{tokens_of};
+ghost use Rattle.isle_target.specs.Views.{program};
+ghost use Rattle.isle_target.specs.WellFormed.{IsWellFormed};
+ghost use Rattle.isle_target.specs.Fixed.{uses_tokens, fixed_tokens};
+ghost use Rattle.isle_target.specs.Spelling.{allow_part, trait_head, close, program_tokens};
+ghost use Rattle.isle_target.specs.Reading.{SpellsOnly};
+
+use crate::fixed::{print_allow, print_fixed, print_uses};
+use crate::tree::Program;
+use isle_ink::Printer;
+use std::alloc::{AllocError, Global};
+
+// The allow lines, where they are wanted, and the uses.
+fn print_head(out: &mut Printer, allow: bool) -> Result<(), AllocError>
+    ensures { OnOk result (out.new ≡ out.old ++ (allow_part allow ++ uses_tokens)) }
+{
+    if allow {
+        print_allow(out)?;
+    }
+    print_uses(out)
+}
+
+// The trait that a program's functions are generic over.
+fn print_trait(out: &mut Printer) -> Result<(), AllocError>
+    ensures { OnOk result (out.new ≡ out.old ++ (trait_head ++ close)) }
+{
+    out.word("pub")?;
+    out.word("trait")?;
+    out.word("Context")?;
+    out.space()?;
+    out.mark("{")?;
+    out.line()?;
+    out.mark("}")?;
+    Ok(())
+}
+
+/// The text of a well-formed program, which spells it and no other. The only error is want of memory.
+pub fn print_program(alloc: Global, p: &Program) -> Result<String, AllocError>
+    requires { IsWellFormed (program p.now) }
+    ensures spells { IfOk result (λ text. SpellsOnly (string_bytes text) (program p.now)) }
+    ensures tokens { IfOk result (λ text. tokens_of (string_bytes text) ≡ program_tokens (program p.now)) }
+{
+    let mut out = Printer::new(alloc);
+    print_head(&mut out, p.allow)?;
+    print_trait(&mut out)?;
+    print_fixed(&mut out)?;
+    Ok(out.into_text())
+}
