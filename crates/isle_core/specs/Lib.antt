@@ -11,3 +11,6 @@ pub mod Match
 pub mod Eval
 pub mod Outcome
 pub mod Lawful
+pub mod Printed
+pub mod Inputs
+pub mod Places

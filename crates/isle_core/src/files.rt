@@ -1,8 +1,101 @@
+ghost use Rattle.std.specs.Prelude.{◌≡◌, ◌≤◌, ◌<◌, ◌+◌, Some, None, length, map, IfOk, IfErr, IfSome, IsSomeAnd, slice_get};
+ghost use Rattle.std.specs.Option.{option_copied};
+ghost use Rattle.std.specs.String.{string_bytes};
+ghost use Rattle.isle_core.specs.Inputs.{bytes_each, AreRead, Fails};
+ghost use Rattle.isle_core.specs.Printed.{after_prefix, shown};
 
+use crate::options::Prefix;
+use crate::read_error::ReadError;
 use isle_base::{List, Text};
+use isle_outside::{Dir, OutOfMemory, read_text};
+use std::alloc::Global;
+
 /// The inputs: the names as printed, and the texts, in order.
 #[derive(Debug, Drop)]
 pub struct Files {
     pub file_names: List<Text>,
     pub file_texts: List<Text>,
+}
+
+impl Files {
+    /// The texts of the files of these names, in order, with the names as printed: of each the first prefix that
+    /// begins it is replaced. `Io` gives the first input that was not read; see `IoCause` for its causes.
+    pub fn from_paths<D: Dir>(
+        alloc: Global,
+        dir: &mut D,
+        names: &[String],
+        prefixes: &[Prefix],
+    ) -> Result<Files, ReadError>
+        ensures names { IfOk result (λ files. files.file_names ≡ map (shown prefixes.now) (bytes_each names.now)) }
+        ensures texts { IfOk result (λ files. IfSome (D.files dir.old) (λ fs. AreRead fs (bytes_each names.now) files.file_texts)) }
+        ensures count { IfOk result (λ files. length files.file_texts ≡ length names.now) }
+        ensures err { IfErr result (λ e. Fails e (D.files dir.old) (bytes_each names.now) (D.faults dir.old) (D.faults dir.new)) }
+        ensures files { D.files dir.new ≡ D.files dir.old }
+        ensures later { D.faults dir.old ≤ D.faults dir.new }
+    {
+        let file_texts = all_texts(alloc, dir, names)?;
+        let file_names = all_shown(alloc, names, prefixes)?;
+        Ok(Files {
+            file_names: List::new(file_names),
+            file_texts: List::new(file_texts),
+        })
+    }
+}
+
+/// The texts of the files of these names, in order.
+fn all_texts<D: Dir>(
+    alloc: Global,
+    dir: &mut D,
+    names: &[String],
+) -> Result<Vec<Text>, ReadError>
+    ensures texts { IfOk result (λ read. IfSome (D.files dir.old) (λ fs. AreRead fs (bytes_each names.now) read.items)) }
+    ensures count { IfOk result (λ read. length read.items ≡ length names.now) }
+    ensures err { IfErr result (λ e. Fails e (D.files dir.old) (bytes_each names.now) (D.faults dir.old) (D.faults dir.new)) }
+    ensures files { D.files dir.new ≡ D.files dir.old }
+    ensures later { D.faults dir.old ≤ D.faults dir.new }
+{
+    let mut read = Vec::new(alloc);
+    for (index, name) in names.iter().enumerate() {
+        match read_text(alloc, dir, name.as_str()) {
+            Ok(text) => read.push(Text::new(text))?,
+            Err(fail) => return Err(ReadError::at(index, fail)),
+        }
+    }
+    Ok(read)
+}
+
+/// The names as printed, in order.
+fn all_shown(
+    alloc: Global,
+    names: &[String],
+    prefixes: &[Prefix],
+) -> Result<Vec<Text>, OutOfMemory>
+    ensures { IfOk result (λ printed. printed.items ≡ map (shown prefixes.now) (bytes_each names.now)) }
+{
+    let mut printed = Vec::new(alloc);
+    for name in names {
+        printed.push(name_shown(alloc, name.as_str(), prefixes)?)?;
+    }
+    Ok(printed)
+}
+
+/// A name as printed.
+fn name_shown(alloc: Global, name: &str, prefixes: &[Prefix]) -> Result<Text, OutOfMemory>
+    ensures { IfOk result (λ printed. printed ≡ shown prefixes.now name.now) }
+{
+    for p in prefixes {
+        if let Some(rest) = behind(name, p.prefix.as_str()) {
+            let mut printed = String::from_str(alloc, p.name.as_str())?;
+            printed.push_str(rest)?;
+            return Ok(Text::new(printed));
+        }
+    }
+    Ok(Text::new(String::from_str(alloc, name)?))
+}
+
+/// What stands behind the prefix, where the name begins with it.
+fn behind<'a>(name: &'a str, prefix: &str) -> Option<&'a str>
+    ensures { option_copied result ≡ after_prefix prefix.now name.now }
+{
+    name.strip_prefix(prefix)
 }

@@ -6,6 +6,7 @@ mod errors;
 mod files;
 mod options;
 mod position;
+mod read_error;
 mod rule_sets;
 mod rules;
 mod types;
@@ -18,8 +19,13 @@ pub use isle_base::{
     BindingId, Boxed, FieldId, List, RuleId, Sym, TermId, Text, TupleIndex, TypeId, VarId,
     VariantId,
 };
+pub use isle_outside::{
+    Dir, DirFault, Failed, Found, IoCause, MemDir, MemSink, OutOfMemory, ReadFail, Sink, StdDir,
+    StdSink, read_text, write_all,
+};
 pub use options::{CodegenOptions, Prefix};
 pub use position::{Pos, Span};
+pub use read_error::ReadError;
 pub use rule_sets::{Binding, Constraint, FlatRule, RuleSet};
 pub use rules::{Expr, IfLet, LetBinding, Pattern, Rule};
 pub use types::{
