@@ -1,9 +1,9 @@
 -- Comment lines spell no token.
 use Rattle.std.proofs.Common.{◌≡◌, ℕ, List, [], ◌∷◌, ◌++◌, Bool, true, false, cond, eqb, refl, sym, ap, ◌∙◌, append_assoc}
-use Rattle.std.specs.Prelude.{◌&&◌, fold}
+use Rattle.std.specs.Prelude.{fold}
 use Rattle.std.proofs.lemmas.List.{append-nil}
 use Rattle.std.proofs.lemmas.Bool.{and_parts, and_from}
-use Rattle.isle_ink.specs.Token.{Token, State, Between, InComment, Scan, begun, step, scan, finished, tokens_of}
+use Rattle.isle_ink.specs.Token.{Token, Between, InComment, begun, step, scan, finished, tokens_of}
 use Rattle.isle_ink.specs.Comment.{is_line, are_lines, comment_lines}
 
 no_end : (x y : Bool) → cond x false y ≡ true → (x ≡ false) × (y ≡ true)

@@ -1,13 +1,13 @@
 -- What a printer's next bytes do to the tokens of its text.
 use Rattle.std.proofs.Common.{◌≡◌, ℕ, List, [], ◌∷◌, ◌++◌, Bool, true, false, cond, refl, sym, ap, ◌∙◌, append_assoc, arith}
-use Rattle.std.specs.Prelude.{◌&&◌, fold, slice_index}
+use Rattle.std.specs.Prelude.{fold, slice_index}
 use Rattle.std.specs.List.{list_all}
 use Rattle.std.proofs.lemmas.List.{append-nil}
 use Rattle.std.proofs.lemmas.List.Sums.{fold-append}
 use Rattle.std.proofs.lemmas.Bool.{or_parts, and_parts}
 use Rattle.isle_ink.specs.declared.printer.Last.{Last}
 use Rattle.isle_ink.specs.declared.printer.Last.TheVariants as last
-use Rattle.isle_ink.specs.Token.{Token, Word, Mark, State, Between, InWord, AfterMark, Scan, is_word_byte, joins, goes_on, begun, step, scan, finished, tokens_of, is_word, is_mark, is_mark_byte}
+use Rattle.isle_ink.specs.Token.{Token, Word, Mark, State, Between, InWord, AfterMark, is_word_byte, joins, goes_on, begun, step, scan, finished, tokens_of, is_word, is_mark, is_mark_byte}
 use Rattle.isle_ink.specs.Glue.{Settles, Ends, meets, noted}
 
 -- a text goes on from where the text before it ended
