@@ -14,28 +14,28 @@ choice_behind : (ts : List Token) (b : Bool) (x y x' y' : Scan) → x' ≡ behin
 choice_behind ts true x y x' y' e k = e
 choice_behind ts false x y x' y' e k = k
 
-begun_behind : (ts us : List Token) (b : ℕ) → begun (ts ++ us) b ≡ behind ts (begun us b)
+begun-behind : (ts us : List Token) (b : ℕ) → begun (ts ++ us) b ≡ behind ts (begun us b)
 unfolding begun behind
-begun_behind ts us b = choice_behind ts (is_word_byte b) _ _ _ _ refl (choice_behind ts (is_blank b) _ _ _ _ refl (choice_behind ts (eqb b 34) _ _ _ _ refl refl))
+begun-behind ts us b = choice_behind ts (is_word_byte b) _ _ _ _ refl (choice_behind ts (is_blank b) _ _ _ _ refl (choice_behind ts (eqb b 34) _ _ _ _ refl refl))
 
-step_behind : (ts us : List Token) (st : State) (b : ℕ) → step (record { tokens = ts ++ us; state = st }) b ≡ behind ts (step (record { tokens = us; state = st }) b)
+step-behind : (ts us : List Token) (st : State) (b : ℕ) → step (record { tokens = ts ++ us; state = st }) b ≡ behind ts (step (record { tokens = us; state = st }) b)
 unfolding step behind
-step_behind ts us Between b = begun_behind ts us b
-step_behind ts us (InWord w) b =
-    choice_behind ts (is_word_byte b) _ _ _ _ refl (ap (λ l. begun l b) (append_assoc ts us (Word w ∷ [])) ∙ begun_behind ts (us ++ Word w ∷ []) b)
-step_behind ts us (AfterMark a) b =
+step-behind ts us Between b = begun-behind ts us b
+step-behind ts us (InWord w) b =
+    choice_behind ts (is_word_byte b) _ _ _ _ refl (ap (λ l. begun l b) (append_assoc ts us (Word w ∷ [])) ∙ begun-behind ts (us ++ Word w ∷ []) b)
+step-behind ts us (AfterMark a) b =
     choice_behind ts (joins a b) _ _ _ _ (ap (λ l. record { tokens = l; state = Between }) (append_assoc ts us (Mark (a ∷ b ∷ []) ∷ [])))
-    (choice_behind ts (eqb a 47 && eqb b 47) _ _ _ _ refl (ap (λ l. begun l b) (append_assoc ts us (Mark (a ∷ []) ∷ [])) ∙ begun_behind ts (us ++ Mark (a ∷ []) ∷ []) b))
-step_behind ts us InComment b = choice_behind ts (eqb b 10) _ _ _ _ refl refl
-step_behind ts us (InQuotes w) b =
+    (choice_behind ts (eqb a 47 && eqb b 47) _ _ _ _ refl (ap (λ l. begun l b) (append_assoc ts us (Mark (a ∷ []) ∷ [])) ∙ begun-behind ts (us ++ Mark (a ∷ []) ∷ []) b))
+step-behind ts us InComment b = choice_behind ts (eqb b 10) _ _ _ _ refl refl
+step-behind ts us (InQuotes w) b =
     choice_behind ts (eqb b 34) _ _ _ _ (ap (λ l. record { tokens = l; state = Between }) (append_assoc ts us (Quoted w ∷ []))) (choice_behind ts (eqb b 92) _ _ _ _ refl refl)
-step_behind ts us (Escaped w) b =
+step-behind ts us (Escaped w) b =
     choice_behind ts (eqb b 34 || eqb b 92) _ _ _ _ refl (ap (λ l. record { tokens = l; state = InQuotes w }) (append_assoc ts us (Stray ∷ [])))
 
 pub fold-behind : (ts : List Token) (x : Scan) (text : List ℕ) → fold step (behind ts x) text ≡ behind ts (fold step x text)
 unfolding behind
 fold-behind ts x [] = refl
-fold-behind ts x (b ∷ bs) = ap (λ s. fold step s bs) (step_behind ts x.tokens x.state b) ∙ fold-behind ts (step x b) bs
+fold-behind ts x (b ∷ bs) = ap (λ s. fold step s bs) (step-behind ts x.tokens x.state b) ∙ fold-behind ts (step x b) bs
 
 pub scan-behind : (s text : List ℕ) → (scan s).state ≡ Between → scan (s ++ text) ≡ record { tokens = (scan s).tokens ++ (scan text).tokens; state = (scan text).state }
 unfolding behind

@@ -1,5 +1,5 @@
 -- The digits of a number, and that they are a word.
-use Rattle.std.proofs.Common.{◌≡◌, ℕ, zero, suc, ◌+◌, ◌/◌, ◌%◌, ◌<◌, ◌≤◌, List, [], ◌∷◌, ◌++◌, map, length, Bool, true, refl, sym, ap, ◌∙◌, arith, length-append}
+use Rattle.std.proofs.Common.{◌≡◌, ℕ, zero, suc, ◌/◌, ◌%◌, ◌<◌, ◌≤◌, List, [], ◌∷◌, ◌++◌, map, length, Bool, true, refl, sym, ap, ◌∙◌, arith, length-append}
 use Rattle.std.specs.List.{list_all}
 use Rattle.std.specs.Int.Digits.{digits_of, AllBelowBase}
 use Rattle.std.proofs.lemmas.Int.Digits.{digits_of_step, all_below_base_digits_of}
@@ -48,15 +48,19 @@ pub below_sixteen : (b : ℕ) (ds : List ℕ) → b ≤ 16 → AllBelowBase b ds
 below_sixteen b [] high all = tt
 below_sixteen b (d ∷ ds) high all = (omega (arith, all.0), below_sixteen b ds high all.1)
 
-glyphs_in_word : (ds : List ℕ) → AllBelowBase 16 ds → list_all is_word_byte (map glyph ds) ≡ true
-glyphs_in_word [] all = refl
-glyphs_in_word (d ∷ ds) all = and_from _ _ (glyph_in_word d all.0) (glyphs_in_word ds all.1)
+list_all-glyphs : (p : ℕ → Bool) (ds : List ℕ) → ((d : ℕ) → d < 16 → p (glyph d) ≡ true) → AllBelowBase 16 ds → list_all p (map glyph ds) ≡ true
+list_all-glyphs p [] passes all = refl
+list_all-glyphs p (d ∷ ds) passes all = and_from _ _ (passes d all.0) (list_all-glyphs p ds passes all.1)
 
--- each digit is a byte of a word
-pub list_all-numeral : (b n : ℕ) → 2 ≤ b → b ≤ 16 → list_all is_word_byte (numeral b n) ≡ true
+-- what each digit passes, each byte of a number does
+pub list_all-numeral_by : (p : ℕ → Bool) (b n : ℕ) → 2 ≤ b → b ≤ 16 → ((d : ℕ) → d < 16 → p (glyph d) ≡ true) → list_all p (numeral b n) ≡ true
 unfolding numeral
-list_all-numeral b zero low high = refl
-list_all-numeral b (suc n) low high = glyphs_in_word (digits_of b (suc n)) (below_sixteen b _ high (all_below_base_digits_of b (suc n) low))
+list_all-numeral_by p b zero low high passes = and_from _ _ (passes 0 (omega arith)) refl
+list_all-numeral_by p b (suc n) low high passes = list_all-glyphs p (digits_of b (suc n)) passes (below_sixteen b _ high (all_below_base_digits_of b (suc n) low))
+
+-- each byte of a number is one of a word
+pub list_all-numeral : (b n : ℕ) → 2 ≤ b → b ≤ 16 → list_all is_word_byte (numeral b n) ≡ true
+list_all-numeral b n low high = list_all-numeral_by is_word_byte b n low high glyph_in_word
 
 -- there is a digit
 pub numeral_not_empty : (b n : ℕ) → 2 ≤ b → 0 < length (numeral b n)

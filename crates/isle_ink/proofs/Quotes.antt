@@ -1,11 +1,11 @@
 -- A text between quotes is read as that text.
-use Rattle.std.proofs.Common.{◌≡◌, ℕ, ◌<◌, ◌≤◌, List, [], ◌∷◌, ◌++◌, Bool, true, false, cond, eqb, ltb, refl, sym, ap, ◌∙◌, append_assoc, arith, ⊎_elim}
+use Rattle.std.proofs.Common.{◌≡◌, ℕ, ◌≤◌, List, [], ◌∷◌, ◌++◌, Bool, true, false, cond, eqb, ltb, refl, sym, ap, ◌∙◌, append_assoc, arith, ⊎_elim}
 use Rattle.std.specs.Prelude.{fold, ◌||◌}
 use Rattle.std.proofs.lemmas.List.{append-nil}
 use Rattle.std.proofs.lemmas.Bool.{ne_eqb, le-ltb, cases_lt}
 use Rattle.std.proofs.lemmas.Str.{encode_ascii, encodes-append}
 use lib.Utf8.{encode, encodes}
-use Rattle.isle_ink.specs.Token.{Token, Quoted, Between, InQuotes, Escaped, Scan, begun, step, scan, finished}
+use Rattle.isle_ink.specs.Token.{Token, Quoted, Between, InQuotes, Escaped, begun, step, scan, finished}
 use Rattle.isle_ink.specs.Glue.{Ends}
 use Rattle.isle_ink.specs.Quote.{escaped, quoted}
 use Rattle.isle_ink.proofs.Scans.{scan-next}

@@ -1,13 +1,13 @@
 -- What a printer's next bytes do to the tokens of its text.
 use Rattle.std.proofs.Common.{◌≡◌, ℕ, List, [], ◌∷◌, ◌++◌, Bool, true, false, cond, refl, sym, ap, ◌∙◌, append_assoc, arith}
-use Rattle.std.specs.Prelude.{◌&&◌, fold, slice_index}
+use Rattle.std.specs.Prelude.{fold, slice_index}
 use Rattle.std.specs.List.{list_all}
 use Rattle.std.proofs.lemmas.List.{append-nil}
 use Rattle.std.proofs.lemmas.List.Sums.{fold-append}
 use Rattle.std.proofs.lemmas.Bool.{or_parts, and_parts}
 use Rattle.isle_ink.specs.declared.printer.Last.{Last}
 use Rattle.isle_ink.specs.declared.printer.Last.TheVariants as last
-use Rattle.isle_ink.specs.Token.{Token, Word, Mark, State, Between, InWord, AfterMark, Scan, is_word_byte, joins, goes_on, begun, step, scan, finished, tokens_of, is_word, is_mark, is_mark_byte}
+use Rattle.isle_ink.specs.Token.{Token, Word, Mark, State, Between, InWord, AfterMark, is_word_byte, joins, goes_on, begun, step, scan, finished, tokens_of, is_word, is_mark, is_mark_byte}
 use Rattle.isle_ink.specs.Glue.{Settles, Ends, meets, noted}
 
 -- a text goes on from where the text before it ended
@@ -16,31 +16,31 @@ scan-append s t = fold-append step _ s t
 
 -- ---- which bytes end what was begun
 
-pub between_ends : (b : ℕ) → Ends Between b
+pub ends-Between : (b : ℕ) → Ends Between b
 unfolding step
-between_ends b = record { by = λ ts. ap (λ l. begun l b) (sym (append-nil ts)) }
+ends-Between b = record { by = λ ts. ap (λ l. begun l b) (sym (append-nil ts)) }
 
-word_ends : (w : List ℕ) (b : ℕ) → is_word_byte b ≡ false → Ends (InWord w) b
+ends-InWord : (w : List ℕ) (b : ℕ) → is_word_byte b ≡ false → Ends (InWord w) b
 unfolding step
-word_ends w b h = record { by = λ ts. rw h refl }
+ends-InWord w b h = record { by = λ ts. rw h refl }
 
-mark_ends : (a b : ℕ) → goes_on a b ≡ false → Ends (AfterMark a) b
+ends-AfterMark : (a b : ℕ) → goes_on a b ≡ false → Ends (AfterMark a) b
 unfolding step
-mark_ends a b h = let parts = or_parts (joins a b) _ h in record { by = λ ts. rw (parts.0, parts.1) refl }
+ends-AfterMark a b h = let parts = or_parts (joins a b) _ h in record { by = λ ts. rw (parts.0, parts.1) refl }
 
 -- a byte that does not meet what was noted
-pub apart_ends : (l : Last) (st : State) (b : ℕ) → Settles l st → meets l b ≡ false → Ends st b
-apart_ends last.Nothing st b h apart = rw h (between_ends b)
-apart_ends last.Word st b h apart = rw h.1 (word_ends h.0 b apart)
-apart_ends (last.Mark a) st b h apart = rw h (mark_ends a b apart)
+pub ends_apart : (l : Last) (st : State) (b : ℕ) → Settles l st → meets l b ≡ false → Ends st b
+ends_apart last.Nothing st b h apart = rw h (ends-Between b)
+ends_apart last.Word st b h apart = rw h.1 (ends-InWord h.0 b apart)
+ends_apart (last.Mark a) st b h apart = rw h (ends-AfterMark a b apart)
 
 mark_before_blank : (a : ℕ) → goes_on a 32 ≡ false
 mark_before_blank a = grind arith
 
-blank_ends : (l : Last) (st : State) → Settles l st → Ends st 32
-blank_ends last.Nothing st h = apart_ends last.Nothing st 32 h refl
-blank_ends last.Word st h = apart_ends last.Word st 32 h refl
-blank_ends (last.Mark a) st h = apart_ends (last.Mark a) st 32 h (mark_before_blank a)
+ends_at_blank : (l : Last) (st : State) → Settles l st → Ends st 32
+ends_at_blank last.Nothing st h = ends_apart last.Nothing st 32 h refl
+ends_at_blank last.Word st h = ends_apart last.Word st 32 h refl
+ends_at_blank (last.Mark a) st h = ends_apart (last.Mark a) st 32 h (mark_before_blank a)
 
 -- ---- a token more
 
@@ -55,7 +55,7 @@ scan-space s e = scan-next s 32 [] e
 
 -- a space, whatever was noted
 pub scan-parted : (s : List ℕ) (l : Last) → Settles l (scan s).state → scan (s ++ 32 ∷ []) ≡ record { tokens = finished (scan s); state = Between }
-scan-parted s l h = scan-space s (blank_ends l _ h)
+scan-parted s l h = scan-space s (ends_at_blank l _ h)
 
 -- the end of a line
 pub scan-line : (s : List ℕ) → Ends (scan s).state 10 → scan (s ++ 10 ∷ []) ≡ record { tokens = finished (scan s); state = Between }
@@ -79,15 +79,15 @@ word_grows ts w (b ∷ bs) h =
     let parts = and_parts (is_word_byte b) _ h in
     rw parts.0 (word_grows ts (w ++ b ∷ []) bs parts.1 ∙ ap (λ v. record { tokens = ts; state = InWord v }) (append_assoc w (b ∷ []) bs))
 
-word_begun : (ts : List Token) (b : ℕ) → is_word_byte b ≡ true → begun ts b ≡ record { tokens = ts; state = InWord (b ∷ []) }
+begun-word : (ts : List Token) (b : ℕ) → is_word_byte b ≡ true → begun ts b ≡ record { tokens = ts; state = InWord (b ∷ []) }
 unfolding begun
-word_begun ts b h = rw h refl
+begun-word ts b h = rw h refl
 
 pub scan-word : (s w : List ℕ) → is_word w ≡ true → Ends (scan s).state (slice_index w 0) → scan (s ++ w) ≡ record { tokens = finished (scan s); state = InWord w }
 scan-word s [] h e = absurd cc
 scan-word s (b ∷ bs) h e =
     let parts = and_parts (is_word_byte b) _ h in
-    scan-next s b bs e ∙ ap (λ x. fold step x bs) (word_begun (finished (scan s)) b parts.0) ∙ word_grows (finished (scan s)) (b ∷ []) bs parts.1
+    scan-next s b bs e ∙ ap (λ x. fold step x bs) (begun-word (finished (scan s)) b parts.0) ∙ word_grows (finished (scan s)) (b ∷ []) bs parts.1
 
 pub tokens-word : (s w : List ℕ) → is_word w ≡ true → Ends (scan s).state (slice_index w 0) → tokens_of (s ++ w) ≡ tokens_of s ++ Word w ∷ []
 tokens-word s w h e = ap finished (scan-word s w h e)
@@ -100,22 +100,22 @@ all_refused true y z h = absurd cc
 all_refused false true z h = absurd cc
 all_refused false false true h = absurd cc
 
-mark_begun : (ts : List Token) (b : ℕ) → is_mark_byte b ≡ true → begun ts b ≡ record { tokens = ts; state = AfterMark b }
+begun-mark : (ts : List Token) (b : ℕ) → is_mark_byte b ≡ true → begun ts b ≡ record { tokens = ts; state = AfterMark b }
 unfolding begun
-mark_begun ts b h = let none = all_refused (is_word_byte b) _ _ h in rw (none.0, none.1, none.2) refl
+begun-mark ts b h = let none = all_refused (is_word_byte b) _ _ h in rw (none.0, none.1, none.2) refl
 
 pub scan-mark : (s : List ℕ) (a : ℕ) → is_mark_byte a ≡ true → Ends (scan s).state a → scan (s ++ a ∷ []) ≡ record { tokens = finished (scan s); state = AfterMark a }
-scan-mark s a h e = scan-next s a [] e ∙ mark_begun (finished (scan s)) a h
+scan-mark s a h e = scan-next s a [] e ∙ begun-mark (finished (scan s)) a h
 
 pub scan-mark_pair : (s : List ℕ) (a b : ℕ) → is_mark_byte a ≡ true → joins a b ≡ true → Ends (scan s).state a → scan (s ++ a ∷ b ∷ []) ≡ record { tokens = finished (scan s) ++ Mark (a ∷ b ∷ []) ∷ []; state = Between }
 unfolding step
-scan-mark_pair s a b h j e = scan-next s a (b ∷ []) e ∙ ap (λ x. step x b) (mark_begun (finished (scan s)) a h) ∙ rw j refl
+scan-mark_pair s a b h j e = scan-next s a (b ∷ []) e ∙ ap (λ x. step x b) (begun-mark (finished (scan s)) a h) ∙ rw j refl
 
-pub mark_settles : (s m : List ℕ) → is_mark m ≡ true → Ends (scan s).state (slice_index m 0) → Settles (noted m) (scan (s ++ m)).state
-mark_settles s [] h e = absurd cc
-mark_settles s (a ∷ []) h e = rw (scan-mark s a h e)
-mark_settles s (a ∷ b ∷ []) h e = let parts = and_parts (is_mark_byte a) _ h in rw (scan-mark_pair s a b parts.0 parts.1 e)
-mark_settles s (a ∷ b ∷ c ∷ m) h e = absurd cc
+pub settles_after_mark : (s m : List ℕ) → is_mark m ≡ true → Ends (scan s).state (slice_index m 0) → Settles (noted m) (scan (s ++ m)).state
+settles_after_mark s [] h e = absurd cc
+settles_after_mark s (a ∷ []) h e = rw (scan-mark s a h e)
+settles_after_mark s (a ∷ b ∷ []) h e = let parts = and_parts (is_mark_byte a) _ h in rw (scan-mark_pair s a b parts.0 parts.1 e)
+settles_after_mark s (a ∷ b ∷ c ∷ m) h e = absurd cc
 
 pub tokens-mark : (s m : List ℕ) → is_mark m ≡ true → Ends (scan s).state (slice_index m 0) → tokens_of (s ++ m) ≡ tokens_of s ++ Mark m ∷ []
 tokens-mark s [] h e = absurd cc

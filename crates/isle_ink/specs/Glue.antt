@@ -2,7 +2,7 @@
 use Rattle.std.specs.Prelude.{◌≡◌, ℕ, List, ◌++◌, Bool, false, [], ◌∷◌}
 use Rattle.isle_ink.specs.declared.printer.Last.{Last}
 use Rattle.isle_ink.specs.declared.printer.Last.TheVariants as last
-use Rattle.isle_ink.specs.Token.{Token, State, Scan, Between, InWord, AfterMark, step, begun, last_of, is_word_byte, goes_on}
+use Rattle.isle_ink.specs.Token.{Token, State, Between, InWord, AfterMark, step, begun, last_of, is_word_byte, goes_on}
 
 -- the state is the one that the printer has noted
 abbrev pub Settles : Last → State → Type 0

@@ -8,3 +8,6 @@ mod printer;
 pub use comment::push_comment;
 pub use numeral::push_numeral;
 pub use printer::Printer;
+
+#[cfg(test)]
+mod tests;

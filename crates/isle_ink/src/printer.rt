@@ -11,7 +11,7 @@ use crate::numeral::push_numeral;
 use std::alloc::{AllocError, Global};
 use std::marker::Model;
 
-/// What the text ends with and a next byte may go on.
+/// The kind of token that the text ends with, if a next byte can run into it.
 #[derive(Clone, Copy)]
 enum Last {
     Nothing,
@@ -64,7 +64,7 @@ fn goes_on(a: u8, b: u8) -> bool
     )
 }
 
-// Whether the byte would go on what the text ends with.
+// Whether a byte put down now would run into the token before it.
 fn meets(last: Last, next: u8) -> bool
     ensures { result ≡ meets last next }
 {
@@ -75,7 +75,7 @@ fn meets(last: Last, next: u8) -> bool
     }
 }
 
-// What a mark leaves that may be gone on with.
+// What stays open after a mark: one byte may become a pair, a pair is whole.
 fn noted(mark: &[u8]) -> Last
     ensures { result ≡ noted mark.now }
 {
@@ -85,7 +85,7 @@ fn noted(mark: &[u8]) -> Last
     }
 }
 
-// A blank, where the byte would go on what the text ends with.
+// Puts a blank if the next byte would run into the token before it.
 fn part_from(text: &mut String, last: &mut Last, next: u8) -> Result<(), AllocError>
     requires { Settles last.old (scan (string_bytes text.old)).state }
     ensures ok { OnOk result (Ends (scan (string_bytes text.new)).state next) }
@@ -99,7 +99,7 @@ fn part_from(text: &mut String, last: &mut Last, next: u8) -> Result<(), AllocEr
     Ok(())
 }
 
-// The end of the line, where the text is not at the begin of one.
+// Ends the line, unless the text is at the begin of one.
 fn end_line(text: &mut String, last: &mut Last) -> Result<(), AllocError>
     requires { Settles last.old (scan (string_bytes text.old)).state }
     ensures ok { OnOk result ((scan (string_bytes text.new)).state ≡ Between) }
@@ -117,7 +117,7 @@ fn end_line(text: &mut String, last: &mut Last) -> Result<(), AllocError>
     Ok(())
 }
 
-// The blanks before a line.
+// Four blanks for each level.
 fn pad(text: &mut String, depth: usize) -> Result<(), AllocError>
     requires { (scan (string_bytes text.old)).state ≡ Between }
     ensures { scan (string_bytes text.new) ≡ scan (string_bytes text.old) }
@@ -128,7 +128,7 @@ fn pad(text: &mut String, depth: usize) -> Result<(), AllocError>
     Ok(())
 }
 
-// A character between quotes.
+// Writes one character of a string, with a backslash if it needs one.
 fn push_escaped(out: &mut String, c: char) -> Result<(), AllocError>
     ensures { OnOk result (string_bytes out.new ≡ string_bytes out.old ++ escaped (encode_utf8 c)) }
 {
@@ -140,7 +140,7 @@ fn push_escaped(out: &mut String, c: char) -> Result<(), AllocError>
     Ok(())
 }
 
-// A text between quotes.
+// The string literal of a text.
 fn quoted(alloc: Global, text: &str) -> Result<String, AllocError>
     ensures { IfOk result (λ t. string_bytes t ≡ quoted text.now) }
 {
@@ -164,7 +164,7 @@ impl Printer {
         }
     }
 
-    /// The text that spells the tokens.
+    /// Hands over the text: it spells what was printed.
     pub fn into_text(self) -> String
         ensures { tokens_of (string_bytes result) ≡ self }
     {
@@ -236,7 +236,7 @@ impl Printer {
         pad(&mut self.text, self.depth)
     }
 
-    /// Puts a blank, for the eye.
+    /// Puts a blank that only the reader needs.
     pub fn space(&mut self) -> Result<(), AllocError>
         ensures { self.new ≡ self.old }
     {

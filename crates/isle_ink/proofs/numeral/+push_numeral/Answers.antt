@@ -1,7 +1,6 @@
-use Rattle.std.proofs.Common.{◌≡◌, ◌+◌, ◌%◌, ◌++◌, ◌∷◌, [], ◌<◌, ◌≤◌, ◌/◌, sym, ap, ◌∙◌, append_assoc, arith}
+use Rattle.std.proofs.Common.{◌≡◌, ◌%◌, ◌++◌, ◌∷◌, [], ◌/◌, sym, ap, ◌∙◌, append_assoc, arith}
 use Rattle.std.specs.Prelude.{string_bytes}
 use Rattle.std.proofs.lemmas.Str.{encode_ascii}
-use lib.Utf8.{encode}
 use Rattle.isle_ink.specs.Number.{numeral, glyph}
 use Rattle.isle_ink.proofs.Numerals.{numeral-longer, numeral-single, glyph_below}
 use Rattle.isle_ink.proofs.numeral.+push_numeral.Goals as goal
@@ -15,11 +14,11 @@ returns t c =
     let wide = c.from-wide.ensures in
     let one_byte = encode_ascii (glyph (n % b)) (glyph_below (n % b) (omega arith)) in
     let digit : string_bytes c.push.new.self ≡ string_bytes c.if-n-wide.out ++ glyph (n % b) ∷ [] =
-        c.in_ok-push.ensures.bytes ∙ ap (λ x. string_bytes c.if-n-wide.out ++ encode x) (c.glyph.ensures ∙ ap (λ x. glyph (n % x)) wide) ∙ ap (λ l. string_bytes c.if-n-wide.out ++ l) one_byte in
+    rw (c.in_ok-push.ensures.bytes, c.glyph.ensures, wide, one_byte) in
     elim c.if-n-wide.branch [
-      then-n-wide+in_ok-push_numeral w ↦
-        digit ∙ ap (λ s. string_bytes s ++ glyph (n % b) ∷ []) w.out-is ∙ ap (λ l. l ++ glyph (n % b) ∷ []) (w.in_ok-push_numeral.ensures ∙ ap (λ x. old ++ numeral b (n / x)) wide)
-        ∙ append_assoc old (numeral b (n / b)) (glyph (n % b) ∷ []) ∙ ap (λ l. old ++ l) (sym (numeral-longer b n c.requires.low (omega arith)))
+      | then-n-wide+in_ok-push_numeral w ↦
+          digit ∙ ap (λ s. string_bytes s ++ glyph (n % b) ∷ []) w.out-is ∙ ap (λ l. l ++ glyph (n % b) ∷ []) (w.in_ok-push_numeral.ensures ∙ ap (λ x. old ++ numeral b (n / x)) wide)
+          ∙ append_assoc old (numeral b (n / b)) (glyph (n % b) ∷ []) ∙ ap (λ l. old ++ l) (sym (numeral-longer b n c.requires.low (omega arith)))
       | else-n-wide w ↦
-        digit ∙ ap (λ s. string_bytes s ++ glyph (n % b) ∷ []) w.out-is ∙ ap (λ l. old ++ l) (sym (numeral-single b n c.requires.low (omega arith)))
+          digit ∙ ap (λ s. string_bytes s ++ glyph (n % b) ∷ []) w.out-is ∙ ap (λ l. old ++ l) (sym (numeral-single b n c.requires.low (omega arith)))
     ]

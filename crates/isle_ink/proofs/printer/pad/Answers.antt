@@ -1,6 +1,5 @@
 use Rattle.std.proofs.Common.{ap, ◌∙◌}
 use Rattle.std.specs.Prelude.{string_bytes}
-use Rattle.isle_ink.specs.Token.{Scan}
 use Rattle.isle_ink.proofs.Scans.{scan-pad}
 use Rattle.isle_ink.proofs.printer.pad.Goals as goal
 

@@ -1,6 +1,6 @@
 use Rattle.std.proofs.Common.{◌++◌, ap, ◌∙◌}
 use Rattle.std.specs.Prelude.{string_bytes}
-use Rattle.isle_ink.specs.Token.{Scan, tokens_of}
+use Rattle.isle_ink.specs.Token.{tokens_of}
 use Rattle.isle_ink.proofs.Behind.{scan-behind, tokens-behind}
 use Rattle.isle_ink.proofs.printer.Printer.fixed.Goals as goal
 

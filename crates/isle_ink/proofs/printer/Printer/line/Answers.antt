@@ -1,7 +1,7 @@
 use Rattle.std.proofs.Common.{ap, ◌∙◌}
 use Rattle.std.specs.Prelude.{string_bytes}
 use Rattle.std.proofs.lemmas.List.{append-nil}
-use Rattle.isle_ink.specs.Token.{Scan, finished}
+use Rattle.isle_ink.specs.Token.{finished}
 use Rattle.isle_ink.proofs.Scans.{scan-line}
 use Rattle.isle_ink.proofs.printer.Printer.line.Goals as goal
 

@@ -1,13 +1,13 @@
 use Rattle.std.proofs.Common.{◌++◌, ◌∷◌, [], ap, ◌∙◌}
 use Rattle.std.specs.Prelude.{string_bytes}
 use Rattle.isle_ink.specs.Token.{Mark}
-use Rattle.isle_ink.proofs.Scans.{mark_settles, tokens-mark}
+use Rattle.isle_ink.proofs.Scans.{settles_after_mark, tokens-mark}
 use Rattle.isle_ink.proofs.printer.Printer.mark.Goals as goal
 
 pub invariant_of-self-2 : goal.invariant_of-self-2
 invariant_of-self-2 c =
     let ends = rw c.as_bytes-bytes.ensures.value at c.in_ok-part_from.ensures.ok in
-    rw (c.in_ok-push_str.ensures.bytes, c.noted-self-inside.ensures, c.as_bytes-bytes.ensures.value) (mark_settles (string_bytes c.part_from.new.text) c.args.mark.now c.requires ends)
+    rw (c.in_ok-push_str.ensures.bytes, c.noted-self-inside.ensures, c.as_bytes-bytes.ensures.value) (settles_after_mark (string_bytes c.part_from.new.text) c.args.mark.now c.requires ends)
 
 pub returns : goal.returns
 returns c =

@@ -1,7 +1,7 @@
 use Rattle.std.proofs.Common.{◌++◌, ◌∷◌, [], ap, ◌∙◌}
 use Rattle.std.specs.Prelude.{string_bytes}
 use Rattle.std.proofs.lemmas.List.{append-nil}
-use Rattle.isle_ink.specs.Token.{Scan, Quoted, finished}
+use Rattle.isle_ink.specs.Token.{Quoted, finished}
 use Rattle.isle_ink.proofs.Quotes.{scan-quoted}
 use Rattle.isle_ink.proofs.printer.Printer.quoted.Goals as goal
 

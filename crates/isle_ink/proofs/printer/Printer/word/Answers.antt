@@ -1,6 +1,6 @@
 use Rattle.std.proofs.Common.{◌++◌, ◌∷◌, [], ap, ◌∙◌}
 use Rattle.std.specs.Prelude.{string_bytes}
-use Rattle.isle_ink.specs.Token.{Scan, Word}
+use Rattle.isle_ink.specs.Token.{Word}
 use Rattle.isle_ink.proofs.Scans.{scan-word, tokens-word}
 use Rattle.isle_ink.proofs.printer.Printer.word.Goals as goal
 
