@@ -1,1 +1,3 @@
 pub mod OutcomeOnce
+pub mod Prefixes
+pub mod InputLaws

@@ -1,5 +1,5 @@
 -- What reading several inputs answers.
-use Rattle.std.specs.Prelude.{◌≡◌, ℕ, ◌<◌, List, map, length, take, Option, Some, None, IfSome, IsSomeAnd, String, slice_get}
+use Rattle.std.specs.Prelude.{◌≡◌, ℕ, ◌<◌, List, [], ◌∷◌, map, length, take, Option, Some, None, IfSome, IsSomeAnd, String, slice_get}
 use Rattle.std.specs.String.{string_bytes}
 use Rattle.std.specs.List.{AllByRecursion}
 use Rattle.std.specs.declared.alloc.Global.{Global}
@@ -7,6 +7,8 @@ use Rattle.isle_outside.specs.Directory.{Files, bytes_of, Rose}
 use Rattle.isle_outside.specs.Reading.{IsCause, IsText}
 use Rattle.isle_outside.specs.declared.errors.IoCause.{IoCause}
 use Rattle.isle_outside.specs.declared.errors.IoCause.TheVariants as cause
+use Rattle.isle_outside.specs.declared.errors.ReadFail.{ReadFail}
+use Rattle.isle_outside.specs.declared.errors.ReadFail.TheVariants as fail
 use Rattle.isle_core.specs.declared.read_error.ReadError.{ReadError}
 use Rattle.isle_core.specs.declared.read_error.ReadError.TheVariants as error
 
@@ -20,6 +22,11 @@ AreRead files [] [] = Unit {0}
 AreRead files (name ∷ names) (text ∷ texts) = IsText text (bytes_of files name) × AreRead files names texts
 AreRead files [] (text ∷ texts) = ⊥
 AreRead files (name ∷ names) [] = ⊥
+
+-- the failure of the input at a place
+abbrev pub failure_at : ℕ → ReadFail → ReadError
+failure_at index (fail.Io why) = error.Io index why
+failure_at index fail.Memory = error.Memory
 
 -- the count rose, where the cause is a fault
 abbrev pub RoseAt : IoCause → ℕ → ℕ → Type 0

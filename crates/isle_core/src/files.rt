@@ -56,10 +56,11 @@ fn all_texts<D: Dir>(
 {
     let mut read = Vec::new(alloc);
     for (index, name) in names.iter().enumerate() {
-        match read_text(alloc, dir, name.as_str()) {
-            Ok(text) => read.push(Text::new(text))?,
+        let text = match read_text(alloc, dir, name.as_str()) {
+            Ok(text) => Text::new(text),
             Err(fail) => return Err(ReadError::at(index, fail)),
-        }
+        };
+        read.push(text)?;
     }
     Ok(read)
 }

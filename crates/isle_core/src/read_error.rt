@@ -13,8 +13,13 @@ pub enum ReadError {
 }
 
 impl ReadError {
+    ghost use Rattle.std.specs.Prelude.{◌≡◌};
+    ghost use Rattle.isle_core.specs.Inputs.{failure_at};
+
     /// The failure of the input at the place.
-    fn at(index: usize, fail: ReadFail) -> ReadError {
+    pub(crate) fn at(index: usize, fail: ReadFail) -> ReadError
+        ensures { result ≡ failure_at index fail }
+    {
         match fail {
             ReadFail::Io(cause) => ReadError::Io { index, cause },
             ReadFail::Memory => ReadError::Memory,
@@ -24,6 +29,7 @@ impl ReadError {
 
 impl From<OutOfMemory> for ReadError {
     ghost use Rattle.isle_core.specs.declared.read_error.ReadError.TheVariants.{Memory};
+    ghost use Rattle.std.specs.Prelude.{◌≡◌};
 
     ghost from_gives = { λ _ e. e ≡ Memory };
 
@@ -34,6 +40,7 @@ impl From<OutOfMemory> for ReadError {
 
 impl From<AllocError> for ReadError {
     ghost use Rattle.isle_core.specs.declared.read_error.ReadError.TheVariants.{Memory};
+    ghost use Rattle.std.specs.Prelude.{◌≡◌};
 
     ghost from_gives = { λ _ e. e ≡ Memory };
 
@@ -44,6 +51,7 @@ impl From<AllocError> for ReadError {
 
 impl<T: Drop> From<AllocFailed<T>> for ReadError {
     ghost use Rattle.isle_core.specs.declared.read_error.ReadError.TheVariants.{Memory};
+    ghost use Rattle.std.specs.Prelude.{◌≡◌};
 
     ghost from_gives = { λ _ e. e ≡ Memory };
 

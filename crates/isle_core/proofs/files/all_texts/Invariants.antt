@@ -1,0 +1,12 @@
+use Rattle.std.proofs.Common.{◌≡◌, ◌≤◌, take, length}
+use Rattle.std.specs.Prelude.{IfSome}
+use Rattle.isle_core.specs.Inputs.{bytes_each, AreRead}
+use Rattle.isle_core.proofs.files.all_texts.Given as goal
+
+abbrev pub invariant-loop-index : goal.invariant-loop-index
+invariant-loop-index g l = record {
+  read : IfSome (g.D.Dir.files l.fn.dir) (λ fs. AreRead fs (bytes_each (take l.index l.names)) l.read.items);
+  count : length l.read.items ≡ l.index;
+  files : g.D.Dir.files l.dir ≡ g.D.Dir.files l.fn.dir;
+  later : g.D.Dir.faults l.fn.dir ≤ g.D.Dir.faults l.dir;
+}
