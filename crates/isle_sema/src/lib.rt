@@ -1,0 +1,6 @@
+//! From definitions to environments: symbols, types, terms and rules.
+#![tactic(auto)]
+
+mod typing;
+
+pub use typing::{EnvError, term_env_from_ast, type_env_from_ast};

@@ -1,0 +1,84 @@
+ghost use Rattle.std.specs.Prelude.{◌≡◌, Err, IfOk, [], ◌∷◌};
+ghost use Rattle.isle_core.specs.declared.types.TypeEnv.{TypeEnv as TheTypes};
+ghost use Rattle.isle_core.specs.Rule.{Environment};
+ghost use Rattle.isle_core.specs.RuleViews.{environment};
+ghost use Rattle.isle_syntax.specs.Views.{defs as seen};
+ghost use Rattle.isle_sema.specs.Typing.{builtins, TypesFrom, Typed, TypedOnly};
+
+use isle_core::{BuiltinType, IntType, List, TermEnv, TypeDef, TypeEnv};
+use isle_syntax::Def;
+use std::alloc::{AllocError, Global};
+
+/// Why definitions give no environment.
+#[derive(Clone, Copy, Debug, PartialEq, Eq)]
+pub enum EnvError {
+    /// They are not all of the forms that are built.
+    NotYet,
+    Memory,
+}
+
+impl From<AllocError> for EnvError {
+    ghost use Rattle.std.specs.Prelude.{◌≡◌};
+    ghost use Rattle.isle_sema.specs.declared.typing.EnvError.TheVariants.{Memory};
+
+    ghost from_gives = { λ _ e. e ≡ Memory };
+
+    fn from(_: AllocError) -> Self {
+        EnvError::Memory
+    }
+}
+
+/// The types that are there before any definition.
+fn builtin_types(alloc: Global) -> Result<Vec<TypeDef>, AllocError>
+    ensures { IfOk result (λ types. types.items ≡ builtins) }
+{
+    let int = |ty: IntType| TypeDef::Builtin(BuiltinType::Int(ty));
+    Ok(vec![in alloc;
+        TypeDef::Builtin(BuiltinType::Bool),
+        int(IntType::U8),
+        int(IntType::U16),
+        int(IntType::U32),
+        int(IntType::U64),
+        int(IntType::U128),
+        int(IntType::USize),
+        int(IntType::I8),
+        int(IntType::I16),
+        int(IntType::I32),
+        int(IntType::I64),
+        int(IntType::I128),
+        int(IntType::ISize)
+    ]?)
+}
+
+/// The symbols, types and constants of the definitions. `NotYet` comes exactly where they are not all of forms that
+/// are built; no form of a definition is built.
+pub fn type_env_from_ast(alloc: Global, defs: &[Def]) -> Result<TypeEnv, EnvError>
+    ensures ok { IfOk result (λ env. TypesFrom (seen defs.now) env) }
+    ensures not_yet { result ≡ Err EnvError.NotYet → (env : TheTypes) → TypesFrom (seen defs.now) env → ⊥ }
+{
+    if !defs.is_empty() {
+        return Err(EnvError::NotYet);
+    }
+    Ok(TypeEnv {
+        syms: List::new(Vec::new(alloc)),
+        types: List::new(builtin_types(alloc)?),
+        consts: List::new(Vec::new(alloc)),
+    })
+}
+
+/// The terms, rules and converters of the definitions, whose types are given. `NotYet` as of `type_env_from_ast`.
+pub fn term_env_from_ast(alloc: Global, env: &TypeEnv, defs: &[Def]) -> Result<TermEnv, EnvError>
+    requires { TypesFrom (seen defs.now) env.now }
+    ensures ok { IfOk result (λ terms. TypedOnly (seen defs.now) (environment env.now terms)) }
+    ensures not_yet { result ≡ Err EnvError.NotYet → (all : Environment) → Typed (seen defs.now) all → ⊥ }
+{
+    if !defs.is_empty() {
+        return Err(EnvError::NotYet);
+    }
+    let _ = env;
+    Ok(TermEnv {
+        terms: List::new(Vec::new(alloc)),
+        rules: List::new(Vec::new(alloc)),
+        converters: List::new(Vec::new(alloc)),
+    })
+}
