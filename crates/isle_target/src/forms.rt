@@ -35,55 +35,73 @@ mod tests {
         List::new(Vec::new(alloc))
     }
 
-    #[test]
-    fn refuses_what_is_not_built(rt: HostRuntime) -> Result<(), Fail> {
-        let alloc = rt.alloc();
-        let empty = Program {
-            allow: false,
-            trait_fns: none(alloc),
-            types: none(alloc),
-            fns: none(alloc),
-        };
-        assert!(rt; well_formed(alloc, &empty)?);
-        let trait_fn = TraitFn {
+    fn trait_fns(alloc: Global) -> Result<List<TraitFn>, AllocError> {
+        let f = TraitFn {
             name: name(alloc),
             params: none(alloc),
             results: none(alloc),
             kind: ReturnKind::Plain,
         };
-        let with_trait_fn = Program {
-            allow: false,
-            trait_fns: List::new(vec![in alloc; trait_fn]?),
-            types: none(alloc),
-            fns: none(alloc),
-        };
-        assert!(rt; !well_formed(alloc, &with_trait_fn)?);
+        Ok(List::new(vec![in alloc; f]?))
+    }
+
+    fn types(alloc: Global) -> Result<List<TypeItem>, AllocError> {
         let item = TypeItem {
             name: name(alloc),
             debug: false,
             body: TypeBody::Struct(TFields::Unit),
         };
-        let with_type = Program {
-            allow: false,
-            trait_fns: none(alloc),
-            types: List::new(vec![in alloc; item]?),
-            fns: none(alloc),
-        };
-        assert!(rt; !well_formed(alloc, &with_type)?);
-        let function = Function {
+        Ok(List::new(vec![in alloc; item]?))
+    }
+
+    fn functions(alloc: Global) -> Result<List<Function>, AllocError> {
+        let f = Function {
             term: name(alloc),
             params: none(alloc),
             result: name(alloc),
             kind: ReturnKind::Plain,
             body: none(alloc),
         };
-        let with_fn = Program {
+        Ok(List::new(vec![in alloc; f]?))
+    }
+
+    // What is said of the program of these items.
+    fn decided(
+        alloc: Global,
+        trait_fns: List<TraitFn>,
+        types: List<TypeItem>,
+        fns: List<Function>,
+    ) -> Result<bool, AllocError> {
+        let p = Program {
             allow: false,
-            trait_fns: none(alloc),
-            types: none(alloc),
-            fns: List::new(vec![in alloc; function]?),
+            trait_fns,
+            types,
+            fns,
         };
-        assert!(rt; !well_formed(alloc, &with_fn)?);
+        well_formed(alloc, &p)
+    }
+
+    #[test]
+    fn refuses_what_is_not_built(rt: HostRuntime) -> Result<(), Fail> {
+        let alloc = rt.alloc();
+        let said = [
+            (decided(alloc, none(alloc), none(alloc), none(alloc))?, true),
+            (
+                decided(alloc, trait_fns(alloc)?, none(alloc), none(alloc))?,
+                false,
+            ),
+            (
+                decided(alloc, none(alloc), types(alloc)?, none(alloc))?,
+                false,
+            ),
+            (
+                decided(alloc, none(alloc), none(alloc), functions(alloc)?)?,
+                false,
+            ),
+        ];
+        for (is, want) in said {
+            assert_eq!(rt; is, want);
+        }
         Ok(())
     }
 }
