@@ -1,5 +1,5 @@
 -- What a program is spelled as is read as that program, and as no other.
-use Rattle.std.proofs.Common.{◌≡◌, ℕ, List, [], ◌∷◌, ◌++◌, map, Bool, true, false, Option, Some, None, refl, sym, ap, ◌∙◌, append_assoc}
+use Rattle.std.proofs.Common.{◌≡◌, ℕ, List, [], ◌∷◌, ◌++◌, Bool, true, false, Some, None, refl, sym, ap, ◌∙◌, append_assoc}
 use Rattle.std.specs.List.{AllByRecursion, list_all}
 use Rattle.std.proofs.lemmas.Bool.{and_parts}
 use Rattle.std.proofs.lemmas.List.{append-nil}
@@ -9,7 +9,7 @@ use Rattle.isle_target.specs.Fixed.{allow_tokens, uses_tokens, fixed_tokens}
 use Rattle.isle_target.specs.Spelling.{allow_part, trait_head, close, program_tokens}
 use Rattle.isle_target.specs.Program.{Program}
 use Rattle.isle_target.specs.WellFormed.{IsTraitFn, IsTypeItem, IsFunction, IsWellFormed}
-use Rattle.isle_target.specs.Reading.{same_token, phrase, read_items, read_program, program_of, SpellsProgram, SpellsOnly}
+use Rattle.isle_target.specs.Reading.{same_token, phrase, read_items, read_program, program_of, SpellsOnly}
 
 -- whether a token is none of those that no program has
 abbrev pub is_whole : Token → Bool
@@ -114,8 +114,8 @@ pub printed_program : (p : Program) (text : List ℕ) (fresh head body whole : L
     → SpellsOnly text p
 printed_program p text fresh head body whole h e1 e2 e3 e4 e5 =
     spells_only text p h
-        (e5
-        ∙ e4
-        ∙ ap (λ l. l ++ fixed_tokens) e3
-        ∙ ap (λ l. (l ++ (trait_head ++ close)) ++ fixed_tokens) (e2 ∙ ap (λ l. l ++ (allow_part p.allow ++ uses_tokens)) e1)
-        ∙ simp append_assoc)
+    (e5
+    ∙ e4
+    ∙ ap (λ l. l ++ fixed_tokens) e3
+    ∙ ap (λ l. (l ++ (trait_head ++ close)) ++ fixed_tokens) (e2 ∙ ap (λ l. l ++ (allow_part p.allow ++ uses_tokens)) e1)
+    ∙ simp append_assoc)

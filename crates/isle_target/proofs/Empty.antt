@@ -1,5 +1,5 @@
 -- Lists of items of which no form is built.
-use Rattle.std.proofs.Common.{◌≡◌, ℕ, List, [], ◌∷◌, map, length, Bool, true, false, refl, sym, ap, ◌∙◌, arith}
+use Rattle.std.proofs.Common.{◌≡◌, List, [], ◌∷◌, map, length, Bool, true, false, refl, ap, ◌∙◌, arith}
 use Rattle.std.specs.Prelude.{◌==◌, IsTrue, ◌↔◌}
 use Rattle.std.specs.List.{AllByRecursion}
 use Rattle.std.proofs.lemmas.List.{length-map}
@@ -29,8 +29,9 @@ refused_types p e = (λ t. absurd cc, λ h. absurd (holds_no IsTypeItem (λ i b.
 
 -- with neither: by its functions
 pub by_fns : (p : CodeProgram) (b : Bool) → (length p.trait_fns == 0) ≡ true → (length p.types == 0) ≡ true → (length p.fns == 0) ≡ b → IsTrue b ↔ IsWellFormed (program p)
-by_fns p true e f g =
-    ( λ t. record { trait_fns = holds_all IsTraitFn p.trait_fns e; types = holds_all IsTypeItem p.types f; fns = holds_all (IsFunction (program p)) (map function p.fns) (mapped function p.fns true g) }
-    , λ h. refl )
+by_fns p true e f g = (
+  λ t. record { trait_fns = holds_all IsTraitFn p.trait_fns e; types = holds_all IsTypeItem p.types f; fns = holds_all (IsFunction (program p)) (map function p.fns) (mapped function p.fns true g) },
+  λ h. refl,
+)
 by_fns p false e f g =
     (λ t. absurd cc, λ h. absurd (holds_no (IsFunction (program p)) (λ i b. b) (map function p.fns) (mapped function p.fns false g) h.fns))

@@ -1,7 +1,7 @@
 -- Wrapping a number to a type: it is of the type, differs by a multiple, and is the only such number.
-use Rattle.std.proofs.Common.{◌≡◌, ℕ, zero, suc, ◌+◌, ◌-◌, ◌*◌, ◌/◌, ◌%◌, ◌^◌, ◌<◌, ◌≤◌, Bool, true, false, cond, refl, sym, ap, ◌∙◌, arith, ⊎_elim}
+use Rattle.std.proofs.Common.{◌≡◌, ℕ, suc, ◌+◌, ◌-◌, ◌*◌, ◌/◌, ◌%◌, ◌^◌, ◌<◌, ◌≤◌, Bool, true, false, cond, refl, sym, ap, ◌∙◌, arith, ⊎_elim}
 use Rattle.std.specs.Prelude.{ℤ, pos, negsuc, ◌+ℤ◌}
-use Rattle.std.specs.Int.{Width, w8, w16, w32, w64, w128, cast_signed, cast_unsigned, int_wrap, int_rem_euclid}
+use Rattle.std.specs.Int.{Width, w8, w16, w32, w64, w128, cast_signed, cast_unsigned, int_wrap}
 use Rattle.std.specs.Int.RustNames.{FitsSigned, unsigned_abs}
 use Rattle.std.proofs.Math.Nat.{mul-le-mul_right, mod-lt, div-add-mod'}
 use Rattle.std.proofs.lemmas.Bool.{cases_lt, lt-ltb, le-ltb}
@@ -11,7 +11,7 @@ use mir.Val.{bits, hbits}
 use lib.Pow.{pow_pos}
 use lib.IntN.{◌*ℤ◌}
 use Rattle.isle_core.specs.declared.types.IntType.{IntType}
-use Rattle.isle_core.specs.Int.{width, is_signed, IsBelow, IsOf, WrapsTo, residue, wrapped}
+use Rattle.isle_core.specs.Int.{width, is_signed, IsBelow, WrapsTo, residue, wrapped}
 use Rattle.isle_target.specs.Literal.{of_bits}
 
 -- a multiple of the width's limit
@@ -37,12 +37,12 @@ residue_differs w (negsuc a) =
 nearer : (x y i j m : ℕ) → x + i * m ≡ y + j * m → x < y + m → y < x + m → x ≡ y
 nearer x y i j m e above below =
     ⊎_elim
-        (λ less. let far : suc i * m ≤ j * m = mul-le-mul_right m less in absurd (omega arith))
-        (λ more. ⊎_elim
-            (λ less. let far : suc j * m ≤ i * m = mul-le-mul_right m less in absurd (omega arith))
-            (λ other. let same : i ≡ j = omega arith in omega (arith, ap (λ k. k * m) same))
-            (cases_lt j i))
-        (cases_lt i j)
+    (λ less. let far : suc i * m ≤ j * m = mul-le-mul_right m less in absurd (omega arith))
+    (λ more. ⊎_elim
+    (λ less. let far : suc j * m ≤ i * m = mul-le-mul_right m less in absurd (omega arith))
+    (λ other. let same : i ≡ j = omega arith in omega (arith, ap (λ k. k * m) same))
+    (cases_lt j i))
+    (cases_lt i j)
 
 -- both n and p differ from z by a multiple of m
 near_same : (z n p k j : ℤ) (m : ℕ) → z ≡ n +ℤ (k *ℤ pos m) → z ≡ p +ℤ (j *ℤ pos m) → up n + down p < up p + down n + m → up p + down n < up n + down p + m → n ≡ p
@@ -83,9 +83,9 @@ wraps_once ty z n m f g = once (is_signed ty) (width ty) z n m f.within g.within
 cast_differs : (w : Width) (n : ℕ) → n < 2 ^ bits w → (k : ℤ) × (pos n ≡ cast_signed w n +ℤ (k *ℤ pos (2 ^ bits w)))
 cast_differs w n h =
     ⊎_elim
-        (λ low. (pos 0, rw (lt-ltb n (2 ^ hbits w) low) (same_in _ _ (omega (arith, sum_is_lem, product_is)))))
-        (λ high. (pos 1, rw (le-ltb n (2 ^ hbits w) high) (same_in _ _ (omega (arith, sum_is_lem, product_is)))))
-        (cases_lt n (2 ^ hbits w))
+    (λ low. (pos 0, rw (lt-ltb n (2 ^ hbits w) low) (same_in _ _ (omega (arith, sum_is_lem, product_is)))))
+    (λ high. (pos 1, rw (le-ltb n (2 ^ hbits w) high) (same_in _ _ (omega (arith, sum_is_lem, product_is)))))
+    (cases_lt n (2 ^ hbits w))
 
 joined : (w : Width) (z n p : ℤ) → Multiple w z n → Multiple w n p → Multiple w z p
 unfolding Multiple

@@ -1,6 +1,6 @@
 -- Reading a text as a program: its tokens from left to right, each form told by the next few.
 use Rattle.std.specs.Prelude.{◌≡◌, ℕ, List, [], ◌∷◌, Bool, true, false, Option, Some, None, if◌then◌else◌}
-use Rattle.isle_ink.specs.Token.{Token, Word, Mark, Quoted, Stray, tokens_of}
+use Rattle.isle_ink.specs.Token.{Token, Word, Mark, Quoted, tokens_of}
 use Rattle.isle_ink.specs.Bytes.{same_bytes}
 use Rattle.isle_target.specs.Fixed.{allow_tokens, uses_tokens, fixed_tokens}
 use Rattle.isle_target.specs.Spelling.{trait_head, close}

@@ -1,5 +1,5 @@
 -- What contracts see of the code's trees with statements in them.
-use Rattle.std.specs.Prelude.{ℕ, List, [], ◌∷◌, map}
+use Rattle.std.specs.Prelude.{List, [], ◌∷◌, map}
 use Rattle.isle_target.specs.declared.tree.TPat.{TPat}
 use Rattle.isle_target.specs.declared.tree.Stmt.{Stmt as CodeStmt}
 use Rattle.isle_target.specs.declared.tree.Stmt.TheOpen.{Stmt-F}

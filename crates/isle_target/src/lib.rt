@@ -2,15 +2,15 @@
 #![tactic(auto)]
 
 mod fixed;
+mod forms;
 mod literal;
 mod print;
 mod tree;
-mod well_formed;
 
+pub use forms::well_formed;
 pub use literal::rust_int_literal;
 pub use print::print_program;
 pub use tree::{
     Function, Operand, Program, Read, Stmt, TBind, TCall, TExpr, TFields, TPat, TraitFn, Ty,
     TypeBody, TypeItem,
 };
-pub use well_formed::well_formed as is_well_formed;

@@ -14,18 +14,10 @@ fn is_signed(ty: IntType) -> bool
     ensures { result ≡ is_signed ty }
 {
     match ty {
-        IntType::U8
-        | IntType::U16
-        | IntType::U32
-        | IntType::U64
-        | IntType::U128
-        | IntType::USize => false,
-        IntType::I8
-        | IntType::I16
-        | IntType::I32
-        | IntType::I64
-        | IntType::I128
-        | IntType::ISize => true,
+        IntType::U8 | IntType::U16 | IntType::U32 | IntType::U64 | IntType::U128 | IntType::USize =>
+            false,
+        IntType::I8 | IntType::I16 | IntType::I32 | IntType::I64 | IntType::I128 | IntType::ISize =>
+            true,
     }
 }
 
@@ -118,4 +110,104 @@ pub fn rust_int_literal(alloc: Global, ty: IntType, val: i128) -> Result<String,
     let mut out = String::new(alloc);
     push_bits(&mut out, ty, bits)?;
     Ok(out)
+}
+
+#[cfg(test)]
+mod tests {
+    use super::*;
+    use std::test::Fail;
+
+    #[test]
+    fn wraps_to_the_type(rt: HostRuntime) -> Result<(), Fail> {
+        let cases = [
+            (IntType::U8, -2, "0xfe_u8"),
+            (IntType::U8, 0, "0x0_u8"),
+            (IntType::I8, 255, "-1_i8"),
+            (IntType::I64, -1, "-1_i64"),
+            (IntType::I16, 65535, "-1_i16"),
+            (IntType::U64, 5, "0x5_u64"),
+            (IntType::U64, -1, "0xffffffffffffffff_u64"),
+            (IntType::U128, -1, "0xffffffffffffffffffffffffffffffff_u128"),
+            (IntType::USize, -1, "0xffffffffffffffff_usize"),
+            (IntType::ISize, -1, "-1_isize"),
+        ];
+        for (ty, val, want) in cases {
+            let text = rust_int_literal(rt.alloc(), ty, val)?;
+            assert_eq!(rt; text.as_str(), want);
+        }
+        Ok(())
+    }
+
+    #[test]
+    fn spells_the_highest(rt: HostRuntime) -> Result<(), Fail> {
+        let cases = [
+            (IntType::U8, 0xff, "0xff_u8"),
+            (IntType::U16, 0xffff, "0xffff_u16"),
+            (IntType::U32, 0xffff_ffff, "0xffffffff_u32"),
+            (
+                IntType::U64,
+                0xffff_ffff_ffff_ffff,
+                "0xffffffffffffffff_u64",
+            ),
+            (
+                IntType::USize,
+                0xffff_ffff_ffff_ffff,
+                "0xffffffffffffffff_usize",
+            ),
+            (
+                IntType::U128,
+                i128::MAX,
+                "0x7fffffffffffffffffffffffffffffff_u128",
+            ),
+            (IntType::I8, 127, "127_i8"),
+            (IntType::I16, 32767, "32767_i16"),
+            (IntType::I32, 2147483647, "2147483647_i32"),
+            (IntType::I64, i64::MAX as i128, "9223372036854775807_i64"),
+            (
+                IntType::ISize,
+                i64::MAX as i128,
+                "9223372036854775807_isize",
+            ),
+            (
+                IntType::I128,
+                i128::MAX,
+                "170141183460469231731687303715884105727_i128",
+            ),
+        ];
+        for (ty, val, want) in cases {
+            let text = rust_int_literal(rt.alloc(), ty, val)?;
+            assert_eq!(rt; text.as_str(), want);
+        }
+        Ok(())
+    }
+
+    #[test]
+    fn spells_the_lowest(rt: HostRuntime) -> Result<(), Fail> {
+        let cases = [
+            (IntType::U16, 0, "0x0_u16"),
+            (IntType::U32, 0, "0x0_u32"),
+            (IntType::U64, 0, "0x0_u64"),
+            (IntType::USize, 0, "0x0_usize"),
+            (IntType::U128, 0, "0x0_u128"),
+            (IntType::I8, -128, "-128_i8"),
+            (IntType::I16, -32768, "-32768_i16"),
+            (IntType::I32, -2147483648, "-2147483648_i32"),
+            (IntType::I64, i64::MIN as i128, "-9223372036854775808_i64"),
+            (
+                IntType::ISize,
+                i64::MIN as i128,
+                "-9223372036854775808_isize",
+            ),
+            (
+                IntType::I128,
+                i128::MIN,
+                "-170141183460469231731687303715884105728_i128",
+            ),
+        ];
+        for (ty, val, want) in cases {
+            let text = rust_int_literal(rt.alloc(), ty, val)?;
+            assert_eq!(rt; text.as_str(), want);
+        }
+        Ok(())
+    }
 }

@@ -49,3 +49,45 @@ pub fn print_program(alloc: Global, p: &Program) -> Result<String, AllocError>
     print_fixed(&mut out)?;
     Ok(out.into_text())
 }
+
+#[cfg(test)]
+mod tests {
+    use super::*;
+    use isle_core::List;
+    use std::test::Fail;
+
+    // A program with nothing of its own.
+    fn bare(alloc: Global, allow: bool) -> Program
+        ensures { IsWellFormed (program result) }
+    {
+        Program {
+            allow,
+            trait_fns: List::new(Vec::new(alloc)),
+            types: List::new(Vec::new(alloc)),
+            fns: List::new(Vec::new(alloc)),
+        }
+    }
+
+    #[test]
+    fn prints_each_part(rt: HostRuntime) -> Result<(), Fail> {
+        let cases = [
+            (
+                true,
+                "#![allow(dead_code, unreachable_code, unreachable_patterns)]\n",
+            ),
+            (false, "use super::*;\n"),
+        ];
+        for (allow, head) in cases {
+            let text = print_program(rt.alloc(), &bare(rt.alloc(), allow))?;
+            assert!(rt; text.starts_with(head));
+            assert!(rt; text.contains("\nuse core::marker::PhantomData;\n"));
+            assert!(rt; text.contains("\npub trait Context {\n}\n"));
+            assert!(rt;
+                text.ends_with(
+                    "impl<L: Length, C> Length for ContextIterWrapper<L, C> {\n    fn len(&self) -> usize { self.iter.len() }\n}\n"
+                )
+            );
+        }
+        Ok(())
+    }
+}

@@ -1,6 +1,6 @@
 use Rattle.std.proofs.Common.{sym}
 use Rattle.isle_target.proofs.Empty.{refused_trait_fns, refused_types, by_fns}
-use Rattle.isle_target.proofs.well_formed.well_formed.Goals as goal
+use Rattle.isle_target.proofs.forms.well_formed.Goals as goal
 
 pub returns-then-not-is_empty : goal.returns-then-not-is_empty
 returns-then-not-is_empty c =
