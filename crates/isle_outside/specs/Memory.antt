@@ -1,12 +1,10 @@
 -- What a directory in memory stands for.
-use Rattle.std.specs.Prelude.{◌≡◌, ℕ, ◌^◌, ◌+◌, ◌-◌, List, [], ◌∷◌, map, take, drop, min, length, Bool, true, false, Option, Some, None, Result, Ok, Err, if◌then◌else◌, slice_get, Vec, String}
+use Rattle.std.specs.Prelude.{◌≡◌, ℕ, ◌^◌, ◌+◌, ◌-◌, List, [], ◌∷◌, map, take, drop, min, length, Bool, Option, Some, None, if◌then◌else◌, slice_get, Vec, String}
 use Rattle.std.specs.String.{string_bytes}
 use Rattle.std.specs.Str.{bytes_eq}
 use Rattle.std.specs.declared.alloc.Global.{Global}
 use Rattle.isle_outside.specs.Directory.{Files, Current, Nothing, Reading, InFolder}
-use Rattle.isle_outside.specs.Failures.{is_failing}
-use Rattle.isle_outside.specs.declared.errors.DirFault.{DirFault}
-use Rattle.isle_outside.specs.declared.errors.DirFault.TheVariants as fault
+use Rattle.isle_outside.specs.Failures.{counted, is_failing}
 use Rattle.isle_outside.specs.declared.mem_dir.MemDir.{MemDir}
 use Rattle.isle_outside.specs.declared.mem_dir.State.{State}
 use Rattle.isle_outside.specs.declared.mem_dir.State.TheVariants as state
@@ -72,13 +70,7 @@ Counts old new failed = (failed ≡ is_failing old.failures.calls old.failures.n
     × (new.failures.calls ≡ min (old.failures.calls + 1) (2 ^ 64 - 1))
     × (new.failures.numbers ≡ old.failures.numbers)
     × (new.piece ≡ old.piece)
-    × (new.faults ≡ (if failed then min (old.faults + 1) (2 ^ 64 - 1) else old.faults))
-
--- a call failed, and not by want of memory
-abbrev pub is_fault : {X : Type 0} → Result X DirFault → Bool
-is_fault (Ok x) = false
-is_fault (Err fault.Failed) = true
-is_fault (Err fault.Memory) = false
+    × (new.faults ≡ counted failed old.faults)
 
 -- the files with these bytes in the first file of the name, or in a new file at their end
 abbrev pub written : Files → List ℕ → List ℕ → Files

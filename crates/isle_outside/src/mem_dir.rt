@@ -86,7 +86,8 @@ impl Dir for MemDir {
     ghost use Rattle.std.specs.Prelude.{◌≤◌, Some, Err, min, length, map, is_err, IfOk, OnOk, OnErr};
     ghost use Rattle.std.specs.String.{string_bytes};
     ghost use Rattle.isle_outside.specs.Directory.{Nothing, InFolder, Finds, IsReading, Gives, Lists, KeepsOthers, Holds, Rose};
-    ghost use Rattle.isle_outside.specs.Memory.{Counts, current_in, faults_in, files_in, is_fault, left_in, piece_in, written};
+    ghost use Rattle.isle_outside.specs.Failures.{is_fault};
+    ghost use Rattle.isle_outside.specs.Memory.{Counts, current_in, faults_in, files_in, left_in, piece_in, written};
 
     ghost files = { λ d. Some (files_in d) };
 

@@ -1,6 +1,6 @@
-ghost use Rattle.std.specs.Prelude.{◌≡◌, ◌≤◌, ◌<◌, ◌+◌, ◌-◌, ◌^◌, ◌&&◌, ◌||◌, ◌==◌, Some, [], length, take, min, nat_lt, is_err, IfOk, OnOk, OnErr, vec_len, vec_capacity};
+ghost use Rattle.std.specs.Prelude.{◌≡◌, ◌≤◌, ◌<◌, ◌+◌, ◌-◌, ◌^◌, ◌&&◌, ◌||◌, ◌==◌, Some, [], length, take, min, nat_lt, true, is_err, IfOk, OnOk, OnErr, vec_len, vec_capacity};
 ghost use Rattle.isle_outside.specs.Directory.{Rose};
-ghost use Rattle.isle_outside.specs.Failures.{is_failing};
+ghost use Rattle.isle_outside.specs.Failures.{counted, is_failing};
 ghost use Rattle.isle_outside.specs.Sinks.{Took};
 
 use crate::errors::{Failed, OutOfMemory};
@@ -64,7 +64,7 @@ impl MemSink {
     /// Counts a fault.
     fn fault(&mut self) -> Failed
         ensures bytes { self.new.bytes ≡ self.old.bytes }
-        ensures faults { self.new.faults ≡ min (self.old.faults + 1) (2 ^ 64 - 1) }
+        ensures faults { self.new.faults ≡ counted true self.old.faults }
         ensures later { self.old.faults ≤ self.new.faults }
         ensures rose { Rose self.old.faults self.new.faults }
     {
@@ -96,7 +96,7 @@ impl Sink for MemSink {
         ensures fails { is_err result ≡ (is_failing self.old.failures.calls self.old.failures.numbers.items
             || (nat_lt 0 (length bytes.now) && (self.old.room == vec_len self.old.bytes))) }
         ensures most { IfOk result (λ n. n ≡ min (min (length bytes.now) self.old.piece) (self.old.room - vec_len self.old.bytes)) }
-        ensures counted { OnOk result (self.new.faults ≡ self.old.faults) }
+        ensures counted { self.new.faults ≡ counted (is_err result) self.old.faults }
     {
         if self.failures.next_fails() {
             return Err(self.fault());

@@ -51,7 +51,8 @@ fn rest<D: Dir>(alloc: Global, dir: &mut D) -> Result<Vec<u8>, ReadFail>
             Ok(n) => n,
             Err(_) => return Err(ReadFail::Io(IoCause::Fault)),
         };
-        if n == 0 {
+        let is_end = n == 0;
+        if is_end {
             return Ok(bytes);
         }
         if n > MAX_BYTES - bytes.len() {

@@ -1,8 +1,9 @@
-ghost use Rattle.std.specs.Prelude.{◌≡◌, ◌≤◌, ◌+◌, ◌-◌, ◌^◌, ◌↔◌, ◌⊎◌, IsTrue, None, min, IfOk};
+ghost use Rattle.std.specs.Prelude.{◌≡◌, ◌≤◌, ◌↔◌, ◌⊎◌, IsTrue, true, None, IfOk};
 ghost use Rattle.std.specs.String.{string_bytes};
 ghost use Rattle.std.specs.Path.{path_buf_bytes, path_join};
 ghost use Rattle.std.specs.IoError.{error_kind};
 ghost use Rattle.isle_outside.specs.Directory.{Rose};
+ghost use Rattle.isle_outside.specs.Failures.{counted};
 
 use crate::dir::{Dir, Found};
 use crate::errors::{DirFault, Failed};
@@ -66,7 +67,7 @@ impl<R: Files + AllocGlobal + Clone + Drop> StdDir<R> {
     fn fault(&mut self) -> Failed
         ensures file { self.new.file ≡ None }
         ensures folder { self.new.folder ≡ None }
-        ensures faults { self.new.faults ≡ min (self.old.faults + 1) (2 ^ 64 - 1) }
+        ensures faults { self.new.faults ≡ counted true self.old.faults }
         ensures later { self.old.faults ≤ self.new.faults }
         ensures rose { Rose self.old.faults self.new.faults }
     {
@@ -85,7 +86,9 @@ impl<R: Files + AllocGlobal + Clone + Drop> StdDir<R> {
 }
 
 impl<R: Files + AllocGlobal + Clone + Drop> Dir for StdDir<R> {
-    ghost use Rattle.std.specs.Prelude.{None};
+    ghost use Rattle.std.specs.Prelude.{◌≤◌, ◌<◌, None, Err, length, is_err, IfOk, OnErr};
+    ghost use Rattle.isle_outside.specs.Directory.{Nothing, InFolder, Finds, IsReading, Gives};
+    ghost use Rattle.isle_outside.specs.Failures.{counted, is_fault};
     ghost use Rattle.isle_outside.specs.Machine.{opened};
 
     ghost files = { λ d. None };
@@ -94,7 +97,13 @@ impl<R: Files + AllocGlobal + Clone + Drop> Dir for StdDir<R> {
 
     ghost faults = { λ d. d.faults };
 
-    fn find(&mut self, name: &str) -> Result<Found, Failed> {
+    fn find(&mut self, name: &str) -> Result<Found, Failed>
+        ensures found { IfOk result (λ found. Finds None name.now found (opened self.new.file self.new.folder)) }
+        ensures later { self.old.faults ≤ self.new.faults }
+        ensures failed { OnErr result (Rose self.old.faults self.new.faults) }
+        ensures nothing { OnErr result (opened self.new.file self.new.folder ≡ Nothing) }
+        ensures counted { self.new.faults ≡ counted (is_err result) self.old.faults }
+    {
         self.close();
         let Ok(path) = self.path(name) else {
             return Err(self.fault());
@@ -121,7 +130,16 @@ impl<R: Files + AllocGlobal + Clone + Drop> Dir for StdDir<R> {
         }
     }
 
-    fn next(&mut self, buf: &mut [u8]) -> Result<usize, Failed> {
+    fn next(&mut self, buf: &mut [u8]) -> Result<usize, Failed>
+        requires reading { IsReading (opened self.old.file self.old.folder) }
+        requires room { 0 < length buf.old }
+        ensures within { IfOk result (λ n. n ≤ length buf.new) }
+        ensures gives { IfOk result (λ n. Gives (opened self.old.file self.old.folder) (opened self.new.file self.new.folder) n buf.new) }
+        ensures later { self.old.faults ≤ self.new.faults }
+        ensures failed { OnErr result (Rose self.old.faults self.new.faults) }
+        ensures nothing { OnErr result (opened self.new.file self.new.folder ≡ Nothing) }
+        ensures counted { self.new.faults ≡ counted (is_err result) self.old.faults }
+    {
         let Some(file) = &mut self.file else {
             return Err(self.fault());
         };
@@ -131,7 +149,12 @@ impl<R: Files + AllocGlobal + Clone + Drop> Dir for StdDir<R> {
         }
     }
 
-    fn list(&mut self, alloc: Global, name: &str) -> Result<Vec<String>, DirFault> {
+    fn list(&mut self, alloc: Global, name: &str) -> Result<Vec<String>, DirFault>
+        ensures later { self.old.faults ≤ self.new.faults }
+        ensures failed { result ≡ Err DirFault.Failed → Rose self.old.faults self.new.faults }
+        ensures nothing { opened self.new.file self.new.folder ≡ Nothing }
+        ensures counted { self.new.faults ≡ counted (is_fault result) self.old.faults }
+    {
         self.close();
         let Ok(path) = self.path(name) else {
             return Err(DirFault::Memory);
@@ -146,7 +169,12 @@ impl<R: Files + AllocGlobal + Clone + Drop> Dir for StdDir<R> {
         }
     }
 
-    fn write_file(&mut self, name: &str, bytes: &[u8]) -> Result<(), DirFault> {
+    fn write_file(&mut self, name: &str, bytes: &[u8]) -> Result<(), DirFault>
+        ensures later { self.old.faults ≤ self.new.faults }
+        ensures failed { result ≡ Err DirFault.Failed → Rose self.old.faults self.new.faults }
+        ensures nothing { opened self.new.file self.new.folder ≡ Nothing }
+        ensures counted { self.new.faults ≡ counted (is_fault result) self.old.faults }
+    {
         self.close();
         let Ok(path) = self.path(name) else {
             return Err(DirFault::Memory);

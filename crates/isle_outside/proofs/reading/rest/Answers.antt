@@ -3,8 +3,8 @@ use Rattle.std.proofs.lemmas.List.{length-take}
 use Rattle.isle_outside.proofs.ReadLaws.{taken_in_all}
 use Rattle.isle_outside.proofs.reading.rest.Goals as goal
 
-pub returns-then-n-eq0-clause-bounded : goal.returns-then-n-eq0-clause-bounded
-returns-then-n-eq0-clause-bounded g c = taken_in_all _ _ _ _ _ _ _ c.read.invariant.front c.in-Ok.ensures.gives (omega (arith, c.in-Ok.ensures.within, length-take {A = ℕ}))
+pub returns-then-is_end-clause-bounded : goal.returns-then-is_end-clause-bounded
+returns-then-is_end-clause-bounded g c = taken_in_all _ _ _ _ _ _ _ c.read.invariant.front c.in-Ok.ensures.gives (omega (arith, c.in-Ok.ensures.within, length-take {A = ℕ}))
 
 pub returns-then-n-len-clause-bounded : goal.returns-then-n-len-clause-bounded
 returns-then-n-len-clause-bounded g c = taken_in_all _ _ _ _ _ _ _ c.read.invariant.front c.in-Ok.ensures.gives (omega (arith, c.in-Ok.ensures.within, length-take {A = ℕ}))
