@@ -14,3 +14,4 @@ pub mod Lawful
 pub mod Printed
 pub mod Inputs
 pub mod Places
+pub mod Terms

@@ -1,0 +1,56 @@
+-- What compiling files answers, and why.
+use Rattle.std.specs.Prelude.{◌≡◌, ◌≢◌, ℕ, ◌⊎◌, List, map, Bool, true, false, Option, IfSome}
+use Rattle.isle_outside.specs.Directory.{Files}
+use Rattle.isle_core.specs.declared.options.CodegenOptions.{CodegenOptions}
+use Rattle.isle_core.specs.declared.read_error.ReadError.TheVariants as read
+use Rattle.isle_core.specs.Inputs.{AreRead, Fails}
+use Rattle.isle_core.specs.Printed.{shown}
+use Rattle.isle_syntax.specs.Tree.{Def}
+use Rattle.isle_codegen.specs.declared.from_files.FileError.{FileError}
+use Rattle.isle_codegen.specs.declared.from_files.FileError.TheVariants as error
+use Rattle.isle_codegen.specs.Names.{are_file_names}
+use Rattle.isle_codegen.specs.Source.{Source, InLanguage}
+use Rattle.isle_codegen.specs.Headline.{HasHeadline}
+
+-- the names of the inputs, as printed
+abbrev pub printed : CodegenOptions → List (List ℕ) → List (List ℕ)
+printed options names = map (shown options.prefixes) names
+
+-- the text is that of the one list of definitions that the texts spell
+pub record CompilesTo (options : CodegenOptions) (texts : List (List ℕ)) (text : List ℕ) : Type 0 where
+  pub defs : List Def
+  pub source : Source 0 texts defs
+  pub once : (others : List Def) → Source 0 texts others → others ≡ defs
+  pub headline : HasHeadline options defs text
+
+-- the text is that of the definitions that the files of these names spell
+pub record IsCompiled (options : CodegenOptions) (files : Files) (names : List (List ℕ)) (text : List ℕ) : Type 0 where
+  pub texts : List (List ℕ)
+  pub read : AreRead files names texts
+  pub compiles : CompilesTo options texts text
+
+-- the texts are not of the language, or a name as printed may not be emitted
+abbrev pub IsNotOfIt : List (List ℕ) → List (List ℕ) → Type 0
+IsNotOfIt names texts = (InLanguage texts → ⊥) ⊎ (are_file_names names ≡ false)
+
+-- why texts of files with these printed names give no text
+abbrev pub IsRefusal : FileError → List (List ℕ) → List (List ℕ) → Type 0
+IsRefusal error.NotYet names texts = IsNotOfIt names texts
+IsRefusal error.Memory names texts = Unit {0}
+IsRefusal (error.Io index why) names texts = ⊥
+IsRefusal (error.Errors errors) names texts = ⊥
+IsRefusal (error.Name name) names texts = ⊥
+
+-- all inputs were read, and they are not of the language, or a name may not be emitted
+pub record IsNotBuilt (options : CodegenOptions) (files : Files) (names : List (List ℕ)) : Type 0 where
+  pub texts : List (List ℕ)
+  pub read : AreRead files names texts
+  pub refused : IsNotOfIt (printed options names) texts
+
+-- why files give no text
+abbrev pub HasCause : FileError → CodegenOptions → Option Files → List (List ℕ) → ℕ → ℕ → Type 0
+HasCause (error.Io index why) options files names before after = Fails (read.Io index why) files names before after
+HasCause error.NotYet options files names before after = IfSome files (λ fs. IsNotBuilt options fs names)
+HasCause (error.Errors errors) options files names before after = ⊥
+HasCause (error.Name name) options files names before after = ⊥
+HasCause error.Memory options files names before after = Unit {0}

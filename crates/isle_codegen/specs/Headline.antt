@@ -1,0 +1,68 @@
+-- What an emitted text is to the definitions that it was made from.
+use Rattle.std.specs.Prelude.{◌≡◌, ℕ, List, map, filter, Bool, true, false, Option, Some, Contains, slice_get, IsSomeAnd}
+use Rattle.isle_base.specs.declared.ids.TermId.{TermId}
+use Rattle.isle_core.specs.declared.types.Term.{Term}
+use Rattle.isle_core.specs.declared.options.CodegenOptions.{CodegenOptions}
+use Rattle.isle_core.specs.Value.{Value, Made, End, Gives, GivesSome, GivesNone, IsUnreachable, Ran}
+use Rattle.isle_core.specs.Meaning.{Meaning}
+use Rattle.isle_core.specs.HasType.{HaveTypes}
+use Rattle.isle_core.specs.Lawful.{IsLawful}
+use Rattle.isle_core.specs.Outcome.{Result, Value', Failure, Unmatched, Prescription, Prescribed, is_partial}
+use Rattle.isle_core.specs.Rule.{Environment, rules_of}
+use Rattle.isle_core.specs.Terms.{with_rules, term_name, is_impure}
+use Rattle.isle_syntax.specs.Tree.{Def}
+use Rattle.isle_sema.specs.Typing.{TypedOnly}
+use Rattle.isle_target.specs.Program.{Function, Program}
+use Rattle.isle_target.specs.Reading.{SpellsOnly}
+use Rattle.isle_target.specs.Run.{run}
+use Rattle.isle_codegen.specs.Emission.{IsFrame}
+
+-- how a run ends that has the result: of a partial term in an option
+abbrev pub end_of : Bool → Result → End
+end_of true (Value' v) = GivesSome v
+end_of false (Value' v) = Gives v
+end_of partial Failure = GivesNone
+end_of partial Unmatched = IsUnreachable
+
+-- the calls of impure terms
+abbrev pub impure_calls : Environment → List Made → List Made
+impure_calls env calls = filter (λ (c : Made). is_impure env c.callee) calls
+
+-- a run gives what is prescribed: its end, and the calls of impure terms in order
+pub record GivesAs (env : Environment) (partial : Bool) (o : Prescription) (r : Ran) : Type 0 where
+  pub end : r.end ≡ end_of partial o.result
+  pub calls : impure_calls env r.calls ≡ o.calls
+
+-- the run of the term's function gives the one outcome that its rules prescribe
+pub record GivesOutcome (env : Environment) (p : Program) (id : TermId) (t : Term) (args : List Value) (m : Meaning) : Type 0 where
+  pub outcome : Prescription
+  pub prescribed : Prescribed env m args (rules_of env id) (is_partial t.kind) outcome
+  pub only : (other : Prescription) → Prescribed env m args (rules_of env id) (is_partial t.kind) other → other ≡ outcome
+  pub given : IsSomeAnd (run p (term_name env id) args m) (GivesAs env (is_partial t.kind) outcome)
+
+-- it does so on all well-typed arguments and under every lawful meaning
+abbrev pub MeansRules : Environment → Program → TermId → Type 0
+MeansRules env p id = IsSomeAnd (slice_get env.terms id.0) (λ (t : Term).
+    (args : List Value) (m : Meaning) → HaveTypes env args t.arg_tys → IsLawful env id m → GivesOutcome env p id t args m)
+
+-- the functions of the program are the terms with rules, in order of ids, and each means its rules
+pub record FunctionsMean (env : Environment) (p : Program) : Type 0 where
+  pub names : map (λ (f : Function). f.term) p.fns ≡ map (term_name env) (with_rules env)
+  pub mean : (id : TermId) → Contains (with_rules env) id → MeansRules env p id
+
+-- the text spells exactly one program, whose frame and functions are those of the environment
+pub record IsText (options : CodegenOptions) (env : Environment) (text : List ℕ) : Type 0 where
+  pub program : Program
+  pub spells : SpellsOnly text program
+  pub frame : IsFrame options env program
+  pub functions : FunctionsMean env program
+
+-- the text is that of the one environment of the definitions
+pub record HasHeadline (options : CodegenOptions) (defs : List Def) (text : List ℕ) : Type 0 where
+  pub env : Environment
+  pub typed : TypedOnly defs env
+  pub is_text : IsText options env text
+
+-- the text spells exactly one program
+abbrev pub SpellsOne : List ℕ → Type 0
+SpellsOne text = (p : Program) × SpellsOnly text p

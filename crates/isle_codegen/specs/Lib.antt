@@ -1,0 +1,6 @@
+pub mod Names
+pub mod Header
+pub mod Source
+pub mod Emission
+pub mod Headline
+pub mod Causes
