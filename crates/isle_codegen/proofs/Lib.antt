@@ -1,2 +1,4 @@
 pub mod Sources
 pub mod Headers
+pub mod Functions
+pub mod Refusals

@@ -42,3 +42,7 @@ not_some (d ∷ ds) env h t = absurd (none t)
   where
     none : {d : Def} {ds : List Def} {env : TypeEnv} → TypesFrom (d ∷ ds) env → ⊥
     none h = elim h [ ]
+
+-- the types of a typed environment are those of its definitions
+pub typed_types : {ds : List Def} {env : Environment} → Typed ds env → TypesFrom ds env.types
+typed_types no_def = no_types

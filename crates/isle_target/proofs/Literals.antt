@@ -12,7 +12,7 @@ use Rattle.isle_ink.specs.Number.{numeral, glyph}
 use Rattle.isle_core.specs.Int.{is_signed}
 use Rattle.isle_ink.specs.Token.{Word, Mark, AfterMark, is_word_byte, is_word, goes_on, step, begun, tokens_of}
 use Rattle.isle_ink.specs.declared.printer.Last.TheVariants as last
-use Rattle.isle_ink.proofs.Scans.{tokens-word, apart_ends, between_ends}
+use Rattle.isle_ink.proofs.Scans.{tokens-word, ends_apart, ends-Between}
 use Rattle.isle_ink.proofs.Numerals.{below_sixteen, list_all-numeral, list_all-join, word_from}
 use Rattle.isle_ink.proofs.Readback.{numeral_again}
 use Rattle.isle_target.specs.Literal.{literal_word, literal_text, literal_tokens, digits_word, type_name, parted, literal_of}
@@ -83,9 +83,9 @@ unfolding step begun
 minus_before [] h = absurd cc
 minus_before (b ∷ bs) h =
     let parts = and_parts (is_word_byte b) _ h in
-    tokens-word (45 ∷ []) (b ∷ bs) h (apart_ends (last.Mark 45) (AfterMark 45) b refl (minus_apart b parts.0))
+    tokens-word (45 ∷ []) (b ∷ bs) h (ends_apart (last.Mark 45) (AfterMark 45) b refl (minus_apart b parts.0))
 
 -- the tokens of a literal's text
 pub tokens-literal : (ty : IntType) (z : ℤ) → tokens_of (literal_text ty z) ≡ literal_tokens ty z
-tokens-literal ty (pos n) = tokens-word [] (literal_word ty n) (literal_is_word ty n) (between_ends _)
+tokens-literal ty (pos n) = tokens-word [] (literal_word ty n) (literal_is_word ty n) (ends-Between _)
 tokens-literal ty (negsuc n) = minus_before (literal_word ty (suc n)) (literal_is_word ty (suc n))
