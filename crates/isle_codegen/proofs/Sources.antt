@@ -1,6 +1,6 @@
 -- The definitions that texts spell together, text by text.
-use Rattle.std.proofs.Common.{◌≡◌, ℕ, zero, suc, ◌+◌, ◌<◌, List, [], ◌∷◌, ◌++◌, length, take, get_or, refl, sym, ap, ◌∙◌, subst, append_assoc, append-nil, arith}
-use Rattle.std.proofs.lemmas.List.{take_more}
+use Rattle.std.proofs.Common.{◌≡◌, ℕ, zero, suc, ◌+◌, ◌<◌, ◌≤◌, List, [], ◌∷◌, ◌++◌, length, take, get_or, refl, sym, ap, ◌∙◌, subst, append_assoc, append-nil, arith}
+use Rattle.std.proofs.lemmas.List.{take_more, take_all}
 use Rattle.isle_syntax.specs.Tree.{Def}
 use Rattle.isle_syntax.specs.Spelling.{Spells}
 use Rattle.isle_syntax.proofs.SpeltOnce.{spelt_once}
@@ -47,3 +47,7 @@ source_none texts i t lt is none ds h =
     let r = spells_at 0 texts ds i t h lt in
     let at : 0 + i ≡ i = omega arith in
     none r.0 (subst (λ x. Spells i x r.0) (sym is) (subst (λ m. Spells m (get_or texts i t) r.0) at r.1))
+
+-- no text is left
+pub source_all : (texts : List (List ℕ)) (i : ℕ) (ds : List Def) → length texts ≤ i → Source 0 (take i texts) ds → Source 0 texts ds
+source_all texts i ds le h = subst (λ ts. Source 0 ts ds) (take_all i texts le) h

@@ -1,13 +1,13 @@
 //! From rule files to the text of a target program.
 #![tactic(auto)]
 
-mod codegen;
-mod emission;
-mod from_files;
+mod files;
 mod names;
 mod source;
+mod text;
+mod tree;
 
-pub use codegen::codegen as codegen_text;
-pub use emission::codegen_tree;
-pub use from_files::{FileError, from_files as compile_files};
+pub use files::{FileError, from_files};
 pub use names::{NameError, NameUse};
+pub use text::codegen;
+pub use tree::codegen_tree;

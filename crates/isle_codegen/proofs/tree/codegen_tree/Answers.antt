@@ -1,6 +1,6 @@
 use Rattle.std.proofs.Common.{◌∙◌}
 use Rattle.isle_codegen.proofs.Functions.{functions_none}
-use Rattle.isle_codegen.proofs.emission.codegen_tree.Goals as goal
+use Rattle.isle_codegen.proofs.tree.codegen_tree.Goals as goal
 
 pub returns-clause-functions : goal.returns-clause-functions
 returns-clause-functions c = functions_none _ _ _ _ _ c.requires.given (c.new-6.ensures ∙ c.new-5.ensures.items)

@@ -8,7 +8,7 @@ ghost use Rattle.isle_codegen.specs.Names.{are_file_names};
 ghost use Rattle.isle_codegen.specs.Header.{header};
 ghost use Rattle.isle_codegen.specs.Headline.{IsText};
 
-use crate::emission::codegen_tree;
+use crate::tree::codegen_tree;
 use isle_core::{CodegenOptions, Files, OutOfMemory, RuleSet, TermEnv, TermId, Text, TypeEnv};
 use isle_ink::push_comment;
 use isle_target::print_program;

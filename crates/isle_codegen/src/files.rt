@@ -9,7 +9,7 @@ ghost use Rattle.isle_codegen.specs.Names.{are_file_names};
 ghost use Rattle.isle_codegen.specs.Headline.{HasHeadline, SpellsOne};
 ghost use Rattle.isle_codegen.specs.Causes.{CompilesTo, IsRefusal, IsCompiled, HasCause};
 
-use crate::codegen::codegen;
+use crate::text::codegen;
 use crate::names::{NameError, are_file_names};
 use crate::source::parse_all;
 use isle_core::{CodegenOptions, Dir, Errors, Files, IoCause, ReadError};

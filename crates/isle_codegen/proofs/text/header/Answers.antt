@@ -3,7 +3,7 @@ use Rattle.std.specs.Prelude.{codes}
 use Rattle.std.specs.String.{string_bytes}
 use Rattle.isle_ink.specs.Comment.{comment_lines}
 use Rattle.isle_codegen.proofs.Headers.{header_more}
-use Rattle.isle_codegen.proofs.codegen.header.Goals as goal
+use Rattle.isle_codegen.proofs.text.header.Goals as goal
 
 pub loop-name-preserved : goal.loop-name-preserved
 loop-name-preserved c =
