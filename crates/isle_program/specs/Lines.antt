@@ -1,0 +1,45 @@
+-- The lines that refusals write.
+use Rattle.std.specs.Prelude.{ℕ, List, [], ◌∷◌, ◌++◌, map, codes, nat_lt, if◌then◌else◌, ◌⊎◌, Option}
+use Rattle.isle_outside.specs.Directory.{Rose}
+use Rattle.isle_outside.specs.Sinks.{Took, TookPart}
+use Rattle.isle_outside.specs.declared.errors.IoCause.{IoCause}
+use Rattle.isle_outside.specs.declared.errors.IoCause.TheVariants as cause
+
+-- a text and the end of its line
+abbrev pub line : List ℕ → List ℕ
+line text = text ++ 10 ∷ []
+
+-- a byte as a line shows it
+abbrev pub masked : ℕ → ℕ
+masked b = if nat_lt b 32 then 63 else b
+
+-- what stands behind the name of a file that was not read: why, in words
+abbrev pub cause_end : IoCause → List ℕ
+cause_end cause.Fault = line (codes ": fault")
+cause_end cause.Absent = line (codes ": absent")
+cause_end cause.NotUtf8 = line (codes ": not utf-8")
+cause_end cause.TooLong = line (codes ": too long")
+
+-- what stands before the name
+unfoldable pub unread_head : List ℕ
+unread_head = codes "isle: cannot read file "
+
+-- a file was not read
+abbrev pub unread_line : List ℕ → IoCause → List ℕ
+unread_line name why = unread_head ++ (map masked name ++ cause_end why)
+
+-- what is asked for is not built
+abbrev pub not_yet_line : List ℕ
+not_yet_line = line (codes "isle: not yet")
+
+-- the output failed
+abbrev pub write_fault_line : List ℕ
+write_fault_line = line (codes "isle: write fault")
+
+-- memory ran out
+abbrev pub memory_line : List ℕ
+memory_line = line (codes "isle: out of memory")
+
+-- a sink took all these bytes, or its count rose and it took a front of them
+abbrev pub Wrote : Option (List ℕ) → Option (List ℕ) → ℕ → ℕ → List ℕ → Type 0
+Wrote old new before after bytes = Took old new bytes ⊎ (TookPart old new bytes × Rose before after)

@@ -1,0 +1,53 @@
+//! The program: words, a directory and two sinks, to a text, a line and a status.
+#![tactic(auto)]
+
+mod answer;
+mod lines;
+mod run;
+mod words;
+
+use isle_core::{StdDir, StdSink};
+use run::run_words;
+use std::alloc::Global;
+use std::env;
+use std::io;
+use std::io::ErrorKind;
+use std::process::ExitCode;
+use std::rt::Env;
+
+/// The words behind the program's name, or the status of a run that has none: 2 where one isn't UTF-8, 12 else.
+fn words_given(rt: &(impl Env + AllocGlobal)) -> Result<Vec<String>, u8> {
+    let mut words = Vec::new(rt.alloc());
+    let given = match env::args(rt) {
+        Ok(given) => given,
+        Err(e) => return Err(status_of(&e)),
+    };
+    for word in given.skip(1) {
+        if words.push(word).is_err() {
+            return Err(12);
+        }
+    }
+    Ok(words)
+}
+
+/// The status of words that can't be had.
+fn status_of(e: &io::Error) -> u8 {
+    if e.kind() == ErrorKind::InvalidData {
+        2
+    } else {
+        12
+    }
+}
+
+fn main(rt: HostRuntime) -> ExitCode {
+    let words = match words_given(&rt) {
+        Ok(words) => words,
+        Err(status) => return ExitCode::from(status),
+    };
+    let alloc: Global = rt.alloc();
+    let mut out = StdSink::new(rt.stdout());
+    let mut err = StdSink::new(rt.stderr());
+    let mut dir = StdDir::new(rt, String::new(alloc));
+    let exit = run_words(alloc, words.as_slice(), &mut dir, &mut out, &mut err);
+    ExitCode::from(exit.0)
+}
