@@ -4,16 +4,17 @@
 mod answer;
 mod lines;
 mod run;
+#[cfg(test)]
+mod tests;
 mod words;
 
 use isle_core::{StdDir, StdSink};
 use run::run_words;
 use std::alloc::Global;
-use std::env;
-use std::io;
 use std::io::ErrorKind;
 use std::process::ExitCode;
 use std::rt::Env;
+use std::{env, io};
 
 /// The words behind the program's name, or the status of a run that has none: 2 where one isn't UTF-8, 12 else.
 fn words_given(rt: &(impl Env + AllocGlobal)) -> Result<Vec<String>, u8> {
