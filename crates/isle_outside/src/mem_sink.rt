@@ -1,4 +1,4 @@
-ghost use Rattle.std.specs.Prelude.{◌≡◌, ◌≤◌, ◌<◌, ◌+◌, ◌-◌, ◌^◌, ◌&&◌, ◌||◌, ◌==◌, Some, [], length, take, min, nat_lt, true, is_err, IfOk, OnOk, OnErr, vec_len, vec_capacity};
+ghost use Rattle.std.specs.Prelude.{◌≡◌, ◌≤◌, ◌<◌, ◌+◌, ◌-◌, ◌^◌, ◌&&◌, ◌||◌, ◌==◌, Some, [], length, take, min, nat_lt, true, is_err, IsOk, IfOk, OnOk, OnErr, vec_len, vec_capacity};
 ghost use Rattle.isle_outside.specs.Directory.{Rose};
 ghost use Rattle.isle_outside.specs.Failures.{counted, is_failing};
 ghost use Rattle.isle_outside.specs.Sinks.{Took};
@@ -31,6 +31,7 @@ impl MemSink {
         piece: usize,
     ) -> Result<MemSink, OutOfMemory>
         requires { 0 < piece }
+        ensures succeeds { room ≡ 0 → IsOk result }
         ensures bytes { IfOk result (λ sink. sink.bytes.items ≡ []) }
         ensures room { IfOk result (λ sink. sink.room ≡ room) }
         ensures piece { IfOk result (λ sink. sink.piece ≡ piece) }

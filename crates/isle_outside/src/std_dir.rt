@@ -86,7 +86,8 @@ impl<R: Files + AllocGlobal + Clone + Drop> StdDir<R> {
 }
 
 impl<R: Files + AllocGlobal + Clone + Drop> Dir for StdDir<R> {
-    ghost use Rattle.std.specs.Prelude.{◌≤◌, ◌<◌, None, Err, length, is_err, IfOk, OnErr};
+    ghost use Rattle.std.specs.Prelude.{◌≤◌, ◌<◌, None, Err, length, take, is_err, IfSome, IfOk, OnErr};
+    ghost use Rattle.std.specs.Io.KnownBytes.{Consumes, IsAtEnd};
     ghost use Rattle.isle_outside.specs.Directory.{Nothing, InFolder, Finds, IsReading, Gives};
     ghost use Rattle.isle_outside.specs.Failures.{counted, is_fault};
     ghost use Rattle.isle_outside.specs.Machine.{opened};
@@ -138,6 +139,8 @@ impl<R: Files + AllocGlobal + Clone + Drop> Dir for StdDir<R> {
         ensures later { self.old.faults ≤ self.new.faults }
         ensures failed { OnErr result (Rose self.old.faults self.new.faults) }
         ensures nothing { OnErr result (opened self.new.file self.new.folder ≡ Nothing) }
+        ensures bytes { IfSome self.old.file (λ old. IfSome self.new.file
+            (λ new. IfOk result (λ n. Consumes (R.File.remaining old) (R.File.remaining new) (take n buf.new) × (n ≡ 0 → IsAtEnd (R.File.remaining new))))) }
         ensures counted { self.new.faults ≡ counted (is_err result) self.old.faults }
     {
         let Some(file) = &mut self.file else {
