@@ -46,7 +46,7 @@ fn builtin_types(alloc: Global) -> Result<Vec<TypeDef>, AllocError>
         int(IntType::I32),
         int(IntType::I64),
         int(IntType::I128),
-        int(IntType::ISize)
+        int(IntType::ISize),
     ]?)
 }
 

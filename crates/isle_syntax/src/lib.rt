@@ -3,6 +3,8 @@
 
 mod lexer;
 mod parser;
+#[cfg(test)]
+mod tests;
 mod tree;
 
 pub use lexer::Lexer;
