@@ -4,6 +4,8 @@
 mod boxed;
 mod ids;
 mod list;
+#[cfg(test)]
+mod tests;
 mod text;
 
 pub use boxed::Boxed;

@@ -43,11 +43,7 @@ impl Files {
 }
 
 /// The texts of the files of these names, in order.
-fn all_texts<D: Dir>(
-    alloc: Global,
-    dir: &mut D,
-    names: &[String],
-) -> Result<Vec<Text>, ReadError>
+fn all_texts<D: Dir>(alloc: Global, dir: &mut D, names: &[String]) -> Result<Vec<Text>, ReadError>
     ensures texts { IfOk result (λ read. IfSome (D.files dir.old) (λ fs. AreRead fs (bytes_each names.now) read.items)) }
     ensures count { IfOk result (λ read. length read.items ≡ length names.now) }
     ensures err { IfErr result (λ e. Fails e (D.files dir.old) (bytes_each names.now) (D.faults dir.old) (D.faults dir.new)) }
@@ -66,11 +62,7 @@ fn all_texts<D: Dir>(
 }
 
 /// The names as printed, in order.
-fn all_shown(
-    alloc: Global,
-    names: &[String],
-    prefixes: &[Prefix],
-) -> Result<Vec<Text>, OutOfMemory>
+fn all_shown(alloc: Global, names: &[String], prefixes: &[Prefix]) -> Result<Vec<Text>, OutOfMemory>
     ensures { IfOk result (λ printed. printed.items ≡ map (shown prefixes.now) (bytes_each names.now)) }
 {
     let mut printed = Vec::new(alloc);

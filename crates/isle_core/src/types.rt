@@ -104,9 +104,7 @@ pub enum ConstructorKind {
     Absent,
     /// From the term's rules.
     Internal,
-    External {
-        func: Sym,
-    },
+    External { func: Sym },
 }
 
 /// How a term is taken apart in patterns.
@@ -115,10 +113,7 @@ pub enum ExtractorKind {
     Absent,
     /// By its template.
     Internal,
-    External {
-        func: Sym,
-        infallible: bool,
-    },
+    External { func: Sym, infallible: bool },
 }
 
 /// What a term is: made by a variant or a struct, or declared.
