@@ -59,10 +59,10 @@ type Case = (
     &'static [u8],
     usize,
     u8,
-    &'static str,
+    &'static [u8],
 );
 
-const NOT_YET: &str = "isle: not yet\n";
+const NOT_YET: &[u8] = b"isle: not yet\n";
 
 const CASES: [Case; 14] = [
     (&["run"], "a", b"", 0, 14, NOT_YET),
@@ -79,7 +79,7 @@ const CASES: [Case; 14] = [
         b"",
         0,
         5,
-        "isle: cannot read file a: absent\n",
+        b"isle: cannot read file a: absent\n",
     ),
     (
         &["compile", "d"],
@@ -87,7 +87,7 @@ const CASES: [Case; 14] = [
         b"",
         0,
         5,
-        "isle: cannot read file d: absent\n",
+        b"isle: cannot read file d: absent\n",
     ),
     (
         &["compile", "a"],
@@ -95,7 +95,7 @@ const CASES: [Case; 14] = [
         b"\xff",
         0,
         5,
-        "isle: cannot read file a: not utf-8\n",
+        b"isle: cannot read file a: not utf-8\n",
     ),
     (
         &["compile", "a"],
@@ -103,7 +103,7 @@ const CASES: [Case; 14] = [
         b" ",
         3,
         5,
-        "isle: cannot read file a: fault\n",
+        b"isle: cannot read file a: fault\n",
     ),
     (
         &["compile", "a\tb"],
@@ -111,7 +111,7 @@ const CASES: [Case; 14] = [
         b"",
         0,
         5,
-        "isle: cannot read file a?b: absent\n",
+        b"isle: cannot read file a?b: absent\n",
     ),
     (
         &[],
@@ -119,18 +119,18 @@ const CASES: [Case; 14] = [
         b"",
         0,
         5,
-        "isle: cannot read file first.isle: absent\n",
+        b"isle: cannot read file first.isle: absent\n",
     ),
 ];
 
 #[test]
 fn refuses_with_status_and_line(rt: HostRuntime) -> Result<(), Fail> {
     let alloc = rt.alloc();
-    for (words, name, bytes, fails, status, line) in CASES {
-        let left = run_on(alloc, words, dir_of(alloc, name, bytes, fails)?, 0)?;
-        assert_eq!(rt; left.status, status, "of {line}");
-        assert_eq!(rt; left.err.as_str(), line);
-        assert_eq!(rt; left.out.as_str(), "", "of {line}");
+    for (case, (words, name, bytes, fails, status, line)) in CASES.iter().enumerate() {
+        let left = run_on(alloc, words, dir_of(alloc, name, bytes, *fails)?, 0)?;
+        assert_eq!(rt; left.status, *status, "in case {case}");
+        assert_eq!(rt; left.err.as_bytes(), *line, "in case {case}");
+        assert_eq!(rt; left.out.len(), 0, "in case {case}");
     }
     Ok(())
 }
