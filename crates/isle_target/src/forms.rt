@@ -5,10 +5,11 @@ ghost use Rattle.isle_target.specs.Views.{program};
 ghost use Rattle.isle_target.specs.WellFormed.{IsWellFormed};
 
 use crate::tree::Program;
-use std::alloc::{AllocError, Global};
+use isle_core::OutOfMemory;
+use std::alloc::Global;
 
 /// Whether the program is well formed, and so can be printed. The only error is want of memory.
-pub fn well_formed(alloc: Global, p: &Program) -> Result<bool, AllocError>
+pub fn well_formed(alloc: Global, p: &Program) -> Result<bool, OutOfMemory>
     ensures { IfOk result (λ b. IsTrue b ↔ IsWellFormed (program p.now)) }
 {
     if !p.trait_fns.as_slice().is_empty() {
@@ -23,6 +24,7 @@ pub fn well_formed(alloc: Global, p: &Program) -> Result<bool, AllocError>
 #[cfg(test)]
 mod tests {
     use super::*;
+    use std::alloc::AllocError;
     use crate::tree::{Function, TFields, TraitFn, TypeBody, TypeItem};
     use isle_core::{List, ReturnKind, Text};
     use std::test::Fail;
@@ -71,7 +73,7 @@ mod tests {
         trait_fns: List<TraitFn>,
         types: List<TypeItem>,
         fns: List<Function>,
-    ) -> Result<bool, AllocError> {
+    ) -> Result<bool, OutOfMemory> {
         let p = Program {
             allow: false,
             trait_fns,

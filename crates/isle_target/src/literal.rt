@@ -5,7 +5,7 @@ ghost use mir.Val.{bits, hbits};
 ghost use Rattle.isle_core.specs.Int.{width, is_signed, WrapsTo, wrapped};
 ghost use Rattle.isle_target.specs.Literal.{type_name, literal_word, literal_text, of_bits};
 
-use isle_core::IntType;
+use isle_core::{IntType, OutOfMemory};
 use isle_ink::push_numeral;
 use std::alloc::{AllocError, Global};
 
@@ -101,7 +101,7 @@ fn push_bits(out: &mut String, ty: IntType, n: u128) -> Result<(), AllocError>
 
 /// A number as a Rust literal of the type, to which it is wrapped: `0xfe_u8` for -2 at `u8`, `-1_i64` for -1 at `i64`.
 /// Unsigned types have hexadecimal digits, signed ones decimal. The only error is want of memory.
-pub fn rust_int_literal(alloc: Global, ty: IntType, val: i128) -> Result<String, AllocError>
+pub fn rust_int_literal(alloc: Global, ty: IntType, val: i128) -> Result<String, OutOfMemory>
     ensures text { IfOk result (λ s. string_bytes s ≡ literal_text ty (wrapped ty val)) }
     ensures wraps { WrapsTo ty val (wrapped ty val) }
     ensures only { (n : ℤ) → WrapsTo ty val n → n ≡ wrapped ty val }

@@ -10,6 +10,7 @@ ghost use Rattle.isle_target.specs.Reading.{SpellsOnly};
 
 use crate::fixed::{print_allow, print_fixed, print_uses};
 use crate::tree::Program;
+use isle_core::OutOfMemory;
 use isle_ink::Printer;
 use std::alloc::{AllocError, Global};
 
@@ -38,7 +39,7 @@ fn print_trait(out: &mut Printer) -> Result<(), AllocError>
 }
 
 /// The text of a well-formed program, which spells it and no other. The only error is want of memory.
-pub fn print_program(alloc: Global, p: &Program) -> Result<String, AllocError>
+pub fn print_program(alloc: Global, p: &Program) -> Result<String, OutOfMemory>
     requires { IsWellFormed (program p.now) }
     ensures spells { IfOk result (λ text. SpellsOnly (string_bytes text) (program p.now)) }
     ensures tokens { IfOk result (λ text. tokens_of (string_bytes text) ≡ program_tokens (program p.now)) }
