@@ -1,5 +1,5 @@
 -- The inputs that were read, one more, and the first that was not.
-use Rattle.std.proofs.Common.{◌≡◌, ℕ, ◌+◌, ◌<◌, ◌≤◌, List, [], ◌∷◌, ◌++◌, length, map, take, get_or, Option, Some, None, String, Global, Result, Err, refl, sym, ap, ◌∙◌, subst, arith}
+use Rattle.std.proofs.Common.{◌≡◌, ℕ, ◌+◌, ◌<◌, ◌≤◌, List, [], ◌∷◌, ◌++◌, length, take, get_or, Option, Some, None, String, Global, Result, Err, refl, sym, ap, ◌∙◌, subst, arith}
 use Rattle.std.specs.Prelude.{IfSome}
 use Rattle.std.specs.String.{string_bytes}
 use Rattle.std.proofs.lemmas.Option.{slice_get_read, slice_get-map}
@@ -10,7 +10,7 @@ use Rattle.isle_outside.specs.declared.errors.IoCause.{IoCause}
 use Rattle.isle_outside.specs.declared.errors.IoCause.TheVariants as cause
 use Rattle.isle_outside.specs.declared.errors.ReadFail.{ReadFail}
 use Rattle.isle_outside.specs.declared.errors.ReadFail.TheVariants as fail
-use Rattle.isle_core.specs.Inputs.{bytes_each, AreRead, RoseAt, FailsAt, Fails, failure_at}
+use Rattle.isle_core.specs.Inputs.{bytes_each, AreRead, RoseAt, Fails, failure_at}
 use Rattle.isle_core.specs.declared.read_error.ReadError.TheVariants as error
 
 one_more : (files : Files) (names texts : List (List ℕ)) (name text : List ℕ) → AreRead files names texts → IsText text (bytes_of files name) → AreRead files (names ++ name ∷ []) (texts ++ text ∷ [])

@@ -1,12 +1,12 @@
 -- The rules of a term prescribe at most one outcome.
-use Rattle.std.proofs.Common.{◌≡◌, ℤ, List, Bool, Option, Some, None, [], refl, sym, ap, ◌∙◌, inl, inr, ⊎_elim, arith}
-use Rattle.std.specs.Prelude.{◌<ℤ◌, ◌⊎◌, Contains}
+use Rattle.std.proofs.Common.{◌≡◌, ℤ, List, Bool, Some, None, [], refl, sym, ap, ◌∙◌, ⊎_elim, arith}
+use Rattle.std.specs.Prelude.{◌<ℤ◌}
 use Rattle.std.proofs.lemmas.Int.{ints}
 use Rattle.isle_core.specs.Value.{Value}
 use Rattle.isle_core.specs.Meaning.{Meaning}
 use Rattle.isle_core.specs.Match.{Names}
 use Rattle.isle_core.specs.Eval.{evaluated}
-use Rattle.isle_core.specs.Outcome.{Prescription, Prescribed, no_rule, one_rule, IsHighest, NoneMatches, rule_names, prescription_of}
+use Rattle.isle_core.specs.Outcome.{Prescription, Prescribed, no_rule, one_rule, IsHighest, rule_names, prescription_of}
 use Rattle.isle_core.specs.Rule.{Environment, Rule}
 
 -- two priorities that lie below each other

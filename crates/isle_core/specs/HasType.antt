@@ -1,5 +1,5 @@
 -- The values of a type.
-use Rattle.std.specs.Prelude.{◌≡◌, ℕ, ℤ, List, [], ◌∷◌, IsSomeAnd, slice_get}
+use Rattle.std.specs.Prelude.{◌≡◌, ℤ, List, [], ◌∷◌, IsSomeAnd, slice_get}
 use Rattle.std.specs.Int.{w128}
 use Rattle.std.specs.Int.RustNames.{FitsSigned}
 use Rattle.isle_base.specs.declared.ids.TypeId.{TypeId}

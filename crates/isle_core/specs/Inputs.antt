@@ -1,7 +1,6 @@
 -- What reading several inputs answers.
-use Rattle.std.specs.Prelude.{◌≡◌, ℕ, ◌<◌, List, [], ◌∷◌, map, length, take, Option, Some, None, IfSome, IsSomeAnd, String, slice_get}
+use Rattle.std.specs.Prelude.{ℕ, List, [], ◌∷◌, map, take, Option, IfSome, IsSomeAnd, String, slice_get}
 use Rattle.std.specs.String.{string_bytes}
-use Rattle.std.specs.List.{AllByRecursion}
 use Rattle.std.specs.declared.alloc.Global.{Global}
 use Rattle.isle_outside.specs.Directory.{Files, bytes_of, Rose}
 use Rattle.isle_outside.specs.Reading.{IsCause, IsText}

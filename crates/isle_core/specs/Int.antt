@@ -1,5 +1,5 @@
 -- The builtin integer types: their numbers, and wrapping to them.
-use Rattle.std.specs.Prelude.{◌≡◌, ℕ, ◌<◌, ◌^◌, ◌%◌, ℤ, pos, negsuc, ◌+ℤ◌, Bool, true, false, MatchBool, if◌then◌else◌}
+use Rattle.std.specs.Prelude.{◌≡◌, ℕ, ◌<◌, ◌^◌, ℤ, pos, negsuc, ◌+ℤ◌, Bool, true, false, MatchBool, if◌then◌else◌}
 use Rattle.std.specs.Int.{Width, w8, w16, w32, w64, w128, cast_signed, int_rem_euclid}
 use Rattle.std.specs.Int.RustNames.{FitsSigned, unsigned_abs}
 use mir.Val.{bits}

@@ -1,5 +1,5 @@
 -- Elaborated rules, and the environment that definitions give.
-use Rattle.std.specs.Prelude.{ℕ, ℤ, List, Option, Bool, false, true, ◌==◌, filter}
+use Rattle.std.specs.Prelude.{ℤ, List, Option, ◌==◌, filter}
 use Rattle.isle_base.specs.declared.ids.TypeId.{TypeId}
 use Rattle.isle_base.specs.declared.ids.TermId.{TermId}
 use Rattle.isle_base.specs.declared.ids.RuleId.{RuleId}

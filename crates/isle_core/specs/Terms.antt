@@ -1,5 +1,5 @@
 -- The terms of an environment: which have rules, what they are called, and which are impure.
-use Rattle.std.specs.Prelude.{ℕ, List, [], map, filter, length, Bool, true, false, ◌==◌, ◌&&◌, not, Option, Some, None, slice_get, slice_index_or}
+use Rattle.std.specs.Prelude.{ℕ, List, [], map, filter, length, Bool, true, false, ◌==◌, Option, Some, None, slice_get, slice_index_or}
 use Rattle.std.specs.List.{list_any, range_with_len}
 use Rattle.std.specs.Str.{bytes_eq}
 use Rattle.std.specs.Option.{option_map_or}

@@ -1,4 +1,4 @@
-//! That the calls succeed, and what the inputs, places and options are by hand-made examples.
+//! That the calls succeed, and what they answer to inputs, places and options that were written by hand.
 
 ghost use Rattle.std.specs.Prelude.{◌<◌};
 

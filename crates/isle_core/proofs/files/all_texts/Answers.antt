@@ -1,4 +1,4 @@
-use Rattle.std.proofs.Common.{arith, rules}
+use Rattle.std.proofs.Common.{rules}
 use Rattle.std.specs.String.{string_bytes}
 use Rattle.isle_core.proofs.InputLaws.{fails_at, read_more}
 use Rattle.isle_core.proofs.files.all_texts.Goals as goal
