@@ -9,9 +9,9 @@ ghost use Rattle.isle_codegen.specs.Names.{are_file_names};
 ghost use Rattle.isle_codegen.specs.Headline.{HasHeadline, SpellsOne};
 ghost use Rattle.isle_codegen.specs.Causes.{CompilesTo, IsRefusal, IsCompiled, HasCause};
 
-use crate::text::codegen;
 use crate::names::{NameError, are_file_names};
 use crate::source::parse_all;
+use crate::text::codegen;
 use isle_core::{CodegenOptions, Dir, Errors, Files, IoCause, ReadError};
 use isle_sema::{EnvError, term_env_from_ast, type_env_from_ast};
 use isle_syntax::{Def, ParseFail};

@@ -4,6 +4,8 @@
 mod files;
 mod names;
 mod source;
+#[cfg(test)]
+mod tests;
 mod text;
 mod tree;
 

@@ -14,7 +14,7 @@ pub loop-file-preserved : goal.loop-file-preserved
 loop-file-preserved c =
     let ok : is_ok c.append.result ≡ true = c.is_err.ensures.negation ∙ ap not c.if-is_err.false in
     let items : c.append.new.self.items ≡ c.loop-file.all.items ++ c.in-Ok.read.items =
-        c.append.ensures.items ∙ ap (λ b. cond b (c.loop-file.all.items ++ c.in-Ok.read.items) c.loop-file.all.items) ok in
+    c.append.ensures.items ∙ ap (λ b. cond b (c.loop-file.all.items ++ c.in-Ok.read.items) c.loop-file.all.items) ok in
     record {
       source = rw (items, map-append def c.loop-file.all.items c.in-Ok.read.items) (
           source_next c.args.texts.now c.loop-file.file c.index-texts-file.result (defs c.loop-file.all.items) (defs c.in-Ok.read.items)
