@@ -1,9 +1,10 @@
-ghost use Rattle.std.specs.Prelude.{◌≡◌, ◌≤◌, ◌↔◌, ◌⊎◌, IsTrue, true, None, IfOk};
+ghost use Rattle.std.specs.Prelude.{◌≡◌, ◌≤◌, ◌↔◌, ◌⊎◌, IsTrue, true, None, IfOk, OnErr, is_err};
 ghost use Rattle.std.specs.String.{string_bytes};
 ghost use Rattle.std.specs.Path.{path_buf_bytes, path_join};
 ghost use Rattle.std.specs.IoError.{error_kind};
-ghost use Rattle.isle_outside.specs.Directory.{Rose};
+ghost use Rattle.isle_outside.specs.Directory.{Rose, Nothing, Finds};
 ghost use Rattle.isle_outside.specs.Failures.{counted};
+ghost use Rattle.isle_outside.specs.Machine.{opened};
 
 use crate::dir::{Dir, Found};
 use crate::errors::{DirFault, Failed};
@@ -77,6 +78,37 @@ impl<R: Files + AllocGlobal + Clone + Drop> StdDir<R> {
         Failed
     }
 
+    /// Makes what stands at the path current, where nothing is. A file takes no memory.
+    fn open(&mut self, path: Path<'_>, name: &str) -> Result<Found, Failed>
+        requires { opened self.old.file self.old.folder ≡ Nothing }
+        ensures found { IfOk result (λ found. Finds None name.now found (opened self.new.file self.new.folder)) }
+        ensures later { self.old.faults ≤ self.new.faults }
+        ensures failed { OnErr result (Rose self.old.faults self.new.faults) }
+        ensures nothing { OnErr result (opened self.new.file self.new.folder ≡ Nothing) }
+        ensures counted { self.new.faults ≡ counted (is_err result) self.old.faults }
+    {
+        let found = match fs::metadata(&self.rt, path) {
+            Ok(found) => found,
+            Err(e) if is_absence(&e) => return Ok(Found::Absent),
+            Err(_) => return Err(self.fault()),
+        };
+        if found.is_dir() {
+            let Ok(name) = String::from_str(self.rt.alloc(), name) else {
+                return Err(self.fault());
+            };
+            self.folder = Some(name);
+            return Ok(Found::Folder);
+        }
+        match File::open(&self.rt, path) {
+            Ok(file) => {
+                self.file = Some(file);
+                Ok(Found::File)
+            }
+            Err(e) if is_absence(&e) => Ok(Found::Absent),
+            Err(_) => Err(self.fault()),
+        }
+    }
+
     /// A name as a path of the machine.
     fn path(&self, name: &str) -> Result<PathBuf, AllocError>
         ensures { IfOk result (λ path. path_buf_bytes path ≡ path_join (string_bytes self.now.root) name.now) }
@@ -106,27 +138,11 @@ impl<R: Files + AllocGlobal + Clone + Drop> Dir for StdDir<R> {
         ensures counted { self.new.faults ≡ counted (is_err result) self.old.faults }
     {
         self.close();
-        let Ok(path) = self.path(name) else {
-            return Err(self.fault());
-        };
-        let found = match fs::metadata(&self.rt, path.as_path()) {
-            Ok(found) => found,
-            Err(e) if is_absence(&e) => return Ok(Found::Absent),
-            Err(_) => return Err(self.fault()),
-        };
-        if found.is_dir() {
-            let Ok(name) = String::from_str(self.rt.alloc(), name) else {
-                return Err(self.fault());
-            };
-            self.folder = Some(name);
-            return Ok(Found::Folder);
+        if self.root.is_empty() {
+            return self.open(Path::new(name), name);
         }
-        match File::open(&self.rt, path.as_path()) {
-            Ok(file) => {
-                self.file = Some(file);
-                Ok(Found::File)
-            }
-            Err(e) if is_absence(&e) => Ok(Found::Absent),
+        match self.path(name) {
+            Ok(path) => self.open(path.as_path(), name),
             Err(_) => Err(self.fault()),
         }
     }

@@ -24,9 +24,9 @@ pub fn well_formed(alloc: Global, p: &Program) -> Result<bool, OutOfMemory>
 #[cfg(test)]
 mod tests {
     use super::*;
-    use std::alloc::AllocError;
     use crate::tree::{Function, TFields, TraitFn, TypeBody, TypeItem};
     use isle_core::{List, ReturnKind, Text};
+    use std::alloc::AllocError;
     use std::test::Fail;
 
     fn name(alloc: Global) -> Text {
