@@ -1,5 +1,5 @@
 -- The comment that an emitted text begins with.
-use Rattle.std.specs.Prelude.{ℕ, List, [], ◌∷◌, ◌++◌, map, codes}
+use Rattle.std.specs.Prelude.{◌≡◌, ℕ, List, [], ◌∷◌, ◌++◌, map, codes}
 use Rattle.isle_ink.specs.Comment.{comment_lines}
 
 -- the line of a file
@@ -21,3 +21,7 @@ header_lines names = first_lines ++ map file_line names
 -- the header comment
 abbrev pub header : List (List ℕ) → List ℕ
 header names = comment_lines (header_lines names)
+
+-- the text begins with the header comment of these names
+abbrev pub HasHeader : List (List ℕ) → List ℕ → Type 0
+HasHeader names text = (print : List ℕ) × (text ≡ header names ++ print)

@@ -6,8 +6,9 @@ ghost use Rattle.isle_syntax.specs.Views.{defs as seen};
 ghost use Rattle.isle_sema.specs.Typing.{Typed};
 ghost use Rattle.isle_codegen.specs.Emission.{IsBuilt};
 ghost use Rattle.isle_codegen.specs.Names.{are_file_names};
+ghost use Rattle.isle_codegen.specs.Header.{HasHeader};
 ghost use Rattle.isle_codegen.specs.Headline.{HasHeadline, SpellsOne};
-ghost use Rattle.isle_codegen.specs.Causes.{CompilesTo, IsRefusal, IsCompiled, HasCause};
+ghost use Rattle.isle_codegen.specs.Causes.{CompilesTo, IsRefusal, IsCompiled, HasCause, printed};
 
 use crate::names::{NameError, are_file_names};
 use crate::source::parse_all;
@@ -39,6 +40,7 @@ pub fn from_files<D: Dir>(
 ) -> Result<String, FileError>
     requires { IsBuilt options.now }
     ensures program { IfOk result (λ text. SpellsOne (string_bytes text)) }
+    ensures header { IfOk result (λ text. HasHeader (printed options.now (bytes_each inputs.now)) (string_bytes text)) }
     ensures headline { IfOk result (λ text. IfSome (D.files dir.old) (λ files. IsCompiled options.now files (bytes_each inputs.now) (string_bytes text))) }
     ensures err { IfErr result (λ e. HasCause e options.now (D.files dir.old) (bytes_each inputs.now) (D.faults dir.old) (D.faults dir.new)) }
     ensures files { D.files dir.new ≡ D.files dir.old }
@@ -54,6 +56,7 @@ pub fn from_files<D: Dir>(
 /// The text of the program of the definitions that the files' texts spell.
 fn compiled(alloc: Global, files: &Files, options: &CodegenOptions) -> Result<String, FileError>
     requires { IsBuilt options.now }
+    ensures header { IfOk result (λ text. HasHeader files.now.file_names (string_bytes text)) }
     ensures ok { IfOk result (λ text. CompilesTo options.now files.now.file_texts (string_bytes text)) }
     ensures err { IfErr result (λ e. IsRefusal e files.now.file_names files.now.file_texts) }
 {
@@ -81,6 +84,7 @@ fn compile(
 ) -> Result<String, EnvError>
     requires options { IsBuilt options.now }
     requires names { are_file_names files.now.file_names ≡ true }
+    ensures header { IfOk result (λ text. HasHeader files.now.file_names (string_bytes text)) }
     ensures headline { IfOk result (λ text. HasHeadline options.now (seen defs.now) (string_bytes text)) }
     ensures not_yet { result ≡ Err EnvError.NotYet → (env : Environment) → Typed (seen defs.now) env → ⊥ }
 {

@@ -1,11 +1,11 @@
-ghost use Rattle.std.specs.Prelude.{◌≡◌, ℕ, ◌++◌, map, true, List as ListOf, OnOk, IfOk};
+ghost use Rattle.std.specs.Prelude.{◌≡◌, map, true, OnOk, IfOk};
 ghost use Rattle.std.specs.String.{string_bytes};
 ghost use Rattle.isle_ink.specs.Comment.{comment_lines};
 ghost use Rattle.isle_core.specs.RuleViews.{environment};
 ghost use Rattle.isle_core.specs.Terms.{with_rules};
 ghost use Rattle.isle_codegen.specs.Emission.{IsBuilt, IsGiven};
 ghost use Rattle.isle_codegen.specs.Names.{are_file_names};
-ghost use Rattle.isle_codegen.specs.Header.{header};
+ghost use Rattle.isle_codegen.specs.Header.{header, HasHeader};
 ghost use Rattle.isle_codegen.specs.Headline.{IsText};
 
 use crate::tree::codegen_tree;
@@ -28,7 +28,7 @@ pub fn codegen(
     requires terms { map (λ t. t.0) terms.now ≡ with_rules (environment typeenv.now termenv.now) }
     requires options { IsBuilt options.now }
     requires names { are_file_names files.now.file_names ≡ true }
-    ensures header { IfOk result (λ text. (print : ListOf ℕ) × (string_bytes text ≡ header files.now.file_names ++ print)) }
+    ensures header { IfOk result (λ text. HasHeader files.now.file_names (string_bytes text)) }
     ensures program { IfOk result (λ text. IsText options.now (environment typeenv.now termenv.now) (string_bytes text)) }
 {
     let tree = codegen_tree(alloc, files, typeenv, termenv, terms, options)?;

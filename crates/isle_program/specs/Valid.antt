@@ -6,6 +6,7 @@ use Rattle.isle_core.specs.Inputs.{RoseAt}
 use Rattle.isle_core.specs.declared.options.CodegenOptions.{CodegenOptions}
 use Rattle.isle_codegen.specs.Names.{is_file_name}
 use Rattle.isle_codegen.specs.Source.{InLanguage}
+use Rattle.isle_codegen.specs.Header.{HasHeader}
 use Rattle.isle_codegen.specs.Headline.{SpellsOne}
 use Rattle.isle_codegen.specs.Causes.{IsCompiled, IsNotBuilt}
 use Rattle.isle_program.specs.declared.answer.Refusal.{Refusal}
@@ -22,8 +23,10 @@ pub record IsValid (files : Files) (name : List ℕ) : Type 0 where
   pub language : InLanguage (text ∷ [])
   pub emitted : is_file_name name ≡ true
 
--- the text answers the words: it spells exactly one program, that of the named file where the directory tells its files
+-- the text answers the words: behind the header comment of the named file it spells exactly one program, that of the
+-- file where the directory tells its files
 pub record IsAnswer (name : Option (List ℕ)) (files : Option Files) (text : List ℕ) : Type 0 where
+  pub header : IsSomeAnd name (λ n. HasHeader (n ∷ []) text)
   pub spells : SpellsOne text
   pub compiled : IfSome files (λ fs. IsSomeAnd name (λ n. IsCompiled no_options fs (n ∷ []) text))
 
