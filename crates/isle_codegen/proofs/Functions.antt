@@ -1,6 +1,6 @@
 -- The functions of an environment without terms.
-use Rattle.std.proofs.Common.{◌≡◌, ℕ, ◌<◌, List, [], Bool, refl, ap, arith}
-use Rattle.std.specs.Prelude.{Contains, map}
+use Rattle.std.proofs.Common.{◌≡◌, List, [], Bool, refl, arith}
+use Rattle.std.specs.Prelude.{Contains}
 use Rattle.isle_core.specs.Rule.{Environment}
 use Rattle.isle_core.specs.Terms.{with_rules}
 use Rattle.isle_core.specs.declared.TermId.{TermId}
@@ -11,7 +11,7 @@ use Rattle.isle_target.specs.declared.tree.TraitFn.{TraitFn}
 use Rattle.isle_target.specs.declared.tree.TypeItem.{TypeItem}
 use Rattle.isle_target.specs.Views.{program}
 use Rattle.isle_codegen.specs.Emission.{IsGiven}
-use Rattle.isle_codegen.specs.Headline.{FunctionsMean, MeansRules}
+use Rattle.isle_codegen.specs.Headline.{FunctionsMean}
 
 none_of : (P : Type 0) (id : TermId) → Contains (let ids : List TermId = [] in ids) id → P
 none_of P id h = absurd (omega (arith, h.1))

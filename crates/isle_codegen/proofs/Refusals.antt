@@ -1,5 +1,5 @@
 -- Failures that are passed on.
-use Rattle.std.proofs.Common.{◌≡◌, List, Result, Ok, Err, refl, ap, sym, ◌∙◌}
+use Rattle.std.proofs.Common.{◌≡◌, List, Result, Err, ap}
 use Rattle.isle_core.specs.Rule.{Environment}
 use Rattle.isle_core.specs.declared.types.TypeEnv.{TypeEnv}
 use Rattle.isle_syntax.specs.Tree.{Def}

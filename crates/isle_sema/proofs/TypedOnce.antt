@@ -1,5 +1,5 @@
 -- Definitions give at most one environment.
-use Rattle.std.proofs.Common.{◌≡◌, ℕ, ◌<◌, List, [], ◌∷◌, length, refl, sym, ◌∙◌, subst, arith}
+use Rattle.std.proofs.Common.{◌≡◌, ℕ, ◌<◌, List, [], ◌∷◌, length, refl, arith}
 use Rattle.isle_core.specs.declared.types.TypeEnv.{TypeEnv}
 use Rattle.isle_core.specs.Rule.{Environment}
 use Rattle.isle_core.specs.RuleViews.{environment}
@@ -12,7 +12,7 @@ use Rattle.isle_core.specs.declared.TermId.{TermId}
 use Rattle.isle_syntax.specs.declared.tree.Def.{Def as CodeDef}
 use Rattle.isle_syntax.specs.Views.{defs}
 use Rattle.isle_syntax.specs.Tree.{Def}
-use Rattle.isle_sema.specs.Typing.{builtins, builtin_types, builtin_env, TypesFrom, no_types, Typed, no_def, TypedOnly}
+use Rattle.isle_sema.specs.Typing.{builtins, builtin_types, TypesFrom, no_types, Typed, no_def, TypedOnly}
 
 pub types_are : {ds : List Def} {env : TypeEnv} → TypesFrom ds env → env ≡ builtin_types
 types_are no_types = refl

@@ -1,9 +1,9 @@
 -- What a byte more does to what was begun, and to the tokens.
-use Rattle.std.proofs.Common.{◌≡◌, ℕ, ◌+◌, ◌<◌, ◌≤◌, List, [], ◌∷◌, ◌++◌, length, take, drop, get_or, Bool, true, false, cond, refl, sym, ap, ◌∙◌, subst, arith, length-append}
-use Rattle.std.specs.Prelude.{fold, IsTrue, ◌↔◌, ◌&&◌, not}
+use Rattle.std.proofs.Common.{◌≡◌, ℕ, ◌+◌, ◌<◌, ◌≤◌, List, [], ◌∷◌, ◌++◌, length, take, drop, get_or, Bool, true, false, cond, refl, sym, ap, ◌∙◌, arith, length-append}
+use Rattle.std.specs.Prelude.{fold, IsTrue, ◌↔◌, not}
 use Rattle.std.proofs.lemmas.List.Sums.{fold_more, fold-append}
-use Rattle.std.proofs.lemmas.List.{append-nil, length-take-le, take-append-drop}
-use Rattle.isle_syntax.specs.Token.{Tok, State, Between, InWord, AfterOpen, AfterSingle, InLine, InComment, Scan, scan, step, next, ends, pending, ended, IsToken, tokens_of}
+use Rattle.std.proofs.lemmas.List.{length-take-le, take-append-drop}
+use Rattle.isle_syntax.specs.Token.{State, Between, InWord, AfterOpen, AfterSingle, InLine, InComment, Scan, scan, step, next, ends, pending, ended, IsToken, tokens_of}
 
 at_fold : (bs : List ℕ) (s : Scan) → (fold step s bs).at ≡ s.at + length bs
 unfolding step

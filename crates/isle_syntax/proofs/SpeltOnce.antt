@@ -1,6 +1,6 @@
 -- A text spells at most one list of definitions.
-use Rattle.std.proofs.Common.{◌≡◌, ℕ, List, [], ◌∷◌, refl, sym, ◌∙◌, subst}
-use Rattle.isle_syntax.specs.Token.{Tok, tokens_of}
+use Rattle.std.proofs.Common.{◌≡◌, ℕ, List, [], refl, sym, subst}
+use Rattle.isle_syntax.specs.Token.{Tok}
 use Rattle.isle_syntax.specs.Tree.{Def}
 use Rattle.isle_syntax.specs.Spelling.{FileS, no_def, Spells}
 

@@ -1,7 +1,6 @@
-use Rattle.std.proofs.Common.{◌++◌, ap, ◌∙◌}
+use Rattle.std.proofs.Common.{◌∙◌}
 use Rattle.std.specs.String.{string_bytes}
 use Rattle.isle_target.specs.Views.{program}
-use Rattle.isle_codegen.specs.Header.{header}
 use Rattle.isle_codegen.proofs.Headers.{spells_behind}
 use Rattle.isle_codegen.proofs.text.codegen.Goals as goal
 

@@ -1,5 +1,4 @@
-use Rattle.std.proofs.Common.{arith, ap, ◌∙◌}
-use Rattle.isle_syntax.specs.Token.{next}
+use Rattle.std.proofs.Common.{arith, ◌∙◌}
 use Rattle.isle_syntax.proofs.Scans.{state-more}
 use Rattle.isle_syntax.proofs.lexer.end_of.Goals as goal
 

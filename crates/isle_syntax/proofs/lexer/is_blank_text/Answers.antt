@@ -1,5 +1,4 @@
-use Rattle.std.proofs.Common.{arith, sym, ap, ◌∙◌}
-use Rattle.isle_syntax.specs.Token.{next, ends}
+use Rattle.std.proofs.Common.{arith, sym, ◌∙◌}
 use Rattle.isle_syntax.proofs.Scans.{state-more, tokens-none, not_blank, no_token}
 use Rattle.isle_syntax.proofs.lexer.is_blank_text.Goals as goal
 

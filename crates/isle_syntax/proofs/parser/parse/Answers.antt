@@ -1,7 +1,3 @@
-use Rattle.std.proofs.Common.{ap, sym, subst, ◌∙◌, []}
-use Rattle.isle_syntax.specs.Views.{defs}
-use Rattle.isle_syntax.specs.Lexer.{lexer_file, lexer_text}
-use Rattle.isle_syntax.specs.Spelling.{Spells}
 use Rattle.isle_syntax.proofs.SpeltOnce.{spells_none}
 use Rattle.isle_syntax.proofs.parser.parse.Goals as goal
 
