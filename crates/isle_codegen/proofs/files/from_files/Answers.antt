@@ -10,5 +10,5 @@ use Rattle.isle_codegen.proofs.files.from_files.Goals as goal
 pub returns-in-Ok-clause-header : goal.returns-in-Ok-clause-header
 returns-in-Ok-clause-header g c =
     let names : c.in-Ok.files.file_names ≡ printed c.args.options.now (bytes_each c.args.inputs.now) =
-        c.in-Ok.ensures.names ∙ ap (λ ps. map (shown ps) (bytes_each c.args.inputs.now)) c.as_slice.ensures in
+    c.in-Ok.ensures.names ∙ ap (λ ps. map (shown ps) (bytes_each c.args.inputs.now)) c.as_slice.ensures in
     subst (λ (ns : List (List ℕ)). IfOk c.compiled.result (λ text. HasHeader ns (string_bytes text))) names c.compiled.ensures.header
