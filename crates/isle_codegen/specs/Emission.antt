@@ -1,5 +1,5 @@
 -- The program that is emitted for an environment.
-use Rattle.std.specs.Prelude.{◌≡◌, List, [], Bool, true, false, not}
+use Rattle.std.specs.Prelude.{◌≡◌, List, [], false, not}
 use Rattle.isle_core.specs.declared.options.CodegenOptions.{CodegenOptions}
 use Rattle.isle_core.specs.Rule.{Environment}
 use Rattle.isle_syntax.specs.Tree.{Def}

@@ -41,6 +41,7 @@ pub fn from_files<D: Dir>(
     requires { IsBuilt options.now }
     ensures program { IfOk result (λ text. SpellsOne (string_bytes text)) }
     ensures header { IfOk result (λ text. HasHeader (printed options.now (bytes_each inputs.now)) (string_bytes text)) }
+    ensures names { IfOk result (λ text. are_file_names (printed options.now (bytes_each inputs.now)) ≡ true) }
     ensures headline { IfOk result (λ text. IfSome (D.files dir.old) (λ files. IsCompiled options.now files (bytes_each inputs.now) (string_bytes text))) }
     ensures err { IfErr result (λ e. HasCause e options.now (D.files dir.old) (bytes_each inputs.now) (D.faults dir.old) (D.faults dir.new)) }
     ensures files { D.files dir.new ≡ D.files dir.old }
@@ -57,6 +58,7 @@ pub fn from_files<D: Dir>(
 fn compiled(alloc: Global, files: &Files, options: &CodegenOptions) -> Result<String, FileError>
     requires { IsBuilt options.now }
     ensures header { IfOk result (λ text. HasHeader files.now.file_names (string_bytes text)) }
+    ensures names { IfOk result (λ text. are_file_names files.now.file_names ≡ true) }
     ensures ok { IfOk result (λ text. CompilesTo options.now files.now.file_texts (string_bytes text)) }
     ensures err { IfErr result (λ e. IsRefusal e files.now.file_names files.now.file_texts) }
 {

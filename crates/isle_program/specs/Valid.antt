@@ -1,5 +1,5 @@
 -- Input that is compiled, and why other input is not.
-use Rattle.std.specs.Prelude.{◌≡◌, ℕ, ◌⊎◌, List, [], ◌∷◌, Bool, true, false, Option, Some, None, IfSome, IsSomeAnd}
+use Rattle.std.specs.Prelude.{◌≡◌, ℕ, ◌⊎◌, List, [], ◌∷◌, true, false, Option, None, IfSome, IsSomeAnd}
 use Rattle.isle_outside.specs.Directory.{Files, bytes_of}
 use Rattle.isle_outside.specs.Reading.{IsText, IsCause}
 use Rattle.isle_core.specs.Inputs.{RoseAt}
@@ -23,9 +23,10 @@ pub record IsValid (files : Files) (name : List ℕ) : Type 0 where
   pub language : InLanguage (text ∷ [])
   pub emitted : is_file_name name ≡ true
 
--- the text answers the words: behind the header comment of the named file it spells exactly one program, that of the
--- file where the directory tells its files
+-- the text answers the words: the named file may be emitted, and behind its header comment the text spells exactly one
+-- program, that of the file where the directory tells its files
 pub record IsAnswer (name : Option (List ℕ)) (files : Option Files) (text : List ℕ) : Type 0 where
+  pub emitted : IsSomeAnd name (λ n. is_file_name n ≡ true)
   pub header : IsSomeAnd name (λ n. HasHeader (n ∷ []) text)
   pub spells : SpellsOne text
   pub compiled : IfSome files (λ fs. IsSomeAnd name (λ n. IsCompiled no_options fs (n ∷ []) text))
