@@ -1,8 +1,9 @@
 -- Evaluating expressions: a value or a failure, and the impure calls made.
 use Rattle.std.specs.Prelude.{List, [], ◌∷◌, Option, Some, None, option_and_then}
-use Rattle.isle_core.specs.Value.{Value, Made}
+use Rattle.isle_core.specs.Value.{Value, Truth, Made}
+use Rattle.isle_core.specs.Constants.{int_value}
 use Rattle.isle_core.specs.Meaning.{Meaning}
-use Rattle.isle_core.specs.Expr.{Expr}
+use Rattle.isle_core.specs.Expr.{Expr, Term, Var, ConstBool, ConstInt, ConstPrim, Let}
 use Rattle.isle_core.specs.Match.{Names, matches}
 use Rattle.isle_core.specs.Rule.{Environment, IfLet}
 
@@ -11,9 +12,19 @@ pub data Evaluated : Type 0 where
   Answered : Value → List Made → Evaluated
   Failed : List Made → Evaluated
 
--- the evaluation of an expression, after the calls made before; no form of expression is built
+-- the value of a variable
+abbrev pub named : Option Value → List Made → Evaluated
+named (Some v) made = Answered v made
+named None made = Failed made
+
+-- the evaluation of an expression, after the calls made before; a term, a named constant and a `let` are not built
 abbrev pub evaluated : Environment → Meaning → Expr → Names → List Made → Evaluated
-evaluated env m e names made = Failed made
+evaluated env m (ConstBool b) names made = Answered (Truth b) made
+evaluated env m (ConstInt ty n) names made = Answered (int_value env ty n) made
+evaluated env m (Var ty x) names made = named (names x.0) made
+evaluated env m (Term ty term es) names made = Failed made
+evaluated env m (ConstPrim ty name) names made = Failed made
+evaluated env m (Let ty bindings inner) names made = Failed made
 
 -- the value, where there is one
 abbrev pub value_of : Evaluated → Option Value

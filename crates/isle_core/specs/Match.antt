@@ -1,8 +1,10 @@
 -- Matching patterns against values, with the names bound so far.
-use Rattle.std.specs.Prelude.{ℕ, List, [], ◌∷◌, Option, Some, None, option_and_then}
-use Rattle.isle_core.specs.Value.{Value}
+use Rattle.std.specs.Prelude.{ℕ, List, [], ◌∷◌, Bool, ◌==◌, if◌then◌else◌, Option, Some, None, option_and_then}
+use Rattle.isle_core.specs.Value.{Value, Truth}
+use Rattle.isle_core.specs.SameValue.{same_value}
+use Rattle.isle_core.specs.Constants.{int_value}
 use Rattle.isle_core.specs.Meaning.{Meaning}
-use Rattle.isle_core.specs.Pattern.{Pattern}
+use Rattle.isle_core.specs.Pattern.{Pattern, BindPattern, Var, ConstBool, ConstInt, ConstPrim, Term, Wildcard, And}
 use Rattle.isle_core.specs.Rule.{Environment}
 
 -- the value of each variable, by its number
@@ -13,9 +15,29 @@ Names = ℕ → Option Value
 abbrev pub no_names : Names
 no_names var = None
 
--- the names with those that the pattern binds, where it matches; no form of pattern is built
+-- one variable more
+abbrev pub with : {A : Type 0} → (ℕ → Option A) → ℕ → A → ℕ → Option A
+with names x v y = if x == y then Some v else names y
+
+-- the names as they are, where the test holds
+abbrev pub if_holds : Bool → Names → Option Names
+if_holds holds names = if holds then Some names else None
+
+-- a variable: its first occurrence binds, a later one tests equality
+abbrev pub met : Option Value → ℕ → Value → Names → Option Names
+met None x v names = Some (with names x v)
+met (Some w) x v names = if_holds (same_value w v) names
+
+-- the names with those that the pattern binds, where it matches; a term, a named constant and patterns of parts are not built
 abbrev pub matches : Environment → Meaning → Pattern → Value → Names → Option Names
-matches env m pattern v names = None
+matches env m (Var ty x) v names = met (names x.0) x.0 v names
+matches env m (ConstBool b) v names = if_holds (same_value v (Truth b)) names
+matches env m (ConstInt ty n) v names = if_holds (same_value v (int_value env ty n)) names
+matches env m (Wildcard ty) v names = Some names
+matches env m (BindPattern ty x p) v names = None
+matches env m (ConstPrim ty name) v names = None
+matches env m (Term ty term ps) v names = None
+matches env m (And ty ps) v names = None
 
 -- patterns against as many values, in order
 abbrev pub matches_all : Environment → Meaning → List Pattern → List Value → Names → Option Names
