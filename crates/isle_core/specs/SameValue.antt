@@ -27,7 +27,7 @@ same_truth true b = b
 same_truth false b = not b
 
 -- whether two values are equal
-mutual
+unfoldable mutual
   pub same_value : Value → Value → Bool
   same_value (Truth a) (Truth b) = same_truth a b
   same_value (Int of a) (Int ty b) = (int_place of == int_place ty) && int_eq a b
