@@ -2,3 +2,5 @@ pub mod OutcomeOnce
 pub mod Prefixes
 pub mod InputLaws
 pub mod SameValueLaws
+pub mod Contained
+pub mod OutcomeOf

@@ -12,6 +12,8 @@ pub mod Constants
 pub mod Match
 pub mod Eval
 pub mod Outcome
+pub mod HighestMatch
+pub mod BuiltRule
 pub mod Path
 pub mod Tests
 pub mod Held

@@ -1,0 +1,28 @@
+-- The forms of rules that are built.
+use Rattle.std.specs.Prelude.{◌≡◌, [], All}
+use Rattle.isle_core.specs.Pattern as pattern
+use Rattle.isle_core.specs.Pattern.{Pattern}
+use Rattle.isle_core.specs.Expr as expr
+use Rattle.isle_core.specs.Expr.{Expr}
+use Rattle.isle_core.specs.Rule.{Rule}
+
+-- a variable, a constant or `_`
+abbrev pub IsBuiltPattern : Pattern → Type 0
+IsBuiltPattern (pattern.Var ty x) = Unit {0}
+IsBuiltPattern (pattern.ConstBool b) = Unit {0}
+IsBuiltPattern (pattern.ConstInt ty n) = Unit {0}
+IsBuiltPattern (pattern.Wildcard ty) = Unit {0}
+IsBuiltPattern p = ⊥
+
+-- a variable or a constant
+abbrev pub IsBuiltExpr : Expr → Type 0
+IsBuiltExpr (expr.Var ty x) = Unit {0}
+IsBuiltExpr (expr.ConstBool b) = Unit {0}
+IsBuiltExpr (expr.ConstInt ty n) = Unit {0}
+IsBuiltExpr e = ⊥
+
+-- a rule without conditions, of such patterns and such a right side
+pub record IsBuiltRule (r : Rule) : Type 0 where
+  pub args : All IsBuiltPattern r.args
+  pub iflets : r.iflets ≡ []
+  pub rhs : IsBuiltExpr r.rhs

@@ -1,0 +1,37 @@
+-- The matching rule of highest priority, and what it gives.
+use Rattle.std.specs.Prelude.{◌≡◌, List, [], ◌∷◌, Bool, Option, Some, None, if◌then◌else◌, Contains}
+use Rattle.std.specs.Ordering.{int_cmp, is_lt}
+use Rattle.isle_core.specs.Value.{Value}
+use Rattle.isle_core.specs.Meaning.{Meaning}
+use Rattle.isle_core.specs.Match.{Names}
+use Rattle.isle_core.specs.Eval.{evaluated}
+use Rattle.isle_core.specs.Outcome.{Prescription, prescription_of, rule_names, unmatched}
+use Rattle.isle_core.specs.Rule.{Environment, Rule}
+
+-- a rule that matches, or a higher one behind it
+abbrev pub better : Rule → Names → Option (Rule × Names) → Rule × Names
+better r names None = (r, names)
+better r names (Some o) = if is_lt (int_cmp r.prio o.0.prio) then o else (r, names)
+
+-- a rule where it matches, and those behind it
+abbrev pub or_later : Rule → Option Names → Option (Rule × Names) → Option (Rule × Names)
+or_later r None later = later
+or_later r (Some names) later = Some (better r names later)
+
+-- the highest rule that matches with its names, the first of equals
+abbrev pub highest_match : Environment → Meaning → List Value → List Rule → Option (Rule × Names)
+highest_match env m args [] = None
+highest_match env m args (r ∷ rs) = or_later r (rule_names env m args r) (highest_match env m args rs)
+
+-- what the highest rule gives, or that none matches
+abbrev pub given_by : Environment → Meaning → Bool → Option (Rule × Names) → Prescription
+given_by env m partial None = record { result = unmatched partial; calls = [] }
+given_by env m partial (Some o) = prescription_of (evaluated env m o.0.rhs o.1 [])
+
+-- what the rules of a term give
+abbrev pub outcome_of : Environment → Meaning → List Value → List Rule → Bool → Prescription
+outcome_of env m args rules partial = given_by env m partial (highest_match env m args rules)
+
+-- no other rule that matches has the priority of the highest
+pub record HighestIsOne (env : Environment) (m : Meaning) (args : List Value) (rules : List Rule) : Type 0 where
+  pub one : (r q : Rule) (names others : Names) → highest_match env m args rules ≡ Some (r, names) → Contains rules q → rule_names env m args q ≡ Some others → q.prio ≡ r.prio → q ≡ r
