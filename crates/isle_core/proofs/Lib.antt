@@ -4,3 +4,5 @@ pub mod InputLaws
 pub mod SameValueLaws
 pub mod Contained
 pub mod OutcomeOf
+pub mod PatternTests
+pub mod SetMeans

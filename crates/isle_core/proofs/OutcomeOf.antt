@@ -37,16 +37,18 @@ none_some a e = cc
 
 tops_behind : (env : Environment) (m : Meaning) (args : List Value) (r : Rule) (rs : List Rule) (o : Rule × Names) → ((names : Names) → rule_names env m args r ≡ Some names → r.prio ≤ℤ o.0.prio) → Tops env m args rs o → Tops env m args (r ∷ rs) o
 tops_behind env m args r rs o low t = record {
-    among = tail_contained r rs o.0 t.among;
-    matched = t.matched;
-    above = λ q others c e. ⊎_elim (λ (s : r ≡ q). subst (λ (x : Rule). x.prio ≤ℤ o.0.prio) s (low others (ap (rule_names env m args) s ∙ e))) (λ d. t.above q others d e) (contained_cases r rs q c) }
+  among = tail_contained r rs o.0 t.among;
+  matched = t.matched;
+  above = λ q others c e. ⊎_elim (λ (s : r ≡ q). subst (λ (x : Rule). x.prio ≤ℤ o.0.prio) s (low others (ap (rule_names env m args) s ∙ e))) (λ d. t.above q others d e) (contained_cases r rs q c);
+}
 
 tops_first : (env : Environment) (m : Meaning) (args : List Value) (r : Rule) (names : Names) (rs : List Rule) → rule_names env m args r ≡ Some names
     → ((q : Rule) (others : Names) → Contains rs q → rule_names env m args q ≡ Some others → q.prio ≤ℤ r.prio) → Tops env m args (r ∷ rs) (r, names)
 tops_first env m args r names rs e low = record {
-    among = head_contained r rs;
-    matched = e;
-    above = λ q others c k. ⊎_elim (λ (s : r ≡ q). subst (λ (x : Rule). x.prio ≤ℤ r.prio) s (le_self r.prio)) (λ d. low q others d k) (contained_cases r rs q c) }
+  among = head_contained r rs;
+  matched = e;
+  above = λ q others c k. ⊎_elim (λ (s : r ≡ q). subst (λ (x : Rule). x.prio ≤ℤ r.prio) s (le_self r.prio)) (λ d. low q others d k) (contained_cases r rs q c);
+}
   where
     le_self : (a : ℤ) → a ≤ℤ a
     le_self a = omega (arith, ints)
@@ -81,9 +83,10 @@ lower a b h = grind (arith, ints)
 
 highest_of : (env : Environment) (m : Meaning) (args : List Value) (rules : List Rule) (o : Rule × Names) → highest_match env m args rules ≡ Some o → HighestIsOne env m args rules → Tops env m args rules o → IsHighest env m args rules o.0 o.1
 highest_of env m args rules o e h t = record {
-    among = t.among;
-    matched = t.matched;
-    above = λ q others c f. ⊎_elim (λ p. inl (h.one o.0 q o.1 others e c f p)) (λ p. inr p) (lower q.prio o.0.prio (t.above q others c f)) }
+  among = t.among;
+  matched = t.matched;
+  above = λ q others c f. ⊎_elim (λ p. inl (h.one o.0 q o.1 others e c f p)) (λ p. inr p) (lower q.prio o.0.prio (t.above q others c f));
+}
 
 prescribed_by : (env : Environment) (m : Meaning) (args : List Value) (rules : List Rule) (partial : Bool) (o : Option (Rule × Names)) → highest_match env m args rules ≡ o → HighestIsOne env m args rules → Found env m args rules o
     → Prescribed env m args rules partial (given_by env m partial o)
@@ -110,4 +113,4 @@ tops_among env m args rules o (Some p) e f = subst (λ (x : Rule × Names). Cont
 pub outcome_of_one : (env : Environment) (m : Meaning) (args : List Value) (rules : List Rule) (partial : Bool) → length rules ≤ 1 → Prescribed env m args rules partial (outcome_of env m args rules partial)
 outcome_of_one env m args rules partial le =
     outcome_prescribed env m args rules partial
-      (record { one = λ r q names others e c f p. only_rule rules r q le (tops_among env m args rules (r, names) (highest_match env m args rules) e (found env m args rules)) c })
+    (record { one = λ r q names others e c f p. only_rule rules r q le (tops_among env m args rules (r, names) (highest_match env m args rules) e (found env m args rules)) c })

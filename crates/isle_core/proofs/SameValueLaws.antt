@@ -51,6 +51,7 @@ triple make a s b t c u x y z h k l apart =
 
 mutual
   unfolding same_value
+
   -- `same_value` is true exactly where the values are equal
   pub same_value_decides : (v w : Value) → Decides (same_value v w) (v ≡ w)
   same_value_decides (Truth a) (Truth b) = Decides-like (same_truth a b) (λ e. ap Truth e) (λ e. cc) (truth_decides a b)
