@@ -1,0 +1,5 @@
+pub mod LawOrder
+pub mod SeesBlocks
+pub mod LawFirst
+pub mod LawChain
+pub mod LawReady

@@ -1,0 +1,8 @@
+use Rattle.std.proofs.Common.{◌≡◌, ◌++◌, drop, map}
+use Rattle.isle_core.specs.BlockViews.{step}
+use Rattle.isle_blocks.specs.Chain.{chain_steps}
+use Rattle.isle_blocks.proofs.LawOrder.{shown}
+use Rattle.isle_blocks.proofs.chain.chain_steps.Given as goal
+
+abbrev pub invariant-loop-rule : goal.invariant-loop-rule
+invariant-loop-rule l = map step l.steps.items ++ chain_steps (map shown (drop l.rule-index l.rules)) ≡ chain_steps (map shown l.rules)

@@ -1,0 +1,4 @@
+pub mod Order
+pub mod Nest
+pub mod Chain
+pub mod Ready

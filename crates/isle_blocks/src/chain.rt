@@ -1,0 +1,60 @@
+ghost use Rattle.std.specs.Prelude.{◌≡◌, IfOk, Bool, false, map, List as ListOf};
+ghost use Rattle.isle_core.specs.declared.types.Term.{Term};
+ghost use Rattle.isle_core.specs.Value.{Value};
+ghost use Rattle.isle_core.specs.Meaning.{Meaning};
+ghost use Rattle.isle_core.specs.Rule.{Environment};
+ghost use Rattle.isle_core.specs.Path.{paths_of};
+ghost use Rattle.isle_core.specs.RuleSet.{set_outcome};
+ghost use Rattle.isle_core.specs.BlockViews as BlockViews;
+ghost use Rattle.isle_core.specs.BlockRun.{block_outcome};
+ghost use Rattle.isle_core.specs.BlockLawful.{IsLawfulBlock};
+ghost use Rattle.isle_blocks.specs.Chain as Chain;
+ghost use Rattle.isle_blocks.specs.Ready.{IsReady};
+
+use crate::nest::{rule_control, step};
+use crate::order::in_order;
+use isle_core::{Block, EvalStep, FlatRule, List, OutOfMemory, RuleSet};
+use std::alloc::{AllocError, Global};
+
+/// Whether a rule has neither a constraint nor an equality.
+fn is_untested(rule: &FlatRule) -> bool
+    ensures { result ≡ Chain.no_tests rule.now.constraints rule.now.equals }
+{
+    rule.constraints.as_slice().is_empty() && rule.equals.as_slice().is_empty()
+}
+
+/// The steps of rules in order, up to the first one without tests.
+fn chain_steps(alloc: Global, rules: &[&FlatRule]) -> Result<Vec<EvalStep>, AllocError>
+    ensures { IfOk result (λ steps. map BlockViews.step steps.items ≡ Chain.chain_steps (map (λ f. f.now) rules.now)) }
+{
+    let mut steps = Vec::new(alloc);
+    for rule in rules {
+        steps.push(step(alloc, rule_control(alloc, rule)?))?;
+        if is_untested(rule) {
+            return Ok(steps);
+        }
+    }
+    Ok(steps)
+}
+
+/// The steps of the rules, highest priority first.
+#[tactic(auto, using(crate::proofs::SeesBlocks::sees_blocks))]
+fn chained(alloc: Global, rules: &[FlatRule]) -> Result<Block, AllocError>
+    ensures { IfOk result (λ b. BlockViews.block b ≡ Chain.chain rules.now) }
+{
+    let order = in_order(alloc, rules)?;
+    let steps = chain_steps(alloc, order.as_slice())?;
+    Ok(Block {
+        steps: List::new(steps),
+    })
+}
+
+/// The block of a rule set of a term without `multi`: a step for each rule, tried from the highest priority down, and
+/// equal ones in their order.
+pub fn serialize(alloc: Global, rules: &RuleSet, iterator: bool) -> Result<Block, OutOfMemory>
+    requires { iterator ≡ false }
+    ensures means { IfOk result (λ b. (env : Environment) (m : Meaning) (args : ListOf Value) (partial : Bool) → block_outcome env m args (paths_of rules.now.bindings) (BlockViews.block b) partial ≡ set_outcome env m args (paths_of rules.now.bindings) rules.now.rules partial) }
+    ensures lawful { IfOk result (λ b. (env : Environment) (t : Term) → IsReady env t rules.now → IsLawfulBlock env t (paths_of rules.now.bindings) (BlockViews.block b)) }
+{
+    Ok(chained(alloc, rules.rules.as_slice())?)
+}

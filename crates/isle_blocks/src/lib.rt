@@ -1,0 +1,8 @@
+//! From rule sets to blocks.
+#![tactic(auto)]
+
+mod chain;
+mod nest;
+mod order;
+
+pub use chain::serialize;
