@@ -49,8 +49,8 @@ fn chained(alloc: Global, rules: &[FlatRule]) -> Result<Block, AllocError>
     })
 }
 
-/// The block of a rule set of a term without `multi`: a step for each rule, tried from the highest priority down, and
-/// equal ones in their order.
+/// The block of a rule set: a step for each rule, tried from the highest priority down, and equal ones in their order.
+/// `iterator` says whether the term is `multi`; of such terms no block is built.
 pub fn serialize(alloc: Global, rules: &RuleSet, iterator: bool) -> Result<Block, OutOfMemory>
     requires { iterator ≡ false }
     ensures means { IfOk result (λ b. (env : Environment) (m : Meaning) (args : ListOf Value) (partial : Bool) → block_outcome env m args (paths_of rules.now.bindings) (BlockViews.block b) partial ≡ set_outcome env m args (paths_of rules.now.bindings) rules.now.rules partial) }

@@ -4,5 +4,7 @@
 mod chain;
 mod nest;
 mod order;
+#[cfg(test)]
+mod tests;
 
 pub use chain::serialize;

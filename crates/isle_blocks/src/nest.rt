@@ -112,6 +112,6 @@ pub fn rule_control(alloc: Global, rule: &FlatRule) -> Result<ControlFlow, Alloc
     ensures { IfOk result (λ c. BlockViews.control c ≡ Nest.rule_control rule.now) }
 {
     let end = returned(rule.pos, rule.result);
-    let equated = all_equated(alloc, rule.equals.as_slice(), end)?;
-    all_matched(alloc, rule.constraints.as_slice(), equated)
+    let inner = all_equated(alloc, rule.equals.as_slice(), end)?;
+    all_matched(alloc, rule.constraints.as_slice(), inner)
 }

@@ -10,10 +10,7 @@ use std::cmp::Reverse;
 pub fn in_order(alloc: Global, rules: &[FlatRule]) -> Result<Vec<&FlatRule>, AllocError>
     ensures { IfOk result (λ order. map (λ f. f.now) order.items ≡ by_priority rules.now) }
 {
-    let mut order = Vec::new(alloc);
-    for rule in rules {
-        order.push(rule)?;
-    }
+    let mut order: Vec<&FlatRule> = rules.iter().collect(alloc)?;
     order.sort_by_key(|rule| Reverse(rule.prio))?;
     Ok(order)
 }
