@@ -9,7 +9,9 @@ use Rattle.isle_sema.specs.Typing.{Typed, no_def}
 use Rattle.isle_target.specs.declared.tree.Function.{Function as CodeFunction}
 use Rattle.isle_target.specs.declared.tree.TraitFn.{TraitFn}
 use Rattle.isle_target.specs.declared.tree.TypeItem.{TypeItem}
+use Rattle.std.specs.List.{IsDistinct}
 use Rattle.isle_target.specs.Views.{program}
+use Rattle.isle_target.specs.WellFormed.{IsWellFormed}
 use Rattle.isle_codegen.specs.Emission.{IsGiven}
 use Rattle.isle_codegen.specs.Headline.{FunctionsMean}
 
@@ -31,3 +33,9 @@ rules_by no_def = refl
 -- no definition gives a term with rules
 pub no_rules : (ds : List Def) (env : Environment) → Typed ds env → with_rules env ≡ []
 no_rules ds env h = rules_by h
+
+-- a program without items is well formed
+pub well_formed_none : (allow : Bool) (trait_fns : List TraitFn) (types : List TypeItem) (fns : List CodeFunction) → trait_fns ≡ [] → types ≡ [] → fns ≡ []
+    → IsWellFormed (program (record { allow = allow; trait_fns = trait_fns; types = types; fns = fns }))
+unfolding IsDistinct
+well_formed_none allow trait_fns types fns a b c = rw (a, b, c) (record { trait_fns = tt; types = tt; fns = tt; distinct = tt })

@@ -6,3 +6,4 @@ pub mod Contained
 pub mod OutcomeOf
 pub mod PatternTests
 pub mod SetMeans
+pub mod SeesRules

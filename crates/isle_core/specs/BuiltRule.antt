@@ -1,5 +1,6 @@
 -- The forms of rules that are built.
-use Rattle.std.specs.Prelude.{◌≡◌, [], All}
+use Rattle.std.specs.Prelude.{◌≡◌, List, [], All, Contains}
+use Rattle.isle_base.specs.declared.ids.TypeId.{TypeId}
 use Rattle.isle_core.specs.Pattern as pattern
 use Rattle.isle_core.specs.Pattern.{Pattern}
 use Rattle.isle_core.specs.Expr as expr
@@ -26,3 +27,12 @@ pub record IsBuiltRule (r : Rule) : Type 0 where
   pub args : All IsBuiltPattern r.args
   pub iflets : r.iflets ≡ []
   pub rhs : IsBuiltExpr r.rhs
+
+-- a variable of a right side stands in a pattern
+abbrev pub IsBoundIn : List Pattern → Expr → Type 0
+IsBoundIn args (expr.Var ty x) = (of : TypeId) × Contains args (pattern.Var of x)
+IsBoundIn args e = Unit {0}
+
+-- so of a rule
+abbrev pub IsBoundRule : Rule → Type 0
+IsBoundRule r = IsBoundIn r.args r.rhs

@@ -1,4 +1,5 @@
 -- What contracts see of the code's rules and environments.
+use denote.Ref.{Bor}
 use Rattle.std.specs.Prelude.{List, [], ◌∷◌, map}
 use Rattle.isle_core.specs.declared.rules.Pattern.{Pattern as CodePattern}
 use Rattle.isle_core.specs.declared.rules.Pattern.TheOpen.{Pattern-F}
@@ -82,3 +83,7 @@ rule r = record { id = r.id; root_term = r.root_term; args = map pattern r.args;
 -- the environment of the types and the terms
 abbrev pub environment : TypeEnv → TermEnv → Environment
 environment types terms = record { types = types; terms = terms.terms; rules = map rule terms.rules; converters = terms.converters }
+
+-- rules behind references
+abbrev pub rules : List (Bor CodeRule) → List Rule
+rules rs = map (λ (r : Bor CodeRule). rule r.now) rs

@@ -1,1 +1,7 @@
 pub mod TypedOnce
+pub mod NumberingLaws
+pub mod DraftLaws
+pub mod RuleTests
+pub mod RuleSetLaws
+pub mod GroupingLaws
+pub mod SampleRule

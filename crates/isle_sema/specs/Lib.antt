@@ -1,1 +1,5 @@
 pub mod Typing
+pub mod Numbering
+pub mod Drafts
+pub mod FlatRules
+pub mod Grouping

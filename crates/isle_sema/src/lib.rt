@@ -1,8 +1,16 @@
 //! From definitions to environments: symbols, types, terms and rules.
 #![tactic(auto)]
 
+mod draft;
+mod flat_rules;
+mod grouping;
+mod numbering;
+#[cfg(test)]
+mod rule_set_tests;
 #[cfg(test)]
 mod tests;
 mod typing;
 
+pub use flat_rules::rule_set;
+pub use grouping::rule_sets;
 pub use typing::{EnvError, term_env_from_ast, type_env_from_ast};

@@ -1,2 +1,17 @@
 pub mod Scans
 pub mod SpeltOnce
+pub mod Exact
+pub mod Running
+pub mod Combine
+pub mod Fuel
+pub mod WordForms
+pub mod Definitions
+pub mod Files
+pub mod Boundaries
+pub mod Digits
+pub mod Wrapped
+pub mod Steps
+pub mod Sees
+pub mod ListSteps
+pub mod DefinitionSteps
+pub mod FileSteps

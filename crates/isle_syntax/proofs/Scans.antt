@@ -15,7 +15,8 @@ unfolding step
 tokens_fold [] s = omega arith
 tokens_fold (b ∷ bs) s = omega (arith, tokens_fold bs (step s b), length-append s.tokens (ended s.state s.at b))
 
-scan-at : (text : List ℕ) → (scan text).at ≡ length text
+-- every byte was counted
+pub scan-at : (text : List ℕ) → (scan text).at ≡ length text
 scan-at text = omega (arith, at_fold text (record { tokens = []; state = Between; at = 0 }))
 
 at_take : (text : List ℕ) (i : ℕ) → i ≤ length text → (scan (take i text)).at ≡ i

@@ -1,6 +1,16 @@
 pub mod Tree
 pub mod Views
 pub mod Token
+pub mod Lexeme
+pub mod Integer
+pub mod Word
+pub mod Grammar
+pub mod Reader
+pub mod Reading
 pub mod Spelling
+pub mod Cuts
+pub mod TokenViews
+pub mod WordViews
+pub mod ReadingViews
 pub mod LexerViews
 pub mod Lexer

@@ -1,5 +1,5 @@
 -- A rule text as tokens, by a fold over its bytes.
-use Rattle.std.specs.Prelude.{◌≡◌, ℕ, zero, suc, ◌+◌, List, [], ◌∷◌, ◌++◌, length, Bool, true, false, ◌==◌, ◌||◌, not, if◌then◌else◌, Option, Some, None, fold}
+use Rattle.std.specs.Prelude.{◌≡◌, ℕ, zero, suc, ◌+◌, List, [], ◌∷◌, ◌++◌, Bool, true, false, ◌==◌, ◌||◌, not, if◌then◌else◌, Option, Some, None, fold}
 
 -- a token by the bytes that it takes, from the first up to the one behind it
 pub record Tok : Type 0 where

@@ -1,10 +1,15 @@
-ghost use Rattle.std.specs.Prelude.{◌≡◌, ◌≤◌, ◌<◌, ◌+◌, ◌↔◌, ℕ, None, Some, Bool, true, false, not, [], IsTrue, IfOk, IfErr, length};
+ghost use Rattle.std.specs.Prelude.{◌≡◌, ◌≤◌, ◌<◌, ◌+◌, ◌++◌, map, IfOk, IfErr, OnOk, IsTrue, Some};
 ghost use Rattle.std.specs.Str.{IsUtf8};
-ghost use Rattle.isle_syntax.specs.Token.{is_blank, is_single, is_word_byte, begun, seen_after, in_comment, ends, next, pending, scan, tokens_of, unclosed, IsClosed, IsToken};
+ghost use Rattle.isle_syntax.specs.Token.{is_blank, is_single, is_word_byte, begun, seen_after, in_comment, ends, ended, next, pending, scan, unclosed, IsClosed};
+ghost use Rattle.isle_syntax.specs.Cuts.{PendingIsCut};
+ghost use Rattle.isle_syntax.specs.Lexeme.{lexeme, lexemes};
 ghost use Rattle.isle_syntax.specs.LexerViews.{state, seen, outer_of};
 ghost use Rattle.isle_syntax.specs.Lexer.{lexer_file, lexer_text};
+ghost use Rattle.isle_syntax.specs.TokenViews.{tokens_seen};
 
+use crate::token::{Token, token_at};
 use isle_core::Pos;
+use std::alloc::{AllocError, Global};
 
 /// What the byte before was, in a comment that may nest.
 #[derive(Clone, Copy, Debug, PartialEq, Eq)]
@@ -125,25 +130,54 @@ fn ends(begin: State, byte: u8) -> bool
     }
 }
 
-/// Whether a token was begun.
-fn is_token(begin: State) -> bool
-    ensures { IsTrue result ↔ IsToken (state begin) }
+/// Adds the token that was begun, where it ends before this place.
+fn push_pending<'a>(
+    tokens: &mut Vec<Token<'a>>,
+    text: &'a str,
+    begin: State,
+    at: usize,
+) -> Result<(), AllocError>
+    requires { PendingIsCut text.now (state begin) at }
+    ensures { OnOk result (tokens_seen tokens.new.items ≡ tokens_seen tokens.old.items ++ map (lexeme text.now) (pending (state begin) at)) }
 {
-    matches!(begin, State::Word(_) | State::Open(_) | State::Single(_))
+    match begin {
+        State::Word(from) => tokens.push(token_at(text, from, at))?,
+        State::Open(from) | State::Single(from) => tokens.push(token_at(text, from, from + 1))?,
+        State::Between | State::Line | State::Comment(..) => (),
+    }
+    Ok(())
 }
 
-/// Whether a text has no token.
-fn is_blank_text(text: &[u8]) -> bool
-    ensures { IsTrue result ↔ (tokens_of text.now ≡ []) }
+/// Adds the token that the byte at this place ends.
+fn push_ended<'a>(
+    tokens: &mut Vec<Token<'a>>,
+    text: &'a str,
+    begin: State,
+    at: usize,
+    byte: u8,
+) -> Result<(), AllocError>
+    requires { IsTrue (ends (state begin) byte) → PendingIsCut text.now (state begin) at }
+    ensures { OnOk result (tokens_seen tokens.new.items ≡ tokens_seen tokens.old.items ++ map (lexeme text.now) (ended (state begin) at byte)) }
 {
+    if ends(begin, byte) {
+        push_pending(tokens, text, begin, at)
+    } else {
+        Ok(())
+    }
+}
+
+/// The tokens of a text, in order.
+fn tokens_in(alloc: Global, text: &str) -> Result<Vec<Token<'_>>, AllocError>
+    ensures { IfOk result (λ tokens. tokens_seen tokens.items ≡ lexemes text.now) }
+{
+    let mut tokens = Vec::new(alloc);
     let mut begin = State::Between;
-    for (at, byte) in text.iter().enumerate() {
-        if ends(begin, *byte) {
-            return false;
-        }
+    for (at, byte) in text.as_bytes().iter().enumerate() {
+        push_ended(&mut tokens, text, begin, at, *byte)?;
         begin = next(begin, at, *byte);
     }
-    !is_token(begin)
+    push_pending(&mut tokens, text, begin, text.len())?;
+    Ok(tokens)
 }
 
 /// The reader of a text, in which every comment ends.
@@ -166,11 +200,18 @@ impl<'a> Lexer<'a> {
         }
     }
 
-    /// Whether the text has no token.
-    pub fn is_blank(&self) -> bool
-        ensures blank { IsTrue result ↔ (tokens_of (lexer_text self.now) ≡ []) }
+    /// The number of the file.
+    pub(crate) fn file(&self) -> usize
+        ensures { result ≡ lexer_file self.now }
+    {
+        self.file
+    }
+
+    /// The tokens of the text, in order.
+    pub(crate) fn tokens(&self, alloc: Global) -> Result<Vec<Token<'a>>, AllocError>
+        ensures tokens { IfOk result (λ tokens. tokens_seen tokens.items ≡ lexemes (lexer_text self.now)) }
         ensures utf8 { IsUtf8 (lexer_text self.now) }
     {
-        is_blank_text(self.text.as_bytes())
+        tokens_in(alloc, self.text)
     }
 }

@@ -1,11 +1,16 @@
-ghost use Rattle.std.specs.Prelude.{◌≡◌, List, Err, IfOk};
+ghost use Rattle.std.specs.Prelude.{◌≡◌, List, Err, IfOk, IfErr};
 ghost use Rattle.isle_syntax.specs.Tree.{Def as PureDef};
 ghost use Rattle.isle_syntax.specs.Views.{defs};
 ghost use Rattle.isle_syntax.specs.Lexer.{lexer_file, lexer_text};
+ghost use Rattle.isle_syntax.specs.Lexeme.{lexemes};
+ghost use Rattle.isle_syntax.specs.Grammar.{FileS};
+ghost use Rattle.isle_syntax.specs.Reading.{file_of};
+ghost use Rattle.isle_syntax.specs.ReadingViews.{Refuses};
 ghost use Rattle.isle_syntax.specs.Spelling.{Spells};
 ghost use Rattle.isle_syntax.specs.Token.{IsClosed};
 
 use crate::lexer::Lexer;
+use crate::reading::{Fail, Tokens};
 use crate::tree::Def;
 use std::alloc::Global;
 
@@ -17,17 +22,26 @@ pub enum ParseFail {
     Memory,
 }
 
+/// The definitions that the reader's tokens spell.
+fn definitions(alloc: Global, lexer: Lexer<'_>) -> Result<Vec<Def>, Fail>
+    ensures got { IfOk result (λ read. FileS (lexer_file lexer.entry) (lexemes (lexer_text lexer.entry)) (defs read.items)) }
+    ensures refused { IfErr result (λ fail. Refuses fail (file_of (lexer_file lexer.entry) (lexemes (lexer_text lexer.entry)))) }
+{
+    let tokens = lexer.tokens(alloc)?;
+    Tokens::new(tokens.as_slice()).definitions(alloc, tokens.len(), lexer.file())
+}
+
 /// The definitions that the reader's text spells, in order. `NotYet` comes exactly where no definitions of the forms
-/// that are built are spelt. No form of a definition is built: a text of blanks and comments spells none.
+/// that are built are spelt: `decl` without flags, and `rule` without conditions whose right side is one word.
 pub fn parse(alloc: Global, lexer: Lexer<'_>) -> Result<Vec<Def>, ParseFail>
     requires { IsClosed (lexer_text lexer) }
     ensures ok { IfOk result (λ read. Spells (lexer_file lexer.entry) (lexer_text lexer.entry) (defs read.items)) }
     ensures only { IfOk result (λ read. (others : List PureDef) → Spells (lexer_file lexer.entry) (lexer_text lexer.entry) others → others ≡ defs read.items) }
     ensures not_yet { result ≡ Err ParseFail.NotYet → (others : List PureDef) → Spells (lexer_file lexer.entry) (lexer_text lexer.entry) others → ⊥ }
 {
-    if lexer.is_blank() {
-        Ok(Vec::new(alloc))
-    } else {
-        Err(ParseFail::NotYet)
+    match definitions(alloc, lexer) {
+        Ok(read) => Ok(read),
+        Err(Fail::At(_)) => Err(ParseFail::NotYet),
+        Err(Fail::Memory) => Err(ParseFail::Memory),
     }
 }

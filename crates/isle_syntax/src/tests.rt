@@ -1,6 +1,6 @@
-//! What a text reads as, worked out by hand from the rules of blanks and comments.
+//! What a text reads as, worked out by hand from the lexical rules and the grammar.
 
-use crate::{Lexer, ParseFail, parse};
+use crate::{AstExpr, AstPattern, Def, Lexer, ParseFail, parse};
 use std::alloc::Global;
 use std::test::Fail;
 
@@ -48,6 +48,46 @@ fn spells_none(rt: HostRuntime) {
 }
 
 #[test]
+fn spells_definitions(rt: HostRuntime) {
+    let cases = [
+        ("(decl f () u8)", 1),
+        ("(decl f (u8 u16) bool)", 1),
+        ("(decl _ (_) true)", 1),
+        ("(decl and (let) if)", 1),
+        ("(decl decl (pure) rec)", 1),
+        ("(decl \u{e9} () u8!)", 1),
+        ("(rule (f) 1)", 1),
+        ("(rule n (f) true)", 1),
+        ("(rule 5 (f x) x)", 1),
+        ("(rule n -0x1 (f x) x)", 1),
+        ("(rule _ (f) _)", 1),
+        ("(rule true 0 (f) false)", 1),
+        ("(rule rule (rule) rule)", 1),
+        ("(rule pure (multi) 1)", 1),
+        ("(rule (and) 1)", 1),
+        ("(rule (let x) 1)", 1),
+        ("(rule (f 1 true false _ x -2) E.V)", 1),
+        ("(rule (f x$ +1 .5) a-b)", 1),
+        ("(rule 9223372036854775807 (f) 0)", 1),
+        ("(rule -9223372036854775808 (f) 0)", 1),
+        ("(rule 0xffffffff_ffffffff_ffffffff_ffffffff (f) 0)", 1),
+        ("(rule -340282366920938463463374607431768211455 (f) 0)", 1),
+        ("(decl f()u8)(rule(f)1)", 2),
+        ("(decl f () u8)\r\n\t(decl g () u8) ", 2),
+        ("( ; a\n decl f ; b)\n () u8);", 1),
+        ("(decl (;(;;);) f (; ;) () u8)", 1),
+        ("(;;)(rule (f) 1)(;;)(rule (f) 2)(;;)", 2),
+    ];
+    for (text, count) in cases {
+        assert_eq!(rt;
+            read(rt.alloc(), 7, text),
+            Reading::Defs(count),
+            "at {text:?}"
+        );
+    }
+}
+
+#[test]
 fn is_not_built(rt: HostRuntime) {
     let texts = [
         "\u{c}",
@@ -58,15 +98,51 @@ fn is_not_built(rt: HostRuntime) {
         "<",
         ">",
         "word",
-        "foo;bar",
-        "\u{e9}",
         "\u{a0}",
         "( ;x",
-        "(decl X (u8) u8)",
         "; a line\nx",
         "(; a ;) b",
-        "(; ;))",
         "(;;)(",
+        "(type A (enum B))",
+        "(extern constructor f g)",
+        "(spec a)",
+        "(decl pure (u8) u8)",
+        "(decl pure f (u8) u8)",
+        "(decl rec () u8)",
+        "(decl $x () u8)",
+        "(decl $ () u8)",
+        "(decl 1 () u8)",
+        "(decl f (-) u8)",
+        "(decl f () $x)",
+        "(decl f u8)",
+        "(decl f ())",
+        "(decl f () u8 u8)",
+        "(decl f () u8",
+        "(decl f () u8))",
+        "((decl f () u8))",
+        "(decl f @ u8)",
+        "(decl f () (u8))",
+        "(decl f < > u8)",
+        "(Decl f () u8)",
+        "(rule (f) (g))",
+        "(rule (f) (if x) 1)",
+        "(rule (f) $c)",
+        "(rule (f $c) 1)",
+        "(rule (f (g)) 1)",
+        "(rule (f x @ y) 1)",
+        "(rule (f))",
+        "(rule (f) 1 2)",
+        "(rule () 1)",
+        "(rule f 1)",
+        "(rule 1 n (f) 1)",
+        "(rule n m (f) 1)",
+        "(rule 1 2 (f) 1)",
+        "(rule ($f) 1)",
+        "(rule (1) 1)",
+        "(rule $n (f) 1)",
+        "(rule 9223372036854775808 (f) 0)",
+        "(rule -9223372036854775809 (f) 0)",
+        "(rule 340282366920938463463374607431768211456 (f) 0)",
     ];
     for text in texts {
         assert_eq!(rt;
@@ -99,5 +175,111 @@ fn never_ends(rt: HostRuntime) {
             Reading::Unclosed(7, offset),
             "at {text:?}"
         );
+    }
+}
+
+/// The integer that a text of one rule has as its right side.
+fn right_side(alloc: Global, text: &str) -> Option<i128> {
+    let lexer = Lexer::new(0, text).ok()?;
+    let defs = parse(alloc, lexer).ok()?;
+    match defs.first()? {
+        Def::Rule {
+            rhs: AstExpr::Int(value),
+            ..
+        } => Some(*value),
+        _ => None,
+    }
+}
+
+#[test]
+fn spells_integers(rt: HostRuntime) {
+    let cases = [
+        ("(rule (f) 0)", Some(0)),
+        ("(rule (f) -0)", Some(0)),
+        ("(rule (f) 007)", Some(7)),
+        ("(rule (f) 1_)", Some(1)),
+        ("(rule (f) -1__0)", Some(-10)),
+        ("(rule (f) 0x1F)", Some(31)),
+        ("(rule (f) 0x_fF_)", Some(255)),
+        ("(rule (f) 0o17)", Some(15)),
+        ("(rule (f) 0b1_01)", Some(5)),
+        ("(rule (f) -0x10)", Some(-16)),
+        (
+            "(rule (f) 170141183460469231731687303715884105727)",
+            Some(i128::MAX),
+        ),
+        (
+            "(rule (f) 170141183460469231731687303715884105728)",
+            Some(i128::MIN),
+        ),
+        (
+            "(rule (f) -170141183460469231731687303715884105728)",
+            Some(i128::MIN),
+        ),
+        (
+            "(rule (f) -170141183460469231731687303715884105729)",
+            Some(i128::MAX),
+        ),
+        (
+            "(rule (f) 340282366920938463463374607431768211455)",
+            Some(-1),
+        ),
+        (
+            "(rule (f) -340282366920938463463374607431768211455)",
+            Some(1),
+        ),
+        ("(rule (f) 340282366920938463463374607431768211456)", None),
+        ("(rule (f) 0x1_00000000_00000000_00000000_00000000)", None),
+        ("(rule (f) -)", None),
+        ("(rule (f) --1)", None),
+        ("(rule (f) -_1)", None),
+        ("(rule (f) 0x)", None),
+        ("(rule (f) 0x_)", None),
+        ("(rule (f) -0b)", None),
+        ("(rule (f) 0b2)", None),
+        ("(rule (f) 0o8)", None),
+        ("(rule (f) 0X1)", None),
+        ("(rule (f) 1f)", None),
+        ("(rule (f) 0x-1)", None),
+    ];
+    for (text, value) in cases {
+        assert_eq!(rt; right_side(rt.alloc(), text), value, "at {text:?}");
+    }
+}
+
+/// What a text of one rule has as name, priority, term, number of arguments and place, where its last argument is a
+/// variable; the name is left out where there is none.
+fn parts(alloc: Global, text: &str) -> Option<(bool, i64, usize, usize)> {
+    let lexer = Lexer::new(3, text).ok()?;
+    let defs = parse(alloc, lexer).ok()?;
+    match defs.first()? {
+        Def::Rule {
+            name,
+            prio,
+            term,
+            args,
+            pos,
+            ..
+        } => match args.as_slice().last()? {
+            AstPattern::Var(var) if var.as_str() == term.as_str() => {
+                Some((name.is_some(), *prio, pos.file, pos.offset))
+            }
+            _ => None,
+        },
+        _ => None,
+    }
+}
+
+#[test]
+fn keeps_parts(rt: HostRuntime) {
+    let cases = [
+        ("(rule (f _ f) 1)", Some((false, 0, 3, 0))),
+        (" (rule n -0x7 (f f) 1)", Some((true, -7, 3, 1))),
+        ("\u{e9}", None),
+        ("(;;)\n(rule 12 (\u{e9} \u{e9}) 1)", Some((false, 12, 3, 5))),
+        ("(rule (f g) 1)", None),
+    ];
+    for (text, found) in cases {
+        assert_eq!(rt; parts(rt.alloc(), text), found, "at {text:?}");
     }
 }

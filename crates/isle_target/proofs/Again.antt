@@ -1,15 +1,29 @@
 -- What a program is spelled as is read as that program, and as no other.
-use Rattle.std.proofs.Common.{◌≡◌, ℕ, List, [], ◌∷◌, ◌++◌, Bool, true, false, Some, None, refl, sym, ap, ◌∙◌, append_assoc}
+use Rattle.std.proofs.Common.{◌≡◌, ℕ, zero, suc, ◌+◌, ◌<◌, ◌≤◌, List, [], ◌∷◌, ◌++◌, length, length-append, Bool, true, false, Some, None, refl, sym, ap, ◌∙◌, append_assoc, subst, arith}
+use Rattle.std.specs.Prelude.{codes}
 use Rattle.std.specs.List.{AllByRecursion, list_all}
 use Rattle.std.proofs.lemmas.Bool.{and_parts}
-use Rattle.std.proofs.lemmas.List.{append-nil}
 use Rattle.isle_ink.specs.Token.{Token, Word, Mark, Quoted, Stray, step, begun, tokens_of}
-use Rattle.isle_ink.proofs.Bytes.{same_bytes_refl}
+use Rattle.isle_ink.proofs.Bytes.{same_bytes_refl, same_bytes_sound}
 use Rattle.isle_target.specs.Fixed.{allow_tokens, uses_tokens, fixed_tokens}
-use Rattle.isle_target.specs.Spelling.{allow_part, trait_head, close, program_tokens}
-use Rattle.isle_target.specs.Program.{Program}
-use Rattle.isle_target.specs.WellFormed.{IsTraitFn, IsTypeItem, IsFunction, IsWellFormed}
-use Rattle.isle_target.specs.Reading.{same_token, phrase, read_items, read_program, program_of, SpellsOnly}
+use Rattle.isle_ink.specs.Number.{numeral}
+use Rattle.isle_ink.specs.Bytes.{same_bytes}
+use Rattle.isle_core.specs.Int.{wrapped}
+use Rattle.isle_target.proofs.Words.{literal_apart}
+use Rattle.isle_ink.proofs.Readback.{numeral_again}
+use Rattle.isle_core.specs.declared.types.ReturnKind.{ReturnKind}
+use Rattle.isle_core.specs.declared.types.ReturnKind.TheVariants as kind
+use Rattle.isle_target.specs.declared.tree.Ty.{Ty}
+use Rattle.isle_target.specs.declared.tree.Operand.{Operand}
+use Rattle.isle_target.specs.declared.tree.Operand.TheVariants as operand
+use Rattle.isle_target.specs.declared.tree.Read.TheVariants as read
+use Rattle.isle_target.specs.declared.tree.TExpr.{TExpr}
+use Rattle.isle_target.specs.declared.tree.TExpr.TheVariants as expr
+use Rattle.isle_target.specs.Spelling.{operand_tokens, expr_tokens, stmt_tokens, body_tokens, constructor_word, no_rule, params_tokens, result_tokens, if_eq_head, function_head, function_tokens, functions_tokens, allow_part, trait_head, close, program_tokens}
+use Rattle.isle_target.specs.Program.{Stmt, Let, IfEq, Return, Tail, Body, Done, Then, Function, Program}
+use Rattle.isle_target.specs.WellFormed.{IsOperand, IsExpr, IsStmt, IsBody, IsBuiltin, IsTy, IsKind, IsTraitFn, IsTypeItem, IsFunction, IsWellFormed}
+use Rattle.isle_target.specs.Reading.{same_token, phrase, at, read_expr, read_stmt, read_body, read_params, read_result, read_function, read_functions, read_items, read_program, program_of, SpellsOnly}
+use Rattle.isle_target.proofs.Words.{operand_again}
 
 -- whether a token is none of those that no program has
 abbrev pub is_whole : Token → Bool
@@ -50,49 +64,161 @@ uses_apart : (ts : List Token) → phrase allow_tokens (uses_tokens ++ ts) ≡ N
 unfolding allow_tokens uses_tokens step begun
 uses_apart ts = refl
 
+-- ---- statements
+
+-- an operand does not begin as an option does
+operand_apart : (o : Operand) (ts : List Token) → IsOperand o → at (Word (codes "Some")) (operand_tokens o ++ ts) ≡ false
+operand_apart (operand.Local n) ts h = refl
+operand_apart (operand.Arg n) ts h = refl
+operand_apart (operand.Bool true) ts h = refl
+operand_apart (operand.Bool false) ts h = refl
+operand_apart (operand.Int ty z) ts h = literal_apart ty (wrapped ty z) ts
+operand_apart (operand.Raw z) ts h = absurd h
+operand_apart (operand.Name w) ts h = absurd h
+
+-- what is computed is read again
+pub expr_again : (e : TExpr) (ts : List Token) → IsExpr e → read_expr (expr_tokens e ++ ts) ≡ Some (e, ts)
+unfolding read_expr
+expr_again (expr.Read (read.Plain o)) ts h = rw (operand_apart o ts h, operand_again o ts h) refl
+expr_again (expr.Some (read.Plain o)) ts h = rw (append_assoc (operand_tokens o) (Mark (codes ")") ∷ []) ts, operand_again o (Mark (codes ")") ∷ ts) h) refl
+expr_again e ts h = absurd h
+
+-- a statement begins with a word that ends no body, and has a token
+stmt_begins : (s : Stmt) (ts : List Token) → IsStmt s → at (Mark (codes "}")) (stmt_tokens s ++ ts) ≡ false
+stmt_begins (Let n e) ts h = refl
+stmt_begins (IfEq a b inside) ts h = refl
+stmt_begins (Return e) ts h = refl
+stmt_begins (Tail None) ts h = refl
+stmt_begins (Tail (Some texts)) ts h = refl
+stmt_begins s ts h = absurd h
+
+stmt_some : (s : Stmt) → IsStmt s → 0 < length (stmt_tokens s)
+stmt_some (Let n e) h = omega arith
+stmt_some (IfEq a b inside) h = omega arith
+stmt_some (Return e) h = omega arith
+stmt_some (Tail None) h = omega arith
+stmt_some (Tail (Some texts)) h = omega arith
+stmt_some s h = absurd h
+
+mutual
+  unfolding read_body no_rule
+
+  -- a statement is read again
+  pub stmt_again : (s : Stmt) (n : ℕ) (ts : List Token) → IsStmt s → length (stmt_tokens s) ≤ n → read_stmt (read_body n) (stmt_tokens s ++ ts) ≡ Some (s, ts)
+  stmt_again (Let k e) n ts h le = rw (append_assoc (expr_tokens e) (Mark (codes ";") ∷ []) ts, numeral_again 10 k (omega arith) (omega arith), expr_again e (Mark (codes ";") ∷ ts) h) refl
+  stmt_again (IfEq a b inside) n ts h le =
+      let after = body_tokens inside ++ (close ++ ts) in
+      let flat : (if_eq_head a b ++ (body_tokens inside ++ close)) ++ ts ≡ Word (codes "if") ∷ (operand_tokens a ++ Mark (codes "==") ∷ (operand_tokens b ++ Mark (codes "{") ∷ after)) = simp append_assoc in
+      let fuel : length (body_tokens inside) < n = omega (arith, le, length-append (if_eq_head a b) (body_tokens inside ++ close), length-append (body_tokens inside) close) in
+      rw (flat, operand_again a (Mark (codes "==") ∷ (operand_tokens b ++ Mark (codes "{") ∷ after)) h.0, operand_again b (Mark (codes "{") ∷ after) h.1, body_again inside n ts h.2 fuel) refl
+  stmt_again (Return e) n ts h le = rw (append_assoc (expr_tokens e) (Mark (codes ";") ∷ []) ts, expr_again e (Mark (codes ";") ∷ ts) h) refl
+  stmt_again (Tail None) n ts h le = refl
+  stmt_again (Tail (Some texts)) n ts h le = refl
+  stmt_again s n ts h le = absurd h
+
+  -- statements are read again up to the } behind them
+  pub body_again : (b : Body) (n : ℕ) (ts : List Token) → IsBody b → length (body_tokens b) < n → read_body n (body_tokens b ++ (close ++ ts)) ≡ Some (b, close ++ ts)
+  body_again Done zero ts h le = absurd (omega arith)
+  body_again Done (suc n) ts h le = refl
+  body_again (Then s ss) zero ts h le = absurd (omega arith)
+  body_again (Then s ss) (suc n) ts h le =
+      let l = length-append (stmt_tokens s) (body_tokens ss) in
+      rw (append_assoc (stmt_tokens s) (body_tokens ss) (close ++ ts), stmt_begins s (body_tokens ss ++ (close ++ ts)) h.0, stmt_again s n (body_tokens ss ++ (close ++ ts)) h.0 (omega (arith, l)), body_again ss n ts h.1 (omega (arith, l, stmt_some s h.0))) refl
+
+-- ---- functions
+
+-- a type is told by its name
+type_again : (ty : Ty) → IsTy ty → record { by_ref = false; name = ty.name } ≡ ty
+type_again ty h = sym (λ i. record { by_ref = h.0 i; name = ty.name })
+
+params_again : (k n : ℕ) (tys : List Ty) (ts : List Token) → AllByRecursion IsTy tys → length tys < k → read_params k n (params_tokens n tys ++ ts) ≡ Some (tys, ts)
+unfolding read_params
+params_again zero n tys ts h lt = absurd (omega arith)
+params_again (suc k) n [] ts h lt = refl
+params_again (suc k) n (ty ∷ tys) ts h lt =
+    rw (same_bytes_refl (numeral 10 n), params_again k (n + 1) tys ts h.1 (omega arith), type_again ty h.0) refl
+
+length-params : (n : ℕ) (tys : List Ty) → length tys < length (params_tokens n tys)
+length-params n [] = omega arith
+length-params n (ty ∷ tys) = omega (arith, length-params (n + 1) tys)
+
+-- no builtin type is named Option
+not_option : (name : List ℕ) → IsBuiltin name → same_bytes (codes "Option") name ≡ false
+not_option name h = by_test (same_bytes (codes "Option") name) refl
+  where
+    by_test : (b : Bool) → same_bytes (codes "Option") name ≡ b → b ≡ false
+    by_test false e = refl
+    by_test true e =
+        let none : IsBuiltin (codes "Option") = subst IsBuiltin (sym (same_bytes_sound (codes "Option") name e)) h in
+        absurd cc
+
+result_again : (how : ReturnKind) (name : List ℕ) (ts : List Token) → IsKind how → IsBuiltin name → read_result (result_tokens how name ++ ts) ≡ Some ((how, name), ts)
+unfolding read_result
+result_again kind.Plain name ts h b = rw (not_option name b) refl
+result_again kind.Option name ts h b = refl
+result_again kind.Iterator name ts h b = absurd h
+
+-- a function is read again
+pub function_again : (p : Program) (f : Function) (ts : List Token) → IsFunction p f → read_function (function_tokens f ++ ts) ≡ Some (f, ts)
+unfolding read_function constructor_word function_tokens
+function_again p f ts h =
+    let inside = body_tokens f.body ++ (close ++ ts) in
+    let braced = Mark (codes "->") ∷ (result_tokens f.kind f.result ++ Mark (codes "{") ∷ inside) in
+    let flat : function_tokens f ++ ts ≡ function_head f.term ++ (params_tokens 0 f.params ++ braced) = simp append_assoc in
+    let fuel : length f.params < length (params_tokens 0 f.params ++ braced) = omega (arith, length-append (params_tokens 0 f.params) braced, length-params 0 f.params) in
+    let long : length (body_tokens f.body) < length inside = omega (arith, length-append (body_tokens f.body) (close ++ ts)) in
+    ap read_function flat
+    ∙ rw (params_again (length (params_tokens 0 f.params ++ braced)) 0 f.params braced h.names.params fuel, result_again f.kind f.result (Mark (codes "{") ∷ inside) h.kind h.names.result, body_again f.body (length inside) ts h.forms long) refl
+
+-- functions are read again
+pub functions_again : (p : Program) (n : ℕ) (fs : List Function) → AllByRecursion (IsFunction p) fs → length (functions_tokens fs) ≤ n → read_functions n (functions_tokens fs) ≡ Some fs
+unfolding read_functions function_tokens
+functions_again p n [] h le = refl
+functions_again p zero (f ∷ fs) h le = absurd (omega (arith, length-append (function_tokens f) (functions_tokens fs)))
+functions_again p (suc n) (f ∷ fs) h le =
+    let l = length-append (function_tokens f) (functions_tokens fs) in
+    rw (function_again p f (functions_tokens fs) h.0, functions_again p n fs h.1 (omega (arith, l))) refl
+
 -- ---- the program
 
 -- the tokens from the uses on
-items : List Token
-items = uses_tokens ++ (trait_head ++ (close ++ fixed_tokens))
+items : List Function → List Token
+items fs = uses_tokens ++ (trait_head ++ (close ++ (fixed_tokens ++ functions_tokens fs)))
 
--- a program with nothing of its own
-bare : Bool → Program
-bare allow = record { allow = allow; trait_fns = []; types = []; fns = [] }
+-- a program with only these functions of its own
+made_of : Bool → List Function → Program
+made_of allow fs = record { allow = allow; trait_fns = []; types = []; fns = fs }
 
-fixed_again : phrase fixed_tokens fixed_tokens ≡ Some []
-fixed_again = ap (phrase fixed_tokens) (sym (append-nil fixed_tokens)) ∙ phrase_again fixed_tokens [] fixed_whole
+items_again : (p : Program) (allow : Bool) (fs : List Function) → AllByRecursion (IsFunction p) fs → read_items (allow, items fs) ≡ Some (made_of allow fs)
+unfolding items made_of
+items_again p allow fs h =
+    rw (phrase_again uses_tokens (trait_head ++ (close ++ (fixed_tokens ++ functions_tokens fs))) uses_whole, phrase_again fixed_tokens (functions_tokens fs) fixed_whole, functions_again p (length (functions_tokens fs)) fs h (omega arith)) refl
 
-items_again : (allow : Bool) → read_items (allow, items) ≡ Some (bare allow)
-unfolding items bare
-items_again allow = rw (phrase_again uses_tokens (trait_head ++ (close ++ fixed_tokens)) uses_whole, fixed_again) refl
-
-items_apart : phrase allow_tokens items ≡ None
+items_apart : (fs : List Function) → phrase allow_tokens (items fs) ≡ None
 unfolding items
-items_apart = uses_apart (trait_head ++ (close ++ fixed_tokens))
+items_apart fs = uses_apart (trait_head ++ (close ++ (fixed_tokens ++ functions_tokens fs)))
 
-bare_again : (allow : Bool) → read_program (allow_part allow ++ items) ≡ Some (bare allow)
+made_again : (p : Program) (allow : Bool) (fs : List Function) → AllByRecursion (IsFunction p) fs → read_program (allow_part allow ++ items fs) ≡ Some (made_of allow fs)
 unfolding read_program
-bare_again true = rw (phrase_again allow_tokens items allow_whole) (items_again true)
-bare_again false = rw items_apart (items_again false)
+made_again p true fs h = rw (phrase_again allow_tokens (items fs) allow_whole) (items_again p true fs h)
+made_again p false fs h = rw (items_apart fs) (items_again p false fs h)
 
 none : {A : Type 0} (P : A → Type 0) → ((a : A) → P a → ⊥) → (xs : List A) → AllByRecursion P xs → xs ≡ []
 none P never [] all = refl
 none P never (x ∷ xs) all = absurd (never x all.0)
 
--- a well-formed program has nothing of its own
-bare_if_well_formed : (p : Program) → IsWellFormed p → bare p.allow ≡ p
-unfolding bare
-bare_if_well_formed p h =
+-- a well-formed program has only functions of its own
+made_if_well_formed : (p : Program) → IsWellFormed p → made_of p.allow p.fns ≡ p
+unfolding made_of
+made_if_well_formed p h =
     let no_fns = none IsTraitFn (λ f e. e) p.trait_fns h.trait_fns in
     let no_types = none IsTypeItem (λ t e. e) p.types h.types in
-    let no_functions = none (IsFunction p) (λ f e. e) p.fns h.fns in
-    sym (λ i. record { allow = p.allow; trait_fns = no_fns i; types = no_types i; fns = no_functions i })
+    sym (λ i. record { allow = p.allow; trait_fns = no_fns i; types = no_types i; fns = p.fns })
 
 -- what is spelled is read again
 pub program_again : (p : Program) → IsWellFormed p → read_program (program_tokens p) ≡ Some p
 unfolding items
-program_again p h = bare_again p.allow ∙ ap Some (bare_if_well_formed p h)
+program_again p h = made_again p p.allow p.fns h.fns ∙ ap Some (made_if_well_formed p h)
 
 -- a text of the program's tokens spells it and no other
 pub spells_only : (text : List ℕ) (p : Program) → IsWellFormed p → tokens_of text ≡ program_tokens p → SpellsOnly text p
@@ -103,19 +229,19 @@ spells_only text p h e =
       only = λ q s. let other = s.reads in cc;
     }
 
--- what a printer has printed behind the head, the trait and the fixed items
-pub printed_program : (p : Program) (text : List ℕ) (fresh head body whole : List Token)
-    → IsWellFormed p
+-- what a printer has printed behind the head, the trait, the fixed items and the functions
+pub printed_program : (p : Program) (text : List ℕ) (fresh head body whole all : List Token)
     → fresh ≡ []
     → head ≡ fresh ++ (allow_part p.allow ++ uses_tokens)
     → body ≡ head ++ (trait_head ++ close)
     → whole ≡ body ++ fixed_tokens
-    → tokens_of text ≡ whole
-    → SpellsOnly text p
-printed_program p text fresh head body whole h e1 e2 e3 e4 e5 =
-    spells_only text p h
-    (e5
-    ∙ e4
-    ∙ ap (λ l. l ++ fixed_tokens) e3
-    ∙ ap (λ l. (l ++ (trait_head ++ close)) ++ fixed_tokens) (e2 ∙ ap (λ l. l ++ (allow_part p.allow ++ uses_tokens)) e1)
-    ∙ simp append_assoc)
+    → all ≡ whole ++ functions_tokens p.fns
+    → tokens_of text ≡ all
+    → tokens_of text ≡ program_tokens p
+printed_program p text fresh head body whole all e1 e2 e3 e4 e5 e6 =
+    e6
+    ∙ e5
+    ∙ ap (λ l. l ++ functions_tokens p.fns) e4
+    ∙ ap (λ l. (l ++ fixed_tokens) ++ functions_tokens p.fns) e3
+    ∙ ap (λ l. ((l ++ (trait_head ++ close)) ++ fixed_tokens) ++ functions_tokens p.fns) (e2 ∙ ap (λ l. l ++ (allow_part p.allow ++ uses_tokens)) e1)
+    ∙ simp append_assoc

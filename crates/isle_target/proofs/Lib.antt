@@ -1,4 +1,12 @@
 pub mod Wraps
 pub mod Literals
+pub mod Sees
+pub mod Apart
+pub mod Functions
+pub mod Ending
+pub mod Places
+pub mod TypeNames
+pub mod Prints
+pub mod Signs
+pub mod Words
 pub mod Again
-pub mod Empty

@@ -5,4 +5,5 @@ pub mod Fixed
 pub mod Spelling
 pub mod WellFormed
 pub mod Reading
+pub mod Bound
 pub mod Run

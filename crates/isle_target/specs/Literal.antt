@@ -1,7 +1,7 @@
 -- How a number of a builtin integer type is spelled.
 use Rattle.std.specs.Prelude.{ℕ, suc, ℤ, pos, negsuc, List, [], ◌∷◌, ◌++◌, ◌==◌, ◌&&◌, codes, if◌then◌else◌, Option, Some, None}
 use Rattle.std.specs.Int.{cast_signed}
-use Rattle.isle_core.specs.Int.{is_signed, width}
+use Rattle.isle_core.specs.Int.{is_signed, width, wrapped}
 use Rattle.isle_core.specs.declared.types.IntType.{IntType}
 use Rattle.isle_core.specs.declared.types.IntType.TheVariants.{U8, U16, U32, U64, U128, USize, I8, I16, I32, I64, I128, ISize}
 use Rattle.isle_ink.specs.Token.{Token, Word, Mark}
@@ -44,6 +44,11 @@ literal_tokens ty (negsuc n) = Mark (codes "-") ∷ Word (literal_word ty (suc n
 -- the number that a type's bits stand for
 abbrev pub of_bits : IntType → ℕ → ℤ
 of_bits ty n = if is_signed ty then cast_signed (width ty) n else pos n
+
+-- a number of the type as a value holds it: u128 as its 128 signed bits
+abbrev pub held : IntType → ℤ → ℤ
+held U128 n = wrapped I128 n
+held ty n = n
 
 -- ---- reading a magnitude with its type
 

@@ -1,10 +1,23 @@
 -- Reading a text as a program: its tokens from left to right, each form told by the next few.
-use Rattle.std.specs.Prelude.{◌≡◌, ℕ, List, [], ◌∷◌, Bool, true, false, Option, Some, None, if◌then◌else◌}
+use Rattle.std.specs.Prelude.{◌≡◌, ℕ, zero, suc, ◌+◌, ℤ, pos, negsuc, List, [], ◌∷◌, ◌++◌, length, Bool, true, false, ◌==◌, ◌&&◌, nat_le, Option, Some, None, codes, if◌then◌else◌}
+use Rattle.std.specs.Ordering.{int_eq}
+use Rattle.isle_core.specs.Int.{wrapped}
+use Rattle.isle_core.specs.declared.types.IntType.{IntType}
+use Rattle.isle_core.specs.declared.types.ReturnKind.{ReturnKind}
+use Rattle.isle_core.specs.declared.types.ReturnKind.TheVariants as kind
 use Rattle.isle_ink.specs.Token.{Token, Word, Mark, Quoted, tokens_of}
 use Rattle.isle_ink.specs.Bytes.{same_bytes}
+use Rattle.isle_ink.specs.Number.{numeral_of}
+use Rattle.isle_target.specs.declared.tree.Ty.{Ty}
+use Rattle.isle_target.specs.declared.tree.Operand.{Operand}
+use Rattle.isle_target.specs.declared.tree.Operand.TheVariants as operand
+use Rattle.isle_target.specs.declared.tree.Read.TheVariants as read
+use Rattle.isle_target.specs.declared.tree.TExpr.{TExpr}
+use Rattle.isle_target.specs.declared.tree.TExpr.TheVariants as expr
 use Rattle.isle_target.specs.Fixed.{allow_tokens, uses_tokens, fixed_tokens}
-use Rattle.isle_target.specs.Spelling.{trait_head, close}
-use Rattle.isle_target.specs.Program.{Program}
+use Rattle.isle_target.specs.Literal.{literal_of, held}
+use Rattle.isle_target.specs.Spelling.{param_token, generics, context_param, trait_head, close, no_rule, unreachable_head}
+use Rattle.isle_target.specs.Program.{Stmt, Let, IfEq, Return, Tail, Body, Done, Then, Function, Program}
 use Rattle.isle_target.specs.WellFormed.{IsWellFormed}
 
 infixl 10 ◌>>=◌
@@ -15,6 +28,8 @@ None >>= f = None
 -- what is read, and the tokens behind it
 abbrev pub Reads : Type 0 → Type 0
 Reads A = Option (A × List Token)
+
+-- ---- tokens
 
 -- whether two tokens are one
 abbrev pub same_token : Token → Token → Bool
@@ -29,15 +44,246 @@ phrase [] ts = Some ts
 phrase (p ∷ ps) [] = None
 phrase (p ∷ ps) (t ∷ ts) = if same_token p t then phrase ps ts else None
 
+-- whether the next token is this one
+abbrev pub at : Token → List Token → Bool
+at t [] = false
+at t (u ∷ us) = same_token t u
+
+-- the tokens behind the next
+abbrev pub rest : List Token → List Token
+rest [] = []
+rest (t ∷ ts) = ts
+
+-- the tokens behind this one
+abbrev pub behind : Token → List Token → Option (List Token)
+behind t ts = if at t ts then Some (rest ts) else None
+
+-- the next token, a word
+abbrev pub any_word : List Token → Reads (List ℕ)
+any_word (Word w ∷ ts) = Some (w, ts)
+any_word ts = None
+
+-- the next token, a text between quotes
+abbrev pub any_quoted : List Token → Reads (List ℕ)
+any_quoted (Quoted s ∷ ts) = Some (s, ts)
+any_quoted ts = None
+
+-- ---- words
+
+-- what stands behind the prefix
+abbrev pub behind_prefix : List ℕ → List ℕ → Option (List ℕ)
+behind_prefix [] w = Some w
+behind_prefix (p ∷ ps) [] = None
+behind_prefix (p ∷ ps) (b ∷ bs) = if p == b then behind_prefix ps bs else None
+
+-- the number behind a prefix
+abbrev pub numbered : List ℕ → List ℕ → Option ℕ
+numbered prefix w = behind_prefix prefix w >>= numeral_of 10
+
+-- the first that is there
+abbrev pub or_else : {A : Type 0} → Option A → Option A → Option A
+or_else None o = o
+or_else (Some x) o = Some x
+
+-- a truth
+abbrev pub truth_of : List ℕ → Option Bool
+truth_of w = if same_bytes (codes "true") w then Some true else (if same_bytes (codes "false") w then Some false else None)
+
+-- an operand by one of its readings
+abbrev pub made : {A : Type 0} → (A → Operand) → Option A → Option Operand
+made make o = o >>= (λ x. Some (make x))
+
+-- a local, a parameter, or a truth
+abbrev pub named : List ℕ → Option Operand
+named w =
+    or_else (made operand.Local (numbered (codes "v") w))
+    (or_else (made operand.Arg (numbered (codes "arg") w)) (made operand.Bool (truth_of w)))
+
+-- whether a word begins as a number does
+abbrev pub is_number : List ℕ → Bool
+is_number [] = false
+is_number (b ∷ bs) = nat_le 48 b && nat_le b 57
+
+-- the integer, where the type has this number
+abbrev pub number_at : IntType → ℤ → Option Operand
+number_at ty n = let z = held ty n in if int_eq (wrapped ty z) n then Some (operand.Int ty z) else None
+
+-- the integer of this type and magnitude
+abbrev pub positive : IntType × ℕ → Option Operand
+positive l = number_at l.0 (pos l.1)
+
+-- the integer of this type and magnitude behind a minus, which 0 has not
+abbrev pub negative : IntType × ℕ → Option Operand
+negative (ty, zero) = None
+negative (ty, suc n) = number_at ty (negsuc n)
+
+-- ---- what stands for a value
+
+-- an operand of one word
+abbrev pub read_word : List Token → Reads Operand
+read_word ts = do
+  w ← any_word ts
+  o ← if is_number w.0 then literal_of w.0 >>= positive else named w.0
+  Some (o, w.1)
+
+-- an integer, from behind its minus on
+abbrev pub read_negative : List Token → Reads Operand
+read_negative ts = do
+  w ← any_word ts
+  l ← literal_of w.0
+  o ← negative l
+  Some (o, w.1)
+
+-- an operand
+unfoldable pub read_operand : List Token → Reads Operand
+read_operand ts = if at (Mark (codes "-")) ts then read_negative (rest ts) else read_word ts
+
+-- a read operand
+abbrev pub read_plain : List Token → Reads TExpr
+read_plain ts = do
+  o ← read_operand ts
+  Some (expr.Read (read.Plain o.0), o.1)
+
+-- an option of a read operand
+abbrev pub read_some : List Token → Reads TExpr
+read_some ts = do
+  ts1 ← behind (Mark (codes "(")) ts
+  o ← read_operand ts1
+  ts2 ← behind (Mark (codes ")")) o.1
+  Some (expr.Some (read.Plain o.0), ts2)
+
+-- what a let or a return computes
+unfoldable pub read_expr : List Token → Reads TExpr
+read_expr ts = if at (Word (codes "Some")) ts then read_some (rest ts) else read_plain ts
+
+-- ---- statements, from behind their first word on, given how to read a body
+
+-- let
+abbrev pub read_let : List Token → Reads Stmt
+read_let ts = do
+  w ← any_word ts
+  n ← numbered (codes "v") w.0
+  ts1 ← behind (Mark (codes "=")) w.1
+  e ← read_expr ts1
+  ts2 ← behind (Mark (codes ";")) e.1
+  Some (Let n e.0, ts2)
+
+-- return
+abbrev pub read_return : List Token → Reads Stmt
+read_return ts = do
+  e ← read_expr ts
+  ts1 ← behind (Mark (codes ";")) e.1
+  Some (Return e.0, ts1)
+
+-- a body and what closes it
+abbrev pub read_inside : {A : Type 0} → (List Token → Reads Body) → (Body → A) → List Token → Reads A
+read_inside body make ts = do
+  inside ← body ts
+  ts1 ← behind (Mark (codes "}")) inside.1
+  Some (make inside.0, ts1)
+
+-- if
+abbrev pub read_if_eq : (List Token → Reads Body) → List Token → Reads Stmt
+read_if_eq body ts = do
+  a ← read_operand ts
+  ts1 ← behind (Mark (codes "==")) a.1
+  b ← read_operand ts1
+  ts2 ← behind (Mark (codes "{")) b.1
+  read_inside body (IfEq a.0 b.0) ts2
+
+-- unreachable
+abbrev pub read_unreachable : List Token → Reads Stmt
+read_unreachable ts = do
+  ts1 ← phrase (rest unreachable_head ++ Quoted no_rule ∷ Mark (codes ",") ∷ []) ts
+  term ← any_quoted ts1
+  ts2 ← behind (Mark (codes ",")) term.1
+  place ← any_quoted ts2
+  ts3 ← behind (Mark (codes ")")) place.1
+  Some (Tail (Some (term.0, place.0)), ts3)
+
+-- a statement
+abbrev pub read_stmt : (List Token → Reads Body) → List Token → Reads Stmt
+read_stmt body ts =
+    if at (Word (codes "let")) ts then read_let (rest ts)
+    else (if at (Word (codes "if")) ts then read_if_eq body (rest ts)
+    else (if at (Word (codes "return")) ts then read_return (rest ts)
+    else (if at (Word (codes "None")) ts then Some (Tail None, rest ts)
+    else (if at (Word (codes "unreachable")) ts then read_unreachable (rest ts)
+    else None))))
+
+-- one statement more
+abbrev pub read_then : (List Token → Reads Body) → List Token → Reads Body
+read_then body ts = do
+  s ← read_stmt body ts
+  ss ← body s.1
+  Some (Then s.0 ss.0, ss.1)
+
+-- statements up to the } behind them, at most this many
+unfoldable pub read_body : ℕ → List Token → Reads Body
+read_body zero ts = None
+read_body (suc n) ts = if at (Mark (codes "}")) ts then Some (Done, ts) else read_then (read_body n) ts
+
+-- ---- items
+
+-- one parameter more, the n-th, given how to read those behind it
+abbrev pub read_param : ℕ → (List Token → Reads (List Ty)) → List Token → Reads (List Ty)
+read_param n params ts = do
+  ts1 ← behind (param_token n) ts
+  ts2 ← behind (Mark (codes ":")) ts1
+  ty ← any_word ts2
+  ts3 ← behind (Mark (codes ",")) ty.1
+  more ← params ts3
+  Some (record { by_ref = false; name = ty.0 } ∷ more.0, more.1)
+
+-- the parameters from number n on, and the ) behind them, at most so many
+unfoldable pub read_params : ℕ → ℕ → List Token → Reads (List Ty)
+read_params zero n ts = None
+read_params (suc k) n ts = if at (Mark (codes ")")) ts then Some ([], rest ts) else read_param n (read_params k (n + 1)) ts
+
+-- the type of a plain result
+abbrev pub read_plain_result : List Token → Reads (ReturnKind × List ℕ)
+read_plain_result ts = do
+  w ← any_word ts
+  Some ((kind.Plain, w.0), w.1)
+
+-- the type of an option
+abbrev pub read_option_result : List Token → Reads (ReturnKind × List ℕ)
+read_option_result ts = do
+  ts1 ← behind (Mark (codes "<")) ts
+  w ← any_word ts1
+  ts2 ← behind (Mark (codes ">")) w.1
+  Some ((kind.Option, w.0), ts2)
+
+-- how often a function answers, and what type
+unfoldable pub read_result : List Token → Reads (ReturnKind × List ℕ)
+read_result ts = if at (Word (codes "Option")) ts then read_option_result (rest ts) else read_plain_result ts
+
+-- a function
+unfoldable pub read_function : List Token → Reads Function
+read_function ts = do
+  ts1 ← phrase (Word (codes "pub") ∷ Word (codes "fn") ∷ []) ts
+  w ← any_word ts1
+  term ← behind_prefix (codes "constructor_") w.0
+  ts2 ← phrase (generics ++ context_param) w.1
+  params ← read_params (length ts2) 0 ts2
+  ts3 ← behind (Mark (codes "->")) params.1
+  r ← read_result ts3
+  ts4 ← behind (Mark (codes "{")) r.1
+  read_inside (read_body (length ts4)) (λ b. record { term = term; params = params.0; result = r.0.1; kind = r.0.0; body = b }) ts4
+
+-- functions up to the last token, at most so many
+unfoldable pub read_functions : ℕ → List Token → Option (List Function)
+read_functions n [] = Some []
+read_functions zero (t ∷ ts) = None
+read_functions (suc n) (t ∷ ts) = do
+  f ← read_function (t ∷ ts)
+  fs ← read_functions n f.1
+  Some (f.0 ∷ fs)
+
 -- whether the allow lines stand here, and the tokens behind them
 abbrev pub after_allow : Option (List Token) → List Token → Bool × List Token
 after_allow (Some rest) ts = (true, rest)
 after_allow None ts = (false, ts)
-
--- the program of these allow lines, where no token is left
-abbrev pub read_end : Bool → List Token → Option Program
-read_end allow [] = Some (record { allow = allow; trait_fns = []; types = []; fns = [] })
-read_end allow (t ∷ ts) = None
 
 -- a program, from its uses on
 abbrev pub read_items : Bool × List Token → Option Program
@@ -46,7 +292,8 @@ read_items start = do
   ts2 ← phrase trait_head ts1
   ts3 ← phrase close ts2
   ts4 ← phrase fixed_tokens ts3
-  read_end start.0 ts4
+  fs ← read_functions (length ts4) ts4
+  Some (record { allow = start.0; trait_fns = []; types = []; fns = fs })
 
 -- the program that the tokens spell, or none
 unfoldable pub read_program : List Token → Option Program

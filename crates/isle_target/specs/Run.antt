@@ -1,37 +1,111 @@
--- What the function of a term does.
-use Rattle.std.specs.Prelude.{◌≡◌, ℕ, List, [], ◌∷◌, ◌++◌, Option, Some, None, if◌then◌else◌}
-use Rattle.isle_core.specs.Value.{Value, Made, End, Ran}
+-- What the function of a term does, by cases on the forms of statements.
+use Rattle.std.specs.Prelude.{ℕ, List, [], ◌∷◌, ◌++◌, ◌==◌, Option, Some, None, slice_get, fold, if◌then◌else◌}
+use Rattle.isle_core.specs.Value.{Value, Truth, Int, Made, End, Gives, GivesSome, GivesNone, IsUnreachable, Ran}
+use Rattle.isle_core.specs.SameValue.{same_value}
 use Rattle.isle_core.specs.Meaning.{Meaning}
 use Rattle.isle_ink.specs.Bytes.{same_bytes}
-use Rattle.isle_target.specs.Program.{Stmt, Body, Done, Then, Function, Program}
+use Rattle.isle_target.specs.declared.tree.Operand.{Operand}
+use Rattle.isle_target.specs.declared.tree.Operand.TheVariants as operand
+use Rattle.isle_target.specs.declared.tree.Read.{Read}
+use Rattle.isle_target.specs.declared.tree.Read.TheVariants as read
+use Rattle.isle_target.specs.declared.tree.TExpr.{TExpr}
+use Rattle.isle_target.specs.declared.tree.TExpr.TheVariants as expr
+use Rattle.isle_target.specs.Program.{Stmt, Let, IfEq, Return, Tail, Body, Done, Then, Function, Program}
 
--- what a local holds
+-- what each local holds, the newest last
 abbrev pub Env : Type 0
 Env = List (ℕ × Value)
 
--- how statements end: they go on to what follows, or the function ends
+-- how statements end: they go on to what follows, the function ends, or what is read isn't there
 pub data Flow : Type 0 where
   Goes : Env → List Made → Flow
   Ends : End → List Made → Flow
+  Stuck : Flow
+
+-- ---- values
+
+-- what is bound last counts
+abbrev pub newer : ℕ → Option Value → ℕ × Value → Option Value
+newer n v bound = if bound.0 == n then Some bound.1 else v
+
+-- the value of a local
+abbrev pub look : Env → ℕ → Option Value
+look env n = fold (newer n) None env
+
+-- a local more
+abbrev pub bind : Env → ℕ → Value → Env
+bind env n v = env ++ (n, v) ∷ []
+
+-- the value of an operand, with the arguments of the function
+abbrev pub value_of : List Value → Env → Operand → Option Value
+value_of args env (operand.Local n) = look env n
+value_of args env (operand.Arg n) = slice_get args n
+value_of args env (operand.Bool b) = Some (Truth b)
+value_of args env (operand.Int ty z) = Some (Int ty z)
+value_of args env o = None
+
+-- the value that is read
+abbrev pub read_value : List Value → Env → Read → Option Value
+read_value args env (read.Plain o) = value_of args env o
+read_value args env r = None
+
+-- what follows a value, where there is one
+abbrev pub on_value : Option Value → (Value → Flow) → Flow
+on_value (Some v) go = go v
+on_value None go = Stuck
+
+-- ---- statements
 
 -- what follows goes on from there
 abbrev pub then_run : Flow → (Env → List Made → Flow) → Flow
 then_run (Goes env made) go = go env made
 then_run (Ends end made) go = Ends end made
+then_run Stuck go = Stuck
 
--- one statement, with the arguments of the function; no form of statement is built
-abbrev pub run_stmt : Meaning → List Value → Stmt → Env → List Made → Flow
-run_stmt m args s env made = Goes env made
+-- what was bound inside is gone behind it
+abbrev pub behind : Env → Flow → Flow
+behind env (Goes inner made) = Goes env made
+behind env (Ends end made) = Ends end made
+behind env Stuck = Stuck
 
--- statements in order
-abbrev pub run_body : Meaning → List Value → Body → Env → List Made → Flow
-run_body m args Done env made = Goes env made
-run_body m args (Then s ss) env made = then_run (run_stmt m args s env made) (run_body m args ss)
+-- a let binds the value that is read
+abbrev pub run_let : List Value → ℕ → TExpr → Env → List Made → Flow
+run_let args n (expr.Read r) env made = on_value (read_value args env r) (λ v. Goes (bind env n v) made)
+run_let args n e env made = Stuck
 
--- the end of a function; a body that goes on behind its last statement has none
+-- a return gives the value that is read, or an option of it
+abbrev pub run_return : List Value → TExpr → Env → List Made → Flow
+run_return args (expr.Read r) env made = on_value (read_value args env r) (λ v. Ends (Gives v) made)
+run_return args (expr.Some r) env made = on_value (read_value args env r) (λ v. Ends (GivesSome v) made)
+run_return args e env made = Stuck
+
+-- a tail gives nothing, or is not to be reached
+abbrev pub tail_end : Option (List ℕ × List ℕ) → End
+tail_end None = GivesNone
+tail_end (Some texts) = IsUnreachable
+
+-- a statement, and statements in order, with the arguments of the function
+abbrev mutual
+  pub run_stmt : Meaning → List Value → Stmt → Env → List Made → Flow
+  run_stmt m args (Let n e) env made = run_let args n e env made
+  run_stmt m args (IfEq a b inside) env made =
+      on_value (value_of args env a) (λ v. on_value (value_of args env b) (λ w.
+      if same_value v w then behind env (run_body m args inside env made) else Goes env made))
+  run_stmt m args (Return e) env made = run_return args e env made
+  run_stmt m args (Tail texts) env made = Ends (tail_end texts) made
+  run_stmt m args s env made = Stuck
+
+  pub run_body : Meaning → List Value → Body → Env → List Made → Flow
+  run_body m args Done env made = Goes env made
+  run_body m args (Then s ss) env made = then_run (run_stmt m args s env made) (run_body m args ss)
+
+-- ---- functions
+
+-- the end of a function; a body that goes on behind its last statement, or is stuck, has none
 abbrev pub ended : Flow → Option Ran
 ended (Goes env made) = None
 ended (Ends end made) = Some (record { end = end; calls = made })
+ended Stuck = None
 
 -- the function of a term
 abbrev pub function_of : List ℕ → List Function → Option Function

@@ -1,8 +1,149 @@
--- The tokens of a program.
-use Rattle.std.specs.Prelude.{List, [], ◌∷◌, ◌++◌, Bool, true, false, codes}
-use Rattle.isle_ink.specs.Token.{Token, Word, Mark}
+-- The tokens of a program. A form that is not built has none.
+use Rattle.std.specs.Prelude.{ℕ, ◌+◌, List, [], ◌∷◌, ◌++◌, Bool, true, false, Option, Some, None, codes}
+use Rattle.isle_core.specs.Int.{wrapped}
+use Rattle.isle_core.specs.declared.types.ReturnKind.{ReturnKind}
+use Rattle.isle_core.specs.declared.types.ReturnKind.TheVariants as kind
+use Rattle.isle_ink.specs.Token.{Token, Word, Mark, Quoted}
+use Rattle.isle_ink.specs.Number.{numeral}
+use Rattle.isle_target.specs.declared.tree.Ty.{Ty}
+use Rattle.isle_target.specs.declared.tree.Operand.{Operand}
+use Rattle.isle_target.specs.declared.tree.Operand.TheVariants as operand
+use Rattle.isle_target.specs.declared.tree.Read.{Read}
+use Rattle.isle_target.specs.declared.tree.Read.TheVariants as read
+use Rattle.isle_target.specs.declared.tree.TExpr.{TExpr}
+use Rattle.isle_target.specs.declared.tree.TExpr.TheVariants as expr
 use Rattle.isle_target.specs.Fixed.{allow_tokens, uses_tokens, fixed_tokens}
-use Rattle.isle_target.specs.Program.{Program}
+use Rattle.isle_target.specs.Literal.{literal_tokens}
+use Rattle.isle_target.specs.Program.{Stmt, Let, IfEq, Return, Tail, Body, Done, Then, Function, Program}
+
+-- ---- what stands for a value
+
+-- a local
+abbrev pub local_token : ℕ → Token
+local_token n = Word (codes "v" ++ numeral 10 n)
+
+-- a parameter
+abbrev pub param_token : ℕ → Token
+param_token n = Word (codes "arg" ++ numeral 10 n)
+
+-- a truth
+abbrev pub truth_token : Bool → Token
+truth_token true = Word (codes "true")
+truth_token false = Word (codes "false")
+
+-- an operand; an integer is spelled as its type's number, which u128 holds as its signed bits
+abbrev pub operand_tokens : Operand → List Token
+operand_tokens (operand.Local n) = local_token n ∷ []
+operand_tokens (operand.Arg n) = param_token n ∷ []
+operand_tokens (operand.Bool b) = truth_token b ∷ []
+operand_tokens (operand.Int ty z) = literal_tokens ty (wrapped ty z)
+operand_tokens o = []
+
+-- an operand as it is read
+abbrev pub read_tokens : Read → List Token
+read_tokens (read.Plain o) = operand_tokens o
+read_tokens r = []
+
+-- what a let or a return computes
+abbrev pub expr_tokens : TExpr → List Token
+expr_tokens (expr.Read r) = read_tokens r
+expr_tokens (expr.Some r) = Word (codes "Some") ∷ Mark (codes "(") ∷ (read_tokens r ++ Mark (codes ")") ∷ [])
+expr_tokens e = []
+
+-- ---- statements
+
+-- what a block or an item ends with
+abbrev pub close : List Token
+close = Mark (codes "}") ∷ []
+
+-- let v0 = EXPR;
+abbrev pub let_tokens : ℕ → TExpr → List Token
+let_tokens n e = Word (codes "let") ∷ local_token n ∷ Mark (codes "=") ∷ (expr_tokens e ++ Mark (codes ";") ∷ [])
+
+-- return EXPR;
+abbrev pub return_tokens : TExpr → List Token
+return_tokens e = Word (codes "return") ∷ (expr_tokens e ++ Mark (codes ";") ∷ [])
+
+-- if OP == OP {
+abbrev pub if_eq_head : Operand → Operand → List Token
+if_eq_head a b = Word (codes "if") ∷ (operand_tokens a ++ Mark (codes "==") ∷ (operand_tokens b ++ Mark (codes "{") ∷ []))
+
+-- what is said where no rule of a term that must answer matches
+unfoldable pub no_rule : List ℕ
+no_rule = codes "no rule matched for term {} at {}; should it be partial?"
+
+-- unreachable!(
+abbrev pub unreachable_head : List Token
+unreachable_head = Word (codes "unreachable") ∷ Mark (codes "!") ∷ Mark (codes "(") ∷ []
+
+-- "no rule ..", "TERM", "PLACE")
+abbrev pub texts_tokens : List ℕ → List ℕ → List Token
+texts_tokens term place = Quoted no_rule ∷ Mark (codes ",") ∷ Quoted term ∷ Mark (codes ",") ∷ Quoted place ∷ Mark (codes ")") ∷ []
+
+-- the last statement of a function whose rules may not match
+abbrev pub tail_tokens : Option (List ℕ × List ℕ) → List Token
+tail_tokens None = Word (codes "None") ∷ []
+tail_tokens (Some texts) = unreachable_head ++ texts_tokens texts.0 texts.1
+
+-- statements, one behind the other
+abbrev mutual
+  pub stmt_tokens : Stmt → List Token
+  stmt_tokens (Let n e) = let_tokens n e
+  stmt_tokens (IfEq a b inside) = if_eq_head a b ++ (body_tokens inside ++ close)
+  stmt_tokens (Return e) = return_tokens e
+  stmt_tokens (Tail texts) = tail_tokens texts
+  stmt_tokens s = []
+
+  pub body_tokens : Body → List Token
+  body_tokens Done = []
+  body_tokens (Then s ss) = stmt_tokens s ++ body_tokens ss
+
+-- ---- items
+
+-- the name of a term's function
+unfoldable pub constructor_word : List ℕ → List ℕ
+constructor_word term = codes "constructor_" ++ term
+
+-- <C: Context>
+abbrev pub generics : List Token
+generics = Mark (codes "<") ∷ Word (codes "C") ∷ Mark (codes ":") ∷ Word (codes "Context") ∷ Mark (codes ">") ∷ []
+
+-- (ctx: &mut C,
+abbrev pub context_param : List Token
+context_param =
+    Mark (codes "(") ∷ Word (codes "ctx") ∷ Mark (codes ":") ∷ Mark (codes "&") ∷ Word (codes "mut") ∷ Word (codes "C") ∷ Mark (codes ",") ∷ []
+
+-- pub fn, the function's name, and its context
+abbrev pub function_head : List ℕ → List Token
+function_head term = Word (codes "pub") ∷ Word (codes "fn") ∷ Word (constructor_word term) ∷ (generics ++ context_param)
+
+-- the n-th parameter with its type
+abbrev pub param_tokens : ℕ → Ty → List Token
+param_tokens n ty = param_token n ∷ Mark (codes ":") ∷ Word ty.name ∷ Mark (codes ",") ∷ []
+
+-- the parameters from number n on
+abbrev pub params_tokens : ℕ → List Ty → List Token
+params_tokens n [] = Mark (codes ")") ∷ []
+params_tokens n (ty ∷ tys) = param_tokens n ty ++ params_tokens (n + 1) tys
+
+-- what a function gives
+abbrev pub result_tokens : ReturnKind → List ℕ → List Token
+result_tokens kind.Plain ty = Word ty ∷ []
+result_tokens kind.Option ty = Word (codes "Option") ∷ Mark (codes "<") ∷ Word ty ∷ Mark (codes ">") ∷ []
+result_tokens kind.Iterator ty = []
+
+-- -> RESULT {
+abbrev pub result_part : ReturnKind → List ℕ → List Token
+result_part kind ty = Mark (codes "->") ∷ (result_tokens kind ty ++ Mark (codes "{") ∷ [])
+
+-- the function of a term
+unfoldable pub function_tokens : Function → List Token
+function_tokens f = function_head f.term ++ (params_tokens 0 f.params ++ (result_part f.kind f.result ++ (body_tokens f.body ++ close)))
+
+-- the functions in order
+abbrev pub functions_tokens : List Function → List Token
+functions_tokens [] = []
+functions_tokens (f ∷ fs) = function_tokens f ++ functions_tokens fs
 
 -- the allow lines, where the program has them
 abbrev pub allow_part : Bool → List Token
@@ -13,10 +154,7 @@ allow_part false = []
 abbrev pub trait_head : List Token
 trait_head = Word (codes "pub") ∷ Word (codes "trait") ∷ Word (codes "Context") ∷ Mark (codes "{") ∷ []
 
--- what it ends with
-abbrev pub close : List Token
-close = Mark (codes "}") ∷ []
-
--- the allow lines, the uses, the trait, the fixed items
+-- the allow lines, the uses, the trait, the fixed items, the functions
 abbrev pub program_tokens : Program → List Token
-program_tokens p = allow_part p.allow ++ (uses_tokens ++ (trait_head ++ (close ++ fixed_tokens)))
+program_tokens p =
+    allow_part p.allow ++ (uses_tokens ++ (trait_head ++ (close ++ (fixed_tokens ++ functions_tokens p.fns))))

@@ -1,12 +1,63 @@
 //! Which programs have a text.
 
-ghost use Rattle.std.specs.Prelude.{IfOk, IsTrue, ◌↔◌};
-ghost use Rattle.isle_target.specs.Views.{program};
-ghost use Rattle.isle_target.specs.WellFormed.{IsWellFormed};
+ghost use Rattle.std.specs.Prelude.{IfOk, IsTrue, ◌↔◌, map};
+ghost use Rattle.std.specs.List.{AllByRecursion};
+ghost use Rattle.isle_target.specs.Program.{Program as Target};
+ghost use Rattle.isle_target.specs.Views.{program, function};
+ghost use Rattle.isle_target.specs.WellFormed.{IsKind, IsFunction, IsWellFormed};
 
-use crate::tree::Program;
-use isle_core::OutOfMemory;
+use crate::bound::Bound;
+use crate::distinct::are_distinct;
+use crate::fits::fits_function;
+use crate::names::has_names;
+use crate::shapes::is_body;
+use crate::there::is_body_there;
+use crate::tree::{Function, Program};
+use isle_core::{OutOfMemory, ReturnKind};
 use std::alloc::Global;
+
+// Whether a function may answer so often.
+fn is_kind(kind: ReturnKind) -> bool
+    ensures { IsTrue result ↔ IsKind kind }
+{
+    match kind {
+        ReturnKind::Plain | ReturnKind::Option => true,
+        ReturnKind::Iterator => false,
+    }
+}
+
+// Whether a function is well formed, whatever else is in its program.
+fn is_function(alloc: Global, f: &Function) -> Result<bool, OutOfMemory>
+    ensures { IfOk result (λ b. (p : Target) → IsTrue b ↔ IsFunction p (function f.now)) }
+{
+    if !has_names(f) {
+        return Ok(false);
+    }
+    if !is_kind(f.kind) {
+        return Ok(false);
+    }
+    let stmts = f.body.as_slice();
+    if !is_body(stmts) {
+        return Ok(false);
+    }
+    if !fits_function(f.kind, stmts) {
+        return Ok(false);
+    }
+    let mut bound = Bound::new(alloc);
+    Ok(is_body_there(&mut bound, f.params.as_slice().len(), stmts)?)
+}
+
+// Whether all functions are.
+fn are_functions(alloc: Global, fns: &[Function]) -> Result<bool, OutOfMemory>
+    ensures { IfOk result (λ b. (p : Target) → IsTrue b ↔ AllByRecursion (IsFunction p) (map function fns.now)) }
+{
+    for f in fns {
+        if !is_function(alloc, f)? {
+            return Ok(false);
+        }
+    }
+    Ok(true)
+}
 
 /// Whether the program is well formed, and so can be printed. The only error is want of memory.
 pub fn well_formed(alloc: Global, p: &Program) -> Result<bool, OutOfMemory>
@@ -18,92 +69,9 @@ pub fn well_formed(alloc: Global, p: &Program) -> Result<bool, OutOfMemory>
     if !p.types.as_slice().is_empty() {
         return Ok(false);
     }
-    Ok(p.fns.as_slice().is_empty())
-}
-
-#[cfg(test)]
-mod tests {
-    use super::*;
-    use crate::tree::{Function, TFields, TraitFn, TypeBody, TypeItem};
-    use isle_core::{List, ReturnKind, Text};
-    use std::alloc::AllocError;
-    use std::test::Fail;
-
-    fn name(alloc: Global) -> Text {
-        Text::new(String::new(alloc))
+    let fns = p.fns.as_slice();
+    if !are_functions(alloc, fns)? {
+        return Ok(false);
     }
-
-    fn none<T>(alloc: Global) -> List<T> {
-        List::new(Vec::new(alloc))
-    }
-
-    fn trait_fns(alloc: Global) -> Result<List<TraitFn>, AllocError> {
-        let f = TraitFn {
-            name: name(alloc),
-            params: none(alloc),
-            results: none(alloc),
-            kind: ReturnKind::Plain,
-        };
-        Ok(List::new(vec![in alloc; f]?))
-    }
-
-    fn types(alloc: Global) -> Result<List<TypeItem>, AllocError> {
-        let item = TypeItem {
-            name: name(alloc),
-            debug: false,
-            body: TypeBody::Struct(TFields::Unit),
-        };
-        Ok(List::new(vec![in alloc; item]?))
-    }
-
-    fn functions(alloc: Global) -> Result<List<Function>, AllocError> {
-        let f = Function {
-            term: name(alloc),
-            params: none(alloc),
-            result: name(alloc),
-            kind: ReturnKind::Plain,
-            body: none(alloc),
-        };
-        Ok(List::new(vec![in alloc; f]?))
-    }
-
-    // What is said of the program of these items.
-    fn decided(
-        alloc: Global,
-        trait_fns: List<TraitFn>,
-        types: List<TypeItem>,
-        fns: List<Function>,
-    ) -> Result<bool, OutOfMemory> {
-        let p = Program {
-            allow: false,
-            trait_fns,
-            types,
-            fns,
-        };
-        well_formed(alloc, &p)
-    }
-
-    #[test]
-    fn refuses_what_is_not_built(rt: HostRuntime) -> Result<(), Fail> {
-        let alloc = rt.alloc();
-        let said = [
-            (decided(alloc, none(alloc), none(alloc), none(alloc))?, true),
-            (
-                decided(alloc, trait_fns(alloc)?, none(alloc), none(alloc))?,
-                false,
-            ),
-            (
-                decided(alloc, none(alloc), types(alloc)?, none(alloc))?,
-                false,
-            ),
-            (
-                decided(alloc, none(alloc), none(alloc), functions(alloc)?)?,
-                false,
-            ),
-        ];
-        for (is, want) in said {
-            assert_eq!(rt; is, want);
-        }
-        Ok(())
-    }
+    Ok(are_distinct(alloc, fns)?)
 }

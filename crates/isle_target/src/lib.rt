@@ -1,10 +1,21 @@
 //! Target programs: their trees, their text, and what they do.
 #![tactic(auto)]
 
+mod bound;
+mod distinct;
+mod fits;
 mod fixed;
 mod forms;
+mod function;
 mod literal;
+mod names;
+mod operand;
 mod print;
+mod shapes;
+mod statement;
+#[cfg(test)]
+mod tests;
+mod there;
 mod tree;
 
 pub use forms::well_formed;

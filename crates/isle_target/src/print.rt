@@ -5,10 +5,11 @@ ghost use Rattle.isle_ink.specs.Token.{tokens_of};
 ghost use Rattle.isle_target.specs.Views.{program};
 ghost use Rattle.isle_target.specs.WellFormed.{IsWellFormed};
 ghost use Rattle.isle_target.specs.Fixed.{uses_tokens, fixed_tokens};
-ghost use Rattle.isle_target.specs.Spelling.{allow_part, trait_head, close, program_tokens};
+ghost use Rattle.isle_target.specs.Spelling.{allow_part, trait_head, close, functions_tokens, program_tokens};
 ghost use Rattle.isle_target.specs.Reading.{SpellsOnly};
 
 use crate::fixed::{print_allow, print_fixed, print_uses};
+use crate::function::print_function;
 use crate::tree::Program;
 use isle_core::OutOfMemory;
 use isle_ink::Printer;
@@ -38,6 +39,17 @@ fn print_trait(out: &mut Printer) -> Result<(), AllocError>
     Ok(())
 }
 
+// The functions of a program.
+fn print_functions(out: &mut Printer, alloc: Global, p: &Program) -> Result<(), AllocError>
+    requires { IsWellFormed (program p.now) }
+    ensures { OnOk result (out.new ≡ out.old ++ functions_tokens (program p.now).fns) }
+{
+    for f in p.fns.as_slice() {
+        print_function(out, alloc, f)?;
+    }
+    Ok(())
+}
+
 /// The text of a well-formed program, which spells it and no other. The only error is want of memory.
 pub fn print_program(alloc: Global, p: &Program) -> Result<String, OutOfMemory>
     requires { IsWellFormed (program p.now) }
@@ -48,19 +60,19 @@ pub fn print_program(alloc: Global, p: &Program) -> Result<String, OutOfMemory>
     print_head(&mut out, p.allow)?;
     print_trait(&mut out)?;
     print_fixed(&mut out)?;
+    print_functions(&mut out, alloc, p)?;
     Ok(out.into_text())
 }
 
 #[cfg(test)]
 mod tests {
     use super::*;
+    use crate::well_formed;
     use isle_core::List;
     use std::test::Fail;
 
     // A program with nothing of its own.
-    fn bare(alloc: Global, allow: bool) -> Program
-        ensures { IsWellFormed (program result) }
-    {
+    fn bare(alloc: Global, allow: bool) -> Program {
         Program {
             allow,
             trait_fns: List::new(Vec::new(alloc)),
@@ -79,7 +91,10 @@ mod tests {
             (false, "use super::*;\n"),
         ];
         for (allow, head) in cases {
-            let text = print_program(rt.alloc(), &bare(rt.alloc(), allow))?;
+            let p = bare(rt.alloc(), allow);
+            let good = well_formed(rt.alloc(), &p)?;
+            assert!(rt; good);
+            let text = print_program(rt.alloc(), &p)?;
             assert!(rt; text.starts_with(head));
             assert!(rt; text.contains("\nuse core::marker::PhantomData;\n"));
             assert!(rt; text.contains("\npub trait Context {\n}\n"));

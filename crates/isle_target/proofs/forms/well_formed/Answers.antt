@@ -1,5 +1,12 @@
-use Rattle.std.proofs.Common.{sym}
-use Rattle.isle_target.proofs.Empty.{refused_trait_fns, refused_types, by_fns}
+use Rattle.std.proofs.Common.{List, map, subst, sym, Bool, true, false}
+use Rattle.std.specs.Prelude.{◌↔◌, IsTrue}
+use Rattle.std.specs.List.{AllByRecursion, IsDistinct}
+use Rattle.std.specs.Str.{bytes_eq}
+use Rattle.isle_target.specs.declared.tree.Function.{Function as CodeFunction}
+use Rattle.isle_target.specs.Program.{Program}
+use Rattle.isle_target.specs.Views.{function}
+use Rattle.isle_target.specs.WellFormed.{IsFunction, terms}
+use Rattle.isle_target.proofs.Functions.{refused_trait_fns, refused_types, refused_fns, by_names}
 use Rattle.isle_target.proofs.forms.well_formed.Goals as goal
 
 pub returns-then-not-is_empty : goal.returns-then-not-is_empty
@@ -10,6 +17,16 @@ pub returns-then-not-is_empty-2 : goal.returns-then-not-is_empty-2
 returns-then-not-is_empty-2 c =
     refused_types c.args.p.now (rw c.as_slice-2.ensures at (sym c.if-not-is_empty-2.ensures))
 
+-- whether the functions are well formed, in any program
+abbrev Decides : Bool → List CodeFunction → Type 0
+Decides b fns = (q : Program) → IsTrue b ↔ AllByRecursion (IsFunction q) (map function fns)
+
+pub returns-then-not-branch : goal.returns-then-not-branch
+returns-then-not-branch c =
+    refused_fns c.args.p.now (subst (Decides false) c.as_slice-fns.ensures (subst (λ b. Decides b c.as_slice-fns.result.now) c.if-not-branch.true c.in_ok-are_functions.ensures))
+
 pub returns : goal.returns
 returns c =
-    by_fns c.args.p.now c.is_empty-3.result (rw c.as_slice.ensures at (sym c.if-not-is_empty.ensures)) (rw c.as_slice-2.ensures at (sym c.if-not-is_empty-2.ensures)) (rw c.as_slice-3.ensures at (sym c.is_empty-3.ensures))
+    by_names c.args.p.now c.in_ok-are_distinct.field-0 (rw c.as_slice.ensures at (sym c.if-not-is_empty.ensures)) (rw c.as_slice-2.ensures at (sym c.if-not-is_empty-2.ensures))
+    (subst (Decides true) c.as_slice-fns.ensures (subst (λ b. Decides b c.as_slice-fns.result.now) c.if-not-branch.false c.in_ok-are_functions.ensures))
+    (subst (λ fns. IsTrue c.in_ok-are_distinct.field-0 ↔ IsDistinct bytes_eq (terms (map function fns))) c.as_slice-fns.ensures c.in_ok-are_distinct.ensures)

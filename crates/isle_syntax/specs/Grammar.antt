@@ -1,0 +1,57 @@
+-- The grammar: what the tokens begin with, and which tokens stand behind it. A constructor for each form.
+use Rattle.std.specs.Prelude.{◌≡◌, ℕ, ℤ, pos, List, [], ◌∷◌, Bool, false, Option, Some, None, FitsSigned, codes}
+use Rattle.std.specs.Int.{w64}
+use Rattle.isle_syntax.specs.Lexeme.{Lexeme, Open, Close, Word}
+use Rattle.isle_syntax.specs.Word.{kind, IsName, is_flag}
+use Rattle.isle_syntax.specs.Word as word
+use Rattle.isle_syntax.specs.Tree.{Pattern, Expr, Def}
+use Rattle.isle_syntax.specs.Tree as tree
+
+-- things of a kind, and the parenthesis behind them
+pub data Many {A : Type 0} (S : A → List Lexeme → List Lexeme → Type 0) : List A → List Lexeme → List Lexeme → Type 0 where
+  none : (at : ℕ) (ts : List Lexeme) → Many S [] (Close at ∷ ts) ts
+  more : (a : A) (others : List A) (ts mid rest : List Lexeme) → S a ts mid → Many S others mid rest → Many S (a ∷ others) ts rest
+
+-- N, T
+pub data NameS : List ℕ → List Lexeme → List Lexeme → Type 0 where
+  symbol : (at : ℕ) (w : List ℕ) (ts : List Lexeme) → IsName w → NameS w (Word at w ∷ ts) ts
+
+-- P
+pub data PatternS : Pattern → List Lexeme → List Lexeme → Type 0 where
+  int : (at : ℕ) (w : List ℕ) (n : ℤ) (ts : List Lexeme) → kind w ≡ word.Number n → PatternS (tree.Int n) (Word at w ∷ ts) ts
+  truth : (at : ℕ) (w : List ℕ) (b : Bool) (ts : List Lexeme) → kind w ≡ word.Truth b → PatternS (tree.Truth b) (Word at w ∷ ts) ts
+  wildcard : (at : ℕ) (w : List ℕ) (ts : List Lexeme) → kind w ≡ word.Underscore → PatternS tree.Wildcard (Word at w ∷ ts) ts
+  var : (at : ℕ) (w : List ℕ) (ts : List Lexeme) → kind w ≡ word.Plain → PatternS (tree.Var w) (Word at w ∷ ts) ts
+
+-- E; here _ is a variable's name
+pub data ExprS : Expr → List Lexeme → List Lexeme → Type 0 where
+  number : (at : ℕ) (w : List ℕ) (n : ℤ) (ts : List Lexeme) → kind w ≡ word.Number n → ExprS (tree.Number n) (Word at w ∷ ts) ts
+  fact : (at : ℕ) (w : List ℕ) (b : Bool) (ts : List Lexeme) → kind w ≡ word.Truth b → ExprS (tree.Fact b) (Word at w ∷ ts) ts
+  underscore : (at : ℕ) (w : List ℕ) (ts : List Lexeme) → kind w ≡ word.Underscore → ExprS (tree.Name w) (Word at w ∷ ts) ts
+  variable : (at : ℕ) (w : List ℕ) (ts : List Lexeme) → kind w ≡ word.Plain → ExprS (tree.Name w) (Word at w ∷ ts) ts
+
+-- [name]
+pub data RuleNameS : Option (List ℕ) → List Lexeme → List Lexeme → Type 0 where
+  unnamed : (ts : List Lexeme) → RuleNameS None ts ts
+  named : (at : ℕ) (w : List ℕ) (ts : List Lexeme) → IsName w → RuleNameS (Some w) (Word at w ∷ ts) ts
+
+-- [prio], an integer of 64 signed bits; without one it is 0
+pub data PrioS : ℤ → List Lexeme → List Lexeme → Type 0 where
+  unwritten : (ts : List Lexeme) → PrioS (pos 0) ts ts
+  written : (at : ℕ) (w : List ℕ) (n : ℤ) (ts : List Lexeme) → kind w ≡ word.Number n → FitsSigned w64 n → PrioS n (Word at w ∷ ts) ts
+
+-- a definition; its place is its parenthesis
+pub data DefS (file : ℕ) : Def → List Lexeme → List Lexeme → Type 0 where
+  -- ( decl N ( T* ) T ), in which N is no flag
+  decl : (at h n o c : ℕ) (head term ret : List ℕ) (args : List (List ℕ)) (ts mid rest : List Lexeme)
+      → head ≡ codes "decl" → IsName term → is_flag term ≡ false → Many NameS args ts mid → NameS ret mid (Close c ∷ rest)
+      → DefS file (tree.Decl term false false false false args ret (record { file = file; offset = at })) (Open at ∷ Word h head ∷ Word n term ∷ Open o ∷ ts) rest
+  -- ( rule [name] [prio] ( N P* ) E )
+  rule : (at h o n c : ℕ) (head term : List ℕ) (name : Option (List ℕ)) (prio : ℤ) (args : List Pattern) (rhs : Expr) (ts unnamed us mid rest : List Lexeme)
+      → head ≡ codes "rule" → RuleNameS name ts unnamed → PrioS prio unnamed (Open o ∷ Word n term ∷ us) → IsName term → Many PatternS args us mid → ExprS rhs mid (Close c ∷ rest)
+      → DefS file (tree.Rule name prio term args [] rhs (record { file = file; offset = at })) (Open at ∷ Word h head ∷ ts) rest
+
+-- a file: definitions, one after the other
+pub data FileS (file : ℕ) : List Lexeme → List Def → Type 0 where
+  no_def : FileS file [] []
+  a_def : (d : Def) (others : List Def) (ts rest : List Lexeme) → DefS file d ts rest → FileS file rest others → FileS file ts (d ∷ others)

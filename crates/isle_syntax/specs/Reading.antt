@@ -1,0 +1,143 @@
+-- Readers of the grammar's forms.
+use Rattle.std.specs.Prelude.{ℕ, length, ℤ, pos, negsuc, ◌^◌, List, [], ◌∷◌, Bool, false, nat_lt, if◌then◌else◌, Option, Some, None, is_some, option_map, bytes_eq, codes}
+use Rattle.isle_syntax.specs.Lexeme.{Lexeme, Open, Close, At, Less, Greater, Word}
+use Rattle.isle_syntax.specs.Reader.{Reading, Deep, run, Reader, Ret, Ask, Peek, Halt, bind, read_open, read_close, many, all, on_word, bytes}
+use Rattle.isle_syntax.specs.Word.{WordKind, Number, Malformed, Truth, Dollar, Underscore, Plain, kind, names, is_flag}
+use Rattle.isle_syntax.specs.Tree.{Pattern, Expr, Def}
+use Rattle.isle_syntax.specs.Tree as tree
+
+-- fits no token
+abbrev pub refuse : {F A : Type 0} → Reader F A
+refuse = Ask (λ t. false) (λ t. Halt)
+
+-- what a word gives, if anything
+abbrev pub given : {F A : Type 0} → Option A → Reader F A
+given None = refuse
+given (Some a) = Ret a
+
+-- takes a word that gives something
+abbrev pub read_word : {F A : Type 0} → (List ℕ → Option A) → Reader F A
+read_word f = Ask (on_word (λ w. is_some (f w))) (λ t. given (f (bytes t)))
+
+-- what the next word gives, if anything
+abbrev pub next_word : {A : Type 0} → (List ℕ → Option A) → List Lexeme → Option A
+next_word f [] = None
+next_word f (Open at ∷ ts) = None
+next_word f (Close at ∷ ts) = None
+next_word f (At at ∷ ts) = None
+next_word f (Less at ∷ ts) = None
+next_word f (Greater at ∷ ts) = None
+next_word f (Word at w ∷ ts) = f w
+
+-- a word that may stand as a name
+abbrev pub name_of : List ℕ → Option (List ℕ)
+name_of w = if names (kind w) then Some w else None
+
+-- a name
+unfoldable pub read_name : {F : Type 0} → Reader F (List ℕ)
+read_name = read_word name_of
+
+-- the pattern that a word of this kind is
+abbrev pub pattern_of : List ℕ → WordKind → Option Pattern
+pattern_of w (Number n) = Some (tree.Int n)
+pattern_of w Malformed = None
+pattern_of w (Truth b) = Some (tree.Truth b)
+pattern_of w (Dollar name) = None
+pattern_of w Underscore = Some tree.Wildcard
+pattern_of w Plain = Some (tree.Var w)
+
+-- a pattern
+unfoldable pub read_pattern : {F : Type 0} → Reader F Pattern
+read_pattern = read_word (λ w. pattern_of w (kind w))
+
+-- the expression that a word of this kind is
+abbrev pub expr_of : List ℕ → WordKind → Option Expr
+expr_of w (Number n) = Some (tree.Number n)
+expr_of w Malformed = None
+expr_of w (Truth b) = Some (tree.Fact b)
+expr_of w (Dollar name) = None
+expr_of w Underscore = Some (tree.Name w)
+expr_of w Plain = Some (tree.Name w)
+
+-- an expression
+unfoldable pub read_expr : {F : Type 0} → Reader F Expr
+read_expr = read_word (λ w. expr_of w (kind w))
+
+-- what a word gives, or else this where there is no such word
+abbrev pub read_optional : {F A : Type 0} → (List ℕ → Option A) → A → Reader F A
+read_optional f other = Peek (on_word (λ w. is_some (f w))) (read_word f) (Ret other)
+
+-- the name of a rule, or none
+unfoldable pub read_rule_name : {F : Type 0} → Reader F (Option (List ℕ))
+read_rule_name = read_optional (λ w. option_map (λ name. Some name) (name_of w)) None
+
+-- a number of 64 signed bits
+abbrev pub in_64_bits : ℤ → Bool
+in_64_bits (pos n) = nat_lt n (2 ^ 63)
+in_64_bits (negsuc n) = nat_lt n (2 ^ 63)
+
+-- the priority that a word of this kind is
+abbrev pub prio_of : WordKind → Option ℤ
+prio_of (Number n) = if in_64_bits n then Some n else None
+prio_of Malformed = None
+prio_of (Truth b) = None
+prio_of (Dollar name) = None
+prio_of Underscore = None
+prio_of Plain = None
+
+-- a priority, or none, which is 0
+unfoldable pub read_prio : {F : Type 0} → Reader F ℤ
+read_prio = read_optional (λ w. prio_of (kind w)) (pos 0)
+
+-- a name that is no flag
+abbrev pub decl_name_of : List ℕ → Option (List ℕ)
+decl_name_of w = if is_flag w then None else name_of w
+
+unfoldable pub read_decl_name : {F : Type 0} → Reader F (List ℕ)
+read_decl_name = read_word decl_name_of
+
+-- behind ( decl
+unfoldable pub read_decl : {F : Type 0} → ℕ → ℕ → ℕ → Reader F Def
+read_decl n file at = bind read_decl_name (λ term. bind read_open (λ o. bind (many n read_name) (λ args. bind read_name (λ ret. bind read_close (λ c.
+    Ret (tree.Decl term false false false false args ret (record { file = file; offset = at })))))))
+
+-- ( N P* )
+unfoldable pub read_parts : {F : Type 0} → ℕ → Reader F (List ℕ × List Pattern)
+read_parts n = bind read_open (λ o. bind read_name (λ term. bind (many n read_pattern) (λ args. Ret (term, args))))
+
+-- behind ( rule
+unfoldable pub read_rule : {F : Type 0} → ℕ → ℕ → ℕ → Reader F Def
+read_rule n file at = bind read_rule_name (λ name. bind read_prio (λ prio. bind (read_parts n) (λ parts. bind read_expr (λ rhs. bind read_close (λ c.
+    Ret (tree.Rule name prio parts.0 parts.1 [] rhs (record { file = file; offset = at })))))))
+
+-- what a definition is, by the word that it begins with
+pub data Head : Type 0 where
+  DeclHead : Head
+  RuleHead : Head
+
+abbrev pub head_of : List ℕ → Option Head
+head_of w = if bytes_eq w (codes "decl") then Some DeclHead else (if bytes_eq w (codes "rule") then Some RuleHead else None)
+
+unfoldable pub read_head : {F : Type 0} → Reader F Head
+read_head = read_word head_of
+
+-- behind a head
+abbrev pub read_behind : {F : Type 0} → ℕ → ℕ → ℕ → Head → Reader F Def
+read_behind n file at DeclHead = read_decl n file at
+read_behind n file at RuleHead = read_rule n file at
+
+-- a definition of the file of that number, its lists of fewer than n parts
+unfoldable pub read_def : {F : Type 0} → ℕ → ℕ → Reader F Def
+read_def n file = bind read_open (λ at. bind read_head (λ head. read_behind n file at head))
+
+-- a file of at most n tokens
+abbrev pub read_file : {F : Type 0} → ℕ → ℕ → Reader F (List Def)
+read_file n file = all n (read_def n file)
+
+-- there is nothing that is read another way
+abbrev pub no_call : List Lexeme → Reading ⊥
+no_call ts = Deep ts
+
+-- what comes of tokens as a file of that number
+abbrev pub file_of : ℕ → List Lexeme → Reading (List Def)
+file_of file ts = run no_call (read_file (length ts) file) ts

@@ -1,0 +1,68 @@
+-- Whether the functions of a program are well formed, one after another.
+use Rattle.std.proofs.Common.{◌≡◌, ℕ, ◌+◌, ◌<◌, ◌≤◌, List, [], ◌∷◌, length, drop, map, get_or, Bool, true, false, refl, sym, ap, ◌∙◌, subst, arith}
+use Rattle.std.specs.Prelude.{◌↔◌, IsTrue, ◌==◌}
+use Rattle.std.specs.List.{AllByRecursion, IsDistinct}
+use Rattle.std.specs.Str.{bytes_eq}
+use Rattle.std.proofs.lemmas.Bool.{eqb-true}
+use Rattle.std.proofs.lemmas.List.{drop_more, at_drop_all}
+use Rattle.isle_target.specs.declared.tree.Function.{Function as CodeFunction}
+use Rattle.isle_target.specs.declared.tree.Program.{Program as CodeProgram}
+use Rattle.isle_target.specs.Program.{Program}
+use Rattle.isle_target.specs.Views.{program, function}
+use Rattle.isle_target.specs.WellFormed.{IsTraitFn, IsTypeItem, IsFunction, IsWellFormed, terms}
+
+-- all are where those that are left are
+abbrev pub Left : List CodeFunction → ℕ → Type 0
+Left fns i = (p : Program) → AllByRecursion (IsFunction p) (map function (drop i fns)) ↔ AllByRecursion (IsFunction p) (map function fns)
+
+-- the next, and those behind it
+opened : (fns : List CodeFunction) (i : ℕ) (f : CodeFunction) → i < length fns → f ≡ get_or fns i f → Left fns i → (p : Program)
+    → (IsFunction p (function f) × AllByRecursion (IsFunction p) (map function (drop (i + 1) fns))) ↔ AllByRecursion (IsFunction p) (map function fns)
+opened fns i f lt is h p =
+    subst (λ xs. AllByRecursion (IsFunction p) (map function xs) ↔ AllByRecursion (IsFunction p) (map function fns)) (drop_more fns i f lt ∙ ap (λ x. x ∷ drop (i + 1) fns) (sym is)) (h p)
+
+pub left_more : (fns : List CodeFunction) (i : ℕ) (f : CodeFunction) → i < length fns → f ≡ get_or fns i f → ((p : Program) → IsTrue true ↔ IsFunction p (function f)) → Left fns i → Left fns (i + 1)
+left_more fns i f lt is good h = λ p.
+    let k = opened fns i f lt is h p in
+    (λ t. k.0 ((good p).0 refl, t), λ q. (k.1 q).1)
+
+pub left_stop : (fns : List CodeFunction) (i : ℕ) (f : CodeFunction) → i < length fns → f ≡ get_or fns i f → ((p : Program) → IsTrue false ↔ IsFunction p (function f)) → Left fns i
+    → (p : Program) → IsTrue false ↔ AllByRecursion (IsFunction p) (map function fns)
+left_stop fns i f lt is bad h = λ p.
+    let k = opened fns i f lt is h p in
+    (λ t. absurd cc, λ q. (bad p).1 (k.1 q).0)
+
+pub left_none : (fns : List CodeFunction) (i : ℕ) → length fns ≤ i → Left fns i → (p : Program) → IsTrue true ↔ AllByRecursion (IsFunction p) (map function fns)
+left_none fns i le h = λ p.
+    let ends = at_drop_all (λ (xs : List CodeFunction). xs) fns i le in
+    (λ t. (h p).0 (subst (λ xs. AllByRecursion (IsFunction p) (map function xs)) (sym ends) tt), λ q. refl)
+
+-- ---- the program
+
+holds_all : {A : Type 0} (P : A → Type 0) (xs : List A) → (length xs == 0) ≡ true → AllByRecursion P xs
+holds_all P [] e = tt
+holds_all P (x ∷ xs) e = let none : length (x ∷ xs) ≡ 0 = eqb-true (length (x ∷ xs)) 0 e in absurd (omega arith)
+
+holds_no : {A : Type 0} (P : A → Type 0) → ((a : A) → P a → ⊥) → (xs : List A) → (length xs == 0) ≡ false → AllByRecursion P xs → ⊥
+holds_no P never [] e all = absurd cc
+holds_no P never (x ∷ xs) e all = never x all.0
+
+-- a program with a function of the trait
+pub refused_trait_fns : (p : CodeProgram) → (length p.trait_fns == 0) ≡ false → IsTrue false ↔ IsWellFormed (program p)
+refused_trait_fns p e = (λ t. absurd cc, λ h. absurd (holds_no IsTraitFn (λ f b. b) p.trait_fns e h.trait_fns))
+
+-- with a type
+pub refused_types : (p : CodeProgram) → (length p.types == 0) ≡ false → IsTrue false ↔ IsWellFormed (program p)
+refused_types p e = (λ t. absurd cc, λ h. absurd (holds_no IsTypeItem (λ i b. b) p.types e h.types))
+
+-- with a function that is not well formed
+pub refused_fns : (p : CodeProgram) → ((q : Program) → IsTrue false ↔ AllByRecursion (IsFunction q) (map function p.fns)) → IsTrue false ↔ IsWellFormed (program p)
+refused_fns p h = (λ t. absurd cc, λ w. (h (program p)).1 w.fns)
+
+-- with none of these: by the names of its functions
+pub by_names : (p : CodeProgram) (b : Bool) → (length p.trait_fns == 0) ≡ true → (length p.types == 0) ≡ true → ((q : Program) → IsTrue true ↔ AllByRecursion (IsFunction q) (map function p.fns))
+    → (IsTrue b ↔ IsDistinct bytes_eq (terms (map function p.fns))) → IsTrue b ↔ IsWellFormed (program p)
+by_names p b e f h d = (
+  λ t. record { trait_fns = holds_all IsTraitFn p.trait_fns e; types = holds_all IsTypeItem p.types f; fns = (h (program p)).0 refl; distinct = d.0 t },
+  λ w. d.1 w.distinct,
+)

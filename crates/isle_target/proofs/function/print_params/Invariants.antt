@@ -1,0 +1,9 @@
+use Rattle.std.proofs.Common.{◌≡◌, ◌++◌, drop}
+use Rattle.std.specs.List.{AllByRecursion}
+use Rattle.isle_target.specs.WellFormed.{IsTy}
+use Rattle.isle_target.specs.Spelling.{params_tokens}
+use Rattle.isle_target.proofs.function.print_params.Given as goal
+
+abbrev pub invariant-loop-i : goal.invariant-loop-i
+invariant-loop-i l =
+    AllByRecursion IsTy (drop l.i l.params) × (l.out ++ params_tokens l.i (drop l.i l.params) ≡ l.fn.out ++ params_tokens 0 l.params)

@@ -1,0 +1,132 @@
+//! The text of the function of a term.
+
+ghost use Rattle.std.specs.Prelude.{◌≡◌, ◌++◌, [], ◌∷◌, OnOk};
+ghost use Rattle.std.specs.List.{AllByRecursion};
+ghost use Rattle.isle_ink.specs.Token.{Word};
+ghost use Rattle.isle_target.specs.Views.{function, body};
+ghost use Rattle.isle_target.specs.WellFormed.{IsTermName, IsBuiltin, IsTy, HasNames};
+ghost use Rattle.isle_target.specs.Spelling.{constructor_word, generics, context_param, function_head, param_tokens, params_tokens, result_tokens, result_part, function_tokens};
+
+use crate::statement::print_body;
+use crate::tree::{Function, Ty};
+use isle_core::ReturnKind;
+use isle_ink::Printer;
+use std::alloc::{AllocError, Global};
+
+// Prints the name of a term's function.
+#[tactic(auto, using(crate::proofs::TypeNames::constructor_is_word), unfolding(crate::specs::Spelling::constructor_word))]
+fn print_constructor(out: &mut Printer, alloc: Global, term: &str) -> Result<(), AllocError>
+    requires { IsTermName term.now }
+    ensures { OnOk result (out.new ≡ out.old ++ Word (constructor_word term.now) ∷ []) }
+{
+    let name = format!(in alloc; "constructor_{term}")?;
+    out.word(&name)
+}
+
+// Prints `<C: Context>`.
+fn print_generics(out: &mut Printer) -> Result<(), AllocError>
+    ensures { OnOk result (out.new ≡ out.old ++ generics) }
+{
+    out.mark("<")?;
+    out.word("C")?;
+    out.mark(":")?;
+    out.space()?;
+    out.word("Context")?;
+    out.mark(">")
+}
+
+// Prints `(ctx: &mut C,`.
+fn print_context(out: &mut Printer) -> Result<(), AllocError>
+    ensures { OnOk result (out.new ≡ out.old ++ context_param) }
+{
+    out.mark("(")?;
+    out.word("ctx")?;
+    out.mark(":")?;
+    out.space()?;
+    out.mark("&")?;
+    out.word("mut")?;
+    out.word("C")?;
+    out.mark(",")
+}
+
+// Prints what a function begins with, up to its context.
+fn print_head(out: &mut Printer, alloc: Global, term: &str) -> Result<(), AllocError>
+    requires { IsTermName term.now }
+    ensures { OnOk result (out.new ≡ out.old ++ function_head term.now) }
+{
+    out.word("pub")?;
+    out.word("fn")?;
+    print_constructor(out, alloc, term)?;
+    print_generics(out)?;
+    print_context(out)
+}
+
+// Prints the parameter of this number.
+#[tactic(auto, using(crate::proofs::TypeNames::builtin_is_word))]
+fn print_param(out: &mut Printer, alloc: Global, i: usize, ty: &Ty) -> Result<(), AllocError>
+    requires { IsTy ty.now }
+    ensures { OnOk result (out.new ≡ out.old ++ param_tokens i ty.now) }
+{
+    out.space()?;
+    out.numbered(alloc, "arg", i)?;
+    out.mark(":")?;
+    out.space()?;
+    out.word(ty.name.as_str())?;
+    out.mark(",")
+}
+
+// Prints the parameters, and what closes them.
+fn print_params(out: &mut Printer, alloc: Global, params: &[Ty]) -> Result<(), AllocError>
+    requires { AllByRecursion IsTy params.now }
+    ensures { OnOk result (out.new ≡ out.old ++ params_tokens 0 params.now) }
+{
+    for (i, ty) in params.iter().enumerate() {
+        print_param(out, alloc, i, ty)?;
+    }
+    out.mark(")")
+}
+
+// Prints what a function gives.
+#[tactic(auto, using(crate::proofs::TypeNames::builtin_is_word))]
+fn print_result(out: &mut Printer, kind: ReturnKind, ty: &str) -> Result<(), AllocError>
+    requires { IsBuiltin ty.now }
+    ensures { OnOk result (out.new ≡ out.old ++ result_tokens kind ty.now) }
+{
+    match kind {
+        ReturnKind::Plain => out.word(ty),
+        ReturnKind::Option => {
+            out.word("Option")?;
+            out.mark("<")?;
+            out.word(ty)?;
+            out.mark(">")
+        }
+        ReturnKind::Iterator => Ok(()),
+    }
+}
+
+// Prints `-> RESULT {`.
+fn print_arrow(out: &mut Printer, kind: ReturnKind, ty: &str) -> Result<(), AllocError>
+    requires { IsBuiltin ty.now }
+    ensures { OnOk result (out.new ≡ out.old ++ result_part kind ty.now) }
+{
+    out.space()?;
+    out.mark("->")?;
+    out.space()?;
+    print_result(out, kind, ty)?;
+    out.space()?;
+    out.mark("{")
+}
+
+/// Prints the function of a term behind a line of its own. What is printed after an error is left open.
+pub fn print_function(out: &mut Printer, alloc: Global, f: &Function) -> Result<(), AllocError>
+    requires { HasNames (function f.now) }
+    ensures { OnOk result (out.new ≡ out.old ++ function_tokens (function f.now)) }
+{
+    out.line()?;
+    print_head(out, alloc, f.term.as_str())?;
+    print_params(out, alloc, f.params.as_slice())?;
+    print_arrow(out, f.kind, f.result.as_str())?;
+    print_body(out, alloc, f.body.as_slice())?;
+    out.mark("}")?;
+    out.line()
+}

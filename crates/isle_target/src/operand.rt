@@ -1,0 +1,78 @@
+//! The text of operands, and of what is computed from them. A form that isn't built has none.
+
+ghost use Rattle.std.specs.Prelude.{◌≡◌, ◌++◌, OnOk};
+ghost use Rattle.isle_core.specs.Int.{wrapped};
+ghost use Rattle.isle_target.specs.Literal.{literal_tokens};
+ghost use Rattle.isle_target.specs.Spelling.{operand_tokens, read_tokens, expr_tokens};
+
+use crate::literal::rust_int_literal;
+use crate::tree::{Operand, Read, TExpr};
+use isle_core::IntType;
+use isle_ink::Printer;
+use std::alloc::{AllocError, Global};
+
+// A number of the type, its sign as a mark of its own.
+fn print_literal(out: &mut Printer, alloc: Global, ty: IntType, val: i128) -> Result<(), AllocError>
+    ensures { OnOk result (out.new ≡ out.old ++ literal_tokens ty (wrapped ty val)) }
+{
+    let text = match rust_int_literal(alloc, ty, val) {
+        Ok(text) => text,
+        Err(_) => return Err(AllocError),
+    };
+    match text.strip_prefix("-") {
+        Some(word) => {
+            out.mark("-")?;
+            out.word(word)
+        }
+        None => out.word(&text),
+    }
+}
+
+/// Prints an operand. What is printed after an error is left open.
+pub fn print_operand(out: &mut Printer, alloc: Global, o: &Operand) -> Result<(), AllocError>
+    ensures { OnOk result (out.new ≡ out.old ++ operand_tokens o.now) }
+{
+    match o {
+        Operand::Local(n) => out.numbered(alloc, "v", *n),
+        Operand::Arg(n) => out.numbered(alloc, "arg", *n),
+        Operand::Bool(true) => out.word("true"),
+        Operand::Bool(false) => out.word("false"),
+        Operand::Int(ty, val) => print_literal(out, alloc, *ty, *val),
+        Operand::Raw(_) | Operand::Name(_) => Ok(()),
+    }
+}
+
+// Prints an operand as it is read.
+fn print_read(out: &mut Printer, alloc: Global, read: &Read) -> Result<(), AllocError>
+    ensures { OnOk result (out.new ≡ out.old ++ read_tokens read.now) }
+{
+    match read {
+        Read::Plain(o) => print_operand(out, alloc, o),
+        Read::Borrow(_) | Read::Clone(_) => Ok(()),
+    }
+}
+
+// Prints an option of what is read.
+fn print_some(out: &mut Printer, alloc: Global, read: &Read) -> Result<(), AllocError>
+    ensures { OnOk result (out.new ≡ out.old ++ expr_tokens (TExpr.Some read.now)) }
+{
+    out.word("Some")?;
+    out.mark("(")?;
+    print_read(out, alloc, read)?;
+    out.mark(")")
+}
+
+/// Prints what a `let` or a `return` computes. What is printed after an error is left open.
+pub fn print_expr(out: &mut Printer, alloc: Global, e: &TExpr) -> Result<(), AllocError>
+    ensures { OnOk result (out.new ≡ out.old ++ expr_tokens e.now) }
+{
+    match e {
+        TExpr::Read(read) => print_read(out, alloc, read),
+        TExpr::Some(read) => print_some(out, alloc, read),
+        TExpr::Call { .. }
+        | TExpr::Variant { .. }
+        | TExpr::Struct { .. }
+        | TExpr::Try { .. }
+        | TExpr::Tuple(..) => Ok(()),
+    }
+}
