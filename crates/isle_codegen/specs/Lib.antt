@@ -3,4 +3,9 @@ pub mod Header
 pub mod Source
 pub mod Emission
 pub mod Headline
+pub mod Operands
+pub mod Statements
+pub mod TermFunction
+pub mod Shape
+pub mod Emitted
 pub mod Causes

@@ -18,6 +18,7 @@ mod tests;
 mod there;
 mod tree;
 
+pub use bound::Bound;
 pub use forms::well_formed;
 pub use literal::rust_int_literal;
 pub use print::print_program;

@@ -1,0 +1,42 @@
+-- What an emitted function is to its term and its block.
+use Rattle.std.specs.Prelude.{◌≡◌, List, ◌∷◌, IsTrue, IsSomeAnd, Some, slice_get}
+use Rattle.std.specs.List.{AllByRecursion, list_all}
+use Rattle.isle_ink.specs.Token.{is_word_byte}
+use Rattle.isle_core.specs.declared.TypeId.{TypeId}
+use Rattle.isle_core.specs.declared.types.TypeDef.{TypeDef}
+use Rattle.isle_core.specs.declared.types.TypeDef.TheVariants as def
+use Rattle.isle_core.specs.declared.types.Term.{Term}
+use Rattle.isle_core.specs.Value.{Value, Ran}
+use Rattle.isle_core.specs.Meaning.{Meaning}
+use Rattle.isle_core.specs.HasType.{HaveTypes}
+use Rattle.isle_core.specs.Outcome.{Prescription, is_partial}
+use Rattle.isle_core.specs.Path.{Path}
+use Rattle.isle_core.specs.Block.{Block}
+use Rattle.isle_core.specs.BlockRun.{block_outcome}
+use Rattle.isle_core.specs.Terms.{sym_text}
+use Rattle.isle_core.specs.Rule.{Environment}
+use Rattle.isle_target.specs.Program.{Function, Program}
+use Rattle.isle_target.specs.Run.{run, function_of}
+use Rattle.isle_codegen.specs.Headline.{end_of}
+
+-- a builtin type
+abbrev pub IsBuiltinType : Environment → TypeId → Type 0
+IsBuiltinType env ty = IsSomeAnd (slice_get env.types.types ty.0) IsBuiltinDef
+  where
+    IsBuiltinDef : TypeDef → Type 0
+    IsBuiltinDef (def.Builtin of) = Unit {0}
+    IsBuiltinDef d = ⊥
+
+-- a term whose name may be emitted, and whose types are built
+pub record IsEmittable (env : Environment) (t : Term) : Type 0 where
+  pub name : IsTrue (list_all is_word_byte (sym_text env t.name))
+  pub types : AllByRecursion (IsBuiltinType env) (t.ret_ty ∷ t.arg_tys)
+
+-- what a run gives that has this outcome
+abbrev pub ran_of : Environment → Term → Prescription → Ran
+ran_of env t o = record { end = end_of (is_partial t.kind) o.result; calls = o.calls }
+
+-- in every program in which the term's function is this, its run on well-typed arguments is the block's
+abbrev pub RunsAsBlock : Environment → Term → List Path → Block → Function → Type 0
+RunsAsBlock env t ps b f = (p : Program) (args : List Value) (m : Meaning) → function_of (sym_text env t.name) p.fns ≡ Some f → HaveTypes env args t.arg_tys
+    → run p (sym_text env t.name) args m ≡ Some (ran_of env t (block_outcome env m args ps b (is_partial t.kind)))
