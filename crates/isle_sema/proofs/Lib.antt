@@ -1,4 +1,9 @@
 pub mod TypedOnce
+pub mod SymbolLaws
+pub mod Sees
+pub mod Variables
+pub mod Forms
+pub mod Interned
 pub mod NumberingLaws
 pub mod DraftLaws
 pub mod RuleTests

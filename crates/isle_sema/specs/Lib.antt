@@ -1,3 +1,10 @@
+pub mod Symbols
+pub mod Builtins
+pub mod Reduced
+pub mod Signatures
+pub mod Elaborated
+pub mod Faults
+pub mod Language
 pub mod Typing
 pub mod Numbering
 pub mod Drafts

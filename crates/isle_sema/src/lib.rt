@@ -1,6 +1,9 @@
 //! From definitions to environments: symbols, types, terms and rules.
 #![tactic(auto)]
 
+mod interning;
+mod language;
+mod symbols;
 mod draft;
 mod flat_rules;
 mod grouping;
