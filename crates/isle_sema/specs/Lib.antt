@@ -2,6 +2,7 @@ pub mod Symbols
 pub mod Builtins
 pub mod Reduced
 pub mod Signatures
+pub mod Collected
 pub mod Elaborated
 pub mod Faults
 pub mod Language

@@ -1,6 +1,7 @@
 //! From definitions to environments: symbols, types, terms and rules.
 #![tactic(auto)]
 
+mod collected;
 mod interning;
 mod language;
 mod symbols;
