@@ -4,6 +4,7 @@ pub mod Sees
 pub mod Variables
 pub mod Forms
 pub mod Interned
+pub mod ReducedLaws
 pub mod NumberingLaws
 pub mod DraftLaws
 pub mod RuleTests

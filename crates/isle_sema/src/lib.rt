@@ -1,6 +1,7 @@
 //! From definitions to environments: symbols, types, terms and rules.
 #![tactic(auto)]
 
+mod builtins;
 mod collected;
 mod interning;
 mod language;
@@ -9,6 +10,7 @@ mod draft;
 mod flat_rules;
 mod grouping;
 mod numbering;
+mod reduced;
 #[cfg(test)]
 mod rule_set_tests;
 #[cfg(test)]
