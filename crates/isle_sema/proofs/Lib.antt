@@ -4,6 +4,9 @@ pub mod Sees
 pub mod Variables
 pub mod Forms
 pub mod Interned
+pub mod SymbolsAgain
+pub mod PatternLaws
+pub mod LookUps
 pub mod ReducedLaws
 pub mod NumberingLaws
 pub mod DraftLaws
