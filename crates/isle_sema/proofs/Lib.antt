@@ -5,6 +5,9 @@ pub mod Variables
 pub mod Forms
 pub mod Interned
 pub mod SymbolsAgain
+pub mod TypedConstants
+pub mod BoundVariables
+pub mod TypedRules
 pub mod PatternLaws
 pub mod LookUps
 pub mod ReducedLaws

@@ -7,6 +7,7 @@ pub mod Elaborated
 pub mod Heads
 pub mod Faults
 pub mod Language
+pub mod TypedRule
 pub mod Typing
 pub mod Numbering
 pub mod Drafts
