@@ -20,7 +20,7 @@ first_stays true old new n h e = e
 first_stays false None new n h e = cc
 first_stays false (Some m) new n h e = ap (option_map (λ (k : ℕ). k + 1)) (h m refl) ∙ e
 
-index_stays : (names more : List (List ℕ)) (name : List ℕ) (n : ℕ) → index_of names name ≡ Some n → index_of (names ++ more) name ≡ Some n
+pub index_stays : (names more : List (List ℕ)) (name : List ℕ) (n : ℕ) → index_of names name ≡ Some n → index_of (names ++ more) name ≡ Some n
 index_stays [] more name n e = cc
 index_stays (first ∷ names) more name n e = first_stays (bytes_eq first name) (index_of names name) (index_of (names ++ more) name) n (λ m f. index_stays names more name m f) e
 
@@ -48,7 +48,7 @@ there : (o : Option ℕ) → is_some o ≡ true → o ≡ Some (number_or o)
 there None e = cc
 there (Some n) e = refl
 
-none_of : (o : Option ℕ) → is_some o ≡ false → o ≡ None
+pub none_of : (o : Option ℕ) → is_some o ≡ false → o ≡ None
 none_of None e = refl
 none_of (Some n) e = cc
 
@@ -80,7 +80,7 @@ bound_first : (first : Bool) (x name : List ℕ) (ty of : TypeId) (ps : List Pat
 bound_first true x name ty of ps tys vars same rest e =
     let is : x ≡ name = (bytes_eq-Decides x name).0 same in
     let here : variable ty (added vars x) x ≡ variable of (vars_of ps (added vars x)) name =
-        ap (core.Var ty) (same_number ps vars x) ∙ ap (λ n. variable ty (vars_of ps (added vars x)) n) is ∙ ap (λ t. variable t (vars_of ps (added vars x)) name) (some_same ty of e) in
+    ap (core.Var ty) (same_number ps vars x) ∙ ap (λ n. variable ty (vars_of ps (added vars x)) n) is ∙ ap (λ t. variable t (vars_of ps (added vars x)) name) (some_same ty of e) in
     subst (Contains (patterns_at (ty ∷ tys) (tree.Var x ∷ ps) vars)) here (head_contained (variable ty (added vars x) x) (patterns_at tys ps (added vars x)))
 bound_first false x name ty of ps tys vars same rest e =
     tail_contained (variable ty (added vars x) x) (patterns_at tys ps (added vars x)) (variable of (vars_of ps (added vars x)) name) (rest e)

@@ -8,6 +8,7 @@ pub mod SymbolsAgain
 pub mod TypedConstants
 pub mod BoundVariables
 pub mod TypedRules
+pub mod OneRule
 pub mod PatternLaws
 pub mod LookUps
 pub mod ReducedLaws
