@@ -1,4 +1,17 @@
 pub mod TypedOnce
+pub mod SymbolLaws
+pub mod Sees
+pub mod Variables
+pub mod Forms
+pub mod Interned
+pub mod SymbolsAgain
+pub mod TypedConstants
+pub mod BoundVariables
+pub mod TypedRules
+pub mod OneRule
+pub mod PatternLaws
+pub mod LookUps
+pub mod ReducedLaws
 pub mod NumberingLaws
 pub mod DraftLaws
 pub mod RuleTests

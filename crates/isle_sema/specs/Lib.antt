@@ -1,3 +1,13 @@
+pub mod Symbols
+pub mod Builtins
+pub mod Reduced
+pub mod Signatures
+pub mod Collected
+pub mod Elaborated
+pub mod Heads
+pub mod Faults
+pub mod Language
+pub mod TypedRule
 pub mod Typing
 pub mod Numbering
 pub mod Drafts

@@ -1,34 +1,34 @@
 -- The environment that definitions give.
-use Rattle.std.specs.Prelude.{◌≡◌, List, [], ◌∷◌}
-use Rattle.isle_core.specs.declared.types.IntType.TheVariants.{U8, U16, U32, U64, U128, USize, I8, I16, I32, I64, I128, ISize}
-use Rattle.isle_core.specs.declared.types.BuiltinType.TheVariants.{Bool, Int}
-use Rattle.isle_core.specs.declared.types.TypeDef.{TypeDef}
-use Rattle.isle_core.specs.declared.types.TypeDef.TheVariants.{Builtin}
+use Rattle.std.specs.Prelude.{◌≡◌, List, [], map, true, false}
+use Rattle.std.specs.List.{list_all}
 use Rattle.isle_core.specs.declared.types.TypeEnv.{TypeEnv}
 use Rattle.isle_core.specs.Rule.{Environment}
 use Rattle.isle_syntax.specs.Tree.{Def}
+use Rattle.isle_sema.specs.Symbols.{symbols}
+use Rattle.isle_sema.specs.Builtins.{builtins}
+use Rattle.isle_sema.specs.Signatures.{signatures, rule_defs}
+use Rattle.isle_sema.specs.Elaborated.{term_of, rules_from}
+use Rattle.isle_sema.specs.Faults.{has_fault}
+use Rattle.isle_sema.specs.Language.{is_built_def, are_built}
 
--- the types that are there before any definition, by their numbers
-abbrev pub builtins : List TypeDef
-builtins =
-    Builtin Bool ∷ Builtin (Int U8) ∷ Builtin (Int U16) ∷ Builtin (Int U32) ∷ Builtin (Int U64) ∷ Builtin (Int U128) ∷ Builtin (Int USize)
-    ∷ Builtin (Int I8) ∷ Builtin (Int I16) ∷ Builtin (Int I32) ∷ Builtin (Int I64) ∷ Builtin (Int I128) ∷ Builtin (Int ISize) ∷ []
+-- the symbols, types and constants of definitions
+abbrev pub types_of : List Def → TypeEnv
+types_of defs = record { syms = symbols defs; types = builtins; consts = [] }
 
--- the types and constants of no definitions
-abbrev pub builtin_types : TypeEnv
-builtin_types = record { syms = []; types = builtins; consts = [] }
+-- their types, terms and rules
+abbrev pub env_of : List Def → Environment
+env_of defs = record { types = types_of defs; terms = map (term_of (symbols defs) (rule_defs defs)) (signatures defs); rules = rules_from (symbols defs) (signatures defs) 0 (rule_defs defs); converters = [] }
 
--- the environment of no definitions
-abbrev pub builtin_env : Environment
-builtin_env = record { types = builtin_types; terms = []; rules = []; converters = [] }
+-- the definitions have no fault in their types and constants, and give these
+pub record TypesFrom (defs : List Def) (types : TypeEnv) : Type 0 where
+  pub built : list_all is_built_def defs ≡ true
+  pub given : types ≡ types_of defs
 
--- the definitions have no fault in their types and constants, and give these; no definition is built
-pub data TypesFrom : List Def → TypeEnv → Type 0 where
-  no_types : TypesFrom [] builtin_types
-
--- the definitions have no fault, and give the environment; no definition is built
-pub data Typed : List Def → Environment → Type 0 where
-  no_def : Typed [] builtin_env
+-- the definitions are built and have no fault, and give the environment
+pub record Typed (defs : List Def) (env : Environment) : Type 0 where
+  pub built : are_built defs ≡ true
+  pub sound : has_fault defs ≡ false
+  pub given : env ≡ env_of defs
 
 -- the one environment that the definitions give
 pub record TypedOnly (defs : List Def) (env : Environment) : Type 0 where

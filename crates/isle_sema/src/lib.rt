@@ -1,12 +1,22 @@
 //! From definitions to environments: symbols, types, terms and rules.
 #![tactic(auto)]
 
+mod builtins;
+mod collected;
 mod draft;
+mod elaborated;
+mod elaborated_patterns;
+mod elaborated_rules;
+mod elaborated_terms;
 mod flat_rules;
 mod grouping;
+mod interning;
+mod language;
 mod numbering;
+mod reduced;
 #[cfg(test)]
 mod rule_set_tests;
+mod symbols;
 #[cfg(test)]
 mod tests;
 mod typing;

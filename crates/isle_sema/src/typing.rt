@@ -3,8 +3,11 @@ ghost use Rattle.isle_core.specs.declared.types.TypeEnv.{TypeEnv as TheTypes};
 ghost use Rattle.isle_core.specs.Rule.{Environment};
 ghost use Rattle.isle_core.specs.RuleViews.{environment};
 ghost use Rattle.isle_syntax.specs.Views.{defs as seen};
-ghost use Rattle.isle_sema.specs.Typing.{builtins, TypesFrom, Typed, TypedOnly};
+ghost use Rattle.isle_sema.specs.Builtins.{builtins};
+ghost use Rattle.isle_sema.specs.Typing.{TypesFrom, Typed, TypedOnly};
 
+use crate::interning::symbols;
+use crate::language::are_built_defs;
 use isle_core::{BuiltinType, IntType, List, TermEnv, TypeDef, TypeEnv};
 use isle_syntax::Def;
 use std::alloc::{AllocError, Global};
@@ -51,16 +54,17 @@ fn builtin_types(alloc: Global) -> Result<Vec<TypeDef>, AllocError>
 }
 
 /// The symbols, types and constants of the definitions. `NotYet` comes exactly where they are not all of forms that
-/// are built; no form of a definition is built.
+/// are built.
 pub fn type_env_from_ast(alloc: Global, defs: &[Def]) -> Result<TypeEnv, EnvError>
     ensures ok { IfOk result (λ env. TypesFrom (seen defs.now) env) }
     ensures not_yet { result ≡ Err EnvError.NotYet → (env : TheTypes) → TypesFrom (seen defs.now) env → ⊥ }
 {
-    if !defs.is_empty() {
+    if !are_built_defs(alloc, defs)? {
         return Err(EnvError::NotYet);
     }
+    let names = symbols(alloc, defs)?;
     Ok(TypeEnv {
-        syms: List::new(Vec::new(alloc)),
+        syms: List::new(names.into_names()),
         types: List::new(builtin_types(alloc)?),
         consts: List::new(Vec::new(alloc)),
     })

@@ -1,0 +1,16 @@
+-- What contracts see of the collected declarations and rules.
+use Rattle.std.specs.Prelude.{List, Option, map, option_map}
+use denote.Ref.{Bor}
+use Rattle.isle_core.specs.declared.Text.{Text}
+use Rattle.isle_syntax.specs.Views.{pattern, expr}
+use Rattle.isle_sema.specs.declared.collected.Signature.{Signature as CodeSignature}
+use Rattle.isle_sema.specs.declared.collected.RuleDef.{RuleDef as CodeRule}
+use Rattle.isle_sema.specs.Signatures.{Signature, RuleDef}
+
+-- a declaration
+abbrev pub signature : CodeSignature → Signature
+signature s = record { term = s.term.now; args = s.args.now; ret = s.ret.now; pos = s.pos }
+
+-- a rule
+abbrev pub rule : CodeRule → RuleDef
+rule r = record { name = option_map (λ n. n.now) r.name; prio = r.prio; term = r.term.now; args = map pattern r.args.now; rhs = expr r.rhs.now; pos = r.pos }

@@ -1,0 +1,38 @@
+-- The definitions that are built.
+use Rattle.std.specs.Prelude.{ℕ, List, [], ◌∷◌, Bool, true, false, ◌&&◌, not, flat_map, map}
+use Rattle.std.specs.List.{list_all}
+use Rattle.isle_syntax.specs.Tree as tree
+use Rattle.isle_syntax.specs.Tree.{Pattern, Expr, IfLet, Def, Decl, Rule}
+use Rattle.isle_sema.specs.Symbols.{pattern_names}
+use Rattle.isle_sema.specs.Signatures.{RuleDef, rule_defs}
+use Rattle.isle_sema.specs.Faults.{repeats}
+
+-- an integer, a truth, a wildcard or a variable
+abbrev pub is_built_pattern : Pattern → Bool
+is_built_pattern (tree.Int n) = true
+is_built_pattern (tree.Truth b) = true
+is_built_pattern tree.Wildcard = true
+is_built_pattern (tree.Var name) = true
+is_built_pattern p = false
+
+-- an integer, a truth or a variable
+abbrev pub is_built_expr : Expr → Bool
+is_built_expr (tree.Number n) = true
+is_built_expr (tree.Fact b) = true
+is_built_expr (tree.Name name) = true
+is_built_expr e = false
+
+-- no conditions
+abbrev pub are_none : List IfLet → Bool
+are_none [] = true
+are_none (c ∷ cs) = false
+
+-- a declaration without flags, or a rule without conditions that names no variable twice
+abbrev pub is_built_def : Def → Bool
+is_built_def (Decl term pure multi partial recursive args ret pos) = not pure && not multi && not partial && not recursive
+is_built_def (Rule name prio term args iflets rhs pos) = list_all is_built_pattern args && are_none iflets && is_built_expr rhs && not (repeats (flat_map pattern_names args))
+is_built_def d = false
+
+-- each is built, and no term has two rules
+abbrev pub are_built : List Def → Bool
+are_built defs = list_all is_built_def defs && not (repeats (map (λ (r : RuleDef). r.term) (rule_defs defs)))

@@ -1,0 +1,50 @@
+-- The declarations and rules among definitions.
+use Rattle.std.specs.Prelude.{ℕ, ℤ, List, [], ◌∷◌, Bool, Option, Some, None, map, filter_map, option_map}
+use Rattle.std.specs.List.{list_any}
+use Rattle.std.specs.Str.{bytes_eq}
+use Rattle.isle_core.specs.declared.position.Pos.{Pos}
+use Rattle.isle_core.specs.declared.TermId.{TermId}
+use Rattle.isle_syntax.specs.Tree.{Pattern, Expr, Def, Decl, Rule}
+use Rattle.isle_sema.specs.Symbols.{index_of}
+
+-- a declaration without flags
+pub record Signature : Type 0 where
+  pub term : List ℕ
+  pub args : List (List ℕ)
+  pub ret : List ℕ
+  pub pos : Pos
+
+-- a rule without conditions
+pub record RuleDef : Type 0 where
+  pub name : Option (List ℕ)
+  pub prio : ℤ
+  pub term : List ℕ
+  pub args : List Pattern
+  pub rhs : Expr
+  pub pos : Pos
+
+-- the declaration that a definition is
+abbrev pub signature_of : Def → Option Signature
+signature_of (Decl term pure multi partial recursive args ret pos) = Some (record { term = term; args = args; ret = ret; pos = pos })
+signature_of d = None
+
+-- the rule that a definition is
+abbrev pub rule_of : Def → Option RuleDef
+rule_of (Rule name prio term args iflets rhs pos) = Some (record { name = name; prio = prio; term = term; args = args; rhs = rhs; pos = pos })
+rule_of d = None
+
+-- the declarations, in order
+abbrev pub signatures : List Def → List Signature
+signatures = filter_map signature_of
+
+-- the rules, in order
+abbrev pub rule_defs : List Def → List RuleDef
+rule_defs = filter_map rule_of
+
+-- the term that a declaration names
+abbrev pub term_named : List Signature → List ℕ → Option TermId
+term_named sigs name = option_map (λ (n : ℕ). record { 0 = n }) (index_of (map (λ (s : Signature). s.term) sigs) name)
+
+-- whether a term of the name has a rule
+abbrev pub has_rule : List RuleDef → List ℕ → Bool
+has_rule rules name = list_any (λ (r : RuleDef). bytes_eq r.term name) rules

@@ -1,0 +1,50 @@
+-- Symbols: the names of definitions, numbered by their first places.
+use Rattle.std.specs.Prelude.{◌≡◌, ℕ, ◌+◌, List, [], ◌∷◌, ◌++◌, Option, Some, None, if◌then◌else◌, is_some, fold, flat_map, option_map, option_to_list, String}
+use Rattle.std.specs.BTreeMap.{BTreeMap, get_by_text}
+use Rattle.std.specs.declared.alloc.Global.{Global}
+use Rattle.std.specs.Str.{bytes_eq}
+use Rattle.isle_core.specs.declared.Sym.{Sym}
+use Rattle.isle_syntax.specs.Tree.{Pattern, Expr, Def, Decl, Rule}
+use Rattle.isle_syntax.specs.Tree as tree
+
+-- the first place of a name
+abbrev pub index_of : List (List ℕ) → List ℕ → Option ℕ
+index_of [] name = None
+index_of (other ∷ names) name = if bytes_eq other name then Some 0 else option_map (λ (n : ℕ). n + 1) (index_of names name)
+
+-- the names, with one that is not there yet at the end
+abbrev pub added : List (List ℕ) → List ℕ → List (List ℕ)
+added names name = if is_some (index_of names name) then names else names ++ name ∷ []
+
+-- the names in a pattern; of a pattern of parts none is built
+abbrev pub pattern_names : Pattern → List (List ℕ)
+pattern_names (tree.Var name) = name ∷ []
+pattern_names p = []
+
+-- the names in an expression; of a call and a `let` none is built
+abbrev pub expr_names : Expr → List (List ℕ)
+expr_names (tree.Name name) = name ∷ []
+expr_names e = []
+
+-- the names in a definition, from left to right; only declarations and rules are built
+abbrev pub def_names : Def → List (List ℕ)
+def_names (Decl term pure multi partial recursive args ret pos) = term ∷ args ++ ret ∷ []
+def_names (Rule name prio term args iflets rhs pos) = option_to_list name ++ term ∷ flat_map pattern_names args ++ expr_names rhs
+def_names d = []
+
+-- the symbols of definitions
+abbrev pub symbols : List Def → List (List ℕ)
+symbols defs = fold added [] (flat_map def_names defs)
+
+-- a number, or 0
+abbrev pub number_or : Option ℕ → ℕ
+number_or None = 0
+number_or (Some n) = n
+
+-- the symbol of a name
+abbrev pub sym_of : List (List ℕ) → List ℕ → Sym
+sym_of names name = record { 0 = number_or (index_of names name) }
+
+-- the map has the first place of each name
+pub record HasPlaces (names : List (List ℕ)) (places : BTreeMap (String Global) ℕ) : Type 0 where
+  pub found : (name : List ℕ) → get_by_text places name ≡ index_of names name
