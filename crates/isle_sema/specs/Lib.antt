@@ -6,6 +6,7 @@ pub mod Collected
 pub mod Elaborated
 pub mod Faults
 pub mod Language
+pub mod FaultsSeen
 pub mod Typing
 pub mod Numbering
 pub mod Drafts

@@ -1,9 +1,14 @@
 //! From definitions to environments: symbols, types, terms and rules.
 #![tactic(auto)]
 
+mod builtins;
 mod collected;
+mod declarations;
+mod elaborated;
 mod interning;
 mod language;
+mod rule_faults;
+mod signature_faults;
 mod symbols;
 mod draft;
 mod flat_rules;
