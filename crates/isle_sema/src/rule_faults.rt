@@ -42,12 +42,10 @@ fn is_misplaced(p: &AstPattern, ty: TypeId) -> bool
 fn any_misplaced(patterns: &[AstPattern], types: &[Text]) -> bool
     ensures { result ≡ any_misplaced (map pattern patterns.now) (map type_of types.now) }
 {
-    for (index, p) in patterns.iter().enumerate() {
-        if index < types.len() && is_misplaced(p, type_of(types[index].as_str())) {
-            return true;
-        }
-    }
-    false
+    patterns
+        .iter()
+        .zip(types)
+        .any(|(p, ty)| is_misplaced(p, type_of(ty.as_str())))
 }
 
 /// Whether a pattern is the variable.
@@ -71,10 +69,11 @@ fn is_var(p: &AstPattern, name: &str) -> bool
 fn type_in(patterns: &[AstPattern], types: &[Text], name: &str) -> Option<TypeId>
     ensures { result ≡ type_in (typed_vars (map pattern patterns.now) (map type_of types.now)) name.now }
 {
-    match patterns.iter().position(|p| is_var(p, name)) {
-        Some(index) => types.get(index).map(|ty| type_of(ty.as_str())),
-        None => None,
-    }
+    let (_, ty) = patterns
+        .iter()
+        .zip(types)
+        .find(|(p, _)| is_var(p, name))?;
+    Some(type_of(ty.as_str()))
 }
 
 /// Whether there is no type, or another.
