@@ -5,6 +5,7 @@ pub mod Variables
 pub mod Forms
 pub mod FaultLaws
 pub mod Interned
+pub mod ReducedLaws
 pub mod NumberingLaws
 pub mod DraftLaws
 pub mod RuleTests

@@ -1,3 +1,5 @@
+//! The types that are there before any definition, by their names.
+
 ghost use Rattle.std.specs.Prelude.{◌≡◌};
 ghost use Rattle.isle_sema.specs.Builtins.{type_named};
 
@@ -7,20 +9,21 @@ use isle_core::TypeId;
 pub fn type_named(name: &str) -> Option<TypeId>
     ensures { result ≡ type_named name.now }
 {
-    match name {
-        "bool" => Some(TypeId(0)),
-        "u8" => Some(TypeId(1)),
-        "u16" => Some(TypeId(2)),
-        "u32" => Some(TypeId(3)),
-        "u64" => Some(TypeId(4)),
-        "u128" => Some(TypeId(5)),
-        "usize" => Some(TypeId(6)),
-        "i8" => Some(TypeId(7)),
-        "i16" => Some(TypeId(8)),
-        "i32" => Some(TypeId(9)),
-        "i64" => Some(TypeId(10)),
-        "i128" => Some(TypeId(11)),
-        "isize" => Some(TypeId(12)),
-        _ => None,
-    }
+    let number = match name {
+        "bool" => 0,
+        "u8" => 1,
+        "u16" => 2,
+        "u32" => 3,
+        "u64" => 4,
+        "u128" => 5,
+        "usize" => 6,
+        "i8" => 7,
+        "i16" => 8,
+        "i32" => 9,
+        "i64" => 10,
+        "i128" => 11,
+        "isize" => 12,
+        _ => return None,
+    };
+    Some(TypeId(number))
 }

@@ -14,6 +14,7 @@ mod draft;
 mod flat_rules;
 mod grouping;
 mod numbering;
+mod reduced;
 #[cfg(test)]
 mod rule_set_tests;
 #[cfg(test)]
