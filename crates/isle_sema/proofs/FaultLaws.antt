@@ -82,7 +82,14 @@ type_in_zip name [] tys = refl
 type_in_zip name (p ∷ ps) [] = none (pattern p) (map pattern ps)
   where
     none : (q : Pattern) (qs : List Pattern) → None ≡ type_in (typed_vars (q ∷ qs) []) name
-    none q qs = refl
+    none (tree.Var other) qs = refl
+    none (tree.Int n) qs = refl
+    none (tree.Truth b) qs = refl
+    none (tree.Const c) qs = refl
+    none tree.Wildcard qs = refl
+    none (tree.Bind x inner) qs = refl
+    none (tree.And parts) qs = refl
+    none (tree.Term x parts) qs = refl
 type_in_zip name (p ∷ ps) (ty ∷ tys) = found_more name (pattern p) p ty (find (λ (e : AstPattern × List ℕ). is_var name (pattern e.0)) (zip ps tys)) (map pattern ps) (map type_of tys) (type_in_zip name ps tys)
 
 -- some rule from the i-th on is wrong
@@ -110,3 +117,8 @@ first_more sigs i s d key old new h is named were updates = record {
         → option_map signature (cond here (Some s) (at_name old name)) ≡ signature_named (signature s ∷ map signature (drop (i + 1) sigs)) name
     placed name true e = ap (λ b. cond b (Some (signature s)) (signature_named (map signature (drop (i + 1) sigs)) name)) (sym (ap (λ x. bytes_eq x name) (sym named) ∙ e))
     placed name false e = were.finds name ∙ ap (λ b. cond b (Some (signature s)) (signature_named (map signature (drop (i + 1) sigs)) name)) (sym (ap (λ x. bytes_eq x name) (sym named) ∙ e))
+
+-- a rule against the declaration that the map has
+pub breaks_found : (sigs : List Signature) (declared : BTreeMap (Bor (List ℕ)) CodeSignature) (r : CodeRule) (found : Option CodeSignature) → FindsFirst sigs declared → at_name declared r.term.now ≡ found
+    → breaks (rule r) (option_map signature found) ≡ breaks (rule r) (signature_named sigs r.term.now)
+breaks_found sigs declared r found finds is = ap (λ s. breaks (rule r) s) (ap (option_map signature) (sym is) ∙ finds.finds r.term.now)

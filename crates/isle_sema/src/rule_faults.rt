@@ -1,9 +1,10 @@
 ghost use Rattle.std.specs.Prelude.{◌≡◌, ◌==◌, IfOk, ℕ, List, Some, map};
 ghost use Rattle.isle_syntax.specs.Views.{pattern, expr};
 ghost use Rattle.isle_sema.specs.Collected.{signature, rule as seen};
-ghost use Rattle.isle_sema.specs.Elaborated.{type_of};
+ghost use Rattle.isle_sema.specs.Elaborated.{type_of, signature_named};
 ghost use Rattle.isle_sema.specs.Faults.{repeats, is_misplaced, any_misplaced, typed_vars, type_in, is_other, is_wrong, breaks, rules_fault};
-ghost use Rattle.isle_sema.specs.FaultsSeen.{heads_of, is_var};
+ghost use Rattle.isle_sema.specs.FaultsSeen.{heads_of, is_var, FindsFirst};
+ghost use Rattle.isle_sema.specs.Signatures.{Signature as Declaration};
 
 use crate::builtins::type_named;
 use crate::collected::{RuleDef, Signature};
@@ -13,6 +14,7 @@ use crate::symbols::Symbols;
 use isle_core::{Text, TypeId};
 use isle_syntax::{AstExpr, AstPattern};
 use std::alloc::{AllocError, Global};
+use std::collections::BTreeMap;
 
 /// The type of a name, or `bool`.
 fn type_of(name: &str) -> TypeId
@@ -69,11 +71,14 @@ fn is_var(p: &AstPattern, name: &str) -> bool
 fn type_in(patterns: &[AstPattern], types: &[Text], name: &str) -> Option<TypeId>
     ensures { result ≡ type_in (typed_vars (map pattern patterns.now) (map type_of types.now)) name.now }
 {
-    let (_, ty) = patterns
+    match patterns
         .iter()
         .zip(types)
-        .find(|(p, _)| is_var(p, name))?;
-    Some(type_of(ty.as_str()))
+        .find(|(p, _)| is_var(p, name))
+    {
+        Some((_, ty)) => Some(type_of(ty.as_str())),
+        None => None,
+    }
 }
 
 /// Whether there is no type, or another.
@@ -115,6 +120,16 @@ fn breaks(rule: &RuleDef, declared: &Signature) -> bool
         )
 }
 
+/// Whether a rule is no rule of the declaration that its head names.
+fn is_fault(declared: &BTreeMap<&str, Signature>, rule: &RuleDef) -> bool
+    ensures { (sigs : List Declaration) → FindsFirst sigs declared.now → result ≡ breaks (seen rule.now) (signature_named sigs rule.now.term.now) }
+{
+    match declared.get(rule.term.as_str()) {
+        Some(found) => breaks(rule, found),
+        None => true,
+    }
+}
+
 /// Whether a rule is wrong.
 pub fn rules_fault(
     alloc: Global,
@@ -125,13 +140,8 @@ pub fn rules_fault(
 {
     let declared = by_name(alloc, signatures)?;
     for rule in rules {
-        match declared.get(rule.term.as_str()) {
-            Some(found) => {
-                if breaks(rule, found) {
-                    return Ok(true);
-                }
-            }
-            None => return Ok(true),
+        if is_fault(&declared, rule) {
+            return Ok(true);
         }
     }
     Ok(false)

@@ -1,4 +1,4 @@
-use Rattle.std.proofs.Common.{rules}
+use Rattle.std.proofs.Common.{rules, ◌-◌}
 use Rattle.isle_sema.proofs.FaultLaws.{first_more}
 use Rattle.isle_sema.proofs.declarations.by_name.Goals as goal
 

@@ -11,5 +11,5 @@ use Rattle.isle_sema.proofs.rule_faults.any_misplaced.Goals as goal
 pub returns : goal.returns
 returns c =
     any_from_yields_List (λ (e : AstPattern × List ℕ). is_misplaced (pattern e.0) (type_of e.1)) _ _ _ c.any.ensures.ran
-    (YieldsList-from_zip (YieldsList-from_slice c.args.patterns.now cc) (YieldsList-from_slice c.args.types.now cc)) (λ x b q k. search (rules, tests))
+    (YieldsList-from_zip {s = c.zip.result} (YieldsList-from_slice c.args.patterns.now cc) (YieldsList-from_slice c.args.types.now cc)) (λ x b q k. search (rules, tests))
     ∙ any_misplaced_zip c.args.patterns.now c.args.types.now
