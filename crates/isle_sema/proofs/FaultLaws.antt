@@ -1,12 +1,11 @@
 -- Names that declarations and rules repeat, and rules one after the other.
-use Rattle.std.proofs.Common.{◌≡◌, ℕ, ◌+◌, ◌<◌, ◌≤◌, List, [], ◌∷◌, ◌++◌, length, map, Bool, true, false, cond, Option, Some, None, get_or, refl, sym, ap, ◌∙◌, arith, rules, Global}
-use Rattle.std.specs.Prelude.{drop, ◌&&◌, ◌||◌, not, option_map, slice_get}
+use Rattle.std.proofs.Common.{◌≡◌, ℕ, ◌+◌, ◌<◌, List, [], ◌∷◌, length, map, Bool, true, false, cond, Option, Some, None, get_or, refl, sym, ap, ◌∙◌}
+use Rattle.std.specs.Prelude.{drop, ◌||◌, option_map}
 use Rattle.std.specs.List.{list_any, find, zip}
 use Rattle.std.specs.Str.{bytes_eq}
-use Rattle.std.specs.BTreeMap.{BTreeMap, Updates, UpdatesBy}
+use Rattle.std.specs.BTreeMap.{BTreeMap, UpdatesBy}
 use Rattle.std.specs.Cmp.Lexicographic.{slice_cmp}
 use Rattle.std.specs.Ordering.{nat_cmp}
-use Rattle.std.specs.Map.{update}
 use Rattle.std.proofs.lemmas.Map.Text.{btree_map_updates_str}
 use Rattle.std.proofs.lemmas.List.{drop_more}
 use denote.Ref.{Bor}

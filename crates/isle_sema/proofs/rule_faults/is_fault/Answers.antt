@@ -1,4 +1,4 @@
-use Rattle.std.proofs.Common.{◌≡◌, ◌∙◌, Some, None, rules}
+use Rattle.std.proofs.Common.{◌∙◌, Some, None, rules}
 use Rattle.isle_sema.proofs.FaultLaws.{breaks_found}
 use Rattle.isle_sema.proofs.rule_faults.is_fault.Goals as goal
 

@@ -1,4 +1,4 @@
-use Rattle.std.proofs.Common.{◌≡◌, ◌∙◌, ◌+◌, map, true, false, sym, ap}
+use Rattle.std.proofs.Common.{◌∙◌, ◌+◌, map, sym, ap}
 use Rattle.std.specs.Prelude.{◌||◌}
 use Rattle.isle_sema.specs.Collected.{signature}
 use Rattle.isle_sema.proofs.FaultLaws.{faults_from, faults_more}
