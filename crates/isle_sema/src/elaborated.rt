@@ -18,9 +18,14 @@ pub fn elaborated(
       types = env.now;
       terms = map (term_of env.now.syms (map rule rules.now)) (map signature signatures.now);
       rules = rules_from env.now.syms (map signature signatures.now) 0 (map rule rules.now);
-      converters = []
+      converters = [];
     }) }
 {
-    let _ = (alloc, env.syms.as_slice().len(), signatures.len(), rules.len());
+    let _ = (
+        alloc,
+        env.syms.as_slice().len(),
+        signatures.len(),
+        rules.len(),
+    );
     Err(AllocError)
 }

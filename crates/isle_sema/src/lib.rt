@@ -4,19 +4,21 @@
 mod builtins;
 mod collected;
 mod declarations;
-mod elaborated;
-mod interning;
-mod language;
-mod rule_faults;
-mod signature_faults;
-mod symbols;
 mod draft;
+mod elaborated;
+#[cfg(test)]
+mod fault_tests;
 mod flat_rules;
 mod grouping;
+mod interning;
+mod language;
 mod numbering;
 mod reduced;
+mod rule_faults;
 #[cfg(test)]
 mod rule_set_tests;
+mod signature_faults;
+mod symbols;
 #[cfg(test)]
 mod tests;
 mod typing;

@@ -71,11 +71,7 @@ fn is_var(p: &AstPattern, name: &str) -> bool
 fn type_in(patterns: &[AstPattern], types: &[Text], name: &str) -> Option<TypeId>
     ensures { result ≡ type_in (typed_vars (map pattern patterns.now) (map type_of types.now)) name.now }
 {
-    match patterns
-        .iter()
-        .zip(types)
-        .find(|(p, _)| is_var(p, name))
-    {
+    match patterns.iter().zip(types).find(|(p, _)| is_var(p, name)) {
         Some((_, ty)) => Some(type_of(ty.as_str())),
         None => None,
     }

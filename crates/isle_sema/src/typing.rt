@@ -78,16 +78,14 @@ pub fn type_env_from_ast(alloc: Global, defs: &[Def]) -> Result<TypeEnv, EnvErro
 }
 
 /// Whether the rules of one term are two, or a declaration or a rule is wrong.
-fn have_fault(
-    alloc: Global,
-    declared: &[Signature],
-    rules: &[RuleDef],
-) -> Result<bool, AllocError>
+fn have_fault(alloc: Global, declared: &[Signature], rules: &[RuleDef]) -> Result<bool, AllocError>
     ensures { IfOk result (λ found. found ≡ (repeats (heads_of (map rule rules.now)) || signatures_fault (map signature declared.now) || rules_fault (map signature declared.now) (map rule rules.now))) }
 {
-    Ok(heads_repeat(alloc, rules)?
-        || signatures_fault(alloc, declared)?
-        || rules_fault(alloc, declared, rules)?)
+    Ok(
+        heads_repeat(alloc, rules)?
+            || signatures_fault(alloc, declared)?
+            || rules_fault(alloc, declared, rules)?,
+    )
 }
 
 /// The terms, rules and converters of the definitions, whose types are given. `NotYet` as of `type_env_from_ast`, and
