@@ -20,7 +20,8 @@ use Rattle.isle_sema.specs.Signatures.{Signature, RuleDef}
 use Rattle.isle_sema.specs.Collected.{signature, rule}
 use Rattle.isle_sema.specs.Elaborated.{type_of, signature_named}
 use Rattle.isle_sema.specs.Faults.{repeats_after, is_misplaced, any_misplaced, typed_vars, type_in, breaks}
-use Rattle.isle_sema.specs.FaultsSeen.{terms_of, heads_of, is_var, at_name, FindsFirst}
+use Rattle.isle_sema.specs.Heads.{terms_of, heads_of}
+use Rattle.isle_sema.specs.FaultsSeen.{is_var, at_name, FindsFirst}
 
 -- the names that the declarations from the i-th on declare
 abbrev pub terms_from : ℕ → List CodeSignature → List (List ℕ)

@@ -5,6 +5,9 @@ pub mod Variables
 pub mod Forms
 pub mod FaultLaws
 pub mod Interned
+pub mod SymbolsAgain
+pub mod PatternLaws
+pub mod LookUps
 pub mod ReducedLaws
 pub mod NumberingLaws
 pub mod DraftLaws

@@ -12,14 +12,6 @@ use Rattle.isle_sema.specs.Signatures.{Signature, RuleDef}
 use Rattle.isle_sema.specs.Collected.{signature}
 use Rattle.isle_sema.specs.Elaborated.{signature_named}
 
--- the names that declarations declare
-abbrev pub terms_of : List Signature → List (List ℕ)
-terms_of sigs = map (λ (s : Signature). s.term) sigs
-
--- the terms that rules are of
-abbrev pub heads_of : List RuleDef → List (List ℕ)
-heads_of rules = map (λ (r : RuleDef). r.term) rules
-
 -- a pattern is the variable of this name
 abbrev pub is_var : List ℕ → Pattern → Bool
 is_var name (tree.Var other) = bytes_eq other name

@@ -4,6 +4,7 @@ pub mod Reduced
 pub mod Signatures
 pub mod Collected
 pub mod Elaborated
+pub mod Heads
 pub mod Faults
 pub mod Language
 pub mod FaultsSeen

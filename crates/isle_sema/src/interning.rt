@@ -116,3 +116,12 @@ pub fn symbols(alloc: Global, defs: &[Def]) -> Result<Symbols, AllocError>
     }
     Ok(names)
 }
+
+/// The symbols of texts.
+pub fn symbols_of(alloc: Global, texts: &[Text]) -> Result<Symbols, AllocError>
+    ensures { IfOk result (λ names. names ≡ fold added [] texts.now) }
+{
+    let mut names = Symbols::new(alloc);
+    intern_texts(alloc, &mut names, texts)?;
+    Ok(names)
+}

@@ -6,6 +6,9 @@ mod collected;
 mod declarations;
 mod draft;
 mod elaborated;
+mod elaborated_patterns;
+mod elaborated_rules;
+mod elaborated_terms;
 #[cfg(test)]
 mod fault_tests;
 mod flat_rules;

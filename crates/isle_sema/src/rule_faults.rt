@@ -3,25 +3,19 @@ ghost use Rattle.isle_syntax.specs.Views.{pattern, expr};
 ghost use Rattle.isle_sema.specs.Collected.{signature, rule as seen};
 ghost use Rattle.isle_sema.specs.Elaborated.{type_of, signature_named};
 ghost use Rattle.isle_sema.specs.Faults.{repeats, is_misplaced, any_misplaced, typed_vars, type_in, is_other, is_wrong, breaks, rules_fault};
-ghost use Rattle.isle_sema.specs.FaultsSeen.{heads_of, is_var, FindsFirst};
+ghost use Rattle.isle_sema.specs.FaultsSeen.{is_var, FindsFirst};
+ghost use Rattle.isle_sema.specs.Heads.{heads_of};
 ghost use Rattle.isle_sema.specs.Signatures.{Signature as Declaration};
 
-use crate::builtins::type_named;
 use crate::collected::{RuleDef, Signature};
 use crate::declarations::by_name;
+use crate::elaborated_patterns::type_of;
 use crate::language::meet;
 use crate::symbols::Symbols;
 use isle_core::{Text, TypeId};
 use isle_syntax::{AstExpr, AstPattern};
 use std::alloc::{AllocError, Global};
 use std::collections::BTreeMap;
-
-/// The type of a name, or `bool`.
-fn type_of(name: &str) -> TypeId
-    ensures { result ≡ type_of name.now }
-{
-    type_named(name).unwrap_or(TypeId(0))
-}
 
 /// Whether an integer stands at a `bool`, or a truth at an integer.
 #[tactic(auto, using(crate::proofs::Sees::pattern_sees))]
@@ -47,7 +41,7 @@ fn any_misplaced(patterns: &[AstPattern], types: &[Text]) -> bool
     patterns
         .iter()
         .zip(types)
-        .any(|(p, ty)| is_misplaced(p, type_of(ty.as_str())))
+        .any(|(p, ty)| is_misplaced(p, type_of(ty)))
 }
 
 /// Whether a pattern is the variable.
@@ -72,7 +66,7 @@ fn type_in(patterns: &[AstPattern], types: &[Text], name: &str) -> Option<TypeId
     ensures { result ≡ type_in (typed_vars (map pattern patterns.now) (map type_of types.now)) name.now }
 {
     match patterns.iter().zip(types).find(|(p, _)| is_var(p, name)) {
-        Some((_, ty)) => Some(type_of(ty.as_str())),
+        Some((_, ty)) => Some(type_of(ty)),
         None => None,
     }
 }
@@ -108,12 +102,7 @@ fn breaks(rule: &RuleDef, declared: &Signature) -> bool
 {
     rule.args.len() != declared.args.len()
         || any_misplaced(rule.args, declared.args)
-        || is_wrong(
-            rule.rhs,
-            type_of(declared.ret.as_str()),
-            rule.args,
-            declared.args,
-        )
+        || is_wrong(rule.rhs, type_of(declared.ret), rule.args, declared.args)
 }
 
 /// Whether a rule is no rule of the declaration that its head names.

@@ -3,7 +3,7 @@ ghost use Rattle.std.specs.List.{list_all, list_any};
 ghost use Rattle.isle_sema.specs.Builtins.{type_named};
 ghost use Rattle.isle_sema.specs.Collected.{signature as seen};
 ghost use Rattle.isle_sema.specs.Faults.{repeats, names_no_type, has_too_many, signatures_fault};
-ghost use Rattle.isle_sema.specs.FaultsSeen.{terms_of};
+ghost use Rattle.isle_sema.specs.Heads.{terms_of};
 
 use crate::builtins::type_named;
 use crate::collected::Signature;

@@ -6,7 +6,7 @@ ghost use Rattle.isle_syntax.specs.Views.{defs as seen};
 ghost use Rattle.isle_sema.specs.Builtins.{builtins};
 ghost use Rattle.isle_sema.specs.Collected.{signature, rule};
 ghost use Rattle.isle_sema.specs.Faults.{repeats, signatures_fault, rules_fault};
-ghost use Rattle.isle_sema.specs.FaultsSeen.{heads_of};
+ghost use Rattle.isle_sema.specs.Heads.{heads_of};
 ghost use Rattle.isle_sema.specs.Typing.{TypesFrom, Typed, TypedOnly};
 
 use crate::collected::{RuleDef, Signature, rule_defs, signatures};

@@ -21,7 +21,7 @@ returns-in-Some c =
     let found : option_map both c.find.result ≡ find (λ (e : AstPattern × List ℕ). is_var c.args.name.now (pattern e.0)) (zip c.args.patterns.now c.args.types.now) =
     find_from_yields_List (λ (e : AstPattern × List ℕ). is_var c.args.name.now (pattern e.0)) c.find.new.self _ c.find.result c.find.ensures.ran
     (YieldsList-from_zip {s = c.zip.result} (YieldsList-from_slice {s = zip_first c.zip.result} c.args.patterns.now (search rules)) (YieldsList-from_slice {s = zip_second c.zip.result} c.args.types.now (search rules))) (λ x b q k. search (rules, tests)) in
-    ap Some (c.type_of.ensures ∙ ap type_of c.as_str.ensures) ∙ ap (λ r. type_beside (option_map both r)) (sym c.in-Some.is) ∙ ap type_beside found ∙ type_in_zip c.args.name.now c.args.patterns.now c.args.types.now
+    ap Some c.type_of.ensures ∙ ap (λ r. type_beside (option_map both r)) (sym c.in-Some.is) ∙ ap type_beside found ∙ type_in_zip c.args.name.now c.args.patterns.now c.args.types.now
 
 pub returns-in-None : goal.returns-in-None
 returns-in-None c =
