@@ -22,7 +22,7 @@ use std::alloc::{AllocError, Global};
 /// Why definitions give no environment.
 #[derive(Clone, Copy, Debug, PartialEq, Eq)]
 pub enum EnvError {
-    /// They are not all of the forms that are built.
+    /// They are not all of the forms that are built, or one of them is wrong.
     NotYet,
     Memory,
 }

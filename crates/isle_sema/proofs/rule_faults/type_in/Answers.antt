@@ -7,7 +7,6 @@ use Rattle.std.proofs.lemmas.Iterator.Search.{find_from_yields_List}
 use denote.Ref.{Bor}
 use Rattle.isle_syntax.specs.declared.tree.AstPattern.{AstPattern}
 use Rattle.isle_syntax.specs.Views.{pattern}
-use Rattle.isle_sema.specs.Elaborated.{type_of}
 use Rattle.isle_sema.specs.FaultsSeen.{is_var}
 use Rattle.isle_sema.proofs.FaultLaws.{type_beside, type_in_zip}
 use Rattle.isle_sema.proofs.rule_faults.type_in.Goals as goal
