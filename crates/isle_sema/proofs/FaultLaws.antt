@@ -1,4 +1,4 @@
--- Names that declarations and rules repeat, and rules one after the other.
+-- Faults, one declaration, rule or pattern after the other.
 use Rattle.std.proofs.Common.{◌≡◌, ℕ, ◌+◌, ◌<◌, List, [], ◌∷◌, length, map, Bool, true, false, cond, Option, Some, None, get_or, refl, sym, ap, ◌∙◌}
 use Rattle.std.specs.Prelude.{drop, ◌||◌, option_map}
 use Rattle.std.specs.List.{list_any, find, zip}

@@ -1,5 +1,5 @@
 -- What the code that finds faults looks up.
-use Rattle.std.specs.Prelude.{◌≡◌, ℕ, List, map, Bool, false, Option, option_map}
+use Rattle.std.specs.Prelude.{◌≡◌, ℕ, List, Bool, false, Option, option_map}
 use Rattle.std.specs.BTreeMap.{BTreeMap, get_by}
 use Rattle.std.specs.Cmp.Lexicographic.{slice_cmp}
 use Rattle.std.specs.Ordering.{nat_cmp}
@@ -8,7 +8,7 @@ use denote.Ref.{Bor}
 use Rattle.isle_syntax.specs.Tree as tree
 use Rattle.isle_syntax.specs.Tree.{Pattern}
 use Rattle.isle_sema.specs.declared.collected.Signature.{Signature as CodeSignature}
-use Rattle.isle_sema.specs.Signatures.{Signature, RuleDef}
+use Rattle.isle_sema.specs.Signatures.{Signature}
 use Rattle.isle_sema.specs.Collected.{signature}
 use Rattle.isle_sema.specs.Elaborated.{signature_named}
 
