@@ -3,6 +3,7 @@ pub mod SymbolLaws
 pub mod Sees
 pub mod Variables
 pub mod Forms
+pub mod FaultLaws
 pub mod Interned
 pub mod SymbolsAgain
 pub mod TypedConstants

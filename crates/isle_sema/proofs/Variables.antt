@@ -1,5 +1,5 @@
 -- Variables that were met, one pattern after the other.
-use Rattle.std.proofs.Common.{◌≡◌, ℕ, ◌+◌, ◌<◌, List, [], ◌∷◌, ◌++◌, length, map, Bool, true, cond, get_or, sym, ap, ◌∙◌}
+use Rattle.std.proofs.Common.{◌≡◌, ℕ, ◌+◌, ◌<◌, List, ◌∷◌, ◌++◌, length, map, Bool, true, cond, get_or, sym, ap, ◌∙◌}
 use Rattle.std.specs.Prelude.{flat_map, drop}
 use Rattle.std.proofs.lemmas.List.{drop_more}
 use Rattle.isle_syntax.specs.declared.tree.AstPattern.{AstPattern}

@@ -1,9 +1,7 @@
 -- The types that are there before any definition.
 use Rattle.std.specs.Prelude.{ℕ, List, [], ◌∷◌, Option, option_map, codes}
 use Rattle.isle_core.specs.declared.TypeId.{TypeId}
-use Rattle.isle_core.specs.declared.types.IntType.{IntType}
 use Rattle.isle_core.specs.declared.types.IntType.TheVariants.{U8, U16, U32, U64, U128, USize, I8, I16, I32, I64, I128, ISize}
-use Rattle.isle_core.specs.declared.types.BuiltinType.{BuiltinType}
 use Rattle.isle_core.specs.declared.types.BuiltinType.TheVariants.{Bool, Int}
 use Rattle.isle_core.specs.declared.types.TypeDef.{TypeDef}
 use Rattle.isle_core.specs.declared.types.TypeDef.TheVariants.{Builtin}

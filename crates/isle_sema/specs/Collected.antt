@@ -1,7 +1,5 @@
 -- What contracts see of the collected declarations and rules.
-use Rattle.std.specs.Prelude.{List, Option, map, option_map}
-use denote.Ref.{Bor}
-use Rattle.isle_core.specs.declared.Text.{Text}
+use Rattle.std.specs.Prelude.{map, option_map}
 use Rattle.isle_syntax.specs.Views.{pattern, expr}
 use Rattle.isle_sema.specs.declared.collected.Signature.{Signature as CodeSignature}
 use Rattle.isle_sema.specs.declared.collected.RuleDef.{RuleDef as CodeRule}

@@ -7,8 +7,8 @@ use Rattle.isle_syntax.specs.Tree as tree
 use Rattle.isle_syntax.specs.Tree.{Pattern, Expr, Def}
 use Rattle.isle_sema.specs.Symbols.{index_of}
 use Rattle.isle_sema.specs.Builtins.{type_named}
-use Rattle.isle_sema.specs.Signatures.{Signature, RuleDef, signatures, rule_defs, term_named}
-use Rattle.isle_sema.specs.Elaborated.{type_of, vars_of, signature_named}
+use Rattle.isle_sema.specs.Signatures.{Signature, RuleDef, signatures, rule_defs}
+use Rattle.isle_sema.specs.Elaborated.{type_of, signature_named}
 
 -- a name repeats an earlier one, or one of these
 abbrev pub repeats_after : List (List ℕ) → List (List ℕ) → Bool

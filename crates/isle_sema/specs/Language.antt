@@ -1,5 +1,5 @@
 -- The definitions that are built.
-use Rattle.std.specs.Prelude.{ℕ, List, [], ◌∷◌, Bool, true, false, ◌&&◌, not, flat_map, map}
+use Rattle.std.specs.Prelude.{List, [], ◌∷◌, Bool, true, false, ◌&&◌, not, flat_map, map}
 use Rattle.std.specs.List.{list_all}
 use Rattle.isle_syntax.specs.Tree as tree
 use Rattle.isle_syntax.specs.Tree.{Pattern, Expr, IfLet, Def, Decl, Rule}

@@ -1,5 +1,5 @@
 -- Integers as the values of their type.
-use Rattle.std.specs.Prelude.{ℤ, Option, Some, None, slice_get}
+use Rattle.std.specs.Prelude.{ℤ, Option, Some, slice_get}
 use Rattle.std.specs.Int.{w128, cast_signed}
 use Rattle.isle_core.specs.declared.TypeId.{TypeId}
 use Rattle.isle_core.specs.declared.types.IntType.{IntType}

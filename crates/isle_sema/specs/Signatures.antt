@@ -1,5 +1,5 @@
 -- The declarations and rules among definitions.
-use Rattle.std.specs.Prelude.{ℕ, ℤ, List, [], ◌∷◌, Bool, Option, Some, None, map, filter_map, option_map}
+use Rattle.std.specs.Prelude.{ℕ, ℤ, List, Bool, Option, Some, None, map, filter_map, option_map}
 use Rattle.std.specs.List.{list_any}
 use Rattle.std.specs.Str.{bytes_eq}
 use Rattle.isle_core.specs.declared.position.Pos.{Pos}

@@ -53,7 +53,7 @@ fn meets_again(alloc: Global, before: &mut Symbols, p: &AstPattern) -> Result<bo
 }
 
 /// Whether a name was met before; it is met now.
-fn meet(alloc: Global, before: &mut Symbols, name: &str) -> Result<bool, AllocError>
+pub fn meet(alloc: Global, before: &mut Symbols, name: &str) -> Result<bool, AllocError>
     ensures { IfOk result (λ found. (rest : List (List ℕ)) → repeats_after before.old (name.now ∷ rest) ≡ (if found then true else repeats_after before.new rest)) }
 {
     if before.find(name).is_some() {

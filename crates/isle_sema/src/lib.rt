@@ -3,19 +3,24 @@
 
 mod builtins;
 mod collected;
+mod declarations;
 mod draft;
 mod elaborated;
 mod elaborated_patterns;
 mod elaborated_rules;
 mod elaborated_terms;
+#[cfg(test)]
+mod fault_tests;
 mod flat_rules;
 mod grouping;
 mod interning;
 mod language;
 mod numbering;
 mod reduced;
+mod rule_faults;
 #[cfg(test)]
 mod rule_set_tests;
+mod signature_faults;
 mod symbols;
 #[cfg(test)]
 mod tests;

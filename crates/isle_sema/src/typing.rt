@@ -1,13 +1,20 @@
-ghost use Rattle.std.specs.Prelude.{◌≡◌, Err, IfOk, [], ◌∷◌};
+ghost use Rattle.std.specs.Prelude.{◌≡◌, Err, IfOk, [], ◌∷◌, map, ◌||◌};
 ghost use Rattle.isle_core.specs.declared.types.TypeEnv.{TypeEnv as TheTypes};
 ghost use Rattle.isle_core.specs.Rule.{Environment};
 ghost use Rattle.isle_core.specs.RuleViews.{environment};
 ghost use Rattle.isle_syntax.specs.Views.{defs as seen};
 ghost use Rattle.isle_sema.specs.Builtins.{builtins};
+ghost use Rattle.isle_sema.specs.Collected.{signature, rule};
+ghost use Rattle.isle_sema.specs.Faults.{repeats, signatures_fault, rules_fault};
+ghost use Rattle.isle_sema.specs.Heads.{heads_of};
 ghost use Rattle.isle_sema.specs.Typing.{TypesFrom, Typed, TypedOnly};
 
+use crate::collected::{RuleDef, Signature, rule_defs, signatures};
+use crate::elaborated::elaborated;
 use crate::interning::symbols;
 use crate::language::are_built_defs;
+use crate::rule_faults::{heads_repeat, rules_fault};
+use crate::signature_faults::signatures_fault;
 use isle_core::{BuiltinType, IntType, List, TermEnv, TypeDef, TypeEnv};
 use isle_syntax::Def;
 use std::alloc::{AllocError, Global};
@@ -15,7 +22,7 @@ use std::alloc::{AllocError, Global};
 /// Why definitions give no environment.
 #[derive(Clone, Copy, Debug, PartialEq, Eq)]
 pub enum EnvError {
-    /// They are not all of the forms that are built.
+    /// They are not all of the forms that are built, or one of them is wrong.
     NotYet,
     Memory,
 }
@@ -70,19 +77,28 @@ pub fn type_env_from_ast(alloc: Global, defs: &[Def]) -> Result<TypeEnv, EnvErro
     })
 }
 
-/// The terms, rules and converters of the definitions, whose types are given. `NotYet` as of `type_env_from_ast`.
+/// Whether the rules of one term are two, or a declaration or a rule is wrong.
+fn have_fault(alloc: Global, declared: &[Signature], rules: &[RuleDef]) -> Result<bool, AllocError>
+    ensures { IfOk result (λ found. found ≡ (repeats (heads_of (map rule rules.now)) || signatures_fault (map signature declared.now) || rules_fault (map signature declared.now) (map rule rules.now))) }
+{
+    Ok(
+        heads_repeat(alloc, rules)?
+            || signatures_fault(alloc, declared)?
+            || rules_fault(alloc, declared, rules)?,
+    )
+}
+
+/// The terms, rules and converters of the definitions, whose types are given. `NotYet` as of `type_env_from_ast`, and
+/// where two rules are of one term or a definition is wrong.
 pub fn term_env_from_ast(alloc: Global, env: &TypeEnv, defs: &[Def]) -> Result<TermEnv, EnvError>
     requires { TypesFrom (seen defs.now) env.now }
     ensures ok { IfOk result (λ terms. TypedOnly (seen defs.now) (environment env.now terms)) }
     ensures not_yet { result ≡ Err EnvError.NotYet → (all : Environment) → Typed (seen defs.now) all → ⊥ }
 {
-    if !defs.is_empty() {
+    let declared = signatures(alloc, defs)?;
+    let rules = rule_defs(alloc, defs)?;
+    if have_fault(alloc, &declared, &rules)? {
         return Err(EnvError::NotYet);
     }
-    let _ = env;
-    Ok(TermEnv {
-        terms: List::new(Vec::new(alloc)),
-        rules: List::new(Vec::new(alloc)),
-        converters: List::new(Vec::new(alloc)),
-    })
+    Ok(elaborated(alloc, env, &declared, &rules)?)
 }

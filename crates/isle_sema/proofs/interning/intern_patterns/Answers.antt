@@ -1,4 +1,4 @@
-use Rattle.std.proofs.Common.{ap, sym, ◌≡◌, ◌∙◌, ◌+◌, fold}
+use Rattle.std.proofs.Common.{ap, sym, ◌∙◌, ◌+◌, fold}
 use Rattle.isle_sema.specs.Symbols.{added}
 use Rattle.isle_sema.proofs.Variables.{names_from}
 use Rattle.isle_sema.proofs.Interned.{patterns_more}

@@ -1,4 +1,4 @@
-use Rattle.std.proofs.Common.{ap, sym, ◌≡◌, ◌∙◌, ◌+◌, fold}
+use Rattle.std.proofs.Common.{ap, sym, ◌∙◌, ◌+◌, fold}
 use Rattle.std.specs.Prelude.{drop}
 use Rattle.isle_sema.specs.Symbols.{added}
 use Rattle.isle_sema.proofs.Interned.{texts_more}

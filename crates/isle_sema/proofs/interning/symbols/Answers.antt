@@ -1,4 +1,4 @@
-use Rattle.std.proofs.Common.{ap, sym, ◌≡◌, ◌∙◌, ◌+◌, fold}
+use Rattle.std.proofs.Common.{ap, sym, ◌∙◌, ◌+◌, fold}
 use Rattle.isle_sema.specs.Symbols.{added}
 use Rattle.isle_sema.proofs.Interned.{def_names_from, defs_more}
 use Rattle.isle_sema.proofs.interning.symbols.Goals as goal

@@ -1,4 +1,4 @@
-use Rattle.std.proofs.Common.{rules, true, false, ◌≡◌, ◌+◌, sym, ap, ◌∙◌}
+use Rattle.std.proofs.Common.{rules, true, false, ◌+◌, sym, ap, ◌∙◌}
 use Rattle.std.specs.Prelude.{◌&&◌}
 use Rattle.isle_sema.proofs.Forms.{defs_from, defs_more}
 use Rattle.isle_sema.proofs.language.are_built_defs.Goals as goal

@@ -1,8 +1,5 @@
-use Rattle.std.proofs.Common.{rules, sym, ap, ◌∙◌, cond, ◌≡◌, ◌++◌, ◌∷◌, IfOk, ℕ, List, true, if◌then◌else◌, flat_map, map, ◌+◌, ◌-◌, ◌*◌, ◌<◌, ◌≤◌, length, ◌/◌, ◌%◌, Bool, false, nat_eq, nat_lt, [], slice_index_or, slice_set, bit_and, bit_or, Fits, w8, w32, w64, Bor, MutBor}
-use Rattle.isle_syntax.specs.Views.{pattern, expr, iflet, def}
-use Rattle.isle_sema.specs.Symbols.{pattern_names}
-use Rattle.isle_sema.specs.Faults.{repeats, repeats_after}
-use Rattle.isle_sema.specs.Language.{is_built_pattern, is_built_expr, is_built_def}
+use Rattle.std.proofs.Common.{sym, ap, ◌∙◌, cond, true, ◌+◌}
+use Rattle.isle_sema.specs.Faults.{repeats_after}
 use Rattle.isle_sema.proofs.Variables.{met_more, names_from}
 use Rattle.isle_sema.proofs.language.repeats_variable.Goals as goal
 

@@ -1,9 +1,8 @@
-use Rattle.std.proofs.Common.{◌≡◌, ◌++◌, ◌∷◌, IfOk, ℕ, List, true, if◌then◌else◌, flat_map, map, ◌+◌, ◌-◌, ◌*◌, ◌<◌, ◌≤◌, length}
+use Rattle.std.proofs.Common.{◌≡◌, flat_map, map}
 use Rattle.std.specs.Prelude.{drop}
-use Rattle.isle_syntax.specs.Views.{pattern, expr, iflet, def}
+use Rattle.isle_syntax.specs.Views.{pattern}
 use Rattle.isle_sema.specs.Symbols.{pattern_names}
 use Rattle.isle_sema.specs.Faults.{repeats, repeats_after}
-use Rattle.isle_sema.specs.Language.{is_built_pattern, is_built_expr, is_built_def}
 use Rattle.isle_sema.proofs.language.repeats_variable.Given as goal
 
 abbrev pub invariant-loop-p : goal.invariant-loop-p

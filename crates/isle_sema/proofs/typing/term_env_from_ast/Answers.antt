@@ -1,6 +1,12 @@
-use Rattle.std.proofs.Common.{rules, ◌∙◌}
-use Rattle.isle_sema.proofs.TypedOnce.{env_made}
+use Rattle.std.proofs.Common.{◌≡◌, ap}
+use Rattle.std.specs.Prelude.{flat_map}
+use Rattle.isle_core.specs.declared.types.TypeEnv.{TypeEnv}
+use Rattle.isle_syntax.specs.Views.{defs as seen}
+use Rattle.isle_sema.specs.Symbols.{def_names, symbols}
+use Rattle.isle_sema.proofs.SymbolsAgain.{symbols_again}
 use Rattle.isle_sema.proofs.typing.term_env_from_ast.Goals as goal
 
-pub returns-clause-ok : goal.returns-clause-ok
-returns-clause-ok c = env_made c.args.defs.now c.args.env.now _ _ _ (search rules) c.requires (c.new-2.ensures ∙ c.new.ensures.items) (c.new-4.ensures ∙ c.new-3.ensures.items) (c.new-6.ensures ∙ c.new-5.ensures.items)
+pub elaborated-requires-clause-syms : goal.elaborated-requires-clause-syms
+elaborated-requires-clause-syms c =
+    let given : c.args.env.now.syms ≡ symbols (seen c.args.defs.now) = ap (λ (types : TypeEnv). types.syms) c.requires.given in
+    rw given (symbols_again (flat_map def_names (seen c.args.defs.now)))

@@ -1,6 +1,4 @@
-use Rattle.std.proofs.Common.{rules, ◌≡◌, None, Some, ◌∷◌, [], ◌++◌, List, ℕ, length, sym, ◌∙◌, ap, subst}
-use Rattle.std.specs.String.{string_bytes}
-use Rattle.isle_sema.specs.Symbols.{index_of, HasPlaces}
+use Rattle.std.proofs.Common.{rules}
 use Rattle.isle_sema.proofs.SymbolLaws.{names_more}
 use Rattle.isle_sema.proofs.symbols.Symbols.intern.Goals as goal
 
