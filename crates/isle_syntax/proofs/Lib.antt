@@ -15,3 +15,4 @@ pub mod Sees
 pub mod ListSteps
 pub mod DefinitionSteps
 pub mod FileSteps
+pub mod Within

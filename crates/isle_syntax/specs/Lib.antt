@@ -14,3 +14,4 @@ pub mod WordViews
 pub mod ReadingViews
 pub mod LexerViews
 pub mod Lexer
+pub mod Positions
