@@ -6,6 +6,10 @@ pub mod Forms
 pub mod FaultLaws
 pub mod Interned
 pub mod SymbolsAgain
+pub mod TypedConstants
+pub mod BoundVariables
+pub mod TypedRules
+pub mod OneRule
 pub mod PatternLaws
 pub mod LookUps
 pub mod ReducedLaws

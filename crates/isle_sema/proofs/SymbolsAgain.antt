@@ -2,6 +2,7 @@
 use Rattle.std.proofs.Common.{◌≡◌, ℕ, Bool, true, false, cond, List, [], ◌∷◌, ◌++◌, length, map, Option, Some, None, refl, sym, ap, ◌∙◌}
 use Rattle.std.specs.Prelude.{fold, is_some, ◌||◌}
 use Rattle.std.specs.Str.{bytes_eq}
+use Rattle.std.proofs.lemmas.Bool.{or_parts}
 use Rattle.std.proofs.lemmas.List.{append_assoc, append-nil}
 use Rattle.std.proofs.lemmas.Slice.Eq.{bytes_eq-Decides}
 use Rattle.isle_core.specs.declared.types.TermKind.TheVariants as kind
@@ -13,17 +14,13 @@ use Rattle.isle_sema.specs.Faults.{repeats, repeats_after}
 use Rattle.isle_sema.specs.Heads.{heads_of, term_over}
 use Rattle.isle_sema.proofs.SymbolLaws.{index_of_more}
 
-neither : (a b : Bool) → a || b ≡ false → (a ≡ false) × (b ≡ false)
-neither true b h = cc
-neither false b h = (refl, h)
-
 added_new : (names : List (List ℕ)) (name : List ℕ) → is_some (index_of names name) ≡ false → added names name ≡ names ++ name ∷ []
 added_new names name h = ap (λ b. cond b names (names ++ name ∷ [])) h
 
 apart_behind : (before names : List (List ℕ)) → repeats_after before names ≡ false → fold added before names ≡ before ++ names
 apart_behind before [] h = sym (append-nil before)
 apart_behind before (name ∷ names) h =
-    let k = neither (is_some (index_of before name)) (repeats_after (before ++ name ∷ []) names) h in
+    let k = or_parts (is_some (index_of before name)) (repeats_after (before ++ name ∷ []) names) h in
     ap (λ b. fold added b names) (added_new before name k.0) ∙ apart_behind (before ++ name ∷ []) names k.1 ∙ append_assoc before (name ∷ []) names
 
 -- names of which none repeats are their own symbols
@@ -33,7 +30,7 @@ apart_same names h = apart_behind [] names h
 apart_more : (before names : List (List ℕ)) (name : List ℕ) → repeats_after before names ≡ false → is_some (index_of (before ++ names) name) ≡ false → repeats_after before (names ++ name ∷ []) ≡ false
 apart_more before [] name h new = ap (λ b. b || false) (ap (λ ns. is_some (index_of ns name)) (sym (append-nil before)) ∙ new)
 apart_more before (first ∷ names) name h new =
-    let k = neither (is_some (index_of before first)) (repeats_after (before ++ first ∷ []) names) h in
+    let k = or_parts (is_some (index_of before first)) (repeats_after (before ++ first ∷ []) names) h in
     ap (λ b. b || repeats_after (before ++ first ∷ []) (names ++ name ∷ [])) k.0
     ∙ apart_more (before ++ first ∷ []) names name k.1 (ap (λ ns. is_some (index_of ns name)) (append_assoc before (first ∷ []) names) ∙ new)
 

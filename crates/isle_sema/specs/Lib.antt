@@ -8,6 +8,7 @@ pub mod Heads
 pub mod Faults
 pub mod Language
 pub mod FaultsSeen
+pub mod TypedRule
 pub mod Typing
 pub mod Numbering
 pub mod Drafts
