@@ -1,6 +1,6 @@
 -- A term has at most one rule.
-use Rattle.std.proofs.Common.{◌≡◌, ℕ, ◌+◌, ◌≤◌, Bool, true, false, cond, List, [], ◌∷◌, ◌++◌, length, map, Option, Some, None, refl, sym, ap, ◌∙◌, subst, arith}
-use Rattle.std.specs.Prelude.{◌==◌, ◌||◌, ◌&&◌, not, option_map, filter, is_some}
+use Rattle.std.proofs.Common.{◌≡◌, ℕ, ◌+◌, ◌≤◌, Bool, true, false, cond, List, [], ◌∷◌, ◌++◌, length, Option, Some, None, refl, sym, ap, ◌∙◌, subst, arith}
+use Rattle.std.specs.Prelude.{◌==◌, not, option_map, filter, is_some}
 use Rattle.std.specs.Str.{bytes_eq}
 use Rattle.std.specs.List.{list_all}
 use Rattle.std.proofs.lemmas.Bool.{or_parts, and_parts, eqb-true, not-true}
@@ -14,7 +14,7 @@ use Rattle.isle_sema.specs.Elaborated.{signature_named, term_or, rule_over, rule
 use Rattle.isle_sema.specs.Faults.{repeats, repeats_after, breaks, signatures_fault, rules_fault}
 use Rattle.isle_sema.specs.Language.{is_built_def}
 use Rattle.isle_sema.specs.Heads.{terms_of, heads_of}
-use Rattle.isle_sema.specs.Typing.{env_of, Typed}
+use Rattle.isle_sema.specs.Typing.{Typed}
 use Rattle.isle_sema.proofs.SymbolLaws.{index_of_new}
 use Rattle.isle_sema.proofs.LookUps.{at_place, named_at}
 use Rattle.isle_sema.proofs.BoundVariables.{index_stays, none_of}

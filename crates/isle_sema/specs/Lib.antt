@@ -8,6 +8,7 @@ pub mod Heads
 pub mod Faults
 pub mod Language
 pub mod TypedRule
+pub mod ReadyRule
 pub mod Typing
 pub mod Numbering
 pub mod Drafts
