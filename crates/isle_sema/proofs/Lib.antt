@@ -8,8 +8,10 @@ pub mod Interned
 pub mod SymbolsAgain
 pub mod TypedConstants
 pub mod BoundVariables
+pub mod VariablesOnce
 pub mod TypedRules
 pub mod OneRule
+pub mod ReadyRules
 pub mod PatternLaws
 pub mod LookUps
 pub mod ReducedLaws

@@ -149,7 +149,8 @@ after_keeps : (r : Pattern) (p : Path) (places : Places) (y : ℕ) (q : Path) �
 after_keeps (Var ty x) p places y q h = met_keeps (places x.0) x.0 y p q places refl h
 after_keeps r p places y q h = h
 
-args_keep : (qs : List Pattern) (n : ℕ) (places : Places) (y : ℕ) (q : Path) → places y ≡ Some q → args_after qs n places y ≡ Some q
+-- a place stays behind more patterns
+pub args_keep : (qs : List Pattern) (n : ℕ) (places : Places) (y : ℕ) (q : Path) → places y ≡ Some q → args_after qs n places y ≡ Some q
 args_keep [] n places y q h = h
 args_keep (r ∷ qs) n places y q h = args_keep qs (suc n) (after r (Arg n) places) y q (after_keeps r (Arg n) places y q h)
 

@@ -2,7 +2,7 @@
 use Rattle.std.proofs.Common.{◌≡◌, ℕ, suc, ◌+◌, Bool, true, false, cond, List, [], ◌∷◌, length, map, Option, Some, None, refl, sym, ap, ◌∙◌, subst, arith}
 use Rattle.std.specs.Prelude.{◌==◌, ◌&&◌, ◌||◌, not, All, option_map, slice_get, filter, flat_map, IsSomeAnd}
 use Rattle.std.specs.List.{AllByRecursion, list_all}
-use Rattle.std.proofs.lemmas.Bool.{or_parts, and_parts, and_from, eqb-true, not-false}
+use Rattle.std.proofs.lemmas.Bool.{or_parts, and_parts, and_from, eqb-true, not-true, not-false}
 use Rattle.std.proofs.lemmas.Option.{slice_get-map}
 use Rattle.std.proofs.lemmas.List.Elements.{All-from_recursion, recursion_from_All}
 use Rattle.isle_core.specs.declared.TermId.{TermId}
@@ -15,6 +15,7 @@ use Rattle.isle_core.specs.Expr.{Expr as CoreExpr}
 use Rattle.isle_core.specs.Rule.{Rule, Environment, rules_of}
 use Rattle.isle_core.specs.Value.{Truth}
 use Rattle.isle_core.specs.HasType.{HasType, IsOfDef}
+use Rattle.isle_core.specs.Tests.{bool_type}
 use Rattle.isle_core.specs.BuiltRule.{IsBuiltPattern, IsBuiltExpr, IsBuiltRule, IsBoundIn, IsBoundRule}
 use Rattle.isle_syntax.specs.Tree as tree
 use Rattle.isle_syntax.specs.Tree.{Pattern, Expr, Def}
@@ -30,8 +31,12 @@ use Rattle.isle_sema.specs.Typing.{env_of, Typed}
 use Rattle.isle_sema.proofs.LookUps.{at_place, named_at}
 use Rattle.isle_sema.proofs.TypedConstants.{type_below, integer_typed}
 use Rattle.isle_sema.proofs.BoundVariables.{bound_in, some_same}
+use Rattle.isle_sema.proofs.VariablesOnce.{apart_numbers}
 
 -- ---- patterns and right sides
+
+is_bool : (ty : TypeId) → not (ty.0 == 0) ≡ false → ty ≡ bool_type
+is_bool ty h = ap type_id (eqb-true ty.0 0 (not-false (ty.0 == 0) h))
 
 truth_typed : (defs : List Def) (b : Bool) (ty : TypeId) → not (ty.0 == 0) ≡ false → HasType (env_of defs) (Truth b) ty
 truth_typed defs b ty h =
@@ -66,7 +71,7 @@ variable_typed defs ty ps tys x (Some of) e h =
 expr_typed : (defs : List Def) (name : List ℕ) (ps : List Pattern) (tys : List TypeId) (e : Expr) → is_built_expr e ≡ true → is_wrong e (type_of name) (typed_vars ps tys) ≡ false
     → IsExprOf (env_of defs) (patterns_at tys ps []) (type_of name) (expr_at (type_of name) e (vars_of ps []))
 expr_typed defs name ps tys (tree.Number n) built h = (refl, integer_typed (type_of name).0 n (type_below name) h)
-expr_typed defs name ps tys (tree.Fact b) built h = truth_typed defs b (type_of name) h
+expr_typed defs name ps tys (tree.Fact b) built h = (sym (is_bool (type_of name) h), truth_typed defs b (type_of name) h)
 expr_typed defs name ps tys (tree.Name x) built h = variable_typed defs (type_of name) ps tys x (type_in (typed_vars ps tys) x) refl h
 expr_typed defs name ps tys (tree.Constant x) built h = cc
 expr_typed defs name ps tys (tree.Let ls e) built h = cc
@@ -74,11 +79,17 @@ expr_typed defs name ps tys (tree.Call f es) built h = cc
 
 -- ---- a rule that breaks nothing
 
-rule_typed : (defs : List Def) (r : RuleDef) (n i : ℕ) (x : Option Signature) → slice_get (signatures defs) n ≡ x → is_built_expr r.rhs ≡ true → breaks r x ≡ false
+-- the right side is built, and no name of a pattern repeats
+is_built_rule : RuleDef → Bool
+is_built_rule r = is_built_expr r.rhs && not (repeats (flat_map pattern_names r.args))
+
+rule_typed : (defs : List Def) (r : RuleDef) (n i : ℕ) (x : Option Signature) → slice_get (signatures defs) n ≡ x → is_built_rule r ≡ true → breaks r x ≡ false
     → IsTypedRule (env_of defs) (rule_over (symbols defs) (record { 0 = n }) x i r)
+unfolding is_built_rule
 rule_typed defs r n i None is built h = cc
 rule_typed defs r n i (Some s) is built h =
     let tys = map type_of s.args in
+    let b = and_parts (is_built_expr r.rhs) (not (repeats (flat_map pattern_names r.args))) built in
     let k = or_parts (not (length r.args == length s.args) || any_misplaced r.args tys) (is_wrong r.rhs (type_of s.ret) (typed_vars r.args tys)) h in
     let l = or_parts (not (length r.args == length s.args)) (any_misplaced r.args tys) k.0 in
     record {
@@ -86,23 +97,24 @@ rule_typed defs r n i (Some s) is built h =
       root = slice_get-map (term_of (symbols defs) (rule_defs defs)) (signatures defs) n ∙ ap (option_map (term_of (symbols defs) (rule_defs defs))) is;
       typed = record {
         args = args_typed defs s.args r.args [] (eqb-true (length r.args) (length s.args) (not-false (length r.args == length s.args) l.0)) l.1;
+        once = (apart_numbers r.args tys [] (not-true (repeats (flat_map pattern_names r.args)) b.1)).once;
         iflets = refl;
-        rhs = expr_typed defs s.ret r.args tys r.rhs built k.1;
+        rhs = expr_typed defs s.ret r.args tys r.rhs b.0 k.1;
       };
     }
 
-rule_at : (defs : List Def) (r : RuleDef) (i : ℕ) (o : Option ℕ) → is_built_expr r.rhs ≡ true → breaks r (at_place (signatures defs) o) ≡ false
+rule_at : (defs : List Def) (r : RuleDef) (i : ℕ) (o : Option ℕ) → is_built_rule r ≡ true → breaks r (at_place (signatures defs) o) ≡ false
     → IsTypedRule (env_of defs) (rule_over (symbols defs) (term_or (option_map (λ (n : ℕ). record { 0 = n }) o)) (at_place (signatures defs) o) i r)
 rule_at defs r i None built h = cc
 rule_at defs r i (Some n) built h = rule_typed defs r n i (slice_get (signatures defs) n) refl built h
 
-rules_typed : (defs : List Def) (i : ℕ) (rules : List RuleDef) → list_all (λ (r : RuleDef). is_built_expr r.rhs) rules ≡ true → rules_fault (signatures defs) rules ≡ false
+rules_typed : (defs : List Def) (i : ℕ) (rules : List RuleDef) → list_all is_built_rule rules ≡ true → rules_fault (signatures defs) rules ≡ false
     → AllByRecursion (IsTypedRule (env_of defs)) (rules_from (symbols defs) (signatures defs) i rules)
 rules_typed defs i [] built h = tt
 rules_typed defs i (r ∷ rules) built h =
     let sigs = signatures defs in
     let k = or_parts (breaks r (signature_named sigs r.term)) (rules_fault sigs rules) h in
-    let l = and_parts (is_built_expr r.rhs) (list_all (λ (r : RuleDef). is_built_expr r.rhs) rules) built in
+    let l = and_parts (is_built_rule r) (list_all is_built_rule rules) built in
     let is = named_at sigs r.term in
     let o = index_of (terms_of sigs) r.term in
     let here = rule_at defs r i o l.0 (ap (breaks r) (sym is) ∙ k.0) in (
@@ -110,28 +122,30 @@ rules_typed defs i (r ∷ rules) built h =
       rules_typed defs (i + 1) rules l.1 k.1,
     )
 
--- the right sides of rules that are built are built
-right_sides : (defs : List Def) → list_all is_built_def defs ≡ true → list_all (λ (r : RuleDef). is_built_expr r.rhs) (rule_defs defs) ≡ true
-right_sides [] h = refl
-right_sides (tree.Rule name prio term args iflets rhs pos ∷ defs) h =
+-- the rules among definitions that are built are built
+built_rules : (defs : List Def) → list_all is_built_def defs ≡ true → list_all is_built_rule (rule_defs defs) ≡ true
+unfolding is_built_rule
+built_rules [] h = refl
+built_rules (tree.Rule name prio term args iflets rhs pos ∷ defs) h =
     let forms = list_all is_built_pattern args && are_none iflets in
+    let apart = not (repeats (flat_map pattern_names args)) in
     let k = and_parts (is_built_def (tree.Rule name prio term args iflets rhs pos)) (list_all is_built_def defs) h in
-    let l = and_parts (forms && is_built_expr rhs) (not (repeats (flat_map pattern_names args))) k.0 in
-    and_from (is_built_expr rhs) (list_all (λ (r : RuleDef). is_built_expr r.rhs) (rule_defs defs)) (and_parts forms (is_built_expr rhs) l.0).1 (right_sides defs k.1)
-right_sides (tree.TypeDecl name is_extern is_nodebug body pos ∷ defs) h = cc
-right_sides (tree.Decl term pure multi partial recursive args ret pos ∷ defs) h = right_sides defs (and_parts (is_built_def (tree.Decl term pure multi partial recursive args ret pos)) (list_all is_built_def defs) h).1
-right_sides (tree.ExternConstructor term func pos ∷ defs) h = cc
-right_sides (tree.ExternExtractor term func infallible pos ∷ defs) h = cc
-right_sides (tree.ExternConst name ty pos ∷ defs) h = cc
-right_sides (tree.Extractor term params template pos ∷ defs) h = cc
-right_sides (tree.Converter from to term pos ∷ defs) h = cc
-right_sides (tree.Passed head items pos ∷ defs) h = cc
+    let l = and_parts (forms && is_built_expr rhs) apart k.0 in
+    and_from (is_built_expr rhs && apart) (list_all is_built_rule (rule_defs defs)) (and_from (is_built_expr rhs) apart (and_parts forms (is_built_expr rhs) l.0).1 l.1) (built_rules defs k.1)
+built_rules (tree.TypeDecl name is_extern is_nodebug body pos ∷ defs) h = cc
+built_rules (tree.Decl term pure multi partial recursive args ret pos ∷ defs) h = built_rules defs (and_parts (is_built_def (tree.Decl term pure multi partial recursive args ret pos)) (list_all is_built_def defs) h).1
+built_rules (tree.ExternConstructor term func pos ∷ defs) h = cc
+built_rules (tree.ExternExtractor term func infallible pos ∷ defs) h = cc
+built_rules (tree.ExternConst name ty pos ∷ defs) h = cc
+built_rules (tree.Extractor term params template pos ∷ defs) h = cc
+built_rules (tree.Converter from to term pos ∷ defs) h = cc
+built_rules (tree.Passed head items pos ∷ defs) h = cc
 
 env_typed : (defs : List Def) → are_built defs ≡ true → has_fault defs ≡ false → All (IsTypedRule (env_of defs)) (env_of defs).rules
 env_typed defs built sound =
     let b = and_parts (list_all is_built_def defs) (not (repeats (map (λ (r : RuleDef). r.term) (rule_defs defs)))) built in
     let s = or_parts (signatures_fault (signatures defs)) (rules_fault (signatures defs) (rule_defs defs)) sound in
-    All-from_recursion (IsTypedRule (env_of defs)) (env_of defs).rules (rules_typed defs 0 (rule_defs defs) (right_sides defs b.0) s.1)
+    All-from_recursion (IsTypedRule (env_of defs)) (env_of defs).rules (rules_typed defs 0 (rule_defs defs) (built_rules defs b.0) s.1)
 
 -- the rules of an environment are typed
 pub typed_ready : (defs : List Def) (env : Environment) → Typed defs env → All (IsTypedRule env) env.rules

@@ -9,6 +9,7 @@ pub mod Faults
 pub mod Language
 pub mod TypedRule
 pub mod FaultsSeen
+pub mod ReadyRule
 pub mod Typing
 pub mod Numbering
 pub mod Drafts
