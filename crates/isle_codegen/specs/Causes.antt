@@ -2,6 +2,7 @@
 use Rattle.std.specs.Prelude.{◌≡◌, ℕ, ◌⊎◌, List, map, false, Option, IfSome}
 use Rattle.isle_outside.specs.Directory.{Files}
 use Rattle.isle_core.specs.declared.options.CodegenOptions.{CodegenOptions}
+use Rattle.isle_core.specs.declared.files.Files.{Files as FileTexts}
 use Rattle.isle_core.specs.declared.read_error.ReadError.TheVariants as read
 use Rattle.isle_core.specs.Inputs.{AreRead, Fails}
 use Rattle.isle_core.specs.Printed.{shown}
@@ -16,18 +17,18 @@ use Rattle.isle_codegen.specs.Headline.{HasHeadline}
 abbrev pub printed : CodegenOptions → List (List ℕ) → List (List ℕ)
 printed options names = map (shown options.prefixes) names
 
--- the text is that of the one list of definitions that the texts spell
-pub record CompilesTo (options : CodegenOptions) (texts : List (List ℕ)) (text : List ℕ) : Type 0 where
+-- the text is that of the one list of definitions that the files' texts spell
+pub record CompilesTo (options : CodegenOptions) (files : FileTexts) (text : List ℕ) : Type 0 where
   pub defs : List Def
-  pub source : Source 0 texts defs
-  pub once : (others : List Def) → Source 0 texts others → others ≡ defs
-  pub headline : HasHeadline options defs text
+  pub source : Source 0 files.file_texts defs
+  pub once : (others : List Def) → Source 0 files.file_texts others → others ≡ defs
+  pub headline : HasHeadline options files defs text
 
 -- the text is that of the definitions that the files of these names spell
 pub record IsCompiled (options : CodegenOptions) (files : Files) (names : List (List ℕ)) (text : List ℕ) : Type 0 where
   pub texts : List (List ℕ)
   pub read : AreRead files names texts
-  pub compiles : CompilesTo options texts text
+  pub compiles : CompilesTo options (record { file_names = printed options names; file_texts = texts }) text
 
 -- the texts are not of the language, or a name as printed may not be emitted
 abbrev pub IsNotOfIt : List (List ℕ) → List (List ℕ) → Type 0

@@ -3,6 +3,7 @@ use Rattle.std.specs.Prelude.{◌≡◌, ℕ, List, map, filter, Bool, true, fal
 use Rattle.isle_base.specs.declared.ids.TermId.{TermId}
 use Rattle.isle_core.specs.declared.types.Term.{Term}
 use Rattle.isle_core.specs.declared.options.CodegenOptions.{CodegenOptions}
+use Rattle.isle_core.specs.declared.files.Files.{Files}
 use Rattle.isle_core.specs.Value.{Value, Made, End, Gives, GivesSome, GivesNone, IsUnreachable, Ran}
 use Rattle.isle_core.specs.Meaning.{Meaning}
 use Rattle.isle_core.specs.HasType.{HaveTypes}
@@ -16,6 +17,7 @@ use Rattle.isle_target.specs.Program.{Function, Program}
 use Rattle.isle_target.specs.Reading.{SpellsOnly}
 use Rattle.isle_target.specs.Run.{run}
 use Rattle.isle_codegen.specs.Emission.{IsFrame}
+use Rattle.isle_codegen.specs.Declared.{AreDeclared}
 
 -- how a run ends that has the result: of a partial term in an option
 abbrev pub end_of : Bool → Result → End
@@ -45,23 +47,25 @@ abbrev pub MeansRules : Environment → Program → TermId → Type 0
 MeansRules env p id = IsSomeAnd (slice_get env.terms id.0) (λ (t : Term).
     (args : List Value) (m : Meaning) → HaveTypes env args t.arg_tys → IsLawful env id m → GivesOutcome env p id t args m)
 
--- the functions of the program are the terms with rules, in order of ids, and each means its rules
-pub record FunctionsMean (env : Environment) (p : Program) : Type 0 where
+-- the functions of the program are the terms with rules, in order of ids, each as its term is declared and with the
+-- meaning of its rules
+pub record FunctionsMean (files : Files) (env : Environment) (p : Program) : Type 0 where
   pub names : map (λ (f : Function). f.term) p.fns ≡ map (term_name env) (with_rules env)
+  pub declared : AreDeclared files env (with_rules env) p.fns
   pub mean : (id : TermId) → Contains (with_rules env) id → MeansRules env p id
 
 -- the text spells exactly one program, whose frame and functions are those of the environment
-pub record IsText (options : CodegenOptions) (env : Environment) (text : List ℕ) : Type 0 where
+pub record IsText (options : CodegenOptions) (files : Files) (env : Environment) (text : List ℕ) : Type 0 where
   pub program : Program
   pub spells : SpellsOnly text program
   pub frame : IsFrame options env program
-  pub functions : FunctionsMean env program
+  pub functions : FunctionsMean files env program
 
--- the text is that of the one environment of the definitions
-pub record HasHeadline (options : CodegenOptions) (defs : List Def) (text : List ℕ) : Type 0 where
+-- the text is that of the one environment of the definitions, which stand in the files
+pub record HasHeadline (options : CodegenOptions) (files : Files) (defs : List Def) (text : List ℕ) : Type 0 where
   pub env : Environment
   pub typed : TypedOnly defs env
-  pub is_text : IsText options env text
+  pub is_text : IsText options files env text
 
 -- the text spells exactly one program
 abbrev pub SpellsOne : List ℕ → Type 0

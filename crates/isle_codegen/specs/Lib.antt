@@ -2,10 +2,12 @@ pub mod Names
 pub mod Header
 pub mod Source
 pub mod Emission
-pub mod Headline
 pub mod Operands
 pub mod Statements
 pub mod TermFunction
+pub mod Declared
 pub mod Shape
+pub mod Headline
 pub mod Emitted
+pub mod Emits
 pub mod Causes

@@ -1,6 +1,10 @@
 -- Which names may stand in an emitted text.
 use Rattle.std.specs.Prelude.{ℕ, List, Bool, ◌==◌, ◌&&◌, not, nat_le}
 use Rattle.std.specs.List.{list_all}
+use Rattle.isle_ink.specs.Token.{is_word_byte}
+use Rattle.isle_core.specs.declared.TermId.{TermId}
+use Rattle.isle_core.specs.Rule.{Environment}
+use Rattle.isle_core.specs.Terms.{with_rules, term_name}
 
 -- a byte that a name may have: none below 32, and not 127
 abbrev pub is_name_byte : ℕ → Bool
@@ -13,3 +17,11 @@ is_file_name name = list_all is_name_byte name
 -- all of them may
 abbrev pub are_file_names : List (List ℕ) → Bool
 are_file_names names = list_all is_file_name names
+
+-- the name of a term that may stand behind constructor_: letters, digits and _
+abbrev pub is_term_name : List ℕ → Bool
+is_term_name name = list_all is_word_byte name
+
+-- the names of the terms with rules may be emitted
+abbrev pub are_term_names : Environment → Bool
+are_term_names env = list_all (λ (id : TermId). is_term_name (term_name env id)) (with_rules env)

@@ -1,0 +1,36 @@
+-- When functions are emitted for rule sets.
+use Rattle.std.specs.Prelude.{◌≡◌, List, [], ◌∷◌, Bool, Some, slice_get}
+use Rattle.isle_core.specs.declared.TermId.{TermId}
+use Rattle.isle_core.specs.declared.files.Files.{Files}
+use Rattle.isle_core.specs.declared.rule_sets.RuleSet.{RuleSet}
+use Rattle.isle_core.specs.declared.types.Term.{Term}
+use Rattle.isle_core.specs.Value.{Value}
+use Rattle.isle_core.specs.Meaning.{Meaning}
+use Rattle.isle_core.specs.Path.{paths_of}
+use Rattle.isle_core.specs.RuleSet.{set_outcome}
+use Rattle.isle_core.specs.Block.{Block}
+use Rattle.isle_core.specs.BlockRun.{block_outcome}
+use Rattle.isle_core.specs.BlockLawful.{IsLawfulBlock}
+use Rattle.isle_core.specs.Rule.{Environment}
+use Rattle.isle_target.specs.Program.{Function}
+use Rattle.isle_codegen.specs.TermFunction.{term_function}
+
+-- the block means the rule set
+abbrev pub MeansSet : RuleSet → Block → Type 0
+MeansSet s b = (env : Environment) (m : Meaning) (args : List Value) (partial : Bool) → block_outcome env m args (paths_of s.bindings) b partial ≡ set_outcome env m args (paths_of s.bindings) s.rules partial
+
+-- the function of the term, from a block that is lawful for its rule set and means it
+pub record IsEmitted (files : Files) (env : Environment) (id : TermId) (s : RuleSet) (f : Function) : Type 0 where
+  pub term : Term
+  pub there : slice_get env.terms id.0 ≡ Some term
+  pub block : Block
+  pub lawful : IsLawfulBlock env term (paths_of s.bindings) block
+  pub means : MeansSet s block
+  pub given : f ≡ term_function files env term (paths_of s.bindings) block
+
+-- so of each term with its rule set, in order
+abbrev pub AreEmitted : Files → Environment → List (TermId × RuleSet) → List Function → Type 0
+AreEmitted files env [] [] = Unit {0}
+AreEmitted files env (s ∷ sets) (f ∷ fs) = IsEmitted files env s.0 s.1 f × AreEmitted files env sets fs
+AreEmitted files env [] (f ∷ fs) = ⊥
+AreEmitted files env (s ∷ sets) [] = ⊥
