@@ -5,3 +5,4 @@ pub mod Refusals
 pub mod PathValues
 pub mod LocalsAgree
 pub mod Simulation
+pub mod Shapes
