@@ -1,0 +1,158 @@
+-- The functions of an environment mean its rules.
+use Rattle.std.proofs.Common.{◌≡◌, ℕ, List, [], ◌∷◌, length, map, Bool, true, false, cond, Option, Some, None, refl, sym, ap, ◌∙◌, subst, ⊎_elim}
+use Rattle.std.specs.Prelude.{Contains, All, IsSomeAnd, slice_get}
+use Rattle.std.specs.List.{AllByRecursion, IsDistinct}
+use Rattle.std.specs.Str.{bytes_eq}
+use Rattle.isle_core.specs.declared.TermId.{TermId}
+use Rattle.isle_core.specs.declared.TypeId.{TypeId}
+use Rattle.isle_core.specs.declared.files.Files.{Files}
+use Rattle.isle_core.specs.declared.rule_sets.FlatRule.{FlatRule}
+use Rattle.isle_core.specs.declared.rule_sets.RuleSet.{RuleSet}
+use Rattle.isle_core.specs.declared.types.Term.{Term}
+use Rattle.isle_core.specs.Value.{Value, Ran}
+use Rattle.isle_core.specs.Meaning.{Meaning}
+use Rattle.isle_core.specs.HasType.{HaveTypes}
+use Rattle.isle_core.specs.Lawful.{IsLawful}
+use Rattle.isle_core.specs.HighestMatch.{outcome_of}
+use Rattle.isle_core.specs.Outcome.{Prescription, Prescribed, is_partial}
+use Rattle.isle_core.specs.Path.{Path, paths_of}
+use Rattle.isle_core.specs.BlockRun.{block_outcome}
+use Rattle.isle_core.specs.RuleSet.{set_outcome, given, highest, flat_holds}
+use Rattle.isle_core.specs.StandsFor.{StandsFor}
+use Rattle.isle_core.specs.Terms.{with_rules, term_name}
+use Rattle.isle_core.specs.Rule.{Environment, Rule, rules_of}
+use Rattle.isle_core.specs.BuiltRule.{IsBuiltRule}
+use Rattle.isle_core.proofs.Contained.{head_contained, tail_contained, contained_cases, none_contained}
+use Rattle.isle_core.proofs.OutcomeOf.{outcome_of_one}
+use Rattle.isle_core.proofs.OutcomeOnce.{prescribed_once}
+use Rattle.isle_core.proofs.SetMeans.{set_means}
+use Rattle.isle_ink.specs.Bytes.{same_bytes}
+use Rattle.isle_ink.proofs.Bytes.{same_bytes_refl, same_bytes_sound}
+use Rattle.isle_syntax.specs.Tree.{Def}
+use Rattle.isle_sema.specs.Typing.{Typed}
+use Rattle.isle_sema.proofs.TypedRules.{typed_built, typed_args}
+use Rattle.isle_sema.proofs.OneRule.{typed_one}
+use Rattle.isle_target.specs.Program.{Function, Program}
+use Rattle.isle_target.specs.Run.{run, function_of}
+use Rattle.isle_codegen.specs.Emits.{IsEmitted, AreEmitted}
+use Rattle.isle_codegen.specs.Emitted.{ran_of}
+use Rattle.isle_codegen.specs.Headline.{GivesAs, GivesOutcome, MeansRules}
+use Rattle.isle_codegen.proofs.Simulation.{runs_as_block}
+use Rattle.isle_codegen.proofs.TermNames.{name_of_term, emitted_name}
+
+-- ---- the function of a term is found by its name
+
+-- the function that is found by a term's name is emitted for a rule set that stands for the term's rules
+record HasFunction (files : Files) (env : Environment) (fs : List Function) (id : TermId) : Type 0 where
+  set : RuleSet
+  stands : StandsFor set (rules_of env id)
+  function : Function
+  emitted : IsEmitted files env id set function
+  found : function_of (term_name env id) fs ≡ Some function
+  among : Contains (map (λ (f : Function). f.term) fs) (term_name env id)
+
+of_all : (P : List ℕ → Type 0) (xs : List (List ℕ)) (y : List ℕ) → AllByRecursion P xs → Contains xs y → P y
+of_all P [] y h c = absurd (none_contained y c)
+of_all P (x ∷ xs) y h c = ⊎_elim (λ e. subst P e h.0) (λ k. of_all P xs y h.1 k) (contained_cases x xs y c)
+
+first_found : (name : List ℕ) (f : Function) (fs : List Function) → f.term ≡ name → function_of name (f ∷ fs) ≡ Some f
+first_found name f fs e = rw (e, same_bytes_refl name) refl
+
+later_found : (name : List ℕ) (f g : Function) (fs : List Function) (b : Bool) → same_bytes name f.term ≡ b → bytes_eq f.term name ≡ false → function_of name fs ≡ Some g → function_of name (f ∷ fs) ≡ Some g
+later_found name f g fs false e differ h = rw e h
+later_found name f g fs true e differ h =
+    absurd (differs name (subst (λ (x : List ℕ). bytes_eq x name ≡ false) (sym (same_bytes_sound name f.term e)) differ))
+  where
+    differs : (x : List ℕ) → bytes_eq x x ≡ false → ⊥
+    differs x k = search rules
+
+has_function : (files : Files) (env : Environment) (sets : List (TermId × RuleSet)) (fs : List Function) (id : TermId) → AreEmitted files env sets fs
+    → AllByRecursion (λ (s : TermId × RuleSet). StandsFor s.1 (rules_of env s.0)) sets → IsDistinct bytes_eq (map (λ (f : Function). f.term) fs)
+    → Contains (map (λ (s : TermId × RuleSet). s.0) sets) id → HasFunction files env fs id
+unfolding IsDistinct
+has_function files env [] [] id e st d c = absurd (none_contained id c)
+has_function files env (s ∷ sets) (f ∷ fs) id e st d c = ⊎_elim here later (contained_cases s.0 (map (λ (x : TermId × RuleSet). x.0) sets) id c)
+  where
+    here : s.0 ≡ id → HasFunction files env (f ∷ fs) id
+    here same = subst (HasFunction files env (f ∷ fs)) same (record {
+      set = s.1;
+      stands = st.0;
+      function = f;
+      emitted = e.0;
+      found = first_found (term_name env s.0) f fs (emitted_name files env s.0 s.1 f e.0);
+      among = subst (Contains (map (λ (g : Function). g.term) (f ∷ fs))) (emitted_name files env s.0 s.1 f e.0) (head_contained f.term (map (λ (g : Function). g.term) fs)) })
+
+    later : Contains (map (λ (x : TermId × RuleSet). x.0) sets) id → HasFunction files env (f ∷ fs) id
+    later k =
+        let h = has_function files env sets fs id e.1 st.1 d.1 k in
+        record {
+          set = h.set;
+          stands = h.stands;
+          function = h.function;
+          emitted = h.emitted;
+          found = later_found (term_name env id) f h.function fs (same_bytes (term_name env id) f.term) refl (of_all (λ y. bytes_eq f.term y ≡ false) (map (λ (g : Function). g.term) fs) (term_name env id) d.0 h.among) h.found;
+          among = tail_contained f.term (map (λ (g : Function). g.term) fs) (term_name env id) h.among }
+has_function files env [] (f ∷ fs) id e st d c = absurd e
+has_function files env (s ∷ sets) [] id e st d c = absurd e
+
+-- ---- it gives what the rules prescribe
+
+set_calls : (env : Environment) (m : Meaning) (args : List Value) (ps : List Path) (partial : Bool) (o : Option FlatRule) → (given env m args ps partial o).calls ≡ []
+set_calls env m args ps partial None = refl
+set_calls env m args ps partial (Some f) = refl
+
+as_many : (env : Environment) (args : List Value) (tys : List TypeId) → HaveTypes env args tys → length args ≡ length tys
+as_many env [] [] h = refl
+as_many env (v ∷ args) (ty ∷ tys) h = ap (λ n. 1 + n) (as_many env args tys h.1)
+as_many env [] (ty ∷ tys) h = absurd h
+as_many env (v ∷ args) [] h = absurd h
+
+gives_as : (env : Environment) (t : Term) (o : Prescription) → o.calls ≡ [] → GivesAs env (is_partial t.kind) o (ran_of env t o)
+gives_as env t o e = record { end = refl; calls = rw e refl }
+
+-- the rules of one term are built
+built_of : (defs : List Def) (env : Environment) (id : TermId) → Typed defs env → All IsBuiltRule (rules_of env id)
+built_of defs env id h = search rules
+
+module _ (defs : List Def) (files : Files) (env : Environment) (p : Program) (id : TermId) (typed : Typed defs env) (h : HasFunction files env p.fns id) where
+  the_term : Term
+  the_term = h.emitted.term
+
+  partial : Bool
+  partial = is_partial the_term.kind
+
+  -- what the block gives is what the rules give
+  same_outcome : (args : List Value) (m : Meaning) → HaveTypes env args the_term.arg_tys
+      → block_outcome env m args (paths_of h.set.bindings) h.emitted.block partial ≡ outcome_of env m args (rules_of env id) partial
+  same_outcome args m types =
+      h.emitted.means env m args partial
+      ∙ set_means env m args (paths_of h.set.bindings) (rules_of env id) h.set.rules partial (built_of defs env id typed)
+          (λ k d lt. typed_args defs env id the_term typed h.emitted.there k d lt ∙ sym (as_many env args the_term.arg_tys types)) h.stands.flat
+
+  no_calls : (args : List Value) (m : Meaning) → HaveTypes env args the_term.arg_tys → (outcome_of env m args (rules_of env id) partial).calls ≡ []
+  no_calls args m types =
+      ap (λ (o : Prescription). o.calls) (sym (same_outcome args m types) ∙ h.emitted.means env m args partial)
+      ∙ set_calls env m args (paths_of h.set.bindings) partial (highest (flat_holds env m args (paths_of h.set.bindings)) h.set.rules)
+
+  runs : (args : List Value) (m : Meaning) → HaveTypes env args the_term.arg_tys → run p (term_name env id) args m ≡ Some (ran_of env the_term (outcome_of env m args (rules_of env id) partial))
+  runs args m types =
+      let named = name_of_term env id the_term h.emitted.there in
+      ap (λ (n : List ℕ). run p n args m) named
+      ∙ runs_as_block files env the_term (paths_of h.set.bindings) h.emitted.block h.emitted.lawful p args m
+          (ap (λ (n : List ℕ). function_of n p.fns) (sym named) ∙ h.found ∙ ap (λ (f : Function). Some f) h.emitted.given) types
+      ∙ ap (λ (o : Prescription). Some (ran_of env the_term o)) (same_outcome args m types)
+
+  gives_outcome : (args : List Value) (m : Meaning) → HaveTypes env args the_term.arg_tys → GivesOutcome env p id the_term args m
+  gives_outcome args m types =
+      let prescribed = outcome_of_one env m args (rules_of env id) partial (typed_one defs env id typed) in
+      record {
+        outcome = outcome_of env m args (rules_of env id) partial;
+        prescribed = prescribed;
+        only = λ other k. prescribed_once k prescribed;
+        given = subst (λ (r : Option Ran). IsSomeAnd r (GivesAs env partial (outcome_of env m args (rules_of env id) partial))) (sym (runs args m types)) (gives_as env the_term _ (no_calls args m types)) }
+
+  -- the function of the term means its rules
+  means_rules : MeansRules env p id
+  means_rules =
+      subst (λ (o : Option Term). IsSomeAnd o (λ (t : Term). (args : List Value) (m : Meaning) → HaveTypes env args t.arg_tys → IsLawful env id m → GivesOutcome env p id t args m)) (sym h.emitted.there)
+      (λ args m types lawful. gives_outcome args m types)
