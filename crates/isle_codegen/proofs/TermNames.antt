@@ -32,7 +32,7 @@ int_is_builtin I64 = refl
 int_is_builtin I128 = refl
 int_is_builtin ISize = refl
 
--- a definition that holds of no declared type
+-- a definition with P, which no declared type has
 def_is_builtin : (o : Option TypeDef) (P : TypeDef → Type 0)
     → ((name rust : _) (pos : _) → P (def.Primitive name rust pos) → ⊥)
     → ((name : _) (is_extern is_nodebug : _) (variants : _) (pos : _) → P (def.Enum name is_extern is_nodebug variants pos) → ⊥)
@@ -46,7 +46,7 @@ def_is_builtin (Some (def.Enum name is_extern is_nodebug variants pos)) P a b c 
 def_is_builtin (Some (def.Struct name is_extern is_nodebug fields pos)) P a b c h = absurd (c name is_extern is_nodebug fields pos h)
 
 -- the name of a builtin type
-pub type_is_builtin : (env : Environment) (ty : TypeId) → IsBuiltinType env ty → IsBuiltin (type_text env ty)
+type_is_builtin : (env : Environment) (ty : TypeId) → IsBuiltinType env ty → IsBuiltin (type_text env ty)
 type_is_builtin env ty h = def_is_builtin (slice_get env.types.types ty.0) _ (λ name rust pos k. k) (λ name is_extern is_nodebug variants pos k. k) (λ name is_extern is_nodebug fields pos k. k) h
 
 params_are : (env : Environment) (tys : List TypeId) → AllByRecursion (IsBuiltinType env) tys → AllByRecursion IsTy (map (parameter env) tys)
