@@ -6,3 +6,11 @@ pub mod PathValues
 pub mod LocalsAgree
 pub mod Simulation
 pub mod Shapes
+pub mod TermNames
+pub mod BlockForms
+pub mod BlockThere
+pub mod BlockFits
+pub mod WellFormedFunctions
+pub mod Tails
+pub mod EmittedNames
+pub mod MeanRules

@@ -38,7 +38,7 @@ use Rattle.isle_codegen.specs.Emits.{IsEmitted, AreEmitted}
 use Rattle.isle_codegen.specs.Emitted.{ran_of}
 use Rattle.isle_codegen.specs.Headline.{GivesAs, GivesOutcome, MeansRules}
 use Rattle.isle_codegen.proofs.Simulation.{runs_as_block}
-use Rattle.isle_codegen.proofs.TermNames.{name_of_term, emitted_name}
+use Rattle.isle_codegen.proofs.EmittedNames.{name_of_term, emitted_name}
 
 -- ---- the function of a term is found by its name
 

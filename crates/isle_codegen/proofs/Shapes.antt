@@ -45,7 +45,7 @@ mutual
       → IsLawfulControl env t ps c more → HasShape env ps ss more → HasShape env ps (Then (control_stmt env ps partial bound c) ss) (Step bs c more)
   control_shape (block.Match source (block.Arm c places body arms)) more env t ps partial bound bs ss k h =
       let does : DoesControl env ps (IfEq (operand_of env ps bound source) (tested env c) (block_body env ps partial bound body Done)) (block.Match source (block.Arm c places body block.NoArm)) =
-          (operand_is_of env ps bound source, refl, block_shape body env t ps partial bound Done k.2.2 tt) in
+      (operand_is_of env ps bound source, refl, block_shape body env t ps partial bound Done k.2.2 tt) in
       (subst (λ x. DoesControl env ps (IfEq (operand_of env ps bound source) (tested env c) (block_body env ps partial bound body Done)) (block.Match source (block.Arm c places body x))) (sym k.2.3) does, h)
   control_shape (block.Match source block.NoArm) more env t ps partial bound bs ss k h = absurd k.2
   control_shape (block.Equal x y body) more env t ps partial bound bs ss k h =
