@@ -35,7 +35,8 @@ numbered : (env : Environment) (ts : List Term) (all : ℕ → Option Term) (n :
     → map (λ (i : ℕ). option_map_or (λ (t : Term). sym_text env t.name) (all i) []) (range_with_len n (length ts)) ≡ map (λ (t : Term). sym_text env t.name) ts
 numbered env [] all n h = refl
 numbered env (t ∷ ts) all n h =
-    rw (sym (sym (ap all (omega arith)) ∙ sym (h 0)), numbered env ts all (n + 1) (λ k. h (suc k) ∙ ap all (omega arith))) refl
+    let here : all n ≡ Some t = sym (h 0 ∙ ap all {y = n} (omega arith)) in
+    rw (here, numbered env ts all (n + 1) (λ k. h (suc k) ∙ ap all {y = n + 1 + k} (omega arith))) refl
 
 mapped : (env : Environment) (is : List ℕ) → map (term_name env) (map (λ (i : ℕ). let id : TermId = record { 0 = i } in id) is)
     ≡ map (λ (i : ℕ). option_map_or (λ (t : Term). sym_text env t.name) (slice_get env.terms i) []) is
@@ -47,22 +48,24 @@ all_names : (env : Environment) → map (term_name env) (term_ids env) ≡ map (
 all_names env = mapped env (range_with_len 0 (length env.terms)) ∙ numbered env env.terms (slice_get env.terms) 0 (λ k. refl)
 
 module _ (env : Environment) (keep : TermId → Bool) where
+  pick_all : (P : List ℕ → Type 0) (id : TermId) (ids : List TermId) (b : Bool) → P (term_name env id) → AllByRecursion P (map (term_name env) ids) → AllByRecursion P (map (term_name env) (cond b (id ∷ ids) ids))
+  pick_all P id ids true h k = (h, k)
+  pick_all P id ids false h k = k
+
   kept_all : (P : List ℕ → Type 0) (ids : List TermId) → AllByRecursion P (map (term_name env) ids) → AllByRecursion P (map (term_name env) (filter keep ids))
   kept_all P [] h = tt
-  kept_all P (id ∷ ids) h = pick (keep id)
-    where
-      pick : (b : Bool) → AllByRecursion P (map (term_name env) (cond b (id ∷ filter keep ids) (filter keep ids)))
-      pick true = (h.0, kept_all P ids h.1)
-      pick false = kept_all P ids h.1
+  kept_all P (id ∷ ids) h = pick_all P id (filter keep ids) (keep id) h.0 (kept_all P ids h.1)
+
+  pick_distinct : (id : TermId) (ids : List TermId) (b : Bool) → AllByRecursion (λ y. bytes_eq (term_name env id) y ≡ false) (map (term_name env) ids) → IsDistinct bytes_eq (map (term_name env) ids)
+      → IsDistinct bytes_eq (map (term_name env) (cond b (id ∷ ids) ids))
+  unfolding IsDistinct
+  pick_distinct id ids true h k = (h, k)
+  pick_distinct id ids false h k = k
 
   kept_distinct : (ids : List TermId) → IsDistinct bytes_eq (map (term_name env) ids) → IsDistinct bytes_eq (map (term_name env) (filter keep ids))
   unfolding IsDistinct
   kept_distinct [] h = tt
-  kept_distinct (id ∷ ids) h = pick (keep id)
-    where
-      pick : (b : Bool) → IsDistinct bytes_eq (map (term_name env) (cond b (id ∷ filter keep ids) (filter keep ids)))
-      pick true = (kept_all (λ y. bytes_eq (term_name env id) y ≡ false) ids h.0, kept_distinct ids h.1)
-      pick false = kept_distinct ids h.1
+  kept_distinct (id ∷ ids) h = pick_distinct id (filter keep ids) (keep id) (kept_all (λ y. bytes_eq (term_name env id) y ≡ false) ids h.0) (kept_distinct ids h.1)
 
 -- where no two terms have one name, no two with rules have
 pub distinct_names : (env : Environment) → IsDistinct bytes_eq (map (λ (t : Term). sym_text env t.name) env.terms) → IsDistinct bytes_eq (map (term_name env) (with_rules env))

@@ -1,6 +1,8 @@
 -- The functions of an environment mean its rules.
-use Rattle.std.proofs.Common.{◌≡◌, ℕ, List, [], ◌∷◌, length, map, Bool, true, false, cond, Option, Some, None, refl, sym, ap, ◌∙◌, subst, ⊎_elim}
-use Rattle.std.specs.Prelude.{Contains, All, IsSomeAnd, slice_get}
+use Rattle.std.proofs.Common.{◌≡◌, ℕ, suc, rules, List, [], ◌∷◌, length, map, Bool, true, false, cond, Option, Some, None, refl, sym, ap, ◌∙◌, subst, ⊎_elim}
+use Rattle.std.specs.Prelude.{Contains, All, IsSomeAnd, slice_get, filter, ◌==◌}
+use Rattle.std.proofs.lemmas.List.Elements.{All-from_recursion, recursion_from_All}
+use Rattle.std.proofs.lemmas.Slice.Eq.{bytes_eq-Decides}
 use Rattle.std.specs.List.{AllByRecursion, IsDistinct}
 use Rattle.std.specs.Str.{bytes_eq}
 use Rattle.isle_core.specs.declared.TermId.{TermId}
@@ -43,13 +45,13 @@ use Rattle.isle_codegen.proofs.EmittedNames.{name_of_term, emitted_name}
 -- ---- the function of a term is found by its name
 
 -- the function that is found by a term's name is emitted for a rule set that stands for the term's rules
-record HasFunction (files : Files) (env : Environment) (fs : List Function) (id : TermId) : Type 0 where
-  set : RuleSet
-  stands : StandsFor set (rules_of env id)
-  function : Function
-  emitted : IsEmitted files env id set function
-  found : function_of (term_name env id) fs ≡ Some function
-  among : Contains (map (λ (f : Function). f.term) fs) (term_name env id)
+pub record HasFunction (files : Files) (env : Environment) (fs : List Function) (id : TermId) : Type 0 where
+  pub set : RuleSet
+  pub stands : StandsFor set (rules_of env id)
+  pub function : Function
+  pub emitted : IsEmitted files env id set function
+  pub found : function_of (term_name env id) fs ≡ Some function
+  pub among : Contains (map (λ (f : Function). f.term) fs) (term_name env id)
 
 of_all : (P : List ℕ → Type 0) (xs : List (List ℕ)) (y : List ℕ) → AllByRecursion P xs → Contains xs y → P y
 of_all P [] y h c = absurd (none_contained y c)
@@ -66,32 +68,34 @@ later_found name f g fs true e differ h =
     differs : (x : List ℕ) → bytes_eq x x ≡ false → ⊥
     differs x k = search rules
 
-has_function : (files : Files) (env : Environment) (sets : List (TermId × RuleSet)) (fs : List Function) (id : TermId) → AreEmitted files env sets fs
+module _ (files : Files) (env : Environment) (f : Function) (fs : List Function) (id : TermId) where
+  here_found : (s : TermId × RuleSet) → IsEmitted files env s.0 s.1 f → StandsFor s.1 (rules_of env s.0) → s.0 ≡ id → HasFunction files env (f ∷ fs) id
+  here_found s e st same = subst (HasFunction files env (f ∷ fs)) same (record {
+    set = s.1;
+    stands = st;
+    function = f;
+    emitted = e;
+    found = first_found (term_name env s.0) f fs (emitted_name files env s.0 s.1 f e);
+    among = subst (Contains (map (λ (g : Function). g.term) (f ∷ fs))) (emitted_name files env s.0 s.1 f e) (head_contained f.term (map (λ (g : Function). g.term) fs)) })
+
+  behind_found : AllByRecursion (λ y. bytes_eq f.term y ≡ false) (map (λ (g : Function). g.term) fs) → HasFunction files env fs id → HasFunction files env (f ∷ fs) id
+  behind_found d h = record {
+    set = h.set;
+    stands = h.stands;
+    function = h.function;
+    emitted = h.emitted;
+    found = later_found (term_name env id) f h.function fs (same_bytes (term_name env id) f.term) refl (of_all (λ y. bytes_eq f.term y ≡ false) (map (λ (g : Function). g.term) fs) (term_name env id) d h.among) h.found;
+    among = tail_contained f.term (map (λ (g : Function). g.term) fs) (term_name env id) h.among }
+
+-- the function of each term that is listed is found
+pub has_function : (files : Files) (env : Environment) (sets : List (TermId × RuleSet)) (fs : List Function) (id : TermId) → AreEmitted files env sets fs
     → AllByRecursion (λ (s : TermId × RuleSet). StandsFor s.1 (rules_of env s.0)) sets → IsDistinct bytes_eq (map (λ (f : Function). f.term) fs)
     → Contains (map (λ (s : TermId × RuleSet). s.0) sets) id → HasFunction files env fs id
 unfolding IsDistinct
 has_function files env [] [] id e st d c = absurd (none_contained id c)
-has_function files env (s ∷ sets) (f ∷ fs) id e st d c = ⊎_elim here later (contained_cases s.0 (map (λ (x : TermId × RuleSet). x.0) sets) id c)
-  where
-    here : s.0 ≡ id → HasFunction files env (f ∷ fs) id
-    here same = subst (HasFunction files env (f ∷ fs)) same (record {
-      set = s.1;
-      stands = st.0;
-      function = f;
-      emitted = e.0;
-      found = first_found (term_name env s.0) f fs (emitted_name files env s.0 s.1 f e.0);
-      among = subst (Contains (map (λ (g : Function). g.term) (f ∷ fs))) (emitted_name files env s.0 s.1 f e.0) (head_contained f.term (map (λ (g : Function). g.term) fs)) })
-
-    later : Contains (map (λ (x : TermId × RuleSet). x.0) sets) id → HasFunction files env (f ∷ fs) id
-    later k =
-        let h = has_function files env sets fs id e.1 st.1 d.1 k in
-        record {
-          set = h.set;
-          stands = h.stands;
-          function = h.function;
-          emitted = h.emitted;
-          found = later_found (term_name env id) f h.function fs (same_bytes (term_name env id) f.term) refl (of_all (λ y. bytes_eq f.term y ≡ false) (map (λ (g : Function). g.term) fs) (term_name env id) d.0 h.among) h.found;
-          among = tail_contained f.term (map (λ (g : Function). g.term) fs) (term_name env id) h.among }
+has_function files env (s ∷ sets) (f ∷ fs) id e st d c =
+    ⊎_elim (here_found files env f fs id s e.0 st.0) (λ k. behind_found files env f fs id d.0 (has_function files env sets fs id e.1 st.1 d.1 k))
+    (contained_cases s.0 (map (λ (x : TermId × RuleSet). x.0) sets) id c)
 has_function files env [] (f ∷ fs) id e st d c = absurd e
 has_function files env (s ∷ sets) [] id e st d c = absurd e
 
@@ -103,22 +107,30 @@ set_calls env m args ps partial (Some f) = refl
 
 as_many : (env : Environment) (args : List Value) (tys : List TypeId) → HaveTypes env args tys → length args ≡ length tys
 as_many env [] [] h = refl
-as_many env (v ∷ args) (ty ∷ tys) h = ap (λ n. 1 + n) (as_many env args tys h.1)
+as_many env (v ∷ args) (ty ∷ tys) h = ap suc (as_many env args tys h.1)
 as_many env [] (ty ∷ tys) h = absurd h
 as_many env (v ∷ args) [] h = absurd h
 
 gives_as : (env : Environment) (t : Term) (o : Prescription) → o.calls ≡ [] → GivesAs env (is_partial t.kind) o (ran_of env t o)
 gives_as env t o e = record { end = refl; calls = rw e refl }
 
+pick_all : (P : Rule → Type 0) (r : Rule) (rs : List Rule) (b : Bool) → P r → AllByRecursion P rs → AllByRecursion P (cond b (r ∷ rs) rs)
+pick_all P r rs true h k = (h, k)
+pick_all P r rs false h k = k
+
+keep_all : (P : Rule → Type 0) (keep : Rule → Bool) (rs : List Rule) → AllByRecursion P rs → AllByRecursion P (filter keep rs)
+keep_all P keep [] h = tt
+keep_all P keep (r ∷ rs) h = pick_all P r (filter keep rs) (keep r) h.0 (keep_all P keep rs h.1)
+
 -- the rules of one term are built
 built_of : (defs : List Def) (env : Environment) (id : TermId) → Typed defs env → All IsBuiltRule (rules_of env id)
-built_of defs env id h = search rules
+built_of defs env id h = All-from_recursion IsBuiltRule (rules_of env id) (keep_all IsBuiltRule (λ (r : Rule). r.root_term.0 == id.0) env.rules (recursion_from_All IsBuiltRule env.rules (typed_built defs env h)))
 
 module _ (defs : List Def) (files : Files) (env : Environment) (p : Program) (id : TermId) (typed : Typed defs env) (h : HasFunction files env p.fns id) where
-  the_term : Term
+  abbrev the_term : Term
   the_term = h.emitted.term
 
-  partial : Bool
+  abbrev partial : Bool
   partial = is_partial the_term.kind
 
   -- what the block gives is what the rules give
@@ -152,7 +164,7 @@ module _ (defs : List Def) (files : Files) (env : Environment) (p : Program) (id
         given = subst (λ (r : Option Ran). IsSomeAnd r (GivesAs env partial (outcome_of env m args (rules_of env id) partial))) (sym (runs args m types)) (gives_as env the_term _ (no_calls args m types)) }
 
   -- the function of the term means its rules
-  means_rules : MeansRules env p id
+  pub means_rules : MeansRules env p id
   means_rules =
       subst (λ (o : Option Term). IsSomeAnd o (λ (t : Term). (args : List Value) (m : Meaning) → HaveTypes env args t.arg_tys → IsLawful env id m → GivesOutcome env p id t args m)) (sym h.emitted.there)
       (λ args m types lawful. gives_outcome args m types)

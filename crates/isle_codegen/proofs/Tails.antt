@@ -15,7 +15,7 @@ use Rattle.isle_core.specs.Rule.{Environment}
 use Rattle.isle_target.specs.Program.{Tail, Body, Done, Then}
 use Rattle.isle_codegen.specs.Statements.{lets, bound_by, block_body, control_stmt}
 use Rattle.isle_codegen.specs.TermFunction.{ends_in_return, mark_of, tail_of, term_function}
-use Rattle.isle_codegen.specs.Declared.{marks, mark_in, IsOfTerm}
+use Rattle.isle_codegen.specs.OfTerm.{marks, mark_in, IsOfTerm}
 
 -- lets have no mark
 lets_marks : (env : Environment) (ps : List Path) (bs : List BindingId) (more : Body) → marks (lets env ps bs more) ≡ marks more

@@ -5,7 +5,7 @@ pub mod Emission
 pub mod Operands
 pub mod Statements
 pub mod TermFunction
-pub mod Declared
+pub mod OfTerm
 pub mod Shape
 pub mod Headline
 pub mod Emitted
