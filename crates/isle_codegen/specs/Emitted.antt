@@ -1,10 +1,7 @@
 -- What an emitted function is to its term and its block.
-use Rattle.std.specs.Prelude.{◌≡◌, List, ◌∷◌, IsTrue, IsSomeAnd, Some, slice_get}
+use Rattle.std.specs.Prelude.{◌≡◌, List, ◌∷◌, IsTrue, Some}
 use Rattle.std.specs.List.{AllByRecursion, list_all}
 use Rattle.isle_ink.specs.Token.{is_word_byte}
-use Rattle.isle_core.specs.declared.TypeId.{TypeId}
-use Rattle.isle_core.specs.declared.types.TypeDef.{TypeDef}
-use Rattle.isle_core.specs.declared.types.TypeDef.TheVariants as def
 use Rattle.isle_core.specs.declared.types.Term.{Term}
 use Rattle.isle_core.specs.Value.{Value, Ran}
 use Rattle.isle_core.specs.Meaning.{Meaning}
@@ -15,17 +12,10 @@ use Rattle.isle_core.specs.Block.{Block}
 use Rattle.isle_core.specs.BlockRun.{block_outcome}
 use Rattle.isle_core.specs.Terms.{sym_text}
 use Rattle.isle_core.specs.Rule.{Environment}
+use Rattle.isle_sema.specs.Builtins.{IsBuiltinType}
 use Rattle.isle_target.specs.Program.{Function, Program}
 use Rattle.isle_target.specs.Run.{run, function_of}
 use Rattle.isle_codegen.specs.Headline.{end_of}
-
--- a builtin type
-abbrev pub IsBuiltinType : Environment → TypeId → Type 0
-IsBuiltinType env ty = IsSomeAnd (slice_get env.types.types ty.0) IsBuiltinDef
-  where
-    IsBuiltinDef : TypeDef → Type 0
-    IsBuiltinDef (def.Builtin of) = Unit {0}
-    IsBuiltinDef d = ⊥
 
 -- a term whose name may be emitted, and whose types are built
 pub record IsEmittable (env : Environment) (t : Term) : Type 0 where
