@@ -8,6 +8,8 @@ mod elaborated;
 mod elaborated_patterns;
 mod elaborated_rules;
 mod elaborated_terms;
+#[cfg(test)]
+mod elaborated_tests;
 mod flat_rules;
 mod grouping;
 mod interning;
