@@ -1,14 +1,12 @@
 -- Rules whose parts have the types of their term are ready for a block.
-use Rattle.std.proofs.Common.{◌≡◌, ⊎_elim, ℕ, zero, suc, ◌+◌, Bool, true, false, cond, eqb, List, [], ◌∷◌, ◌++◌, map, Option, Some, None, refl, sym, ap, ◌∙◌, subst, arith}
-use Rattle.std.specs.Prelude.{◌==◌, All, Contains, slice_get}
+use Rattle.std.proofs.Common.{◌≡◌, ⊎_elim, ℕ, suc, ◌+◌, Bool, true, false, cond, List, [], ◌∷◌, ◌++◌, map, Some, None, refl, sym, ap, ◌∙◌, subst, arith}
+use Rattle.std.specs.Prelude.{◌==◌, Contains, slice_get}
 use Rattle.std.specs.List.{AllByRecursion}
 use Rattle.std.proofs.lemmas.Bool.{eqb-true, eq-eqb}
 use Rattle.std.proofs.lemmas.List.Elements.{All-contains, All-from_recursion, recursion_from_All, Contains-append_left, Contains-append_right}
 use Rattle.isle_core.specs.declared.TermId.{TermId}
 use Rattle.isle_core.specs.declared.TypeId.{TypeId}
 use Rattle.isle_core.specs.declared.VarId.{VarId}
-use Rattle.isle_core.specs.declared.BindingId.{BindingId}
-use Rattle.isle_core.specs.declared.rule_sets.Constraint.{Constraint}
 use Rattle.isle_core.specs.declared.rule_sets.FlatRule.{FlatRule}
 use Rattle.isle_core.specs.declared.rule_sets.RuleSet.{RuleSet}
 use Rattle.isle_core.specs.declared.types.Term.{Term}
@@ -22,7 +20,7 @@ use Rattle.isle_core.specs.Pattern as pattern
 use Rattle.isle_core.specs.Rule.{Rule, Environment, rules_of}
 use Rattle.isle_core.specs.RuleSet.{is_test, equal_test}
 use Rattle.isle_core.specs.StandsFor.{EachOnce, IsFlat, AreFlat, StandsFor}
-use Rattle.isle_core.specs.Tests.{Test, Is, Equal, Places, no_places, met_tests, met_after, tests, after, args_tests, args_after, path, path_or, rule_tests}
+use Rattle.isle_core.specs.Tests.{Test, Places, no_places, met_tests, met_after, tests, after, args_tests, args_after, path, path_or, rule_tests}
 use Rattle.isle_core.proofs.Contained.{head_contained, tail_contained, contained_cases, none_contained}
 use Rattle.isle_syntax.specs.Tree.{Def}
 use Rattle.isle_sema.specs.TypedRule.{IsPatternOf, ArePatternsOf, IsExprOf, IsRuleOf, numbers}

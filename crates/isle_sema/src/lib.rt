@@ -10,6 +10,8 @@ mod elaborated_patterns;
 mod elaborated_rules;
 mod elaborated_terms;
 #[cfg(test)]
+mod elaborated_tests;
+#[cfg(test)]
 mod fault_tests;
 mod flat_rules;
 mod grouping;
