@@ -2,3 +2,5 @@ pub mod Sources
 pub mod Headers
 pub mod Functions
 pub mod Refusals
+pub mod PathAt
+pub mod BoundTests

@@ -8,4 +8,6 @@ pub mod Statements
 pub mod TermFunction
 pub mod Shape
 pub mod Emitted
+pub mod Contexts
+pub mod BodyOnto
 pub mod Causes

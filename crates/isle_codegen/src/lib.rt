@@ -1,9 +1,12 @@
 //! From rule files to the text of a target program.
 #![tactic(auto)]
 
+mod context;
 mod files;
 mod names;
+mod operands;
 mod source;
+mod statements;
 #[cfg(test)]
 mod tests;
 mod text;
