@@ -4,3 +4,6 @@ pub mod Functions
 pub mod Refusals
 pub mod PathAt
 pub mod BoundTests
+pub mod Onto
+pub mod StatementSteps
+pub mod Lines

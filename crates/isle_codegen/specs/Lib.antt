@@ -10,4 +10,5 @@ pub mod Shape
 pub mod Emitted
 pub mod Contexts
 pub mod BodyOnto
+pub mod LineStarts
 pub mod Causes

@@ -3,6 +3,7 @@
 
 mod context;
 mod files;
+mod line_starts;
 mod names;
 mod operands;
 mod source;
