@@ -7,3 +7,12 @@ pub mod BoundTests
 pub mod Onto
 pub mod StatementSteps
 pub mod Lines
+pub mod PathValues
+pub mod LocalsAgree
+pub mod Simulation
+pub mod Shapes
+pub mod TermNames
+pub mod BlockForms
+pub mod BlockThere
+pub mod BlockFits
+pub mod WellFormedFunctions
