@@ -38,7 +38,7 @@ fn chain_steps(alloc: Global, rules: &[&FlatRule]) -> Result<Vec<EvalStep>, Allo
 }
 
 /// The steps of the rules, highest priority first.
-#[tactic(auto, using(crate::proofs::SeesBlocks::sees_blocks))]
+#[tactic(auto, using(isle_core::proofs::SeesBlocks::sees_blocks))]
 fn chained(alloc: Global, rules: &[FlatRule]) -> Result<Block, AllocError>
     ensures { IfOk result (λ b. BlockViews.block b ≡ Chain.chain rules.now) }
 {

@@ -9,7 +9,7 @@ use isle_core::{
 use std::alloc::{AllocError, Global};
 
 /// A step that binds nothing.
-#[tactic(auto, using(crate::proofs::SeesBlocks::sees_blocks))]
+#[tactic(auto, using(isle_core::proofs::SeesBlocks::sees_blocks))]
 pub fn step(alloc: Global, check: ControlFlow) -> EvalStep
     ensures { BlockViews.step result ≡ ([], BlockViews.control check) }
 {
@@ -20,7 +20,7 @@ pub fn step(alloc: Global, check: ControlFlow) -> EvalStep
 }
 
 /// A block of one step that binds nothing.
-#[tactic(auto, using(crate::proofs::SeesBlocks::sees_blocks))]
+#[tactic(auto, using(isle_core::proofs::SeesBlocks::sees_blocks))]
 fn alone(alloc: Global, check: ControlFlow) -> Result<Block, AllocError>
     ensures { IfOk result (λ b. BlockViews.block b ≡ Nest.alone (BlockViews.control check)) }
 {
@@ -31,7 +31,7 @@ fn alone(alloc: Global, check: ControlFlow) -> Result<Block, AllocError>
 }
 
 /// A match of one arm, in which nothing is bound.
-#[tactic(auto, using(crate::proofs::SeesBlocks::sees_blocks))]
+#[tactic(auto, using(isle_core::proofs::SeesBlocks::sees_blocks))]
 fn matched(
     alloc: Global,
     source: BindingId,
@@ -54,7 +54,7 @@ fn matched(
 }
 
 /// An equality round what follows it.
-#[tactic(auto, using(crate::proofs::SeesBlocks::sees_blocks))]
+#[tactic(auto, using(isle_core::proofs::SeesBlocks::sees_blocks))]
 fn equated(
     alloc: Global,
     a: BindingId,
@@ -68,7 +68,7 @@ fn equated(
 }
 
 /// The end of a run.
-#[tactic(auto, using(crate::proofs::SeesBlocks::sees_blocks))]
+#[tactic(auto, using(isle_core::proofs::SeesBlocks::sees_blocks))]
 fn returned(pos: Pos, value: BindingId) -> ControlFlow
     ensures { BlockViews.control result ≡ Blocks.Return pos value }
 {

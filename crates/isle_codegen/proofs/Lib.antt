@@ -2,6 +2,11 @@ pub mod Sources
 pub mod Headers
 pub mod Functions
 pub mod Refusals
+pub mod PathAt
+pub mod BoundTests
+pub mod Onto
+pub mod StatementSteps
+pub mod Lines
 pub mod PathValues
 pub mod LocalsAgree
 pub mod Simulation

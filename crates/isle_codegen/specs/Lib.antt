@@ -10,4 +10,7 @@ pub mod Shape
 pub mod Headline
 pub mod Emitted
 pub mod Emits
+pub mod Contexts
+pub mod BodyOnto
+pub mod LineStarts
 pub mod Causes

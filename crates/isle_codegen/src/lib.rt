@@ -1,9 +1,13 @@
 //! From rule files to the text of a target program.
 #![tactic(auto)]
 
+mod context;
 mod files;
+mod line_starts;
 mod names;
+mod operands;
 mod source;
+mod statements;
 #[cfg(test)]
 mod tests;
 mod text;

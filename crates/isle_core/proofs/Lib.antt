@@ -7,3 +7,4 @@ pub mod OutcomeOf
 pub mod PatternTests
 pub mod SetMeans
 pub mod SeesRules
+pub mod SeesBlocks
