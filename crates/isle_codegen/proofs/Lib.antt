@@ -1,6 +1,5 @@
 pub mod Sources
 pub mod Headers
-pub mod Functions
 pub mod Refusals
 pub mod PathAt
 pub mod BoundTests
@@ -19,3 +18,6 @@ pub mod WellFormedFunctions
 pub mod Tails
 pub mod EmittedNames
 pub mod MeanRules
+pub mod Emitting
+pub mod EmittedProgram
+pub mod Placed

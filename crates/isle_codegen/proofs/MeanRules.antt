@@ -66,7 +66,7 @@ later_found name f g fs true e differ h =
     absurd (differs name (subst (λ (x : List ℕ). bytes_eq x name ≡ false) (sym (same_bytes_sound name f.term e)) differ))
   where
     differs : (x : List ℕ) → bytes_eq x x ≡ false → ⊥
-    differs x k = search rules
+    differs x k = let same : bytes_eq x x ≡ true = (bytes_eq-Decides x x).1 refl in cc
 
 module _ (files : Files) (env : Environment) (f : Function) (fs : List Function) (id : TermId) where
   here_found : (s : TermId × RuleSet) → IsEmitted files env s.0 s.1 f → StandsFor s.1 (rules_of env s.0) → s.0 ≡ id → HasFunction files env (f ∷ fs) id

@@ -1,9 +1,14 @@
 -- The program that is emitted for an environment.
 use Rattle.std.specs.Prelude.{◌≡◌, List, [], false, not}
+use Rattle.std.specs.List.{AllByRecursion}
 use Rattle.isle_core.specs.declared.options.CodegenOptions.{CodegenOptions}
+use Rattle.isle_core.specs.declared.files.Files.{Files}
+use Rattle.isle_core.specs.declared.types.Term.{Term}
+use Rattle.isle_core.specs.Places.{LiesIn}
 use Rattle.isle_core.specs.Rule.{Environment}
 use Rattle.isle_syntax.specs.Tree.{Def}
-use Rattle.isle_sema.specs.Typing.{Typed}
+use Rattle.isle_syntax.specs.Positions.{place_of}
+use Rattle.isle_codegen.specs.Source.{IsCompilable}
 use Rattle.isle_target.specs.declared.tree.TraitFn.{TraitFn}
 use Rattle.isle_target.specs.declared.tree.TypeItem.{TypeItem}
 use Rattle.isle_target.specs.Program.{Program}
@@ -13,10 +18,18 @@ pub record IsBuilt (options : CodegenOptions) : Type 0 where
   pub no_logging : options.emit_logging ≡ false
   pub no_splitting : options.split_match_arms ≡ false
 
--- an environment that definitions give
+-- an environment that definitions give, whose names may be emitted
 pub record IsGiven (env : Environment) : Type 0 where
   pub defs : List Def
-  pub typed : Typed defs env
+  pub compilable : IsCompilable defs env
+
+-- the declarations of the terms lie in the files
+abbrev pub ArePlaced : Files → Environment → Type 0
+ArePlaced files env = AllByRecursion (λ (t : Term). LiesIn files t.decl_pos) env.terms
+
+-- the definitions stand in the files
+abbrev pub DefsArePlaced : Files → List Def → Type 0
+DefsArePlaced files defs = AllByRecursion (λ (d : Def). LiesIn files (place_of d)) defs
 
 -- the functions of the trait: no external function is built
 abbrev pub trait_fns_of : Environment → List TraitFn

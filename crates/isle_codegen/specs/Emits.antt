@@ -11,9 +11,20 @@ use Rattle.isle_core.specs.RuleSet.{set_outcome}
 use Rattle.isle_core.specs.Block.{Block}
 use Rattle.isle_core.specs.BlockRun.{block_outcome}
 use Rattle.isle_core.specs.BlockLawful.{IsLawfulBlock}
+use Rattle.isle_core.specs.Places.{LiesIn}
 use Rattle.isle_core.specs.Rule.{Environment}
+use Rattle.isle_blocks.specs.Ready.{IsReady}
 use Rattle.isle_target.specs.Program.{Function}
 use Rattle.isle_codegen.specs.TermFunction.{term_function}
+use Rattle.isle_codegen.specs.Emitted.{IsEmittable}
+
+-- the term is there and may be emitted, its declaration lies in the files, and its rule set is ready for a block
+pub record CanEmit (files : Files) (env : Environment) (s : TermId × RuleSet) : Type 0 where
+  pub term : Term
+  pub there : slice_get env.terms s.0.0 ≡ Some term
+  pub placed : LiesIn files term.decl_pos
+  pub emittable : IsEmittable env term
+  pub ready : IsReady env term s.1
 
 -- the block means the rule set
 abbrev pub MeansSet : RuleSet → Block → Type 0

@@ -1,20 +1,20 @@
-ghost use Rattle.std.specs.Prelude.{◌≡◌, ◌≤◌, true, Err, IfOk, IfErr, IfSome};
+ghost use Rattle.std.specs.Prelude.{◌≡◌, ◌≤◌, true, length, Err, IfOk, IfErr, IfSome};
 ghost use Rattle.std.specs.String.{string_bytes};
 ghost use Rattle.isle_core.specs.Inputs.{bytes_each};
 ghost use Rattle.isle_core.specs.Rule.{Environment};
 ghost use Rattle.isle_syntax.specs.Views.{defs as seen};
-ghost use Rattle.isle_sema.specs.Typing.{Typed};
-ghost use Rattle.isle_codegen.specs.Emission.{IsBuilt};
+ghost use Rattle.isle_codegen.specs.Emission.{IsBuilt, DefsArePlaced};
+ghost use Rattle.isle_codegen.specs.Source.{IsCompilable};
 ghost use Rattle.isle_codegen.specs.Names.{are_file_names};
 ghost use Rattle.isle_codegen.specs.Header.{HasHeader};
 ghost use Rattle.isle_codegen.specs.Headline.{HasHeadline, SpellsOne};
 ghost use Rattle.isle_codegen.specs.Causes.{CompilesTo, IsRefusal, IsCompiled, HasCause, printed};
 
-use crate::names::{NameError, are_file_names};
+use crate::names::{NameError, are_file_names, are_term_names};
 use crate::source::parse_all;
 use crate::text::codegen;
 use isle_core::{CodegenOptions, Dir, Errors, Files, IoCause, ReadError};
-use isle_sema::{EnvError, term_env_from_ast, type_env_from_ast};
+use isle_sema::{EnvError, rule_sets, term_env_from_ast, type_env_from_ast};
 use isle_syntax::{Def, ParseFail};
 use std::alloc::Global;
 
@@ -54,12 +54,13 @@ pub fn from_files<D: Dir>(
     }
 }
 
-/// The text of the program of the definitions that the files' texts spell.
+/// The text of the program of the definitions that the files' texts spell. There are as many names as texts.
 fn compiled(alloc: Global, files: &Files, options: &CodegenOptions) -> Result<String, FileError>
-    requires { IsBuilt options.now }
+    requires count { length files.now.file_texts ≡ length files.now.file_names }
+    requires options { IsBuilt options.now }
     ensures header { IfOk result (λ text. HasHeader files.now.file_names (string_bytes text)) }
     ensures names { IfOk result (λ text. are_file_names files.now.file_names ≡ true) }
-    ensures ok { IfOk result (λ text. CompilesTo options.now files.now.file_texts (string_bytes text)) }
+    ensures ok { IfOk result (λ text. CompilesTo options.now files.now (string_bytes text)) }
     ensures err { IfErr result (λ e. IsRefusal e files.now.file_names files.now.file_texts) }
 {
     if !are_file_names(files.file_names.as_slice()) {
@@ -77,7 +78,8 @@ fn compiled(alloc: Global, files: &Files, options: &CodegenOptions) -> Result<St
     }
 }
 
-/// The text of the program of the definitions.
+/// The text of the program of the definitions, which stand in the files. `NotYet` comes exactly where they are not of
+/// the language that is built, or the name of a term may not be emitted.
 fn compile(
     alloc: Global,
     files: &Files,
@@ -86,9 +88,10 @@ fn compile(
 ) -> Result<String, EnvError>
     requires options { IsBuilt options.now }
     requires names { are_file_names files.now.file_names ≡ true }
+    requires places { DefsArePlaced files.now (seen defs.now) }
     ensures header { IfOk result (λ text. HasHeader files.now.file_names (string_bytes text)) }
-    ensures headline { IfOk result (λ text. HasHeadline options.now (seen defs.now) (string_bytes text)) }
-    ensures not_yet { result ≡ Err EnvError.NotYet → (env : Environment) → Typed (seen defs.now) env → ⊥ }
+    ensures headline { IfOk result (λ text. HasHeadline options.now files.now (seen defs.now) (string_bytes text)) }
+    ensures not_yet { result ≡ Err EnvError.NotYet → (env : Environment) → IsCompilable (seen defs.now) env → ⊥ }
 {
     let typeenv = match type_env_from_ast(alloc, defs) {
         Ok(typeenv) => typeenv,
@@ -98,7 +101,10 @@ fn compile(
         Ok(termenv) => termenv,
         Err(fail) => return Err(fail),
     };
-    let terms = Vec::new(alloc);
+    let terms = rule_sets(alloc, &termenv)?;
+    if !are_term_names(&typeenv, &termenv, terms.as_slice()) {
+        return Err(EnvError::NotYet);
+    }
     match codegen(alloc, files, &typeenv, &termenv, terms.as_slice(), options) {
         Ok(text) => Ok(text),
         Err(_) => Err(EnvError::Memory),

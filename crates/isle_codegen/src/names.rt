@@ -1,7 +1,10 @@
-ghost use Rattle.std.specs.Prelude.{◌≡◌};
-ghost use Rattle.isle_codegen.specs.Names.{is_name_byte, is_file_name, are_file_names};
+ghost use Rattle.std.specs.Prelude.{◌≡◌, map};
+ghost use Rattle.isle_ink.specs.Token.{is_word_byte};
+ghost use Rattle.isle_core.specs.RuleViews.{environment};
+ghost use Rattle.isle_core.specs.Terms.{with_rules, term_name};
+ghost use Rattle.isle_codegen.specs.Names.{is_name_byte, is_file_name, are_file_names, is_term_name, are_term_names};
 
-use isle_core::Text;
+use isle_core::{RuleSet, TermEnv, TermId, Text, TypeEnv};
 
 /// What a name stands for.
 #[derive(Clone, Copy, Debug, PartialEq, Eq)]
@@ -40,4 +43,48 @@ pub fn are_file_names(names: &[Text]) -> bool
     ensures { result ≡ are_file_names names.now }
 {
     names.iter().all(|name| is_file_name(name.as_str()))
+}
+
+/// A letter, a digit or `_`.
+fn is_word_byte(byte: u8) -> bool
+    ensures { result ≡ is_word_byte byte }
+{
+    byte.is_ascii_alphanumeric() || byte == b'_'
+}
+
+/// Whether the name of a term may stand behind `constructor_`.
+fn is_term_name(name: &str) -> bool
+    ensures { result ≡ is_term_name name.now }
+{
+    name.as_bytes().iter().all(|byte| is_word_byte(*byte))
+}
+
+/// The name of a term, or nothing where it is not there.
+fn term_name<'e>(typeenv: &'e TypeEnv, termenv: &TermEnv, id: TermId) -> &'e str
+    ensures { result.now ≡ term_name (environment typeenv.now termenv.now) id }
+{
+    match termenv.terms.as_slice().get(id.index()) {
+        Some(term) => match typeenv.syms.as_slice().get(term.name.index()) {
+            Some(name) => name.as_str(),
+            None => "",
+        },
+        None => "",
+    }
+}
+
+/// Whether the names of the terms with rules may be emitted. `terms` lists these terms.
+pub fn are_term_names(
+    typeenv: &TypeEnv,
+    termenv: &TermEnv,
+    terms: &[(TermId, RuleSet)],
+) -> bool
+    requires { map (λ t. t.0) terms.now ≡ with_rules (environment typeenv.now termenv.now) }
+    ensures { result ≡ are_term_names (environment typeenv.now termenv.now) }
+{
+    for (id, _) in terms {
+        if !is_term_name(term_name(typeenv, termenv, *id)) {
+            return false;
+        }
+    }
+    true
 }

@@ -1,9 +1,9 @@
-ghost use Rattle.std.specs.Prelude.{◌≡◌, map, true, OnOk, IfOk};
+ghost use Rattle.std.specs.Prelude.{◌≡◌, true, OnOk, IfOk};
 ghost use Rattle.std.specs.String.{string_bytes};
 ghost use Rattle.isle_ink.specs.Comment.{comment_lines};
 ghost use Rattle.isle_core.specs.RuleViews.{environment};
-ghost use Rattle.isle_core.specs.Terms.{with_rules};
-ghost use Rattle.isle_codegen.specs.Emission.{IsBuilt, IsGiven};
+ghost use Rattle.isle_sema.specs.Grouping.{AreRuleSets};
+ghost use Rattle.isle_codegen.specs.Emission.{IsBuilt, IsGiven, ArePlaced};
 ghost use Rattle.isle_codegen.specs.Names.{are_file_names};
 ghost use Rattle.isle_codegen.specs.Header.{header, HasHeader};
 ghost use Rattle.isle_codegen.specs.Headline.{IsText};
@@ -15,7 +15,7 @@ use isle_target::print_program;
 use std::alloc::Global;
 
 /// The text of the program of an environment: the header comment, which names the files, and the print of
-/// `codegen_tree`. The files' names as printed may stand in a comment.
+/// `codegen_tree`, whose conditions are its own. The files' names as printed may stand in a comment.
 pub fn codegen(
     alloc: Global,
     files: &Files,
@@ -25,11 +25,12 @@ pub fn codegen(
     options: &CodegenOptions,
 ) -> Result<String, OutOfMemory>
     requires given { IsGiven (environment typeenv.now termenv.now) }
-    requires terms { map (λ t. t.0) terms.now ≡ with_rules (environment typeenv.now termenv.now) }
+    requires terms { AreRuleSets (environment typeenv.now termenv.now) terms.now }
+    requires places { ArePlaced files.now (environment typeenv.now termenv.now) }
     requires options { IsBuilt options.now }
     requires names { are_file_names files.now.file_names ≡ true }
     ensures header { IfOk result (λ text. HasHeader files.now.file_names (string_bytes text)) }
-    ensures program { IfOk result (λ text. IsText options.now (environment typeenv.now termenv.now) (string_bytes text)) }
+    ensures program { IfOk result (λ text. IsText options.now files.now (environment typeenv.now termenv.now) (string_bytes text)) }
 {
     let tree = codegen_tree(alloc, files, typeenv, termenv, terms, options)?;
     let print = print_program(alloc, &tree)?;

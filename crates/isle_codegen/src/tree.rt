@@ -1,17 +1,69 @@
 ghost use Rattle.std.specs.Prelude.{◌≡◌, map, IfOk};
+ghost use Rattle.std.specs.List.{AllByRecursion};
 ghost use Rattle.isle_core.specs.RuleViews.{environment};
-ghost use Rattle.isle_core.specs.Terms.{with_rules};
-ghost use Rattle.isle_target.specs.Views.{program};
+ghost use Rattle.isle_sema.specs.Grouping.{AreRuleSets};
+ghost use Rattle.isle_target.specs.Views.{function, program};
 ghost use Rattle.isle_target.specs.WellFormed.{IsWellFormed};
-ghost use Rattle.isle_codegen.specs.Emission.{IsBuilt, IsGiven, IsFrame};
+ghost use Rattle.isle_codegen.specs.Emission.{IsBuilt, IsGiven, IsFrame, ArePlaced};
+ghost use Rattle.isle_codegen.specs.Emits.{CanEmit, IsEmitted, AreEmitted};
 ghost use Rattle.isle_codegen.specs.Headline.{FunctionsMean};
+ghost use Rattle.isle_codegen.specs.LineStarts.{starts_of};
 
+use crate::context::{Context, is_partial};
+use crate::emit::term_function;
+use crate::line_starts::LineStarts;
+use isle_blocks::serialize;
 use isle_core::{CodegenOptions, Files, List, OutOfMemory, RuleSet, TermEnv, TermId, TypeEnv};
-use isle_target::Program;
+use isle_target::{Function, Program};
 use std::alloc::Global;
 
+/// The function of the term of this number, from the block of its rule set. The table is that of the files.
+fn emit_one(
+    alloc: Global,
+    files: &Files,
+    starts: &LineStarts,
+    typeenv: &TypeEnv,
+    termenv: &TermEnv,
+    term: TermId,
+    rules: &RuleSet,
+) -> Result<Function, OutOfMemory>
+    requires starts { starts.now ≡ map starts_of files.now.file_texts }
+    requires can { CanEmit files.now (environment typeenv.now termenv.now) (term, rules.now) }
+    ensures { IfOk result (λ f. IsEmitted files.now (environment typeenv.now termenv.now) term rules.now (function f)) }
+{
+    let block = serialize(alloc, rules, false)?;
+    let declared = &termenv.terms.as_slice()[term.index()];
+    let context = Context {
+        typeenv,
+        termenv,
+        bindings: rules.bindings.as_slice(),
+        partial: is_partial(&declared.kind),
+    };
+    term_function(alloc, files, starts, &context, declared, &block)
+}
+
+/// The functions of terms with their rule sets, in order.
+fn emit_all(
+    alloc: Global,
+    files: &Files,
+    typeenv: &TypeEnv,
+    termenv: &TermEnv,
+    terms: &[(TermId, RuleSet)],
+) -> Result<Vec<Function>, OutOfMemory>
+    requires { AllByRecursion (CanEmit files.now (environment typeenv.now termenv.now)) terms.now }
+    ensures { IfOk result (λ fns. AreEmitted files.now (environment typeenv.now termenv.now) terms.now (map function fns.items)) }
+{
+    let starts = LineStarts::new(alloc, files)?;
+    let mut fns = Vec::new(alloc);
+    for (term, rules) in terms {
+        fns.push(emit_one(alloc, files, &starts, typeenv, termenv, *term, rules)?)?;
+    }
+    Ok(fns)
+}
+
 /// The program of an environment: the functions of the trait, the types, and a function for each term with rules, in
-/// order of ids. `terms` lists the terms with rules in this order, each with its rule set.
+/// order of ids. `terms` lists the terms with rules in this order, each with a rule set that stands for its rules; all
+/// places lie in the files.
 pub fn codegen_tree(
     alloc: Global,
     files: &Files,
@@ -21,16 +73,18 @@ pub fn codegen_tree(
     options: &CodegenOptions,
 ) -> Result<Program, OutOfMemory>
     requires given { IsGiven (environment typeenv.now termenv.now) }
-    requires terms { map (λ t. t.0) terms.now ≡ with_rules (environment typeenv.now termenv.now) }
+    requires terms { AreRuleSets (environment typeenv.now termenv.now) terms.now }
+    requires places { ArePlaced files.now (environment typeenv.now termenv.now) }
     requires options { IsBuilt options.now }
     ensures well_formed { IfOk result (λ p. IsWellFormed (program p)) }
     ensures frame { IfOk result (λ p. IsFrame options.now (environment typeenv.now termenv.now) (program p)) }
-    ensures functions { IfOk result (λ p. FunctionsMean (environment typeenv.now termenv.now) (program p)) }
+    ensures functions { IfOk result (λ p. FunctionsMean files.now (environment typeenv.now termenv.now) (program p)) }
 {
+    let fns = emit_all(alloc, files, typeenv, termenv, terms)?;
     Ok(Program {
         allow: !options.exclude_global_allow_pragmas,
         trait_fns: List::new(Vec::new(alloc)),
         types: List::new(Vec::new(alloc)),
-        fns: List::new(Vec::new(alloc)),
+        fns: List::new(fns),
     })
 }

@@ -1,0 +1,57 @@
+-- Definitions and terms stand in the files.
+use Rattle.std.proofs.Common.{◌≡◌, ℕ, zero, suc, ◌+◌, ◌<◌, ◌≤◌, List, [], ◌∷◌, ◌++◌, length, Some, refl, sym, ap, ◌∙◌, subst, arith, ⊎_elim}
+use Rattle.std.specs.Prelude.{Contains, slice_get, slice_index_or}
+use Rattle.std.specs.List.{AllByRecursion}
+use Rattle.isle_core.specs.declared.files.Files.{Files}
+use Rattle.isle_core.specs.declared.types.Term.{Term}
+use Rattle.isle_core.specs.Places.{LiesIn, text_in}
+use Rattle.isle_core.specs.Rule.{Environment}
+use Rattle.isle_core.proofs.Contained.{contained_cases, none_contained}
+use Rattle.isle_syntax.specs.Tree.{Def}
+use Rattle.isle_syntax.specs.Positions.{place_of, IsWithin, AreWithin}
+use Rattle.isle_syntax.proofs.Within.{spelt_within}
+use Rattle.isle_sema.specs.Typing.{Typed}
+use Rattle.isle_sema.proofs.TypedTerms.{typed_places}
+use Rattle.isle_codegen.specs.Source.{Source}
+use Rattle.isle_codegen.specs.Emission.{ArePlaced, DefsArePlaced}
+
+within_files : (files : Files) (file : ℕ) (text : List ℕ) (defs : List Def) → file < length files.file_names → file < length files.file_texts → text_in files file ≡ text → AreWithin file text defs → DefsArePlaced files defs
+within_files files file text [] n t e h = tt
+within_files files file text (d ∷ defs) n t e h =
+    (record {
+      named = subst (λ (x : ℕ). x < length files.file_names) (sym h.0.named) n;
+      there = subst (λ (x : ℕ). x < length files.file_texts) (sym h.0.named) t;
+      within = omega (arith, h.0.before, ap (text_in files) h.0.named, ap length e, ap length (ap (text_in files) h.0.named)) },
+     within_files files file text defs n t e h.1)
+
+both_placed : (files : Files) (ds es : List Def) → DefsArePlaced files ds → DefsArePlaced files es → DefsArePlaced files (ds ++ es)
+both_placed files [] es h k = k
+both_placed files (d ∷ ds) es h k = (h.0, both_placed files ds es h.1 k)
+
+-- the texts are those of the files from that number on
+source_from : (files : Files) (file : ℕ) (texts : List (List ℕ)) (defs : List Def) → length files.file_texts ≡ length files.file_names → file + length texts ≡ length files.file_texts
+    → ((i : ℕ) → i < length texts → text_in files (file + i) ≡ slice_index_or texts i []) → Source file texts defs → DefsArePlaced files defs
+source_from files file [] defs same many each h = subst (DefsArePlaced files) (sym h) tt
+source_from files file (text ∷ texts) defs same many each h =
+    let here : text_in files file ≡ text = ap (text_in files) {y = file + 0} (omega arith) ∙ each 0 (omega arith) in
+    subst (DefsArePlaced files) (sym h.2.2.2)
+      (both_placed files h.0 h.1
+        (within_files files file text h.0 (omega (arith, same, many)) (omega (arith, many)) here (spelt_within file text h.0 h.2.0))
+        (source_from files (file + 1) texts h.1 same (omega (arith, many)) (λ i lt. ap (text_in files) {y = file + suc i} (omega arith) ∙ each (suc i) (omega (arith, lt))) h.2.1))
+
+-- the definitions that the texts of files spell stand in them
+pub source_placed : (files : Files) (defs : List Def) → length files.file_texts ≡ length files.file_names → Source 0 files.file_texts defs → DefsArePlaced files defs
+source_placed files defs same h = source_from files 0 files.file_texts defs same (omega arith) (λ i lt. refl) h
+
+placed_among : (files : Files) (defs : List Def) (d : Def) → DefsArePlaced files defs → Contains defs d → LiesIn files (place_of d)
+placed_among files [] d h c = absurd (none_contained d c)
+placed_among files (e ∷ defs) d h c = ⊎_elim (λ same. subst (λ (x : Def). LiesIn files (place_of x)) same h.0) (λ k. placed_among files defs d h.1 k) (contained_cases e defs d c)
+
+each_placed : (files : Files) (ts : List Term) → ((i : ℕ) (t : Term) → slice_get ts i ≡ Some t → LiesIn files t.decl_pos) → AllByRecursion (λ (t : Term). LiesIn files t.decl_pos) ts
+each_placed files [] h = tt
+each_placed files (t ∷ ts) h = (h 0 t refl, each_placed files ts (λ i u e. h (suc i) u e))
+
+-- the terms of definitions that stand in the files are declared there
+pub terms_placed : (files : Files) (defs : List Def) (env : Environment) → Typed defs env → DefsArePlaced files defs → ArePlaced files env
+terms_placed files defs env h k =
+    each_placed files env.terms (λ i t e. let d = typed_places defs env i t h e in subst (LiesIn files) d.2 (placed_among files defs d.0 k d.1))
