@@ -24,7 +24,8 @@ pub index_stays : (names more : List (List ℕ)) (name : List ℕ) (n : ℕ) →
 index_stays [] more name n e = cc
 index_stays (first ∷ names) more name n e = first_stays (bytes_eq first name) (index_of names name) (index_of (names ++ more) name) n (λ m f. index_stays names more name m f) e
 
-stays_at : (b : Bool) (names : List (List ℕ)) (other name : List ℕ) (n : ℕ) → index_of names name ≡ Some n → index_of (cond b names (names ++ other ∷ [])) name ≡ Some n
+-- and behind one more
+pub stays_at : (b : Bool) (names : List (List ℕ)) (other name : List ℕ) (n : ℕ) → index_of names name ≡ Some n → index_of (cond b names (names ++ other ∷ [])) name ≡ Some n
 stays_at true names other name n e = e
 stays_at false names other name n e = index_stays names (other ∷ []) name n e
 
@@ -56,7 +57,8 @@ met_at : (b : Bool) (vars : List (List ℕ)) (name : List ℕ) → is_some (inde
 met_at true vars name e = (number_or (index_of vars name), there (index_of vars name) e)
 met_at false vars name e = (_, index_of_new vars name (none_of (index_of vars name) e))
 
-met : (vars : List (List ℕ)) (name : List ℕ) → (n : ℕ) × (index_of (added vars name) name ≡ Some n)
+-- its number
+pub met : (vars : List (List ℕ)) (name : List ℕ) → (n : ℕ) × (index_of (added vars name) name ≡ Some n)
 met vars name = met_at (is_some (index_of vars name)) vars name refl
 
 -- its number is the same behind all patterns

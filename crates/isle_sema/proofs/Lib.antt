@@ -12,6 +12,7 @@ pub mod VariablesOnce
 pub mod TypedRules
 pub mod OneRule
 pub mod ReadyRules
+pub mod DeclaredNames
 pub mod TypedTerms
 pub mod PatternLaws
 pub mod LookUps

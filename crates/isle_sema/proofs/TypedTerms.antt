@@ -1,14 +1,16 @@
 -- What the terms of an environment are to its definitions.
 use Rattle.std.proofs.Common.{◌≡◌, ℕ, zero, suc, ◌+◌, ◌<◌, ◌≤◌, false, List, [], ◌∷◌, length, map, Option, Some, None, refl, sym, ap, ◌∙◌, subst, arith}
-use Rattle.std.specs.Prelude.{Contains, option_map, slice_get, IsSomeAnd}
-use Rattle.std.specs.List.{AllByRecursion, range_with_len}
+use Rattle.std.specs.Prelude.{◌||◌, Contains, option_map, slice_get, IsSomeAnd}
+use Rattle.std.specs.List.{AllByRecursion, IsDistinct, list_any, range_with_len}
+use Rattle.std.specs.Str.{bytes_eq}
+use Rattle.std.proofs.lemmas.Bool.{or_parts}
 use Rattle.std.proofs.lemmas.Option.{slice_get-map, same_Some}
 use Rattle.std.proofs.lemmas.List.Elements.{All-from_recursion, All-filter, All-contains}
 use Rattle.isle_core.specs.declared.TermId.{TermId}
 use Rattle.isle_core.specs.declared.types.Term.{Term}
 use Rattle.isle_core.specs.Outcome.{is_partial}
 use Rattle.isle_core.specs.Rule.{Environment}
-use Rattle.isle_core.specs.Terms.{term_ids, has_rules, with_rules}
+use Rattle.isle_core.specs.Terms.{sym_text, term_ids, has_rules, with_rules}
 use Rattle.isle_core.proofs.Contained.{head_contained, tail_contained}
 use Rattle.isle_syntax.specs.Tree as tree
 use Rattle.isle_syntax.specs.Tree.{Def}
@@ -17,8 +19,11 @@ use Rattle.isle_sema.specs.Symbols.{symbols}
 use Rattle.isle_sema.specs.Builtins.{builtins, IsBuiltinDef, IsBuiltinType}
 use Rattle.isle_sema.specs.Signatures.{Signature, signatures, rule_defs}
 use Rattle.isle_sema.specs.Elaborated.{type_of, term_of}
+use Rattle.isle_sema.specs.Heads.{terms_of}
+use Rattle.isle_sema.specs.Faults.{repeats, names_no_type, has_too_many, signatures_fault, rules_fault}
 use Rattle.isle_sema.specs.Typing.{env_of, Typed}
 use Rattle.isle_sema.proofs.TypedConstants.{type_below}
+use Rattle.isle_sema.proofs.DeclaredNames.{declared_names, distinct_names}
 
 -- ---- the declaration of a term
 
@@ -112,3 +117,14 @@ typed_there defs env id h among =
     let below = λ (id : TermId). id.0 < length env.terms in
     let ids = All-from_recursion below (term_ids env) (ids_below 0 (length env.terms) (length env.terms) (omega arith)) in
     is_there env.terms id.0 (All-contains below (with_rules env) id (All-filter (has_rules env) below (term_ids env) ids) among)
+
+-- ---- their names
+
+-- the declared names don't repeat
+pub typed_names : (defs : List Def) (env : Environment) → Typed defs env → IsDistinct bytes_eq (map (λ (t : Term). sym_text env t.name) env.terms)
+typed_names defs env h =
+    let sigs = signatures defs in
+    let s = or_parts (signatures_fault sigs) (rules_fault sigs (rule_defs defs)) h.sound in
+    let k = or_parts (repeats (terms_of sigs) || list_any names_no_type sigs) (list_any has_too_many sigs) s.0 in
+    let l = or_parts (repeats (terms_of sigs)) (list_any names_no_type sigs) k.0 in
+    subst (λ (e : Environment). IsDistinct bytes_eq (map (λ (t : Term). sym_text e t.name) e.terms)) (sym h.given) (subst (IsDistinct bytes_eq) (sym (declared_names defs)) (distinct_names (terms_of sigs) l.0))
