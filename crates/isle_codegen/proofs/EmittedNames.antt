@@ -45,7 +45,7 @@ mapped env (i ∷ is) = rw (mapped env is) refl
 
 -- the names of all terms, by their numbers
 all_names : (env : Environment) → map (term_name env) (term_ids env) ≡ map (λ (t : Term). sym_text env t.name) env.terms
-all_names env = mapped env (range_with_len 0 (length env.terms)) ∙ numbered env env.terms (slice_get env.terms) 0 (λ k. refl)
+all_names env = mapped env (range_with_len 0 (length env.terms)) ∙ numbered env env.terms (slice_get env.terms) 0 (λ k. ap (slice_get env.terms) {y = 0 + k} (omega arith))
 
 module _ (env : Environment) (keep : TermId → Bool) where
   pick_all : (P : List ℕ → Type 0) (id : TermId) (ids : List TermId) (b : Bool) → P (term_name env id) → AllByRecursion P (map (term_name env) ids) → AllByRecursion P (map (term_name env) (cond b (id ∷ ids) ids))

@@ -50,7 +50,7 @@ one defs files env s h placed c name stands =
       term = t.0;
       there = t.1;
       placed = placed_at files env.terms s.0.0 t.0 placed t.1;
-      emittable = record { name = subst (λ n. IsTrue (is_term_name n)) (name_of_term env s.0 t.0 t.1) (subst IsTrue (sym name) tt); types = typed_types defs env s.0.0 t.0 h t.1 };
+      emittable = record { name = subst (λ n. IsTrue (is_term_name n)) (name_of_term env s.0 t.0 t.1) name; types = typed_types defs env s.0.0 t.0 h t.1 };
       ready = record { rules = ready_all env t.0 (paths_of s.1.bindings) s.1.rules (set_ready defs env s.0 t.0 s.1 h t.1 stands) } }
 
 module _ (defs : List Def) (files : Files) (env : Environment) (typed : Typed defs env) (placed : ArePlaced files env) where

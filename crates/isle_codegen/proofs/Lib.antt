@@ -21,3 +21,4 @@ pub mod MeanRules
 pub mod Emitting
 pub mod EmittedProgram
 pub mod Placed
+pub mod ListedNames

@@ -21,7 +21,7 @@ within_files files file text (d ∷ defs) n t e h =
     (record {
       named = subst (λ (x : ℕ). x < length files.file_names) (sym h.0.named) n;
       there = subst (λ (x : ℕ). x < length files.file_texts) (sym h.0.named) t;
-      within = omega (arith, h.0.before, ap (text_in files) h.0.named, ap length e, ap length (ap (text_in files) h.0.named)) },
+      within = subst (λ (x : ℕ). (place_of d).offset ≤ length (text_in files x)) (sym h.0.named) (subst (λ (bs : List ℕ). (place_of d).offset ≤ length bs) (sym e) (omega (arith, h.0.before))) },
      within_files files file text defs n t e h.1)
 
 both_placed : (files : Files) (ds es : List Def) → DefsArePlaced files ds → DefsArePlaced files es → DefsArePlaced files (ds ++ es)
@@ -34,10 +34,10 @@ source_from : (files : Files) (file : ℕ) (texts : List (List ℕ)) (defs : Lis
 source_from files file [] defs same many each h = subst (DefsArePlaced files) (sym h) tt
 source_from files file (text ∷ texts) defs same many each h =
     let here : text_in files file ≡ text = ap (text_in files) {y = file + 0} (omega arith) ∙ each 0 (omega arith) in
-    subst (DefsArePlaced files) (sym h.2.2.2)
+    subst (DefsArePlaced files) (sym h.4)
       (both_placed files h.0 h.1
-        (within_files files file text h.0 (omega (arith, same, many)) (omega (arith, many)) here (spelt_within file text h.0 h.2.0))
-        (source_from files (file + 1) texts h.1 same (omega (arith, many)) (λ i lt. ap (text_in files) {y = file + suc i} (omega arith) ∙ each (suc i) (omega (arith, lt))) h.2.1))
+        (within_files files file text h.0 (omega (arith, same, many)) (omega (arith, many)) here (spelt_within file text h.0 h.2))
+        (source_from files (file + 1) texts h.1 same (omega (arith, many)) (λ i lt. ap (text_in files) {y = file + suc i} (omega arith) ∙ each (suc i) (omega (arith, lt))) h.3))
 
 -- the definitions that the texts of files spell stand in them
 pub source_placed : (files : Files) (defs : List Def) → length files.file_texts ≡ length files.file_names → Source 0 files.file_texts defs → DefsArePlaced files defs

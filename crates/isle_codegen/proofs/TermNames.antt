@@ -16,7 +16,8 @@ use Rattle.isle_core.specs.Rule.{Environment}
 use Rattle.isle_target.specs.Literal.{type_name}
 use Rattle.isle_target.specs.WellFormed.{IsBuiltin, IsTy, HasNames}
 use Rattle.isle_codegen.specs.TermFunction.{def_text, type_text, parameter, term_function}
-use Rattle.isle_codegen.specs.Emitted.{IsBuiltinType, IsEmittable}
+use Rattle.isle_sema.specs.Builtins.{IsBuiltinType}
+use Rattle.isle_codegen.specs.Emitted.{IsEmittable}
 
 int_is_builtin : (ty : IntType) → IsBuiltin (type_name ty)
 int_is_builtin U8 = refl

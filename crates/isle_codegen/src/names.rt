@@ -73,6 +73,7 @@ fn term_name<'e>(typeenv: &'e TypeEnv, termenv: &TermEnv, id: TermId) -> &'e str
 }
 
 /// Whether the names of the terms with rules may be emitted. `terms` lists these terms.
+#[tactic(auto, using(crate::proofs::ListedNames::listed_names))]
 pub fn are_term_names(
     typeenv: &TypeEnv,
     termenv: &TermEnv,
@@ -81,10 +82,7 @@ pub fn are_term_names(
     requires { map (λ t. t.0) terms.now ≡ with_rules (environment typeenv.now termenv.now) }
     ensures { result ≡ are_term_names (environment typeenv.now termenv.now) }
 {
-    for (id, _) in terms {
-        if !is_term_name(term_name(typeenv, termenv, *id)) {
-            return false;
-        }
-    }
-    true
+    terms
+        .iter()
+        .all(|listed| is_term_name(term_name(typeenv, termenv, listed.0)))
 }
