@@ -16,3 +16,4 @@ pub mod BlockForms
 pub mod BlockThere
 pub mod BlockFits
 pub mod WellFormedFunctions
+pub mod Roots

@@ -11,4 +11,5 @@ pub mod Emitted
 pub mod Contexts
 pub mod BodyOnto
 pub mod LineStarts
+pub mod MayEmit
 pub mod Causes
