@@ -17,3 +17,4 @@ pub mod BlockThere
 pub mod BlockFits
 pub mod WellFormedFunctions
 pub mod Roots
+pub mod EmittedLaws
