@@ -22,3 +22,5 @@ pub mod Emitting
 pub mod EmittedProgram
 pub mod Placed
 pub mod ListedNames
+pub mod Roots
+pub mod EmittedLaws

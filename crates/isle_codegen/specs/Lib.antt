@@ -13,4 +13,5 @@ pub mod Emits
 pub mod Contexts
 pub mod BodyOnto
 pub mod LineStarts
+pub mod MayEmit
 pub mod Causes

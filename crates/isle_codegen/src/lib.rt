@@ -2,10 +2,13 @@
 #![tactic(auto)]
 
 mod context;
+mod emit;
 mod files;
 mod line_starts;
 mod names;
 mod operands;
+mod root;
+mod signature;
 mod source;
 mod statements;
 #[cfg(test)]
@@ -13,6 +16,7 @@ mod tests;
 mod text;
 mod tree;
 
+pub use emit::emit_term;
 pub use files::{FileError, from_files};
 pub use names::{NameError, NameUse};
 pub use text::codegen;

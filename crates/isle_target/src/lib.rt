@@ -20,7 +20,7 @@ mod tree;
 
 pub use bound::Bound;
 pub use forms::well_formed;
-pub use literal::rust_int_literal;
+pub use literal::{rust_int_literal, type_name};
 pub use print::print_program;
 pub use tree::{
     Function, Operand, Program, Read, Stmt, TBind, TCall, TExpr, TFields, TPat, TraitFn, Ty,

@@ -21,8 +21,8 @@ fn is_signed(ty: IntType) -> bool
     }
 }
 
-// The type's name.
-fn type_name(ty: IntType) -> &'static str
+/// The type's name in Rust.
+pub fn type_name(ty: IntType) -> &'static str
     ensures { result.now ≡ type_name ty }
 {
     match ty {
