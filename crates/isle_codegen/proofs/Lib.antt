@@ -24,3 +24,4 @@ pub mod Placed
 pub mod ListedNames
 pub mod Roots
 pub mod EmittedLaws
+pub mod Emissions

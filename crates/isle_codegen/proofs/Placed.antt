@@ -41,7 +41,7 @@ source_from files file (text ∷ texts) defs same many each h =
 
 -- the definitions that the texts of files spell stand in them
 pub source_placed : (files : Files) (defs : List Def) → length files.file_texts ≡ length files.file_names → Source 0 files.file_texts defs → DefsArePlaced files defs
-source_placed files defs same h = source_from files 0 files.file_texts defs same (omega arith) (λ i lt. refl) h
+source_placed files defs same h = source_from files 0 files.file_texts defs same (omega arith) (λ i lt. ap (text_in files) {y = i} (omega arith)) h
 
 placed_among : (files : Files) (defs : List Def) (d : Def) → DefsArePlaced files defs → Contains defs d → LiesIn files (place_of d)
 placed_among files [] d h c = absurd (none_contained d c)

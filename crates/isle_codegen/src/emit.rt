@@ -28,7 +28,7 @@ use isle_target::Function;
 use std::alloc::Global;
 
 /// The function of a term, made from its context and its block. The table is that of the files.
-fn term_function(
+pub fn term_function(
     alloc: Global,
     files: &Files,
     starts: &LineStarts,

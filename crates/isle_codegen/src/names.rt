@@ -73,7 +73,6 @@ fn term_name<'e>(typeenv: &'e TypeEnv, termenv: &TermEnv, id: TermId) -> &'e str
 }
 
 /// Whether the names of the terms with rules may be emitted. `terms` lists these terms.
-#[tactic(auto, using(crate::proofs::ListedNames::listed_names))]
 pub fn are_term_names(
     typeenv: &TypeEnv,
     termenv: &TermEnv,

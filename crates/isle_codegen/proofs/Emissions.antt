@@ -1,0 +1,53 @@
+-- Functions that are emitted one after another.
+use Rattle.std.proofs.Common.{◌≡◌, ℕ, ◌+◌, ◌<◌, ◌≤◌, List, [], ◌∷◌, ◌++◌, length, take, get_or, map, Result, Ok, Err, Some, refl, sym, ap, ◌∙◌, subst}
+use Rattle.std.specs.Prelude.{IfOk, slice_get}
+use Rattle.std.specs.List.{AllByRecursion}
+use Rattle.std.proofs.lemmas.List.{take_more, take_all}
+use Rattle.isle_core.specs.declared.TermId.{TermId}
+use Rattle.isle_core.specs.declared.files.Files.{Files}
+use Rattle.isle_core.specs.declared.rule_sets.RuleSet.{RuleSet}
+use Rattle.isle_core.specs.declared.types.Term.{Term}
+use Rattle.isle_core.specs.Path.{paths_of}
+use Rattle.isle_core.specs.Block.{Block}
+use Rattle.isle_core.specs.BlockLawful.{IsLawfulBlock}
+use Rattle.isle_core.specs.Rule.{Environment}
+use Rattle.isle_blocks.specs.Ready.{IsReady}
+use Rattle.isle_target.specs.Program.{Function}
+use Rattle.isle_codegen.specs.TermFunction.{term_function}
+use Rattle.isle_codegen.specs.Emits.{MeansSet, CanEmit, IsEmitted, AreEmitted}
+
+-- what holds of a success holds of what follows from it
+pub on_success : {A E : Type 0} (r : Result A E) (P Q : A → Type 0) → ((x : A) → P x → Q x) → IfOk r P → IfOk r Q
+on_success (Ok x) P Q f h = f x h
+on_success (Err e) P Q f h = tt
+
+some_one : (a b : Term) → Some a ≡ Some b → a ≡ b
+some_one a b e = cc
+
+-- the function of a block of the rule set is emitted for it
+pub is_emitted : (files : Files) (env : Environment) (id : TermId) (s : RuleSet) (t : Term) (b : Block) (f : Function) → CanEmit files env (id, s) → slice_get env.terms id.0 ≡ Some t
+    → ((u : Term) → IsReady env u s → IsLawfulBlock env u (paths_of s.bindings) b) → MeansSet s b → f ≡ term_function files env t (paths_of s.bindings) b → IsEmitted files env id s f
+is_emitted files env id s t b f h there lawful means given = record {
+  term = h.term;
+  there = h.there;
+  block = b;
+  lawful = lawful h.term h.ready;
+  means = means;
+  given = given ∙ ap (λ (u : Term). term_function files env u (paths_of s.bindings) b) (some_one t h.term (sym there ∙ h.there)) }
+
+both_emitted : (files : Files) (env : Environment) (ss ts : List (TermId × RuleSet)) (fs gs : List Function) → AreEmitted files env ss fs → AreEmitted files env ts gs → AreEmitted files env (ss ++ ts) (fs ++ gs)
+both_emitted files env [] ts [] gs h k = k
+both_emitted files env (s ∷ ss) ts (f ∷ fs) gs h k = (h.0, both_emitted files env ss ts fs gs h.1 k)
+both_emitted files env [] ts (f ∷ fs) gs h k = absurd h
+both_emitted files env (s ∷ ss) ts [] gs h k = absurd h
+
+-- one function more
+pub emitted_more : (files : Files) (env : Environment) (sets : List (TermId × RuleSet)) (i : ℕ) (s : TermId × RuleSet) (fs : List Function) (f : Function) → i < length sets → s ≡ get_or sets i s
+    → AreEmitted files env (take i sets) fs → IsEmitted files env s.0 s.1 f → AreEmitted files env (take (i + 1) sets) (fs ++ f ∷ [])
+emitted_more files env sets i s fs f lt is h k =
+    let all : take (i + 1) sets ≡ take i sets ++ s ∷ [] = take_more sets i s lt ∙ ap (λ y. take i sets ++ y ∷ []) (sym is) in
+    subst (λ xs. AreEmitted files env xs (fs ++ f ∷ [])) (sym all) (both_emitted files env (take i sets) (s ∷ []) fs (f ∷ []) h (k, tt))
+
+-- at the end they are all
+pub emitted_all : (files : Files) (env : Environment) (sets : List (TermId × RuleSet)) (i : ℕ) (fs : List Function) → length sets ≤ i → AreEmitted files env (take i sets) fs → AreEmitted files env sets fs
+emitted_all files env sets i fs le h = subst (λ xs. AreEmitted files env xs fs) (take_all sets i le) h
