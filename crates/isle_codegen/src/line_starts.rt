@@ -1,8 +1,8 @@
 //! Where the lines of the inputs begin, so that a place is printed without a walk over its file.
 
-ghost use Rattle.std.specs.Prelude.{◌≡◌, ◌≤◌, ◌+◌, map, length, count_by, take, ◌==◌, IfOk};
+ghost use Rattle.std.specs.Prelude.{◌≡◌, ℕ, List as ListOf, map, IfOk};
 ghost use Rattle.std.specs.String.{string_bytes};
-ghost use Rattle.isle_core.specs.Places.{LiesIn, place_in, text_in};
+ghost use Rattle.isle_core.specs.Places.{LiesIn, place_in};
 ghost use Rattle.isle_core.specs.Printed.{line_of};
 ghost use Rattle.isle_codegen.specs.LineStarts.{starts_of};
 
@@ -38,10 +38,8 @@ fn starts_of(alloc: Global, text: &[u8]) -> Result<Vec<usize>, AllocError>
 }
 
 /// The number of the line of a place in a text whose lines begin there, from 1.
-fn line_number(text: &[u8], starts: &[usize], offset: usize) -> usize
-    requires starts { starts.now ≡ starts_of text.now }
-    requires within { offset ≤ length text.now }
-    ensures { result ≡ line_of text.now offset }
+fn line_number(starts: &[usize], offset: usize) -> usize
+    ensures { (text : ListOf ℕ) → starts.now ≡ starts_of text → result ≡ line_of text offset }
 {
     1 + starts.partition_point(|start| *start <= offset)
 }
@@ -66,9 +64,7 @@ impl LineStarts {
         ensures { IfOk result (λ text. string_bytes text ≡ place_in files.now pos) }
     {
         let name = files.file_names.as_slice()[pos.file].as_str();
-        let text = files.file_texts.as_slice()[pos.file].as_str();
-        let starts = self.files.as_slice()[pos.file].as_slice();
-        let line = line_number(text.as_bytes(), starts, pos.offset);
+        let line = line_number(self.files.as_slice()[pos.file].as_slice(), pos.offset);
         Ok(format!(in alloc; "{name} line {line}")?)
     }
 }
