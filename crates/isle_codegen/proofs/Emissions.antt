@@ -3,6 +3,7 @@ use Rattle.std.proofs.Common.{◌≡◌, ℕ, ◌+◌, ◌<◌, ◌≤◌, List,
 use Rattle.std.specs.Prelude.{IfOk, slice_get}
 use Rattle.std.specs.List.{AllByRecursion}
 use Rattle.std.proofs.lemmas.List.{take_more, take_all}
+use Rattle.std.proofs.lemmas.Option.{slice_get_within, slice_get-get_or}
 use Rattle.isle_core.specs.declared.TermId.{TermId}
 use Rattle.isle_core.specs.declared.files.Files.{Files}
 use Rattle.isle_core.specs.declared.rule_sets.RuleSet.{RuleSet}
@@ -16,13 +17,12 @@ use Rattle.isle_target.specs.Program.{Function}
 use Rattle.isle_codegen.specs.TermFunction.{term_function}
 use Rattle.isle_codegen.specs.Emits.{MeansSet, CanEmit, IsEmitted, AreEmitted}
 
--- what holds of a success holds of what follows from it
-pub on_success : {A E : Type 0} (r : Result A E) (P Q : A → Type 0) → ((x : A) → P x → Q x) → IfOk r P → IfOk r Q
-on_success (Ok x) P Q f h = f x h
-on_success (Err e) P Q f h = tt
-
 some_one : (a b : Term) → Some a ≡ Some b → a ≡ b
 some_one a b e = cc
+
+-- an item that is read at a place where one stands
+pub at_place : (ts : List Term) (i : ℕ) (x t : Term) → x ≡ get_or ts i x → slice_get ts i ≡ Some t → slice_get ts i ≡ Some x
+at_place ts i x t is e = slice_get-get_or ts i x (slice_get_within ts i t e) ∙ ap Some (sym is)
 
 -- the function of a block of the rule set is emitted for it
 pub is_emitted : (files : Files) (env : Environment) (id : TermId) (s : RuleSet) (t : Term) (b : Block) (f : Function) → CanEmit files env (id, s) → slice_get env.terms id.0 ≡ Some t
@@ -50,4 +50,4 @@ emitted_more files env sets i s fs f lt is h k =
 
 -- at the end they are all
 pub emitted_all : (files : Files) (env : Environment) (sets : List (TermId × RuleSet)) (i : ℕ) (fs : List Function) → length sets ≤ i → AreEmitted files env (take i sets) fs → AreEmitted files env sets fs
-emitted_all files env sets i fs le h = subst (λ xs. AreEmitted files env xs fs) (take_all sets i le) h
+emitted_all files env sets i fs le h = subst (λ xs. AreEmitted files env xs fs) (take_all i sets le) h

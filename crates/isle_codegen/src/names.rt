@@ -1,4 +1,5 @@
 ghost use Rattle.std.specs.Prelude.{◌≡◌, map};
+ghost use Rattle.std.specs.List.{list_all};
 ghost use Rattle.isle_ink.specs.Token.{is_word_byte};
 ghost use Rattle.isle_core.specs.RuleViews.{environment};
 ghost use Rattle.isle_core.specs.Terms.{with_rules, term_name};
@@ -72,6 +73,22 @@ fn term_name<'e>(typeenv: &'e TypeEnv, termenv: &TermEnv, id: TermId) -> &'e str
     }
 }
 
+/// Whether the names of the listed terms may be emitted.
+fn are_listed_names(
+    typeenv: &TypeEnv,
+    termenv: &TermEnv,
+    terms: &[(TermId, RuleSet)],
+) -> bool
+    ensures { result ≡ list_all (λ t. is_term_name (term_name (environment typeenv.now termenv.now) t.0)) terms.now }
+{
+    for listed in terms {
+        if !is_term_name(term_name(typeenv, termenv, listed.0)) {
+            return false;
+        }
+    }
+    true
+}
+
 /// Whether the names of the terms with rules may be emitted. `terms` lists these terms.
 pub fn are_term_names(
     typeenv: &TypeEnv,
@@ -81,7 +98,5 @@ pub fn are_term_names(
     requires { map (λ t. t.0) terms.now ≡ with_rules (environment typeenv.now termenv.now) }
     ensures { result ≡ are_term_names (environment typeenv.now termenv.now) }
 {
-    terms
-        .iter()
-        .all(|listed| is_term_name(term_name(typeenv, termenv, listed.0)))
+    are_listed_names(typeenv, termenv, terms)
 }

@@ -1,15 +1,21 @@
-use Rattle.std.proofs.Common.{rules, ◌≡◌, map, IfOk, ℕ, ◌+◌, ◌-◌, ◌*◌, ◌<◌, ◌≤◌, length, ◌/◌, ◌%◌, Bool, true, false, nat_eq, nat_lt, List, [], ◌∷◌, ◌++◌, slice_index_or, slice_set, bit_and, bit_or, Fits, w8, w32, w64, Bor, MutBor}
-use Rattle.std.specs.List.{AllByRecursion}
+use Rattle.std.proofs.Common.{◌≡◌, get_or, sym, ap, ◌∙◌}
+use Rattle.isle_core.specs.BlockViews.{block}
+use Rattle.isle_core.specs.Path.{paths_of}
 use Rattle.isle_core.specs.RuleViews.{environment}
-use Rattle.isle_sema.specs.Grouping.{AreRuleSets}
-use Rattle.isle_target.specs.Views.{function, program}
-use Rattle.isle_target.specs.WellFormed.{IsWellFormed}
-use Rattle.isle_codegen.specs.Emission.{IsBuilt, IsGiven, IsFrame, ArePlaced}
-use Rattle.isle_codegen.specs.Emits.{CanEmit, IsEmitted, AreEmitted}
-use Rattle.isle_codegen.specs.Headline.{FunctionsMean}
-use Rattle.isle_codegen.specs.LineStarts.{starts_of}
+use Rattle.isle_target.specs.Views.{function}
+use Rattle.isle_codegen.specs.TermFunction.{term_function}
+use Rattle.isle_codegen.proofs.EmittedLaws.{if_ok}
+use Rattle.isle_codegen.proofs.Emissions.{is_emitted, at_place}
 use Rattle.isle_codegen.proofs.tree.emit_one.Goals as goal
 
--- src/tree.rt:21:1
 pub returns : goal.returns
-returns c = ?
+returns c =
+    let terms = c.args.termenv.now.terms in
+    let x = c.index-as_slice-index.result in
+    let is : x ≡ get_or terms c.args.term.0 x = c.index-as_slice-index.is ∙ ap (λ xs. get_or xs c.index.result x) c.as_slice.ensures ∙ ap (λ i. get_or terms i x) c.index.ensures in
+    let env = environment c.args.typeenv.now c.args.termenv.now in
+    if_ok c.term_function.result _ _
+    (λ f e. is_emitted c.args.files.now env c.args.term c.args.rules.now x (block c.in_ok-block.block) (function f) c.requires.can (at_place terms c.args.term.0 x c.requires.can.term is c.requires.can.there)
+      (λ u r. c.in_ok-block.ensures.lawful env u r) (λ e' m args partial. c.in_ok-block.ensures.means e' m args partial)
+      (e ∙ ap (λ bs. term_function c.args.files.now env x (paths_of bs) (block c.in_ok-block.block)) c.as_slice-2.ensures))
+    c.term_function.ensures
