@@ -18,3 +18,4 @@ pub mod BlockFits
 pub mod WellFormedFunctions
 pub mod Roots
 pub mod EmittedLaws
+pub mod SampleEmission
