@@ -25,3 +25,4 @@ pub mod ListedNames
 pub mod Roots
 pub mod EmittedLaws
 pub mod Emissions
+pub mod SampleEmission

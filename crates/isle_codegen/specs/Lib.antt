@@ -14,4 +14,5 @@ pub mod Contexts
 pub mod BodyOnto
 pub mod LineStarts
 pub mod MayEmit
+pub mod Samples
 pub mod Causes

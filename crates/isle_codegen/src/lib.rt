@@ -3,6 +3,8 @@
 
 mod context;
 mod emit;
+#[cfg(test)]
+mod emit_tests;
 mod files;
 mod line_starts;
 mod names;
