@@ -1,7 +1,6 @@
 -- Functions that are emitted one after another.
-use Rattle.std.proofs.Common.{◌≡◌, ℕ, ◌+◌, ◌<◌, ◌≤◌, List, [], ◌∷◌, ◌++◌, length, take, get_or, map, Result, Ok, Err, Some, refl, sym, ap, ◌∙◌, subst}
-use Rattle.std.specs.Prelude.{IfOk, slice_get}
-use Rattle.std.specs.List.{AllByRecursion}
+use Rattle.std.proofs.Common.{◌≡◌, ℕ, ◌+◌, ◌<◌, ◌≤◌, List, [], ◌∷◌, ◌++◌, length, take, get_or, Some, sym, ap, ◌∙◌, subst}
+use Rattle.std.specs.Prelude.{slice_get}
 use Rattle.std.proofs.lemmas.List.{take_more, take_all}
 use Rattle.std.proofs.lemmas.Option.{slice_get_within, slice_get-get_or}
 use Rattle.isle_core.specs.declared.TermId.{TermId}
@@ -33,7 +32,8 @@ is_emitted files env id s t b f h there lawful means given = record {
   block = b;
   lawful = lawful h.term h.ready;
   means = means;
-  given = given ∙ ap (λ (u : Term). term_function files env u (paths_of s.bindings) b) (some_one t h.term (sym there ∙ h.there)) }
+  given = given ∙ ap (λ (u : Term). term_function files env u (paths_of s.bindings) b) (some_one t h.term (sym there ∙ h.there));
+}
 
 both_emitted : (files : Files) (env : Environment) (ss ts : List (TermId × RuleSet)) (fs gs : List Function) → AreEmitted files env ss fs → AreEmitted files env ts gs → AreEmitted files env (ss ++ ts) (fs ++ gs)
 both_emitted files env [] ts [] gs h k = k

@@ -1,6 +1,6 @@
 -- The functions of an environment are well formed, and mean its rules.
-use Rattle.std.proofs.Common.{◌≡◌, ℕ, List, [], ◌∷◌, map, Option, Some, refl, sym, ap, ◌∙◌, subst}
-use Rattle.std.specs.Prelude.{Contains, slice_get}
+use Rattle.std.proofs.Common.{◌≡◌, List, [], ◌∷◌, map, Some, sym, ap, ◌∙◌, subst}
+use Rattle.std.specs.Prelude.{Contains}
 use Rattle.std.specs.List.{AllByRecursion, IsDistinct}
 use Rattle.std.specs.Str.{bytes_eq}
 use Rattle.std.proofs.lemmas.List.Elements.{recursion_from_All}
@@ -18,7 +18,7 @@ use Rattle.isle_sema.specs.Grouping.{AreRuleSets}
 use Rattle.isle_sema.proofs.TypedTerms.{typed_names}
 use Rattle.isle_target.specs.Program.{Function, Program}
 use Rattle.isle_target.specs.WellFormed.{IsFunction, IsWellFormed}
-use Rattle.isle_codegen.specs.Emits.{CanEmit, IsEmitted, AreEmitted}
+use Rattle.isle_codegen.specs.Emits.{CanEmit, AreEmitted}
 use Rattle.isle_codegen.specs.Emitted.{IsEmittable}
 use Rattle.isle_codegen.specs.OfTerm.{IsOfTerm, AreDeclared}
 use Rattle.isle_codegen.specs.Headline.{FunctionsMean}
@@ -30,12 +30,14 @@ use Rattle.isle_codegen.proofs.WellFormedFunctions.{emitted_well_formed}
 -- each function is of its term
 are_declared : (files : Files) (env : Environment) (sets : List (TermId × RuleSet)) (fs : List Function) → AreEmitted files env sets fs → AreDeclared files env (map (λ (s : TermId × RuleSet). s.0) sets) fs
 are_declared files env [] [] h = tt
-are_declared files env (s ∷ sets) (f ∷ fs) h =
-    (record {
-      term = h.0.term;
-      there = h.0.there;
-      of_term = subst (IsOfTerm files env h.0.term) (sym h.0.given) (of_its_term files env h.0.term (paths_of s.1.bindings) h.0.block h.0.lawful) },
-     are_declared files env sets fs h.1)
+are_declared files env (s ∷ sets) (f ∷ fs) h = (
+  record {
+    term = h.0.term;
+    there = h.0.there;
+    of_term = subst (IsOfTerm files env h.0.term) (sym h.0.given) (of_its_term files env h.0.term (paths_of s.1.bindings) h.0.block h.0.lawful);
+  },
+  are_declared files env sets fs h.1,
+)
 are_declared files env [] (f ∷ fs) h = absurd h
 are_declared files env (s ∷ sets) [] h = absurd h
 
@@ -46,9 +48,10 @@ some_same a b e = cc
 are_well_formed : (files : Files) (env : Environment) (p : Program) (sets : List (TermId × RuleSet)) (fs : List Function) → AllByRecursion (CanEmit files env) sets → AreEmitted files env sets fs → AllByRecursion (IsFunction p) fs
 are_well_formed files env p [] [] c h = tt
 are_well_formed files env p (s ∷ sets) (f ∷ fs) c h =
-    let e : IsEmittable env h.0.term = subst (IsEmittable env) (some_same c.0.term h.0.term (sym c.0.there ∙ h.0.there)) c.0.emittable in
-    (subst (IsFunction p) (sym h.0.given) (emitted_well_formed files env h.0.term (paths_of s.1.bindings) h.0.block e h.0.lawful p),
-     are_well_formed files env p sets fs c.1 h.1)
+    let e : IsEmittable env h.0.term = subst (IsEmittable env) (some_same c.0.term h.0.term (sym c.0.there ∙ h.0.there)) c.0.emittable in (
+      subst (IsFunction p) (sym h.0.given) (emitted_well_formed files env h.0.term (paths_of s.1.bindings) h.0.block e h.0.lawful p),
+      are_well_formed files env p sets fs c.1 h.1,
+    )
 are_well_formed files env p [] (f ∷ fs) c h = absurd h
 are_well_formed files env p (s ∷ sets) [] c h = absurd h
 
@@ -66,7 +69,8 @@ module _ (defs : List Def) (files : Files) (env : Environment) (typed : Typed de
         trait_fns = rw a tt;
         types = rw b tt;
         fns = subst (AllByRecursion (IsFunction p)) (sym e) (are_well_formed files env p sets fs c emitted);
-        distinct = subst (λ (xs : List Function). IsDistinct bytes_eq (map (λ (f : Function). f.term) xs)) (sym e) distinct }
+        distinct = subst (λ (xs : List Function). IsDistinct bytes_eq (map (λ (f : Function). f.term) xs)) (sym e) distinct;
+      }
 
   -- and its functions mean the rules
   pub program_means : (p : Program) → p.fns ≡ fs → FunctionsMean files env p
@@ -75,7 +79,8 @@ module _ (defs : List Def) (files : Files) (env : Environment) (typed : Typed de
         names = ap (map (λ (f : Function). f.term)) e ∙ names_of;
         declared = subst (λ (xs : List Function). AreDeclared files env (with_rules env) xs) (sym e) (subst (λ (ids : List TermId). AreDeclared files env ids fs) stand.ids (are_declared files env sets fs emitted));
         mean = λ id c.
-          means_rules defs files env p id typed
+            means_rules defs files env p id typed
             (subst (λ (xs : List Function). HasFunction files env xs id) (sym e)
-              (has_function files env sets fs id emitted (recursion_from_All (λ (s : TermId × RuleSet). StandsFor s.1 (rules_of env s.0)) sets stand.stand) distinct
-                (subst (λ (ids : List TermId). Contains ids id) (sym stand.ids) c))) }
+            (has_function files env sets fs id emitted (recursion_from_All (λ (s : TermId × RuleSet). StandsFor s.1 (rules_of env s.0)) sets stand.stand) distinct
+            (subst (λ (ids : List TermId). Contains ids id) (sym stand.ids) c)));
+      }

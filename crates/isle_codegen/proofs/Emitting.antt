@@ -1,10 +1,9 @@
 -- The terms with rules of an environment can be emitted.
-use Rattle.std.proofs.Common.{◌≡◌, ℕ, zero, suc, List, [], ◌∷◌, map, Bool, true, false, Option, Some, refl, sym, ap, ◌∙◌, subst, arith}
-use Rattle.std.specs.Prelude.{All, IsTrue, Contains, slice_get, slice_index_or, ◌&&◌}
+use Rattle.std.proofs.Common.{◌≡◌, ℕ, zero, suc, List, [], ◌∷◌, map, true, Some, ap, ◌∙◌, subst}
+use Rattle.std.specs.Prelude.{IsTrue, Contains, slice_get}
 use Rattle.std.specs.List.{AllByRecursion, list_all}
 use Rattle.std.proofs.lemmas.Bool.{and_parts}
-use Rattle.std.proofs.lemmas.List.Elements.{recursion_from_All, All-from_recursion}
-use Rattle.isle_core.specs.declared.BindingId.{BindingId}
+use Rattle.std.proofs.lemmas.List.Elements.{recursion_from_All}
 use Rattle.isle_core.specs.declared.TermId.{TermId}
 use Rattle.isle_core.specs.declared.files.Files.{Files}
 use Rattle.isle_core.specs.declared.rule_sets.FlatRule.{FlatRule}
@@ -13,7 +12,7 @@ use Rattle.isle_core.specs.declared.types.Term.{Term}
 use Rattle.isle_core.specs.Path.{Path, paths_of}
 use Rattle.isle_core.specs.Places.{LiesIn}
 use Rattle.isle_core.specs.StandsFor.{StandsFor}
-use Rattle.isle_core.specs.Terms.{sym_text, term_name, with_rules}
+use Rattle.isle_core.specs.Terms.{term_name, with_rules}
 use Rattle.isle_core.specs.Rule.{Environment, rules_of}
 use Rattle.isle_core.proofs.Contained.{head_contained, tail_contained}
 use Rattle.isle_blocks.specs.Ready.{IsReadyRule}
@@ -51,7 +50,8 @@ one defs files env s h placed c name stands =
       there = t.1;
       placed = placed_at files env.terms s.0.0 t.0 placed t.1;
       emittable = record { name = subst (λ n. IsTrue (is_term_name n)) (name_of_term env s.0 t.0 t.1) name; types = typed_types defs env s.0.0 t.0 h t.1 };
-      ready = record { rules = ready_all env t.0 (paths_of s.1.bindings) s.1.rules (set_ready defs env s.0 t.0 s.1 h t.1 stands) } }
+      ready = record { rules = ready_all env t.0 (paths_of s.1.bindings) s.1.rules (set_ready defs env s.0 t.0 s.1 h t.1 stands) };
+    }
 
 module _ (defs : List Def) (files : Files) (env : Environment) (typed : Typed defs env) (placed : ArePlaced files env) where
   each : (sets : List (TermId × RuleSet)) → ((id : TermId) → Contains (map (λ (s : TermId × RuleSet). s.0) sets) id → Contains (with_rules env) id)
@@ -59,13 +59,14 @@ module _ (defs : List Def) (files : Files) (env : Environment) (typed : Typed de
       → AllByRecursion (λ (s : TermId × RuleSet). StandsFor s.1 (rules_of env s.0)) sets → AllByRecursion (CanEmit files env) sets
   each [] among names stand = tt
   each (s ∷ sets) among names stand =
-      let both = and_parts (is_term_name (term_name env s.0)) (list_all (λ (id : TermId). is_term_name (term_name env id)) (map (λ (x : TermId × RuleSet). x.0) sets)) names in
-      (one defs files env s typed placed (among s.0 (head_contained s.0 (map (λ (x : TermId × RuleSet). x.0) sets))) both.0 stand.0,
-       each sets (λ id c. among id (tail_contained s.0 (map (λ (x : TermId × RuleSet). x.0) sets) id c)) both.1 stand.1)
+      let both = and_parts (is_term_name (term_name env s.0)) (list_all (λ (id : TermId). is_term_name (term_name env id)) (map (λ (x : TermId × RuleSet). x.0) sets)) names in (
+        one defs files env s typed placed (among s.0 (head_contained s.0 (map (λ (x : TermId × RuleSet). x.0) sets))) both.0 stand.0,
+        each sets (λ id c. among id (tail_contained s.0 (map (λ (x : TermId × RuleSet). x.0) sets) id c)) both.1 stand.1,
+      )
 
   -- each term with rules can be emitted
   pub can_emit : (sets : List (TermId × RuleSet)) → are_term_names env ≡ true → AreRuleSets env sets → AllByRecursion (CanEmit files env) sets
   can_emit sets names h =
       each sets (λ id c. subst (λ (ids : List TermId). Contains ids id) h.ids c)
-        (ap (list_all (λ (id : TermId). is_term_name (term_name env id))) h.ids ∙ names)
-        (recursion_from_All (λ (s : TermId × RuleSet). StandsFor s.1 (rules_of env s.0)) sets h.stand)
+      (ap (list_all (λ (id : TermId). is_term_name (term_name env id))) h.ids ∙ names)
+      (recursion_from_All (λ (s : TermId × RuleSet). StandsFor s.1 (rules_of env s.0)) sets h.stand)

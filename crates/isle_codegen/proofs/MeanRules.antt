@@ -1,6 +1,6 @@
 -- The functions of an environment mean its rules.
-use Rattle.std.proofs.Common.{◌≡◌, ℕ, suc, rules, List, [], ◌∷◌, length, map, Bool, true, false, cond, Option, Some, None, refl, sym, ap, ◌∙◌, subst, ⊎_elim}
-use Rattle.std.specs.Prelude.{Contains, All, IsSomeAnd, slice_get, filter, ◌==◌}
+use Rattle.std.proofs.Common.{◌≡◌, ℕ, suc, List, [], ◌∷◌, length, map, Bool, true, false, cond, Option, Some, None, refl, sym, ap, ◌∙◌, subst, ⊎_elim}
+use Rattle.std.specs.Prelude.{Contains, All, IsSomeAnd, filter, ◌==◌}
 use Rattle.std.proofs.lemmas.List.Elements.{All-from_recursion, recursion_from_All}
 use Rattle.std.proofs.lemmas.Slice.Eq.{bytes_eq-Decides}
 use Rattle.std.specs.List.{AllByRecursion, IsDistinct}
@@ -16,12 +16,12 @@ use Rattle.isle_core.specs.Meaning.{Meaning}
 use Rattle.isle_core.specs.HasType.{HaveTypes}
 use Rattle.isle_core.specs.Lawful.{IsLawful}
 use Rattle.isle_core.specs.HighestMatch.{outcome_of}
-use Rattle.isle_core.specs.Outcome.{Prescription, Prescribed, is_partial}
+use Rattle.isle_core.specs.Outcome.{Prescription, is_partial}
 use Rattle.isle_core.specs.Path.{Path, paths_of}
 use Rattle.isle_core.specs.BlockRun.{block_outcome}
-use Rattle.isle_core.specs.RuleSet.{set_outcome, given, highest, flat_holds}
+use Rattle.isle_core.specs.RuleSet.{given, highest, flat_holds}
 use Rattle.isle_core.specs.StandsFor.{StandsFor}
-use Rattle.isle_core.specs.Terms.{with_rules, term_name}
+use Rattle.isle_core.specs.Terms.{term_name}
 use Rattle.isle_core.specs.Rule.{Environment, Rule, rules_of}
 use Rattle.isle_core.specs.BuiltRule.{IsBuiltRule}
 use Rattle.isle_core.proofs.Contained.{head_contained, tail_contained, contained_cases, none_contained}
@@ -76,7 +76,8 @@ module _ (files : Files) (env : Environment) (f : Function) (fs : List Function)
     function = f;
     emitted = e;
     found = first_found (term_name env s.0) f fs (emitted_name files env s.0 s.1 f e);
-    among = subst (Contains (map (λ (g : Function). g.term) (f ∷ fs))) (emitted_name files env s.0 s.1 f e) (head_contained f.term (map (λ (g : Function). g.term) fs)) })
+    among = subst (Contains (map (λ (g : Function). g.term) (f ∷ fs))) (emitted_name files env s.0 s.1 f e) (head_contained f.term (map (λ (g : Function). g.term) fs));
+  })
 
   behind_found : AllByRecursion (λ y. bytes_eq f.term y ≡ false) (map (λ (g : Function). g.term) fs) → HasFunction files env fs id → HasFunction files env (f ∷ fs) id
   behind_found d h = record {
@@ -85,7 +86,8 @@ module _ (files : Files) (env : Environment) (f : Function) (fs : List Function)
     function = h.function;
     emitted = h.emitted;
     found = later_found (term_name env id) f h.function fs (same_bytes (term_name env id) f.term) refl (of_all (λ y. bytes_eq f.term y ≡ false) (map (λ (g : Function). g.term) fs) (term_name env id) d h.among) h.found;
-    among = tail_contained f.term (map (λ (g : Function). g.term) fs) (term_name env id) h.among }
+    among = tail_contained f.term (map (λ (g : Function). g.term) fs) (term_name env id) h.among;
+  }
 
 -- the function of each term that is listed is found
 pub has_function : (files : Files) (env : Environment) (sets : List (TermId × RuleSet)) (fs : List Function) (id : TermId) → AreEmitted files env sets fs
@@ -139,7 +141,7 @@ module _ (defs : List Def) (files : Files) (env : Environment) (p : Program) (id
   same_outcome args m types =
       h.emitted.means env m args partial
       ∙ set_means env m args (paths_of h.set.bindings) (rules_of env id) h.set.rules partial (built_of defs env id typed)
-          (λ k d lt. typed_args defs env id the_term typed h.emitted.there k d lt ∙ sym (as_many env args the_term.arg_tys types)) h.stands.flat
+      (λ k d lt. typed_args defs env id the_term typed h.emitted.there k d lt ∙ sym (as_many env args the_term.arg_tys types)) h.stands.flat
 
   no_calls : (args : List Value) (m : Meaning) → HaveTypes env args the_term.arg_tys → (outcome_of env m args (rules_of env id) partial).calls ≡ []
   no_calls args m types =
@@ -151,7 +153,7 @@ module _ (defs : List Def) (files : Files) (env : Environment) (p : Program) (id
       let named = name_of_term env id the_term h.emitted.there in
       ap (λ (n : List ℕ). run p n args m) named
       ∙ runs_as_block files env the_term (paths_of h.set.bindings) h.emitted.block h.emitted.lawful p args m
-          (ap (λ (n : List ℕ). function_of n p.fns) (sym named) ∙ h.found ∙ ap (λ (f : Function). Some f) h.emitted.given) types
+      (ap (λ (n : List ℕ). function_of n p.fns) (sym named) ∙ h.found ∙ ap (λ (f : Function). Some f) h.emitted.given) types
       ∙ ap (λ (o : Prescription). Some (ran_of env the_term o)) (same_outcome args m types)
 
   gives_outcome : (args : List Value) (m : Meaning) → HaveTypes env args the_term.arg_tys → GivesOutcome env p id the_term args m
@@ -161,7 +163,8 @@ module _ (defs : List Def) (files : Files) (env : Environment) (p : Program) (id
         outcome = outcome_of env m args (rules_of env id) partial;
         prescribed = prescribed;
         only = λ other k. prescribed_once k prescribed;
-        given = subst (λ (r : Option Ran). IsSomeAnd r (GivesAs env partial (outcome_of env m args (rules_of env id) partial))) (sym (runs args m types)) (gives_as env the_term _ (no_calls args m types)) }
+        given = subst (λ (r : Option Ran). IsSomeAnd r (GivesAs env partial (outcome_of env m args (rules_of env id) partial))) (sym (runs args m types)) (gives_as env the_term _ (no_calls args m types));
+      }
 
   -- the function of the term means its rules
   pub means_rules : MeansRules env p id

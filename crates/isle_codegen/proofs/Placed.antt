@@ -1,5 +1,5 @@
 -- Definitions and terms stand in the files.
-use Rattle.std.proofs.Common.{◌≡◌, ℕ, zero, suc, ◌+◌, ◌<◌, ◌≤◌, List, [], ◌∷◌, ◌++◌, length, Some, refl, sym, ap, ◌∙◌, subst, arith, ⊎_elim}
+use Rattle.std.proofs.Common.{◌≡◌, ℕ, suc, ◌+◌, ◌<◌, ◌≤◌, List, [], ◌∷◌, ◌++◌, length, Some, refl, sym, ap, ◌∙◌, subst, arith, ⊎_elim}
 use Rattle.std.specs.Prelude.{Contains, slice_get, slice_index_or}
 use Rattle.std.specs.List.{AllByRecursion}
 use Rattle.isle_core.specs.declared.files.Files.{Files}
@@ -8,7 +8,7 @@ use Rattle.isle_core.specs.Places.{LiesIn, text_in}
 use Rattle.isle_core.specs.Rule.{Environment}
 use Rattle.isle_core.proofs.Contained.{contained_cases, none_contained}
 use Rattle.isle_syntax.specs.Tree.{Def}
-use Rattle.isle_syntax.specs.Positions.{place_of, IsWithin, AreWithin}
+use Rattle.isle_syntax.specs.Positions.{place_of, AreWithin}
 use Rattle.isle_syntax.proofs.Within.{spelt_within}
 use Rattle.isle_sema.specs.Typing.{Typed}
 use Rattle.isle_sema.proofs.TypedTerms.{typed_places}
@@ -17,12 +17,14 @@ use Rattle.isle_codegen.specs.Emission.{ArePlaced, DefsArePlaced}
 
 within_files : (files : Files) (file : ℕ) (text : List ℕ) (defs : List Def) → file < length files.file_names → file < length files.file_texts → text_in files file ≡ text → AreWithin file text defs → DefsArePlaced files defs
 within_files files file text [] n t e h = tt
-within_files files file text (d ∷ defs) n t e h =
-    (record {
-      named = subst (λ (x : ℕ). x < length files.file_names) (sym h.0.named) n;
-      there = subst (λ (x : ℕ). x < length files.file_texts) (sym h.0.named) t;
-      within = subst (λ (x : ℕ). (place_of d).offset ≤ length (text_in files x)) (sym h.0.named) (subst (λ (bs : List ℕ). (place_of d).offset ≤ length bs) (sym e) (omega (arith, h.0.before))) },
-     within_files files file text defs n t e h.1)
+within_files files file text (d ∷ defs) n t e h = (
+  record {
+    named = subst (λ (x : ℕ). x < length files.file_names) (sym h.0.named) n;
+    there = subst (λ (x : ℕ). x < length files.file_texts) (sym h.0.named) t;
+    within = subst (λ (x : ℕ). (place_of d).offset ≤ length (text_in files x)) (sym h.0.named) (subst (λ (bs : List ℕ). (place_of d).offset ≤ length bs) (sym e) (omega (arith, h.0.before)));
+  },
+  within_files files file text defs n t e h.1,
+)
 
 both_placed : (files : Files) (ds es : List Def) → DefsArePlaced files ds → DefsArePlaced files es → DefsArePlaced files (ds ++ es)
 both_placed files [] es h k = k
@@ -35,9 +37,9 @@ source_from files file [] defs same many each h = subst (DefsArePlaced files) (s
 source_from files file (text ∷ texts) defs same many each h =
     let here : text_in files file ≡ text = ap (text_in files) {y = file + 0} (omega arith) ∙ each 0 (omega arith) in
     subst (DefsArePlaced files) (sym h.4)
-      (both_placed files h.0 h.1
-        (within_files files file text h.0 (omega (arith, same, many)) (omega (arith, many)) here (spelt_within file text h.0 h.2))
-        (source_from files (file + 1) texts h.1 same (omega (arith, many)) (λ i lt. ap (text_in files) {y = file + suc i} (omega arith) ∙ each (suc i) (omega (arith, lt))) h.3))
+    (both_placed files h.0 h.1
+    (within_files files file text h.0 (omega (arith, same, many)) (omega (arith, many)) here (spelt_within file text h.0 h.2))
+    (source_from files (file + 1) texts h.1 same (omega (arith, many)) (λ i lt. ap (text_in files) {y = file + suc i} (omega arith) ∙ each (suc i) (omega (arith, lt))) h.3))
 
 -- the definitions that the texts of files spell stand in them
 pub source_placed : (files : Files) (defs : List Def) → length files.file_texts ≡ length files.file_names → Source 0 files.file_texts defs → DefsArePlaced files defs

@@ -14,7 +14,7 @@ use Rattle.isle_core.specs.Terms.{sym_text}
 use Rattle.isle_core.specs.Rule.{Environment}
 use Rattle.isle_target.specs.Program.{Tail, Body, Done, Then}
 use Rattle.isle_codegen.specs.Statements.{lets, bound_by, block_body, control_stmt}
-use Rattle.isle_codegen.specs.TermFunction.{ends_in_return, mark_of, tail_of, term_function}
+use Rattle.isle_codegen.specs.TermFunction.{ends_in_return, tail_of, term_function}
 use Rattle.isle_codegen.specs.OfTerm.{marks, mark_in, IsOfTerm}
 
 -- lets have no mark
@@ -52,6 +52,7 @@ of_its_term files env t ps b h = record {
   result = refl;
   kind = refl;
   tails =
-    subst (AllByRecursion (λ (m : Option (List ℕ × List ℕ)). m ≡ mark_in files env t))
+      subst (AllByRecursion (λ (m : Option (List ℕ × List ℕ)). m ≡ mark_in files env t))
       (sym (block_marks b env t ps (is_partial t.kind) [] (tail_of (is_partial t.kind) (sym_text env t.name) (place_in files t.decl_pos) b) h))
-      (tail_marks (mark_in files env t) (ends_in_return b)) }
+      (tail_marks (mark_in files env t) (ends_in_return b));
+}

@@ -74,11 +74,7 @@ fn term_name<'e>(typeenv: &'e TypeEnv, termenv: &TermEnv, id: TermId) -> &'e str
 }
 
 /// Whether the names of the listed terms may be emitted.
-fn are_listed_names(
-    typeenv: &TypeEnv,
-    termenv: &TermEnv,
-    terms: &[(TermId, RuleSet)],
-) -> bool
+fn are_listed_names(typeenv: &TypeEnv, termenv: &TermEnv, terms: &[(TermId, RuleSet)]) -> bool
     ensures { result ≡ list_all (λ t. is_term_name (term_name (environment typeenv.now termenv.now) t.0)) terms.now }
 {
     for listed in terms {
@@ -90,11 +86,7 @@ fn are_listed_names(
 }
 
 /// Whether the names of the terms with rules may be emitted. `terms` lists these terms.
-pub fn are_term_names(
-    typeenv: &TypeEnv,
-    termenv: &TermEnv,
-    terms: &[(TermId, RuleSet)],
-) -> bool
+pub fn are_term_names(typeenv: &TypeEnv, termenv: &TermEnv, terms: &[(TermId, RuleSet)]) -> bool
     requires { map (λ t. t.0) terms.now ≡ with_rules (environment typeenv.now termenv.now) }
     ensures { result ≡ are_term_names (environment typeenv.now termenv.now) }
 {

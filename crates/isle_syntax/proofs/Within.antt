@@ -95,7 +95,8 @@ unfolding step
 step_before s b h = record {
   tokens = both_before (s.at + 1) s.tokens (ended s.state s.at b) (later s.at s.tokens h.tokens)
       (pick_before (ends s.state b) (pending s.state s.at) (s.at + 1) (pending_before s.state s.at (s.at + 1) h.state (omega arith)));
-  state = began_next s.state s.at b h.state }
+  state = began_next s.state s.at b h.state;
+}
 
 fold_before : (bs : List ℕ) (s : Scan) → AreBefore s → AreBefore (fold step s bs)
 fold_before [] s h = h
@@ -107,7 +108,7 @@ scan_before text = fold_before text (record { tokens = []; state = Between; at =
 tokens_before : (text : List ℕ) → Before (length text) (tokens_of text)
 tokens_before text =
     subst (λ n. Before n (tokens_of text)) (scan-at text)
-      (both_before (scan text).at (scan text).tokens _ (scan_before text).tokens (pending_before (scan text).state (scan text).at (scan text).at (scan_before text).state (omega arith)))
+    (both_before (scan text).at (scan text).tokens _ (scan_before text).tokens (pending_before (scan text).state (scan text).at (scan text).at (scan_before text).state (omega arith)))
 
 -- ---- and so do the tokens with their bytes
 
@@ -131,10 +132,10 @@ pick_place false l m n e f = f
 lexeme_place : (text : List ℕ) (t : Tok) → place (lexeme text t) ≡ t.from
 lexeme_place text t =
     pick_place (slice_index text t.from == 40) _ _ t.from refl
-      (pick_place (slice_index text t.from == 41) _ _ t.from refl
-      (pick_place (slice_index text t.from == 64) _ _ t.from refl
-      (pick_place (slice_index text t.from == 60) _ _ t.from refl
-      (pick_place (slice_index text t.from == 62) _ _ t.from refl refl))))
+    (pick_place (slice_index text t.from == 41) _ _ t.from refl
+    (pick_place (slice_index text t.from == 64) _ _ t.from refl
+    (pick_place (slice_index text t.from == 60) _ _ t.from refl
+    (pick_place (slice_index text t.from == 62) _ _ t.from refl refl))))
 
 all_within : (text : List ℕ) (n : ℕ) (ts : List Tok) → Before n ts → Within n (map (lexeme text) ts)
 all_within text n [] h = tt
