@@ -47,7 +47,8 @@ sample_term name partial = record {
   decl_pos = declared_at;
   arg_tys = u8 ∷ u8 ∷ [];
   ret_ty = u8;
-  kind = kind.Decl false false partial false constructor.Internal extractor.Absent }
+  kind = kind.Decl false false partial false constructor.Internal extractor.Absent;
+}
 
 -- a term that must answer, and one that may answer nothing
 abbrev pub sample_terms : List Term

@@ -67,4 +67,5 @@ term_function files env t ps b = record {
   params = map (parameter env) t.arg_tys;
   result = type_text env t.ret_ty;
   kind = kind_of (is_partial t.kind);
-  body = block_body env ps (is_partial t.kind) [] b (tail_of (is_partial t.kind) (sym_text env t.name) (place_in files t.decl_pos) b) }
+  body = block_body env ps (is_partial t.kind) [] b (tail_of (is_partial t.kind) (sym_text env t.name) (place_in files t.decl_pos) b);
+}

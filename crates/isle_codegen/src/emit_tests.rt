@@ -154,11 +154,7 @@ fn rules(alloc: Global) -> Result<RuleSet, AllocError>
 
 /// A step behind bindings.
 #[tactic(auto, using(isle_core::proofs::SeesBlocks::sees_blocks))]
-fn step(
-    alloc: Global,
-    bind_order: &[BindingId],
-    check: ControlFlow,
-) -> Result<EvalStep, AllocError>
+fn step(alloc: Global, bind_order: &[BindingId], check: ControlFlow) -> Result<EvalStep, AllocError>
     ensures { IfOk result (λ s. BlockViews.step s ≡ (bind_order.now, BlockViews.control check)) }
 {
     Ok(EvalStep {

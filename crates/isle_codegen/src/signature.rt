@@ -55,17 +55,16 @@ pub fn ty_name(alloc: Global, typeenv: &TypeEnv, ty: TypeId) -> Result<Text, All
 }
 
 /// The types of the parameters.
-pub fn params(
-    alloc: Global,
-    context: &Context<'_>,
-    tys: &[TypeId],
-) -> Result<Vec<Ty>, AllocError>
+pub fn params(alloc: Global, context: &Context<'_>, tys: &[TypeId]) -> Result<Vec<Ty>, AllocError>
     ensures { IfOk result (λ params. params.items ≡ map (parameter (env_of context.now)) tys.now) }
 {
     let mut params = Vec::new(alloc);
     for ty in tys {
         let name = ty_name(alloc, context.typeenv, *ty)?;
-        params.push(Ty { by_ref: false, name })?;
+        params.push(Ty {
+            by_ref: false,
+            name,
+        })?;
     }
     Ok(params)
 }

@@ -26,8 +26,10 @@ block_stmts-loop-step-preserved t c =
           (step-parts c.step-item.result ∙ ap (λ bs. (bs, control c.step-item.result.check)) (sym c.as_slice.ensures))
           c.in_ok-push_lets.ensures.lets c.in_ok-push_lets.ensures.bound c.in_ok-control_stmt.ensures.stmt c.in_ok-control_stmt.ensures.bound c.in_ok-push.ensures.items
           ∙ c.loop-step.invariant.stmts end;
-      bound = (old.0 ++ lets.0,
-          c.in_ok-control_stmt.ensures.bound ∙ c.in_ok-push_lets.ensures.bound ∙ lets.1 ∙ ap (λ ls. ls ++ lets.0) old.1 ∙ append_assoc c.args.bound.now old.0 lets.0);
+      bound = (
+        old.0 ++ lets.0,
+        c.in_ok-control_stmt.ensures.bound ∙ c.in_ok-push_lets.ensures.bound ∙ lets.1 ∙ ap (λ ls. ls ++ lets.0) old.1 ∙ append_assoc c.args.bound.now old.0 lets.0,
+      );
     }
 
 pub block_stmts-returns-clause-stmts : goal.block_stmts-returns-clause-stmts
@@ -41,7 +43,7 @@ block_stmts-returns-clause-stmts t c = λ end.
     ∙ ap (λ b. block_body env ps partial c.args.bound.now b end) (sym (block-steps c.args.block.now))
 
 pub control_stmt-returns-in_ok-inside-in-Equal-clause-stmt : goal.control_stmt-returns-in_ok-inside-in-Equal-clause-stmt
-control_stmt-returns-in_ok-inside-in-Equal-clause-stmt t c = 
+control_stmt-returns-in_ok-inside-in-Equal-clause-stmt t c =
     inside c.operand_of-a.result c.operand_of-b.result _ _ c.new.result _ c.operand_of-a.ensures c.operand_of-b.ensures
     (ap (λ ss. body_onto (map stmt ss) Done) c.new.ensures ∙ c.in_ok-inside-in-Equal.ensures.stmts Done)
     ∙ ap (control_stmt (env_of c.args.context.now) (paths_in c.args.context.now) c.args.context.now.partial c.args.bound.now) (sym (ap control c.in-Equal.is ∙ control-equal c.in-Equal.a c.in-Equal.b c.in-Equal.body))
