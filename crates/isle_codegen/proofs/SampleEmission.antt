@@ -3,6 +3,7 @@ use Rattle.std.proofs.Common.{◌≡◌, ℕ, List, [], Bool, true, false, pos, 
 use Rattle.std.specs.Prelude.{IsTrue, IsSomeAnd, slice_index_or}
 use Rattle.std.specs.List.{list_all}
 use Rattle.isle_ink.specs.Token.{is_word_byte}
+use Rattle.isle_base.specs.declared.ids.TermId.{TermId}
 use Rattle.isle_core.specs.declared.files.Files.{Files}
 use Rattle.isle_core.specs.declared.types.TermEnv.{TermEnv}
 use Rattle.isle_core.specs.declared.types.TypeEnv.{TypeEnv}
@@ -43,10 +44,12 @@ may_emit files env true ends lies types names terms =
     subst (λ ts. IsSomeAnd (slice_get ts 1) (λ t. MayEmit files env t (paths_of sample_bindings) (sample_block ends))) (sym terms)
     (record { emittable = emittable env 1 true types (rw names refl); lawful = lawful env 1 true ends types; declared = lies })
 
-pub sample_may_emit : (files : Files) (typeenv : TypeEnv) (termenv : TermEnv) (bindings : List Binding) (b : Block) (partial ends : Bool)
-    → LiesIn files declared_at → typeenv.types ≡ sample_types → typeenv.syms ≡ sample_names → termenv.terms ≡ sample_terms → bindings ≡ sample_bindings → b ≡ sample_block ends
-    → AtTerm (environment typeenv termenv) (sample_id partial) (λ t. MayEmit files (environment typeenv termenv) t (paths_of bindings) b)
-sample_may_emit files typeenv termenv bindings b partial ends lies types names terms is_bindings is_block =
-    subst (λ bs. AtTerm (environment typeenv termenv) (sample_id partial) (λ t. MayEmit files (environment typeenv termenv) t (paths_of bs) b)) (sym is_bindings)
-    (subst (λ c. AtTerm (environment typeenv termenv) (sample_id partial) (λ t. MayEmit files (environment typeenv termenv) t (paths_of sample_bindings) c)) (sym is_block)
-    (may_emit files (environment typeenv termenv) partial ends lies types names terms))
+pub sample_may_emit : (files : Files) (typeenv : TypeEnv) (termenv : TermEnv) (id : TermId) (bindings : List Binding) (b : Block) (partial ends : Bool)
+    → LiesIn files declared_at → typeenv.types ≡ sample_types → typeenv.syms ≡ sample_names → termenv.terms ≡ sample_terms → id ≡ sample_id partial → bindings ≡ sample_bindings → b ≡ sample_block ends
+    → AtTerm (environment typeenv termenv) id (λ t. MayEmit files (environment typeenv termenv) t (paths_of bindings) b)
+sample_may_emit files typeenv termenv id bindings b partial ends lies types names terms is_id is_bindings is_block =
+    let env = environment typeenv termenv in
+    subst (λ i. AtTerm env i (λ t. MayEmit files env t (paths_of bindings) b)) (sym is_id)
+    (subst (λ bs. AtTerm env (sample_id partial) (λ t. MayEmit files env t (paths_of bs) b)) (sym is_bindings)
+    (subst (λ c. AtTerm env (sample_id partial) (λ t. MayEmit files env t (paths_of sample_bindings) c)) (sym is_block)
+    (may_emit files env partial ends lies types names terms)))
