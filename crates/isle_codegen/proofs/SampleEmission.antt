@@ -1,7 +1,7 @@
 -- The functions of the sample terms may be emitted.
-use Rattle.std.proofs.Common.{◌≡◌, ℕ, ◌<◌, List, [], ◌∷◌, Bool, true, false, pos, refl, sym, ap, subst, arith, slice_get}
+use Rattle.std.proofs.Common.{◌≡◌, ℕ, List, [], Bool, true, false, pos, refl, sym, subst, arith, slice_get}
 use Rattle.std.specs.Prelude.{IsTrue, IsSomeAnd, slice_index_or}
-use Rattle.std.specs.List.{AllByRecursion, list_all}
+use Rattle.std.specs.List.{list_all}
 use Rattle.isle_ink.specs.Token.{is_word_byte}
 use Rattle.isle_base.specs.declared.ids.TermId.{TermId}
 use Rattle.isle_core.specs.declared.files.Files.{Files}
@@ -17,10 +17,9 @@ use Rattle.isle_core.specs.Path.{paths_of}
 use Rattle.isle_core.specs.Places.{LiesIn}
 use Rattle.isle_core.specs.Rule.{Environment}
 use Rattle.isle_core.specs.RuleViews.{environment}
-use Rattle.isle_core.specs.Terms.{sym_text}
 use Rattle.isle_codegen.specs.Emitted.{IsEmittable, IsBuiltinType}
 use Rattle.isle_codegen.specs.MayEmit.{AtTerm, MayEmit}
-use Rattle.isle_codegen.specs.Samples.{u8, first, second, declared_at, sample_types, sample_names, sample_term, sample_terms, sample_id, sample_bindings, sample_block}
+use Rattle.isle_codegen.specs.Samples.{u8, declared_at, sample_types, sample_names, sample_term, sample_terms, sample_id, sample_bindings, sample_block}
 
 is_seven : (env : Environment) → env.types.types ≡ sample_types → HasType env (int_value env u8 (pos 7)) u8
 is_seven env types = subst (λ (ds : List TypeDef). IsSomeAnd (slice_get ds 1) (λ d. IsOfDef d (int_of_def (slice_get ds 1) (pos 7)))) (sym types) (refl, omega arith)
