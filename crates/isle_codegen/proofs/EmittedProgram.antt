@@ -13,8 +13,8 @@ use Rattle.isle_core.specs.StandsFor.{StandsFor}
 use Rattle.isle_core.specs.Terms.{term_name, with_rules}
 use Rattle.isle_core.specs.Rule.{Environment, rules_of}
 use Rattle.isle_syntax.specs.Tree.{Def}
+use Rattle.isle_rulesets.specs.Grouping.{AreRuleSets}
 use Rattle.isle_sema.specs.Typing.{Typed}
-use Rattle.isle_sema.specs.Grouping.{AreRuleSets}
 use Rattle.isle_sema.proofs.TypedTerms.{typed_names}
 use Rattle.isle_target.specs.Program.{Function, Program}
 use Rattle.isle_target.specs.WellFormed.{IsFunction, IsWellFormed}

@@ -17,8 +17,8 @@ use Rattle.isle_core.specs.Rule.{Environment, rules_of}
 use Rattle.isle_core.proofs.Contained.{head_contained, tail_contained}
 use Rattle.isle_blocks.specs.Ready.{IsReadyRule}
 use Rattle.isle_syntax.specs.Tree.{Def}
+use Rattle.isle_rulesets.specs.Grouping.{AreRuleSets}
 use Rattle.isle_sema.specs.Typing.{Typed}
-use Rattle.isle_sema.specs.Grouping.{AreRuleSets}
 use Rattle.isle_sema.specs.ReadyRule.{IsReadyFlat}
 use Rattle.isle_sema.proofs.ReadyRules.{set_ready}
 use Rattle.isle_sema.proofs.TypedTerms.{typed_types, typed_there}

@@ -14,7 +14,8 @@ use crate::names::{NameError, are_file_names, are_term_names};
 use crate::source::parse_all;
 use crate::text::codegen;
 use isle_core::{CodegenOptions, Dir, Errors, Files, IoCause, ReadError};
-use isle_sema::{EnvError, rule_sets, term_env_from_ast, type_env_from_ast};
+use isle_rulesets::rule_sets;
+use isle_sema::{EnvError, term_env_from_ast, type_env_from_ast};
 use isle_syntax::{Def, ParseFail};
 use std::alloc::Global;
 

@@ -2,7 +2,7 @@ ghost use Rattle.std.specs.Prelude.{◌≡◌, true, OnOk, IfOk};
 ghost use Rattle.std.specs.String.{string_bytes};
 ghost use Rattle.isle_ink.specs.Comment.{comment_lines};
 ghost use Rattle.isle_core.specs.RuleViews.{environment};
-ghost use Rattle.isle_sema.specs.Grouping.{AreRuleSets};
+ghost use Rattle.isle_rulesets.specs.Grouping.{AreRuleSets};
 ghost use Rattle.isle_codegen.specs.Emission.{IsBuilt, IsGiven, ArePlaced};
 ghost use Rattle.isle_codegen.specs.Names.{are_file_names};
 ghost use Rattle.isle_codegen.specs.Header.{header, HasHeader};

@@ -1,7 +1,7 @@
 ghost use Rattle.std.specs.Prelude.{◌≡◌, map, IfOk};
 ghost use Rattle.std.specs.List.{AllByRecursion};
 ghost use Rattle.isle_core.specs.RuleViews.{environment};
-ghost use Rattle.isle_sema.specs.Grouping.{AreRuleSets};
+ghost use Rattle.isle_rulesets.specs.Grouping.{AreRuleSets};
 ghost use Rattle.isle_target.specs.Views.{function, program};
 ghost use Rattle.isle_target.specs.WellFormed.{IsWellFormed};
 ghost use Rattle.isle_codegen.specs.Emission.{IsBuilt, IsGiven, IsFrame, ArePlaced};

@@ -17,9 +17,3 @@ pub mod TypedTerms
 pub mod PatternLaws
 pub mod LookUps
 pub mod ReducedLaws
-pub mod NumberingLaws
-pub mod DraftLaws
-pub mod RuleTests
-pub mod RuleSetLaws
-pub mod GroupingLaws
-pub mod SampleRule

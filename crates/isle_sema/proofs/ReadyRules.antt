@@ -23,10 +23,10 @@ use Rattle.isle_core.specs.StandsFor.{EachOnce, IsFlat, AreFlat, StandsFor}
 use Rattle.isle_core.specs.Tests.{Test, Places, no_places, met_tests, met_after, tests, after, args_tests, args_after, path, path_or, rule_tests}
 use Rattle.isle_core.proofs.Contained.{head_contained, tail_contained, contained_cases, none_contained}
 use Rattle.isle_syntax.specs.Tree.{Def}
+use Rattle.isle_rulesets.proofs.RuleTests.{args_keep}
 use Rattle.isle_sema.specs.TypedRule.{IsPatternOf, ArePatternsOf, IsExprOf, IsRuleOf, numbers}
 use Rattle.isle_sema.specs.ReadyRule.{IsReadyTest, IsReadyFor, IsReadyFlat}
 use Rattle.isle_sema.specs.Typing.{Typed}
-use Rattle.isle_sema.proofs.RuleTests.{args_keep}
 use Rattle.isle_sema.proofs.TypedRules.{typed_of}
 
 -- ---- types of arguments, and variables without a path

@@ -11,7 +11,3 @@ pub mod TypedRule
 pub mod FaultsSeen
 pub mod ReadyRule
 pub mod Typing
-pub mod Numbering
-pub mod Drafts
-pub mod FlatRules
-pub mod Grouping

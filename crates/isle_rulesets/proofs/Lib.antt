@@ -1,0 +1,6 @@
+pub mod NumberingLaws
+pub mod DraftLaws
+pub mod RuleTests
+pub mod RuleSetLaws
+pub mod GroupingLaws
+pub mod SampleRule

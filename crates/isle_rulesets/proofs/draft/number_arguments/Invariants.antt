@@ -1,0 +1,7 @@
+use Rattle.std.proofs.Common.{map, take}
+use Rattle.isle_core.specs.RuleViews.{pattern}
+use Rattle.isle_rulesets.specs.Drafts.{Drafted}
+use Rattle.isle_rulesets.proofs.draft.number_arguments.Given as goal
+
+abbrev pub invariant-loop-index : goal.invariant-loop-index
+invariant-loop-index l = Drafted l.fn.numbering l.numbering (map pattern (take l.index l.patterns)) l.draft

@@ -1,0 +1,23 @@
+use Rattle.std.proofs.Common.{subst, sym}
+use Rattle.isle_core.specs.RuleViews.{rules as seen}
+use Rattle.isle_core.specs.BuiltRule.{IsBuiltRule, IsBoundRule}
+use Rattle.isle_rulesets.specs.FlatRules.{Covers}
+use Rattle.isle_rulesets.proofs.RuleSetLaws.{rule_at, covers_more, covers_all, covers_stands}
+use Rattle.isle_rulesets.proofs.flat_rules.rule_set.Goals as goal
+
+pub flat_rule-requires-clause-built : goal.flat_rule-requires-clause-built
+flat_rule-requires-clause-built c = rule_at IsBuiltRule c.args.rules.now c.loop-rule.rule-index c.rule-item.result c.requires.built c.loop-rule-test.true c.rule-item.is
+
+pub flat_rule-requires-clause-bound : goal.flat_rule-requires-clause-bound
+flat_rule-requires-clause-bound c = rule_at IsBoundRule c.args.rules.now c.loop-rule.rule-index c.rule-item.result c.requires.bound c.loop-rule-test.true c.rule-item.is
+
+pub loop-rule-preserved : goal.loop-rule-preserved
+loop-rule-preserved c =
+    covers_more c.loop-rule.numbering c.flat_rule.new.numbering c.args.rules.now c.loop-rule.rule-index c.rule-item.result c.loop-rule.flat_rules.items c.push.new.self.items c.in_ok-flat_rule.field-0
+    c.loop-rule-test.true c.rule-item.is c.loop-rule.invariant c.in_ok-flat_rule.ensures c.in_ok-push.ensures.items
+
+pub returns : goal.returns
+returns c =
+    let covers = covers_all c.loop-rule.numbering c.args.rules.now c.loop-rule.rule-index c.loop-rule.flat_rules.items c.loop-rule-test.false c.loop-rule.invariant in
+    covers_stands _ c.into_bindings.result.items (seen c.args.rules.now) c.loop-rule.flat_rules.items
+    (subst (λ bs. Covers bs (seen c.args.rules.now) c.loop-rule.flat_rules.items) (sym c.into_bindings.ensures.bindings) covers) c.into_bindings.ensures.once c.new.ensures c.new-2.ensures

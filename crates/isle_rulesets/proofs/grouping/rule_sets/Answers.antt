@@ -1,0 +1,34 @@
+use Rattle.std.proofs.Common.{rules, map, length, refl}
+use Rattle.isle_core.specs.RuleViews.{rule}
+use Rattle.isle_core.specs.BuiltRule.{IsBuiltRule, IsBoundRule}
+use Rattle.isle_rulesets.proofs.GroupingLaws.{group_seen, group_all, sets_push, sets_skip, not_empty, is_none}
+use Rattle.isle_rulesets.proofs.grouping.rule_sets.Goals as goal
+use Rattle.isle_rulesets.proofs.grouping.rule_sets.Goals.{then-not-is_empty+in_ok-rule_set+in_ok-push, else-not-is_empty}
+
+pub rule_set-requires-clause-built : goal.rule_set-requires-clause-built
+rule_set-requires-clause-built c =
+    group_all IsBuiltRule (map rule c.args.terms.now.rules) c.loop-index.index c.deref.result.now
+    (group_seen c.in_ok-groups.groups.items c.deref-rules-items.result.now _ c.as_slice-2.result.now c.args.terms.now.rules c.loop-index.index c.rules-item.result c.deref.result.now c.in_ok-groups.ensures (search rules) c.deref-rules-items.ensures.value
+    (search rules) c.rules-item.is c.deref.ensures.value) c.requires.built
+
+pub rule_set-requires-clause-bound : goal.rule_set-requires-clause-bound
+rule_set-requires-clause-bound c =
+    group_all IsBoundRule (map rule c.args.terms.now.rules) c.loop-index.index c.deref.result.now
+    (group_seen c.in_ok-groups.groups.items c.deref-rules-items.result.now _ c.as_slice-2.result.now c.args.terms.now.rules c.loop-index.index c.rules-item.result c.deref.result.now c.in_ok-groups.ensures (search rules) c.deref-rules-items.ensures.value
+    (search rules) c.rules-item.is c.deref.ensures.value) c.requires.bound
+
+pub loop-index-preserved : goal.loop-index-preserved
+loop-index-preserved c = elim c.if-not-is_empty.branch [
+  | then-not-is_empty+in_ok-rule_set+in_ok-push w ↦
+      rw w.sets-is
+      (sets_push (map rule c.args.terms.now.rules) c.loop-index.index w.deref.result.now c.loop-index.sets.items w.push.new.self.items w.in_ok-rule_set.field-0
+      (group_seen c.in_ok-groups.groups.items c.deref-rules-items.result.now _ c.as_slice-2.result.now c.args.terms.now.rules c.loop-index.index c.rules-item.result w.deref.result.now c.in_ok-groups.ensures (search rules) c.deref-rules-items.ensures.value
+      (search rules) c.rules-item.is w.deref.ensures.value)
+      (not_empty c.is_empty.result _ (length w.deref.result.now) c.is_empty.ensures w.if-not-is_empty.true w.deref.ensures.len) c.loop-index.invariant w.in_ok-rule_set.ensures w.in_ok-push.ensures.items)
+  | else-not-is_empty w ↦
+      rw w.sets-is
+      (sets_skip (map rule c.args.terms.now.rules) c.loop-index.index c.rules-item.result.items c.loop-index.sets.items
+      (group_seen c.in_ok-groups.groups.items c.deref-rules-items.result.now _ c.as_slice-2.result.now c.args.terms.now.rules c.loop-index.index c.rules-item.result c.rules-item.result.items c.in_ok-groups.ensures (search rules) c.deref-rules-items.ensures.value
+      (search rules) c.rules-item.is refl)
+      (is_none c.is_empty.result _ (length c.rules-item.result.items) c.is_empty.ensures w.if-not-is_empty.false (search rules)) c.loop-index.invariant)
+]

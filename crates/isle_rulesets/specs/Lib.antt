@@ -1,0 +1,4 @@
+pub mod Numbering
+pub mod Drafts
+pub mod FlatRules
+pub mod Grouping

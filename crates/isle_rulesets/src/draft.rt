@@ -1,0 +1,91 @@
+ghost use Rattle.std.specs.Prelude.{◌++◌, List, [], IfOk, OnOk, map, All};
+ghost use Rattle.isle_core.specs.Path.{Path, at};
+ghost use Rattle.isle_core.specs.Tests.{Places, Test, tests, after, met_tests, met_after, no_places};
+ghost use Rattle.isle_core.specs.RuleViews.{pattern as seen};
+ghost use Rattle.isle_core.specs.BuiltRule.{IsBuiltPattern};
+ghost use Rattle.isle_rulesets.specs.Drafts.{Draws, Drafted};
+
+use crate::numbering::{Key, Numbering};
+use isle_core::{BindingId, Constraint, Pattern, VarId};
+use std::alloc::{AllocError, Global};
+use std::collections::BTreeMap;
+
+/// What a rule tests, and the binding of each of its variables.
+#[derive(Drop)]
+pub struct Draft {
+    pub constraints: Vec<(BindingId, Constraint)>,
+    pub equals: Vec<(BindingId, BindingId)>,
+    pub variables: BTreeMap<usize, BindingId>,
+}
+
+impl Draft {
+    /// No test and no variable.
+    fn new(alloc: Global) -> Draft
+        ensures { (ps : List Path) → Draws ps no_places [] result }
+    {
+        Draft {
+            constraints: Vec::new(alloc),
+            equals: Vec::new(alloc),
+            variables: BTreeMap::new(alloc),
+        }
+    }
+}
+
+/// A variable: its first occurrence binds, a later one tests equality.
+fn meet(draft: &mut Draft, var: VarId, argument: BindingId) -> Result<(), AllocError>
+    ensures { OnOk result ((ps : List Path) (places : Places) (ts : List Test) → Draws ps places ts draft.old
+        → Draws ps (met_after (places var.0) var.0 (at ps argument) places) (ts ++ met_tests (places var.0) (at ps argument)) draft.new) }
+{
+    match draft.variables.get(&var.index()) {
+        Some(first) => draft.equals.push((*first, argument))?,
+        None => {
+            draft.variables.insert(var.index(), argument)?;
+        }
+    }
+    Ok(())
+}
+
+/// The tests of a pattern on an argument.
+fn number_pattern(
+    draft: &mut Draft,
+    pattern: &Pattern,
+    argument: BindingId,
+) -> Result<(), AllocError>
+    requires { IsBuiltPattern (seen pattern.now) }
+    ensures { OnOk result ((ps : List Path) (places : Places) (ts : List Test) → Draws ps places ts draft.old
+        → Draws ps (after (seen pattern.now) (at ps argument) places) (ts ++ tests (seen pattern.now) (at ps argument) places) draft.new) }
+{
+    match pattern {
+        Pattern::Var(_, var) => meet(draft, *var, argument)?,
+        Pattern::ConstBool(val) => {
+            draft
+                .constraints
+                .push((argument, Constraint::ConstBool { val: *val }))?;
+        }
+        Pattern::ConstInt(ty, val) => {
+            draft
+                .constraints
+                .push((argument, Constraint::ConstInt { val: *val, ty: *ty }))?;
+        }
+        Pattern::Wildcard(_) => {}
+        _ => unreachable!(),
+    }
+    Ok(())
+}
+
+/// The tests of patterns on as many arguments.
+pub fn number_arguments(
+    alloc: Global,
+    numbering: &mut Numbering,
+    patterns: &[Pattern],
+) -> Result<Draft, AllocError>
+    requires { All IsBuiltPattern (map seen patterns.now) }
+    ensures { IfOk result (λ d. Drafted numbering.old numbering.new (map seen patterns.now) d) }
+{
+    let mut draft = Draft::new(alloc);
+    for (index, pattern) in patterns.iter().enumerate() {
+        let argument = numbering.intern(Key::Argument(index))?;
+        number_pattern(&mut draft, pattern, argument)?;
+    }
+    Ok(draft)
+}

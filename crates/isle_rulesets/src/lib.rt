@@ -1,0 +1,12 @@
+//! From rules to rule sets that stand for them.
+#![tactic(auto)]
+
+mod draft;
+mod flat_rules;
+mod grouping;
+mod numbering;
+#[cfg(test)]
+mod rule_set_tests;
+
+pub use flat_rules::rule_set;
+pub use grouping::rule_sets;

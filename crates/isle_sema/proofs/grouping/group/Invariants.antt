@@ -1,7 +1,0 @@
-use Rattle.std.proofs.Common.{map, take}
-use Rattle.isle_core.specs.RuleViews.{rule}
-use Rattle.isle_sema.specs.Grouping.{AreGroups}
-use Rattle.isle_sema.proofs.grouping.group.Given as goal
-
-abbrev pub invariant-loop-rule : goal.invariant-loop-rule
-invariant-loop-rule l = AreGroups l.groups.items l.fn.count (map rule (take l.rule-index l.rules))

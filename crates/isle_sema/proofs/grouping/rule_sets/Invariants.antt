@@ -1,7 +1,0 @@
-use Rattle.std.proofs.Common.{map}
-use Rattle.isle_core.specs.RuleViews.{rule}
-use Rattle.isle_sema.specs.Grouping.{AreSetsBelow}
-use Rattle.isle_sema.proofs.grouping.rule_sets.Given as goal
-
-abbrev pub invariant-loop-index : goal.invariant-loop-index
-invariant-loop-index l = AreSetsBelow (map rule l.terms.rules) l.index l.sets.items
