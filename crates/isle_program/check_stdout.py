@@ -1,5 +1,5 @@
 #!/usr/bin/env python3
-"""Compares the tokens of the stored output with those that docs/TARGET.md prescribes for a file without definitions.
+"""Compares the tokens of the stored output with those that docs/TARGET.md prescribes for the stored input.
 
 Run it after the stored output was made anew: python3 crates/isle_program/check_stdout.py
 The layout is free, so blanks are left out; the header comment is compared line by line.
@@ -52,7 +52,12 @@ impl<T, E: Extend<T>, C> Extend<T> for ContextIterWrapper<E, C> {
 impl<L: Length, C> Length for ContextIterWrapper<L, C> { fn len(&self) -> usize { self.iter.len() } }
 """
 
-TOKEN = re.compile(r"[A-Za-z0-9_]+|::|->|=>|==|>=|\.\.|\|\||\S")
+FUNCTION = """
+pub fn constructor_X<C: Context>(ctx: &mut C, arg0: u8,) -> u8 { if arg0 == 0x1_u8 { return 0x2_u8; }
+  unreachable!("no rule matched for term {} at {}; should it be partial?", "X", "first.isle line 1") }
+"""
+
+TOKEN = re.compile(r'"(?:[^"\\]|\\.)*"|[A-Za-z0-9_]+|::|->|=>|==|>=|\.\.|\|\||\S')
 
 
 def tokens(text):
@@ -65,7 +70,7 @@ def main():
     if lines[: len(HEADER)] != HEADER:
         sys.exit("the header comment differs")
     found = tokens("\n".join(lines[len(HEADER):]))
-    wanted = tokens(ALLOW + USES + TRAIT + FIXED)
+    wanted = tokens(ALLOW + USES + TRAIT + FIXED + FUNCTION)
     for place, (a, b) in enumerate(zip(found, wanted)):
         if a != b:
             sys.exit(f"token {place}: {a} where {b} belongs")

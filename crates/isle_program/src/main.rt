@@ -2,8 +2,12 @@
 #![tactic(auto)]
 
 mod answer;
+#[cfg(test)]
+mod language_tests;
 mod lines;
 mod run;
+#[cfg(test)]
+mod runs;
 #[cfg(test)]
 mod tests;
 mod words;

@@ -1,0 +1,314 @@
+//! Which texts are of the language, and what functions they give. Expected texts are read off `docs/TARGET.md`.
+
+use crate::runs::{dir_of, run_on, without_blanks};
+use isle_core::OutOfMemory;
+use std::alloc::Global;
+use std::test::Fail;
+
+/// A text of the language, the number of its functions, and what stands in the emitted text, blanks aside.
+type Compiled = (&'static str, usize, &'static str);
+
+const COMPILED: [Compiled; 44] = [
+    // Blanks, comments and declarations alone give no function.
+    ("", 0, "pub trait Context { } pub trait ContextIter {"),
+    (
+        "; one (; line\n \t\r\n(; (; ;) ;)\n;;",
+        0,
+        "pub trait Context { } pub trait ContextIter {",
+    ),
+    (
+        "(decl f (u8 bool) isize)",
+        0,
+        "pub trait Context { } pub trait ContextIter {",
+    ),
+    (
+        "(decl a-b () u8) (decl a.b () u8) (decl \u{e9} () u8)",
+        0,
+        "pub trait Context { } pub trait ContextIter {",
+    ),
+    // The row that is stored, with its name and its place.
+    (
+        "(decl X (u8) u8) (rule (X 1) 2)",
+        1,
+        "pub fn constructor_X<C: Context>(ctx: &mut C, arg0: u8,) -> u8 { if arg0 == 0x1_u8 { return 0x2_u8; } unreachable!(\"no rule matched for term {} at {}; should it be partial?\", \"X\", \"a line 1\") }",
+    ),
+    (
+        "(rule (f 1) 2)\n\r\n(decl f (u8) u8)",
+        1,
+        "\"f\", \"a line 3\") }",
+    ),
+    // Spellings of integers.
+    (
+        "(decl f () u8) (rule (f) 007)",
+        1,
+        "(ctx: &mut C,) -> u8 { return 0x7_u8; }",
+    ),
+    ("(decl f () u8) (rule (f) 1_)", 1, "{ return 0x1_u8; }"),
+    ("(decl f () u8) (rule (f) 1__0_)", 1, "{ return 0xa_u8; }"),
+    ("(decl f () u8) (rule (f) 0x1F)", 1, "{ return 0x1f_u8; }"),
+    ("(decl f () u8) (rule (f) 0x_1)", 1, "{ return 0x1_u8; }"),
+    ("(decl f () u8) (rule (f) 0x_fF_)", 1, "{ return 0xff_u8; }"),
+    ("(decl f () u8) (rule (f) 0o17)", 1, "{ return 0xf_u8; }"),
+    ("(decl f () u8) (rule (f) 0b1_01)", 1, "{ return 0x5_u8; }"),
+    ("(decl f () i8) (rule (f) -0x10)", 1, "{ return -16_i8; }"),
+    ("(decl f () i8) (rule (f) -0)", 1, "{ return 0_i8; }"),
+    // Integers as the numbers of their types.
+    (
+        "(decl T (i8) u8) (rule (T 255) 511)",
+        1,
+        "{ if arg0 == -1_i8 { return 0xff_u8; }",
+    ),
+    (
+        "(decl T (i16) u16) (rule (T 0x8000) -1)",
+        1,
+        "{ if arg0 == -32768_i16 { return 0xffff_u16; }",
+    ),
+    (
+        "(decl T (i32) u32) (rule (T -0x8000_0001) 0x1_0000_0002)",
+        1,
+        "{ if arg0 == 2147483647_i32 { return 0x2_u32; }",
+    ),
+    (
+        "(decl T (i64) u64) (rule (T 0x8000_0000_0000_0000) -2)",
+        1,
+        "{ if arg0 == -9223372036854775808_i64 { return 0xfffffffffffffffe_u64; }",
+    ),
+    (
+        "(decl T (isize) usize) (rule (T 0xffff_ffff_ffff_fffd) -1)",
+        1,
+        "{ if arg0 == -3_isize { return 0xffffffffffffffff_usize; }",
+    ),
+    (
+        "(decl T (i128) u128) (rule (T -1) -1)",
+        1,
+        "{ if arg0 == -1_i128 { return 0xffffffffffffffffffffffffffffffff_u128; }",
+    ),
+    (
+        "(decl T (i128) i128) (rule (T 170141183460469231731687303715884105727) 170141183460469231731687303715884105728)",
+        1,
+        "{ if arg0 == 170141183460469231731687303715884105727_i128 { return -170141183460469231731687303715884105728_i128; }",
+    ),
+    (
+        "(decl T (u128) u8) (rule (T 340282366920938463463374607431768211455) 340282366920938463463374607431768211455)",
+        1,
+        "{ if arg0 == 0xffffffffffffffffffffffffffffffff_u128 { return 0xff_u8; }",
+    ),
+    (
+        "(decl T (i128) u128) (rule (T -340282366920938463463374607431768211455) 0)",
+        1,
+        "{ if arg0 == 1_i128 { return 0x0_u128; }",
+    ),
+    // Patterns and results.
+    (
+        "(decl f (bool) bool) (rule (f true) false)",
+        1,
+        "{ if arg0 == true { return false; } unreachable!(",
+    ),
+    (
+        "(decl f (bool) bool) (rule (f false) true)",
+        1,
+        "{ if arg0 == false { return true; } unreachable!(",
+    ),
+    (
+        "(decl f (u8 bool) u8) (rule (f 1 true) 2)",
+        1,
+        "{ if arg0 == 0x1_u8 { if arg1 == true { return 0x2_u8; } } unreachable!(",
+    ),
+    (
+        "(decl f (u8 u8) u8) (rule (f _ 3) 300)",
+        1,
+        "{ if arg1 == 0x3_u8 { return 0x2c_u8; }",
+    ),
+    (
+        "(decl f (bool u16) u16) (rule (f y x) x)",
+        1,
+        "(ctx: &mut C, arg0: bool, arg1: u16,) -> u16 { return arg1; }",
+    ),
+    (
+        "(decl f (u8 u8) u8) (rule (f f 1) f)",
+        1,
+        "{ if arg1 == 0x1_u8 { return arg0; }",
+    ),
+    ("(decl f (u8) u8) (rule (f a-b) a-b)", 1, "{ return arg0; }"),
+    // Names and priorities.
+    ("(decl f () u8) (rule name (f) 1)", 1, "{ return 0x1_u8; }"),
+    (
+        "(decl f () u8) (rule a-b -7 (f) 1)",
+        1,
+        "{ return 0x1_u8; }",
+    ),
+    (
+        "(decl f () u8) (rule 9223372036854775807 (f) 1)",
+        1,
+        "{ return 0x1_u8; }",
+    ),
+    (
+        "(decl f () u8) (rule n -0x8000_0000_0000_0000 (f) 1)",
+        1,
+        "{ return 0x1_u8; }",
+    ),
+    (
+        "(decl and (u8) u8) (rule (and x) x)",
+        1,
+        "constructor_and<C: Context>(ctx: &mut C, arg0: u8,) -> u8 { return arg0; }",
+    ),
+    (
+        "(decl let () u8) (rule (let) 1)",
+        1,
+        "constructor_let<C: Context>(ctx: &mut C,) -> u8 { return 0x1_u8; }",
+    ),
+    (
+        "(decl rule (u8) u8) (rule (rule decl) decl)",
+        1,
+        "constructor_rule<C: Context>(ctx: &mut C, arg0: u8,) -> u8 { return arg0; }",
+    ),
+    (
+        "(decl X_1 () u8) (rule (X_1) 1)",
+        1,
+        "constructor_X_1<C: Context>(",
+    ),
+    // Layout, and several terms.
+    (
+        "(decl f(u8)u8)(rule(f 1)2)",
+        1,
+        "{ if arg0 == 0x1_u8 { return 0x2_u8; }",
+    ),
+    (
+        "(;(;;);)(decl(; a ;)f()u8);)\n\t(rule;\r\n(f)1(;;));",
+        1,
+        "{ return 0x1_u8; }",
+    ),
+    ("(rule (f) 1) (decl f () u8)", 1, "{ return 0x1_u8; }"),
+    (
+        "(decl f () u8) (decl h () u8) (decl g () i8) (rule 9 (g) 1) (rule (f) 2)",
+        2,
+        "{ return 0x2_u8; } pub fn constructor_g<C: Context>(ctx: &mut C,) -> i8 { return 1_i8; }",
+    ),
+];
+
+const REFUSED: [&str; 57] = [
+    // Forms that are not built.
+    "(type A (enum B))",
+    "(extern constructor f g)",
+    "(decl f () u8) (rule (f) (f))",
+    "(decl f (u8) u8) (rule (f (f x)) x)",
+    "(decl f (u8) u8) (rule (f (and x 1)) x)",
+    "(decl f (u8) u8) (rule (f x @ 1) x)",
+    "(decl f (u8) u8) (rule (f x) (if-let y x) x)",
+    "(decl f (u8) u8) (rule (f x) (if x) x)",
+    "(decl f (u8) u8) (rule (f x) (let ((y u8 x)) y))",
+    "(decl f (u8) u8) (rule (f _) _)",
+    // Flags, and symbols with a dollar.
+    "(decl pure (u8) u8)",
+    "(decl multi (u8) u8)",
+    "(decl partial (u8) u8)",
+    "(decl rec (u8) u8)",
+    "(decl pure f (u8) u8)",
+    "(decl multi f (u8) u8)",
+    "(decl partial f (u8) u8)",
+    "(decl rec f (u8) u8)",
+    "(decl $f () u8)",
+    "(decl f ($u8) u8)",
+    "(decl f (u8) u8) (rule (f $x) 1)",
+    "(decl f () u8) (rule (f) $x)",
+    "(decl f () u8) (rule $n (f) 1)",
+    // Faults of types.
+    "(decl f (word) u8)",
+    "(decl f () word)",
+    "(rule (f) 1)",
+    "(decl f () u8) (rule (g) 1)",
+    "(decl f () u8) (decl f () u8)",
+    "(decl f (u8) u8) (rule 1 (f 1) 2) (rule (f x) x)",
+    "(decl f () u8) (rule (f _) 1)",
+    "(decl f (u8 u8) u8) (rule (f 1) 1)",
+    "(decl f (u8) u8) (rule (f true) 1)",
+    "(decl f (bool) u8) (rule (f 1) 1)",
+    "(decl f () bool) (rule (f) 1)",
+    "(decl f () u8) (rule (f) true)",
+    "(decl f () u8) (rule (f) x)",
+    "(decl f (u8) i8) (rule (f x) x)",
+    "(decl f (u8 u8) u8) (rule (f x x) x)",
+    "(decl a-b () u8) (rule (a-b) 1)",
+    "(decl a.b () u8) (rule (a.b) 1)",
+    "(decl \u{e9} () u8) (rule (\u{e9}) 1)",
+    // Numbers that are too large, or none.
+    "(decl f () u8) (rule (f) 340282366920938463463374607431768211456)",
+    "(decl f () u8) (rule (f) -0x1_00000000_00000000_00000000_00000000)",
+    "(decl f () u8) (rule 9223372036854775808 (f) 1)",
+    "(decl f () u8) (rule -9223372036854775809 (f) 1)",
+    "(decl f () u8) (rule (f) 0x)",
+    "(decl f () u8) (rule (f) 0b2)",
+    "(decl f () u8) (rule (f) --1)",
+    "(decl f () u8) (rule 1 2 (f) 1)",
+    // Texts that spell no definitions.
+    "(decl f () u8",
+    "(decl f () u8))",
+    "(decl f () u8) x",
+    "(decl f () u8) (;",
+    "(; (; ;)",
+    "(decl f ()) u8",
+    "()",
+    "\u{c}",
+];
+
+/// The number of functions in an emitted text.
+fn functions(text: &str) -> usize {
+    let mut count = 0;
+    for line in text.lines() {
+        if line.starts_with("pub fn constructor_") {
+            count = usize::min(count, 1_000) + 1;
+        }
+    }
+    count
+}
+
+#[test]
+fn compiles_exactly_the_language(rt: HostRuntime) -> Result<(), Fail> {
+    let alloc = rt.alloc();
+    for (text, count, inside) in COMPILED {
+        let dir = dir_of(alloc, "a", text.as_bytes(), 0)?;
+        let left = run_on(alloc, &["compile", "a"], dir, 0)?;
+        assert_eq!(rt; left.status, 0, "at {text}");
+        assert_eq!(rt; left.err.len(), 0, "at {text}");
+        assert_eq!(rt; functions(left.out.as_str()), count, "at {text}");
+        let out = without_blanks(alloc, left.out.as_str())?;
+        let inside = without_blanks(alloc, inside)?;
+        assert!(rt; out.as_str().contains(inside.as_str()), "at {text}");
+    }
+    for text in REFUSED {
+        let dir = dir_of(alloc, "a", text.as_bytes(), 0)?;
+        let left = run_on(alloc, &["compile", "a"], dir, 0)?;
+        assert_eq!(rt; left.status, 14, "at {text}");
+        assert_eq!(rt; left.out.len(), 0, "at {text}");
+    }
+    Ok(())
+}
+
+/// A term with as many arguments, and a rule that gives the last one.
+fn wide(alloc: Global, count: usize) -> Result<String, OutOfMemory> {
+    let mut text = String::from_str(alloc, "(decl f (")?;
+    for _ in 0..count {
+        text.push_str("u8 ")?;
+    }
+    text.push_str(") u8) (rule (f")?;
+    for _ in 1..count {
+        text.push_str(" _")?;
+    }
+    text.push_str(" x) x)")?;
+    Ok(text)
+}
+
+#[test]
+fn takes_256_arguments(rt: HostRuntime) -> Result<(), Fail> {
+    let alloc = rt.alloc();
+    for (count, status) in [(1, 0), (256, 0), (257, 14)] {
+        let text = wide(alloc, count)?;
+        let dir = dir_of(alloc, "a", text.as_bytes(), 0)?;
+        let left = run_on(alloc, &["compile", "a"], dir, 0)?;
+        assert_eq!(rt; left.status, status, "at {count}");
+        if count == 256 {
+            assert!(rt; left.out.as_str().contains("return arg255;"));
+        }
+    }
+    Ok(())
+}
