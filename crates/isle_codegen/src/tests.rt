@@ -22,7 +22,16 @@ fn kept(alloc: Global, fails: &[usize]) -> Result<MemDir, Fail> {
     let names = [
         "empty", "src/a", "src/b", "x\ny", "x\u{7f}", "bad\ny", "decl", "open",
     ];
-    let texts = ["", "; a\n", "(; b ;)", "", "", "", "(decl pure X (u8) u8)", "(;"];
+    let texts = [
+        "",
+        "; a\n",
+        "(; b ;)",
+        "",
+        "",
+        "",
+        "(decl pure X (u8) u8)",
+        "(;",
+    ];
     let mut files = Vec::new(alloc);
     for (name, text) in names.iter().zip(texts) {
         let bytes = Vec::from_slice(alloc, text.as_bytes())?;
