@@ -26,10 +26,10 @@ abbrev pub IsExternal : Callee → Type 0
 IsExternal (External name) = Unit {0}
 IsExternal (Internal name) = ⊥
 
--- a call of an external function, which may answer nothing exactly where this says so
+-- an impure call of an external function, which may answer nothing exactly where this says so; pure calls are not built
 abbrev pub IsCall : (partial : Bool) → Calling → Type 0
 IsCall partial (ByTurns callee p) = (p ≡ partial) × IsExternal callee
-IsCall partial (ByCases callee p) = (p ≡ partial) × IsExternal callee
+IsCall partial (ByCases callee p) = ⊥
 IsCall partial NoCall = ⊥
 
 -- a path that holds a value of the type, whatever the arguments and the answers are; only arguments, constants, calls and inner values are built

@@ -1,5 +1,9 @@
 -- The forms of rules that are built.
-use Rattle.std.specs.Prelude.{◌≡◌, List, [], All, Contains}
+use Rattle.std.specs.Prelude.{◌≡◌, List, [], false, All, Contains, IsSomeAnd, slice_get}
+use Rattle.isle_core.specs.declared.types.Term.{Term}
+use Rattle.isle_core.specs.declared.types.TermKind.{TermKind}
+use Rattle.isle_core.specs.declared.types.TermKind.TheVariants as kind
+use Rattle.isle_core.specs.declared.types.ConstructorKind.TheVariants as constructor
 use Rattle.isle_base.specs.declared.ids.TypeId.{TypeId}
 use Rattle.isle_core.specs.Pattern as pattern
 use Rattle.isle_core.specs.Pattern.{Pattern}
@@ -34,6 +38,31 @@ pub record IsBuiltRule (r : Rule) : Type 0 where
   pub args : All IsBuiltPattern r.args
   pub iflets : r.iflets ≡ []
   pub rhs : IsBuiltExpr r.rhs
+
+-- ---- what is called
+
+-- an impure term that has a constructor
+abbrev pub IsImpureKind : TermKind → Type 0
+IsImpureKind (kind.Decl false multi partial recursive constructor.Internal extractor) = Unit {0}
+IsImpureKind (kind.Decl false multi partial recursive (constructor.External func) extractor) = Unit {0}
+IsImpureKind k = ⊥
+
+-- each term that an expression calls is one; calls of others are not built
+abbrev mutual
+  pub CallsImpure : List Term → Expr → Type 0
+  CallsImpure terms (expr.Term ty term es) = IsSomeAnd (slice_get terms term.0) (λ (t : Term). IsImpureKind t.kind) × AllCallImpure terms es
+  CallsImpure terms e = Unit {0}
+
+  -- so of expressions in order
+  pub AllCallImpure : List Term → Exprs → Type 0
+  AllCallImpure terms NoExpr = Unit {0}
+  AllCallImpure terms (AnExpr e es) = CallsImpure terms e × AllCallImpure terms es
+
+-- so of a rule
+abbrev pub IsImpureRule : List Term → Rule → Type 0
+IsImpureRule terms r = CallsImpure terms r.rhs
+
+-- ---- variables
 
 -- each variable of an expression stands in a pattern
 abbrev mutual

@@ -26,6 +26,7 @@ pub mod Block
 pub mod BlockViews
 pub mod BlockRun
 pub mod BlockLawful
+pub mod Ready
 pub mod Lawful
 pub mod Printed
 pub mod Inputs
