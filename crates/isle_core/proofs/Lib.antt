@@ -6,5 +6,6 @@ pub mod Contained
 pub mod OutcomeOf
 pub mod PatternTests
 pub mod NotTrivial
+pub mod KeptPlaces
 pub mod SeesRules
 pub mod SeesBlocks

@@ -11,7 +11,6 @@ pub mod BoundVariables
 pub mod VariablesOnce
 pub mod TypedRules
 pub mod OneRule
-pub mod ReadyRules
 pub mod DeclaredNames
 pub mod TypedTerms
 pub mod PatternLaws

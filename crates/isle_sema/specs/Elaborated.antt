@@ -12,14 +12,14 @@ use Rattle.isle_core.specs.declared.types.ExtractorKind.TheVariants as extractor
 use Rattle.isle_core.specs.Pattern as core_pattern
 use Rattle.isle_core.specs.Pattern.{Pattern as CorePattern}
 use Rattle.isle_core.specs.Expr as core_expr
-use Rattle.isle_core.specs.Expr.{Expr as CoreExpr}
+use Rattle.isle_core.specs.Expr.{Expr as CoreExpr, Exprs as CoreExprs, NoExpr as CoreNoExpr, AnExpr as CoreAnExpr}
 use Rattle.isle_core.specs.Rule.{Rule as CoreRule}
 use Rattle.isle_syntax.specs.Tree as tree
-use Rattle.isle_syntax.specs.Tree.{Pattern, Expr}
+use Rattle.isle_syntax.specs.Tree.{Pattern, Expr, Exprs, NoExpr, AnExpr}
 use Rattle.isle_sema.specs.Symbols.{index_of, added, number_or, sym_of}
 use Rattle.isle_sema.specs.Builtins.{type_id, type_named}
 use Rattle.isle_sema.specs.Reduced.{reduced_at}
-use Rattle.isle_sema.specs.Signatures.{Signature, RuleDef, term_named, has_rule}
+use Rattle.isle_sema.specs.Signatures.{Signature, Extern, RuleDef, term_named, func_named, has_rule}
 
 -- a type, or bool
 abbrev pub type_or : Option TypeId → TypeId
@@ -57,22 +57,6 @@ abbrev pub vars_of : List Pattern → List (List ℕ) → List (List ℕ)
 vars_of [] vars = vars
 vars_of (p ∷ ps) vars = vars_of ps (vars_behind p vars)
 
--- an expression where this type is expected; a constant, a `let` and a call are not built
-abbrev pub expr_at : TypeId → Expr → List (List ℕ) → CoreExpr
-expr_at ty (tree.Number n) vars = core_expr.ConstInt ty (reduced_at ty n)
-expr_at ty (tree.Fact b) vars = core_expr.ConstBool b
-expr_at ty (tree.Name name) vars = core_expr.Var ty (var_of vars name)
-expr_at ty e vars = core_expr.ConstBool false
-
--- a term comes from its rules, where it has some
-abbrev pub constructor_of : Bool → ConstructorKind
-constructor_of true = constructor.Internal
-constructor_of false = constructor.Absent
-
--- the term of a declaration
-abbrev pub term_of : List (List ℕ) → List RuleDef → Signature → Term
-term_of syms rules s = record { name = sym_of syms s.term; decl_pos = s.pos; arg_tys = map type_of s.args; ret_ty = type_of s.ret; kind = kind.Decl false false false false (constructor_of (has_rule rules s.term)) extractor.Absent }
-
 -- the declaration of a name
 abbrev pub signature_named : List Signature → List ℕ → Option Signature
 signature_named sigs name = find (λ (s : Signature). bytes_eq s.term name) sigs
@@ -92,11 +76,43 @@ abbrev pub term_or : Option TermId → TermId
 term_or None = record { 0 = 0 }
 term_or (Some term) = term
 
+-- an expression where this type is expected; a constant and a `let` are not built
+abbrev mutual
+  pub expr_at : List Signature → TypeId → Expr → List (List ℕ) → CoreExpr
+  expr_at sigs ty (tree.Number n) vars = core_expr.ConstInt ty (reduced_at ty n)
+  expr_at sigs ty (tree.Fact b) vars = core_expr.ConstBool b
+  expr_at sigs ty (tree.Name name) vars = core_expr.Var ty (var_of vars name)
+  expr_at sigs ty (tree.Call name es) vars = core_expr.Term ty (term_or (term_named sigs name)) (exprs_at sigs (arg_types (signature_named sigs name)) es vars)
+  expr_at sigs ty (tree.Constant name) vars = core_expr.ConstBool false
+  expr_at sigs ty (tree.Let ls inner) vars = core_expr.ConstBool false
+
+  -- expressions where these types are expected
+  pub exprs_at : List Signature → List TypeId → Exprs → List (List ℕ) → CoreExprs
+  exprs_at sigs (ty ∷ tys) (AnExpr e es) vars = CoreAnExpr (expr_at sigs ty e vars) (exprs_at sigs tys es vars)
+  exprs_at sigs [] (AnExpr e es) vars = CoreNoExpr
+  exprs_at sigs tys NoExpr vars = CoreNoExpr
+
+-- a term comes from its external constructor, or else from its rules, where it has some
+abbrev pub constructor_of : List (List ℕ) → Option (List ℕ) → Bool → ConstructorKind
+constructor_of syms (Some func) has_rule = constructor.External (sym_of syms func)
+constructor_of syms None true = constructor.Internal
+constructor_of syms None false = constructor.Absent
+
+-- the term of a declaration
+abbrev pub term_of : List (List ℕ) → List Extern → List RuleDef → Signature → Term
+term_of syms xs rules s = record {
+  name = sym_of syms s.term;
+  decl_pos = s.pos;
+  arg_tys = map type_of s.args;
+  ret_ty = type_of s.ret;
+  kind = kind.Decl false false s.partial false (constructor_of syms (func_named xs s.term) (has_rule rules s.term)) extractor.Absent;
+}
+
 -- the rule of that number, over the declaration that its head names
-abbrev pub rule_over : List (List ℕ) → TermId → Option Signature → ℕ → RuleDef → CoreRule
-rule_over syms term sig i r = record { id = record { 0 = i }; root_term = term; args = patterns_at (arg_types sig) r.args []; iflets = []; rhs = expr_at (ret_type sig) r.rhs (vars_of r.args []); prio = r.prio; pos = r.pos; name = option_map (sym_of syms) r.name }
+abbrev pub rule_over : List (List ℕ) → List Signature → TermId → Option Signature → ℕ → RuleDef → CoreRule
+rule_over syms sigs term sig i r = record { id = record { 0 = i }; root_term = term; args = patterns_at (arg_types sig) r.args []; iflets = []; rhs = expr_at sigs (ret_type sig) r.rhs (vars_of r.args []); prio = r.prio; pos = r.pos; name = option_map (sym_of syms) r.name }
 
 -- rules, from that number on
 abbrev pub rules_from : List (List ℕ) → List Signature → ℕ → List RuleDef → List CoreRule
 rules_from syms sigs i [] = []
-rules_from syms sigs i (r ∷ rs) = rule_over syms (term_or (term_named sigs r.term)) (signature_named sigs r.term) i r ∷ rules_from syms sigs (i + 1) rs
+rules_from syms sigs i (r ∷ rs) = rule_over syms sigs (term_or (term_named sigs r.term)) (signature_named sigs r.term) i r ∷ rules_from syms sigs (i + 1) rs

@@ -2,9 +2,10 @@
 use Rattle.std.specs.Prelude.{List, [], ◌∷◌, Bool, true, false, ◌&&◌, not, flat_map, map}
 use Rattle.std.specs.List.{list_all}
 use Rattle.isle_syntax.specs.Tree as tree
-use Rattle.isle_syntax.specs.Tree.{Pattern, Expr, IfLet, Def, Decl, Rule}
+use Rattle.isle_syntax.specs.Tree.{Pattern, Expr, Exprs, NoExpr, AnExpr, IfLet, Def, Decl, ExternConstructor, Rule}
 use Rattle.isle_sema.specs.Symbols.{pattern_names}
-use Rattle.isle_sema.specs.Signatures.{RuleDef, rule_defs}
+use Rattle.isle_sema.specs.Signatures.{Extern, RuleDef, externs, rule_defs}
+use Rattle.isle_sema.specs.Calls.{calls_external}
 use Rattle.isle_sema.specs.Faults.{repeats}
 
 -- an integer, a truth, a wildcard or a variable
@@ -15,24 +16,37 @@ is_built_pattern tree.Wildcard = true
 is_built_pattern (tree.Var name) = true
 is_built_pattern p = false
 
--- an integer, a truth or a variable
-abbrev pub is_built_expr : Expr → Bool
-is_built_expr (tree.Number n) = true
-is_built_expr (tree.Fact b) = true
-is_built_expr (tree.Name name) = true
-is_built_expr e = false
+-- an integer, a truth, a variable, or a call of such expressions
+abbrev mutual
+  pub is_built_expr : Expr → Bool
+  is_built_expr (tree.Number n) = true
+  is_built_expr (tree.Fact b) = true
+  is_built_expr (tree.Name name) = true
+  is_built_expr (tree.Call name es) = are_built_exprs es
+  is_built_expr e = false
+
+  -- so of expressions in order
+  pub are_built_exprs : Exprs → Bool
+  are_built_exprs NoExpr = true
+  are_built_exprs (AnExpr e es) = is_built_expr e && are_built_exprs es
 
 -- no conditions
 abbrev pub are_none : List IfLet → Bool
 are_none [] = true
 are_none (c ∷ cs) = false
 
--- a declaration without flags, or a rule without conditions that names no variable twice
+-- a declaration with at most the flag `partial`, an external constructor, or a rule without conditions that names no
+-- variable twice in its patterns
 abbrev pub is_built_def : Def → Bool
-is_built_def (Decl term pure multi partial recursive args ret pos) = not pure && not multi && not partial && not recursive
+is_built_def (Decl term pure multi partial recursive args ret pos) = not pure && not multi && not recursive
+is_built_def (ExternConstructor term func pos) = true
 is_built_def (Rule name prio term args iflets rhs pos) = list_all is_built_pattern args && are_none iflets && is_built_expr rhs && not (repeats (flat_map pattern_names args))
 is_built_def d = false
 
--- each is built, and no term has two rules
+-- rules call only terms with external constructors
+abbrev pub rules_call_external : List Extern → List RuleDef → Bool
+rules_call_external xs rules = list_all (λ (r : RuleDef). calls_external xs r.rhs) rules
+
+-- each is built, no term has two rules, and only terms with external constructors are called
 abbrev pub are_built : List Def → Bool
-are_built defs = list_all is_built_def defs && not (repeats (map (λ (r : RuleDef). r.term) (rule_defs defs)))
+are_built defs = list_all is_built_def defs && not (repeats (map (λ (r : RuleDef). r.term) (rule_defs defs))) && rules_call_external (externs defs) (rule_defs defs)

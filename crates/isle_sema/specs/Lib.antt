@@ -4,10 +4,10 @@ pub mod Reduced
 pub mod Signatures
 pub mod Collected
 pub mod Elaborated
+pub mod Calls
 pub mod Heads
 pub mod Faults
 pub mod Language
 pub mod TypedRule
 pub mod FaultsSeen
-pub mod ReadyRule
 pub mod Typing

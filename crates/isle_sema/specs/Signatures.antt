@@ -1,18 +1,24 @@
--- The declarations and rules among definitions.
-use Rattle.std.specs.Prelude.{ℕ, ℤ, List, Bool, Option, Some, None, map, filter_map, option_map}
+-- The declarations, external constructors and rules among definitions.
+use Rattle.std.specs.Prelude.{ℕ, ℤ, List, Bool, Option, Some, None, map, filter_map, option_map, find}
 use Rattle.std.specs.List.{list_any}
 use Rattle.std.specs.Str.{bytes_eq}
 use Rattle.isle_core.specs.declared.position.Pos.{Pos}
 use Rattle.isle_core.specs.declared.TermId.{TermId}
-use Rattle.isle_syntax.specs.Tree.{Pattern, Expr, Def, Decl, Rule}
+use Rattle.isle_syntax.specs.Tree.{Pattern, Expr, Def, Decl, ExternConstructor, Rule}
 use Rattle.isle_sema.specs.Symbols.{index_of}
 
--- a declaration without flags
+-- a declaration with at most the flag `partial`
 pub record Signature : Type 0 where
   pub term : List ℕ
+  pub partial : Bool
   pub args : List (List ℕ)
   pub ret : List ℕ
   pub pos : Pos
+
+-- an external constructor
+pub record Extern : Type 0 where
+  pub term : List ℕ
+  pub func : List ℕ
 
 -- a rule without conditions
 pub record RuleDef : Type 0 where
@@ -25,8 +31,13 @@ pub record RuleDef : Type 0 where
 
 -- the declaration that a definition is
 abbrev pub signature_of : Def → Option Signature
-signature_of (Decl term pure multi partial recursive args ret pos) = Some (record { term = term; args = args; ret = ret; pos = pos })
+signature_of (Decl term pure multi partial recursive args ret pos) = Some (record { term = term; partial = partial; args = args; ret = ret; pos = pos })
 signature_of d = None
+
+-- the external constructor that a definition is
+abbrev pub extern_of : Def → Option Extern
+extern_of (ExternConstructor term func pos) = Some (record { term = term; func = func })
+extern_of d = None
 
 -- the rule that a definition is
 abbrev pub rule_of : Def → Option RuleDef
@@ -37,6 +48,10 @@ rule_of d = None
 abbrev pub signatures : List Def → List Signature
 signatures = filter_map signature_of
 
+-- the external constructors, in order
+abbrev pub externs : List Def → List Extern
+externs = filter_map extern_of
+
 -- the rules, in order
 abbrev pub rule_defs : List Def → List RuleDef
 rule_defs = filter_map rule_of
@@ -44,6 +59,10 @@ rule_defs = filter_map rule_of
 -- the term that a declaration names
 abbrev pub term_named : List Signature → List ℕ → Option TermId
 term_named sigs name = option_map (λ (n : ℕ). record { 0 = n }) (index_of (map (λ (s : Signature). s.term) sigs) name)
+
+-- the first function of an external constructor for a term of the name
+abbrev pub func_named : List Extern → List ℕ → Option (List ℕ)
+func_named xs name = option_map (λ (x : Extern). x.func) (find (λ (x : Extern). bytes_eq x.term name) xs)
 
 -- whether a term of the name has a rule
 abbrev pub has_rule : List RuleDef → List ℕ → Bool

@@ -4,7 +4,7 @@ use Rattle.std.specs.BTreeMap.{BTreeMap, get_by_text}
 use Rattle.std.specs.declared.alloc.Global.{Global}
 use Rattle.std.specs.Str.{bytes_eq}
 use Rattle.isle_core.specs.declared.Sym.{Sym}
-use Rattle.isle_syntax.specs.Tree.{Pattern, Expr, Def, Decl, Rule}
+use Rattle.isle_syntax.specs.Tree.{Pattern, Expr, Exprs, NoExpr, AnExpr, Def, Decl, ExternConstructor, Rule}
 use Rattle.isle_syntax.specs.Tree as tree
 
 -- the first place of a name
@@ -21,14 +21,21 @@ abbrev pub pattern_names : Pattern → List (List ℕ)
 pattern_names (tree.Var name) = name ∷ []
 pattern_names p = []
 
--- the names in an expression; of a call and a `let` none is built
-abbrev pub expr_names : Expr → List (List ℕ)
-expr_names (tree.Name name) = name ∷ []
-expr_names e = []
+-- the names in an expression, a call's own before those of its arguments; of a `let` none is built
+abbrev mutual
+  pub expr_names : Expr → List (List ℕ)
+  expr_names (tree.Name name) = name ∷ []
+  expr_names (tree.Call name es) = name ∷ exprs_names es
+  expr_names e = []
 
--- the names in a definition, from left to right; only declarations and rules are built
+  pub exprs_names : Exprs → List (List ℕ)
+  exprs_names NoExpr = []
+  exprs_names (AnExpr e es) = expr_names e ++ exprs_names es
+
+-- the names in a definition, from left to right; only declarations, external constructors and rules are built
 abbrev pub def_names : Def → List (List ℕ)
 def_names (Decl term pure multi partial recursive args ret pos) = term ∷ args ++ ret ∷ []
+def_names (ExternConstructor term func pos) = term ∷ func ∷ []
 def_names (Rule name prio term args iflets rhs pos) = option_to_list name ++ term ∷ flat_map pattern_names args ++ expr_names rhs
 def_names d = []
 

@@ -1,11 +1,15 @@
 -- A rule whose parts have the types of its term.
-use Rattle.std.specs.Prelude.{◌≡◌, ℕ, List, [], ◌∷◌, Some, Contains, slice_get}
+use Rattle.std.specs.Prelude.{◌≡◌, ℕ, List, [], ◌∷◌, Bool, false, Some, IsTrue, IsSomeAnd, Contains, slice_get}
 use Rattle.isle_core.specs.declared.TypeId.{TypeId}
 use Rattle.isle_core.specs.declared.types.Term.{Term}
 use Rattle.isle_core.specs.Pattern as pattern
 use Rattle.isle_core.specs.Pattern.{Pattern}
 use Rattle.isle_core.specs.Expr as expr
-use Rattle.isle_core.specs.Expr.{Expr}
+use Rattle.isle_core.specs.Expr.{Expr, Exprs, NoExpr, AnExpr}
+use Rattle.isle_core.specs.declared.types.TermKind.{TermKind}
+use Rattle.isle_core.specs.declared.types.TermKind.TheVariants as kind
+use Rattle.isle_core.specs.declared.types.ConstructorKind.TheVariants as constructor
+use Rattle.isle_core.specs.Calling.{is_partial}
 use Rattle.isle_core.specs.Rule.{Rule, Environment}
 use Rattle.isle_core.specs.Value.{Truth}
 use Rattle.isle_core.specs.HasType.{HasType}
@@ -34,19 +38,36 @@ numbers [] = []
 numbers (pattern.Var of x ∷ ps) = x.0 ∷ numbers ps
 numbers (p ∷ ps) = numbers ps
 
--- an expression of the type: a constant is one of its values, a variable stands in a pattern of the type
-abbrev pub IsExprOf : Environment → List Pattern → TypeId → Expr → Type 0
-IsExprOf env args ty (expr.Var of x) = (of ≡ ty) × Contains args (pattern.Var ty x)
-IsExprOf env args ty (expr.ConstBool b) = (bool_type ≡ ty) × HasType env (Truth b) ty
-IsExprOf env args ty (expr.ConstInt of n) = (of ≡ ty) × HasType env (int_value env ty n) ty
-IsExprOf env args ty e = ⊥
+-- a term with an external constructor and at most the flag `partial`; it may answer nothing only where that is allowed
+abbrev pub IsExternalKind : (allowed : Bool) → TermKind → Type 0
+IsExternalKind allowed (kind.Decl false false partial false (constructor.External func) extractor) = IsTrue partial → IsTrue allowed
+IsExternalKind allowed k = ⊥
+
+-- an expression of the type: a constant is one of its values, a variable stands in a pattern of the type, and a call is
+-- of an external term that gives the type, on expressions of its types; a term that may answer nothing is called only
+-- where that is allowed
+abbrev mutual
+  pub IsExprOf : Environment → (allowed : Bool) → List Pattern → TypeId → Expr → Type 0
+  IsExprOf env allowed args ty (expr.Var of x) = (of ≡ ty) × Contains args (pattern.Var ty x)
+  IsExprOf env allowed args ty (expr.ConstBool b) = (bool_type ≡ ty) × HasType env (Truth b) ty
+  IsExprOf env allowed args ty (expr.ConstInt of n) = (of ≡ ty) × HasType env (int_value env ty n) ty
+  IsExprOf env allowed args ty (expr.Term of term es) =
+      (of ≡ ty) × IsSomeAnd (slice_get env.terms term.0) (λ (c : Term). IsExternalKind allowed c.kind × (c.ret_ty ≡ ty) × AreExprsOf env allowed args c.arg_tys es)
+  IsExprOf env allowed args ty e = ⊥
+
+  -- as many expressions as types, each of its type
+  pub AreExprsOf : Environment → (allowed : Bool) → List Pattern → List TypeId → Exprs → Type 0
+  AreExprsOf env allowed args [] NoExpr = Unit {0}
+  AreExprsOf env allowed args (ty ∷ tys) (AnExpr e es) = IsExprOf env allowed args ty e × AreExprsOf env allowed args tys es
+  AreExprsOf env allowed args [] (AnExpr e es) = ⊥
+  AreExprsOf env allowed args (ty ∷ tys) NoExpr = ⊥
 
 -- the rule's patterns and right side have the types of this term, no variable stands twice, and it has no condition
 pub record IsRuleOf (env : Environment) (t : Term) (r : Rule) : Type 0 where
   pub args : ArePatternsOf env t.arg_tys r.args
   pub once : EachOnce (numbers r.args)
   pub iflets : r.iflets ≡ []
-  pub rhs : IsExprOf env r.args t.ret_ty r.rhs
+  pub rhs : IsExprOf env (is_partial t.kind) r.args t.ret_ty r.rhs
 
 -- the rule's term is there, and the rule is one of its
 pub record IsTypedRule (env : Environment) (r : Rule) : Type 0 where

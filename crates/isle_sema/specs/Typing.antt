@@ -6,7 +6,7 @@ use Rattle.isle_core.specs.Rule.{Environment}
 use Rattle.isle_syntax.specs.Tree.{Def}
 use Rattle.isle_sema.specs.Symbols.{symbols}
 use Rattle.isle_sema.specs.Builtins.{builtins}
-use Rattle.isle_sema.specs.Signatures.{signatures, rule_defs}
+use Rattle.isle_sema.specs.Signatures.{signatures, externs, rule_defs}
 use Rattle.isle_sema.specs.Elaborated.{term_of, rules_from}
 use Rattle.isle_sema.specs.Faults.{has_fault}
 use Rattle.isle_sema.specs.Language.{is_built_def, are_built}
@@ -17,7 +17,7 @@ types_of defs = record { syms = symbols defs; types = builtins; consts = [] }
 
 -- their types, terms and rules
 abbrev pub env_of : List Def → Environment
-env_of defs = record { types = types_of defs; terms = map (term_of (symbols defs) (rule_defs defs)) (signatures defs); rules = rules_from (symbols defs) (signatures defs) 0 (rule_defs defs); converters = [] }
+env_of defs = record { types = types_of defs; terms = map (term_of (symbols defs) (externs defs) (rule_defs defs)) (signatures defs); rules = rules_from (symbols defs) (signatures defs) 0 (rule_defs defs); converters = [] }
 
 -- the definitions have no fault in their types and constants, and give these
 pub record TypesFrom (defs : List Def) (types : TypeEnv) : Type 0 where

@@ -1,19 +1,27 @@
 ghost use Rattle.std.specs.Prelude.{◌≡◌, IfOk, map, option_map};
 ghost use Rattle.isle_syntax.specs.Views.{def, defs as seen};
-ghost use Rattle.isle_sema.specs.Signatures.{signatures, rule_defs, signature_of, rule_of};
-ghost use Rattle.isle_sema.specs.Collected.{signature as seen_signature, rule as seen_rule};
+ghost use Rattle.isle_sema.specs.Signatures.{signatures, externs, rule_defs, signature_of, extern_of, rule_of};
+ghost use Rattle.isle_sema.specs.Collected.{signature as seen_signature, extern as seen_extern, rule as seen_rule};
 
 use isle_core::{Pos, Text};
 use isle_syntax::{AstExpr, AstPattern, Def};
 use std::alloc::{AllocError, Global};
 
-/// A declaration without flags.
+/// A declaration with at most the flag `partial`.
 #[derive(Clone, Copy, Debug)]
 pub struct Signature<'d> {
     pub term: &'d Text,
+    pub partial: bool,
     pub args: &'d [Text],
     pub ret: &'d Text,
     pub pos: Pos,
+}
+
+/// An external constructor: its term and its function.
+#[derive(Clone, Copy, Debug)]
+pub struct Extern<'d> {
+    pub term: &'d Text,
+    pub func: &'d Text,
 }
 
 /// A rule without conditions.
@@ -34,16 +42,28 @@ fn signature_of<'d>(given: &'d Def) -> Option<Signature<'d>>
     match given {
         Def::Decl {
             term,
+            partial,
             args,
             ret,
             pos,
             ..
         } => Some(Signature {
             term,
+            partial: *partial,
             args: args.as_slice(),
             ret,
             pos: *pos,
         }),
+        _ => None,
+    }
+}
+
+/// The external constructor that a definition is.
+fn extern_of<'d>(given: &'d Def) -> Option<Extern<'d>>
+    ensures { option_map seen_extern result ≡ extern_of (def given.now) }
+{
+    match given {
+        Def::ExternConstructor { term, func, .. } => Some(Extern { term, func }),
         _ => None,
     }
 }
@@ -81,6 +101,19 @@ pub fn signatures<'d>(alloc: Global, defs: &'d [Def]) -> Result<Vec<Signature<'d
     for given in defs {
         if let Some(signature) = signature_of(given) {
             found.push(signature)?;
+        }
+    }
+    Ok(found)
+}
+
+/// The external constructors among definitions, in order.
+pub fn externs<'d>(alloc: Global, defs: &'d [Def]) -> Result<Vec<Extern<'d>>, AllocError>
+    ensures { IfOk result (λ found. map seen_extern found.items ≡ externs (seen defs.now)) }
+{
+    let mut found = Vec::new(alloc);
+    for given in defs {
+        if let Some(found_extern) = extern_of(given) {
+            found.push(found_extern)?;
         }
     }
     Ok(found)
