@@ -13,7 +13,7 @@ use Rattle.isle_core.specs.BlockLawful.{IsLawfulBlock}
 use Rattle.isle_core.specs.Rule.{Environment}
 use Rattle.isle_blocks.specs.Ready.{IsReady}
 use Rattle.isle_target.specs.Program.{Function}
-use Rattle.isle_codegen.specs.TermFunction.{term_function}
+use Rattle.isle_emission.specs.TermFunction.{term_function}
 use Rattle.isle_codegen.specs.Emits.{MeansSet, CanEmit, IsEmitted, AreEmitted}
 
 some_one : (a b : Term) → Some a ≡ Some b → a ≡ b

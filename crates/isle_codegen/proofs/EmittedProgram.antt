@@ -19,13 +19,13 @@ use Rattle.isle_sema.proofs.TypedTerms.{typed_names}
 use Rattle.isle_target.specs.Program.{Function, Program}
 use Rattle.isle_target.specs.WellFormed.{IsFunction, IsWellFormed}
 use Rattle.isle_codegen.specs.Emits.{CanEmit, AreEmitted}
-use Rattle.isle_codegen.specs.Emitted.{IsEmittable}
-use Rattle.isle_codegen.specs.OfTerm.{IsOfTerm, AreDeclared}
+use Rattle.isle_emission.specs.Emitted.{IsEmittable}
+use Rattle.isle_emission.specs.OfTerm.{IsOfTerm, AreDeclared}
 use Rattle.isle_codegen.specs.Headline.{FunctionsMean}
-use Rattle.isle_codegen.proofs.Tails.{of_its_term}
+use Rattle.isle_emission.proofs.Tails.{of_its_term}
 use Rattle.isle_codegen.proofs.EmittedNames.{emitted_names, distinct_names}
 use Rattle.isle_codegen.proofs.MeanRules.{HasFunction, has_function, means_rules}
-use Rattle.isle_codegen.proofs.WellFormedFunctions.{emitted_well_formed}
+use Rattle.isle_emission.proofs.WellFormedFunctions.{emitted_well_formed}
 
 -- each function is of its term
 are_declared : (files : Files) (env : Environment) (sets : List (TermId × RuleSet)) (fs : List Function) → AreEmitted files env sets fs → AreDeclared files env (map (λ (s : TermId × RuleSet). s.0) sets) fs

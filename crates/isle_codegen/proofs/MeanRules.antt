@@ -37,9 +37,9 @@ use Rattle.isle_sema.proofs.OneRule.{typed_one}
 use Rattle.isle_target.specs.Program.{Function, Program}
 use Rattle.isle_target.specs.Run.{run, function_of}
 use Rattle.isle_codegen.specs.Emits.{IsEmitted, AreEmitted}
-use Rattle.isle_codegen.specs.Emitted.{ran_of}
+use Rattle.isle_emission.specs.Emitted.{ran_of}
 use Rattle.isle_codegen.specs.Headline.{GivesAs, GivesOutcome, MeansRules}
-use Rattle.isle_codegen.proofs.Simulation.{runs_as_block}
+use Rattle.isle_emission.proofs.Simulation.{runs_as_block}
 use Rattle.isle_codegen.proofs.EmittedNames.{name_of_term, emitted_name}
 
 -- ---- the function of a term is found by its name

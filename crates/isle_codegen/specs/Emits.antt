@@ -15,8 +15,8 @@ use Rattle.isle_core.specs.Places.{LiesIn}
 use Rattle.isle_core.specs.Rule.{Environment}
 use Rattle.isle_blocks.specs.Ready.{IsReady}
 use Rattle.isle_target.specs.Program.{Function}
-use Rattle.isle_codegen.specs.TermFunction.{term_function}
-use Rattle.isle_codegen.specs.Emitted.{IsEmittable}
+use Rattle.isle_emission.specs.TermFunction.{term_function}
+use Rattle.isle_emission.specs.Emitted.{IsEmittable}
 
 -- the term is there and may be emitted, its declaration lies in the files, and its rule set is ready for a block
 pub record CanEmit (files : Files) (env : Environment) (s : TermId × RuleSet) : Type 0 where

@@ -17,7 +17,7 @@ use Rattle.isle_target.specs.Program.{Function, Program}
 use Rattle.isle_target.specs.Reading.{SpellsOnly}
 use Rattle.isle_target.specs.Run.{run}
 use Rattle.isle_codegen.specs.Emission.{IsFrame}
-use Rattle.isle_codegen.specs.OfTerm.{AreDeclared}
+use Rattle.isle_emission.specs.OfTerm.{AreDeclared}
 
 -- how a run ends that has the result: of a partial term in an option
 abbrev pub end_of : Bool → Result → End

@@ -2,17 +2,6 @@ pub mod Names
 pub mod Header
 pub mod Source
 pub mod Emission
-pub mod Operands
-pub mod Statements
-pub mod TermFunction
-pub mod OfTerm
-pub mod Shape
 pub mod Headline
-pub mod Emitted
 pub mod Emits
-pub mod Contexts
-pub mod BodyOnto
-pub mod LineStarts
-pub mod MayEmit
-pub mod Samples
 pub mod Causes

@@ -7,7 +7,7 @@ ghost use Rattle.isle_target.specs.WellFormed.{IsWellFormed};
 ghost use Rattle.isle_codegen.specs.Emission.{IsBuilt, IsGiven, IsFrame, ArePlaced};
 ghost use Rattle.isle_codegen.specs.Emits.{CanEmit, IsEmitted, AreEmitted};
 ghost use Rattle.isle_codegen.specs.Headline.{FunctionsMean};
-ghost use Rattle.isle_codegen.specs.LineStarts.{starts_of};
+ghost use Rattle.isle_emission.specs.LineStarts.{starts_of};
 
 use crate::context::{Context, is_partial};
 use crate::emit::term_function;

@@ -7,6 +7,7 @@ pub mod Expr
 pub mod Rule
 pub mod RuleViews
 pub mod HasType
+pub mod BuiltinType
 pub mod SameValue
 pub mod Constants
 pub mod Calling

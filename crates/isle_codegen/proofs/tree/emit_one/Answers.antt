@@ -3,8 +3,8 @@ use Rattle.isle_core.specs.BlockViews.{block}
 use Rattle.isle_core.specs.Path.{paths_of}
 use Rattle.isle_core.specs.RuleViews.{environment}
 use Rattle.isle_target.specs.Views.{function}
-use Rattle.isle_codegen.specs.TermFunction.{term_function}
-use Rattle.isle_codegen.proofs.EmittedLaws.{if_ok}
+use Rattle.isle_emission.specs.TermFunction.{term_function}
+use Rattle.isle_emission.proofs.EmittedLaws.{if_ok}
 use Rattle.isle_codegen.proofs.Emissions.{is_emitted, at_place}
 use Rattle.isle_codegen.proofs.tree.emit_one.Goals as goal
 

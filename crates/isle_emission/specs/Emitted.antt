@@ -1,0 +1,43 @@
+-- What an emitted function is to its term and its block.
+use Rattle.std.specs.Prelude.{◌≡◌, List, [], ◌∷◌, IsTrue, Some}
+use Rattle.std.specs.List.{AllByRecursion, list_all}
+use Rattle.isle_ink.specs.Token.{is_word_byte}
+use Rattle.isle_core.specs.declared.types.Term.{Term}
+use Rattle.isle_core.specs.Value.{Value, Ran}
+use Rattle.isle_core.specs.Meaning.{Meaning}
+use Rattle.isle_core.specs.HasType.{HaveTypes}
+use Rattle.isle_core.specs.declared.rule_sets.Binding.{Binding}
+use Rattle.isle_core.specs.declared.rule_sets.Binding.TheVariants as binding
+use Rattle.isle_core.specs.Lawful.{AnswersFit}
+use Rattle.isle_core.specs.Calling.{is_partial}
+use Rattle.isle_core.specs.Outcome.{Prescription}
+use Rattle.isle_core.specs.Path.{paths_of}
+use Rattle.isle_core.specs.Block.{Block}
+use Rattle.isle_core.specs.BlockRun.{block_outcome}
+use Rattle.isle_core.specs.Terms.{sym_text}
+use Rattle.isle_core.specs.Rule.{Environment}
+use Rattle.isle_core.specs.BuiltinType.{IsBuiltinType}
+use Rattle.isle_target.specs.Program.{Function, Program}
+use Rattle.isle_target.specs.Run.{run, function_of}
+use Rattle.isle_emission.specs.Ends.{end_of}
+
+-- a term whose name may be emitted, and whose types are built
+pub record IsEmittable (env : Environment) (t : Term) : Type 0 where
+  pub name : IsTrue (list_all is_word_byte (sym_text env t.name))
+  pub types : AllByRecursion (IsBuiltinType env) (t.ret_ty ∷ t.arg_tys)
+
+-- what a run gives that has this outcome
+abbrev pub ran_of : Environment → Term → Prescription → Ran
+ran_of env t o = record { end = end_of (is_partial t.kind) o.result; calls = o.calls }
+
+-- the meaning answers each call among the bindings with its kind and its type
+abbrev pub AnswersBindings : Environment → Meaning → List Binding → Type 0
+AnswersBindings env m [] = Unit {0}
+AnswersBindings env m (binding.Constructor term parameters instance ∷ bs) = AnswersFit env m term × AnswersBindings env m bs
+AnswersBindings env m (b ∷ bs) = AnswersBindings env m bs
+
+-- in every program in which the term's function is this, its run on well-typed arguments is the block's, under every
+-- meaning that answers its calls
+abbrev pub RunsAsBlock : Environment → Term → List Binding → Block → Function → Type 0
+RunsAsBlock env t bs b f = (p : Program) (args : List Value) (m : Meaning) → function_of (sym_text env t.name) p.fns ≡ Some f → HaveTypes env args t.arg_tys → AnswersBindings env m bs
+    → run p (sym_text env t.name) args m ≡ Some (ran_of env t (block_outcome env m args (paths_of bs) b (is_partial t.kind)))
