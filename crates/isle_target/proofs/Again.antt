@@ -14,15 +14,16 @@ use Rattle.isle_ink.proofs.Readback.{numeral_again}
 use Rattle.isle_core.specs.declared.types.ReturnKind.{ReturnKind}
 use Rattle.isle_core.specs.declared.types.ReturnKind.TheVariants as kind
 use Rattle.isle_target.specs.declared.tree.Ty.{Ty}
+use Rattle.isle_target.specs.declared.tree.TraitFn.{TraitFn}
 use Rattle.isle_target.specs.declared.tree.Operand.{Operand}
 use Rattle.isle_target.specs.declared.tree.Operand.TheVariants as operand
 use Rattle.isle_target.specs.declared.tree.Read.TheVariants as read
 use Rattle.isle_target.specs.declared.tree.TExpr.{TExpr}
 use Rattle.isle_target.specs.declared.tree.TExpr.TheVariants as expr
-use Rattle.isle_target.specs.Spelling.{operand_tokens, expr_tokens, stmt_tokens, body_tokens, constructor_word, no_rule, params_tokens, result_tokens, if_eq_head, function_head, function_tokens, functions_tokens, allow_part, trait_head, close, program_tokens}
+use Rattle.isle_target.specs.Spelling.{operand_tokens, expr_tokens, stmt_tokens, body_tokens, constructor_word, no_rule, params_tokens, result_tokens, if_eq_head, function_head, function_tokens, functions_tokens, allow_part, trait_head, close, program_tokens, comma, typed_tokens, joined_tokens, results_tokens, trait_fn_head, trait_result, trait_fn_tokens, trait_fns_tokens, trait_tokens}
 use Rattle.isle_target.specs.Program.{Stmt, Let, IfEq, Return, Tail, Body, Done, Then, Function, Program}
-use Rattle.isle_target.specs.WellFormed.{IsOperand, IsExpr, IsStmt, IsBody, IsBuiltin, IsTy, IsKind, IsTraitFn, IsTypeItem, IsFunction, IsWellFormed}
-use Rattle.isle_target.specs.Reading.{same_token, phrase, at, read_expr, read_stmt, read_body, read_params, read_result, read_function, read_functions, read_items, read_program, program_of, SpellsOnly}
+use Rattle.isle_target.specs.WellFormed.{IsOperand, IsExpr, IsStmt, IsBody, IsBuiltin, IsTy, IsKind, AreResults, IsTraitFn, IsTypeItem, IsFunction, IsWellFormed}
+use Rattle.isle_target.specs.Reading.{same_token, phrase, at, read_expr, read_stmt, read_body, read_params, read_result, read_function, read_functions, read_joined, read_trait_fn, read_trait_fns, read_trait, read_items, read_program, program_of, SpellsOnly}
 use Rattle.isle_target.proofs.Words.{operand_again}
 
 -- whether a token is none of those that no program has
@@ -179,46 +180,106 @@ functions_again p (suc n) (f ∷ fs) h le =
     let l = length-append (function_tokens f) (functions_tokens fs) in
     rw (function_again p f (functions_tokens fs) h.0, functions_again p n fs h.1 (omega (arith, l))) refl
 
+-- ---- the trait
+
+-- parameters are read again
+joined_again : (k n : ℕ) (tys : List Ty) (ts : List Token) → AllByRecursion IsTy tys → length tys < k → read_joined k n (joined_tokens n tys ++ ts) ≡ Some (tys, ts)
+unfolding read_joined
+joined_again zero n tys ts h lt = absurd (omega arith)
+joined_again (suc k) n [] ts h lt = refl
+joined_again (suc k) zero (ty ∷ tys) ts h lt =
+    rw (joined_again k 1 tys ts h.1 (omega arith), type_again ty h.0) refl
+joined_again (suc k) (suc n) (ty ∷ tys) ts h lt =
+    rw (same_bytes_refl (numeral 10 (suc n)), joined_again k (suc n + 1) tys ts h.1 (omega arith), type_again ty h.0) refl
+
+length-joined : (n : ℕ) (tys : List Ty) → length tys < length (joined_tokens n tys)
+length-joined n [] = omega arith
+length-joined zero (ty ∷ tys) = omega (arith, length-joined 1 tys)
+length-joined (suc n) (ty ∷ tys) = omega (arith, length-joined (suc n + 1) tys)
+
+-- one result is read again
+results_again : (how : ReturnKind) (names : List (List ℕ)) (ts : List Token) → IsKind how → AreResults names
+    → (name : List ℕ) × (names ≡ name ∷ []) × (read_result (results_tokens how names ++ ts) ≡ Some ((how, name), ts))
+results_again how [] ts h b = absurd b
+results_again how (name ∷ []) ts h b = (name, refl, result_again how name ts h b)
+results_again how (name ∷ more ∷ names) ts h b = absurd b
+
+-- a function of the trait is read again
+trait_fn_again : (f : TraitFn) (ts : List Token) → IsTraitFn f → read_trait_fn (trait_fn_tokens f ++ ts) ≡ Some (f, ts)
+unfolding read_trait_fn trait_fn_tokens
+trait_fn_again f ts h =
+    let ended = Mark (codes ";") ∷ ts in
+    let arrow = Mark (codes "->") ∷ (results_tokens f.kind f.results ++ ended) in
+    let flat : trait_fn_tokens f ++ ts ≡ trait_fn_head f.name ++ (joined_tokens 0 f.params ++ arrow) = simp append_assoc in
+    let fuel : length f.params < length (joined_tokens 0 f.params ++ arrow) = omega (arith, length-append (joined_tokens 0 f.params) arrow, length-joined 0 f.params) in
+    let r = results_again f.kind f.results ended h.kind h.results in
+    ap read_trait_fn flat
+    ∙ rw (joined_again (length (joined_tokens 0 f.params ++ arrow)) 0 f.params arrow h.params fuel, r.2) (ap (λ (names : List (List ℕ)). Some (record { name = f.name; params = f.params; results = names; kind = f.kind }, ts)) (sym r.1))
+
+trait_fn_some : (f : TraitFn) → 0 < length (trait_fn_tokens f)
+unfolding trait_fn_tokens
+trait_fn_some f = omega arith
+
+trait_fn_begins : (f : TraitFn) (ts : List Token) → at (Mark (codes "}")) (trait_fn_tokens f ++ ts) ≡ false
+unfolding trait_fn_tokens
+trait_fn_begins f ts = refl
+
+-- the functions of the trait are read again
+trait_fns_again : (n : ℕ) (fs : List TraitFn) (ts : List Token) → AllByRecursion IsTraitFn fs → length (trait_fns_tokens fs) < n → read_trait_fns n (trait_fns_tokens fs ++ (close ++ ts)) ≡ Some (fs, close ++ ts)
+unfolding read_trait_fns
+trait_fns_again zero fs ts h lt = absurd (omega arith)
+trait_fns_again (suc n) [] ts h lt = refl
+trait_fns_again (suc n) (f ∷ fs) ts h lt =
+    let l = length-append (trait_fn_tokens f) (trait_fns_tokens fs) in
+    rw (append_assoc (trait_fn_tokens f) (trait_fns_tokens fs) (close ++ ts), trait_fn_begins f (trait_fns_tokens fs ++ (close ++ ts)), trait_fn_again f (trait_fns_tokens fs ++ (close ++ ts)) h.0, trait_fns_again n fs ts h.1 (omega (arith, l, trait_fn_some f))) refl
+
+-- the trait is read again
+trait_again : (fs : List TraitFn) (ts : List Token) → AllByRecursion IsTraitFn fs → read_trait (trait_tokens fs ++ ts) ≡ Some (fs, ts)
+unfolding read_trait
+trait_again fs ts h =
+    let inside = trait_fns_tokens fs ++ (close ++ ts) in
+    let long : length (trait_fns_tokens fs) < length inside = omega (arith, length-append (trait_fns_tokens fs) (close ++ ts)) in
+    rw (append_assoc (trait_fns_tokens fs) close ts, trait_fns_again (length inside) fs ts h long) refl
+
 -- ---- the program
 
 -- the tokens from the uses on
-items : List Function → List Token
-items fs = uses_tokens ++ (trait_head ++ (close ++ (fixed_tokens ++ functions_tokens fs)))
+items : List TraitFn → List Function → List Token
+items tfns fs = uses_tokens ++ (trait_tokens tfns ++ (fixed_tokens ++ functions_tokens fs))
 
--- a program with only these functions of its own
-made_of : Bool → List Function → Program
-made_of allow fs = record { allow = allow; trait_fns = []; types = []; fns = fs }
+-- a program without types
+made_of : Bool → List TraitFn → List Function → Program
+made_of allow tfns fs = record { allow = allow; trait_fns = tfns; types = []; fns = fs }
 
-items_again : (p : Program) (allow : Bool) (fs : List Function) → AllByRecursion (IsFunction p) fs → read_items (allow, items fs) ≡ Some (made_of allow fs)
+items_again : (p : Program) (allow : Bool) (tfns : List TraitFn) (fs : List Function) → AllByRecursion IsTraitFn tfns → AllByRecursion (IsFunction p) fs → read_items (allow, items tfns fs) ≡ Some (made_of allow tfns fs)
 unfolding items made_of
-items_again p allow fs h =
-    rw (phrase_again uses_tokens (trait_head ++ (close ++ (fixed_tokens ++ functions_tokens fs))) uses_whole, phrase_again fixed_tokens (functions_tokens fs) fixed_whole, functions_again p (length (functions_tokens fs)) fs h (omega arith)) refl
+items_again p allow tfns fs k h =
+    rw (phrase_again uses_tokens (trait_tokens tfns ++ (fixed_tokens ++ functions_tokens fs)) uses_whole, trait_again tfns (fixed_tokens ++ functions_tokens fs) k, phrase_again fixed_tokens (functions_tokens fs) fixed_whole, functions_again p (length (functions_tokens fs)) fs h (omega arith)) refl
 
-items_apart : (fs : List Function) → phrase allow_tokens (items fs) ≡ None
+items_apart : (tfns : List TraitFn) (fs : List Function) → phrase allow_tokens (items tfns fs) ≡ None
 unfolding items
-items_apart fs = uses_apart (trait_head ++ (close ++ (fixed_tokens ++ functions_tokens fs)))
+items_apart tfns fs = uses_apart (trait_tokens tfns ++ (fixed_tokens ++ functions_tokens fs))
 
-made_again : (p : Program) (allow : Bool) (fs : List Function) → AllByRecursion (IsFunction p) fs → read_program (allow_part allow ++ items fs) ≡ Some (made_of allow fs)
+made_again : (p : Program) (allow : Bool) (tfns : List TraitFn) (fs : List Function) → AllByRecursion IsTraitFn tfns → AllByRecursion (IsFunction p) fs → read_program (allow_part allow ++ items tfns fs) ≡ Some (made_of allow tfns fs)
 unfolding read_program
-made_again p true fs h = rw (phrase_again allow_tokens (items fs) allow_whole) (items_again p true fs h)
-made_again p false fs h = rw (items_apart fs) (items_again p false fs h)
+made_again p true tfns fs k h = rw (phrase_again allow_tokens (items tfns fs) allow_whole) (items_again p true tfns fs k h)
+made_again p false tfns fs k h = rw (items_apart tfns fs) (items_again p false tfns fs k h)
 
 none : {A : Type 0} (P : A → Type 0) → ((a : A) → P a → ⊥) → (xs : List A) → AllByRecursion P xs → xs ≡ []
 none P never [] all = refl
 none P never (x ∷ xs) all = absurd (never x all.0)
 
--- a well-formed program has only functions of its own
-made_if_well_formed : (p : Program) → IsWellFormed p → made_of p.allow p.fns ≡ p
+-- a well-formed program has no types
+made_if_well_formed : (p : Program) → IsWellFormed p → made_of p.allow p.trait_fns p.fns ≡ p
 unfolding made_of
 made_if_well_formed p h =
-    let no_fns = none IsTraitFn (λ f e. e) p.trait_fns h.trait_fns in
     let no_types = none IsTypeItem (λ t e. e) p.types h.types in
-    sym (λ i. record { allow = p.allow; trait_fns = no_fns i; types = no_types i; fns = p.fns })
+    sym (λ i. record { allow = p.allow; trait_fns = p.trait_fns; types = no_types i; fns = p.fns })
 
 -- what is spelled is read again
 pub program_again : (p : Program) → IsWellFormed p → read_program (program_tokens p) ≡ Some p
 unfolding items
-program_again p h = made_again p p.allow p.fns h.fns ∙ ap Some (made_if_well_formed p h)
+program_again p h = made_again p p.allow p.trait_fns p.fns h.trait_fns h.fns ∙ ap Some (made_if_well_formed p h)
 
 -- a text of the program's tokens spells it and no other
 pub spells_only : (text : List ℕ) (p : Program) → IsWellFormed p → tokens_of text ≡ program_tokens p → SpellsOnly text p
@@ -233,7 +294,7 @@ spells_only text p h e =
 pub printed_program : (p : Program) (text : List ℕ) (fresh head body whole all : List Token)
     → fresh ≡ []
     → head ≡ fresh ++ (allow_part p.allow ++ uses_tokens)
-    → body ≡ head ++ (trait_head ++ close)
+    → body ≡ head ++ trait_tokens p.trait_fns
     → whole ≡ body ++ fixed_tokens
     → all ≡ whole ++ functions_tokens p.fns
     → tokens_of text ≡ all
@@ -243,5 +304,5 @@ printed_program p text fresh head body whole all e1 e2 e3 e4 e5 e6 =
     ∙ e5
     ∙ ap (λ l. l ++ functions_tokens p.fns) e4
     ∙ ap (λ l. (l ++ fixed_tokens) ++ functions_tokens p.fns) e3
-    ∙ ap (λ l. ((l ++ (trait_head ++ close)) ++ fixed_tokens) ++ functions_tokens p.fns) (e2 ∙ ap (λ l. l ++ (allow_part p.allow ++ uses_tokens)) e1)
+    ∙ ap (λ l. ((l ++ trait_tokens p.trait_fns) ++ fixed_tokens) ++ functions_tokens p.fns) (e2 ∙ ap (λ l. l ++ (allow_part p.allow ++ uses_tokens)) e1)
     ∙ simp append_assoc

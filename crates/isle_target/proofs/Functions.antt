@@ -9,7 +9,7 @@ use Rattle.isle_target.specs.declared.tree.Function.{Function as CodeFunction}
 use Rattle.isle_target.specs.declared.tree.Program.{Program as CodeProgram}
 use Rattle.isle_target.specs.Program.{Program}
 use Rattle.isle_target.specs.Views.{program, function}
-use Rattle.isle_target.specs.WellFormed.{IsTraitFn, IsTypeItem, IsFunction, IsWellFormed, terms}
+use Rattle.isle_target.specs.WellFormed.{IsTraitFn, IsTypeItem, IsFunction, IsWellFormed, terms, fn_names}
 
 -- all are where those that are left are
 abbrev pub Left : List CodeFunction → ℕ → Type 0
@@ -47,9 +47,13 @@ holds_no : {A : Type 0} (P : A → Type 0) → ((a : A) → P a → ⊥) → (xs
 holds_no P never [] e all = absurd cc
 holds_no P never (x ∷ xs) e all = never x all.0
 
--- a program with a function of the trait
-pub refused_trait_fns : (p : CodeProgram) → (length p.trait_fns == 0) ≡ false → IsTrue false ↔ IsWellFormed (program p)
-refused_trait_fns p e = (λ t. absurd cc, λ h. absurd (holds_no IsTraitFn (λ f b. b) p.trait_fns e h.trait_fns))
+-- a program with a function that the trait may not have
+pub refused_trait_fns : (p : CodeProgram) → (IsTrue false ↔ AllByRecursion IsTraitFn p.trait_fns) → IsTrue false ↔ IsWellFormed (program p)
+refused_trait_fns p h = (λ t. absurd cc, λ w. h.1 w.trait_fns)
+
+-- with two of one name
+pub refused_names : (p : CodeProgram) → (IsTrue false ↔ IsDistinct bytes_eq (fn_names p.trait_fns)) → IsTrue false ↔ IsWellFormed (program p)
+refused_names p h = (λ t. absurd cc, λ w. h.1 w.trait_names)
 
 -- with a type
 pub refused_types : (p : CodeProgram) → (length p.types == 0) ≡ false → IsTrue false ↔ IsWellFormed (program p)
@@ -60,9 +64,9 @@ pub refused_fns : (p : CodeProgram) → ((q : Program) → IsTrue false ↔ AllB
 refused_fns p h = (λ t. absurd cc, λ w. (h (program p)).1 w.fns)
 
 -- with none of these: by the names of its functions
-pub by_names : (p : CodeProgram) (b : Bool) → (length p.trait_fns == 0) ≡ true → (length p.types == 0) ≡ true → ((q : Program) → IsTrue true ↔ AllByRecursion (IsFunction q) (map function p.fns))
-    → (IsTrue b ↔ IsDistinct bytes_eq (terms (map function p.fns))) → IsTrue b ↔ IsWellFormed (program p)
-by_names p b e f h d = (
-  λ t. record { trait_fns = holds_all IsTraitFn p.trait_fns e; types = holds_all IsTypeItem p.types f; fns = (h (program p)).0 refl; distinct = d.0 t },
+pub by_names : (p : CodeProgram) (b : Bool) → (IsTrue true ↔ AllByRecursion IsTraitFn p.trait_fns) → (IsTrue true ↔ IsDistinct bytes_eq (fn_names p.trait_fns)) → (length p.types == 0) ≡ true
+    → ((q : Program) → IsTrue true ↔ AllByRecursion (IsFunction q) (map function p.fns)) → (IsTrue b ↔ IsDistinct bytes_eq (terms (map function p.fns))) → IsTrue b ↔ IsWellFormed (program p)
+by_names p b k n f h d = (
+  λ t. record { trait_fns = k.0 refl; trait_names = n.0 refl; types = holds_all IsTypeItem p.types f; fns = (h (program p)).0 refl; distinct = d.0 t },
   λ w. d.1 w.distinct,
 )

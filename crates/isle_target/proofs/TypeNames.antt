@@ -8,6 +8,7 @@ use Rattle.isle_ink.specs.Token.{is_word}
 use Rattle.isle_ink.specs.Bytes.{same_bytes}
 use Rattle.isle_ink.proofs.Bytes.{same_bytes_sound}
 use Rattle.isle_ink.proofs.Numerals.{list_all-join}
+use Rattle.isle_target.specs.Identifier.{IsIdentifier}
 use Rattle.isle_target.specs.Literal.{type_named}
 use Rattle.isle_target.specs.Spelling.{constructor_word}
 use Rattle.isle_target.specs.WellFormed.{IsBuiltin, IsTermName}
@@ -46,6 +47,14 @@ builtin_is_word name h =
 pub constructor_is_word : (term : List ℕ) → IsTermName term → is_word (constructor_word term) ≡ true
 unfolding constructor_word
 constructor_is_word term h = list_all-join (codes "constructor_") term refl h
+
+-- an item
+pub identifier_is_word : (name : List ℕ) → IsIdentifier name → is_word name ≡ true
+identifier_is_word [] h = absurd (false_not_true h.begins)
+  where
+    false_not_true : false ≡ true → ⊥
+    false_not_true e = cc
+identifier_is_word (b ∷ bs) h = h.word
 
 -- both tests of two texts say the same
 pub same_is : (a b : List ℕ) → bytes_eq a b ≡ same_bytes a b

@@ -2,6 +2,7 @@ pub mod Program
 pub mod Views
 pub mod Literal
 pub mod Fixed
+pub mod Identifier
 pub mod Spelling
 pub mod WellFormed
 pub mod Reading

@@ -16,6 +16,7 @@ use Rattle.isle_target.specs.declared.tree.Read.{Read}
 use Rattle.isle_target.specs.declared.tree.Read.TheVariants as read
 use Rattle.isle_target.specs.declared.tree.TExpr.{TExpr}
 use Rattle.isle_target.specs.declared.tree.TExpr.TheVariants as expr
+use Rattle.isle_target.specs.Identifier.{IsIdentifier}
 use Rattle.isle_target.specs.Literal.{type_named}
 use Rattle.isle_target.specs.Program.{Stmt, Let, IfEq, Return, Tail, Body, Done, Then, Function, Program}
 
@@ -149,9 +150,18 @@ IsKind kind.Plain = Unit {0}
 IsKind kind.Option = Unit {0}
 IsKind kind.Iterator = ⊥
 
--- a function of the trait; no form of one is built
-abbrev pub IsTraitFn : TraitFn → Type 0
-IsTraitFn f = ⊥
+-- the results of a function of the trait: one
+abbrev pub AreResults : List (List ℕ) → Type 0
+AreResults [] = ⊥
+AreResults (name ∷ []) = IsBuiltin name
+AreResults (name ∷ more ∷ names) = ⊥
+
+-- a function of the trait
+pub record IsTraitFn (f : TraitFn) : Type 0 where
+  pub name : IsIdentifier f.name
+  pub params : AllByRecursion IsTy f.params
+  pub results : AreResults f.results
+  pub kind : IsKind f.kind
 
 -- a declared type; no form of one is built
 abbrev pub IsTypeItem : TypeItem → Type 0
@@ -175,9 +185,14 @@ pub record IsFunction (p : Program) (f : Function) : Type 0 where
 abbrev pub terms : List Function → List (List ℕ)
 terms fs = map (λ (f : Function). f.term) fs
 
+-- the names of the functions of the trait
+abbrev pub fn_names : List TraitFn → List (List ℕ)
+fn_names fs = map (λ (f : TraitFn). f.name) fs
+
 -- each item is of a form that is built, and no two functions have one name
 pub record IsWellFormed (p : Program) : Type 0 where
   pub trait_fns : AllByRecursion IsTraitFn p.trait_fns
   pub types : AllByRecursion IsTypeItem p.types
   pub fns : AllByRecursion (IsFunction p) p.fns
   pub distinct : IsDistinct bytes_eq (terms p.fns)
+  pub trait_names : IsDistinct bytes_eq (fn_names p.trait_fns)

@@ -4,27 +4,18 @@ ghost use Rattle.std.specs.Prelude.{IfOk, IsTrue, ◌↔◌, map};
 ghost use Rattle.std.specs.List.{AllByRecursion};
 ghost use Rattle.isle_target.specs.Program.{Program as Target};
 ghost use Rattle.isle_target.specs.Views.{program, function};
-ghost use Rattle.isle_target.specs.WellFormed.{IsKind, IsFunction, IsWellFormed};
+ghost use Rattle.isle_target.specs.WellFormed.{IsFunction, IsWellFormed};
 
 use crate::bound::Bound;
-use crate::distinct::are_distinct;
+use crate::distinct::{are_apart, are_distinct};
 use crate::fits::fits_function;
-use crate::names::has_names;
+use crate::names::{has_names, is_kind};
 use crate::shapes::is_body;
 use crate::there::is_body_there;
+use crate::trait_fns::are_trait_fns;
 use crate::tree::{Function, Program};
-use isle_core::{OutOfMemory, ReturnKind};
+use isle_core::OutOfMemory;
 use std::alloc::Global;
-
-// Whether a function may answer so often.
-fn is_kind(kind: ReturnKind) -> bool
-    ensures { IsTrue result ↔ IsKind kind }
-{
-    match kind {
-        ReturnKind::Plain | ReturnKind::Option => true,
-        ReturnKind::Iterator => false,
-    }
-}
 
 // Whether a function is well formed, whatever else is in its program.
 fn is_function(alloc: Global, f: &Function) -> Result<bool, OutOfMemory>
@@ -63,7 +54,10 @@ fn are_functions(alloc: Global, fns: &[Function]) -> Result<bool, OutOfMemory>
 pub fn well_formed(alloc: Global, p: &Program) -> Result<bool, OutOfMemory>
     ensures { IfOk result (λ b. IsTrue b ↔ IsWellFormed (program p.now)) }
 {
-    if !p.trait_fns.as_slice().is_empty() {
+    if !are_trait_fns(p.trait_fns.as_slice()) {
+        return Ok(false);
+    }
+    if !are_apart(alloc, p.trait_fns.as_slice())? {
         return Ok(false);
     }
     if !p.types.as_slice().is_empty() {

@@ -2,11 +2,13 @@
 #![tactic(auto)]
 
 mod bound;
+mod context;
 mod distinct;
 mod fits;
 mod fixed;
 mod forms;
 mod function;
+mod identifier;
 mod literal;
 mod names;
 mod operand;
@@ -16,6 +18,9 @@ mod statement;
 #[cfg(test)]
 mod tests;
 mod there;
+mod trait_fns;
+#[cfg(test)]
+mod trait_tests;
 mod tree;
 
 pub use bound::Bound;
