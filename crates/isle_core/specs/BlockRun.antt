@@ -1,28 +1,30 @@
 -- What a block does.
-use Rattle.std.specs.Prelude.{List, [], Bool, if◌then◌else◌}
+use Rattle.std.specs.Prelude.{List, [], ◌∷◌, Bool, if◌then◌else◌}
 use Rattle.isle_base.specs.declared.ids.BindingId.{BindingId}
 use Rattle.isle_core.specs.Value.{Value, Made}
 use Rattle.isle_core.specs.Meaning.{Meaning}
-use Rattle.isle_core.specs.Outcome.{Prescription, unmatched}
-use Rattle.isle_core.specs.Path.{Path, at}
-use Rattle.isle_core.specs.Held.{Held, Known, nothing_known, value_at, meets, equal_held}
-use Rattle.isle_core.specs.RuleSet.{result_of}
+use Rattle.isle_core.specs.Outcome.{Prescription}
+use Rattle.isle_core.specs.Path.{Path, Inner, at}
+use Rattle.isle_core.specs.Answered.{Held}
+use Rattle.isle_core.specs.Held.{Known, nothing_known, value_at, meets, equal_held}
+use Rattle.isle_core.specs.CallRun.{Went, Goes, Ends, then_go, returns, make, unless_nothing}
+use Rattle.isle_core.specs.RuleSet.{gave}
 use Rattle.isle_core.specs.Block.{Block, Stop, Step, Control, Match, Equal, Loop, Return, Arms, NoArm, Arm}
 use Rattle.isle_core.specs.Rule.{Environment}
 
--- a block goes on to what follows it, with the answers known and the calls made, or the run ends
-pub data Went : Type 0 where
-  Goes : Known → List Made → Went
-  Ends : Prescription → Went
+-- nothing in place of an inner value is a failure
+abbrev pub check_inner : Environment → Meaning → List Value → Path → Known → List Made → Went
+check_inner env m args (Inner p) known made = unless_nothing (value_at env m args known p) known made
+check_inner env m args p known made = Goes known made
 
--- what follows goes on from there
-abbrev pub then_go : Went → (Known → List Made → Went) → Went
-then_go (Goes known made) go = go known made
-then_go (Ends o) go = Ends o
+-- binding a path: a call is made, an inner value must be there
+abbrev pub bind_one : Environment → Meaning → List Value → Path → Known → List Made → Went
+bind_one env m args p known made = then_go (make env m args p known made) (check_inner env m args p)
 
--- binding paths in order; no call is built, and nothing else can stop a run
+-- binding paths in order
 abbrev pub bind_all : Environment → Meaning → List Value → List Path → List BindingId → Known → List Made → Went
-bind_all env m args ps bs known made = Goes known made
+bind_all env m args ps [] known made = Goes known made
+bind_all env m args ps (b ∷ bs) known made = then_go (bind_one env m args (at ps b) known made) (bind_all env m args ps bs)
 
 -- steps in order; a Match runs the first arm whose constraint holds, an Equal its body where the two are equal; no Loop is built
 abbrev mutual
@@ -35,16 +37,11 @@ abbrev mutual
   control_run env m args ps (Equal a b body) known made =
       if equal_held (value_at env m args known (at ps a)) (value_at env m args known (at ps b)) then block_run env m args ps body known made else Goes known made
   control_run env m args ps (Loop result body) known made = Goes known made
-  control_run env m args ps (Return pos result) known made = Ends (record { result = result_of (value_at env m args known (at ps result)); calls = made })
+  control_run env m args ps (Return pos result) known made = returns env m args (at ps result) known made
 
   pub arms_run : Environment → Meaning → List Value → List Path → Arms → Held → Known → List Made → Went
   arms_run env m args ps NoArm h known made = Goes known made
   arms_run env m args ps (Arm c places body arms) h known made = if meets env c h then block_run env m args ps body known made else arms_run env m args ps arms h known made
-
--- what a run gives; one that goes on behind the last step matched nothing
-abbrev pub gave : Bool → Went → Prescription
-gave partial (Goes known made) = record { result = unmatched partial; calls = made }
-gave partial (Ends o) = o
 
 -- what a block gives whose bindings have these paths
 abbrev pub block_outcome : Environment → Meaning → List Value → List Path → Block → Bool → Prescription

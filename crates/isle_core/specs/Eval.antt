@@ -1,9 +1,11 @@
 -- Evaluating expressions: a value or a failure, and the impure calls made.
-use Rattle.std.specs.Prelude.{List, [], ◌∷◌, Option, Some, None, option_and_then}
+use Rattle.std.specs.Prelude.{List, [], ◌∷◌, ◌++◌, Option, Some, None, option_and_then}
 use Rattle.isle_core.specs.Value.{Value, Truth, Made}
 use Rattle.isle_core.specs.Constants.{int_value}
-use Rattle.isle_core.specs.Meaning.{Meaning}
-use Rattle.isle_core.specs.Expr.{Expr, Term, Var, ConstBool, ConstInt, ConstPrim, Let}
+use Rattle.isle_core.specs.Meaning.{Meaning, turn, case}
+use Rattle.isle_core.specs.Answered.{Held, Absent, One, Optional, answer_held}
+use Rattle.isle_core.specs.Calling.{Calling, ByTurns, ByCases, NoCall, calling}
+use Rattle.isle_core.specs.Expr.{Expr, Exprs, NoExpr, AnExpr, Term, Var, ConstBool, ConstInt, ConstPrim, Let}
 use Rattle.isle_core.specs.Match.{Names, matches}
 use Rattle.isle_core.specs.Rule.{Environment, IfLet}
 
@@ -12,19 +14,58 @@ pub data Evaluated : Type 0 where
   Answered : Value → List Made → Evaluated
   Failed : List Made → Evaluated
 
+-- the values of expressions in order, or a failure of one, and all impure calls so far
+pub data EvaluatedAll : Type 0 where
+  AllAnswered : List Value → List Made → EvaluatedAll
+  OneFailed : List Made → EvaluatedAll
+
 -- the value of a variable
 abbrev pub named : Option Value → List Made → Evaluated
 named (Some v) made = Answered v made
 named None made = Failed made
 
--- the evaluation of an expression, after the calls made before; a term, a named constant and a `let` are not built
-abbrev pub evaluated : Environment → Meaning → Expr → Names → List Made → Evaluated
-evaluated env m (ConstBool b) names made = Answered (Truth b) made
-evaluated env m (ConstInt ty n) names made = Answered (int_value env ty n) made
-evaluated env m (Var ty x) names made = named (names x.0) made
-evaluated env m (Term ty term es) names made = Failed made
-evaluated env m (ConstPrim ty name) names made = Failed made
-evaluated env m (Let ty bindings inner) names made = Failed made
+-- what follows a value; behind a failure nothing does
+abbrev pub then_all : Evaluated → (Value → List Made → EvaluatedAll) → EvaluatedAll
+then_all (Answered v made) go = go v made
+then_all (Failed made) go = OneFailed made
+
+-- a value before others
+abbrev pub before : Value → EvaluatedAll → EvaluatedAll
+before v (AllAnswered vs made) = AllAnswered (v ∷ vs) made
+before v (OneFailed made) = OneFailed made
+
+-- what follows values; behind a failure nothing does
+abbrev pub then_one : EvaluatedAll → (List Value → List Made → Evaluated) → Evaluated
+then_one (AllAnswered vs made) go = go vs made
+then_one (OneFailed made) go = Failed made
+
+-- what a call's answer gives: a value, or that of an option; nothing is a failure
+abbrev pub answered : Held → List Made → Evaluated
+answered (One v) made = Answered v made
+answered (Optional (Some v)) made = Answered v made
+answered (Optional None) made = Failed made
+answered Absent made = Failed made
+
+-- a call with these arguments: an impure one takes its turn and is made
+abbrev pub called_with : Meaning → Calling → List Value → List Made → Evaluated
+called_with m (ByTurns callee partial) vs made = answered (answer_held (turn m callee made)) (made ++ record { callee = callee; args = vs } ∷ [])
+called_with m (ByCases callee partial) vs made = answered (answer_held (case m callee vs)) made
+called_with m NoCall vs made = Failed made
+
+-- the evaluation of an expression, after the calls made before, arguments first; a named constant and a `let` are not built
+abbrev mutual
+  pub evaluated : Environment → Meaning → Expr → Names → List Made → Evaluated
+  evaluated env m (ConstBool b) names made = Answered (Truth b) made
+  evaluated env m (ConstInt ty n) names made = Answered (int_value env ty n) made
+  evaluated env m (Var ty x) names made = named (names x.0) made
+  evaluated env m (Term ty term es) names made = then_one (evaluated_all env m es names made) (called_with m (calling env term))
+  evaluated env m (ConstPrim ty name) names made = Failed made
+  evaluated env m (Let ty bindings inner) names made = Failed made
+
+  -- from left to right
+  pub evaluated_all : Environment → Meaning → Exprs → Names → List Made → EvaluatedAll
+  evaluated_all env m NoExpr names made = AllAnswered [] made
+  evaluated_all env m (AnExpr e es) names made = then_all (evaluated env m e names made) (λ v calls. before v (evaluated_all env m es names calls))
 
 -- the value, where there is one
 abbrev pub value_of : Evaluated → Option Value

@@ -1,20 +1,17 @@
 -- The values of paths, and when tests hold.
-use Rattle.std.specs.Prelude.{ℕ, List, Bool, false, Option, Some, None, slice_get}
+use Rattle.std.specs.Prelude.{ℕ, List, [], ◌∷◌, Bool, false, Option, Some, None, slice_get}
 use Rattle.std.specs.List.{list_all}
 use Rattle.isle_core.specs.declared.rule_sets.Constraint.{Constraint}
 use Rattle.isle_core.specs.declared.rule_sets.Constraint.TheVariants as constraint
-use Rattle.isle_core.specs.Value.{Value, Truth, Answer}
+use Rattle.isle_core.specs.Value.{Value, Truth, Answer, Plain, Found, Nothing}
 use Rattle.isle_core.specs.SameValue.{same_value}
 use Rattle.isle_core.specs.Constants.{int_value}
-use Rattle.isle_core.specs.Meaning.{Meaning}
-use Rattle.isle_core.specs.Path.{Path, Arg, ConstBool, ConstInt}
+use Rattle.isle_core.specs.Meaning.{Meaning, case}
+use Rattle.isle_core.specs.Calling.{Calling, ByTurns, ByCases, NoCall, calling}
+pub use Rattle.isle_core.specs.Answered.{Held, Absent, One, Optional, answer_held}
+use Rattle.isle_core.specs.Path.{Path, Arg, ConstBool, ConstInt, Called, Inner, Paths, NoPath, APath}
 use Rattle.isle_core.specs.Tests.{Test, Is, Equal}
 use Rattle.isle_core.specs.Rule.{Environment}
-
--- what stands at a path: nothing that there is, or a value; no answer of a call is built
-pub data Held : Type 0 where
-  Absent : Held
-  One : Value → Held
 
 -- what the impure calls that were made have answered, by occurrence
 abbrev pub Known : Type 0
@@ -29,12 +26,46 @@ abbrev pub held : Option Value → Held
 held None = Absent
 held (Some v) = One v
 
--- what stands at a path, under the arguments and the answers known so far; only arguments and constants are built
-abbrev pub value_at : Environment → Meaning → List Value → Known → Path → Held
-value_at env m args known (Arg i) = held (slice_get args i)
-value_at env m args known (ConstBool ty b) = One (Truth b)
-value_at env m args known (ConstInt ty n) = One (int_value env ty n)
-value_at env m args known p = Absent
+-- what the answer of a call holds, where it is known
+abbrev pub held_of : Option Answer → Held
+held_of None = Absent
+held_of (Some a) = answer_held a
+
+-- the value within an option
+abbrev pub inner_held : Held → Held
+inner_held (Optional (Some v)) = One v
+inner_held h = Absent
+
+-- a value before others, where all are there
+abbrev pub value_before : Held → Option (List Value) → Option (List Value)
+value_before (One v) (Some vs) = Some (v ∷ vs)
+value_before h vs = None
+
+-- what a pure call answers to its arguments, where all are there
+abbrev pub case_held : Meaning → Calling → Option (List Value) → Held
+case_held m (ByCases callee partial) (Some vs) = answer_held (case m callee vs)
+case_held m c vs = Absent
+
+-- what stands at the path of a call: an impure one was answered by its turn
+abbrev pub call_held : Meaning → Calling → Option Answer → Option (List Value) → Held
+call_held m (ByTurns callee partial) known vs = held_of known
+call_held m (ByCases callee partial) known vs = case_held m (ByCases callee partial) vs
+call_held m NoCall known vs = Absent
+
+-- what stands at a path, under the arguments and the answers known so far; only arguments, constants, calls and inner values are built
+abbrev mutual
+  pub value_at : Environment → Meaning → List Value → Known → Path → Held
+  value_at env m args known (Arg i) = held (slice_get args i)
+  value_at env m args known (ConstBool ty b) = One (Truth b)
+  value_at env m args known (ConstInt ty n) = One (int_value env ty n)
+  value_at env m args known (Called term ps instance) = call_held m (calling env term) (known instance) (values_at env m args known ps)
+  value_at env m args known (Inner p) = inner_held (value_at env m args known p)
+  value_at env m args known p = Absent
+
+  -- the values at paths in order, where all are there
+  pub values_at : Environment → Meaning → List Value → Known → Paths → Option (List Value)
+  values_at env m args known NoPath = Some []
+  values_at env m args known (APath p ps) = value_before (value_at env m args known p) (values_at env m args known ps)
 
 -- a value meets a constraint; only constants are built
 abbrev pub meets : Environment → Constraint → Held → Bool

@@ -9,6 +9,8 @@ pub mod RuleViews
 pub mod HasType
 pub mod SameValue
 pub mod Constants
+pub mod Calling
+pub mod Answered
 pub mod Match
 pub mod Eval
 pub mod Outcome
@@ -17,6 +19,7 @@ pub mod BuiltRule
 pub mod Path
 pub mod Tests
 pub mod Held
+pub mod CallRun
 pub mod RuleSet
 pub mod StandsFor
 pub mod Block

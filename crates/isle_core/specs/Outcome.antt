@@ -1,9 +1,8 @@
 -- What the rules of a term prescribe.
 use Rattle.std.specs.Prelude.{◌≡◌, ◌<ℤ◌, ◌⊎◌, List, [], Option, Some, None, Bool, true, false, Contains, option_and_then}
-use Rattle.isle_core.specs.declared.types.TermKind.{TermKind}
-use Rattle.isle_core.specs.declared.types.TermKind.TheVariants as kind
 use Rattle.isle_core.specs.Value.{Value, Made}
 use Rattle.isle_core.specs.Meaning.{Meaning}
+pub use Rattle.isle_core.specs.Calling.{is_partial}
 use Rattle.isle_core.specs.Match.{Names, no_names, matches_all}
 use Rattle.isle_core.specs.Eval.{Evaluated, Answered, Failed, evaluated, iflets_names}
 use Rattle.isle_core.specs.Rule.{Environment, Rule}
@@ -32,12 +31,6 @@ pub record IsHighest (env : Environment) (m : Meaning) (args : List Value) (rule
   pub among : Contains rules r
   pub matched : rule_names env m args r ≡ Some names
   pub above : (q : Rule) (others : Names) → Contains rules q → rule_names env m args q ≡ Some others → (q ≡ r) ⊎ (q.prio <ℤ r.prio)
-
--- a term that may answer nothing
-abbrev pub is_partial : TermKind → Bool
-is_partial (kind.Variant ty variant) = false
-is_partial (kind.Struct ty) = false
-is_partial (kind.Decl pure multi partial recursive constructor extractor) = partial
 
 -- where no rule matches
 abbrev pub unmatched : Bool → Result

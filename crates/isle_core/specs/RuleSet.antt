@@ -1,4 +1,4 @@
--- What a rule set means: the highest rule that holds gives its result.
+-- What a rule set means: the highest rule that holds makes its calls in order and gives its result.
 use Rattle.std.specs.Prelude.{List, [], ◌∷◌, ◌++◌, Bool, Option, Some, None, if◌then◌else◌, map}
 use Rattle.std.specs.Ordering.{int_cmp, is_lt}
 use Rattle.isle_base.specs.declared.ids.BindingId.{BindingId}
@@ -6,10 +6,11 @@ use Rattle.isle_core.specs.declared.rule_sets.Constraint.{Constraint}
 use Rattle.isle_core.specs.declared.rule_sets.FlatRule.{FlatRule}
 use Rattle.isle_core.specs.Value.{Value}
 use Rattle.isle_core.specs.Meaning.{Meaning}
-use Rattle.isle_core.specs.Outcome.{Result, Value', Failure, Prescription, unmatched}
+use Rattle.isle_core.specs.Outcome.{Prescription, unmatched}
 use Rattle.isle_core.specs.Path.{Path, at}
 use Rattle.isle_core.specs.Tests.{Test, Is, Equal}
-use Rattle.isle_core.specs.Held.{Held, Absent, One, nothing_known, value_at, all_hold}
+use Rattle.isle_core.specs.Held.{nothing_known, value_at, all_hold}
+use Rattle.isle_core.specs.CallRun.{Went, Goes, Ends, then_go, returns, run_calls}
 use Rattle.isle_core.specs.Rule.{Environment}
 
 -- a constraint of a binding, as a test of its path
@@ -28,14 +29,14 @@ flat_tests ps f = map (is_test ps) f.constraints ++ map (equal_test ps) f.equals
 abbrev pub flat_holds : Environment → Meaning → List Value → List Path → FlatRule → Bool
 flat_holds env m args ps f = all_hold env (value_at env m args nothing_known) (flat_tests ps f)
 
--- what stands at a result's path
-abbrev pub result_of : Held → Result
-result_of Absent = Failure
-result_of (One v) = Value' v
+-- what a run gives; one that goes on behind the last step matched nothing
+abbrev pub gave : Bool → Went → Prescription
+gave partial (Goes known made) = record { result = unmatched partial; calls = made }
+gave partial (Ends o) = o
 
--- what a flat rule gives; no call of a right side is built
-abbrev pub flat_gives : Environment → Meaning → List Value → List Path → FlatRule → Prescription
-flat_gives env m args ps f = record { result = result_of (value_at env m args nothing_known (at ps f.result)); calls = [] }
+-- the ordered calls of a flat rule, a failure ending them, then its result
+abbrev pub flat_run : Environment → Meaning → List Value → List Path → FlatRule → Went
+flat_run env m args ps f = then_go (run_calls env m args (map (at ps) f.ordered) nothing_known []) (returns env m args (at ps f.result))
 
 -- the higher of a rule and another behind it
 abbrev pub higher : FlatRule → Option FlatRule → FlatRule
@@ -50,7 +51,7 @@ highest ok (f ∷ fs) = if ok f then Some (higher f (highest ok fs)) else highes
 -- what a rule gives, or that none holds
 abbrev pub given : Environment → Meaning → List Value → List Path → Bool → Option FlatRule → Prescription
 given env m args ps partial None = record { result = unmatched partial; calls = [] }
-given env m args ps partial (Some f) = flat_gives env m args ps f
+given env m args ps partial (Some f) = gave partial (flat_run env m args ps f)
 
 -- what the rules of a set give whose bindings have these paths
 abbrev pub set_outcome : Environment → Meaning → List Value → List Path → List FlatRule → Bool → Prescription

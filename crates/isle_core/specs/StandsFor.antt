@@ -1,11 +1,12 @@
 -- When a rule set stands for rules.
-use Rattle.std.specs.Prelude.{◌≡◌, ◌↔◌, ◌⊎◌, List, [], ◌∷◌, ◌++◌, Contains}
+use Rattle.std.specs.Prelude.{◌≡◌, ◌↔◌, ◌⊎◌, ℕ, ◌+◌, List, [], ◌∷◌, ◌++◌, Contains, map}
 use Rattle.isle_core.specs.declared.rule_sets.FlatRule.{FlatRule}
 use Rattle.isle_core.specs.declared.rule_sets.RuleSet.{RuleSet}
 use Rattle.isle_core.specs.Path.{Path, at, paths_of}
-use Rattle.isle_core.specs.Tests.{Test, Is, Equal, rule_tests, rule_result, rule_paths}
+use Rattle.isle_core.specs.Tests.{Test, Is, Equal, rule_tests, rule_calls, rule_result, rule_paths}
+use Rattle.isle_core.specs.Calling.{impure}
 use Rattle.isle_core.specs.RuleSet.{flat_tests}
-use Rattle.isle_core.specs.Rule.{Rule}
+use Rattle.isle_core.specs.Rule.{Environment, Rule}
 
 -- no item stands twice
 abbrev pub EachOnce : {A : Type 0} → List A → Type 0
@@ -17,32 +18,38 @@ abbrev pub IsTrivial : Test → Type 0
 IsTrivial (Is p c) = ⊥
 IsTrivial (Equal p q) = p ≡ q
 
--- a flat rule has the rule's tests but the trivial ones, each once, its priority, its position, and its result; no call
--- of a right side and no choice is built
-pub record IsFlat (ps : List Path) (r : Rule) (f : FlatRule) : Type 0 where
+-- the firsts of items behind those seen: each where it stands first
+pub data AreFirsts {A : Type 0} : List A → List A → List A → Type 0 where
+  no_more : (seen : List A) → AreFirsts seen [] []
+  again : (seen : List A) (x : A) (xs ys : List A) → Contains seen x → AreFirsts seen xs ys → AreFirsts seen (x ∷ xs) ys
+  first : (seen : List A) (x : A) (xs ys : List A) → (Contains seen x → ⊥) → AreFirsts (x ∷ seen) xs ys → AreFirsts seen (x ∷ xs) (x ∷ ys)
+
+-- a flat rule has the rule's tests but the trivial ones, each once, its priority, its position, its calls in order, each
+-- once, and its result, behind n impure calls of the rules before; no choice is built
+pub record IsFlat (env : Environment) (ps : List Path) (r : Rule) (n : ℕ) (f : FlatRule) : Type 0 where
   pub tested : (t : Test) → Contains (rule_tests r) t → Contains (flat_tests ps f) t ⊎ IsTrivial t
   pub no_other : (t : Test) → Contains (flat_tests ps f) t → Contains (rule_tests r) t × (IsTrivial t → ⊥)
   pub once : EachOnce (flat_tests ps f)
   pub prio : f.prio ≡ r.prio
   pub pos : f.pos ≡ r.pos
   pub iterators : f.iterators ≡ []
-  pub ordered : f.ordered ≡ []
-  pub result : at ps f.result ≡ rule_result r
+  pub ordered : AreFirsts [] (rule_calls env r n) (map (at ps) f.ordered)
+  pub result : at ps f.result ≡ rule_result env r n
 
--- rule by rule, in order
-abbrev pub AreFlat : List Path → List Rule → List FlatRule → Type 0
-AreFlat ps [] [] = Unit {0}
-AreFlat ps (r ∷ rs) (f ∷ fs) = IsFlat ps r f × AreFlat ps rs fs
-AreFlat ps [] (f ∷ fs) = ⊥
-AreFlat ps (r ∷ rs) [] = ⊥
+-- rule by rule, in order; the impure calls are numbered through all rules
+abbrev pub AreFlat : Environment → List Path → List Rule → ℕ → List FlatRule → Type 0
+AreFlat env ps [] n [] = Unit {0}
+AreFlat env ps (r ∷ rs) n (f ∷ fs) = IsFlat env ps r n f × AreFlat env ps rs (n + impure env r.rhs) fs
+AreFlat env ps [] n (f ∷ fs) = ⊥
+AreFlat env ps (r ∷ rs) n [] = ⊥
 
--- the paths of rules
-abbrev pub rules_paths : List Rule → List Path
-rules_paths [] = []
-rules_paths (r ∷ rs) = rule_paths r ++ rules_paths rs
+-- the paths of rules behind n impure calls
+abbrev pub rules_paths : Environment → List Rule → ℕ → List Path
+rules_paths env [] n = []
+rules_paths env (r ∷ rs) n = rule_paths env r n ++ rules_paths env rs (n + impure env r.rhs)
 
 -- the bindings are the paths of the rules, each once, and the flat rules are the rules
-pub record StandsFor (s : RuleSet) (rules : List Rule) : Type 0 where
+pub record StandsFor (env : Environment) (s : RuleSet) (rules : List Rule) : Type 0 where
   pub once : EachOnce (paths_of s.bindings)
-  pub paths : (p : Path) → Contains (paths_of s.bindings) p ↔ Contains (rules_paths rules) p
-  pub flat : AreFlat (paths_of s.bindings) rules s.rules
+  pub paths : (p : Path) → Contains (paths_of s.bindings) p ↔ Contains (rules_paths env rules 0) p
+  pub flat : AreFlat env (paths_of s.bindings) rules 0 s.rules
