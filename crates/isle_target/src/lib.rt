@@ -8,6 +8,7 @@ mod fits;
 mod fixed;
 mod forms;
 mod function;
+mod holds;
 mod identifier;
 mod literal;
 mod names;
