@@ -5,6 +5,6 @@ pub mod SameValueLaws
 pub mod Contained
 pub mod OutcomeOf
 pub mod PatternTests
-pub mod SetMeans
+pub mod NotTrivial
 pub mod SeesRules
 pub mod SeesBlocks
