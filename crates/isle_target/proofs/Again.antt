@@ -9,21 +9,26 @@ use Rattle.isle_target.specs.Fixed.{allow_tokens, uses_tokens, fixed_tokens}
 use Rattle.isle_ink.specs.Number.{numeral}
 use Rattle.isle_ink.specs.Bytes.{same_bytes}
 use Rattle.isle_core.specs.Int.{wrapped}
-use Rattle.isle_target.proofs.Words.{literal_apart}
+use Rattle.isle_target.proofs.Words.{literal_apart, literal_calls_none}
 use Rattle.isle_ink.proofs.Readback.{numeral_again}
+use Rattle.isle_core.specs.declared.values.Callee.{Callee}
+use Rattle.isle_core.specs.declared.values.Callee.TheVariants as callee
 use Rattle.isle_core.specs.declared.types.ReturnKind.{ReturnKind}
 use Rattle.isle_core.specs.declared.types.ReturnKind.TheVariants as kind
 use Rattle.isle_target.specs.declared.tree.Ty.{Ty}
 use Rattle.isle_target.specs.declared.tree.TraitFn.{TraitFn}
 use Rattle.isle_target.specs.declared.tree.Operand.{Operand}
 use Rattle.isle_target.specs.declared.tree.Operand.TheVariants as operand
+use Rattle.isle_target.specs.declared.tree.Read.{Read}
 use Rattle.isle_target.specs.declared.tree.Read.TheVariants as read
+use Rattle.isle_target.specs.declared.tree.TCall.{TCall}
 use Rattle.isle_target.specs.declared.tree.TExpr.{TExpr}
 use Rattle.isle_target.specs.declared.tree.TExpr.TheVariants as expr
-use Rattle.isle_target.specs.Spelling.{operand_tokens, expr_tokens, stmt_tokens, body_tokens, constructor_word, no_rule, params_tokens, result_tokens, if_eq_head, function_head, function_tokens, functions_tokens, allow_part, trait_head, close, program_tokens, comma, typed_tokens, joined_tokens, results_tokens, trait_fn_head, trait_result, trait_fn_tokens, trait_fns_tokens, trait_tokens}
+use Rattle.isle_target.specs.Literal.{literal_tokens}
+use Rattle.isle_target.specs.Spelling.{operand_tokens, call_head, args_tokens, call_tokens, expr_tokens, stmt_tokens, body_tokens, constructor_word, no_rule, params_tokens, result_tokens, if_eq_head, function_head, function_tokens, functions_tokens, allow_part, trait_head, close, program_tokens, comma, typed_tokens, joined_tokens, results_tokens, trait_fn_head, trait_result, trait_fn_tokens, trait_fns_tokens, trait_tokens}
 use Rattle.isle_target.specs.Program.{Stmt, Let, IfEq, Return, Tail, Body, Done, Then, Function, Program}
-use Rattle.isle_target.specs.WellFormed.{IsOperand, IsExpr, IsStmt, IsBody, IsBuiltin, IsTy, IsKind, AreResults, IsTraitFn, IsTypeItem, IsFunction, IsWellFormed}
-use Rattle.isle_target.specs.Reading.{same_token, phrase, at, read_expr, read_stmt, read_body, read_params, read_result, read_function, read_functions, read_joined, read_trait_fn, read_trait_fns, read_trait, read_items, read_program, program_of, SpellsOnly}
+use Rattle.isle_target.specs.WellFormed.{IsOperand, IsRead, IsCallee, IsExpr, IsStmt, IsBody, IsBuiltin, IsTy, IsKind, AreResults, IsTraitFn, IsTypeItem, IsFunction, IsWellFormed}
+use Rattle.isle_target.specs.Reading.{same_token, phrase, at, read_args, read_expr, read_stmt, read_body, read_params, read_result, read_function, read_functions, read_joined, read_trait_fn, read_trait_fns, read_trait, read_items, read_program, program_of, SpellsOnly}
 use Rattle.isle_target.proofs.Words.{operand_again}
 
 -- whether a token is none of those that no program has
@@ -77,11 +82,55 @@ operand_apart (operand.Int ty z) ts h = literal_apart ty (wrapped ty z) ts
 operand_apart (operand.Raw z) ts h = absurd h
 operand_apart (operand.Name w) ts h = absurd h
 
--- what is computed is read again
-pub expr_again : (e : TExpr) (ts : List Token) → IsExpr e → read_expr (expr_tokens e ++ ts) ≡ Some (e, ts)
+-- nor as a call
+operand_calls_none : (o : Operand) (ts : List Token) → IsOperand o → phrase (Word (codes "C") ∷ Mark (codes "::") ∷ []) (operand_tokens o ++ ts) ≡ None
+operand_calls_none (operand.Local n) ts h = refl
+operand_calls_none (operand.Arg n) ts h = refl
+operand_calls_none (operand.Bool true) ts h = refl
+operand_calls_none (operand.Bool false) ts h = refl
+operand_calls_none (operand.Int ty z) ts h = begins_none (literal_tokens ty (wrapped ty z) ++ ts) (literal_calls_none ty (wrapped ty z) ts)
+  where
+    begins_none : (us : List Token) → at (Word (codes "C")) us ≡ false → phrase (Word (codes "C") ∷ Mark (codes "::") ∷ []) us ≡ None
+    begins_none [] e = refl
+    begins_none (u ∷ us) e = rw e refl
+operand_calls_none (operand.Raw z) ts h = absurd h
+operand_calls_none (operand.Name w) ts h = absurd h
+
+-- the arguments of a call are read again
+args_again : (n : ℕ) (rs : List Read) (ts : List Token) → AllByRecursion IsRead rs → length (args_tokens rs) ≤ n → read_args n (args_tokens rs ++ ts) ≡ Some (rs, ts)
+unfolding read_args
+args_again zero [] ts h le = absurd (omega (arith, le))
+args_again zero (r ∷ rs) ts h le = absurd (omega (arith, le))
+args_again (suc n) [] ts h le = refl
+args_again (suc n) (read.Plain o ∷ rs) ts h le =
+    let l = length-append (operand_tokens o) (args_tokens rs) in
+    rw (append_assoc (operand_tokens o) (args_tokens rs) ts, operand_again o (args_tokens rs ++ ts) h.0, args_again n rs ts h.1 (omega (arith, l, le))) refl
+args_again (suc n) (read.Borrow o ∷ rs) ts h le = absurd h.0
+args_again (suc n) (read.Clone o ∷ rs) ts h le = absurd h.0
+
+-- a call is read again
+call_again : (to : Callee) (rs : List Read) (ts : List Token) → IsCallee to → AllByRecursion IsRead rs → read_expr (call_tokens to rs ++ ts) ≡ Some (expr.Call false (record { callee = to; args = rs }), ts)
 unfolding read_expr
-expr_again (expr.Read (read.Plain o)) ts h = rw (operand_apart o ts h, operand_again o ts h) refl
-expr_again (expr.Some (read.Plain o)) ts h = rw (append_assoc (operand_tokens o) (Mark (codes ")") ∷ []) ts, operand_again o (Mark (codes ")") ∷ ts) h) refl
+call_again (callee.External name) rs ts k h =
+    let long : length (args_tokens rs) ≤ length (args_tokens rs ++ ts) = omega (arith, length-append (args_tokens rs) ts) in
+    rw (args_again (length (args_tokens rs ++ ts)) rs ts h long) refl
+call_again (callee.Internal term) rs ts k h = absurd k
+
+-- what is computed is read again, up to the ; behind it
+pub expr_again : (e : TExpr) (ts : List Token) → IsExpr e → read_expr (expr_tokens e ++ Mark (codes ";") ∷ ts) ≡ Some (e, Mark (codes ";") ∷ ts)
+unfolding read_expr
+expr_again (expr.Read (read.Plain o)) ts h =
+    let after = Mark (codes ";") ∷ ts in
+    rw (operand_apart o after h, operand_calls_none o after h, operand_again o after h) refl
+expr_again (expr.Call false call) ts h = call_again call.callee call.args (Mark (codes ";") ∷ ts) h.1.callee h.1.args
+expr_again (expr.Call true call) ts h = absurd cc
+expr_again (expr.Some (read.Plain o)) ts h =
+    let after = Mark (codes ";") ∷ ts in
+    rw (append_assoc (operand_tokens o) (Mark (codes ")") ∷ []) after, operand_again o (Mark (codes ")") ∷ after) h) refl
+expr_again (expr.Try o false) ts h =
+    let after = Mark (codes "?") ∷ Mark (codes ";") ∷ ts in
+    rw (append_assoc (operand_tokens o) (Mark (codes "?") ∷ []) (Mark (codes ";") ∷ ts), operand_apart o after h.1, operand_calls_none o after h.1, operand_again o after h.1) refl
+expr_again (expr.Try o true) ts h = absurd cc
 expr_again e ts h = absurd h
 
 -- a statement begins with a word that ends no body, and has a token
@@ -106,13 +155,13 @@ mutual
 
   -- a statement is read again
   pub stmt_again : (s : Stmt) (n : ℕ) (ts : List Token) → IsStmt s → length (stmt_tokens s) ≤ n → read_stmt (read_body n) (stmt_tokens s ++ ts) ≡ Some (s, ts)
-  stmt_again (Let k e) n ts h le = rw (append_assoc (expr_tokens e) (Mark (codes ";") ∷ []) ts, numeral_again 10 k (omega arith) (omega arith), expr_again e (Mark (codes ";") ∷ ts) h) refl
+  stmt_again (Let k e) n ts h le = rw (append_assoc (expr_tokens e) (Mark (codes ";") ∷ []) ts, numeral_again 10 k (omega arith) (omega arith), expr_again e ts h) refl
   stmt_again (IfEq a b inside) n ts h le =
       let after = body_tokens inside ++ (close ++ ts) in
       let flat : (if_eq_head a b ++ (body_tokens inside ++ close)) ++ ts ≡ Word (codes "if") ∷ (operand_tokens a ++ Mark (codes "==") ∷ (operand_tokens b ++ Mark (codes "{") ∷ after)) = simp append_assoc in
       let fuel : length (body_tokens inside) < n = omega (arith, le, length-append (if_eq_head a b) (body_tokens inside ++ close), length-append (body_tokens inside) close) in
       rw (flat, operand_again a (Mark (codes "==") ∷ (operand_tokens b ++ Mark (codes "{") ∷ after)) h.0, operand_again b (Mark (codes "{") ∷ after) h.1, body_again inside n ts h.2 fuel) refl
-  stmt_again (Return e) n ts h le = rw (append_assoc (expr_tokens e) (Mark (codes ";") ∷ []) ts, expr_again e (Mark (codes ";") ∷ ts) h) refl
+  stmt_again (Return e) n ts h le = rw (append_assoc (expr_tokens e) (Mark (codes ";") ∷ []) ts, expr_again e ts h) refl
   stmt_again (Tail None) n ts h le = refl
   stmt_again (Tail (Some texts)) n ts h le = refl
   stmt_again s n ts h le = absurd h
@@ -184,7 +233,7 @@ functions_again p (suc n) (f ∷ fs) h le =
 
 -- parameters are read again
 joined_again : (k n : ℕ) (tys : List Ty) (ts : List Token) → AllByRecursion IsTy tys → length tys < k → read_joined k n (joined_tokens n tys ++ ts) ≡ Some (tys, ts)
-unfolding read_joined
+unfolding read_joined numeral
 joined_again zero n tys ts h lt = absurd (omega arith)
 joined_again (suc k) n [] ts h lt = refl
 joined_again (suc k) zero (ty ∷ tys) ts h lt =

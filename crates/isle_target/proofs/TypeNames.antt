@@ -1,5 +1,5 @@
 -- The names of types and of functions are words.
-use Rattle.std.proofs.Common.{◌≡◌, ℕ, List, [], ◌∷◌, Bool, true, false, cond, Option, Some, None, refl, ap, subst}
+use Rattle.std.proofs.Common.{◌≡◌, ℕ, List, [], ◌∷◌, Bool, true, false, cond, Option, Some, None, get_or, refl, sym, ap, subst}
 use Rattle.std.specs.Prelude.{codes, is_some, ◌||◌, ◌&&◌, eqb}
 use Rattle.std.specs.Str.{bytes_eq}
 use Rattle.isle_core.specs.declared.types.IntType.{IntType}
@@ -11,7 +11,7 @@ use Rattle.isle_ink.proofs.Numerals.{list_all-join}
 use Rattle.isle_target.specs.Identifier.{IsIdentifier}
 use Rattle.isle_target.specs.Literal.{type_named}
 use Rattle.isle_target.specs.Spelling.{constructor_word}
-use Rattle.isle_target.specs.WellFormed.{IsBuiltin, IsTermName}
+use Rattle.isle_target.specs.WellFormed.{IsBuiltin, AreResults, IsTermName}
 
 -- the name is this one, or the next ones decide
 is_this : (b : Bool) (v w : List ℕ) → same_bytes v w ≡ b → is_word v ≡ true → (b ≡ false → is_word w ≡ true) → is_word w ≡ true
@@ -42,6 +42,12 @@ pub builtin_is_word : (name : List ℕ) → IsBuiltin name → is_word name ≡ 
 builtin_is_word name h =
     is_this (same_bytes (codes "bool") name) (codes "bool") name refl refl
     (λ e. type_is_word name (subst (λ b. (b || is_some (type_named name)) ≡ true) e h))
+
+-- the one result
+pub only_builtin : (names : List (List ℕ)) (name : List ℕ) → AreResults names → name ≡ get_or names 0 name → IsBuiltin name
+only_builtin [] name h is = absurd h
+only_builtin (n ∷ []) name h is = subst IsBuiltin (sym is) h
+only_builtin (n ∷ m ∷ names) name h is = absurd h
 
 -- the function of a term
 pub constructor_is_word : (term : List ℕ) → IsTermName term → is_word (constructor_word term) ≡ true

@@ -7,4 +7,5 @@ pub mod Spelling
 pub mod WellFormed
 pub mod Reading
 pub mod Bound
+pub mod Callees
 pub mod Run

@@ -3,6 +3,7 @@ use Rattle.std.specs.Prelude.{◌≡◌, ℕ, zero, suc, ◌+◌, ℤ, pos, negs
 use Rattle.std.specs.Ordering.{int_eq}
 use Rattle.isle_core.specs.Int.{wrapped}
 use Rattle.isle_core.specs.declared.types.IntType.{IntType}
+use Rattle.isle_core.specs.declared.values.Callee.TheVariants as callee
 use Rattle.isle_core.specs.declared.types.ReturnKind.{ReturnKind}
 use Rattle.isle_core.specs.declared.types.ReturnKind.TheVariants as kind
 use Rattle.isle_ink.specs.Token.{Token, Word, Mark, Quoted, tokens_of}
@@ -12,6 +13,7 @@ use Rattle.isle_target.specs.declared.tree.Ty.{Ty}
 use Rattle.isle_target.specs.declared.tree.TraitFn.{TraitFn}
 use Rattle.isle_target.specs.declared.tree.Operand.{Operand}
 use Rattle.isle_target.specs.declared.tree.Operand.TheVariants as operand
+use Rattle.isle_target.specs.declared.tree.Read.{Read}
 use Rattle.isle_target.specs.declared.tree.Read.TheVariants as read
 use Rattle.isle_target.specs.declared.tree.TExpr.{TExpr}
 use Rattle.isle_target.specs.declared.tree.TExpr.TheVariants as expr
@@ -139,11 +141,15 @@ read_negative ts = do
 unfoldable pub read_operand : List Token → Reads Operand
 read_operand ts = if at (Mark (codes "-")) ts then read_negative (rest ts) else read_word ts
 
--- a read operand
+-- what an operand computes, or the ? behind it
+abbrev pub tried : Operand → List Token → TExpr × List Token
+tried o ts = if at (Mark (codes "?")) ts then (expr.Try o false, rest ts) else (expr.Read (read.Plain o), ts)
+
+-- a read operand, or the inner value of one
 abbrev pub read_plain : List Token → Reads TExpr
 read_plain ts = do
   o ← read_operand ts
-  Some (expr.Read (read.Plain o.0), o.1)
+  Some (tried o.0 o.1)
 
 -- an option of a read operand
 abbrev pub read_some : List Token → Reads TExpr
@@ -153,9 +159,37 @@ read_some ts = do
   ts2 ← behind (Mark (codes ")")) o.1
   Some (expr.Some (read.Plain o.0), ts2)
 
+-- one argument more, given how to read those behind it
+abbrev pub read_arg : (List Token → Reads (List Read)) → List Token → Reads (List Read)
+read_arg args ts = do
+  ts1 ← behind (Mark (codes ",")) ts
+  o ← read_operand ts1
+  more ← args o.1
+  Some (read.Plain o.0 ∷ more.0, more.1)
+
+-- the arguments behind the context, and the ) behind them, at most so many
+unfoldable pub read_args : ℕ → List Token → Reads (List Read)
+read_args zero ts = None
+read_args (suc n) ts = if at (Mark (codes ")")) ts then Some ([], rest ts) else read_arg (read_args n) ts
+
+-- a call, from the name of what is called on
+abbrev pub read_call : List Token → Reads TExpr
+read_call ts = do
+  name ← any_word ts
+  ts1 ← phrase (Mark (codes "(") ∷ Word (codes "ctx") ∷ []) name.1
+  args ← read_args (length ts1) ts1
+  Some (expr.Call false (record { callee = callee.External name.0; args = args.0 }), args.1)
+
+-- a call behind C::, and else an operand with what is behind it
+abbrev pub read_called : Option (List Token) → List Token → Reads TExpr
+read_called None ts = read_plain ts
+read_called (Some call) ts = read_call call
+
 -- what a let or a return computes
 unfoldable pub read_expr : List Token → Reads TExpr
-read_expr ts = if at (Word (codes "Some")) ts then read_some (rest ts) else read_plain ts
+read_expr ts =
+    if at (Word (codes "Some")) ts then read_some (rest ts)
+    else read_called (phrase (Word (codes "C") ∷ Mark (codes "::") ∷ []) ts) ts
 
 -- ---- statements, from behind their first word on, given how to read a body
 

@@ -1,6 +1,8 @@
 -- The tokens of a program. A form that is not built has none.
 use Rattle.std.specs.Prelude.{ℕ, zero, suc, ◌+◌, List, [], ◌∷◌, ◌++◌, Bool, true, false, Option, Some, None, codes}
 use Rattle.isle_core.specs.Int.{wrapped}
+use Rattle.isle_core.specs.declared.values.Callee.{Callee}
+use Rattle.isle_core.specs.declared.values.Callee.TheVariants as callee
 use Rattle.isle_core.specs.declared.types.ReturnKind.{ReturnKind}
 use Rattle.isle_core.specs.declared.types.ReturnKind.TheVariants as kind
 use Rattle.isle_ink.specs.Token.{Token, Word, Mark, Quoted}
@@ -45,9 +47,25 @@ abbrev pub read_tokens : Read → List Token
 read_tokens (read.Plain o) = operand_tokens o
 read_tokens r = []
 
+-- C::F(ctx
+abbrev pub call_head : List ℕ → List Token
+call_head name = Word (codes "C") ∷ Mark (codes "::") ∷ Word name ∷ Mark (codes "(") ∷ Word (codes "ctx") ∷ []
+
+-- the arguments of a call, each behind a comma, and what closes them
+abbrev pub args_tokens : List Read → List Token
+args_tokens [] = Mark (codes ")") ∷ []
+args_tokens (r ∷ rs) = Mark (codes ",") ∷ (read_tokens r ++ args_tokens rs)
+
+-- a call of a function of the trait
+abbrev pub call_tokens : Callee → List Read → List Token
+call_tokens (callee.External name) args = call_head name ++ args_tokens args
+call_tokens (callee.Internal term) args = []
+
 -- what a let or a return computes
 abbrev pub expr_tokens : TExpr → List Token
 expr_tokens (expr.Read r) = read_tokens r
+expr_tokens (expr.Call false call) = call_tokens call.callee call.args
+expr_tokens (expr.Try source false) = operand_tokens source ++ Mark (codes "?") ∷ []
 expr_tokens (expr.Some r) = Word (codes "Some") ∷ Mark (codes "(") ∷ (read_tokens r ++ Mark (codes ")") ∷ [])
 expr_tokens e = []
 

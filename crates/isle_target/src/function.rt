@@ -4,7 +4,7 @@ ghost use Rattle.std.specs.Prelude.{◌≡◌, ◌++◌, [], ◌∷◌, OnOk};
 ghost use Rattle.std.specs.List.{AllByRecursion};
 ghost use Rattle.isle_ink.specs.Token.{Word};
 ghost use Rattle.isle_target.specs.Views.{function, body};
-ghost use Rattle.isle_target.specs.WellFormed.{IsTermName, IsBuiltin, IsTy, HasNames};
+ghost use Rattle.isle_target.specs.WellFormed.{IsTermName, IsBuiltin, IsTy, IsBody, HasNames};
 ghost use Rattle.isle_target.specs.Spelling.{constructor_word, generics, context_param, function_head, typed_tokens, param_tokens, params_tokens, result_tokens, result_part, function_tokens};
 
 use crate::statement::print_body;
@@ -127,7 +127,8 @@ fn print_arrow(out: &mut Printer, kind: ReturnKind, ty: &str) -> Result<(), Allo
 
 /// Prints the function of a term behind a line of its own. What is printed after an error is left open.
 pub fn print_function(out: &mut Printer, alloc: Global, f: &Function) -> Result<(), AllocError>
-    requires { HasNames (function f.now) }
+    requires names { HasNames (function f.now) }
+    requires forms { IsBody (body f.now.body) }
     ensures { OnOk result (out.new ≡ out.old ++ function_tokens (function f.now)) }
 {
     out.line()?;

@@ -2,12 +2,16 @@
 #![tactic(auto)]
 
 mod bound;
+mod call;
+mod callees;
 mod context;
 mod distinct;
+mod entry;
 mod fits;
 mod fixed;
 mod forms;
 mod function;
+mod held;
 mod holds;
 mod identifier;
 mod literal;
@@ -26,6 +30,7 @@ mod tree;
 
 pub use bound::Bound;
 pub use forms::well_formed;
+pub use holds::Holds;
 pub use literal::{rust_int_literal, type_name};
 pub use print::print_program;
 pub use tree::{
