@@ -9,20 +9,26 @@ use Rattle.isle_target.specs.Fixed.{allow_tokens, uses_tokens, fixed_tokens}
 use Rattle.isle_ink.specs.Number.{numeral}
 use Rattle.isle_ink.specs.Bytes.{same_bytes}
 use Rattle.isle_core.specs.Int.{wrapped}
-use Rattle.isle_target.proofs.Words.{literal_apart}
+use Rattle.isle_target.proofs.Words.{literal_apart, literal_calls_none}
 use Rattle.isle_ink.proofs.Readback.{numeral_again}
+use Rattle.isle_core.specs.declared.values.Callee.{Callee}
+use Rattle.isle_core.specs.declared.values.Callee.TheVariants as callee
 use Rattle.isle_core.specs.declared.types.ReturnKind.{ReturnKind}
 use Rattle.isle_core.specs.declared.types.ReturnKind.TheVariants as kind
 use Rattle.isle_target.specs.declared.tree.Ty.{Ty}
+use Rattle.isle_target.specs.declared.tree.TraitFn.{TraitFn}
 use Rattle.isle_target.specs.declared.tree.Operand.{Operand}
 use Rattle.isle_target.specs.declared.tree.Operand.TheVariants as operand
+use Rattle.isle_target.specs.declared.tree.Read.{Read}
 use Rattle.isle_target.specs.declared.tree.Read.TheVariants as read
+use Rattle.isle_target.specs.declared.tree.TCall.{TCall}
 use Rattle.isle_target.specs.declared.tree.TExpr.{TExpr}
 use Rattle.isle_target.specs.declared.tree.TExpr.TheVariants as expr
-use Rattle.isle_target.specs.Spelling.{operand_tokens, expr_tokens, stmt_tokens, body_tokens, constructor_word, no_rule, params_tokens, result_tokens, if_eq_head, function_head, function_tokens, functions_tokens, allow_part, trait_head, close, program_tokens}
+use Rattle.isle_target.specs.Literal.{literal_tokens}
+use Rattle.isle_target.specs.Spelling.{operand_tokens, call_head, args_tokens, call_tokens, expr_tokens, stmt_tokens, body_tokens, constructor_word, no_rule, params_tokens, result_tokens, if_eq_head, function_head, function_tokens, functions_tokens, allow_part, trait_head, close, program_tokens, comma, typed_tokens, joined_tokens, results_tokens, trait_fn_head, trait_result, trait_fn_tokens, trait_fns_tokens, trait_tokens}
 use Rattle.isle_target.specs.Program.{Stmt, Let, IfEq, Return, Tail, Body, Done, Then, Function, Program}
-use Rattle.isle_target.specs.WellFormed.{IsOperand, IsExpr, IsStmt, IsBody, IsBuiltin, IsTy, IsKind, IsTraitFn, IsTypeItem, IsFunction, IsWellFormed}
-use Rattle.isle_target.specs.Reading.{same_token, phrase, at, read_expr, read_stmt, read_body, read_params, read_result, read_function, read_functions, read_items, read_program, program_of, SpellsOnly}
+use Rattle.isle_target.specs.WellFormed.{IsOperand, IsRead, IsCallee, IsExpr, IsStmt, IsBody, IsBuiltin, IsTy, IsKind, AreResults, IsTraitFn, IsTypeItem, IsFunction, IsWellFormed}
+use Rattle.isle_target.specs.Reading.{same_token, phrase, at, read_args, read_expr, read_stmt, read_body, read_params, read_result, read_function, read_functions, read_joined, read_trait_fn, read_trait_fns, read_trait, read_items, read_program, program_of, SpellsOnly}
 use Rattle.isle_target.proofs.Words.{operand_again}
 
 -- whether a token is none of those that no program has
@@ -76,11 +82,55 @@ operand_apart (operand.Int ty z) ts h = literal_apart ty (wrapped ty z) ts
 operand_apart (operand.Raw z) ts h = absurd h
 operand_apart (operand.Name w) ts h = absurd h
 
--- what is computed is read again
-pub expr_again : (e : TExpr) (ts : List Token) → IsExpr e → read_expr (expr_tokens e ++ ts) ≡ Some (e, ts)
+-- nor as a call
+operand_calls_none : (o : Operand) (ts : List Token) → IsOperand o → phrase (Word (codes "C") ∷ Mark (codes "::") ∷ []) (operand_tokens o ++ ts) ≡ None
+operand_calls_none (operand.Local n) ts h = refl
+operand_calls_none (operand.Arg n) ts h = refl
+operand_calls_none (operand.Bool true) ts h = refl
+operand_calls_none (operand.Bool false) ts h = refl
+operand_calls_none (operand.Int ty z) ts h = begins_none (literal_tokens ty (wrapped ty z) ++ ts) (literal_calls_none ty (wrapped ty z) ts)
+  where
+    begins_none : (us : List Token) → at (Word (codes "C")) us ≡ false → phrase (Word (codes "C") ∷ Mark (codes "::") ∷ []) us ≡ None
+    begins_none [] e = refl
+    begins_none (u ∷ us) e = rw e refl
+operand_calls_none (operand.Raw z) ts h = absurd h
+operand_calls_none (operand.Name w) ts h = absurd h
+
+-- the arguments of a call are read again
+args_again : (n : ℕ) (rs : List Read) (ts : List Token) → AllByRecursion IsRead rs → length (args_tokens rs) ≤ n → read_args n (args_tokens rs ++ ts) ≡ Some (rs, ts)
+unfolding read_args
+args_again zero [] ts h le = absurd (omega (arith, le))
+args_again zero (r ∷ rs) ts h le = absurd (omega (arith, le))
+args_again (suc n) [] ts h le = refl
+args_again (suc n) (read.Plain o ∷ rs) ts h le =
+    let l = length-append (operand_tokens o) (args_tokens rs) in
+    rw (append_assoc (operand_tokens o) (args_tokens rs) ts, operand_again o (args_tokens rs ++ ts) h.0, args_again n rs ts h.1 (omega (arith, l, le))) refl
+args_again (suc n) (read.Borrow o ∷ rs) ts h le = absurd h.0
+args_again (suc n) (read.Clone o ∷ rs) ts h le = absurd h.0
+
+-- a call is read again
+call_again : (to : Callee) (rs : List Read) (ts : List Token) → IsCallee to → AllByRecursion IsRead rs → read_expr (call_tokens to rs ++ ts) ≡ Some (expr.Call false (record { callee = to; args = rs }), ts)
 unfolding read_expr
-expr_again (expr.Read (read.Plain o)) ts h = rw (operand_apart o ts h, operand_again o ts h) refl
-expr_again (expr.Some (read.Plain o)) ts h = rw (append_assoc (operand_tokens o) (Mark (codes ")") ∷ []) ts, operand_again o (Mark (codes ")") ∷ ts) h) refl
+call_again (callee.External name) rs ts k h =
+    let long : length (args_tokens rs) ≤ length (args_tokens rs ++ ts) = omega (arith, length-append (args_tokens rs) ts) in
+    rw (args_again (length (args_tokens rs ++ ts)) rs ts h long) refl
+call_again (callee.Internal term) rs ts k h = absurd k
+
+-- what is computed is read again, up to the ; behind it
+pub expr_again : (e : TExpr) (ts : List Token) → IsExpr e → read_expr (expr_tokens e ++ Mark (codes ";") ∷ ts) ≡ Some (e, Mark (codes ";") ∷ ts)
+unfolding read_expr
+expr_again (expr.Read (read.Plain o)) ts h =
+    let after = Mark (codes ";") ∷ ts in
+    rw (operand_apart o after h, operand_calls_none o after h, operand_again o after h) refl
+expr_again (expr.Call false call) ts h = call_again call.callee call.args (Mark (codes ";") ∷ ts) h.1.callee h.1.args
+expr_again (expr.Call true call) ts h = absurd cc
+expr_again (expr.Some (read.Plain o)) ts h =
+    let after = Mark (codes ";") ∷ ts in
+    rw (append_assoc (operand_tokens o) (Mark (codes ")") ∷ []) after, operand_again o (Mark (codes ")") ∷ after) h) refl
+expr_again (expr.Try o false) ts h =
+    let after = Mark (codes "?") ∷ Mark (codes ";") ∷ ts in
+    rw (append_assoc (operand_tokens o) (Mark (codes "?") ∷ []) (Mark (codes ";") ∷ ts), operand_apart o after h.1, operand_calls_none o after h.1, operand_again o after h.1) refl
+expr_again (expr.Try o true) ts h = absurd cc
 expr_again e ts h = absurd h
 
 -- a statement begins with a word that ends no body, and has a token
@@ -105,13 +155,13 @@ mutual
 
   -- a statement is read again
   pub stmt_again : (s : Stmt) (n : ℕ) (ts : List Token) → IsStmt s → length (stmt_tokens s) ≤ n → read_stmt (read_body n) (stmt_tokens s ++ ts) ≡ Some (s, ts)
-  stmt_again (Let k e) n ts h le = rw (append_assoc (expr_tokens e) (Mark (codes ";") ∷ []) ts, numeral_again 10 k (omega arith) (omega arith), expr_again e (Mark (codes ";") ∷ ts) h) refl
+  stmt_again (Let k e) n ts h le = rw (append_assoc (expr_tokens e) (Mark (codes ";") ∷ []) ts, numeral_again 10 k (omega arith) (omega arith), expr_again e ts h) refl
   stmt_again (IfEq a b inside) n ts h le =
       let after = body_tokens inside ++ (close ++ ts) in
       let flat : (if_eq_head a b ++ (body_tokens inside ++ close)) ++ ts ≡ Word (codes "if") ∷ (operand_tokens a ++ Mark (codes "==") ∷ (operand_tokens b ++ Mark (codes "{") ∷ after)) = simp append_assoc in
       let fuel : length (body_tokens inside) < n = omega (arith, le, length-append (if_eq_head a b) (body_tokens inside ++ close), length-append (body_tokens inside) close) in
       rw (flat, operand_again a (Mark (codes "==") ∷ (operand_tokens b ++ Mark (codes "{") ∷ after)) h.0, operand_again b (Mark (codes "{") ∷ after) h.1, body_again inside n ts h.2 fuel) refl
-  stmt_again (Return e) n ts h le = rw (append_assoc (expr_tokens e) (Mark (codes ";") ∷ []) ts, expr_again e (Mark (codes ";") ∷ ts) h) refl
+  stmt_again (Return e) n ts h le = rw (append_assoc (expr_tokens e) (Mark (codes ";") ∷ []) ts, expr_again e ts h) refl
   stmt_again (Tail None) n ts h le = refl
   stmt_again (Tail (Some texts)) n ts h le = refl
   stmt_again s n ts h le = absurd h
@@ -179,46 +229,106 @@ functions_again p (suc n) (f ∷ fs) h le =
     let l = length-append (function_tokens f) (functions_tokens fs) in
     rw (function_again p f (functions_tokens fs) h.0, functions_again p n fs h.1 (omega (arith, l))) refl
 
+-- ---- the trait
+
+-- parameters are read again
+joined_again : (k n : ℕ) (tys : List Ty) (ts : List Token) → AllByRecursion IsTy tys → length tys < k → read_joined k n (joined_tokens n tys ++ ts) ≡ Some (tys, ts)
+unfolding read_joined numeral
+joined_again zero n tys ts h lt = absurd (omega arith)
+joined_again (suc k) n [] ts h lt = refl
+joined_again (suc k) zero (ty ∷ tys) ts h lt =
+    rw (joined_again k 1 tys ts h.1 (omega arith), type_again ty h.0) refl
+joined_again (suc k) (suc n) (ty ∷ tys) ts h lt =
+    rw (same_bytes_refl (numeral 10 (suc n)), joined_again k (suc n + 1) tys ts h.1 (omega arith), type_again ty h.0) refl
+
+length-joined : (n : ℕ) (tys : List Ty) → length tys < length (joined_tokens n tys)
+length-joined n [] = omega arith
+length-joined zero (ty ∷ tys) = omega (arith, length-joined 1 tys)
+length-joined (suc n) (ty ∷ tys) = omega (arith, length-joined (suc n + 1) tys)
+
+-- one result is read again
+results_again : (how : ReturnKind) (names : List (List ℕ)) (ts : List Token) → IsKind how → AreResults names
+    → (name : List ℕ) × (names ≡ name ∷ []) × (read_result (results_tokens how names ++ ts) ≡ Some ((how, name), ts))
+results_again how [] ts h b = absurd b
+results_again how (name ∷ []) ts h b = (name, refl, result_again how name ts h b)
+results_again how (name ∷ more ∷ names) ts h b = absurd b
+
+-- a function of the trait is read again
+trait_fn_again : (f : TraitFn) (ts : List Token) → IsTraitFn f → read_trait_fn (trait_fn_tokens f ++ ts) ≡ Some (f, ts)
+unfolding read_trait_fn trait_fn_tokens
+trait_fn_again f ts h =
+    let ended = Mark (codes ";") ∷ ts in
+    let arrow = Mark (codes "->") ∷ (results_tokens f.kind f.results ++ ended) in
+    let flat : trait_fn_tokens f ++ ts ≡ trait_fn_head f.name ++ (joined_tokens 0 f.params ++ arrow) = simp append_assoc in
+    let fuel : length f.params < length (joined_tokens 0 f.params ++ arrow) = omega (arith, length-append (joined_tokens 0 f.params) arrow, length-joined 0 f.params) in
+    let r = results_again f.kind f.results ended h.kind h.results in
+    ap read_trait_fn flat
+    ∙ rw (joined_again (length (joined_tokens 0 f.params ++ arrow)) 0 f.params arrow h.params fuel, r.2) (ap (λ (names : List (List ℕ)). Some (record { name = f.name; params = f.params; results = names; kind = f.kind }, ts)) (sym r.1))
+
+trait_fn_some : (f : TraitFn) → 0 < length (trait_fn_tokens f)
+unfolding trait_fn_tokens
+trait_fn_some f = omega arith
+
+trait_fn_begins : (f : TraitFn) (ts : List Token) → at (Mark (codes "}")) (trait_fn_tokens f ++ ts) ≡ false
+unfolding trait_fn_tokens
+trait_fn_begins f ts = refl
+
+-- the functions of the trait are read again
+trait_fns_again : (n : ℕ) (fs : List TraitFn) (ts : List Token) → AllByRecursion IsTraitFn fs → length (trait_fns_tokens fs) < n → read_trait_fns n (trait_fns_tokens fs ++ (close ++ ts)) ≡ Some (fs, close ++ ts)
+unfolding read_trait_fns
+trait_fns_again zero fs ts h lt = absurd (omega arith)
+trait_fns_again (suc n) [] ts h lt = refl
+trait_fns_again (suc n) (f ∷ fs) ts h lt =
+    let l = length-append (trait_fn_tokens f) (trait_fns_tokens fs) in
+    rw (append_assoc (trait_fn_tokens f) (trait_fns_tokens fs) (close ++ ts), trait_fn_begins f (trait_fns_tokens fs ++ (close ++ ts)), trait_fn_again f (trait_fns_tokens fs ++ (close ++ ts)) h.0, trait_fns_again n fs ts h.1 (omega (arith, l, trait_fn_some f))) refl
+
+-- the trait is read again
+trait_again : (fs : List TraitFn) (ts : List Token) → AllByRecursion IsTraitFn fs → read_trait (trait_tokens fs ++ ts) ≡ Some (fs, ts)
+unfolding read_trait
+trait_again fs ts h =
+    let inside = trait_fns_tokens fs ++ (close ++ ts) in
+    let long : length (trait_fns_tokens fs) < length inside = omega (arith, length-append (trait_fns_tokens fs) (close ++ ts)) in
+    rw (append_assoc (trait_fns_tokens fs) close ts, trait_fns_again (length inside) fs ts h long) refl
+
 -- ---- the program
 
 -- the tokens from the uses on
-items : List Function → List Token
-items fs = uses_tokens ++ (trait_head ++ (close ++ (fixed_tokens ++ functions_tokens fs)))
+items : List TraitFn → List Function → List Token
+items tfns fs = uses_tokens ++ (trait_tokens tfns ++ (fixed_tokens ++ functions_tokens fs))
 
--- a program with only these functions of its own
-made_of : Bool → List Function → Program
-made_of allow fs = record { allow = allow; trait_fns = []; types = []; fns = fs }
+-- a program without types
+made_of : Bool → List TraitFn → List Function → Program
+made_of allow tfns fs = record { allow = allow; trait_fns = tfns; types = []; fns = fs }
 
-items_again : (p : Program) (allow : Bool) (fs : List Function) → AllByRecursion (IsFunction p) fs → read_items (allow, items fs) ≡ Some (made_of allow fs)
+items_again : (p : Program) (allow : Bool) (tfns : List TraitFn) (fs : List Function) → AllByRecursion IsTraitFn tfns → AllByRecursion (IsFunction p) fs → read_items (allow, items tfns fs) ≡ Some (made_of allow tfns fs)
 unfolding items made_of
-items_again p allow fs h =
-    rw (phrase_again uses_tokens (trait_head ++ (close ++ (fixed_tokens ++ functions_tokens fs))) uses_whole, phrase_again fixed_tokens (functions_tokens fs) fixed_whole, functions_again p (length (functions_tokens fs)) fs h (omega arith)) refl
+items_again p allow tfns fs k h =
+    rw (phrase_again uses_tokens (trait_tokens tfns ++ (fixed_tokens ++ functions_tokens fs)) uses_whole, trait_again tfns (fixed_tokens ++ functions_tokens fs) k, phrase_again fixed_tokens (functions_tokens fs) fixed_whole, functions_again p (length (functions_tokens fs)) fs h (omega arith)) refl
 
-items_apart : (fs : List Function) → phrase allow_tokens (items fs) ≡ None
+items_apart : (tfns : List TraitFn) (fs : List Function) → phrase allow_tokens (items tfns fs) ≡ None
 unfolding items
-items_apart fs = uses_apart (trait_head ++ (close ++ (fixed_tokens ++ functions_tokens fs)))
+items_apart tfns fs = uses_apart (trait_tokens tfns ++ (fixed_tokens ++ functions_tokens fs))
 
-made_again : (p : Program) (allow : Bool) (fs : List Function) → AllByRecursion (IsFunction p) fs → read_program (allow_part allow ++ items fs) ≡ Some (made_of allow fs)
+made_again : (p : Program) (allow : Bool) (tfns : List TraitFn) (fs : List Function) → AllByRecursion IsTraitFn tfns → AllByRecursion (IsFunction p) fs → read_program (allow_part allow ++ items tfns fs) ≡ Some (made_of allow tfns fs)
 unfolding read_program
-made_again p true fs h = rw (phrase_again allow_tokens (items fs) allow_whole) (items_again p true fs h)
-made_again p false fs h = rw (items_apart fs) (items_again p false fs h)
+made_again p true tfns fs k h = rw (phrase_again allow_tokens (items tfns fs) allow_whole) (items_again p true tfns fs k h)
+made_again p false tfns fs k h = rw (items_apart tfns fs) (items_again p false tfns fs k h)
 
 none : {A : Type 0} (P : A → Type 0) → ((a : A) → P a → ⊥) → (xs : List A) → AllByRecursion P xs → xs ≡ []
 none P never [] all = refl
 none P never (x ∷ xs) all = absurd (never x all.0)
 
--- a well-formed program has only functions of its own
-made_if_well_formed : (p : Program) → IsWellFormed p → made_of p.allow p.fns ≡ p
+-- a well-formed program has no types
+made_if_well_formed : (p : Program) → IsWellFormed p → made_of p.allow p.trait_fns p.fns ≡ p
 unfolding made_of
 made_if_well_formed p h =
-    let no_fns = none IsTraitFn (λ f e. e) p.trait_fns h.trait_fns in
     let no_types = none IsTypeItem (λ t e. e) p.types h.types in
-    sym (λ i. record { allow = p.allow; trait_fns = no_fns i; types = no_types i; fns = p.fns })
+    sym (λ i. record { allow = p.allow; trait_fns = p.trait_fns; types = no_types i; fns = p.fns })
 
 -- what is spelled is read again
 pub program_again : (p : Program) → IsWellFormed p → read_program (program_tokens p) ≡ Some p
 unfolding items
-program_again p h = made_again p p.allow p.fns h.fns ∙ ap Some (made_if_well_formed p h)
+program_again p h = made_again p p.allow p.trait_fns p.fns h.trait_fns h.fns ∙ ap Some (made_if_well_formed p h)
 
 -- a text of the program's tokens spells it and no other
 pub spells_only : (text : List ℕ) (p : Program) → IsWellFormed p → tokens_of text ≡ program_tokens p → SpellsOnly text p
@@ -233,7 +343,7 @@ spells_only text p h e =
 pub printed_program : (p : Program) (text : List ℕ) (fresh head body whole all : List Token)
     → fresh ≡ []
     → head ≡ fresh ++ (allow_part p.allow ++ uses_tokens)
-    → body ≡ head ++ (trait_head ++ close)
+    → body ≡ head ++ trait_tokens p.trait_fns
     → whole ≡ body ++ fixed_tokens
     → all ≡ whole ++ functions_tokens p.fns
     → tokens_of text ≡ all
@@ -243,5 +353,5 @@ printed_program p text fresh head body whole all e1 e2 e3 e4 e5 e6 =
     ∙ e5
     ∙ ap (λ l. l ++ functions_tokens p.fns) e4
     ∙ ap (λ l. (l ++ fixed_tokens) ++ functions_tokens p.fns) e3
-    ∙ ap (λ l. ((l ++ (trait_head ++ close)) ++ fixed_tokens) ++ functions_tokens p.fns) (e2 ∙ ap (λ l. l ++ (allow_part p.allow ++ uses_tokens)) e1)
+    ∙ ap (λ l. ((l ++ trait_tokens p.trait_fns) ++ fixed_tokens) ++ functions_tokens p.fns) (e2 ∙ ap (λ l. l ++ (allow_part p.allow ++ uses_tokens)) e1)
     ∙ simp append_assoc

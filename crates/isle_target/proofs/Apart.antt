@@ -1,6 +1,6 @@
 -- Names that are apart, as they are seen one after another.
 use Rattle.std.proofs.Common.{◌≡◌, ℕ, ◌+◌, ◌<◌, List, [], ◌∷◌, ◌++◌, length, take, drop, map, get_or, Bool, true, false, cond, refl, sym, ap, ◌∙◌, subst}
-use Rattle.std.specs.Prelude.{◌||◌, ◌↔◌, IsTrue}
+use Rattle.std.specs.Prelude.{not, ◌||◌, ◌↔◌, IsTrue}
 use Rattle.std.specs.List.{AllByRecursion, IsDistinct, list_any}
 use Rattle.std.specs.Str.{bytes_eq}
 use Rattle.std.specs.Ordering.{nat_cmp}
@@ -13,31 +13,22 @@ use Rattle.std.proofs.lemmas.Map.Text.{is_eq-slice_cmp}
 use Rattle.std.specs.declared.cmp.Ordering.{Ordering}
 use denote.Ref.{Bor}
 use Rattle.isle_target.specs.declared.tree.Function.{Function}
+use Rattle.isle_target.specs.declared.tree.TraitFn.{TraitFn}
 use Rattle.isle_target.specs.Views.{function}
-use Rattle.isle_target.specs.WellFormed.{terms}
+use Rattle.isle_target.specs.WellFormed.{terms, fn_names}
 
 -- the order of names that a set keeps
 abbrev pub name_cmp : Bor (List ℕ) → Bor (List ℕ) → Ordering
 name_cmp x y = slice_cmp nat_cmp x.now y.now
 
--- the terms of the code's functions
-abbrev pub terms_of : List Function → List (List ℕ)
-terms_of fns = terms (map function fns)
-
 -- what is known of those seen: they are apart, and the set has them
-abbrev pub Seen : List Function → BTreeSet (Bor (List ℕ)) → Type 0
-Seen fns seen = IsDistinct bytes_eq (terms_of fns) × ((q : Bor (List ℕ)) → contains name_cmp seen q ≡ list_any (bytes_eq q.now) (terms_of fns))
+abbrev pub Seen : List (List ℕ) → BTreeSet (Bor (List ℕ)) → Type 0
+Seen names seen = IsDistinct bytes_eq names × ((q : Bor (List ℕ)) → contains name_cmp seen q ≡ list_any (bytes_eq q.now) names)
 
 -- none is seen
 pub seen_none : (seen : BTreeSet (Bor (List ℕ))) → seen.keys ≡ [] → Seen [] seen
 unfolding IsDistinct
 seen_none seen e = (tt, λ q. rw e refl)
-
-terms-append : (xs ys : List Function) → terms_of (xs ++ ys) ≡ terms_of xs ++ terms_of ys
-terms-append xs ys = ap terms (map-append function xs ys) ∙ map-append _ (map function xs) (map function ys)
-
-terms_more : (fns : List Function) (i : ℕ) (f : Function) → i < length fns → f ≡ get_or fns i f → terms_of (take (i + 1) fns) ≡ terms_of (take i fns) ++ f.term ∷ []
-terms_more fns i f lt is = ap terms_of (take_more fns i f lt ∙ ap (λ x. take i fns ++ x ∷ []) (sym is)) ∙ terms-append (take i fns) (f ∷ [])
 
 chosen : (b old any : Bool) → old ≡ any → cond b true old ≡ (any || (b || false))
 chosen true old true e = refl
@@ -46,20 +37,28 @@ chosen false old true e = e
 chosen false old false e = e
 
 -- one more is seen
-pub seen_more : (fns : List Function) (i : ℕ) (f : Function) (key : Bor (List ℕ)) (old new : BTreeSet (Bor (List ℕ))) → i < length fns → f ≡ get_or fns i f → key.now ≡ f.term
-    → contains name_cmp old key ≡ false → Updates name_cmp old new key true → Seen (take i fns) old → Seen (take (i + 1) fns) new
-seen_more fns i f key old new lt is named fresh u h =
-    let more = terms_more fns i f lt is in
-    let apart : list_any (bytes_eq f.term) (terms_of (take i fns)) ≡ false = subst (λ t. list_any (bytes_eq t) (terms_of (take i fns)) ≡ false) named (sym (h.1 key) ∙ fresh) in (
-      subst (IsDistinct bytes_eq) (sym more) (IsDistinct-push nat_list_eq_equiv (terms_of (take i fns)) f.term h.0 apart),
+pub seen_more : (before after : List (List ℕ)) (name : List ℕ) (key : Bor (List ℕ)) (old new : BTreeSet (Bor (List ℕ))) → after ≡ before ++ name ∷ [] → key.now ≡ name
+    → contains name_cmp old key ≡ false → Updates name_cmp old new key true → Seen before old → Seen after new
+seen_more before after name key old new more named fresh u h =
+    let apart : list_any (bytes_eq name) before ≡ false = subst (λ t. list_any (bytes_eq t) before ≡ false) named (sym (h.1 key) ∙ fresh) in (
+      subst (IsDistinct bytes_eq) (sym more) (IsDistinct-push nat_list_eq_equiv before name h.0 apart),
       λ q.
-          let test : bytes_eq key.now q.now ≡ bytes_eq q.now f.term = nat_list_eq_equiv.symm key.now q.now ∙ ap (bytes_eq q.now) named in
+          let test : bytes_eq key.now q.now ≡ bytes_eq q.now name = nat_list_eq_equiv.symm key.now q.now ∙ ap (bytes_eq q.now) named in
           u.0 q
           ∙ ap (λ b. cond b true (contains name_cmp old q)) (is_eq-slice_cmp key.now q.now ∙ test)
-          ∙ chosen (bytes_eq q.now f.term) (contains name_cmp old q) (list_any (bytes_eq q.now) (terms_of (take i fns))) (h.1 q)
-          ∙ sym (list_any-append (bytes_eq q.now) (terms_of (take i fns)) (f.term ∷ []))
+          ∙ chosen (bytes_eq q.now name) (contains name_cmp old q) (list_any (bytes_eq q.now) before) (h.1 q)
+          ∙ sym (list_any-append (bytes_eq q.now) before (name ∷ []))
           ∙ ap (list_any (bytes_eq q.now)) (sym more),
     )
+
+-- the two answers of an insertion
+pub not_told : (b r : Bool) → r ≡ not b → r ≡ false → b ≡ true
+not_told true r e f = refl
+not_told false r e f = absurd cc
+
+pub told : (b r : Bool) → r ≡ not b → r ≡ true → b ≡ false
+told false r e f = refl
+told true r e f = absurd cc
 
 -- ---- a name that was seen
 
@@ -79,10 +78,39 @@ twice (x ∷ xs) ys y any d = one (bytes_eq y x) refl any (λ k. twice xs ys y k
     one false is any inner = inner any
 
 -- a name that is seen again
-pub seen_again : (fns : List Function) (i : ℕ) (f : Function) (key : Bor (List ℕ)) (seen : BTreeSet (Bor (List ℕ))) → i < length fns → f ≡ get_or fns i f → key.now ≡ f.term
-    → contains name_cmp seen key ≡ true → Seen (take i fns) seen → IsTrue false ↔ IsDistinct bytes_eq (terms_of fns)
-seen_again fns i f key seen lt is named there h =
-    let any : list_any (bytes_eq f.term) (terms_of (take i fns)) ≡ true = subst (λ t. list_any (bytes_eq t) (terms_of (take i fns)) ≡ true) named (sym (h.1 key) ∙ there) in
-    let whole : fns ≡ take i fns ++ f ∷ drop (i + 1) fns = sym (take-append-drop i fns) ∙ ap (λ x. take i fns ++ x) (drop_more fns i f lt ∙ ap (λ x. x ∷ drop (i + 1) fns) (sym is)) in
-    let parts : terms_of fns ≡ terms_of (take i fns) ++ f.term ∷ terms_of (drop (i + 1) fns) = ap terms_of whole ∙ terms-append (take i fns) (f ∷ drop (i + 1) fns) in
-    (λ t. absurd cc, λ d. absurd (twice (terms_of (take i fns)) (terms_of (drop (i + 1) fns)) f.term any (subst (IsDistinct bytes_eq) parts d)))
+pub seen_again : (before rest all : List (List ℕ)) (name : List ℕ) (key : Bor (List ℕ)) (seen : BTreeSet (Bor (List ℕ))) → all ≡ before ++ name ∷ rest → key.now ≡ name
+    → contains name_cmp seen key ≡ true → Seen before seen → IsTrue false ↔ IsDistinct bytes_eq all
+seen_again before rest all name key seen parts named there h =
+    let any : list_any (bytes_eq name) before ≡ true = subst (λ t. list_any (bytes_eq t) before ≡ true) named (sym (h.1 key) ∙ there) in
+    (λ t. absurd cc, λ d. absurd (twice before rest name any (subst (IsDistinct bytes_eq) parts d)))
+
+-- ---- the names of two lists
+
+-- a list up to one of its items, and from there on
+up_to : {A : Type 0} (xs : List A) (i : ℕ) (x : A) → i < length xs → x ≡ get_or xs i x → take (i + 1) xs ≡ take i xs ++ x ∷ []
+up_to xs i x lt is = take_more xs i x lt ∙ ap (λ y. take i xs ++ y ∷ []) (sym is)
+
+whole : {A : Type 0} (xs : List A) (i : ℕ) (x : A) → i < length xs → x ≡ get_or xs i x → xs ≡ take i xs ++ x ∷ drop (i + 1) xs
+whole xs i x lt is = sym (take-append-drop i xs) ∙ ap (λ ys. take i xs ++ ys) (drop_more xs i x lt ∙ ap (λ y. y ∷ drop (i + 1) xs) (sym is))
+
+-- the terms of the code's functions
+abbrev pub terms_of : List Function → List (List ℕ)
+terms_of fns = terms (map function fns)
+
+terms-append : (xs ys : List Function) → terms_of (xs ++ ys) ≡ terms_of xs ++ terms_of ys
+terms-append xs ys = ap terms (map-append function xs ys) ∙ map-append _ (map function xs) (map function ys)
+
+pub terms_more : (fns : List Function) (i : ℕ) (f : Function) → i < length fns → f ≡ get_or fns i f → terms_of (take (i + 1) fns) ≡ terms_of (take i fns) ++ f.term ∷ []
+terms_more fns i f lt is = ap terms_of (up_to fns i f lt is) ∙ terms-append (take i fns) (f ∷ [])
+
+pub terms_whole : (fns : List Function) (i : ℕ) (f : Function) → i < length fns → f ≡ get_or fns i f → terms_of fns ≡ terms_of (take i fns) ++ f.term ∷ terms_of (drop (i + 1) fns)
+terms_whole fns i f lt is = ap terms_of (whole fns i f lt is) ∙ terms-append (take i fns) (f ∷ drop (i + 1) fns)
+
+names-append : (xs ys : List TraitFn) → fn_names (xs ++ ys) ≡ fn_names xs ++ fn_names ys
+names-append xs ys = map-append _ xs ys
+
+pub names_more : (fns : List TraitFn) (i : ℕ) (f : TraitFn) → i < length fns → f ≡ get_or fns i f → fn_names (take (i + 1) fns) ≡ fn_names (take i fns) ++ f.name ∷ []
+names_more fns i f lt is = ap fn_names (up_to fns i f lt is) ∙ names-append (take i fns) (f ∷ [])
+
+pub names_whole : (fns : List TraitFn) (i : ℕ) (f : TraitFn) → i < length fns → f ≡ get_or fns i f → fn_names fns ≡ fn_names (take i fns) ++ f.name ∷ fn_names (drop (i + 1) fns)
+names_whole fns i f lt is = ap fn_names (whole fns i f lt is) ∙ names-append (take i fns) (f ∷ drop (i + 1) fns)

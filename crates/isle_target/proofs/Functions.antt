@@ -7,35 +7,43 @@ use Rattle.std.proofs.lemmas.Bool.{eqb-true}
 use Rattle.std.proofs.lemmas.List.{drop_more, at_drop_all}
 use Rattle.isle_target.specs.declared.tree.Function.{Function as CodeFunction}
 use Rattle.isle_target.specs.declared.tree.Program.{Program as CodeProgram}
+use Rattle.isle_target.specs.declared.tree.TraitFn.{TraitFn}
 use Rattle.isle_target.specs.Program.{Program}
 use Rattle.isle_target.specs.Views.{program, function}
-use Rattle.isle_target.specs.WellFormed.{IsTraitFn, IsTypeItem, IsFunction, IsWellFormed, terms}
+use Rattle.isle_target.specs.WellFormed.{IsTraitFn, IsTypeItem, IsFunction, IsWellFormed, terms, fn_names}
 
--- all are where those that are left are
-abbrev pub Left : List CodeFunction → ℕ → Type 0
-Left fns i = (p : Program) → AllByRecursion (IsFunction p) (map function (drop i fns)) ↔ AllByRecursion (IsFunction p) (map function fns)
+-- all are where those that are left are, in a program with these functions of the trait
+abbrev pub Left : List TraitFn → List CodeFunction → ℕ → Type 0
+Left tfns fns i = (p : Program) → p.trait_fns ≡ tfns → AllByRecursion (IsFunction p) (map function (drop i fns)) ↔ AllByRecursion (IsFunction p) (map function fns)
+
+-- a function is well formed in such a program, or not
+abbrev pub Decides : List TraitFn → Bool → CodeFunction → Type 0
+Decides tfns b f = (p : Program) → p.trait_fns ≡ tfns → IsTrue b ↔ IsFunction p (function f)
+
+-- all are, or not
+abbrev pub DecideAll : List TraitFn → Bool → List CodeFunction → Type 0
+DecideAll tfns b fns = (p : Program) → p.trait_fns ≡ tfns → IsTrue b ↔ AllByRecursion (IsFunction p) (map function fns)
 
 -- the next, and those behind it
-opened : (fns : List CodeFunction) (i : ℕ) (f : CodeFunction) → i < length fns → f ≡ get_or fns i f → Left fns i → (p : Program)
+opened : (tfns : List TraitFn) (fns : List CodeFunction) (i : ℕ) (f : CodeFunction) → i < length fns → f ≡ get_or fns i f → Left tfns fns i → (p : Program) → p.trait_fns ≡ tfns
     → (IsFunction p (function f) × AllByRecursion (IsFunction p) (map function (drop (i + 1) fns))) ↔ AllByRecursion (IsFunction p) (map function fns)
-opened fns i f lt is h p =
-    subst (λ xs. AllByRecursion (IsFunction p) (map function xs) ↔ AllByRecursion (IsFunction p) (map function fns)) (drop_more fns i f lt ∙ ap (λ x. x ∷ drop (i + 1) fns) (sym is)) (h p)
+opened tfns fns i f lt is h p e =
+    subst (λ xs. AllByRecursion (IsFunction p) (map function xs) ↔ AllByRecursion (IsFunction p) (map function fns)) (drop_more fns i f lt ∙ ap (λ x. x ∷ drop (i + 1) fns) (sym is)) (h p e)
 
-pub left_more : (fns : List CodeFunction) (i : ℕ) (f : CodeFunction) → i < length fns → f ≡ get_or fns i f → ((p : Program) → IsTrue true ↔ IsFunction p (function f)) → Left fns i → Left fns (i + 1)
-left_more fns i f lt is good h = λ p.
-    let k = opened fns i f lt is h p in
-    (λ t. k.0 ((good p).0 refl, t), λ q. (k.1 q).1)
+pub left_more : (tfns : List TraitFn) (fns : List CodeFunction) (i : ℕ) (f : CodeFunction) → i < length fns → f ≡ get_or fns i f → Decides tfns true f → Left tfns fns i → Left tfns fns (i + 1)
+left_more tfns fns i f lt is good h = λ p e.
+    let k = opened tfns fns i f lt is h p e in
+    (λ t. k.0 ((good p e).0 refl, t), λ q. (k.1 q).1)
 
-pub left_stop : (fns : List CodeFunction) (i : ℕ) (f : CodeFunction) → i < length fns → f ≡ get_or fns i f → ((p : Program) → IsTrue false ↔ IsFunction p (function f)) → Left fns i
-    → (p : Program) → IsTrue false ↔ AllByRecursion (IsFunction p) (map function fns)
-left_stop fns i f lt is bad h = λ p.
-    let k = opened fns i f lt is h p in
-    (λ t. absurd cc, λ q. (bad p).1 (k.1 q).0)
+pub left_stop : (tfns : List TraitFn) (fns : List CodeFunction) (i : ℕ) (f : CodeFunction) → i < length fns → f ≡ get_or fns i f → Decides tfns false f → Left tfns fns i → DecideAll tfns false fns
+left_stop tfns fns i f lt is bad h = λ p e.
+    let k = opened tfns fns i f lt is h p e in
+    (λ t. absurd cc, λ q. (bad p e).1 (k.1 q).0)
 
-pub left_none : (fns : List CodeFunction) (i : ℕ) → length fns ≤ i → Left fns i → (p : Program) → IsTrue true ↔ AllByRecursion (IsFunction p) (map function fns)
-left_none fns i le h = λ p.
+pub left_none : (tfns : List TraitFn) (fns : List CodeFunction) (i : ℕ) → length fns ≤ i → Left tfns fns i → DecideAll tfns true fns
+left_none tfns fns i le h = λ p e.
     let ends = at_drop_all (λ (xs : List CodeFunction). xs) fns i le in
-    (λ t. (h p).0 (subst (λ xs. AllByRecursion (IsFunction p) (map function xs)) (sym ends) tt), λ q. refl)
+    (λ t. (h p e).0 (subst (λ xs. AllByRecursion (IsFunction p) (map function xs)) (sym ends) tt), λ q. refl)
 
 -- ---- the program
 
@@ -47,22 +55,26 @@ holds_no : {A : Type 0} (P : A → Type 0) → ((a : A) → P a → ⊥) → (xs
 holds_no P never [] e all = absurd cc
 holds_no P never (x ∷ xs) e all = never x all.0
 
--- a program with a function of the trait
-pub refused_trait_fns : (p : CodeProgram) → (length p.trait_fns == 0) ≡ false → IsTrue false ↔ IsWellFormed (program p)
-refused_trait_fns p e = (λ t. absurd cc, λ h. absurd (holds_no IsTraitFn (λ f b. b) p.trait_fns e h.trait_fns))
+-- a program with a function that the trait may not have
+pub refused_trait_fns : (p : CodeProgram) → (IsTrue false ↔ AllByRecursion IsTraitFn p.trait_fns) → IsTrue false ↔ IsWellFormed (program p)
+refused_trait_fns p h = (λ t. absurd cc, λ w. h.1 w.trait_fns)
+
+-- with two of one name
+pub refused_names : (p : CodeProgram) → (IsTrue false ↔ IsDistinct bytes_eq (fn_names p.trait_fns)) → IsTrue false ↔ IsWellFormed (program p)
+refused_names p h = (λ t. absurd cc, λ w. h.1 w.trait_names)
 
 -- with a type
 pub refused_types : (p : CodeProgram) → (length p.types == 0) ≡ false → IsTrue false ↔ IsWellFormed (program p)
 refused_types p e = (λ t. absurd cc, λ h. absurd (holds_no IsTypeItem (λ i b. b) p.types e h.types))
 
 -- with a function that is not well formed
-pub refused_fns : (p : CodeProgram) → ((q : Program) → IsTrue false ↔ AllByRecursion (IsFunction q) (map function p.fns)) → IsTrue false ↔ IsWellFormed (program p)
-refused_fns p h = (λ t. absurd cc, λ w. (h (program p)).1 w.fns)
+pub refused_fns : (p : CodeProgram) → DecideAll p.trait_fns false p.fns → IsTrue false ↔ IsWellFormed (program p)
+refused_fns p h = (λ t. absurd cc, λ w. (h (program p) refl).1 w.fns)
 
 -- with none of these: by the names of its functions
-pub by_names : (p : CodeProgram) (b : Bool) → (length p.trait_fns == 0) ≡ true → (length p.types == 0) ≡ true → ((q : Program) → IsTrue true ↔ AllByRecursion (IsFunction q) (map function p.fns))
-    → (IsTrue b ↔ IsDistinct bytes_eq (terms (map function p.fns))) → IsTrue b ↔ IsWellFormed (program p)
-by_names p b e f h d = (
-  λ t. record { trait_fns = holds_all IsTraitFn p.trait_fns e; types = holds_all IsTypeItem p.types f; fns = (h (program p)).0 refl; distinct = d.0 t },
+pub by_names : (p : CodeProgram) (b : Bool) → (IsTrue true ↔ AllByRecursion IsTraitFn p.trait_fns) → (IsTrue true ↔ IsDistinct bytes_eq (fn_names p.trait_fns)) → (length p.types == 0) ≡ true
+    → DecideAll p.trait_fns true p.fns → (IsTrue b ↔ IsDistinct bytes_eq (terms (map function p.fns))) → IsTrue b ↔ IsWellFormed (program p)
+by_names p b k n f h d = (
+  λ t. record { trait_fns = k.0 refl; trait_names = n.0 refl; types = holds_all IsTypeItem p.types f; fns = (h (program p) refl).0 refl; distinct = d.0 t },
   λ w. d.1 w.distinct,
 )

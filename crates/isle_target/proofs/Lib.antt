@@ -4,7 +4,8 @@ pub mod Sees
 pub mod Apart
 pub mod Functions
 pub mod Ending
-pub mod Places
+pub mod Newest
+pub mod FindCallees
 pub mod TypeNames
 pub mod Prints
 pub mod Signs

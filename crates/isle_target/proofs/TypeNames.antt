@@ -1,5 +1,5 @@
 -- The names of types and of functions are words.
-use Rattle.std.proofs.Common.{◌≡◌, ℕ, List, [], ◌∷◌, Bool, true, false, cond, Option, Some, None, refl, ap, subst}
+use Rattle.std.proofs.Common.{◌≡◌, ℕ, List, [], ◌∷◌, Bool, true, false, cond, Option, Some, None, get_or, refl, sym, ap, subst}
 use Rattle.std.specs.Prelude.{codes, is_some, ◌||◌, ◌&&◌, eqb}
 use Rattle.std.specs.Str.{bytes_eq}
 use Rattle.isle_core.specs.declared.types.IntType.{IntType}
@@ -8,9 +8,10 @@ use Rattle.isle_ink.specs.Token.{is_word}
 use Rattle.isle_ink.specs.Bytes.{same_bytes}
 use Rattle.isle_ink.proofs.Bytes.{same_bytes_sound}
 use Rattle.isle_ink.proofs.Numerals.{list_all-join}
+use Rattle.isle_target.specs.Identifier.{IsIdentifier}
 use Rattle.isle_target.specs.Literal.{type_named}
 use Rattle.isle_target.specs.Spelling.{constructor_word}
-use Rattle.isle_target.specs.WellFormed.{IsBuiltin, IsTermName}
+use Rattle.isle_target.specs.WellFormed.{IsBuiltin, AreResults, IsTermName}
 
 -- the name is this one, or the next ones decide
 is_this : (b : Bool) (v w : List ℕ) → same_bytes v w ≡ b → is_word v ≡ true → (b ≡ false → is_word w ≡ true) → is_word w ≡ true
@@ -42,10 +43,24 @@ builtin_is_word name h =
     is_this (same_bytes (codes "bool") name) (codes "bool") name refl refl
     (λ e. type_is_word name (subst (λ b. (b || is_some (type_named name)) ≡ true) e h))
 
+-- the one result
+pub only_builtin : (names : List (List ℕ)) (name : List ℕ) → AreResults names → name ≡ get_or names 0 name → IsBuiltin name
+only_builtin [] name h is = absurd h
+only_builtin (n ∷ []) name h is = subst IsBuiltin (sym is) h
+only_builtin (n ∷ m ∷ names) name h is = absurd h
+
 -- the function of a term
 pub constructor_is_word : (term : List ℕ) → IsTermName term → is_word (constructor_word term) ≡ true
 unfolding constructor_word
 constructor_is_word term h = list_all-join (codes "constructor_") term refl h
+
+-- an item
+pub identifier_is_word : (name : List ℕ) → IsIdentifier name → is_word name ≡ true
+identifier_is_word [] h = absurd (false_not_true h.begins)
+  where
+    false_not_true : false ≡ true → ⊥
+    false_not_true e = cc
+identifier_is_word (b ∷ bs) h = h.word
 
 -- both tests of two texts say the same
 pub same_is : (a b : List ℕ) → bytes_eq a b ≡ same_bytes a b

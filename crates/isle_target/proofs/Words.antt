@@ -55,14 +55,20 @@ literal_number I64 n = decimal_number n _
 literal_number I128 n = decimal_number n _
 literal_number ISize n = decimal_number n _
 
+-- a word that begins as no number does is none
+number_apart : (a : ℕ) (more w : List ℕ) → is_number (a ∷ more) ≡ false → is_number w ≡ true → same_bytes (a ∷ more) w ≡ false
+number_apart a more [] none h = refl
+number_apart a more (b ∷ bs) none h = rw (ne_eqb a b (λ e. let same : is_number (a ∷ more) ≡ true = subst (λ x. is_number (x ∷ bs) ≡ true) (sym e) h in absurd cc)) refl
+
 -- a literal begins as no option does
 pub literal_apart : (ty : IntType) (n : ℤ) (ts : List Token) → at (Word (codes "Some")) (literal_tokens ty n ++ ts) ≡ false
 literal_apart ty (negsuc n) ts = refl
-literal_apart ty (pos n) ts = number_apart (literal_word ty n) (literal_number ty n)
-  where
-    number_apart : (w : List ℕ) → is_number w ≡ true → same_bytes (codes "Some") w ≡ false
-    number_apart [] h = refl
-    number_apart (b ∷ bs) h = rw (ne_eqb 83 b (λ e. absurd (subst (λ x. (nat_le 48 x && nat_le x 57) ≡ true → ⊥) e (λ k. absurd cc) h))) refl
+literal_apart ty (pos n) ts = number_apart 83 (codes "ome") (literal_word ty n) refl (literal_number ty n)
+
+-- and as no call does
+pub literal_calls_none : (ty : IntType) (n : ℤ) (ts : List Token) → at (Word (codes "C")) (literal_tokens ty n ++ ts) ≡ false
+literal_calls_none ty (negsuc n) ts = refl
+literal_calls_none ty (pos n) ts = number_apart 67 [] (literal_word ty n) refl (literal_number ty n)
 
 -- ---- integers
 

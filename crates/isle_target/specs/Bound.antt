@@ -1,14 +1,21 @@
--- How the locals that are bound are found.
-use Rattle.std.specs.Prelude.{◌≡◌, ℕ, suc, List, [], ◌∷◌, ◌==◌, Option, Some, None, if◌then◌else◌}
-use Rattle.std.specs.Option.{option_map}
+-- How the code finds what a local holds.
+use Rattle.std.specs.Prelude.{◌≡◌, ℕ, List, [], ◌∷◌, ◌++◌, map}
 use Rattle.std.specs.Ordering.{nat_cmp}
 use Rattle.std.specs.BTreeMap.{BTreeMap, get}
+use Rattle.isle_target.specs.declared.holds.Holds.{Holds}
+use Rattle.isle_target.specs.declared.entry.Entry.{Entry}
+use Rattle.isle_target.specs.WellFormed.{Locals, local_holds}
 
--- the first place of a local
-abbrev pub first_place : List ℕ → ℕ → Option ℕ
-first_place [] n = None
-first_place (l ∷ ls) n = if l == n then Some 0 else option_map suc (first_place ls n)
+-- the locals of a log
+abbrev pub logged : List Entry → Locals
+logged log = map (λ (e : Entry). (e.local, e.holds)) log
 
--- the map has the first place of each local
-pub record Finds (locals : List ℕ) (places : BTreeMap ℕ ℕ) : Type 0 where
-  pub found : (n place : ℕ) → first_place locals n ≡ Some place → get nat_cmp places n ≡ Some place
+-- each entry behind these locals has what its local held before it
+abbrev pub Undoes : Locals → List Entry → Type 0
+Undoes bound [] = Unit {0}
+Undoes bound (e ∷ es) = (e.before ≡ local_holds bound e.local) × Undoes (bound ++ (e.local, e.holds) ∷ []) es
+
+-- the map has what each local holds, and the log what it is to have again
+pub record Finds (log : List Entry) (held : BTreeMap ℕ Holds) : Type 0 where
+  pub now : (n : ℕ) → get nat_cmp held n ≡ local_holds (logged log) n
+  pub before : Undoes [] log

@@ -3,20 +3,23 @@ use Rattle.std.specs.Prelude.{◌≡◌, ℕ, zero, suc, ◌+◌, ℤ, pos, negs
 use Rattle.std.specs.Ordering.{int_eq}
 use Rattle.isle_core.specs.Int.{wrapped}
 use Rattle.isle_core.specs.declared.types.IntType.{IntType}
+use Rattle.isle_core.specs.declared.values.Callee.TheVariants as callee
 use Rattle.isle_core.specs.declared.types.ReturnKind.{ReturnKind}
 use Rattle.isle_core.specs.declared.types.ReturnKind.TheVariants as kind
 use Rattle.isle_ink.specs.Token.{Token, Word, Mark, Quoted, tokens_of}
 use Rattle.isle_ink.specs.Bytes.{same_bytes}
 use Rattle.isle_ink.specs.Number.{numeral_of}
 use Rattle.isle_target.specs.declared.tree.Ty.{Ty}
+use Rattle.isle_target.specs.declared.tree.TraitFn.{TraitFn}
 use Rattle.isle_target.specs.declared.tree.Operand.{Operand}
 use Rattle.isle_target.specs.declared.tree.Operand.TheVariants as operand
+use Rattle.isle_target.specs.declared.tree.Read.{Read}
 use Rattle.isle_target.specs.declared.tree.Read.TheVariants as read
 use Rattle.isle_target.specs.declared.tree.TExpr.{TExpr}
 use Rattle.isle_target.specs.declared.tree.TExpr.TheVariants as expr
 use Rattle.isle_target.specs.Fixed.{allow_tokens, uses_tokens, fixed_tokens}
 use Rattle.isle_target.specs.Literal.{literal_of, held}
-use Rattle.isle_target.specs.Spelling.{param_token, generics, context_param, trait_head, close, no_rule, unreachable_head}
+use Rattle.isle_target.specs.Spelling.{param_token, generics, context_param, self_param, comma, trait_head, close, no_rule, unreachable_head}
 use Rattle.isle_target.specs.Program.{Stmt, Let, IfEq, Return, Tail, Body, Done, Then, Function, Program}
 use Rattle.isle_target.specs.WellFormed.{IsWellFormed}
 
@@ -138,11 +141,15 @@ read_negative ts = do
 unfoldable pub read_operand : List Token → Reads Operand
 read_operand ts = if at (Mark (codes "-")) ts then read_negative (rest ts) else read_word ts
 
--- a read operand
+-- what an operand computes, or the ? behind it
+abbrev pub tried : Operand → List Token → TExpr × List Token
+tried o ts = if at (Mark (codes "?")) ts then (expr.Try o false, rest ts) else (expr.Read (read.Plain o), ts)
+
+-- a read operand, or the inner value of one
 abbrev pub read_plain : List Token → Reads TExpr
 read_plain ts = do
   o ← read_operand ts
-  Some (expr.Read (read.Plain o.0), o.1)
+  Some (tried o.0 o.1)
 
 -- an option of a read operand
 abbrev pub read_some : List Token → Reads TExpr
@@ -152,9 +159,37 @@ read_some ts = do
   ts2 ← behind (Mark (codes ")")) o.1
   Some (expr.Some (read.Plain o.0), ts2)
 
+-- one argument more, given how to read those behind it
+abbrev pub read_arg : (List Token → Reads (List Read)) → List Token → Reads (List Read)
+read_arg args ts = do
+  ts1 ← behind (Mark (codes ",")) ts
+  o ← read_operand ts1
+  more ← args o.1
+  Some (read.Plain o.0 ∷ more.0, more.1)
+
+-- the arguments behind the context, and the ) behind them, at most so many
+unfoldable pub read_args : ℕ → List Token → Reads (List Read)
+read_args zero ts = None
+read_args (suc n) ts = if at (Mark (codes ")")) ts then Some ([], rest ts) else read_arg (read_args n) ts
+
+-- a call, from the name of what is called on
+abbrev pub read_call : List Token → Reads TExpr
+read_call ts = do
+  name ← any_word ts
+  ts1 ← phrase (Mark (codes "(") ∷ Word (codes "ctx") ∷ []) name.1
+  args ← read_args (length ts1) ts1
+  Some (expr.Call false (record { callee = callee.External name.0; args = args.0 }), args.1)
+
+-- a call behind C::, and else an operand with what is behind it
+abbrev pub read_called : Option (List Token) → List Token → Reads TExpr
+read_called None ts = read_plain ts
+read_called (Some call) ts = read_call call
+
 -- what a let or a return computes
 unfoldable pub read_expr : List Token → Reads TExpr
-read_expr ts = if at (Word (codes "Some")) ts then read_some (rest ts) else read_plain ts
+read_expr ts =
+    if at (Word (codes "Some")) ts then read_some (rest ts)
+    else read_called (phrase (Word (codes "C") ∷ Mark (codes "::") ∷ []) ts) ts
 
 -- ---- statements, from behind their first word on, given how to read a body
 
@@ -225,15 +260,21 @@ read_body (suc n) ts = if at (Mark (codes "}")) ts then Some (Done, ts) else rea
 
 -- ---- items
 
--- one parameter more, the n-th, given how to read those behind it
-abbrev pub read_param : ℕ → (List Token → Reads (List Ty)) → List Token → Reads (List Ty)
-read_param n params ts = do
+-- the n-th parameter, with its type
+abbrev pub read_typed : ℕ → List Token → Reads Ty
+read_typed n ts = do
   ts1 ← behind (param_token n) ts
   ts2 ← behind (Mark (codes ":")) ts1
   ty ← any_word ts2
-  ts3 ← behind (Mark (codes ",")) ty.1
-  more ← params ts3
-  Some (record { by_ref = false; name = ty.0 } ∷ more.0, more.1)
+  Some (record { by_ref = false; name = ty.0 }, ty.1)
+
+-- one parameter more, the n-th, given how to read those behind it
+abbrev pub read_param : ℕ → (List Token → Reads (List Ty)) → List Token → Reads (List Ty)
+read_param n params ts = do
+  ty ← read_typed n ts
+  ts1 ← behind (Mark (codes ",")) ty.1
+  more ← params ts1
+  Some (ty.0 ∷ more.0, more.1)
 
 -- the parameters from number n on, and the ) behind them, at most so many
 unfoldable pub read_params : ℕ → ℕ → List Token → Reads (List Ty)
@@ -280,6 +321,51 @@ read_functions (suc n) (t ∷ ts) = do
   fs ← read_functions n f.1
   Some (f.0 ∷ fs)
 
+-- one parameter more of a function of the trait, given how to read those behind it
+abbrev pub read_joined_param : ℕ → (List Token → Reads (List Ty)) → List Token → Reads (List Ty)
+read_joined_param n params ts = do
+  ts1 ← phrase (comma n) ts
+  ty ← read_typed n ts1
+  more ← params ty.1
+  Some (ty.0 ∷ more.0, more.1)
+
+-- those from number n on, and the ) behind them, at most so many
+unfoldable pub read_joined : ℕ → ℕ → List Token → Reads (List Ty)
+read_joined zero n ts = None
+read_joined (suc k) n ts = if at (Mark (codes ")")) ts then Some ([], rest ts) else read_joined_param n (read_joined k (n + 1)) ts
+
+-- a function of the trait
+unfoldable pub read_trait_fn : List Token → Reads TraitFn
+read_trait_fn ts = do
+  ts1 ← behind (Word (codes "fn")) ts
+  name ← any_word ts1
+  ts2 ← phrase self_param name.1
+  params ← read_joined (length ts2) 0 ts2
+  ts3 ← behind (Mark (codes "->")) params.1
+  r ← read_result ts3
+  ts4 ← behind (Mark (codes ";")) r.1
+  Some (record { name = name.0; params = params.0; results = r.0.1 ∷ []; kind = r.0.0 }, ts4)
+
+-- one function of the trait more, given how to read those behind it
+abbrev pub read_trait_more : (List Token → Reads (List TraitFn)) → List Token → Reads (List TraitFn)
+read_trait_more more ts = do
+  f ← read_trait_fn ts
+  fs ← more f.1
+  Some (f.0 ∷ fs.0, fs.1)
+
+-- the functions of the trait, up to the } behind them, at most so many
+unfoldable pub read_trait_fns : ℕ → List Token → Reads (List TraitFn)
+read_trait_fns zero ts = None
+read_trait_fns (suc n) ts = if at (Mark (codes "}")) ts then Some ([], ts) else read_trait_more (read_trait_fns n) ts
+
+-- the trait
+unfoldable pub read_trait : List Token → Reads (List TraitFn)
+read_trait ts = do
+  ts1 ← phrase trait_head ts
+  fs ← read_trait_fns (length ts1) ts1
+  ts2 ← phrase close fs.1
+  Some (fs.0, ts2)
+
 -- whether the allow lines stand here, and the tokens behind them
 abbrev pub after_allow : Option (List Token) → List Token → Bool × List Token
 after_allow (Some rest) ts = (true, rest)
@@ -289,11 +375,10 @@ after_allow None ts = (false, ts)
 abbrev pub read_items : Bool × List Token → Option Program
 read_items start = do
   ts1 ← phrase uses_tokens start.1
-  ts2 ← phrase trait_head ts1
-  ts3 ← phrase close ts2
-  ts4 ← phrase fixed_tokens ts3
-  fs ← read_functions (length ts4) ts4
-  Some (record { allow = start.0; trait_fns = []; types = []; fns = fs })
+  tfns ← read_trait ts1
+  ts2 ← phrase fixed_tokens tfns.1
+  fs ← read_functions (length ts2) ts2
+  Some (record { allow = start.0; trait_fns = tfns.0; types = []; fns = fs })
 
 -- the program that the tokens spell, or none
 unfoldable pub read_program : List Token → Option Program

@@ -3,6 +3,9 @@ use Rattle.std.specs.Prelude.{ℕ, List, [], ◌∷◌, ◌++◌, ◌==◌, Opti
 use Rattle.isle_core.specs.Value.{Value, Truth, Int, Made, End, Gives, GivesSome, GivesNone, IsUnreachable, Ran}
 use Rattle.isle_core.specs.SameValue.{same_value}
 use Rattle.isle_core.specs.Meaning.{Meaning}
+use Rattle.isle_core.specs.Answered.{Held, Absent, One, Optional, answer_held, answer}
+use Rattle.isle_core.specs.Held.{held, value_before}
+use Rattle.isle_core.specs.declared.values.Callee.{Callee}
 use Rattle.isle_ink.specs.Bytes.{same_bytes}
 use Rattle.isle_target.specs.declared.tree.Operand.{Operand}
 use Rattle.isle_target.specs.declared.tree.Operand.TheVariants as operand
@@ -14,7 +17,7 @@ use Rattle.isle_target.specs.Program.{Stmt, Let, IfEq, Return, Tail, Body, Done,
 
 -- what each local holds, the newest last
 abbrev pub Env : Type 0
-Env = List (ℕ × Value)
+Env = List (ℕ × Held)
 
 -- how statements end: they go on to what follows, the function ends, or what is read isn't there
 pub data Flow : Type 0 where
@@ -25,34 +28,46 @@ pub data Flow : Type 0 where
 -- ---- values
 
 -- what is bound last counts
-abbrev pub newer : ℕ → Option Value → ℕ × Value → Option Value
-newer n v bound = if bound.0 == n then Some bound.1 else v
+abbrev pub newer : ℕ → Held → ℕ × Held → Held
+newer n h bound = if bound.0 == n then bound.1 else h
 
--- the value of a local
-abbrev pub look : Env → ℕ → Option Value
-look env n = fold (newer n) None env
+-- what a local holds
+abbrev pub look : Env → ℕ → Held
+look env n = fold (newer n) Absent env
 
 -- a local more
-abbrev pub bind : Env → ℕ → Value → Env
-bind env n v = env ++ (n, v) ∷ []
+abbrev pub bind : Env → ℕ → Held → Env
+bind env n h = env ++ (n, h) ∷ []
 
--- the value of an operand, with the arguments of the function
-abbrev pub value_of : List Value → Env → Operand → Option Value
+-- what an operand holds, with the arguments of the function
+abbrev pub value_of : List Value → Env → Operand → Held
 value_of args env (operand.Local n) = look env n
-value_of args env (operand.Arg n) = slice_get args n
-value_of args env (operand.Bool b) = Some (Truth b)
-value_of args env (operand.Int ty z) = Some (Int ty z)
-value_of args env o = None
+value_of args env (operand.Arg n) = held (slice_get args n)
+value_of args env (operand.Bool b) = One (Truth b)
+value_of args env (operand.Int ty z) = One (Int ty z)
+value_of args env o = Absent
 
--- the value that is read
-abbrev pub read_value : List Value → Env → Read → Option Value
+-- what is read
+abbrev pub read_value : List Value → Env → Read → Held
 read_value args env (read.Plain o) = value_of args env o
-read_value args env r = None
+read_value args env r = Absent
 
--- what follows a value, where there is one
-abbrev pub on_value : Option Value → (Value → Flow) → Flow
-on_value (Some v) go = go v
-on_value None go = Stuck
+-- the values that are read, where all are
+abbrev pub read_values : List Value → Env → List Read → Option (List Value)
+read_values args env [] = Some []
+read_values args env (r ∷ rs) = value_before (read_value args env r) (read_values args env rs)
+
+-- what follows a value
+abbrev pub on_value : Held → (Value → Flow) → Flow
+on_value (One v) go = go v
+on_value (Optional o) go = Stuck
+on_value Absent go = Stuck
+
+-- what follows a value or an option
+abbrev pub on_held : Held → (Held → Flow) → Flow
+on_held (One v) go = go (One v)
+on_held (Optional o) go = go (Optional o)
+on_held Absent go = Stuck
 
 -- ---- statements
 
@@ -68,14 +83,40 @@ behind env (Goes inner made) = Goes env made
 behind env (Ends end made) = Ends end made
 behind env Stuck = Stuck
 
--- a let binds the value that is read
-abbrev pub run_let : List Value → ℕ → TExpr → Env → List Made → Flow
-run_let args n (expr.Read r) env made = on_value (read_value args env r) (λ v. Goes (bind env n v) made)
-run_let args n e env made = Stuck
+-- a local bound to what a place holds
+abbrev pub run_bind : ℕ → Held → Env → List Made → Flow
+run_bind n h env made = on_held h (λ g. Goes (bind env n g) made)
 
--- a return gives the value that is read, or an option of it
+-- a call with these arguments is made, and its local holds the answer
+abbrev pub run_call : Meaning → ℕ → Callee → Option (List Value) → Env → List Made → Flow
+run_call m n callee None env made = Stuck
+run_call m n callee (Some vs) env made = run_bind n (answer_held (answer m callee vs made)) env (made ++ record { callee = callee; args = vs } ∷ [])
+
+-- ? gives the value within an option; over nothing the function ends with nothing
+abbrev pub run_try : ℕ → Held → Env → List Made → Flow
+run_try n (Optional (Some v)) env made = Goes (bind env n (One v)) made
+run_try n (Optional None) env made = Ends GivesNone made
+run_try n (One v) env made = Stuck
+run_try n Absent env made = Stuck
+
+-- a let binds what is computed; a & means the value
+abbrev pub run_let : Meaning → List Value → ℕ → TExpr → Env → List Made → Flow
+run_let m args n (expr.Read r) env made = run_bind n (read_value args env r) env made
+run_let m args n (expr.Some r) env made = on_value (read_value args env r) (λ v. Goes (bind env n (Optional (Some v))) made)
+run_let m args n (expr.Call borrow call) env made = run_call m n call.callee (read_values args env call.args) env made
+run_let m args n (expr.Try source as_ref) env made = run_try n (value_of args env source) env made
+run_let m args n e env made = Stuck
+
+-- the function ends with what a place holds
+abbrev pub ends_with : Held → List Made → Flow
+ends_with (One v) made = Ends (Gives v) made
+ends_with (Optional (Some v)) made = Ends (GivesSome v) made
+ends_with (Optional None) made = Ends GivesNone made
+ends_with Absent made = Stuck
+
+-- a return gives what is read, or an option of it
 abbrev pub run_return : List Value → TExpr → Env → List Made → Flow
-run_return args (expr.Read r) env made = on_value (read_value args env r) (λ v. Ends (Gives v) made)
+run_return args (expr.Read r) env made = ends_with (read_value args env r) made
 run_return args (expr.Some r) env made = on_value (read_value args env r) (λ v. Ends (GivesSome v) made)
 run_return args e env made = Stuck
 
@@ -87,7 +128,7 @@ tail_end (Some texts) = IsUnreachable
 -- a statement, and statements in order, with the arguments of the function
 abbrev mutual
   pub run_stmt : Meaning → List Value → Stmt → Env → List Made → Flow
-  run_stmt m args (Let n e) env made = run_let args n e env made
+  run_stmt m args (Let n e) env made = run_let m args n e env made
   run_stmt m args (IfEq a b inside) env made =
       on_value (value_of args env a) (λ v. on_value (value_of args env b) (λ w.
       if same_value v w then behind env (run_body m args inside env made) else Goes env made))

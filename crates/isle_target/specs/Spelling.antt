@@ -1,11 +1,14 @@
 -- The tokens of a program. A form that is not built has none.
-use Rattle.std.specs.Prelude.{ℕ, ◌+◌, List, [], ◌∷◌, ◌++◌, Bool, true, false, Option, Some, None, codes}
+use Rattle.std.specs.Prelude.{ℕ, zero, suc, ◌+◌, List, [], ◌∷◌, ◌++◌, Bool, true, false, Option, Some, None, codes}
 use Rattle.isle_core.specs.Int.{wrapped}
+use Rattle.isle_core.specs.declared.values.Callee.{Callee}
+use Rattle.isle_core.specs.declared.values.Callee.TheVariants as callee
 use Rattle.isle_core.specs.declared.types.ReturnKind.{ReturnKind}
 use Rattle.isle_core.specs.declared.types.ReturnKind.TheVariants as kind
 use Rattle.isle_ink.specs.Token.{Token, Word, Mark, Quoted}
 use Rattle.isle_ink.specs.Number.{numeral}
 use Rattle.isle_target.specs.declared.tree.Ty.{Ty}
+use Rattle.isle_target.specs.declared.tree.TraitFn.{TraitFn}
 use Rattle.isle_target.specs.declared.tree.Operand.{Operand}
 use Rattle.isle_target.specs.declared.tree.Operand.TheVariants as operand
 use Rattle.isle_target.specs.declared.tree.Read.{Read}
@@ -44,9 +47,25 @@ abbrev pub read_tokens : Read → List Token
 read_tokens (read.Plain o) = operand_tokens o
 read_tokens r = []
 
+-- C::F(ctx
+abbrev pub call_head : List ℕ → List Token
+call_head name = Word (codes "C") ∷ Mark (codes "::") ∷ Word name ∷ Mark (codes "(") ∷ Word (codes "ctx") ∷ []
+
+-- the arguments of a call, each behind a comma, and what closes them
+abbrev pub args_tokens : List Read → List Token
+args_tokens [] = Mark (codes ")") ∷ []
+args_tokens (r ∷ rs) = Mark (codes ",") ∷ (read_tokens r ++ args_tokens rs)
+
+-- a call of a function of the trait
+abbrev pub call_tokens : Callee → List Read → List Token
+call_tokens (callee.External name) args = call_head name ++ args_tokens args
+call_tokens (callee.Internal term) args = []
+
 -- what a let or a return computes
 abbrev pub expr_tokens : TExpr → List Token
 expr_tokens (expr.Read r) = read_tokens r
+expr_tokens (expr.Call false call) = call_tokens call.callee call.args
+expr_tokens (expr.Try source false) = operand_tokens source ++ Mark (codes "?") ∷ []
 expr_tokens (expr.Some r) = Word (codes "Some") ∷ Mark (codes "(") ∷ (read_tokens r ++ Mark (codes ")") ∷ [])
 expr_tokens e = []
 
@@ -117,9 +136,13 @@ context_param =
 abbrev pub function_head : List ℕ → List Token
 function_head term = Word (codes "pub") ∷ Word (codes "fn") ∷ Word (constructor_word term) ∷ (generics ++ context_param)
 
+-- argN: TYPE
+abbrev pub typed_tokens : ℕ → Ty → List Token
+typed_tokens n ty = param_token n ∷ Mark (codes ":") ∷ Word ty.name ∷ []
+
 -- the n-th parameter with its type
 abbrev pub param_tokens : ℕ → Ty → List Token
-param_tokens n ty = param_token n ∷ Mark (codes ":") ∷ Word ty.name ∷ Mark (codes ",") ∷ []
+param_tokens n ty = typed_tokens n ty ++ Mark (codes ",") ∷ []
 
 -- the parameters from number n on
 abbrev pub params_tokens : ℕ → List Ty → List Token
@@ -154,7 +177,47 @@ allow_part false = []
 abbrev pub trait_head : List Token
 trait_head = Word (codes "pub") ∷ Word (codes "trait") ∷ Word (codes "Context") ∷ Mark (codes "{") ∷ []
 
+-- (&mut self,
+abbrev pub self_param : List Token
+self_param = Mark (codes "(") ∷ Mark (codes "&") ∷ Word (codes "mut") ∷ Word (codes "self") ∷ Mark (codes ",") ∷ []
+
+-- what a function of the trait begins with
+abbrev pub trait_fn_head : List ℕ → List Token
+trait_fn_head name = Word (codes "fn") ∷ Word name ∷ self_param
+
+-- what stands before the n-th parameter
+abbrev pub comma : ℕ → List Token
+comma zero = []
+comma (suc n) = Mark (codes ",") ∷ []
+
+-- the parameters from number n on, and what closes them
+abbrev pub joined_tokens : ℕ → List Ty → List Token
+joined_tokens n [] = Mark (codes ")") ∷ []
+joined_tokens n (ty ∷ tys) = comma n ++ (typed_tokens n ty ++ joined_tokens (n + 1) tys)
+
+-- what a function of the trait gives: one result
+abbrev pub results_tokens : ReturnKind → List (List ℕ) → List Token
+results_tokens kind (ty ∷ []) = result_tokens kind ty
+results_tokens kind tys = []
+
+-- -> RESULT;
+abbrev pub trait_result : ReturnKind → List (List ℕ) → List Token
+trait_result kind tys = Mark (codes "->") ∷ (results_tokens kind tys ++ Mark (codes ";") ∷ [])
+
+-- a function of the trait
+unfoldable pub trait_fn_tokens : TraitFn → List Token
+trait_fn_tokens f = trait_fn_head f.name ++ (joined_tokens 0 f.params ++ trait_result f.kind f.results)
+
+-- the functions of the trait in order
+abbrev pub trait_fns_tokens : List TraitFn → List Token
+trait_fns_tokens [] = []
+trait_fns_tokens (f ∷ fs) = trait_fn_tokens f ++ trait_fns_tokens fs
+
+-- the trait with its functions
+abbrev pub trait_tokens : List TraitFn → List Token
+trait_tokens fs = trait_head ++ (trait_fns_tokens fs ++ close)
+
 -- the allow lines, the uses, the trait, the fixed items, the functions
 abbrev pub program_tokens : Program → List Token
 program_tokens p =
-    allow_part p.allow ++ (uses_tokens ++ (trait_head ++ (close ++ (fixed_tokens ++ functions_tokens p.fns))))
+    allow_part p.allow ++ (uses_tokens ++ (trait_tokens p.trait_fns ++ (fixed_tokens ++ functions_tokens p.fns)))

@@ -1,63 +1,96 @@
 //! The locals that are bound.
 
-ghost use Rattle.std.specs.Prelude.{◌≡◌, ◌++◌, [], ◌∷◌, length, take, Contains, IsTrue, ◌↔◌, OnOk};
-ghost use Rattle.isle_target.specs.Bound.{Finds};
+ghost use Rattle.std.specs.Prelude.{◌≡◌, ◌-◌, ◌++◌, [], ◌∷◌, length, take, IsSome, OnOk};
+ghost use Rattle.std.specs.Ordering.{nat_cmp};
+ghost use Rattle.std.specs.BTreeMap.{get, Updates};
+ghost use Rattle.isle_target.specs.WellFormed.{local_holds};
+ghost use Rattle.isle_target.specs.Bound.{logged, Finds};
 
+use crate::entry::Entry;
+use crate::holds::Holds;
 use std::alloc::{AllocError, Global};
 use std::collections::BTreeMap;
 use std::marker::Model;
 
-/// Locals in the order in which they were bound, each found by its number: the map has the first place of each that is
-/// bound.
+/// Locals in the order in which they were bound, with what each holds. What is bound last counts: the map has it, and the
+/// log what the map is to have again.
 #[derive(Drop)]
 pub struct Bound {
-    locals: Vec<usize>,
-    places: BTreeMap<usize, usize>,
+    log: Vec<Entry>,
+    held: BTreeMap<usize, Holds>,
 }
 
 impl Model for Bound {
-    ghost use Rattle.std.specs.Prelude.{List, ℕ};
-    ghost use Rattle.isle_target.specs.Bound.{Finds};
+    ghost use Rattle.isle_target.specs.WellFormed.{Locals};
+    ghost use Rattle.isle_target.specs.Bound.{logged, Finds};
 
-    ghost Value = { List ℕ };
+    ghost Value = { Locals };
 
-    ghost view = { λ b. b.locals.items };
+    ghost view = { λ b. logged b.log.items };
 
-    ghost invariant = { λ b. Finds b.locals.items b.places };
+    ghost invariant = { λ b. Finds b.log.items b.held };
 }
 
-// Whether a local is bound.
-fn is_at(locals: &[usize], places: &BTreeMap<usize, usize>, local: usize) -> bool
-    requires { Finds locals.now places.now }
-    ensures { IsTrue result ↔ Contains locals.now local }
+// Binds a local.
+fn note(
+    log: &mut Vec<Entry>,
+    held: &mut BTreeMap<usize, Holds>,
+    local: usize,
+    holds: Holds,
+) -> Result<(), AllocError>
+    requires { Finds log.old.items held.old }
+    ensures keeps { Finds log.new.items held.new }
+    ensures more { OnOk result (logged log.new.items ≡ logged log.old.items ++ (local, holds) ∷ []) }
 {
-    match places.get(&local).copied() {
-        None => false,
-        Some(place) => {
-            if place >= locals.len() {
-                return false;
-            }
-            locals[place] == local
+    let before = held.get(&local).copied();
+    log.push(Entry {
+        local,
+        holds,
+        before,
+    })?;
+    match held.insert(local, holds) {
+        Ok(_) => Ok(()),
+        Err(_) => {
+            log.pop();
+            Err(AllocError)
         }
     }
 }
 
-// Notes the place of a local, where it is not bound yet.
-fn note(
-    locals: &[usize],
-    places: &mut BTreeMap<usize, usize>,
-    local: usize,
-) -> Result<(), AllocError>
-    requires { Finds locals.now places.old }
-    ensures keeps { Finds locals.now places.new }
-    ensures finds { OnOk result (Finds (locals.now ++ local ∷ []) places.new) }
+// Gives the local of an entry what it held before.
+fn restore(held: &mut BTreeMap<usize, Holds>, entry: Entry)
+    requires { IsSome (get nat_cmp held.old entry.local) }
+    ensures { Updates nat_cmp held.old held.new entry.local entry.before }
 {
-    if is_at(locals, places, local) {
-        return Ok(());
+    match entry.before {
+        None => {
+            held.remove(&entry.local);
+        }
+        Some(holds) => {
+            let _ = held.insert(entry.local, holds);
+        }
     }
-    match places.insert(local, locals.len()) {
-        Ok(_) => Ok(()),
-        Err(_) => Err(AllocError),
+}
+
+// Unbinds what was bound last.
+fn undo(log: &mut Vec<Entry>, held: &mut BTreeMap<usize, Holds>)
+    requires { Finds log.old.items held.old }
+    ensures keeps { Finds log.new.items held.new }
+    ensures fewer { log.new.items ≡ take (length log.old.items - 1) log.old.items }
+{
+    if let Some(entry) = log.pop() {
+        restore(held, entry);
+    }
+}
+
+// Unbinds all but those that were bound first, as many as `len`.
+fn undo_to(log: &mut Vec<Entry>, held: &mut BTreeMap<usize, Holds>, len: usize)
+    requires { Finds log.old.items held.old }
+    ensures keeps { Finds log.new.items held.new }
+    ensures fewer { log.new.items ≡ take len log.old.items }
+{
+    while log.len() > len {
+        undo(log, held);
     }
 }
 
@@ -67,8 +100,8 @@ impl Bound {
         ensures { result ≡ [] }
     {
         Bound {
-            locals: Vec::new(alloc),
-            places: BTreeMap::new(alloc),
+            log: Vec::new(alloc),
+            held: BTreeMap::new(alloc),
         }
     }
 
@@ -76,29 +109,27 @@ impl Bound {
     pub fn len(&self) -> usize
         ensures { result ≡ length self.now }
     {
-        self.locals.len()
+        self.log.len()
     }
 
-    /// Whether a local is bound.
-    pub fn has(&self, local: usize) -> bool
-        ensures { IsTrue result ↔ Contains self.now local }
+    /// What a local holds, where it is bound.
+    pub fn holds(&self, local: usize) -> Option<Holds>
+        ensures { result ≡ local_holds self.now local }
     {
-        is_at(&self.locals, &self.places, local)
+        self.held.get(&local).copied()
     }
 
     /// Binds a local. Where that is refused for want of memory, what is bound stays.
-    pub fn bind(&mut self, local: usize) -> Result<(), AllocError>
-        ensures { OnOk result (self.new ≡ self.old ++ local ∷ []) }
+    pub fn bind(&mut self, local: usize, holds: Holds) -> Result<(), AllocError>
+        ensures { OnOk result (self.new ≡ self.old ++ (local, holds) ∷ []) }
     {
-        note(&self.locals, &mut self.places, local)?;
-        self.locals.push(local)?;
-        Ok(())
+        note(&mut self.log, &mut self.held, local, holds)
     }
 
     /// Leaves only those that were bound first, as many as `len`.
     pub fn truncate(&mut self, len: usize)
         ensures { self.new ≡ take len self.old }
     {
-        self.locals.truncate(len);
+        undo_to(&mut self.log, &mut self.held, len);
     }
 }

@@ -1,12 +1,12 @@
-//! Whether functions have different names.
+//! Whether functions have different names, those of the program and those of the trait.
 
 ghost use Rattle.std.specs.Prelude.{IfOk, IsTrue, ◌↔◌, map};
 ghost use Rattle.std.specs.List.{IsDistinct};
 ghost use Rattle.std.specs.Str.{bytes_eq};
 ghost use Rattle.isle_target.specs.Views.{function};
-ghost use Rattle.isle_target.specs.WellFormed.{terms};
+ghost use Rattle.isle_target.specs.WellFormed.{terms, fn_names};
 
-use crate::tree::Function;
+use crate::tree::{Function, TraitFn};
 use isle_core::OutOfMemory;
 use std::alloc::Global;
 use std::collections::BTreeSet;
@@ -18,6 +18,19 @@ pub fn are_distinct(alloc: Global, fns: &[Function]) -> Result<bool, OutOfMemory
     let mut seen: BTreeSet<&str> = BTreeSet::new(alloc);
     for f in fns {
         if !seen.insert(f.term.as_str())? {
+            return Ok(false);
+        }
+    }
+    Ok(true)
+}
+
+/// Whether no two functions of the trait have one name. The only error is want of memory.
+pub fn are_apart(alloc: Global, fns: &[TraitFn]) -> Result<bool, OutOfMemory>
+    ensures { IfOk result (λ b. IsTrue b ↔ IsDistinct bytes_eq (fn_names fns.now)) }
+{
+    let mut seen: BTreeSet<&str> = BTreeSet::new(alloc);
+    for f in fns {
+        if !seen.insert(f.name.as_str())? {
             return Ok(false);
         }
     }

@@ -2,26 +2,37 @@
 
 ghost use Rattle.std.specs.Prelude.{◌↔◌, IsTrue};
 ghost use Rattle.isle_target.specs.Views.{stmt, body};
-ghost use Rattle.isle_target.specs.WellFormed.{IsValue, FitsReturn, FitsStmt, FitsBody, FitsLast, FitsFunction};
+ghost use Rattle.isle_target.specs.WellFormed.{FitsLet, IsReturned, FitsStmt, FitsBody, FitsLast, FitsFunction};
 
 use crate::tree::{Stmt, TExpr};
 use isle_core::ReturnKind;
 
-// Whether a value is computed, and no option.
-fn is_value(e: &TExpr) -> bool
-    ensures { IsTrue result ↔ IsValue e.now }
+// Whether a `let` may compute it in a function of the kind.
+fn fits_let(kind: ReturnKind, e: &TExpr) -> bool
+    ensures { IsTrue result ↔ FitsLet kind e.now }
 {
-    matches!(e, TExpr::Read(_))
+    match e {
+        TExpr::Try { .. } => kind == ReturnKind::Option,
+        TExpr::Read(_)
+        | TExpr::Call { .. }
+        | TExpr::Variant { .. }
+        | TExpr::Struct { .. }
+        | TExpr::Some(_)
+        | TExpr::Tuple(..) => true,
+    }
 }
 
-// Whether a return gives what the kind asks for.
-fn fits_return(kind: ReturnKind, e: &TExpr) -> bool
-    ensures { IsTrue result ↔ FitsReturn kind e.now }
+// Whether a `return` may compute it.
+fn is_returned(e: &TExpr) -> bool
+    ensures { IsTrue result ↔ IsReturned e.now }
 {
-    match (kind, e) {
-        (ReturnKind::Plain, TExpr::Read(_)) => true,
-        (ReturnKind::Option, TExpr::Some(_)) => true,
-        _ => false,
+    match e {
+        TExpr::Read(_) | TExpr::Some(_) => true,
+        TExpr::Call { .. }
+        | TExpr::Variant { .. }
+        | TExpr::Struct { .. }
+        | TExpr::Try { .. }
+        | TExpr::Tuple(..) => false,
     }
 }
 
@@ -32,9 +43,9 @@ fn fits_stmt(kind: ReturnKind, s: &Stmt) -> bool
     ensures { IsTrue result ↔ FitsStmt kind (stmt s.now) }
 {
     match s {
-        Stmt::Let(_, e) => is_value(e),
+        Stmt::Let(_, e) => fits_let(kind, e),
         Stmt::IfEq(_, _, inside) => fits_body(kind, inside.as_slice()),
-        Stmt::Return(e) => fits_return(kind, e),
+        Stmt::Return(e) => is_returned(e),
         Stmt::Tail(_)
         | Stmt::LetList { .. }
         | Stmt::IfLet(..)
@@ -66,7 +77,7 @@ fn fits_last(kind: ReturnKind, s: &Stmt) -> bool
     ensures { IsTrue result ↔ FitsLast kind (stmt s.now) }
 {
     match s {
-        Stmt::Return(e) => fits_return(kind, e),
+        Stmt::Return(e) => is_returned(e),
         Stmt::Tail(None) => kind == ReturnKind::Option,
         Stmt::Tail(Some(_)) => kind == ReturnKind::Plain,
         Stmt::Let(..)

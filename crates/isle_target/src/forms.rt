@@ -1,34 +1,26 @@
 //! Which programs have a text.
 
-ghost use Rattle.std.specs.Prelude.{IfOk, IsTrue, ◌↔◌, map};
+ghost use Rattle.std.specs.Prelude.{◌≡◌, IfOk, IsTrue, ◌↔◌, map};
 ghost use Rattle.std.specs.List.{AllByRecursion};
 ghost use Rattle.isle_target.specs.Program.{Program as Target};
 ghost use Rattle.isle_target.specs.Views.{program, function};
-ghost use Rattle.isle_target.specs.WellFormed.{IsKind, IsFunction, IsWellFormed};
+ghost use Rattle.isle_target.specs.WellFormed.{IsFunction, IsWellFormed};
 
 use crate::bound::Bound;
-use crate::distinct::are_distinct;
+use crate::callees::Callees;
+use crate::distinct::{are_apart, are_distinct};
 use crate::fits::fits_function;
-use crate::names::has_names;
+use crate::names::{has_names, is_kind};
 use crate::shapes::is_body;
 use crate::there::is_body_there;
+use crate::trait_fns::are_trait_fns;
 use crate::tree::{Function, Program};
-use isle_core::{OutOfMemory, ReturnKind};
+use isle_core::OutOfMemory;
 use std::alloc::Global;
 
-// Whether a function may answer so often.
-fn is_kind(kind: ReturnKind) -> bool
-    ensures { IsTrue result ↔ IsKind kind }
-{
-    match kind {
-        ReturnKind::Plain | ReturnKind::Option => true,
-        ReturnKind::Iterator => false,
-    }
-}
-
-// Whether a function is well formed, whatever else is in its program.
-fn is_function(alloc: Global, f: &Function) -> Result<bool, OutOfMemory>
-    ensures { IfOk result (λ b. (p : Target) → IsTrue b ↔ IsFunction p (function f.now)) }
+// Whether a function is well formed in a program with these functions of the trait, whatever else is in it.
+fn is_function(alloc: Global, callees: &Callees, f: &Function) -> Result<bool, OutOfMemory>
+    ensures { IfOk result (λ b. (p : Target) → p.trait_fns ≡ callees.now → IsTrue b ↔ IsFunction p (function f.now)) }
 {
     if !has_names(f) {
         return Ok(false);
@@ -44,15 +36,16 @@ fn is_function(alloc: Global, f: &Function) -> Result<bool, OutOfMemory>
         return Ok(false);
     }
     let mut bound = Bound::new(alloc);
-    Ok(is_body_there(&mut bound, f.params.as_slice().len(), stmts)?)
+    let params = f.params.as_slice().len();
+    Ok(is_body_there(callees, f.kind, params, &mut bound, stmts)?)
 }
 
 // Whether all functions are.
-fn are_functions(alloc: Global, fns: &[Function]) -> Result<bool, OutOfMemory>
-    ensures { IfOk result (λ b. (p : Target) → IsTrue b ↔ AllByRecursion (IsFunction p) (map function fns.now)) }
+fn are_functions(alloc: Global, callees: &Callees, fns: &[Function]) -> Result<bool, OutOfMemory>
+    ensures { IfOk result (λ b. (p : Target) → p.trait_fns ≡ callees.now → IsTrue b ↔ AllByRecursion (IsFunction p) (map function fns.now)) }
 {
     for f in fns {
-        if !is_function(alloc, f)? {
+        if !is_function(alloc, callees, f)? {
             return Ok(false);
         }
     }
@@ -63,14 +56,18 @@ fn are_functions(alloc: Global, fns: &[Function]) -> Result<bool, OutOfMemory>
 pub fn well_formed(alloc: Global, p: &Program) -> Result<bool, OutOfMemory>
     ensures { IfOk result (λ b. IsTrue b ↔ IsWellFormed (program p.now)) }
 {
-    if !p.trait_fns.as_slice().is_empty() {
+    if !are_trait_fns(p.trait_fns.as_slice()) {
+        return Ok(false);
+    }
+    if !are_apart(alloc, p.trait_fns.as_slice())? {
         return Ok(false);
     }
     if !p.types.as_slice().is_empty() {
         return Ok(false);
     }
     let fns = p.fns.as_slice();
-    if !are_functions(alloc, fns)? {
+    let callees = Callees::new(alloc, p.trait_fns.as_slice())?;
+    if !are_functions(alloc, &callees, fns)? {
         return Ok(false);
     }
     Ok(are_distinct(alloc, fns)?)

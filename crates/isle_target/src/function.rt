@@ -4,8 +4,8 @@ ghost use Rattle.std.specs.Prelude.{◌≡◌, ◌++◌, [], ◌∷◌, OnOk};
 ghost use Rattle.std.specs.List.{AllByRecursion};
 ghost use Rattle.isle_ink.specs.Token.{Word};
 ghost use Rattle.isle_target.specs.Views.{function, body};
-ghost use Rattle.isle_target.specs.WellFormed.{IsTermName, IsBuiltin, IsTy, HasNames};
-ghost use Rattle.isle_target.specs.Spelling.{constructor_word, generics, context_param, function_head, param_tokens, params_tokens, result_tokens, result_part, function_tokens};
+ghost use Rattle.isle_target.specs.WellFormed.{IsTermName, IsBuiltin, IsTy, IsBody, HasNames};
+ghost use Rattle.isle_target.specs.Spelling.{constructor_word, generics, context_param, function_head, typed_tokens, param_tokens, params_tokens, result_tokens, result_part, function_tokens};
 
 use crate::statement::print_body;
 use crate::tree::{Function, Ty};
@@ -61,17 +61,25 @@ fn print_head(out: &mut Printer, alloc: Global, term: &str) -> Result<(), AllocE
     print_context(out)
 }
 
-// Prints the parameter of this number.
+/// Prints the parameter of this number with its type. What is printed after an error is left open.
 #[tactic(auto, using(crate::proofs::TypeNames::builtin_is_word))]
+pub fn print_typed(out: &mut Printer, alloc: Global, i: usize, ty: &Ty) -> Result<(), AllocError>
+    requires { IsTy ty.now }
+    ensures { OnOk result (out.new ≡ out.old ++ typed_tokens i ty.now) }
+{
+    out.numbered(alloc, "arg", i)?;
+    out.mark(":")?;
+    out.space()?;
+    out.word(ty.name.as_str())
+}
+
+// Prints the parameter of this number, and its comma.
 fn print_param(out: &mut Printer, alloc: Global, i: usize, ty: &Ty) -> Result<(), AllocError>
     requires { IsTy ty.now }
     ensures { OnOk result (out.new ≡ out.old ++ param_tokens i ty.now) }
 {
     out.space()?;
-    out.numbered(alloc, "arg", i)?;
-    out.mark(":")?;
-    out.space()?;
-    out.word(ty.name.as_str())?;
+    print_typed(out, alloc, i, ty)?;
     out.mark(",")
 }
 
@@ -86,9 +94,9 @@ fn print_params(out: &mut Printer, alloc: Global, params: &[Ty]) -> Result<(), A
     out.mark(")")
 }
 
-// Prints what a function gives.
+/// Prints what a function gives. What is printed after an error is left open.
 #[tactic(auto, using(crate::proofs::TypeNames::builtin_is_word))]
-fn print_result(out: &mut Printer, kind: ReturnKind, ty: &str) -> Result<(), AllocError>
+pub fn print_result(out: &mut Printer, kind: ReturnKind, ty: &str) -> Result<(), AllocError>
     requires { IsBuiltin ty.now }
     ensures { OnOk result (out.new ≡ out.old ++ result_tokens kind ty.now) }
 {
@@ -119,7 +127,8 @@ fn print_arrow(out: &mut Printer, kind: ReturnKind, ty: &str) -> Result<(), Allo
 
 /// Prints the function of a term behind a line of its own. What is printed after an error is left open.
 pub fn print_function(out: &mut Printer, alloc: Global, f: &Function) -> Result<(), AllocError>
-    requires { HasNames (function f.now) }
+    requires names { HasNames (function f.now) }
+    requires forms { IsBody (body f.now.body) }
     ensures { OnOk result (out.new ≡ out.old ++ function_tokens (function f.now)) }
 {
     out.line()?;

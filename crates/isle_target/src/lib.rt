@@ -2,11 +2,18 @@
 #![tactic(auto)]
 
 mod bound;
+mod call;
+mod callees;
+mod context;
 mod distinct;
+mod entry;
 mod fits;
 mod fixed;
 mod forms;
 mod function;
+mod held;
+mod holds;
+mod identifier;
 mod literal;
 mod names;
 mod operand;
@@ -16,10 +23,14 @@ mod statement;
 #[cfg(test)]
 mod tests;
 mod there;
+mod trait_fns;
+#[cfg(test)]
+mod trait_tests;
 mod tree;
 
 pub use bound::Bound;
 pub use forms::well_formed;
+pub use holds::Holds;
 pub use literal::{rust_int_literal, type_name};
 pub use print::print_program;
 pub use tree::{

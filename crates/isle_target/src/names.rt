@@ -6,10 +6,10 @@ ghost use Rattle.isle_ink.specs.Token.{is_word_byte};
 ghost use Rattle.isle_ink.specs.Bytes.{same_bytes};
 ghost use Rattle.isle_target.specs.Literal.{type_named};
 ghost use Rattle.isle_target.specs.Views.{function};
-ghost use Rattle.isle_target.specs.WellFormed.{IsTermName, IsBuiltin, IsTy, HasNames};
+ghost use Rattle.isle_target.specs.WellFormed.{IsTermName, IsBuiltin, IsTy, IsKind, HasNames};
 
 use crate::tree::{Function, Ty};
-use isle_core::IntType;
+use isle_core::{IntType, ReturnKind};
 
 // A letter, a digit or _.
 fn is_word_byte(byte: u8) -> bool
@@ -18,8 +18,8 @@ fn is_word_byte(byte: u8) -> bool
     byte.is_ascii_alphanumeric() || byte == b'_'
 }
 
-// Whether all bytes may stand in a word.
-fn are_word_bytes(bytes: &[u8]) -> bool
+/// Whether all bytes may stand in a word.
+pub fn are_word_bytes(bytes: &[u8]) -> bool
     ensures { result ≡ list_all is_word_byte bytes.now }
 {
     for byte in bytes {
@@ -81,14 +81,24 @@ fn int_type_named(name: &str) -> Option<IntType>
     None
 }
 
-// Whether the name is that of a builtin type.
-fn is_builtin(name: &str) -> bool
+/// Whether the name is that of a builtin type.
+pub fn is_builtin(name: &str) -> bool
     ensures { IsTrue result ↔ IsBuiltin name.now }
 {
     if is_same("bool", name) {
         return true;
     }
     int_type_named(name).is_some()
+}
+
+/// Whether a function may answer so often.
+pub fn is_kind(kind: ReturnKind) -> bool
+    ensures { IsTrue result ↔ IsKind kind }
+{
+    match kind {
+        ReturnKind::Plain | ReturnKind::Option => true,
+        ReturnKind::Iterator => false,
+    }
 }
 
 // Whether a parameter may have the type.
@@ -101,8 +111,8 @@ fn is_ty(ty: &Ty) -> bool
     is_builtin(ty.name.as_str())
 }
 
-// Whether parameters may have the types.
-fn are_tys(tys: &[Ty]) -> bool
+/// Whether parameters may have the types.
+pub fn are_tys(tys: &[Ty]) -> bool
     ensures { IsTrue result ↔ AllByRecursion IsTy tys.now }
 {
     for ty in tys {

@@ -1,10 +1,12 @@
 //! The text of operands, and of what is computed from them. A form that isn't built has none.
 
-ghost use Rattle.std.specs.Prelude.{◌≡◌, ◌++◌, OnOk};
+ghost use Rattle.std.specs.Prelude.{◌≡◌, ◌++◌, false, OnOk};
 ghost use Rattle.isle_core.specs.Int.{wrapped};
 ghost use Rattle.isle_target.specs.Literal.{literal_tokens};
 ghost use Rattle.isle_target.specs.Spelling.{operand_tokens, read_tokens, expr_tokens};
+ghost use Rattle.isle_target.specs.WellFormed.{IsExpr};
 
+use crate::call::print_call;
 use crate::literal::rust_int_literal;
 use crate::tree::{Operand, Read, TExpr};
 use isle_core::IntType;
@@ -42,8 +44,8 @@ pub fn print_operand(out: &mut Printer, alloc: Global, o: &Operand) -> Result<()
     }
 }
 
-// Prints an operand as it is read.
-fn print_read(out: &mut Printer, alloc: Global, read: &Read) -> Result<(), AllocError>
+/// Prints an operand as it is read. What is printed after an error is left open.
+pub fn print_read(out: &mut Printer, alloc: Global, read: &Read) -> Result<(), AllocError>
     ensures { OnOk result (out.new ≡ out.old ++ read_tokens read.now) }
 {
     match read {
@@ -62,17 +64,34 @@ fn print_some(out: &mut Printer, alloc: Global, read: &Read) -> Result<(), Alloc
     out.mark(")")
 }
 
+// Prints what stands within an operand's option.
+fn print_try(out: &mut Printer, alloc: Global, o: &Operand) -> Result<(), AllocError>
+    ensures { OnOk result (out.new ≡ out.old ++ expr_tokens (TExpr.Try o.now false)) }
+{
+    print_operand(out, alloc, o)?;
+    out.mark("?")
+}
+
 /// Prints what a `let` or a `return` computes. What is printed after an error is left open.
 pub fn print_expr(out: &mut Printer, alloc: Global, e: &TExpr) -> Result<(), AllocError>
+    requires { IsExpr e.now }
     ensures { OnOk result (out.new ≡ out.old ++ expr_tokens e.now) }
 {
     match e {
         TExpr::Read(read) => print_read(out, alloc, read),
         TExpr::Some(read) => print_some(out, alloc, read),
+        TExpr::Call {
+            borrow: false,
+            call,
+        } => print_call(out, alloc, call),
+        TExpr::Try {
+            source,
+            as_ref: false,
+        } => print_try(out, alloc, source),
         TExpr::Call { .. }
+        | TExpr::Try { .. }
         | TExpr::Variant { .. }
         | TExpr::Struct { .. }
-        | TExpr::Try { .. }
         | TExpr::Tuple(..) => Ok(()),
     }
 }

@@ -5,9 +5,10 @@ ghost use Rattle.isle_ink.specs.Token.{tokens_of};
 ghost use Rattle.isle_target.specs.Views.{program};
 ghost use Rattle.isle_target.specs.WellFormed.{IsWellFormed};
 ghost use Rattle.isle_target.specs.Fixed.{uses_tokens, fixed_tokens};
-ghost use Rattle.isle_target.specs.Spelling.{allow_part, trait_head, close, functions_tokens, program_tokens};
+ghost use Rattle.isle_target.specs.Spelling.{allow_part, functions_tokens, program_tokens};
 ghost use Rattle.isle_target.specs.Reading.{SpellsOnly};
 
+use crate::context::print_trait;
 use crate::fixed::{print_allow, print_fixed, print_uses};
 use crate::function::print_function;
 use crate::tree::Program;
@@ -23,20 +24,6 @@ fn print_head(out: &mut Printer, allow: bool) -> Result<(), AllocError>
         print_allow(out)?;
     }
     print_uses(out)
-}
-
-// The trait that a program's functions are generic over.
-fn print_trait(out: &mut Printer) -> Result<(), AllocError>
-    ensures { OnOk result (out.new ≡ out.old ++ (trait_head ++ close)) }
-{
-    out.word("pub")?;
-    out.word("trait")?;
-    out.word("Context")?;
-    out.space()?;
-    out.mark("{")?;
-    out.line()?;
-    out.mark("}")?;
-    Ok(())
 }
 
 // The functions of a program.
@@ -58,7 +45,7 @@ pub fn print_program(alloc: Global, p: &Program) -> Result<String, OutOfMemory>
 {
     let mut out = Printer::new(alloc);
     print_head(&mut out, p.allow)?;
-    print_trait(&mut out)?;
+    print_trait(&mut out, alloc, p.trait_fns.as_slice())?;
     print_fixed(&mut out)?;
     print_functions(&mut out, alloc, p)?;
     Ok(out.into_text())

@@ -3,10 +3,12 @@
 ghost use Rattle.std.specs.Prelude.{◌↔◌, IsTrue};
 ghost use Rattle.isle_core.specs.HasType.{IsHeld};
 ghost use Rattle.isle_target.specs.Views.{stmt, body};
-ghost use Rattle.isle_target.specs.WellFormed.{IsOperand, IsRead, IsExpr, IsStmt, IsBody};
+ghost use Rattle.std.specs.List.{AllByRecursion};
+ghost use Rattle.isle_target.specs.WellFormed.{IsOperand, IsRead, IsCallee, IsCall, IsExpr, IsStmt, IsBody};
 
-use crate::tree::{Operand, Read, Stmt, TExpr};
-use isle_core::IntType;
+use crate::identifier::is_identifier;
+use crate::tree::{Operand, Read, Stmt, TCall, TExpr};
+use isle_core::{Callee, IntType};
 
 // Whether the number is one of the type, as a value holds it.
 fn is_held(ty: IntType, val: i128) -> bool
@@ -48,17 +50,47 @@ fn is_read(read: &Read) -> bool
     }
 }
 
+// Whether all that are read are.
+fn are_reads(reads: &[Read]) -> bool
+    ensures { IsTrue result ↔ AllByRecursion IsRead reads.now }
+{
+    for read in reads {
+        if !is_read(read) {
+            return false;
+        }
+    }
+    true
+}
+
+// Whether what is called is.
+fn is_callee(callee: &Callee) -> bool
+    ensures { IsTrue result ↔ IsCallee callee.now }
+{
+    match callee {
+        Callee::External(name) => is_identifier(name.as_str()),
+        Callee::Internal(_) => false,
+    }
+}
+
+// Whether a call is.
+fn is_call(call: &TCall) -> bool
+    ensures { IsTrue result ↔ IsCall call.now }
+{
+    if !is_callee(&call.callee) {
+        return false;
+    }
+    are_reads(call.args.as_slice())
+}
+
 // Whether what is computed is.
 fn is_expr(e: &TExpr) -> bool
     ensures { IsTrue result ↔ IsExpr e.now }
 {
     match e {
         TExpr::Read(read) | TExpr::Some(read) => is_read(read),
-        TExpr::Call { .. }
-        | TExpr::Variant { .. }
-        | TExpr::Struct { .. }
-        | TExpr::Try { .. }
-        | TExpr::Tuple(..) => false,
+        TExpr::Call { borrow, call } => !*borrow && is_call(call),
+        TExpr::Try { source, as_ref } => !*as_ref && is_operand(source),
+        TExpr::Variant { .. } | TExpr::Struct { .. } | TExpr::Tuple(..) => false,
     }
 }
 

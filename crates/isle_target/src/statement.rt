@@ -3,6 +3,7 @@
 ghost use Rattle.std.specs.Prelude.{◌≡◌, ◌++◌, [], ◌∷◌, OnOk};
 ghost use Rattle.isle_ink.specs.Token.{Quoted};
 ghost use Rattle.isle_target.specs.Views.{stmt, body};
+ghost use Rattle.isle_target.specs.WellFormed.{IsExpr, IsStmt, IsBody};
 ghost use Rattle.isle_target.specs.Spelling.{let_tokens, return_tokens, if_eq_head, no_rule, unreachable_head, texts_tokens, tail_tokens, stmt_tokens, body_tokens};
 
 use crate::operand::{print_expr, print_operand};
@@ -16,6 +17,7 @@ const NO_RULE: &str = "no rule matched for term {} at {}; should it be partial?"
 
 // Prints `let vN = EXPR;`.
 fn print_let(out: &mut Printer, alloc: Global, n: usize, e: &TExpr) -> Result<(), AllocError>
+    requires { IsExpr e.now }
     ensures { OnOk result (out.new ≡ out.old ++ let_tokens n e.now) }
 {
     out.word("let")?;
@@ -29,6 +31,7 @@ fn print_let(out: &mut Printer, alloc: Global, n: usize, e: &TExpr) -> Result<()
 
 // Prints `return EXPR;`.
 fn print_return(out: &mut Printer, alloc: Global, e: &TExpr) -> Result<(), AllocError>
+    requires { IsExpr e.now }
     ensures { OnOk result (out.new ≡ out.old ++ return_tokens e.now) }
 {
     out.word("return")?;
@@ -104,6 +107,7 @@ fn print_tail(
 #[cycle(statements)]
 #[tactic(auto, using(crate::proofs::Sees::sees))]
 fn print_stmt(out: &mut Printer, alloc: Global, s: &Stmt) -> Result<(), AllocError>
+    requires { IsStmt (stmt s.now) }
     ensures { OnOk result (out.new ≡ out.old ++ stmt_tokens (stmt s.now)) }
 {
     match s {
@@ -130,6 +134,7 @@ fn print_stmt(out: &mut Printer, alloc: Global, s: &Stmt) -> Result<(), AllocErr
 /// open.
 #[cycle(statements)]
 pub fn print_body(out: &mut Printer, alloc: Global, stmts: &[Stmt]) -> Result<(), AllocError>
+    requires { IsBody (body stmts.now) }
     ensures { OnOk result (out.new ≡ out.old ++ body_tokens (body stmts.now)) }
 {
     out.indent();

@@ -1,70 +1,70 @@
-//! Whether what statements read is there: locals that are bound, arguments of the function.
+//! Whether each operand of statements is there and holds what is asked of it.
 
-ghost use Rattle.std.specs.Prelude.{◌≡◌, ◌↔◌, IsTrue, IfOk, OnOk};
+ghost use Rattle.std.specs.Prelude.{◌≡◌, ◌↔◌, IsTrue, IsSome, IfOk, OnOk};
 ghost use Rattle.isle_target.specs.Views.{stmt, body};
-ghost use Rattle.isle_target.specs.WellFormed.{IsThere, IsReadThere, IsExprThere, IsStmtThere, IsBodyThere, bound_behind};
+ghost use Rattle.isle_target.specs.WellFormed.{expr_holds, GivesKind, behind_let, IsStmtThere, IsBodyThere, bound_behind};
 
 use crate::bound::Bound;
-use crate::tree::{Operand, Read, Stmt, TExpr};
+use crate::callees::Callees;
+use crate::held::{expr_holds, is_value, operand_holds};
+use crate::holds::Holds;
+use crate::tree::Stmt;
+use isle_core::ReturnKind;
 use std::alloc::AllocError;
 
-// Whether an operand is there.
-fn is_there(bound: &Bound, params: usize, o: &Operand) -> bool
-    ensures { IsTrue result ↔ IsThere params bound.now o.now }
+// Whether a return in a function of the kind may give it.
+fn gives_kind(kind: ReturnKind, holds: Option<Holds>) -> bool
+    ensures { IsTrue result ↔ GivesKind kind holds }
 {
-    match o {
-        Operand::Local(n) => bound.has(*n),
-        Operand::Arg(n) => *n < params,
-        Operand::Bool(_) | Operand::Int(..) | Operand::Raw(_) | Operand::Name(_) => true,
+    match (kind, holds) {
+        (ReturnKind::Plain, Some(Holds::One)) => true,
+        (ReturnKind::Option, Some(Holds::Optional)) => true,
+        _ => false,
     }
 }
 
-// Whether the operand that is read is.
-fn is_read_there(bound: &Bound, params: usize, read: &Read) -> bool
-    ensures { IsTrue result ↔ IsReadThere params bound.now read.now }
+// Binds a local to what is computed, where that is there.
+fn bind(bound: &mut Bound, local: usize, holds: Option<Holds>) -> Result<bool, AllocError>
+    ensures there { IfOk result (λ b. IsTrue b ↔ IsSome holds) }
+    ensures bound { OnOk result (bound.new ≡ behind_let holds local bound.old) }
 {
-    match read {
-        Read::Plain(o) | Read::Borrow(o) | Read::Clone(o) => is_there(bound, params, o),
-    }
-}
-
-// Whether what is computed reads what is.
-fn is_expr_there(bound: &Bound, params: usize, e: &TExpr) -> bool
-    ensures { IsTrue result ↔ IsExprThere params bound.now e.now }
-{
-    match e {
-        TExpr::Read(read) | TExpr::Some(read) => is_read_there(bound, params, read),
-        TExpr::Call { .. }
-        | TExpr::Variant { .. }
-        | TExpr::Struct { .. }
-        | TExpr::Try { .. }
-        | TExpr::Tuple(..) => false,
+    match holds {
+        None => Ok(false),
+        Some(holds) => {
+            bound.bind(local, holds)?;
+            Ok(true)
+        }
     }
 }
 
 // Whether a statement reads what is there; its own local is bound behind it.
 #[cycle(there)]
 #[tactic(auto, using(crate::proofs::Sees::sees))]
-fn is_stmt_there(bound: &mut Bound, params: usize, s: &Stmt) -> Result<bool, AllocError>
-    ensures there { IfOk result (λ b. IsTrue b ↔ IsStmtThere params bound.old (stmt s.now)) }
-    ensures bound { OnOk result (bound.new ≡ bound_behind (stmt s.now) bound.old) }
+fn is_stmt_there(
+    callees: &Callees,
+    kind: ReturnKind,
+    params: usize,
+    bound: &mut Bound,
+    s: &Stmt,
+) -> Result<bool, AllocError>
+    ensures there { IfOk result (λ b. IsTrue b ↔ IsStmtThere callees.now kind params bound.old (stmt s.now)) }
+    ensures bound { OnOk result (bound.new ≡ bound_behind callees.now params (stmt s.now) bound.old) }
 {
     match s {
         Stmt::Let(n, e) => {
-            let there = is_expr_there(bound, params, e);
-            bound.bind(*n)?;
-            Ok(there)
+            let holds = expr_holds(callees, bound, params, e);
+            bind(bound, *n, holds)
         }
         Stmt::IfEq(a, b, inside) => {
-            if !is_there(bound, params, a) {
+            if !is_value(operand_holds(bound, params, a)) {
                 return Ok(false);
             }
-            if !is_there(bound, params, b) {
+            if !is_value(operand_holds(bound, params, b)) {
                 return Ok(false);
             }
-            Ok(is_body_there(bound, params, inside.as_slice())?)
+            is_body_there(callees, kind, params, bound, inside.as_slice())
         }
-        Stmt::Return(e) => Ok(is_expr_there(bound, params, e)),
+        Stmt::Return(e) => Ok(gives_kind(kind, expr_holds(callees, bound, params, e))),
         Stmt::Tail(_) => Ok(true),
         Stmt::LetList { .. }
         | Stmt::IfLet(..)
@@ -79,13 +79,19 @@ fn is_stmt_there(bound: &mut Bound, params: usize, s: &Stmt) -> Result<bool, All
 
 /// Whether all statements read what is there. What is bound is the same behind them. The only error is want of memory.
 #[cycle(there)]
-pub fn is_body_there(bound: &mut Bound, params: usize, stmts: &[Stmt]) -> Result<bool, AllocError>
-    ensures there { IfOk result (λ b. IsTrue b ↔ IsBodyThere params bound.old (body stmts.now)) }
+pub fn is_body_there(
+    callees: &Callees,
+    kind: ReturnKind,
+    params: usize,
+    bound: &mut Bound,
+    stmts: &[Stmt],
+) -> Result<bool, AllocError>
+    ensures there { IfOk result (λ b. IsTrue b ↔ IsBodyThere callees.now kind params bound.old (body stmts.now)) }
     ensures bound { OnOk result (bound.new ≡ bound.old) }
 {
     let len = bound.len();
     for s in stmts {
-        if !is_stmt_there(bound, params, s)? {
+        if !is_stmt_there(callees, kind, params, bound, s)? {
             bound.truncate(len);
             return Ok(false);
         }

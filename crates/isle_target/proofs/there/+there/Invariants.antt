@@ -1,10 +1,10 @@
-use Rattle.std.proofs.Common.{◌≡◌, ◌++◌, List, ℕ, drop}
+use Rattle.std.proofs.Common.{◌≡◌, ◌++◌, drop}
 use Rattle.std.specs.Prelude.{◌↔◌}
 use Rattle.isle_target.specs.Views.{body}
-use Rattle.isle_target.specs.WellFormed.{IsBodyThere}
+use Rattle.isle_target.specs.WellFormed.{Locals, IsBodyThere}
 use Rattle.isle_target.proofs.there.+there.Given as goal
 
 abbrev pub invariant-is_body_there-loop-s : goal.invariant-is_body_there-loop-s
 invariant-is_body_there-loop-s l =
-    (IsBodyThere l.params l.bound (body (drop l.s-index l.stmts)) ↔ IsBodyThere l.params l.fn.bound (body l.stmts))
-    × ((more : List ℕ) × (l.bound ≡ l.fn.bound ++ more))
+    (IsBodyThere l.callees l.kind l.params l.bound (body (drop l.s-index l.stmts)) ↔ IsBodyThere l.callees l.kind l.params l.fn.bound (body l.stmts))
+    × ((more : Locals) × (l.bound ≡ l.fn.bound ++ more))

@@ -1,5 +1,7 @@
-use Rattle.isle_target.proofs.Places.{finds-take}
+use Rattle.std.proofs.Common.{take, ap, ◌∙◌}
+use Rattle.isle_target.specs.Bound.{logged}
+use Rattle.isle_target.proofs.Newest.{logged-take}
 use Rattle.isle_target.proofs.bound.Bound.truncate.Goals as goal
 
-pub invariant_of-self : goal.invariant_of-self
-invariant_of-self c = rw c.truncate.ensures.items (finds-take c.args.len c.self.inside.locals.items c.self.inside.places c.self.invariant)
+pub returns : goal.returns
+returns c = ap logged c.undo_to.ensures.fewer ∙ logged-take c.args.len c.self.inside.log.items ∙ ap (take c.args.len) c.self.view_is

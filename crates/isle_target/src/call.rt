@@ -1,0 +1,51 @@
+//! The text of calls. A form that isn't built has none.
+
+ghost use Rattle.std.specs.Prelude.{◌≡◌, ◌++◌, OnOk};
+ghost use Rattle.isle_target.specs.Identifier.{IsIdentifier};
+ghost use Rattle.isle_target.specs.Spelling.{call_head, args_tokens, call_tokens};
+ghost use Rattle.isle_target.specs.WellFormed.{IsCall};
+
+use crate::operand::print_read;
+use crate::tree::{Read, TCall};
+use isle_core::Callee;
+use isle_ink::Printer;
+use std::alloc::{AllocError, Global};
+
+// Prints `C::F(ctx`.
+#[tactic(auto, using(crate::proofs::TypeNames::identifier_is_word))]
+fn print_head(out: &mut Printer, name: &str) -> Result<(), AllocError>
+    requires { IsIdentifier name.now }
+    ensures { OnOk result (out.new ≡ out.old ++ call_head name.now) }
+{
+    out.word("C")?;
+    out.mark("::")?;
+    out.word(name)?;
+    out.mark("(")?;
+    out.word("ctx")
+}
+
+// Prints the arguments, each behind a comma, and what closes them.
+fn print_args(out: &mut Printer, alloc: Global, args: &[Read]) -> Result<(), AllocError>
+    ensures { OnOk result (out.new ≡ out.old ++ args_tokens args.now) }
+{
+    for read in args {
+        out.mark(",")?;
+        out.space()?;
+        print_read(out, alloc, read)?;
+    }
+    out.mark(")")
+}
+
+/// Prints a call of a function of the trait. What is printed after an error is left open.
+pub fn print_call(out: &mut Printer, alloc: Global, call: &TCall) -> Result<(), AllocError>
+    requires { IsCall call.now }
+    ensures { OnOk result (out.new ≡ out.old ++ call_tokens call.now.callee call.now.args) }
+{
+    match &call.callee {
+        Callee::External(name) => {
+            print_head(out, name.as_str())?;
+            print_args(out, alloc, call.args.as_slice())
+        }
+        Callee::Internal(_) => Ok(()),
+    }
+}

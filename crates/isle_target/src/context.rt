@@ -1,0 +1,124 @@
+//! The text of the trait.
+
+ghost use Rattle.std.specs.Prelude.{◌≡◌, ◌++◌, OnOk};
+ghost use Rattle.std.specs.List.{AllByRecursion};
+ghost use Rattle.isle_target.specs.Identifier.{IsIdentifier};
+ghost use Rattle.isle_target.specs.WellFormed.{AreResults, IsTy, IsTraitFn};
+ghost use Rattle.isle_target.specs.Spelling.{trait_head, self_param, trait_fn_head, comma, typed_tokens, joined_tokens, results_tokens, trait_result, trait_fn_tokens, trait_fns_tokens, trait_tokens};
+
+use crate::function::{print_result, print_typed};
+use crate::tree::{TraitFn, Ty};
+use isle_core::{ReturnKind, Text};
+use isle_ink::Printer;
+use std::alloc::{AllocError, Global};
+
+// Prints `(&mut self,`.
+fn print_self(out: &mut Printer) -> Result<(), AllocError>
+    ensures { OnOk result (out.new ≡ out.old ++ self_param) }
+{
+    out.mark("(")?;
+    out.mark("&")?;
+    out.word("mut")?;
+    out.word("self")?;
+    out.mark(",")?;
+    out.space()
+}
+
+// Prints what a function begins with.
+#[tactic(auto, using(crate::proofs::TypeNames::identifier_is_word))]
+fn print_name(out: &mut Printer, name: &str) -> Result<(), AllocError>
+    requires { IsIdentifier name.now }
+    ensures { OnOk result (out.new ≡ out.old ++ trait_fn_head name.now) }
+{
+    out.word("fn")?;
+    out.word(name)?;
+    print_self(out)
+}
+
+// Prints what stands before the parameter of this number.
+fn print_comma(out: &mut Printer, i: usize) -> Result<(), AllocError>
+    ensures { OnOk result (out.new ≡ out.old ++ comma i) }
+{
+    if i == 0 {
+        return Ok(());
+    }
+    out.mark(",")?;
+    out.space()
+}
+
+// Prints the parameters, and what closes them.
+fn print_joined(out: &mut Printer, alloc: Global, params: &[Ty]) -> Result<(), AllocError>
+    requires { AllByRecursion IsTy params.now }
+    ensures { OnOk result (out.new ≡ out.old ++ joined_tokens 0 params.now) }
+{
+    for (i, ty) in params.iter().enumerate() {
+        print_comma(out, i)?;
+        print_typed(out, alloc, i, ty)?;
+    }
+    out.mark(")")
+}
+
+// Prints the type of the one result.
+fn print_results(out: &mut Printer, kind: ReturnKind, tys: &[Text]) -> Result<(), AllocError>
+    requires { AreResults tys.now }
+    ensures { OnOk result (out.new ≡ out.old ++ results_tokens kind tys.now) }
+{
+    print_result(out, kind, tys[0].as_str())
+}
+
+// Prints `-> RESULT;`.
+fn print_end(out: &mut Printer, kind: ReturnKind, tys: &[Text]) -> Result<(), AllocError>
+    requires { AreResults tys.now }
+    ensures { OnOk result (out.new ≡ out.old ++ trait_result kind tys.now) }
+{
+    out.space()?;
+    out.mark("->")?;
+    out.space()?;
+    print_results(out, kind, tys)?;
+    out.mark(";")
+}
+
+// Prints a function of the trait on a line of its own.
+fn print_trait_fn(out: &mut Printer, alloc: Global, f: &TraitFn) -> Result<(), AllocError>
+    requires { IsTraitFn f.now }
+    ensures { OnOk result (out.new ≡ out.old ++ trait_fn_tokens f.now) }
+{
+    out.line()?;
+    print_name(out, f.name.as_str())?;
+    print_joined(out, alloc, f.params.as_slice())?;
+    print_end(out, f.kind, f.results.as_slice())
+}
+
+// Prints the functions of the trait, each on a line.
+fn print_trait_fns(out: &mut Printer, alloc: Global, fns: &[TraitFn]) -> Result<(), AllocError>
+    requires { AllByRecursion IsTraitFn fns.now }
+    ensures { OnOk result (out.new ≡ out.old ++ trait_fns_tokens fns.now) }
+{
+    out.indent();
+    for f in fns {
+        print_trait_fn(out, alloc, f)?;
+    }
+    out.dedent();
+    out.line()
+}
+
+// Prints what the trait begins with.
+fn print_trait_head(out: &mut Printer) -> Result<(), AllocError>
+    ensures { OnOk result (out.new ≡ out.old ++ trait_head) }
+{
+    out.word("pub")?;
+    out.word("trait")?;
+    out.word("Context")?;
+    out.space()?;
+    out.mark("{")
+}
+
+/// Prints the trait that a program's functions are generic over. What is printed after an error is left open.
+pub fn print_trait(out: &mut Printer, alloc: Global, fns: &[TraitFn]) -> Result<(), AllocError>
+    requires { AllByRecursion IsTraitFn fns.now }
+    ensures { OnOk result (out.new ≡ out.old ++ trait_tokens fns.now) }
+{
+    print_trait_head(out)?;
+    print_trait_fns(out, alloc, fns)?;
+    out.mark("}")
+}

@@ -1,0 +1,140 @@
+//! What operands hold, and what is computed from them.
+
+ghost use Rattle.std.specs.Prelude.{◌≡◌, Some, []};
+ghost use Rattle.isle_target.specs.WellFormed.{operand_holds, read_holds, is_value, are_values, kind_holds, call_holds, callee_holds, inner_holds, expr_holds};
+
+use crate::bound::Bound;
+use crate::callees::Callees;
+use crate::holds::Holds;
+use crate::tree::{Operand, Read, TCall, TExpr, TraitFn};
+use isle_core::{Callee, ReturnKind};
+
+/// What an operand holds, where it is there.
+pub fn operand_holds(bound: &Bound, params: usize, o: &Operand) -> Option<Holds>
+    ensures { result ≡ operand_holds params bound.now o.now }
+{
+    match o {
+        Operand::Local(n) => bound.holds(*n),
+        Operand::Arg(n) => { if *n < params { Some(Holds::One) } else { None } }
+        Operand::Bool(_) | Operand::Int(..) | Operand::Raw(_) | Operand::Name(_) => {
+            Some(Holds::One)
+        }
+    }
+}
+
+// What is read holds.
+fn read_holds(bound: &Bound, params: usize, read: &Read) -> Option<Holds>
+    ensures { result ≡ read_holds params bound.now read.now }
+{
+    match read {
+        Read::Plain(o) | Read::Borrow(o) | Read::Clone(o) => operand_holds(bound, params, o),
+    }
+}
+
+/// Whether it is a value, and no option.
+pub fn is_value(holds: Option<Holds>) -> bool
+    ensures { result ≡ is_value holds }
+{
+    match holds {
+        Some(Holds::One) => true,
+        Some(Holds::Optional) | None => false,
+    }
+}
+
+// Whether each read is of a value.
+fn are_values(bound: &Bound, params: usize, reads: &[Read]) -> bool
+    ensures { result ≡ are_values params bound.now reads.now }
+{
+    for read in reads {
+        if !is_value(read_holds(bound, params, read)) {
+            return false;
+        }
+    }
+    true
+}
+
+// What an answer holds.
+fn kind_holds(kind: ReturnKind) -> Option<Holds>
+    ensures { result ≡ kind_holds kind }
+{
+    match kind {
+        ReturnKind::Plain => Some(Holds::One),
+        ReturnKind::Option => Some(Holds::Optional),
+        ReturnKind::Iterator => None,
+    }
+}
+
+// What the answer of a function holds that is called with so many arguments.
+fn call_holds(f: &TraitFn, count: usize) -> Option<Holds>
+    ensures { result ≡ call_holds (Some f.now) count }
+{
+    if f.params.as_slice().len() == count {
+        kind_holds(f.kind)
+    } else {
+        None
+    }
+}
+
+// What the answer of what is called holds.
+fn callee_holds(callees: &Callees, callee: &Callee, count: usize) -> Option<Holds>
+    ensures { result ≡ callee_holds callees.now callee.now count }
+{
+    match callee {
+        Callee::External(name) => match callees.named(name.as_str()) {
+            Some(f) => call_holds(f, count),
+            None => None,
+        },
+        Callee::Internal(_) => None,
+    }
+}
+
+// What a call gives.
+fn called(
+    callees: &Callees,
+    bound: &Bound,
+    params: usize,
+    borrow: bool,
+    call: &TCall,
+) -> Option<Holds>
+    ensures { result ≡ expr_holds callees.now params bound.now (TExpr.Call borrow call.now) }
+{
+    let args = call.args.as_slice();
+    if !are_values(bound, params, args) {
+        return None;
+    }
+    callee_holds(callees, &call.callee, args.len())
+}
+
+// The inner value of an option.
+fn inner_holds(holds: Option<Holds>) -> Option<Holds>
+    ensures { result ≡ inner_holds holds }
+{
+    match holds {
+        Some(Holds::Optional) => Some(Holds::One),
+        Some(Holds::One) | None => None,
+    }
+}
+
+// An option of what is read.
+fn some_holds(bound: &Bound, params: usize, read: &Read) -> Option<Holds>
+    ensures { result ≡ expr_holds [] params bound.now (TExpr.Some read.now) }
+{
+    if is_value(read_holds(bound, params, read)) {
+        Some(Holds::Optional)
+    } else {
+        None
+    }
+}
+
+/// What is computed holds, where each operand holds what is asked of it.
+pub fn expr_holds(callees: &Callees, bound: &Bound, params: usize, e: &TExpr) -> Option<Holds>
+    ensures { result ≡ expr_holds callees.now params bound.now e.now }
+{
+    match e {
+        TExpr::Read(read) => read_holds(bound, params, read),
+        TExpr::Call { borrow, call } => called(callees, bound, params, *borrow, call),
+        TExpr::Some(read) => some_holds(bound, params, read),
+        TExpr::Try { source, .. } => inner_holds(operand_holds(bound, params, source)),
+        TExpr::Variant { .. } | TExpr::Struct { .. } | TExpr::Tuple(..) => None,
+    }
+}

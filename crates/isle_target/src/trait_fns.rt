@@ -1,0 +1,48 @@
+//! Which functions the trait may have.
+
+ghost use Rattle.std.specs.Prelude.{◌↔◌, IsTrue};
+ghost use Rattle.std.specs.List.{AllByRecursion};
+ghost use Rattle.isle_target.specs.WellFormed.{AreResults, IsTraitFn};
+
+use crate::identifier::is_identifier;
+use crate::names::{are_tys, is_builtin, is_kind};
+use crate::tree::TraitFn;
+use isle_core::Text;
+
+// Whether there is one result, of a builtin type.
+fn are_results(names: &[Text]) -> bool
+    ensures { IsTrue result ↔ AreResults names.now }
+{
+    if names.len() != 1 {
+        return false;
+    }
+    is_builtin(names[0].as_str())
+}
+
+// Whether the trait may have the function.
+fn is_trait_fn(f: &TraitFn) -> bool
+    ensures { IsTrue result ↔ IsTraitFn f.now }
+{
+    if !is_identifier(f.name.as_str()) {
+        return false;
+    }
+    if !are_tys(f.params.as_slice()) {
+        return false;
+    }
+    if !are_results(f.results.as_slice()) {
+        return false;
+    }
+    is_kind(f.kind)
+}
+
+/// Whether the trait may have all of them.
+pub fn are_trait_fns(fns: &[TraitFn]) -> bool
+    ensures { IsTrue result ↔ AllByRecursion IsTraitFn fns.now }
+{
+    for f in fns {
+        if !is_trait_fn(f) {
+            return false;
+        }
+    }
+    true
+}
