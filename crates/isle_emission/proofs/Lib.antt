@@ -1,3 +1,4 @@
+pub mod Places
 pub mod PathAt
 pub mod BoundTests
 pub mod Onto

@@ -1,3 +1,4 @@
+pub mod Bound
 pub mod Ends
 pub mod Built
 pub mod Operands

@@ -2,6 +2,7 @@
 use Rattle.std.specs.Prelude.{List, [], ◌∷◌, Option, Some, None, map, filter_map}
 use Rattle.std.specs.List.{AllByRecursion, IsDistinct}
 use Rattle.std.specs.Str.{bytes_eq}
+use Rattle.isle_base.specs.declared.ids.Sym.{Sym}
 use Rattle.isle_core.specs.declared.types.ConstructorKind.{ConstructorKind}
 use Rattle.isle_core.specs.declared.types.ConstructorKind.TheVariants as constructor
 use Rattle.isle_core.specs.declared.types.Term.{Term}
@@ -15,14 +16,18 @@ use Rattle.isle_target.specs.Identifier.{IsIdentifier}
 use Rattle.isle_target.specs.WellFormed.{fn_names}
 use Rattle.isle_emission.specs.TermFunction.{type_text, parameter, kind_of}
 
--- the function of a term's external constructor
-abbrev pub fn_by : Environment → Term → ConstructorKind → Option TraitFn
-fn_by env t (constructor.External func) = Some (record {
+-- the function of this name for a term
+abbrev pub fn_for : Environment → Term → Sym → TraitFn
+fn_for env t func = record {
   name = sym_text env func;
   params = map (parameter env) t.arg_tys;
   results = type_text env t.ret_ty ∷ [];
   kind = kind_of (is_partial t.kind);
-})
+}
+
+-- the function of a term's external constructor
+abbrev pub fn_by : Environment → Term → ConstructorKind → Option TraitFn
+fn_by env t (constructor.External func) = Some (fn_for env t func)
 fn_by env t constructor.Absent = None
 fn_by env t constructor.Internal = None
 

@@ -1,7 +1,7 @@
 //! What the statements of a term are made from.
 
 ghost use Rattle.std.specs.Prelude.{◌≡◌};
-ghost use Rattle.isle_core.specs.Outcome.{is_partial};
+ghost use Rattle.isle_core.specs.Calling.{is_partial};
 
 use isle_core::{Binding, TermEnv, TermKind, TypeEnv};
 

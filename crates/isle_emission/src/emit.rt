@@ -2,20 +2,21 @@
 
 ghost use Rattle.std.specs.Prelude.{◌≡◌, map, IfOk};
 ghost use Rattle.isle_core.specs.BlockViews as BlockViews;
-ghost use Rattle.isle_core.specs.Outcome.{is_partial};
+ghost use Rattle.isle_core.specs.Calling.{is_partial};
 ghost use Rattle.isle_core.specs.Path.{paths_of};
 ghost use Rattle.isle_core.specs.Places.{LiesIn};
 ghost use Rattle.isle_core.specs.RuleViews.{environment};
 ghost use Rattle.isle_target.specs.Program.{Program};
 ghost use Rattle.isle_target.specs.Views as Views;
 ghost use Rattle.isle_target.specs.WellFormed.{IsFunction};
-ghost use Rattle.isle_emission.specs.Contexts.{env_of, paths_in};
-ghost use Rattle.isle_codegen.specs.Emission.{IsBuilt};
+ghost use Rattle.isle_emission.specs.Contexts.{env_of, bindings_in};
+ghost use Rattle.isle_emission.specs.Built.{IsBuilt};
 ghost use Rattle.isle_emission.specs.Emitted.{RunsAsBlock};
 ghost use Rattle.isle_emission.specs.LineStarts.{starts_of};
 ghost use Rattle.isle_emission.specs.MayEmit.{AtTerm, MayEmit};
 ghost use Rattle.isle_emission.specs.Shape.{HasShape};
 ghost use Rattle.isle_emission.specs.TermFunction as TermFunction;
+ghost use Rattle.isle_emission.specs.TraitFns.{trait_fns_of};
 
 use crate::context::{Context, is_partial};
 use crate::line_starts::LineStarts;
@@ -39,10 +40,10 @@ pub fn term_function(
     requires starts { starts.now ≡ map starts_of files.now.file_texts }
     requires place { LiesIn files.now term.now.decl_pos }
     requires partial { context.now.partial ≡ is_partial term.now.kind }
-    ensures { IfOk result (λ f. Views.function f ≡ TermFunction.term_function files.now (env_of context.now) term.now (paths_in context.now) (BlockViews.block block.now)) }
+    ensures { IfOk result (λ f. Views.function f ≡ TermFunction.term_function files.now (env_of context.now) term.now (bindings_in context.now) (BlockViews.block block.now)) }
 {
     let name = sym_name(alloc, context.typeenv, term.name)?;
-    let params = params(alloc, context, term.arg_tys.as_slice())?;
+    let params = params(alloc, context.typeenv, context.termenv, term.arg_tys.as_slice())?;
     let result = ty_name(alloc, context.typeenv, term.ret_ty)?;
     let body = root_stmts(alloc, files, starts, context, term, block)?;
     Ok(Function {
@@ -54,8 +55,8 @@ pub fn term_function(
     })
 }
 
-/// The function of the term of this number, whose rules have this block. It is well formed in every program, has the
-/// shape of the block, and runs as the block does.
+/// The function of the term of this number, whose rules have this block. It is well formed in every program with the
+/// functions of the trait that the environment gives, has the shape of the block, and runs as the block does.
 pub fn emit_term(
     alloc: Global,
     files: &Files,
@@ -66,12 +67,12 @@ pub fn emit_term(
     block: &Block,
     options: &CodegenOptions,
 ) -> Result<Function, OutOfMemory>
-    requires term { AtTerm (environment typeenv.now termenv.now) term (λ t. MayEmit files.now (environment typeenv.now termenv.now) t (paths_of rules.now.bindings) (BlockViews.block block.now)) }
+    requires term { AtTerm (environment typeenv.now termenv.now) term (λ t. MayEmit files.now (environment typeenv.now termenv.now) t rules.now.bindings (BlockViews.block block.now)) }
     requires options { IsBuilt options.now }
-    ensures emitted { IfOk result (λ f. AtTerm (environment typeenv.now termenv.now) term (λ t. Views.function f ≡ TermFunction.term_function files.now (environment typeenv.now termenv.now) t (paths_of rules.now.bindings) (BlockViews.block block.now))) }
-    ensures well_formed { IfOk result (λ f. (p : Program) → IsFunction p (Views.function f)) }
+    ensures emitted { IfOk result (λ f. AtTerm (environment typeenv.now termenv.now) term (λ t. Views.function f ≡ TermFunction.term_function files.now (environment typeenv.now termenv.now) t rules.now.bindings (BlockViews.block block.now))) }
+    ensures well_formed { IfOk result (λ f. (p : Program) → p.trait_fns ≡ trait_fns_of (environment typeenv.now termenv.now) → IsFunction p (Views.function f)) }
     ensures shape { IfOk result (λ f. HasShape (environment typeenv.now termenv.now) (paths_of rules.now.bindings) (Views.body f.body) (BlockViews.block block.now)) }
-    ensures run { IfOk result (λ f. AtTerm (environment typeenv.now termenv.now) term (λ t. RunsAsBlock (environment typeenv.now termenv.now) t (paths_of rules.now.bindings) (BlockViews.block block.now) (Views.function f))) }
+    ensures run { IfOk result (λ f. AtTerm (environment typeenv.now termenv.now) term (λ t. RunsAsBlock (environment typeenv.now termenv.now) t rules.now.bindings (BlockViews.block block.now) (Views.function f))) }
 {
     let starts = LineStarts::new(alloc, files)?;
     let term = &termenv.terms.as_slice()[term.index()];

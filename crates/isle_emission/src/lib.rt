@@ -1,10 +1,13 @@
 //! From blocks to functions of a target program.
 #![tactic(auto)]
 
+mod bound;
+mod calls;
 mod context;
 mod emit;
 #[cfg(test)]
 mod emit_tests;
+mod externals;
 mod line_starts;
 mod operands;
 mod root;
@@ -13,4 +16,5 @@ mod statements;
 
 pub use context::{Context, is_partial};
 pub use emit::{emit_term, term_function};
+pub use externals::trait_fns;
 pub use line_starts::LineStarts;

@@ -2,13 +2,14 @@
 
 ghost use Rattle.std.specs.Prelude.{◌≡◌, List as ListOf, slice_get};
 ghost use Rattle.isle_core.specs.Constants.{int_of_def};
-ghost use Rattle.isle_core.specs.Path.{Path, path_over, at};
-ghost use Rattle.isle_emission.specs.Contexts.{env_of, paths_in};
+ghost use Rattle.isle_core.specs.Path.{Path, path_over, at, paths_of};
+ghost use Rattle.isle_emission.specs.Contexts.{env_of, bindings_in};
 ghost use Rattle.isle_emission.specs.Operands as Operands;
 
+use crate::bound::Bound;
 use crate::context::Context;
 use isle_core::{Binding, BindingId, BuiltinType, Constraint, TypeDef, TypeEnv, TypeId};
-use isle_target::{Bound, Operand};
+use isle_target::Operand;
 
 /// A number as an operand of a type.
 fn number(typeenv: &TypeEnv, ty: TypeId, val: i128) -> Operand
@@ -48,7 +49,7 @@ fn of_binding(context: &Context<'_>, binding: &Binding) -> Operand
 
 /// What is read in place for the binding of this number.
 pub fn in_place(context: &Context<'_>, binding: BindingId) -> Operand
-    ensures { result ≡ Operands.in_place (env_of context.now) (at (paths_in context.now) binding) }
+    ensures { result ≡ Operands.in_place (env_of context.now) (at (paths_of (bindings_in context.now)) binding) }
 {
     match context.bindings.get(binding.index()) {
         Some(binding) => of_binding(context, binding),
@@ -79,7 +80,7 @@ fn is_bound(bound: &Bound, binding: BindingId) -> bool
 
 /// The binding's local where it is bound, or else what is read in place.
 pub fn operand_of(context: &Context<'_>, bound: &Bound, binding: BindingId) -> Operand
-    ensures { result ≡ Operands.operand_of (env_of context.now) (paths_in context.now) bound.now binding }
+    ensures { result ≡ Operands.operand_of (env_of context.now) (bindings_in context.now) bound.now binding }
 {
     if is_bound(bound, binding) {
         Operand::Local(binding.index())

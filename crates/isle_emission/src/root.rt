@@ -5,17 +5,18 @@ ghost use Rattle.isle_core.specs.BlockViews as BlockViews;
 ghost use Rattle.isle_core.specs.Places.{LiesIn, place_in};
 ghost use Rattle.isle_core.specs.Terms.{sym_text};
 ghost use Rattle.isle_target.specs.Views as Views;
-ghost use Rattle.isle_emission.specs.Contexts.{env_of, paths_in};
+ghost use Rattle.isle_emission.specs.Contexts.{env_of, bindings_in};
 ghost use Rattle.isle_emission.specs.LineStarts.{starts_of};
 ghost use Rattle.isle_emission.specs.Statements.{block_body};
 ghost use Rattle.isle_emission.specs.TermFunction as TermFunction;
 
+use crate::bound::Bound;
 use crate::context::Context;
 use crate::line_starts::LineStarts;
 use crate::signature::sym_name;
 use crate::statements::block_stmts;
 use isle_core::{Block, ControlFlow, Files, OutOfMemory, Term, Text};
-use isle_target::{Bound, Stmt};
+use isle_target::Stmt;
 use std::alloc::Global;
 
 /// What a function says where no rule matches: nothing, or the name and the place of its term.
@@ -73,7 +74,7 @@ pub fn root_stmts(
 ) -> Result<Vec<Stmt>, OutOfMemory>
     requires starts { starts.now ≡ map starts_of files.now.file_texts }
     requires place { LiesIn files.now term.now.decl_pos }
-    ensures { IfOk result (λ stmts. Views.body stmts.items ≡ block_body (env_of context.now) (paths_in context.now) context.now.partial [] (BlockViews.block block.now) (TermFunction.tail_of context.now.partial (sym_text (env_of context.now) term.now.name) (place_in files.now term.now.decl_pos) (BlockViews.block block.now))) }
+    ensures { IfOk result (λ stmts. Views.body stmts.items ≡ block_body (env_of context.now) (bindings_in context.now) context.now.partial [] (BlockViews.block block.now) (TermFunction.tail_of context.now.partial (sym_text (env_of context.now) term.now.name) (place_in files.now term.now.decl_pos) (BlockViews.block block.now))) }
 {
     let mut bound = Bound::new(alloc);
     let mut stmts = block_stmts(alloc, context, &mut bound, block)?;

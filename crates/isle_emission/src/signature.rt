@@ -1,11 +1,10 @@
 //! The names and types in the head of a term's function.
 
 ghost use Rattle.std.specs.Prelude.{◌≡◌, [], map, slice_get, slice_index_or, IfOk};
-ghost use Rattle.isle_emission.specs.Contexts.{env_of};
+ghost use Rattle.isle_core.specs.RuleViews.{environment};
 ghost use Rattle.isle_emission.specs.TermFunction.{def_text, parameter, kind_of};
 
-use crate::context::Context;
-use isle_core::{BuiltinType, ReturnKind, Sym, Text, TypeDef, TypeEnv, TypeId};
+use isle_core::{BuiltinType, ReturnKind, Sym, TermEnv, Text, TypeDef, TypeEnv, TypeId};
 use isle_target::{Ty, type_name};
 use std::alloc::{AllocError, Global};
 
@@ -55,12 +54,12 @@ pub fn ty_name(alloc: Global, typeenv: &TypeEnv, ty: TypeId) -> Result<Text, All
 }
 
 /// The types of the parameters.
-pub fn params(alloc: Global, context: &Context<'_>, tys: &[TypeId]) -> Result<Vec<Ty>, AllocError>
-    ensures { IfOk result (λ params. params.items ≡ map (parameter (env_of context.now)) tys.now) }
+pub fn params(alloc: Global, typeenv: &TypeEnv, termenv: &TermEnv, tys: &[TypeId]) -> Result<Vec<Ty>, AllocError>
+    ensures { IfOk result (λ params. params.items ≡ map (parameter (environment typeenv.now termenv.now)) tys.now) }
 {
     let mut params = Vec::new(alloc);
     for ty in tys {
-        let name = ty_name(alloc, context.typeenv, *ty)?;
+        let name = ty_name(alloc, typeenv, *ty)?;
         params.push(Ty {
             by_ref: false,
             name,

@@ -1,33 +1,37 @@
 //! The statements of a block.
 
 ghost use Rattle.std.specs.Prelude.{◌≡◌, map, IfOk, OnOk};
+ghost use Rattle.isle_core.specs.BlockLawful.{bound_by};
 ghost use Rattle.isle_core.specs.BlockViews as BlockViews;
 ghost use Rattle.isle_target.specs.Program.{Body};
 ghost use Rattle.isle_target.specs.Views.{stmt};
 ghost use Rattle.isle_emission.specs.BodyOnto.{body_onto};
-ghost use Rattle.isle_emission.specs.Contexts.{env_of, paths_in};
+ghost use Rattle.isle_emission.specs.Contexts.{env_of, bindings_in};
 ghost use Rattle.isle_emission.specs.Statements as Statements;
 
+use crate::bound::Bound;
+use crate::calls::bound_expr;
 use crate::context::Context;
-use crate::operands::{in_place, operand_of, tested};
+use crate::operands::{operand_of, tested};
 use isle_core::{BindingId, Block, ControlFlow, List, MatchArm};
-use isle_target::{Bound, Operand, Read, Stmt, TExpr};
+use isle_target::{Operand, Read, Stmt, TExpr};
 use std::alloc::{AllocError, Global};
 
 /// Each binding in its local, behind what is there.
 #[tactic(auto, using(isle_target::proofs::Sees::sees))]
 fn push_lets(
+    alloc: Global,
     context: &Context<'_>,
     bound: &mut Bound,
     bindings: &[BindingId],
     out: &mut Vec<Stmt>,
 ) -> Result<(), AllocError>
-    ensures lets { OnOk result ((end : Body) → body_onto (map stmt out.new.items) end ≡ body_onto (map stmt out.old.items) (Statements.lets (env_of context.now) (paths_in context.now) bindings.now end)) }
-    ensures bound { OnOk result (bound.new ≡ Statements.bound_by bound.old bindings.now) }
+    ensures lets { OnOk result ((end : Body) → body_onto (map stmt out.new.items) end ≡ body_onto (map stmt out.old.items) (Statements.lets (env_of context.now) (bindings_in context.now) bound.old bindings.now end)) }
+    ensures bound { OnOk result (bound.new ≡ bound_by bound.old bindings.now) }
 {
     for binding in bindings {
-        let source = Read::Plain(in_place(context, *binding));
-        out.push(Stmt::Let(binding.index(), TExpr::Read(source)))?;
+        let computed = bound_expr(alloc, context, bound, *binding)?;
+        out.push(Stmt::Let(binding.index(), computed))?;
         bound.bind(binding.index())?;
     }
     Ok(())
@@ -53,13 +57,13 @@ pub fn block_stmts(
     bound: &mut Bound,
     block: &Block,
 ) -> Result<Vec<Stmt>, AllocError>
-    ensures stmts { IfOk result (λ stmts. (end : Body) → body_onto (map stmt stmts.items) end ≡ Statements.block_body (env_of context.now) (paths_in context.now) context.now.partial bound.old (BlockViews.block block.now) end) }
+    ensures stmts { IfOk result (λ stmts. (end : Body) → body_onto (map stmt stmts.items) end ≡ Statements.block_body (env_of context.now) (bindings_in context.now) context.now.partial bound.old (BlockViews.block block.now) end) }
     ensures bound { OnOk result (bound.new ≡ bound.old) }
 {
     let len = bound.len();
     let mut out = Vec::new(alloc);
     for step in block.steps.as_slice() {
-        push_lets(context, bound, step.bind_order.as_slice(), &mut out)?;
+        push_lets(alloc, context, bound, step.bind_order.as_slice(), &mut out)?;
         out.push(control_stmt(alloc, context, bound, &step.check)?)?;
     }
     bound.truncate(len);
@@ -75,7 +79,7 @@ fn control_stmt(
     bound: &mut Bound,
     control: &ControlFlow,
 ) -> Result<Stmt, AllocError>
-    ensures stmt { IfOk result (λ s. stmt s ≡ Statements.control_stmt (env_of context.now) (paths_in context.now) context.now.partial bound.old (BlockViews.control control.now)) }
+    ensures stmt { IfOk result (λ s. stmt s ≡ Statements.control_stmt (env_of context.now) (bindings_in context.now) context.now.partial bound.old (BlockViews.control control.now)) }
     ensures bound { OnOk result (bound.new ≡ bound.old) }
 {
     match control {
@@ -107,7 +111,7 @@ fn arms_stmt(
     source: Operand,
     arms: &[MatchArm],
 ) -> Result<Stmt, AllocError>
-    ensures stmt { IfOk result (λ s. stmt s ≡ Statements.arms_stmt (env_of context.now) (paths_in context.now) context.now.partial bound.old source (BlockViews.arms_of (map BlockViews.arm arms.now))) }
+    ensures stmt { IfOk result (λ s. stmt s ≡ Statements.arms_stmt (env_of context.now) (bindings_in context.now) context.now.partial bound.old source (BlockViews.arms_of (map BlockViews.arm arms.now))) }
     ensures bound { OnOk result (bound.new ≡ bound.old) }
 {
     if arms.is_empty() {
