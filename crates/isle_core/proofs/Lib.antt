@@ -6,5 +6,8 @@ pub mod Contained
 pub mod OutcomeOf
 pub mod PatternTests
 pub mod NotTrivial
+pub mod TurnKinds
+pub mod KnownAnswers
+pub mod CallsFollow
 pub mod SeesRules
 pub mod SeesBlocks
