@@ -9,5 +9,6 @@ pub mod NotTrivial
 pub mod TurnKinds
 pub mod KnownAnswers
 pub mod CallsFollow
+pub mod CallOccurrences
 pub mod SeesRules
 pub mod SeesBlocks
