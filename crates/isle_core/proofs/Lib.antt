@@ -10,5 +10,7 @@ pub mod TurnKinds
 pub mod KnownAnswers
 pub mod CallsFollow
 pub mod CallOccurrences
+pub mod PlacedVariables
+pub mod SetMeans
 pub mod SeesRules
 pub mod SeesBlocks
