@@ -12,5 +12,6 @@ pub mod CallsFollow
 pub mod CallOccurrences
 pub mod PlacedVariables
 pub mod SetMeans
+pub mod AnsweredByTurn
 pub mod SeesRules
 pub mod SeesBlocks
