@@ -1,5 +1,5 @@
 -- The calls of an expression have rising occurrences, so each stands first where it stands.
-use Rattle.std.proofs.Common.{◌≡◌, ⊎_elim, ℕ, suc, ◌+◌, ◌<◌, ◌≤◌, List, [], ◌∷◌, ◌++◌, refl, sym, ap, ◌∙◌, subst, arith}
+use Rattle.std.proofs.Common.{◌≡◌, ⊎_elim, ℕ, suc, ◌+◌, ◌≤◌, List, [], ◌∷◌, ◌++◌, refl, sym, ap, subst, arith}
 use Rattle.std.specs.Prelude.{Contains}
 use Rattle.std.proofs.lemmas.List.{append-nil, append_assoc}
 use Rattle.isle_base.specs.declared.ids.TermId.{TermId}
@@ -8,7 +8,7 @@ use Rattle.isle_core.specs.Calling.{Calling, ByTurns, ByCases, NoCall, calling, 
 use Rattle.isle_core.specs.Expr as expr
 use Rattle.isle_core.specs.Expr.{Expr, Exprs, NoExpr, AnExpr}
 use Rattle.isle_core.specs.Path.{Path, Called, Paths}
-use Rattle.isle_core.specs.Tests.{Places, path, paths, if_ordered, calls, calls_all}
+use Rattle.isle_core.specs.Tests.{Places, paths, if_ordered, calls, calls_all}
 use Rattle.isle_core.specs.StandsFor.{AreFirsts, no_more, again, first}
 use Rattle.isle_core.specs.Rule.{Environment}
 use Rattle.isle_core.proofs.Contained.{contained_cases, none_contained}
@@ -55,7 +55,7 @@ mutual
       let n1 = n + impure env e in
       let assoc : n + (impure env e + impure_all env es) ≡ n + impure env e + impure_all env es = omega arith in
       subst (AreRising n) (sym (append_assoc (calls env e places n) (calls_all env es places n1) more))
-        (calls_rising e env m places n (calls_all env es places n1 ++ more) t.0 (all_calls_rising es env m places n1 more t.1 (subst (λ j. AreRising j more) assoc r)))
+      (calls_rising e env m places n (calls_all env es places n1 ++ more) t.0 (all_calls_rising es env m places n1 more t.1 (subst (λ j. AreRising j more) assoc r)))
 
 -- the calls of an expression behind n impure ones have the occurrences from n + 1 on
 pub calls_are_rising : (e : Expr) (env : Environment) (m : Meaning) (places : Places) (n : ℕ) → CallsByTurns env m places e → AreRising n (calls env e places n)

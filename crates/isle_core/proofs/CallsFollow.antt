@@ -1,19 +1,19 @@
 -- The calls of an expression, run in order, do what its evaluation does.
-use Rattle.std.proofs.Common.{◌≡◌, ℕ, suc, ◌+◌, ◌<◌, ◌≤◌, List, [], ◌∷◌, ◌++◌, Bool, true, false, cond, eqb, Option, Some, None, T, refl, sym, ap, ◌∙◌, subst, arith}
+use Rattle.std.proofs.Common.{◌≡◌, ℕ, suc, ◌+◌, ◌≤◌, List, [], ◌∷◌, ◌++◌, Bool, true, false, cond, eqb, Option, Some, None, T, refl, sym, ap, ◌∙◌, subst, arith}
 use Rattle.std.proofs.Math.Dec.{eqb_refl}
 use Rattle.std.proofs.lemmas.Bool.{ne_eqb}
 use Rattle.isle_base.specs.declared.ids.TermId.{TermId}
 use Rattle.isle_core.specs.declared.values.Callee.{Callee}
 use Rattle.isle_core.specs.Value.{Value, Answer, Made}
 use Rattle.isle_core.specs.Meaning.{Meaning, turn}
-use Rattle.isle_core.specs.Answered.{Held, One, Optional, answer_held}
+use Rattle.isle_core.specs.Answered.{Held, One, answer_held}
 use Rattle.isle_core.specs.Calling.{Calling, ByTurns, ByCases, NoCall, calling, is_fallible, instance_of, one_more, impure, impure_all}
 use Rattle.isle_core.specs.Expr as expr
 use Rattle.isle_core.specs.Expr.{Expr, Exprs, NoExpr, AnExpr}
 use Rattle.isle_core.specs.Match.{Names, with}
 use Rattle.isle_core.specs.Eval.{Evaluated, Answered, Failed, EvaluatedAll, AllAnswered, OneFailed, named, then_all, before, then_one, answered, called_with, evaluated, evaluated_all}
 use Rattle.isle_core.specs.Outcome.{Failure}
-use Rattle.isle_core.specs.Path.{Path, Called, Inner, Paths, NoPath, APath}
+use Rattle.isle_core.specs.Path.{Path, Called, Paths, APath}
 use Rattle.isle_core.specs.Tests.{Places, path_or, answer_path, path, paths, if_ordered, calls, calls_all}
 use Rattle.isle_core.specs.Held.{Known, held_of, inner_held, value_before, call_held, value_at, values_at}
 use Rattle.isle_core.specs.CallRun.{Went, Goes, Ends, then_go, take_turn, make_call, check_call, unless_nothing, run_call, run_calls}
@@ -88,11 +88,14 @@ args_follow env m args n n1 n2 known ps q (OneFailed made) (Goes known' made') g
 
 -- one argument, then the others
 before_follows : (env : Environment) (m : Meaning) (args : List Value) (n n1 n2 : ℕ) (known known' : Known) (p : Path) (ps : Paths) (v : Value) (r : EvaluatedAll) (f : Went) → n ≤ n1 → IsUpTo n1 p → Reached env m args n n1 known known' p v → FollowsAll env m args n1 n2 known' ps r f → FollowsAll env m args n n2 known (APath p ps) (before v r) f
-before_follows env m args n n1 n2 known known' p ps v (AllAnswered vs made) (Goes known'' made') le b h k =
-    (record {
-      held = ap (λ x. value_before x (values_at env m args known'' ps)) (stable p env m args n1 known' known'' b k.0.kept ∙ h.held) ∙ ap (value_before (One v)) k.0.held;
-      kept = kept_on n n1 known known' known'' le h.kept k.0.kept;
-      fresh = k.0.fresh }, k.1)
+before_follows env m args n n1 n2 known known' p ps v (AllAnswered vs made) (Goes known'' made') le b h k = (
+  record {
+    held = ap (λ x. value_before x (values_at env m args known'' ps)) (stable p env m args n1 known' known'' b k.0.kept ∙ h.held) ∙ ap (value_before (One v)) k.0.held;
+    kept = kept_on n n1 known known' known'' le h.kept k.0.kept;
+    fresh = k.0.fresh;
+  },
+  k.1,
+)
 before_follows env m args n n1 n2 known known' p ps v (OneFailed made) (Ends o) le b h k = k
 before_follows env m args n n1 n2 known known' p ps v (AllAnswered vs made) (Ends o) le b h k = absurd k
 before_follows env m args n n1 n2 known known' p ps v (OneFailed made) (Goes known'' made') le b h k = absurd k
@@ -134,17 +137,17 @@ turn_follows env m args n n' known made term ps callee partial vs e next kind fr
     let p = Called term ps (suc n) in
     let here : known' (suc n) ≡ Some a = with_here known (suc n) a in
     let made_now : run_call env m args p known made ≡ check_call env m args p known' made' =
-      ap (λ c. then_go (make_call m c (suc n) (values_at env m args known ps) known made) (check_call env m args p)) e
-      ∙ ap (λ o. then_go (take_turn m callee (suc n) (known (suc n)) o known made) (check_call env m args p)) is
-      ∙ ap (λ o. then_go (take_turn m callee (suc n) o (Some vs) known made) (check_call env m args p)) (fr.by (suc n) (omega arith)) in
+    ap (λ c. then_go (make_call m c (suc n) (values_at env m args known ps) known made) (check_call env m args p)) e
+    ∙ ap (λ o. then_go (take_turn m callee (suc n) (known (suc n)) o known made) (check_call env m args p)) is
+    ∙ ap (λ o. then_go (take_turn m callee (suc n) o (Some vs) known made) (check_call env m args p)) (fr.by (suc n) (omega arith)) in
     let checked : check_call env m args p known' made' ≡ cond partial (unless_nothing (answer_held a) known' made') (Goes known' made') =
-      ap (λ c. cond (is_fallible c) (unless_nothing (call_held m c (known' (suc n)) (values_at env m args known' ps)) known' made') (Goes known' made')) e
-      ∙ ap (λ o. cond partial (unless_nothing (held_of o) known' made') (Goes known' made')) here in
+    ap (λ c. cond (is_fallible c) (unless_nothing (call_held m c (known' (suc n)) (values_at env m args known' ps)) known' made') (Goes known' made')) e
+    ∙ ap (λ o. cond partial (unless_nothing (held_of o) known' made') (Goes known' made')) here in
     let held : value_at env m args known' p ≡ answer_held a = ap (λ c. call_held m c (known' (suc n)) (values_at env m args known' ps)) e ∙ ap held_of here in
     subst (λ f. Follows env m args n n' known (answer_path (ByTurns callee partial) p) (called_with m (ByTurns callee partial) vs made) f) (sym (made_now ∙ checked))
-      (answer_follows env m args n n' known known' made' callee p partial (answer_held a) kind held
-        (record { by = λ j low. with_else known (suc n) j a (λ (q : suc n ≡ j). let bad : ⊥ = omega arith in bad) })
-        (record { by = λ j lt. with_else known (suc n) j a (λ (q : suc n ≡ j). let bad : ⊥ = omega arith in bad) ∙ fr.by j (omega arith) }))
+    (answer_follows env m args n n' known known' made' callee p partial (answer_held a) kind held
+    (record { by = λ j low. with_else known (suc n) j a (λ (q : suc n ≡ j). let bad : ⊥ = omega arith in bad) })
+    (record { by = λ j lt. with_else known (suc n) j a (λ (q : suc n ≡ j). let bad : ⊥ = omega arith in bad) ∙ fr.by j (omega arith) }))
 
 -- the calls of the arguments, then that of the term
 term_follows : (c : Calling) (env : Environment) (m : Meaning) (args : List Value) (n k : ℕ) (known : Known) (made : List Made) (term : TermId) (ps : Paths) (cs : List Path) (r : EvaluatedAll) → calling env term ≡ c → TakesTurns m c → FollowsAll env m args n (n + k) known ps r (run_calls env m args cs known made)
@@ -155,8 +158,8 @@ term_follows (ByTurns callee partial) env m args n k known made term ps cs r e t
     let le : n ≤ n + k = omega arith in
     let last : n + suc k ≡ suc (n + k) = omega arith in
     subst (λ f. Follows env m args n (n + suc k) known (answer_path c p) (then_one r (called_with m c)) f) (sym (run_last env m args cs p known made))
-      (args_follow env m args n (n + k) (n + suc k) known ps (answer_path c p) r (run_calls env m args cs known made) (called_with m c) (run_call env m args p) le h
-        (λ vs known' made' a. turn_follows env m args (n + k) (n + suc k) known' made' term ps callee partial vs e last (t made') a.fresh a.held))
+    (args_follow env m args n (n + k) (n + suc k) known ps (answer_path c p) r (run_calls env m args cs known made) (called_with m c) (run_call env m args p) le h
+    (λ vs known' made' a. turn_follows env m args (n + k) (n + suc k) known' made' term ps callee partial vs e last (t made') a.fresh a.held))
 term_follows (ByCases callee partial) env m args n k known made term ps cs r e t h = absurd t
 term_follows NoCall env m args n k known made term ps cs r e t h = absurd t
 
@@ -189,8 +192,8 @@ mutual
       let le : n ≤ n + impure env e = omega arith in
       let assoc : n + impure env e + impure_all env es ≡ n + (impure env e + impure_all env es) = omega arith in
       subst (λ f. FollowsAll env m args n (n + (impure env e + impure_all env es)) known (APath p (paths env es places n1)) (evaluated_all env m (AnExpr e es) names made) f) (sym (run_append env m args (calls env e places n) (calls_all env es places n1) known made))
-        (first_follows env m args n n1 (n + (impure env e + impure_all env es)) known p (paths env es places n1) (evaluated env m e names made) (run_calls env m args (calls env e places n) known made) (λ v made'. evaluated_all env m es names made') (run_calls env m args (calls_all env es places n1)) le
-          (path_up_to e env places n b)
-          (expr_follows e env m args n known names places made t.0 a b fr)
-          (λ v known' made' h. subst (λ k. FollowsAll env m args n1 k known' (paths env es places n1) (evaluated_all env m es names made') (run_calls env m args (calls_all env es places n1) known' made')) assoc
-            (exprs_follow es env m args n1 known' names places made' t.1 (agree_still env m args n known known' names places b h.kept a) (places_more places n n1 le b) h.fresh)))
+      (first_follows env m args n n1 (n + (impure env e + impure_all env es)) known p (paths env es places n1) (evaluated env m e names made) (run_calls env m args (calls env e places n) known made) (λ v made'. evaluated_all env m es names made') (run_calls env m args (calls_all env es places n1)) le
+      (path_up_to e env places n b)
+      (expr_follows e env m args n known names places made t.0 a b fr)
+      (λ v known' made' h. subst (λ k. FollowsAll env m args n1 k known' (paths env es places n1) (evaluated_all env m es names made') (run_calls env m args (calls_all env es places n1) known' made')) assoc
+      (exprs_follow es env m args n1 known' names places made' t.1 (agree_still env m args n known known' names places b h.kept a) (places_more places n n1 le b) h.fresh)))

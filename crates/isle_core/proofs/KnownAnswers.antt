@@ -1,5 +1,5 @@
 -- What stands at a path stays while later calls are made.
-use Rattle.std.proofs.Common.{◌≡◌, ℕ, suc, ◌+◌, ◌<◌, ◌≤◌, List, [], ◌∷◌, Bool, true, false, cond, eqb, Option, Some, None, refl, sym, ap, ◌∙◌, arith}
+use Rattle.std.proofs.Common.{◌≡◌, ℕ, suc, ◌+◌, ◌<◌, ◌≤◌, List, [], ◌∷◌, Bool, true, false, cond, eqb, Option, Some, None, refl, ap, ◌∙◌, arith}
 use Rattle.isle_core.specs.Value.{Value}
 use Rattle.isle_core.specs.Meaning.{Meaning}
 use Rattle.isle_core.specs.Calling.{Calling, ByTurns, ByCases, NoCall, calling, is_fallible, instance_of, one_more, impure, impure_all}
@@ -166,7 +166,7 @@ mutual
       let up : one_more c k ≡ n + one_more c (impure_all env es) = one_more_up c n (impure_all env es) in
       let low : k ≤ one_more c k = less_one c k in
       answer_up_to c (n + one_more c (impure_all env es)) (call_path env term (paths env es places n) k)
-        (omega arith, all_up_to_more (paths env es places n) k (n + one_more c (impure_all env es)) (omega arith) (paths_up_to es env places n b))
+      (omega arith, all_up_to_more (paths env es places n) k (n + one_more c (impure_all env es)) (omega arith) (paths_up_to es env places n b))
   path_up_to e env places n b = tt
 
   -- so of expressions in order
@@ -176,6 +176,7 @@ mutual
       let n1 = n + impure env e in
       let le : n ≤ n + impure env e = omega arith in
       let le1 : n + impure env e ≤ n + (impure env e + impure_all env es) = omega arith in
-      let assoc : n + impure env e + impure_all env es ≤ n + (impure env e + impure_all env es) = omega arith in
-      (up_to_more (path env e places n) n1 (n + (impure env e + impure_all env es)) le1 (path_up_to e env places n b),
-       all_up_to_more (paths env es places n1) (n1 + impure_all env es) (n + (impure env e + impure_all env es)) assoc (paths_up_to es env places n1 (places_more places n n1 le b)))
+      let assoc : n + impure env e + impure_all env es ≤ n + (impure env e + impure_all env es) = omega arith in (
+        up_to_more (path env e places n) n1 (n + (impure env e + impure_all env es)) le1 (path_up_to e env places n b),
+        all_up_to_more (paths env es places n1) (n1 + impure_all env es) (n + (impure env e + impure_all env es)) assoc (paths_up_to es env places n1 (places_more places n n1 le b)),
+      )

@@ -60,4 +60,3 @@ args_apart (q ∷ qs) n places b = all_append IsNotTrivial (tests q (Arg n) plac
 -- a rule tests no path against itself
 pub no_trivial : (r : Rule) (t : Test) → Contains (rule_tests r) t → IsTrivial t → ⊥
 no_trivial r t c = All-contains IsNotTrivial (rule_tests r) t (All-from_recursion IsNotTrivial (rule_tests r) (args_apart r.args 0 no_places (record { by = λ x. tt }))) c
-

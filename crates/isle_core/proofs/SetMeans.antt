@@ -1,5 +1,5 @@
 -- A rule set that stands for rules gives what they give.
-use Rattle.std.proofs.Common.{◌≡◌, ⊎_elim, ℕ, ◌<◌, ◌+◌, suc, List, [], ◌∷◌, ◌++◌, Bool, true, false, cond, eqb, length, get_or, map, Option, Some, None, refl, sym, ap, ◌∙◌, subst, arith}
+use Rattle.std.proofs.Common.{◌≡◌, ⊎_elim, ℕ, ◌+◌, List, [], ◌∷◌, Bool, true, false, cond, length, get_or, map, Option, Some, None, refl, sym, ap, ◌∙◌, subst, arith}
 use Rattle.std.specs.Prelude.{Contains, All, option_and_then}
 use Rattle.std.specs.Ordering.{int_cmp, is_lt}
 use Rattle.std.specs.List.{list_all, AllByRecursion}
@@ -7,7 +7,7 @@ use Rattle.std.proofs.lemmas.List.Elements.{All-contains, recursion_from_All, Co
 use Rattle.std.proofs.lemmas.List.Sums.{AllPass-from_list_all, list_all-from_AllPass}
 use Rattle.isle_base.specs.declared.ids.TermId.{TermId}
 use Rattle.isle_core.specs.declared.rule_sets.FlatRule.{FlatRule}
-use Rattle.isle_core.specs.Value.{Value, Made}
+use Rattle.isle_core.specs.Value.{Value}
 use Rattle.isle_core.specs.Meaning.{Meaning}
 use Rattle.isle_core.specs.Calling.{impure}
 use Rattle.isle_core.specs.Match.{Names, no_names, matches_all}
@@ -15,7 +15,7 @@ use Rattle.isle_core.specs.Eval.{Evaluated, Answered, Failed, evaluated, iflets_
 use Rattle.isle_core.specs.Outcome.{prescription_of, rule_names}
 use Rattle.isle_core.specs.HighestMatch.{better, or_later, highest_match, given_by, outcome_of}
 use Rattle.isle_core.specs.Path.{Path, Arg, at}
-use Rattle.isle_core.specs.Tests.{Places, no_places, args_after, rule_tests, rule_places, rule_calls, rule_result}
+use Rattle.isle_core.specs.Tests.{no_places, args_after, rule_tests, rule_places, rule_calls, rule_result}
 use Rattle.isle_core.specs.Held.{Known, nothing_known, value_at, holds, all_hold}
 use Rattle.isle_core.specs.CallRun.{Went, Goes, Ends, then_go, returns, run_calls}
 use Rattle.isle_core.specs.RuleSet.{flat_tests, flat_holds, gave, flat_run, higher, highest, given, set_outcome}
@@ -89,7 +89,7 @@ flat_gives env m args ps r n f names t h a =
     ap (λ cs. then_go (run_calls env m args cs nothing_known []) (returns env m args (at ps f.result))) (rising_firsts n (rule_calls env r n) (map (at ps) f.ordered) (calls_are_rising r.rhs env m (rule_places r) n t) h.ordered)
     ∙ ap (λ p. then_go (run_calls env m args (rule_calls env r n) nothing_known []) (returns env m args p)) h.result
     ∙ follows_returns env m args n (n + impure env r.rhs) nothing_known (rule_result env r n) (evaluated env m r.rhs names []) (run_calls env m args (rule_calls env r n) nothing_known [])
-      (expr_follows r.rhs env m args n nothing_known names (rule_places r) [] t a (args_up_to r.args n 0 no_places (none_up_to n)) (nothing_fresh n))
+    (expr_follows r.rhs env m args n nothing_known names (rule_places r) [] t a (args_up_to r.args n 0 no_places (none_up_to n)) (nothing_fresh n))
 
 -- ---- the highest
 
@@ -146,4 +146,4 @@ pub set_means : (env : Environment) (m : Meaning) (args : List Value) (ps : List
 set_means env m args ps rules fs partial b v i c l h =
     alike_given env m args ps partial (highest (flat_holds env m args ps) fs) (highest_match env m args rules)
     (highest_alike rules fs env m args ps 0 (recursion_from_All IsBuiltRule rules b) (recursion_from_All IsBoundRule rules v) (recursion_from_All (IsImpureRule env.terms) rules i) c
-      (recursion_from_All (λ (r : Rule). length r.args ≡ length args) rules l) h)
+    (recursion_from_All (λ (r : Rule). length r.args ≡ length args) rules l) h)

@@ -9,14 +9,13 @@ use Rattle.isle_base.specs.declared.ids.VarId.{VarId}
 use Rattle.isle_core.specs.declared.types.Term.{Term}
 use Rattle.isle_core.specs.declared.types.TermKind.{TermKind}
 use Rattle.isle_core.specs.declared.types.TermKind.TheVariants as kind
-use Rattle.isle_core.specs.declared.types.ConstructorKind.{ConstructorKind}
 use Rattle.isle_core.specs.declared.types.ConstructorKind.TheVariants as constructor
 use Rattle.isle_core.specs.declared.values.Callee.{Callee}
 use Rattle.isle_core.specs.declared.values.Callee.TheVariants.{External, Internal}
-use Rattle.isle_core.specs.Value.{Value, Answer, Plain, Found, Nothing, Several, Made}
+use Rattle.isle_core.specs.Value.{Value, Answer, Plain, Found, Nothing, Made}
 use Rattle.isle_core.specs.Meaning.{Meaning, TurnAnswers, turns_of, turn_at, times, turn}
 use Rattle.isle_core.specs.Answered.{Held, One, Optional, answer_held}
-use Rattle.isle_core.specs.Calling.{Calling, ByTurns, ByCases, NoCall, is_partial, pure_callee, calling_by, calling_of, calling}
+use Rattle.isle_core.specs.Calling.{Calling, ByTurns, is_partial, pure_callee, calling_by, calling_of, calling}
 use Rattle.isle_core.specs.Terms.{sym_text, impure_callee}
 use Rattle.isle_core.specs.Lawful.{Fits, all_turns, CallingFits, AnswersFit, called_by, called_by_all}
 use Rattle.isle_core.specs.BuiltRule.{IsBuiltExpr, AreBuiltExprs, IsImpureKind, CallsImpure, AllCallImpure, IsBoundIn, AreBoundIn}
@@ -46,9 +45,9 @@ turn_in P [] n rest h k = h
 turn_in P (a ∷ turns) zero rest h k = k.0
 turn_in P (a ∷ turns) (suc n) rest h k = turn_in P turns n rest h k.1
 
-turn_at_fits : (env : Environment) (m : Meaning) (ty : TypeId) (callee : Callee) (partial : Bool) (o : Option TurnAnswers) (n : ℕ) → IsSomeAnd o (λ a. All (Fits env partial ty) (all_turns a)) → IsOfKind partial (answer_held (turn_at o n))
-turn_at_fits env m ty callee partial None n h = absurd h
-turn_at_fits env m ty callee partial (Some a) n h =
+turn_at_fits : (env : Environment) (ty : TypeId) (partial : Bool) (o : Option TurnAnswers) (n : ℕ) → IsSomeAnd o (λ a. All (Fits env partial ty) (all_turns a)) → IsOfKind partial (answer_held (turn_at o n))
+turn_at_fits env ty partial None n h = absurd h
+turn_at_fits env ty partial (Some a) n h =
     let each = recursion_from_All (Fits env partial ty) (all_turns a) h in
     fits_kind env partial ty (slice_index_or a.turns n a.rest) (turn_in (Fits env partial ty) a.turns n a.rest each.0 each.1)
 
@@ -59,7 +58,7 @@ TakesTurns m c = ⊥
 
 -- turns that fit are of the term's kind
 pub turns_fit : (env : Environment) (m : Meaning) (ty : TypeId) (callee : Callee) (partial : Bool) → CallingFits env m ty (ByTurns callee partial) → TakesTurns m (ByTurns callee partial)
-turns_fit env m ty callee partial h made = turn_at_fits env m ty callee partial (turns_of m callee) (times callee made) h
+turns_fit env m ty callee partial h made = turn_at_fits env ty partial (turns_of m callee) (times callee made) h
 
 -- ---- a term
 
@@ -101,9 +100,10 @@ mutual
   calls_by_turns (expr.Var ty x) env m args places p b v i h = p v.0 x v.1
   calls_by_turns (expr.ConstBool c) env m args places p b v i h = tt
   calls_by_turns (expr.ConstInt ty n) env m args places p b v i h = tt
-  calls_by_turns (expr.Term ty term es) env m args places p b v i h =
-      (term_takes env m (slice_get env.terms term.0) i.0 (h term (Contains-push (called_by_all es) term)),
-       all_call_by_turns es env m args places p b v i.1 (λ c k. h c (Contains-append_left (called_by_all es) (term ∷ []) c k)))
+  calls_by_turns (expr.Term ty term es) env m args places p b v i h = (
+    term_takes env m (slice_get env.terms term.0) i.0 (h term (Contains-push (called_by_all es) term)),
+    all_call_by_turns es env m args places p b v i.1 (λ c k. h c (Contains-append_left (called_by_all es) (term ∷ []) c k)),
+  )
   calls_by_turns (expr.ConstPrim ty name) env m args places p b v i h = absurd b
   calls_by_turns (expr.Let ty bindings inner) env m args places p b v i h = absurd b
 
@@ -111,6 +111,7 @@ mutual
   pub all_call_by_turns : (es : Exprs) (env : Environment) (m : Meaning) (args : List Pattern) (places : Places) → ((ty : TypeId) (x : VarId) → Contains args (pattern.Var ty x) → IsPlaced (places x.0))
       → AreBuiltExprs es → AreBoundIn args es → AllCallImpure env.terms es → ((c : TermId) → Contains (called_by_all es) c → AnswersFit env m c) → AllCallByTurns env m places es
   all_call_by_turns NoExpr env m args places p b v i h = tt
-  all_call_by_turns (AnExpr e es) env m args places p b v i h =
-      (calls_by_turns e env m args places p b.0 v.0 i.0 (λ c k. h c (Contains-append_left (called_by e) (called_by_all es) c k)),
-       all_call_by_turns es env m args places p b.1 v.1 i.1 (λ c k. h c (Contains-append_right (called_by e) (called_by_all es) c k)))
+  all_call_by_turns (AnExpr e es) env m args places p b v i h = (
+    calls_by_turns e env m args places p b.0 v.0 i.0 (λ c k. h c (Contains-append_left (called_by e) (called_by_all es) c k)),
+    all_call_by_turns es env m args places p b.1 v.1 i.1 (λ c k. h c (Contains-append_right (called_by e) (called_by_all es) c k)),
+  )
