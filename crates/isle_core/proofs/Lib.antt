@@ -7,5 +7,12 @@ pub mod OutcomeOf
 pub mod PatternTests
 pub mod NotTrivial
 pub mod KeptPlaces
+pub mod TurnKinds
+pub mod KnownAnswers
+pub mod CallsFollow
+pub mod CallOccurrences
+pub mod PlacedVariables
+pub mod SetMeans
+pub mod AnsweredByTurn
 pub mod SeesRules
 pub mod SeesBlocks

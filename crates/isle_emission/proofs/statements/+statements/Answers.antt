@@ -4,7 +4,7 @@ use Rattle.isle_core.proofs.SeesBlocks.{step-parts, block-steps, arm-parts, cont
 use Rattle.isle_target.specs.Program.{Done}
 use Rattle.isle_target.specs.Views.{stmt}
 use Rattle.isle_emission.specs.BodyOnto.{body_onto}
-use Rattle.isle_emission.specs.Contexts.{env_of, paths_in}
+use Rattle.isle_emission.specs.Contexts.{env_of, bindings_in}
 use Rattle.isle_emission.specs.Statements.{block_body, control_stmt}
 use Rattle.isle_emission.proofs.Onto.{bound_onward}
 use Rattle.isle_emission.proofs.StatementSteps.{steps_step, steps_done, inside, first_arm}
@@ -13,7 +13,7 @@ use Rattle.isle_emission.proofs.statements.+statements.Goals as goal
 pub block_stmts-loop-step-preserved : goal.block_stmts-loop-step-preserved
 block_stmts-loop-step-preserved t c =
     let env = env_of c.args.context.now in
-    let ps = paths_in c.args.context.now in
+    let ps = bindings_in c.args.context.now in
     let partial = c.args.context.now.partial in
     let xs = c.as_slice-step-items.result.now in
     let old = c.loop-step.invariant.bound in
@@ -35,7 +35,7 @@ block_stmts-loop-step-preserved t c =
 pub block_stmts-returns-clause-stmts : goal.block_stmts-returns-clause-stmts
 block_stmts-returns-clause-stmts t c = λ end.
     let env = env_of c.args.context.now in
-    let ps = paths_in c.args.context.now in
+    let ps = bindings_in c.args.context.now in
     let partial = c.args.context.now.partial in
     steps_done env ps partial c.as_slice-step-items.result.now c.loop-step.step-index c.loop-step.bound c.loop-step.out.items end c.loop-step-test.false
     ∙ c.loop-step.invariant.stmts end
@@ -46,10 +46,10 @@ pub control_stmt-returns-in_ok-inside-in-Equal-clause-stmt : goal.control_stmt-r
 control_stmt-returns-in_ok-inside-in-Equal-clause-stmt t c =
     inside c.operand_of-a.result c.operand_of-b.result _ _ c.new.result _ c.operand_of-a.ensures c.operand_of-b.ensures
     (ap (λ ss. body_onto (map stmt ss) Done) c.new.ensures ∙ c.in_ok-inside-in-Equal.ensures.stmts Done)
-    ∙ ap (control_stmt (env_of c.args.context.now) (paths_in c.args.context.now) c.args.context.now.partial c.args.bound.now) (sym (ap control c.in-Equal.is ∙ control-equal c.in-Equal.a c.in-Equal.b c.in-Equal.body))
+    ∙ ap (control_stmt (env_of c.args.context.now) (bindings_in c.args.context.now) c.args.context.now.partial c.args.bound.now) (sym (ap control c.in-Equal.is ∙ control-equal c.in-Equal.a c.in-Equal.b c.in-Equal.body))
 
 pub arms_stmt-returns-clause-stmt : goal.arms_stmt-returns-clause-stmt
 arms_stmt-returns-clause-stmt t c =
-    first_arm (env_of c.args.context.now) (paths_in c.args.context.now) c.args.context.now.partial c.args.bound.now c.args.source c.tested.result c.new.result c.args.arms.now c.index-arms-0.result _
+    first_arm (env_of c.args.context.now) (bindings_in c.args.context.now) c.args.context.now.partial c.args.bound.now c.args.source c.tested.result c.new.result c.args.arms.now c.index-arms-0.result _
     c.if-is_empty.ensures c.index-arms-0.is (arm-parts c.index-arms-0.result) c.tested.ensures
     (ap (λ ss. body_onto (map stmt ss) Done) c.new.ensures ∙ c.in_ok-inside.ensures.stmts Done)

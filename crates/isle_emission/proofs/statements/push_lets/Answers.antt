@@ -1,5 +1,5 @@
 use Rattle.std.proofs.Common.{refl, ◌∙◌}
-use Rattle.isle_emission.specs.Contexts.{env_of, paths_in}
+use Rattle.isle_emission.specs.Contexts.{env_of, bindings_in}
 use Rattle.isle_emission.proofs.StatementSteps.{lets_step, bound_step}
 use Rattle.isle_emission.proofs.statements.push_lets.Goals as goal
 
@@ -9,7 +9,7 @@ loop-binding-preserved c =
     let i = c.loop-binding.binding-index in
     record {
       stmts = λ end.
-          lets_step (env_of c.args.context.now) (paths_in c.args.context.now) bs i _ _ c.in_place.result c.index.result c.loop-binding.out.items c.push.new.self.items end
+          lets_step (env_of c.args.context.now) (bindings_in c.args.context.now) bs i _ _ c.in_place.result c.index.result c.loop-binding.out.items c.push.new.self.items end
           c.loop-binding-test.true refl c.index.ensures c.in_place.ensures c.in_ok-push.ensures.items
           ∙ c.loop-binding.invariant.stmts end;
       bound =

@@ -1,0 +1,199 @@
+-- The calls of an expression, run in order, do what its evaluation does.
+use Rattle.std.proofs.Common.{◌≡◌, ℕ, suc, ◌+◌, ◌≤◌, List, [], ◌∷◌, ◌++◌, Bool, true, false, cond, eqb, Option, Some, None, T, refl, sym, ap, ◌∙◌, subst, arith}
+use Rattle.std.proofs.Math.Dec.{eqb_refl}
+use Rattle.std.proofs.lemmas.Bool.{ne_eqb}
+use Rattle.isle_base.specs.declared.ids.TermId.{TermId}
+use Rattle.isle_core.specs.declared.values.Callee.{Callee}
+use Rattle.isle_core.specs.Value.{Value, Answer, Made}
+use Rattle.isle_core.specs.Meaning.{Meaning, turn}
+use Rattle.isle_core.specs.Answered.{Held, One, answer_held}
+use Rattle.isle_core.specs.Calling.{Calling, ByTurns, ByCases, NoCall, calling, is_fallible, instance_of, one_more, impure, impure_all}
+use Rattle.isle_core.specs.Expr as expr
+use Rattle.isle_core.specs.Expr.{Expr, Exprs, NoExpr, AnExpr}
+use Rattle.isle_core.specs.Match.{Names, with}
+use Rattle.isle_core.specs.Eval.{Evaluated, Answered, Failed, EvaluatedAll, AllAnswered, OneFailed, named, then_all, before, then_one, answered, called_with, evaluated, evaluated_all}
+use Rattle.isle_core.specs.Outcome.{Failure}
+use Rattle.isle_core.specs.Path.{Path, Called, Paths, APath}
+use Rattle.isle_core.specs.Tests.{Places, path_or, answer_path, path, paths, if_ordered, calls, calls_all}
+use Rattle.isle_core.specs.Held.{Known, held_of, inner_held, value_before, call_held, value_at, values_at}
+use Rattle.isle_core.specs.CallRun.{Went, Goes, Ends, then_go, take_turn, make_call, check_call, unless_nothing, run_call, run_calls}
+use Rattle.isle_core.specs.Rule.{Environment}
+use Rattle.isle_core.proofs.PatternTests.{StandsAt, Agree}
+use Rattle.isle_core.proofs.TurnKinds.{IsOfKind, TakesTurns, IsPlaced, CallsByTurns, AllCallByTurns}
+use Rattle.isle_core.proofs.KnownAnswers.{IsUpTo, Kept, Fresh, kept_on, kept_self, fresh_more, stable, PlacesUpTo, places_more, agree_still, path_up_to}
+
+-- ---- evaluation against calls
+
+-- a value that was reached stands at its path, and no call but the next ones was made
+pub record Reached (env : Environment) (m : Meaning) (args : List Value) (n n' : ℕ) (known known' : Known) (p : Path) (v : Value) : Type 0 where
+  pub held : value_at env m args known' p ≡ One v
+  pub kept : Kept n known known'
+  pub fresh : Fresh n' known'
+
+-- so of values in order
+pub record ReachedAll (env : Environment) (m : Meaning) (args : List Value) (n n' : ℕ) (known known' : Known) (ps : Paths) (vs : List Value) : Type 0 where
+  pub held : values_at env m args known' ps ≡ Some vs
+  pub kept : Kept n known known'
+  pub fresh : Fresh n' known'
+
+-- evaluation and calls end alike
+abbrev pub Follows : Environment → Meaning → List Value → ℕ → ℕ → Known → Path → Evaluated → Went → Type 0
+Follows env m args n n' known p (Answered v made) (Goes known' made') = Reached env m args n n' known known' p v × (made' ≡ made)
+Follows env m args n n' known p (Failed made) (Ends o) = o ≡ record { result = Failure; calls = made }
+Follows env m args n n' known p (Answered v made) (Ends o) = ⊥
+Follows env m args n n' known p (Failed made) (Goes known' made') = ⊥
+
+-- so of expressions in order
+abbrev pub FollowsAll : Environment → Meaning → List Value → ℕ → ℕ → Known → Paths → EvaluatedAll → Went → Type 0
+FollowsAll env m args n n' known ps (AllAnswered vs made) (Goes known' made') = ReachedAll env m args n n' known known' ps vs × (made' ≡ made)
+FollowsAll env m args n n' known ps (OneFailed made) (Ends o) = o ≡ record { result = Failure; calls = made }
+FollowsAll env m args n n' known ps (AllAnswered vs made) (Ends o) = ⊥
+FollowsAll env m args n n' known ps (OneFailed made) (Goes known' made') = ⊥
+
+-- ---- calls one after the other
+
+goes_append : (f : Went) (one two more : Known → List Made → Went) → ((known : Known) (made : List Made) → two known made ≡ then_go (one known made) more) → then_go f two ≡ then_go (then_go f one) more
+goes_append (Goes known made) one two more h = h known made
+goes_append (Ends o) one two more h = refl
+
+run_append : (env : Environment) (m : Meaning) (args : List Value) (ps qs : List Path) (known : Known) (made : List Made) → run_calls env m args (ps ++ qs) known made ≡ then_go (run_calls env m args ps known made) (run_calls env m args qs)
+run_append env m args [] qs known made = refl
+run_append env m args (p ∷ ps) qs known made = goes_append (run_call env m args p known made) (run_calls env m args ps) (run_calls env m args (ps ++ qs)) (run_calls env m args qs) (run_append env m args ps qs)
+
+goes_end : (f : Went) → then_go f Goes ≡ f
+goes_end (Goes known made) = refl
+goes_end (Ends o) = refl
+
+run_last : (env : Environment) (m : Meaning) (args : List Value) (ps : List Path) (p : Path) (known : Known) (made : List Made) → run_calls env m args (ps ++ p ∷ []) known made ≡ then_go (run_calls env m args ps known made) (run_call env m args p)
+run_last env m args ps p known made = run_append env m args ps (p ∷ []) known made ∙ same_went (run_calls env m args ps known made)
+  where
+    same_went : (f : Went) → then_go f (run_calls env m args (p ∷ [])) ≡ then_go f (run_call env m args p)
+    same_went (Goes known' made') = goes_end (run_call env m args p known' made')
+    same_went (Ends o) = refl
+
+follows_back : (env : Environment) (m : Meaning) (args : List Value) (n n1 n2 : ℕ) (known known' : Known) (p : Path) (r : Evaluated) (f : Went) → n ≤ n1 → Kept n known known' → Follows env m args n1 n2 known' p r f → Follows env m args n n2 known p r f
+follows_back env m args n n1 n2 known known' p (Answered v made) (Goes known'' made') le k h = (record { held = h.0.held; kept = kept_on n n1 known known' known'' le k h.0.kept; fresh = h.0.fresh }, h.1)
+follows_back env m args n n1 n2 known known' p (Failed made) (Ends o) le k h = h
+follows_back env m args n n1 n2 known known' p (Answered v made) (Ends o) le k h = absurd h
+follows_back env m args n n1 n2 known known' p (Failed made) (Goes known'' made') le k h = absurd h
+
+-- all arguments, then the call
+args_follow : (env : Environment) (m : Meaning) (args : List Value) (n n1 n2 : ℕ) (known : Known) (ps : Paths) (q : Path) (r : EvaluatedAll) (f : Went) (go : List Value → List Made → Evaluated) (run : Known → List Made → Went) → n ≤ n1 → FollowsAll env m args n n1 known ps r f
+    → ((vs : List Value) (known' : Known) (made : List Made) → ReachedAll env m args n n1 known known' ps vs → Follows env m args n1 n2 known' q (go vs made) (run known' made)) → Follows env m args n n2 known q (then_one r go) (then_go f run)
+args_follow env m args n n1 n2 known ps q (AllAnswered vs made) (Goes known' made') go run le h k =
+    follows_back env m args n n1 n2 known known' q (go vs made) (run known' made') le h.0.kept (rw h.1 (k vs known' made h.0))
+args_follow env m args n n1 n2 known ps q (OneFailed made) (Ends o) go run le h k = h
+args_follow env m args n n1 n2 known ps q (AllAnswered vs made) (Ends o) go run le h k = absurd h
+args_follow env m args n n1 n2 known ps q (OneFailed made) (Goes known' made') go run le h k = absurd h
+
+-- one argument, then the others
+before_follows : (env : Environment) (m : Meaning) (args : List Value) (n n1 n2 : ℕ) (known known' : Known) (p : Path) (ps : Paths) (v : Value) (r : EvaluatedAll) (f : Went) → n ≤ n1 → IsUpTo n1 p → Reached env m args n n1 known known' p v → FollowsAll env m args n1 n2 known' ps r f → FollowsAll env m args n n2 known (APath p ps) (before v r) f
+before_follows env m args n n1 n2 known known' p ps v (AllAnswered vs made) (Goes known'' made') le b h k = (
+  record {
+    held = ap (λ x. value_before x (values_at env m args known'' ps)) (stable p env m args n1 known' known'' b k.0.kept ∙ h.held) ∙ ap (value_before (One v)) k.0.held;
+    kept = kept_on n n1 known known' known'' le h.kept k.0.kept;
+    fresh = k.0.fresh;
+  },
+  k.1,
+)
+before_follows env m args n n1 n2 known known' p ps v (OneFailed made) (Ends o) le b h k = k
+before_follows env m args n n1 n2 known known' p ps v (AllAnswered vs made) (Ends o) le b h k = absurd k
+before_follows env m args n n1 n2 known known' p ps v (OneFailed made) (Goes known'' made') le b h k = absurd k
+
+first_follows : (env : Environment) (m : Meaning) (args : List Value) (n n1 n2 : ℕ) (known : Known) (p : Path) (ps : Paths) (r : Evaluated) (f : Went) (go : Value → List Made → EvaluatedAll) (run : Known → List Made → Went) → n ≤ n1 → IsUpTo n1 p → Follows env m args n n1 known p r f
+    → ((v : Value) (known' : Known) (made : List Made) → Reached env m args n n1 known known' p v → FollowsAll env m args n1 n2 known' ps (go v made) (run known' made)) → FollowsAll env m args n n2 known (APath p ps) (then_all r (λ v made. before v (go v made))) (then_go f run)
+first_follows env m args n n1 n2 known p ps (Answered v made) (Goes known' made') go run le b h k =
+    before_follows env m args n n1 n2 known known' p ps v (go v made) (run known' made') le b h.0 (rw h.1 (k v known' made h.0))
+first_follows env m args n n1 n2 known p ps (Failed made) (Ends o) go run le b h k = h
+first_follows env m args n n1 n2 known p ps (Answered v made) (Ends o) go run le b h k = absurd h
+first_follows env m args n n1 n2 known p ps (Failed made) (Goes known' made') go run le b h k = absurd h
+
+-- ---- a call
+
+with_here : (known : Known) (k : ℕ) (a : Answer) → with known k a k ≡ Some a
+with_here known k a = ap (λ b. cond b (Some a) (known k)) (true_of (eqb k k) (eqb_refl k))
+  where
+    true_of : (b : Bool) → T b → b ≡ true
+    true_of true t = refl
+    true_of false t = absurd t
+
+with_else : (known : Known) (k j : ℕ) (a : Answer) → (k ≡ j → ⊥) → with known k a j ≡ known j
+with_else known k j a ne = ap (λ b. cond b (Some a) (known j)) (ne_eqb k j ne)
+
+-- an answer of the term's kind gives a value, or it is nothing
+answer_follows : (env : Environment) (m : Meaning) (args : List Value) (n n' : ℕ) (known known' : Known) (made : List Made) (callee : Callee) (p : Path) (partial : Bool) (h : Held) → IsOfKind partial h → value_at env m args known' p ≡ h → Kept n known known' → Fresh n' known'
+    → Follows env m args n n' known (answer_path (ByTurns callee partial) p) (answered h made) (cond partial (unless_nothing h known' made) (Goes known' made))
+answer_follows env m args n n' known known' made callee p false h (v, e) is k f = rw e (record { held = is ∙ e; kept = k; fresh = f }, refl)
+answer_follows env m args n n' known known' made callee p true h (None, e) is k f = rw e refl
+answer_follows env m args n n' known known' made callee p true h (Some v, e) is k f = rw e (record { held = ap inner_held (is ∙ e); kept = k; fresh = f }, refl)
+
+turn_follows : (env : Environment) (m : Meaning) (args : List Value) (n n' : ℕ) (known : Known) (made : List Made) (term : TermId) (ps : Paths) (callee : Callee) (partial : Bool) (vs : List Value) → calling env term ≡ ByTurns callee partial → n' ≡ suc n → IsOfKind partial (answer_held (turn m callee made)) → Fresh n known
+    → values_at env m args known ps ≡ Some vs
+    → Follows env m args n n' known (answer_path (ByTurns callee partial) (Called term ps (suc n))) (called_with m (ByTurns callee partial) vs made) (run_call env m args (Called term ps (suc n)) known made)
+turn_follows env m args n n' known made term ps callee partial vs e next kind fr is =
+    let a = turn m callee made in
+    let known' = with known (suc n) a in
+    let made' = made ++ record { callee = callee; args = vs } ∷ [] in
+    let p = Called term ps (suc n) in
+    let here : known' (suc n) ≡ Some a = with_here known (suc n) a in
+    let made_now : run_call env m args p known made ≡ check_call env m args p known' made' =
+    ap (λ c. then_go (make_call m c (suc n) (values_at env m args known ps) known made) (check_call env m args p)) e
+    ∙ ap (λ o. then_go (take_turn m callee (suc n) (known (suc n)) o known made) (check_call env m args p)) is
+    ∙ ap (λ o. then_go (take_turn m callee (suc n) o (Some vs) known made) (check_call env m args p)) (fr.by (suc n) (omega arith)) in
+    let checked : check_call env m args p known' made' ≡ cond partial (unless_nothing (answer_held a) known' made') (Goes known' made') =
+    ap (λ c. cond (is_fallible c) (unless_nothing (call_held m c (known' (suc n)) (values_at env m args known' ps)) known' made') (Goes known' made')) e
+    ∙ ap (λ o. cond partial (unless_nothing (held_of o) known' made') (Goes known' made')) here in
+    let held : value_at env m args known' p ≡ answer_held a = ap (λ c. call_held m c (known' (suc n)) (values_at env m args known' ps)) e ∙ ap held_of here in
+    subst (λ f. Follows env m args n n' known (answer_path (ByTurns callee partial) p) (called_with m (ByTurns callee partial) vs made) f) (sym (made_now ∙ checked))
+    (answer_follows env m args n n' known known' made' callee p partial (answer_held a) kind held
+    (record { by = λ j low. with_else known (suc n) j a (λ (q : suc n ≡ j). let bad : ⊥ = omega arith in bad) })
+    (record { by = λ j lt. with_else known (suc n) j a (λ (q : suc n ≡ j). let bad : ⊥ = omega arith in bad) ∙ fr.by j (omega arith) }))
+
+-- the calls of the arguments, then that of the term
+term_follows : (c : Calling) (env : Environment) (m : Meaning) (args : List Value) (n k : ℕ) (known : Known) (made : List Made) (term : TermId) (ps : Paths) (cs : List Path) (r : EvaluatedAll) → calling env term ≡ c → TakesTurns m c → FollowsAll env m args n (n + k) known ps r (run_calls env m args cs known made)
+    → Follows env m args n (n + one_more c k) known (answer_path c (Called term ps (instance_of c (n + k)))) (then_one r (called_with m c)) (run_calls env m args (cs ++ if_ordered c (Called term ps (instance_of c (n + k)))) known made)
+term_follows (ByTurns callee partial) env m args n k known made term ps cs r e t h =
+    let c = ByTurns callee partial in
+    let p = Called term ps (suc (n + k)) in
+    let le : n ≤ n + k = omega arith in
+    let last : n + suc k ≡ suc (n + k) = omega arith in
+    subst (λ f. Follows env m args n (n + suc k) known (answer_path c p) (then_one r (called_with m c)) f) (sym (run_last env m args cs p known made))
+    (args_follow env m args n (n + k) (n + suc k) known ps (answer_path c p) r (run_calls env m args cs known made) (called_with m c) (run_call env m args p) le h
+    (λ vs known' made' a. turn_follows env m args (n + k) (n + suc k) known' made' term ps callee partial vs e last (t made') a.fresh a.held))
+term_follows (ByCases callee partial) env m args n k known made term ps cs r e t h = absurd t
+term_follows NoCall env m args n k known made term ps cs r e t h = absurd t
+
+-- ---- expressions
+
+var_follows : (env : Environment) (m : Meaning) (args : List Value) (n n' : ℕ) (known : Known) (made : List Made) (o : Option Value) (q : Option Path) → n ≤ n' → Fresh n known → IsPlaced q → StandsAt (value_at env m args known) o q → Follows env m args n n' known (path_or q) (named o made) (Goes known made)
+var_follows env m args n n' known made (Some v) (Some p) le fr i h = (record { held = h; kept = kept_self n known; fresh = fresh_more n n' known le fr }, refl)
+var_follows env m args n n' known made None (Some p) le fr i h = absurd h
+var_follows env m args n n' known made o None le fr i h = absurd i
+
+mutual
+  -- the calls of an expression do what its evaluation does
+  pub expr_follows : (e : Expr) (env : Environment) (m : Meaning) (args : List Value) (n : ℕ) (known : Known) (names : Names) (places : Places) (made : List Made) → CallsByTurns env m places e → Agree (value_at env m args known) names places → PlacesUpTo n places → Fresh n known
+      → Follows env m args n (n + impure env e) known (path env e places n) (evaluated env m e names made) (run_calls env m args (calls env e places n) known made)
+  expr_follows (expr.Var ty x) env m args n known names places made t a b fr = var_follows env m args n (n + 0) known made (names x.0) (places x.0) (omega arith) fr t (a.by x.0)
+  expr_follows (expr.ConstBool c) env m args n known names places made t a b fr = (record { held = refl; kept = kept_self n known; fresh = fresh_more n (n + 0) known (omega arith) fr }, refl)
+  expr_follows (expr.ConstInt ty k) env m args n known names places made t a b fr = (record { held = refl; kept = kept_self n known; fresh = fresh_more n (n + 0) known (omega arith) fr }, refl)
+  expr_follows (expr.Term ty term es) env m args n known names places made t a b fr =
+      term_follows (calling env term) env m args n (impure_all env es) known made term (paths env es places n) (calls_all env es places n) (evaluated_all env m es names made) refl t.0 (exprs_follow es env m args n known names places made t.1 a b fr)
+  expr_follows (expr.ConstPrim ty name) env m args n known names places made t a b fr = absurd t
+  expr_follows (expr.Let ty bindings inner) env m args n known names places made t a b fr = absurd t
+
+  -- so of expressions in order
+  pub exprs_follow : (es : Exprs) (env : Environment) (m : Meaning) (args : List Value) (n : ℕ) (known : Known) (names : Names) (places : Places) (made : List Made) → AllCallByTurns env m places es → Agree (value_at env m args known) names places → PlacesUpTo n places → Fresh n known
+      → FollowsAll env m args n (n + impure_all env es) known (paths env es places n) (evaluated_all env m es names made) (run_calls env m args (calls_all env es places n) known made)
+  exprs_follow NoExpr env m args n known names places made t a b fr = (record { held = refl; kept = kept_self n known; fresh = fresh_more n (n + 0) known (omega arith) fr }, refl)
+  exprs_follow (AnExpr e es) env m args n known names places made t a b fr =
+      let n1 = n + impure env e in
+      let p = path env e places n in
+      let le : n ≤ n + impure env e = omega arith in
+      let assoc : n + impure env e + impure_all env es ≡ n + (impure env e + impure_all env es) = omega arith in
+      subst (λ f. FollowsAll env m args n (n + (impure env e + impure_all env es)) known (APath p (paths env es places n1)) (evaluated_all env m (AnExpr e es) names made) f) (sym (run_append env m args (calls env e places n) (calls_all env es places n1) known made))
+      (first_follows env m args n n1 (n + (impure env e + impure_all env es)) known p (paths env es places n1) (evaluated env m e names made) (run_calls env m args (calls env e places n) known made) (λ v made'. evaluated_all env m es names made') (run_calls env m args (calls_all env es places n1)) le
+      (path_up_to e env places n b)
+      (expr_follows e env m args n known names places made t.0 a b fr)
+      (λ v known' made' h. subst (λ k. FollowsAll env m args n1 k known' (paths env es places n1) (evaluated_all env m es names made') (run_calls env m args (calls_all env es places n1) known' made')) assoc
+      (exprs_follow es env m args n1 known' names places made' t.1 (agree_still env m args n known known' names places b h.kept a) (places_more places n n1 le b) h.fresh)))

@@ -1,0 +1,117 @@
+-- A lawful impure term is answered by turns of its kind.
+use Rattle.std.proofs.Common.{◌≡◌, ℕ, zero, suc, List, [], ◌∷◌, Bool, true, false, Option, Some, None, refl}
+use Rattle.std.specs.Prelude.{IsSomeAnd, All, slice_get, slice_index_or, Contains}
+use Rattle.std.specs.List.{AllByRecursion}
+use Rattle.std.proofs.lemmas.List.Elements.{recursion_from_All, Contains-append_left, Contains-append_right, Contains-push}
+use Rattle.isle_base.specs.declared.ids.TermId.{TermId}
+use Rattle.isle_base.specs.declared.ids.TypeId.{TypeId}
+use Rattle.isle_base.specs.declared.ids.VarId.{VarId}
+use Rattle.isle_core.specs.declared.types.Term.{Term}
+use Rattle.isle_core.specs.declared.types.TermKind.{TermKind}
+use Rattle.isle_core.specs.declared.types.TermKind.TheVariants as kind
+use Rattle.isle_core.specs.declared.types.ConstructorKind.TheVariants as constructor
+use Rattle.isle_core.specs.declared.values.Callee.{Callee}
+use Rattle.isle_core.specs.declared.values.Callee.TheVariants.{External, Internal}
+use Rattle.isle_core.specs.Value.{Value, Answer, Plain, Found, Nothing, Made}
+use Rattle.isle_core.specs.Meaning.{Meaning, TurnAnswers, turns_of, turn_at, times, turn}
+use Rattle.isle_core.specs.Answered.{Held, One, Optional, answer_held}
+use Rattle.isle_core.specs.Calling.{Calling, ByTurns, is_partial, pure_callee, calling_by, calling_of, calling}
+use Rattle.isle_core.specs.Terms.{sym_text, impure_callee}
+use Rattle.isle_core.specs.Lawful.{Fits, all_turns, CallingFits, AnswersFit, called_by, called_by_all}
+use Rattle.isle_core.specs.BuiltRule.{IsBuiltExpr, AreBuiltExprs, IsImpureKind, CallsImpure, AllCallImpure, IsBoundIn, AreBoundIn}
+use Rattle.isle_core.specs.Pattern as pattern
+use Rattle.isle_core.specs.Pattern.{Pattern}
+use Rattle.isle_core.specs.Expr as expr
+use Rattle.isle_core.specs.Expr.{Expr, Exprs, NoExpr, AnExpr}
+use Rattle.isle_core.specs.Path.{Path}
+use Rattle.isle_core.specs.Tests.{Places}
+use Rattle.isle_core.specs.Rule.{Environment}
+
+-- ---- a turn
+
+-- what the answer of a term holds: a value, or an option of one where the term is partial
+abbrev pub IsOfKind : Bool → Held → Type 0
+IsOfKind false h = (v : Value) × (h ≡ One v)
+IsOfKind true h = (o : Option Value) × (h ≡ Optional o)
+
+fits_kind : (env : Environment) (partial : Bool) (ty : TypeId) (a : Answer) → Fits env partial ty a → IsOfKind partial (answer_held a)
+fits_kind env true ty (Found (v ∷ [])) h = (Some v, refl)
+fits_kind env true ty Nothing h = (None, refl)
+fits_kind env false ty (Plain (v ∷ [])) h = (v, refl)
+fits_kind env partial ty a h = absurd h
+
+turn_in : (P : Answer → Type 0) (turns : List Answer) (n : ℕ) (rest : Answer) → P rest → AllByRecursion P turns → P (slice_index_or turns n rest)
+turn_in P [] n rest h k = h
+turn_in P (a ∷ turns) zero rest h k = k.0
+turn_in P (a ∷ turns) (suc n) rest h k = turn_in P turns n rest h k.1
+
+turn_at_fits : (env : Environment) (ty : TypeId) (partial : Bool) (o : Option TurnAnswers) (n : ℕ) → IsSomeAnd o (λ a. All (Fits env partial ty) (all_turns a)) → IsOfKind partial (answer_held (turn_at o n))
+turn_at_fits env ty partial None n h = absurd h
+turn_at_fits env ty partial (Some a) n h =
+    let each = recursion_from_All (Fits env partial ty) (all_turns a) h in
+    fits_kind env partial ty (slice_index_or a.turns n a.rest) (turn_in (Fits env partial ty) a.turns n a.rest each.0 each.1)
+
+-- the term takes turns, and each is of its kind
+abbrev pub TakesTurns : Meaning → Calling → Type 0
+TakesTurns m (ByTurns callee partial) = (made : List Made) → IsOfKind partial (answer_held (turn m callee made))
+TakesTurns m c = ⊥
+
+-- turns that fit are of the term's kind
+pub turns_fit : (env : Environment) (m : Meaning) (ty : TypeId) (callee : Callee) (partial : Bool) → CallingFits env m ty (ByTurns callee partial) → TakesTurns m (ByTurns callee partial)
+turns_fit env m ty callee partial h made = turn_at_fits env ty partial (turns_of m callee) (times callee made) h
+
+-- ---- a term
+
+kind_takes : (env : Environment) (m : Meaning) (ty : TypeId) (t : Term) (k : TermKind) → IsImpureKind k
+    → CallingFits env m ty (calling_by (is_partial k) (impure_callee env t k) (pure_callee env t k)) → TakesTurns m (calling_by (is_partial k) (impure_callee env t k) (pure_callee env t k))
+kind_takes env m ty t (kind.Decl false multi partial recursive constructor.Internal extractor) i h = turns_fit env m ty (Internal (sym_text env t.name)) partial h
+kind_takes env m ty t (kind.Decl false multi partial recursive (constructor.External func) extractor) i h = turns_fit env m ty (External (sym_text env func)) partial h
+kind_takes env m ty t k i h = absurd i
+
+term_takes : (env : Environment) (m : Meaning) (o : Option Term) → IsSomeAnd o (λ (t : Term). IsImpureKind t.kind) → IsSomeAnd o (λ (t : Term). CallingFits env m t.ret_ty (calling_of env o)) → TakesTurns m (calling_of env o)
+term_takes env m None i h = absurd i
+term_takes env m (Some t) i h = kind_takes env m t.ret_ty t t.kind i h
+
+-- ---- an expression
+
+-- a variable that has a path
+abbrev pub IsPlaced : Option Path → Type 0
+IsPlaced None = ⊥
+IsPlaced (Some p) = Unit {0}
+
+-- a built expression whose variables have paths and whose calls take turns
+abbrev mutual
+  pub CallsByTurns : Environment → Meaning → Places → Expr → Type 0
+  CallsByTurns env m places (expr.Var ty x) = IsPlaced (places x.0)
+  CallsByTurns env m places (expr.ConstBool b) = Unit {0}
+  CallsByTurns env m places (expr.ConstInt ty n) = Unit {0}
+  CallsByTurns env m places (expr.Term ty term es) = TakesTurns m (calling env term) × AllCallByTurns env m places es
+  CallsByTurns env m places e = ⊥
+
+  -- so of expressions in order
+  pub AllCallByTurns : Environment → Meaning → Places → Exprs → Type 0
+  AllCallByTurns env m places NoExpr = Unit {0}
+  AllCallByTurns env m places (AnExpr e es) = CallsByTurns env m places e × AllCallByTurns env m places es
+
+mutual
+  -- impure terms that are answered lawfully take turns
+  pub calls_by_turns : (e : Expr) (env : Environment) (m : Meaning) (args : List Pattern) (places : Places) → ((ty : TypeId) (x : VarId) → Contains args (pattern.Var ty x) → IsPlaced (places x.0))
+      → IsBuiltExpr e → IsBoundIn args e → CallsImpure env.terms e → ((c : TermId) → Contains (called_by e) c → AnswersFit env m c) → CallsByTurns env m places e
+  calls_by_turns (expr.Var ty x) env m args places p b v i h = p v.0 x v.1
+  calls_by_turns (expr.ConstBool c) env m args places p b v i h = tt
+  calls_by_turns (expr.ConstInt ty n) env m args places p b v i h = tt
+  calls_by_turns (expr.Term ty term es) env m args places p b v i h = (
+    term_takes env m (slice_get env.terms term.0) i.0 (h term (Contains-push (called_by_all es) term)),
+    all_call_by_turns es env m args places p b v i.1 (λ c k. h c (Contains-append_left (called_by_all es) (term ∷ []) c k)),
+  )
+  calls_by_turns (expr.ConstPrim ty name) env m args places p b v i h = absurd b
+  calls_by_turns (expr.Let ty bindings inner) env m args places p b v i h = absurd b
+
+  -- so of expressions in order
+  pub all_call_by_turns : (es : Exprs) (env : Environment) (m : Meaning) (args : List Pattern) (places : Places) → ((ty : TypeId) (x : VarId) → Contains args (pattern.Var ty x) → IsPlaced (places x.0))
+      → AreBuiltExprs es → AreBoundIn args es → AllCallImpure env.terms es → ((c : TermId) → Contains (called_by_all es) c → AnswersFit env m c) → AllCallByTurns env m places es
+  all_call_by_turns NoExpr env m args places p b v i h = tt
+  all_call_by_turns (AnExpr e es) env m args places p b v i h = (
+    calls_by_turns e env m args places p b.0 v.0 i.0 (λ c k. h c (Contains-append_left (called_by e) (called_by_all es) c k)),
+    all_call_by_turns es env m args places p b.1 v.1 i.1 (λ c k. h c (Contains-append_right (called_by e) (called_by_all es) c k)),
+  )
