@@ -1,88 +1,214 @@
--- What the statements of a block read is there.
-use Rattle.std.proofs.Common.{◌≡◌, ℕ, List, [], ◌∷◌, ◌++◌, length, Bool, true, false, eqb, refl, subst}
-use Rattle.std.specs.Prelude.{◌||◌, Contains}
-use Rattle.std.specs.List.{AllByRecursion, list_any}
-use Rattle.std.proofs.lemmas.Bool.{eqb-true}
+-- What the statements of a block read is there, and holds what is asked of it.
+use Rattle.std.proofs.Common.{◌≡◌, ◌⊎◌, ⊎_elim, ℕ, suc, List, [], ◌∷◌, ◌++◌, length, Bool, true, false, cond, eqb, ltb, Option, Some, None, map, fold, slice_get, refl, sym, ap, ◌∙◌, subst}
+use Rattle.std.specs.Prelude.{◌||◌, Contains, IsSome, IsTrue, nat_lt}
+use Rattle.std.specs.List.{list_any, list_all}
+use Rattle.std.proofs.lemmas.Bool.{eqb-true, eq-eqb, lt-ltb}
+use Rattle.std.proofs.lemmas.List.{length-map}
+use Rattle.std.proofs.lemmas.List.Folds.{list_any-append}
+use Rattle.std.proofs.lemmas.List.Sums.{fold_push}
 use Rattle.std.proofs.lemmas.Option.{slice_get_within}
-use Rattle.isle_core.proofs.Contained.{head_contained, tail_contained}
 use Rattle.isle_core.specs.declared.BindingId.{BindingId}
 use Rattle.isle_core.specs.declared.TypeId.{TypeId}
+use Rattle.isle_core.specs.declared.rule_sets.Binding.{Binding}
+use Rattle.isle_core.specs.declared.rule_sets.Binding.TheVariants as binding
 use Rattle.isle_core.specs.declared.rule_sets.Constraint.{Constraint}
 use Rattle.isle_core.specs.declared.rule_sets.Constraint.TheVariants as constraint
 use Rattle.isle_core.specs.declared.types.Term.{Term}
+use Rattle.isle_core.specs.Calling.{Calling, ByTurns, ByCases, NoCall, calling, is_partial}
 use Rattle.isle_core.specs.Value.{Value, Truth, Int, Opaque, Variant, Struct}
 use Rattle.isle_core.specs.Constants.{int_value}
-use Rattle.isle_core.specs.Path.{Path, Arg, ConstBool, ConstInt, at}
+use Rattle.isle_core.specs.Path.{Path, Arg, ConstBool, ConstInt, Called, Inner, at, paths_of}
 use Rattle.isle_core.specs.Block as block
 use Rattle.isle_core.specs.Block.{Block, Stop, Step, Control}
-use Rattle.isle_core.specs.BlockLawful.{IsPathOf, IsConstraintOf, IsBound, IsLawfulBlock, IsLawfulControl}
+use Rattle.isle_core.specs.BlockLawful.{IsPathOf, IsOptionOf, IsConstraintOf, IsInPlace, IsCall, IsPlain, IsReadAs, AreReadAs, IsBindable, AreBindable, IsLawfulBlock, IsLawfulControl, bound_by}
 use Rattle.isle_core.specs.Rule.{Environment}
+use Rattle.isle_target.specs.declared.holds.Holds.{Holds}
+use Rattle.isle_target.specs.declared.holds.Holds.TheVariants as holds
 use Rattle.isle_target.specs.declared.tree.Operand.{Operand}
 use Rattle.isle_target.specs.Program.{Body, Done, Then}
-use Rattle.isle_target.specs.WellFormed.{IsThere, IsExprThere, IsBodyThere}
+use Rattle.isle_target.specs.WellFormed.{Locals, newer, local_holds, operand_holds, read_holds, is_value, are_values, kind_holds, trait_fn, call_holds, callee_holds, inner_holds, expr_holds, GivesKind, behind_let, IsBodyThere}
 use Rattle.isle_emission.specs.Operands.{constant, in_place, tested, is_bound, operand_of}
-use Rattle.isle_emission.specs.Statements.{lets, bound_by, returned, block_body, control_stmt}
+use Rattle.isle_emission.specs.Statements.{callee_of, reads, bound_expr, lets, returned, block_body, control_stmt}
+use Rattle.isle_emission.specs.TermFunction.{parameter, kind_of}
+use Rattle.isle_emission.specs.TraitFns.{trait_fns_of, HasFnNames}
+use Rattle.isle_emission.proofs.BoundTests.{found}
+use Rattle.isle_emission.proofs.ExternalTerms.{IsExternalTerm, external_term, term_fn_found}
 
-constant_there : (v : Value) (params : ℕ) (bound : List ℕ) → IsThere params bound (constant v)
-constant_there (Truth b) params bound = tt
-constant_there (Int ty n) params bound = tt
-constant_there (Opaque ty n) params bound = tt
-constant_there (Variant ty name fields) params bound = tt
-constant_there (Struct ty fields) params bound = tt
+-- ---- operands
 
--- a path of a type is an argument of the term, or reads none
-in_place_there : (env : Environment) (t : Term) (p : Path) (ty : TypeId) (bound : List ℕ) → IsPathOf env t p ty → IsThere (length t.arg_tys) bound (in_place env p)
-in_place_there env t (Arg i) ty bound h = slice_get_within t.arg_tys i ty h
-in_place_there env t (ConstBool of b) ty bound h = tt
-in_place_there env t (ConstInt of n) ty bound h = constant_there (int_value env of n) (length t.arg_tys) bound
-in_place_there env t p ty bound h = absurd h
+constant_holds : (v : Value) (params : ℕ) (locals : Locals) → operand_holds params locals (constant v) ≡ Some holds.One
+constant_holds (Truth b) params locals = refl
+constant_holds (Int ty n) params locals = refl
+constant_holds (Opaque ty n) params locals = refl
+constant_holds (Variant ty name fields) params locals = refl
+constant_holds (Struct ty fields) params locals = refl
 
--- a constraint reads nothing
-tested_there : (env : Environment) (c : Constraint) (ty : TypeId) (params : ℕ) (bound : List ℕ) → IsConstraintOf env c ty → IsThere params bound (tested env c)
-tested_there env (constraint.ConstBool val) ty params bound h = tt
-tested_there env (constraint.ConstInt val of) ty params bound h = constant_there (int_value env of val) params bound
-tested_there env c ty params bound h = absurd h
+-- a path of a type that is read in place holds a value
+in_place_holds : (env : Environment) (t : Term) (p : Path) (ty : TypeId) (locals : Locals) → IsPathOf env t p ty → IsInPlace p → operand_holds (length t.arg_tys) locals (in_place env p) ≡ Some holds.One
+in_place_holds env t (Arg i) ty locals h k = ap (λ b. cond b (Some holds.One) None) (lt-ltb i (length t.arg_tys) (slice_get_within t.arg_tys i ty h))
+in_place_holds env t (ConstBool of b) ty locals h k = refl
+in_place_holds env t (ConstInt of n) ty locals h k = constant_holds (int_value env of n) (length t.arg_tys) locals
+in_place_holds env t p ty locals h k = absurd k
 
-bound_is_there : (bound : List ℕ) (b : ℕ) → list_any (λ n. eqb n b) bound ≡ true → Contains bound b
-bound_is_there [] b e = cc
-bound_is_there (n ∷ bound) b e = one (eqb n b) refl (bound_is_there bound b) e
+-- a constraint is tested for a value
+tested_holds : (env : Environment) (c : Constraint) (ty : TypeId) (params : ℕ) (locals : Locals) → IsConstraintOf env c ty → operand_holds params locals (tested env c) ≡ Some holds.One
+tested_holds env (constraint.ConstBool val) ty params locals h = refl
+tested_holds env (constraint.ConstInt val of) ty params locals h = constant_holds (int_value env of val) params locals
+tested_holds env c ty params locals h = absurd h
+
+-- a value where a path is of a type, an option where it is an option's
+record HoldsAs (env : Environment) (t : Term) (p : Path) (o : Option Holds) : Type 0 where
+  value : (ty : TypeId) → IsPathOf env t p ty → o ≡ Some holds.One
+  option : (ty : TypeId) → IsOptionOf env t p ty → o ≡ Some holds.Optional
+
+-- each that is bound holds what its path is
+record LocalsHold (env : Environment) (t : Term) (bs : List Binding) (bound : List ℕ) (locals : Locals) : Type 0 where
+  by : (c : BindingId) → is_bound bound c ≡ true → HoldsAs env t (at (paths_of bs) c) (local_holds locals c.0)
+
+none_hold : (env : Environment) (t : Term) (bs : List Binding) → LocalsHold env t bs [] []
+none_hold env t bs = record { by = λ c e. cc }
+
+older : (x : Bool) → (x || (false || false)) ≡ true → x ≡ true
+older true e = refl
+older false e = e
+
+more_hold : (env : Environment) (t : Term) (bs : List Binding) (bound : List ℕ) (locals : Locals) (b : BindingId) (h : Holds) → LocalsHold env t bs bound locals → HoldsAs env t (at (paths_of bs) b) (Some h) → LocalsHold env t bs (bound ++ b.0 ∷ []) (locals ++ (b.0, h) ∷ [])
+more_hold env t bs bound locals b h l here = record {
+  by = λ c e. one c (eqb b.0 c.0) refl (sym (list_any-append (λ n. eqb n c.0) bound (b.0 ∷ [])) ∙ e);
+}
   where
-    one : (x : Bool) → eqb n b ≡ x → (list_any (λ k. eqb k b) bound ≡ true → Contains bound b) → (x || list_any (λ k. eqb k b) bound) ≡ true → Contains (n ∷ bound) b
-    one true is others e = subst (λ k. Contains (n ∷ bound) k) (eqb-true n b is) (head_contained n bound)
-    one false is others e = tail_contained n bound b (others e)
+    one : (c : BindingId) (same : Bool) → eqb b.0 c.0 ≡ same → (is_bound bound c || is_bound (b.0 ∷ []) c) ≡ true → HoldsAs env t (at (paths_of bs) c) (local_holds (locals ++ (b.0, h) ∷ []) c.0)
+    one c true is e =
+        let there : at (paths_of bs) b ≡ at (paths_of bs) c = ap (λ n. at (paths_of bs) (record { 0 = n })) (eqb-true b.0 c.0 is) in
+        subst (HoldsAs env t (at (paths_of bs) c)) (sym (fold_push (newer c.0) None locals (b.0, h) ∙ ap (λ x. cond x (Some h) (local_holds locals c.0)) is)) (subst (λ p. HoldsAs env t p (Some h)) there here)
+    one c false is e =
+        subst (HoldsAs env t (at (paths_of bs) c)) (sym (fold_push (newer c.0) None locals (b.0, h) ∙ ap (λ x. cond x (Some h) (local_holds locals c.0)) is))
+        (l.by c (older (is_bound bound c) (subst (λ x. (is_bound bound c || (x || false)) ≡ true) is e)))
 
-operand_there : (env : Environment) (t : Term) (ps : List Path) (bound : List ℕ) (b : BindingId) (ty : TypeId) → IsPathOf env t (at ps b) ty → IsThere (length t.arg_tys) bound (operand_of env ps bound b)
-operand_there env t ps bound b ty h = one (is_bound bound b) refl
+not_bound : (bound : List ℕ) (b : BindingId) → Contains bound b.0 → is_bound bound b ≡ false → ⊥
+not_bound bound b c e = let t = found bound b.0 c in cc
+
+operand_one : (env : Environment) (t : Term) (bs : List Binding) (bound : List ℕ) (locals : Locals) (b : BindingId) (ty : TypeId) → LocalsHold env t bs bound locals → IsReadAs env t bs bound b ty → operand_holds (length t.arg_tys) locals (operand_of env bs bound b) ≡ Some holds.One
+operand_one env t bs bound locals b ty l h = one (is_bound bound b) refl
   where
-    one : (x : Bool) → is_bound bound b ≡ x → IsThere (length t.arg_tys) bound (operand_of env ps bound b)
-    one true is = rw is (bound_is_there bound b.0 is)
-    one false is = rw is (in_place_there env t (at ps b) ty bound h)
+    one : (x : Bool) → is_bound bound b ≡ x → operand_holds (length t.arg_tys) locals (operand_of env bs bound b) ≡ Some holds.One
+    one true is = rw is ((l.by b is).value ty h.path)
+    one false is = rw is (⊎_elim (λ k. in_place_holds env t (at (paths_of bs) b) ty locals h.path k) (λ c. absurd (not_bound bound b c is)) h.read)
 
-returned_there : (partial : Bool) (o : Operand) (params : ℕ) (bound : List ℕ) → IsThere params bound o → IsExprThere params bound (returned partial o)
-returned_there true o params bound h = h
-returned_there false o params bound h = h
+is_one : (o : Option Holds) → o ≡ Some holds.One → IsTrue (is_value o)
+is_one o e = subst (λ x. IsTrue (is_value x)) (sym e) refl
 
-lets_there : (env : Environment) (t : Term) (ps : List Path) (bound : List ℕ) (bs : List BindingId) (more : Body)
-    → AllByRecursion (IsBound env t ps) bs → IsBodyThere (length t.arg_tys) (bound_by bound bs) more → IsBodyThere (length t.arg_tys) bound (lets env ps bs more)
-lets_there env t ps bound [] more k h = h
-lets_there env t ps bound (b ∷ bs) more k h = (in_place_there env t (at ps b) k.0.0 bound k.0.1, lets_there env t ps (bound ++ b.0 ∷ []) bs more k.1 h)
+reads_hold : (env : Environment) (t : Term) (bs : List Binding) (bound : List ℕ) (locals : Locals) (parameters : List BindingId) (tys : List TypeId) → LocalsHold env t bs bound locals → AreReadAs env t bs bound parameters tys
+    → (are_values (length t.arg_tys) locals (reads env bs bound parameters) ≡ true) × (length (reads env bs bound parameters) ≡ length tys)
+reads_hold env t bs bound locals [] [] l h = (refl, refl)
+reads_hold env t bs bound locals (b ∷ more) (ty ∷ tys) l h =
+    let here = operand_one env t bs bound locals b ty l h.0 in
+    let rest = reads_hold env t bs bound locals more tys l h.1 in
+    (rw here rest.0, ap suc rest.1)
+reads_hold env t bs bound locals [] (ty ∷ tys) l h = absurd h
+reads_hold env t bs bound locals (b ∷ more) [] l h = absurd h
+
+-- ---- lets
+
+-- what a let computes holds this, which is what the path is
+record LetHolds (env : Environment) (t : Term) (bs : List Binding) (bound : List ℕ) (locals : Locals) (b : BindingId) (p : Path) (o : Option Binding) : Type 0 where
+  h : Holds
+  is : expr_holds (trait_fns_of env) (length t.arg_tys) locals (bound_expr env bs bound b o) ≡ Some h
+  kept : HoldsAs env t p (Some h)
+
+plain_holds : (env : Environment) (t : Term) (p : Path) → IsPlain env t p → HoldsAs env t p (Some holds.One)
+plain_holds env t (Arg i) k = record { value = λ ty h. refl; option = λ ty h. absurd h }
+plain_holds env t (ConstBool of b) k = record { value = λ ty h. refl; option = λ ty h. absurd h }
+plain_holds env t (ConstInt of n) k = record { value = λ ty h. refl; option = λ ty h. absurd h }
+plain_holds env t p k = absurd k.0
+
+in_place_let : (env : Environment) (t : Term) (bs : List Binding) (bound : List ℕ) (locals : Locals) (b : BindingId) (p : Path) → at (paths_of bs) b ≡ p → IsPlain env t p
+    → (operand_holds (length t.arg_tys) locals (in_place env (at (paths_of bs) b)) ≡ Some holds.One) × HoldsAs env t p (Some holds.One)
+in_place_let env t bs bound locals b p e k = (ap (λ q. operand_holds (length t.arg_tys) locals (in_place env q)) e ∙ in_place_holds env t p k.1.0 locals k.1.1 k.0, plain_holds env t p k)
+
+-- what the answer of a term's function holds
+abbrev answer_holds : Bool → Holds
+answer_holds true = holds.Optional
+answer_holds false = holds.One
+
+kind_of_holds : (partial : Bool) → kind_holds (kind_of partial) ≡ Some (answer_holds partial)
+kind_of_holds true = refl
+kind_of_holds false = refl
+
+call_as : (env : Environment) (t : Term) (term : _) (ps : _) (k : ℕ) (partial : Bool) (c : Calling) → calling env term ≡ c → IsCall partial c → HoldsAs env t (Called term ps k) (Some (answer_holds partial))
+call_as env t term ps k true (ByTurns callee p) e h = record { value = λ ty of. absurd (let bad : IsCall false (ByTurns callee p) = subst (IsCall false) e of.0 in let q = h.0 in let r = bad.0 in cc); option = λ ty of. refl }
+call_as env t term ps k false (ByTurns callee p) e h = record { value = λ ty of. refl; option = λ ty of. absurd (let bad : IsCall true (ByTurns callee p) = subst (IsCall true) e of.0 in let q = h.0 in let r = bad.0 in cc) }
+call_as env t term ps k partial (ByCases callee p) e h = absurd h
+call_as env t term ps k partial NoCall e h = absurd h
+
+same_count : (n m : ℕ) → n ≡ m → eqb n m ≡ true
+same_count n m e = eq-eqb n m e
+
+let_holds : (env : Environment) (t : Term) (bs : List Binding) (bound : List ℕ) (locals : Locals) (b : BindingId) (p : Path) (o : Option Binding) → HasFnNames env → at (paths_of bs) b ≡ p → LocalsHold env t bs bound locals → IsBindable env t bs bound p o → LetHolds env t bs bound locals b p o
+let_holds env t bs bound locals b p (Some (binding.Constructor term parameters k)) names e l is =
+    let x = external_term env term is.called is.partial is.there is.external in
+    let args = reads_hold env t bs bound locals parameters is.called.arg_tys l is.args in
+    record {
+      h = answer_holds is.partial;
+      is =
+          ap (λ y. cond y (callee_holds (trait_fns_of env) (callee_of (calling env term)) (length (reads env bs bound parameters))) None) args.0
+          ∙ ap (λ y. callee_holds (trait_fns_of env) y (length (reads env bs bound parameters))) x.callee
+          ∙ ap (λ y. call_holds y (length (reads env bs bound parameters))) (term_fn_found env term is.called is.partial names is.there x)
+          ∙ ap (λ y. cond y (kind_holds (kind_of (is_partial is.called.kind))) None) (same_count (length (map (parameter env) is.called.arg_tys)) (length (reads env bs bound parameters)) (length-map is.called.arg_tys (parameter env) ∙ sym args.1))
+          ∙ ap (λ y. kind_holds (kind_of y)) x.partial' ∙ kind_of_holds is.partial;
+      kept = subst (λ q. HoldsAs env t q (Some (answer_holds is.partial))) (sym is.path) (call_as env t term _ k is.partial (calling env term) refl is.external);
+    }
+let_holds env t bs bound locals b p (Some (binding.MatchSome source)) names e l is =
+    record {
+      h = holds.One;
+      is = rw (found bound source.0 is.bound') (ap inner_holds ((l.by source (found bound source.0 is.bound')).option is.ty is.option));
+      kept = subst (λ q. HoldsAs env t q (Some holds.One)) (sym is.path) (record { value = λ ty h. refl; option = λ ty h. absurd h });
+    }
+let_holds env t bs bound locals b p (Some (binding.Argument index)) names e l is = let k = in_place_let env t bs bound locals b p e is in record { h = holds.One; is = k.0; kept = k.1 }
+let_holds env t bs bound locals b p (Some (binding.ConstBool val ty)) names e l is = let k = in_place_let env t bs bound locals b p e is in record { h = holds.One; is = k.0; kept = k.1 }
+let_holds env t bs bound locals b p (Some (binding.ConstInt val ty)) names e l is = let k = in_place_let env t bs bound locals b p e is in record { h = holds.One; is = k.0; kept = k.1 }
+let_holds env t bs bound locals b p o names e l is = absurd is
+
+lets_there : (env : Environment) (t : Term) (bs : List Binding) (bound : List ℕ) (locals : Locals) (binds : List BindingId) (more : Body) → HasFnNames env → LocalsHold env t bs bound locals → AreBindable env t bs bound binds
+    → ((after : Locals) → LocalsHold env t bs (bound_by bound binds) after → IsBodyThere (trait_fns_of env) (kind_of (is_partial t.kind)) (length t.arg_tys) after more)
+    → IsBodyThere (trait_fns_of env) (kind_of (is_partial t.kind)) (length t.arg_tys) locals (lets env bs bound binds more)
+lets_there env t bs bound locals [] more names l k h = h locals l
+lets_there env t bs bound locals (b ∷ binds) more names l k h =
+    let x = let_holds env t bs bound locals b (at (paths_of bs) b) (slice_get bs b.0) names refl l k.0 in
+    let rest = lets_there env t bs (bound ++ b.0 ∷ []) (locals ++ (b.0, x.h) ∷ []) binds more names (more_hold env t bs bound locals b x.h l x.kept) k.1 h in (
+      subst IsSome (sym x.is) refl,
+      subst (λ o. IsBodyThere (trait_fns_of env) (kind_of (is_partial t.kind)) (length t.arg_tys) (behind_let o b.0 locals) (lets env bs (bound ++ b.0 ∷ []) binds more)) (sym x.is) rest,
+    )
+
+-- ---- blocks
+
+returned_there : (partial : Bool) (o : Operand) (env : Environment) (params : ℕ) (locals : Locals) → operand_holds params locals o ≡ Some holds.One → GivesKind (kind_of partial) (expr_holds (trait_fns_of env) params locals (returned partial o))
+returned_there true o env params locals e = rw e tt
+returned_there false o env params locals e = rw e tt
 
 mutual
   -- what a lawful block reads, where what follows reads what is there whatever is bound
-  pub block_there : (b : Block) (env : Environment) (t : Term) (ps : List Path) (partial : Bool) (bound : List ℕ) (end : Body)
-      → IsLawfulBlock env t ps b → ((locals : List ℕ) → IsBodyThere (length t.arg_tys) locals end) → IsBodyThere (length t.arg_tys) bound (block_body env ps partial bound b end)
-  block_there Stop env t ps partial bound end k h = h bound
-  block_there (Step bs c more) env t ps partial bound end k h =
-      lets_there env t ps bound bs (Then (control_stmt env ps partial (bound_by bound bs) c) (block_body env ps partial (bound_by bound bs) more end)) k.0
-      (control_there c more env t ps partial (bound_by bound bs) (block_body env ps partial (bound_by bound bs) more end) k.1 (block_there more env t ps partial (bound_by bound bs) end k.2 h))
+  block_there : (b : Block) (env : Environment) (t : Term) (bs : List Binding) (bound : List ℕ) (locals : Locals) (end : Body) → HasFnNames env → LocalsHold env t bs bound locals → IsLawfulBlock env t bs bound b
+      → ((after : Locals) → IsBodyThere (trait_fns_of env) (kind_of (is_partial t.kind)) (length t.arg_tys) after end)
+      → IsBodyThere (trait_fns_of env) (kind_of (is_partial t.kind)) (length t.arg_tys) locals (block_body env bs (is_partial t.kind) bound b end)
+  block_there Stop env t bs bound locals end names l k h = h locals
+  block_there (Step binds c more) env t bs bound locals end names l k h =
+      lets_there env t bs bound locals binds (Then (control_stmt env bs (is_partial t.kind) (bound_by bound binds) c) (block_body env bs (is_partial t.kind) (bound_by bound binds) more end)) names l k.0
+      (λ after held. control_there c more env t bs (bound_by bound binds) after (block_body env bs (is_partial t.kind) (bound_by bound binds) more end) names held k.2 (block_there more env t bs (bound_by bound binds) after end names held k.3 h))
 
-  control_there : (c : Control) (more : Block) (env : Environment) (t : Term) (ps : List Path) (partial : Bool) (bound : List ℕ) (ss : Body)
-      → IsLawfulControl env t ps c more → IsBodyThere (length t.arg_tys) bound ss → IsBodyThere (length t.arg_tys) bound (Then (control_stmt env ps partial bound c) ss)
-  control_there (block.Match source (block.Arm c places body arms)) more env t ps partial bound ss k h =
-      ((operand_there env t ps bound source k.0 k.1, tested_there env c k.0 (length t.arg_tys) bound k.2.0, block_there body env t ps partial bound Done k.2.2 (λ locals. tt)), h)
-  control_there (block.Match source block.NoArm) more env t ps partial bound ss k h = absurd k.2
-  control_there (block.Equal x y body) more env t ps partial bound ss k h =
-      ((operand_there env t ps bound x k.0.0 k.0.1, operand_there env t ps bound y k.0.0 k.0.2, block_there body env t ps partial bound Done k.1 (λ locals. tt)), h)
-  control_there (block.Loop result body) more env t ps partial bound ss k h = absurd k
-  control_there (block.Return pos result) more env t ps partial bound ss k h =
-      (returned_there partial (operand_of env ps bound result) (length t.arg_tys) bound (operand_there env t ps bound result t.ret_ty k.0), h)
+  control_there : (c : Control) (more : Block) (env : Environment) (t : Term) (bs : List Binding) (bound : List ℕ) (locals : Locals) (ss : Body) → HasFnNames env → LocalsHold env t bs bound locals → IsLawfulControl env t bs bound c more
+      → IsBodyThere (trait_fns_of env) (kind_of (is_partial t.kind)) (length t.arg_tys) locals ss → IsBodyThere (trait_fns_of env) (kind_of (is_partial t.kind)) (length t.arg_tys) locals (Then (control_stmt env bs (is_partial t.kind) bound c) ss)
+  control_there (block.Match source (block.Arm c places body arms)) more env t bs bound locals ss names l k h =
+      ((is_one _ (operand_one env t bs bound locals source k.0 l k.1), is_one _ (tested_holds env c k.0 (length t.arg_tys) locals k.2.0), block_there body env t bs bound locals Done names l k.2.2 (λ after. tt)), h)
+  control_there (block.Match source block.NoArm) more env t bs bound locals ss names l k h = absurd k.2
+  control_there (block.Equal x y body) more env t bs bound locals ss names l k h =
+      ((is_one _ (operand_one env t bs bound locals x k.0.0 l k.0.1), is_one _ (operand_one env t bs bound locals y k.0.0 l k.0.2), block_there body env t bs bound locals Done names l k.1 (λ after. tt)), h)
+  control_there (block.Loop result body) more env t bs bound locals ss names l k h = absurd k
+  control_there (block.Return pos result) more env t bs bound locals ss names l k h =
+      (returned_there (is_partial t.kind) (operand_of env bs bound result) env (length t.arg_tys) locals (operand_one env t bs bound locals result t.ret_ty l k.0), h)
+
+-- what the block of a function reads
+pub root_there : (b : Block) (env : Environment) (t : Term) (bs : List Binding) (end : Body) → HasFnNames env → IsLawfulBlock env t bs [] b
+    → ((after : Locals) → IsBodyThere (trait_fns_of env) (kind_of (is_partial t.kind)) (length t.arg_tys) after end)
+    → IsBodyThere (trait_fns_of env) (kind_of (is_partial t.kind)) (length t.arg_tys) [] (block_body env bs (is_partial t.kind) [] b end)
+root_there b env t bs end names k h = block_there b env t bs [] [] end names (none_hold env t bs) k h

@@ -4,7 +4,8 @@ use Rattle.std.specs.Prelude.{IfOk, IsSomeAnd}
 use Rattle.isle_core.specs.declared.files.Files.{Files}
 use Rattle.isle_core.specs.declared.types.Term.{Term}
 use Rattle.isle_core.specs.Block.{Block}
-use Rattle.isle_core.specs.Path.{Path}
+use Rattle.isle_core.specs.declared.rule_sets.Binding.{Binding}
+use Rattle.isle_core.specs.Path.{paths_of}
 use Rattle.isle_core.specs.Rule.{Environment}
 use Rattle.isle_target.specs.Program.{Program, Function}
 use Rattle.isle_target.specs.WellFormed.{IsFunction}
@@ -12,13 +13,14 @@ use Rattle.isle_emission.specs.Emitted.{RunsAsBlock}
 use Rattle.isle_emission.specs.MayEmit.{MayEmit}
 use Rattle.isle_emission.specs.Shape.{HasShape}
 use Rattle.isle_emission.specs.TermFunction.{term_function}
+use Rattle.isle_emission.specs.TraitFns.{trait_fns_of}
 use Rattle.isle_emission.proofs.Shapes.{has_shape}
 use Rattle.isle_emission.proofs.Simulation.{runs_as_block}
 use Rattle.isle_emission.proofs.WellFormedFunctions.{emitted_well_formed}
 
 -- the function is that of the term
-abbrev pub IsOf : Files → Environment → List Path → Block → Option Term → Function → Type 0
-IsOf files env ps b o f = IsSomeAnd o (λ t. f ≡ term_function files env t ps b)
+abbrev pub IsOf : Files → Environment → List Binding → Block → Option Term → Function → Type 0
+IsOf files env bs b o f = IsSomeAnd o (λ t. f ≡ term_function files env t bs b)
 
 pub if_ok : {A E : Type 0} (r : Result A E) (P Q : A → Type 0) → ((a : A) → P a → Q a) → IfOk r P → IfOk r Q
 if_ok (Ok a) P Q f h = f a h
@@ -30,14 +32,14 @@ at_item [] i x P Q h is q = absurd h
 at_item (y ∷ ys) zero x P Q h is q = subst Q is q
 at_item (y ∷ ys) (suc i) x P Q h is q = at_item ys i x P Q h is q
 
-pub is_well_formed : (files : Files) (env : Environment) (ps : List Path) (b : Block) (o : Option Term) (f : Function) → IsSomeAnd o (λ t. MayEmit files env t ps b) → IsOf files env ps b o f → (p : Program) → IsFunction p f
-is_well_formed files env ps b (Some t) f h e p = subst (IsFunction p) (sym e) (emitted_well_formed files env t ps b h.emittable h.lawful p)
-is_well_formed files env ps b None f h e p = absurd h
+pub is_well_formed : (files : Files) (env : Environment) (bs : List Binding) (b : Block) (o : Option Term) (f : Function) → IsSomeAnd o (λ t. MayEmit files env t bs b) → IsOf files env bs b o f → (p : Program) → p.trait_fns ≡ trait_fns_of env → IsFunction p f
+is_well_formed files env bs b (Some t) f h e p fns = subst (IsFunction p) (sym e) (emitted_well_formed files env t bs b h.emittable h.lawful h.fns p fns)
+is_well_formed files env bs b None f h e p fns = absurd h
 
-pub is_shaped : (files : Files) (env : Environment) (ps : List Path) (b : Block) (o : Option Term) (f : Function) → IsSomeAnd o (λ t. MayEmit files env t ps b) → IsOf files env ps b o f → HasShape env ps f.body b
-is_shaped files env ps b (Some t) f h e = subst (λ (g : Function). HasShape env ps g.body b) (sym e) (has_shape files env t ps b h.lawful)
-is_shaped files env ps b None f h e = absurd h
+pub is_shaped : (files : Files) (env : Environment) (bs : List Binding) (b : Block) (o : Option Term) (f : Function) → IsSomeAnd o (λ t. MayEmit files env t bs b) → IsOf files env bs b o f → HasShape env (paths_of bs) f.body b
+is_shaped files env bs b (Some t) f h e = subst (λ (g : Function). HasShape env (paths_of bs) g.body b) (sym e) (has_shape files env t bs b h.lawful)
+is_shaped files env bs b None f h e = absurd h
 
-pub is_run : (files : Files) (env : Environment) (ps : List Path) (b : Block) (o : Option Term) (f : Function) → IsSomeAnd o (λ t. MayEmit files env t ps b) → IsOf files env ps b o f → IsSomeAnd o (λ t. RunsAsBlock env t ps b f)
-is_run files env ps b (Some t) f h e = subst (RunsAsBlock env t ps b) (sym e) (runs_as_block files env t ps b h.lawful)
-is_run files env ps b None f h e = absurd h
+pub is_run : (files : Files) (env : Environment) (bs : List Binding) (b : Block) (o : Option Term) (f : Function) → IsSomeAnd o (λ t. MayEmit files env t bs b) → IsOf files env bs b o f → IsSomeAnd o (λ t. RunsAsBlock env t bs b f)
+is_run files env bs b (Some t) f h e = subst (RunsAsBlock env t bs b) (sym e) (runs_as_block files env t bs b h.lawful)
+is_run files env bs b None f h e = absurd h

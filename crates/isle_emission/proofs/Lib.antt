@@ -5,10 +5,13 @@ pub mod Onto
 pub mod StatementSteps
 pub mod Lines
 pub mod PathValues
+pub mod HeldStays
 pub mod LocalsAgree
+pub mod BindsRun
 pub mod Simulation
 pub mod Shapes
 pub mod TermNames
+pub mod ExternalTerms
 pub mod BlockForms
 pub mod BlockThere
 pub mod BlockFits

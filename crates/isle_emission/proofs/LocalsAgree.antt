@@ -1,77 +1,120 @@
--- The locals that are bound hold the values of their bindings.
-use Rattle.std.proofs.Common.{◌≡◌, ℕ, List, [], ◌∷◌, ◌++◌, Bool, true, false, cond, eqb, Some, None, refl, sym, ap, ◌∙◌, subst}
-use Rattle.std.specs.Prelude.{◌||◌}
-use Rattle.std.specs.List.{AllByRecursion}
+-- The locals that are bound hold what stands at the paths of their bindings.
+use Rattle.std.proofs.Common.{◌≡◌, ◌⊎◌, ⊎_elim, ℕ, List, [], ◌∷◌, ◌++◌, Bool, true, false, cond, eqb, Option, Some, None, refl, sym, ap, ◌∙◌, subst}
+use Rattle.std.specs.Prelude.{◌||◌, Contains}
 use Rattle.std.proofs.lemmas.Bool.{eqb-true}
 use Rattle.std.proofs.lemmas.List.Folds.{list_any-append}
 use Rattle.std.proofs.lemmas.List.Sums.{fold_push}
 use Rattle.isle_core.specs.declared.BindingId.{BindingId}
+use Rattle.isle_core.specs.declared.TypeId.{TypeId}
+use Rattle.isle_core.specs.declared.rule_sets.Binding.{Binding}
 use Rattle.isle_core.specs.declared.types.Term.{Term}
-use Rattle.isle_core.specs.Value.{Value, Made}
+use Rattle.isle_core.specs.Value.{Value}
 use Rattle.isle_core.specs.Meaning.{Meaning}
 use Rattle.isle_core.specs.HasType.{HaveTypes}
-use Rattle.isle_core.specs.Path.{Path, at}
-use Rattle.isle_core.specs.BlockLawful.{IsBound}
+use Rattle.isle_core.specs.Path.{Path, Paths, at, at_all, paths_of}
+use Rattle.isle_core.specs.Held.{Held, Absent, One, Optional, Known, value_before, value_at, values_at}
+use Rattle.isle_core.specs.BlockLawful.{IsPathOf, IsOptionOf, IsInPlace, IsReadAs, AreReadAs}
 use Rattle.isle_core.specs.Rule.{Environment}
-use Rattle.isle_target.specs.Program.{Body}
-use Rattle.isle_target.specs.Run.{Env, newer, look, bind, value_of, run_body}
+use Rattle.isle_target.specs.Run.{Env, newer, look, bind, value_of, read_values}
 use Rattle.isle_emission.specs.Operands.{is_bound, operand_of}
-use Rattle.isle_emission.specs.Statements.{lets, bound_by}
-use Rattle.isle_emission.proofs.PathValues.{Reads, path_reads}
+use Rattle.isle_emission.specs.Statements.{reads}
+use Rattle.isle_emission.proofs.BoundTests.{found}
+use Rattle.isle_emission.proofs.HeldStays.{IsThere, Grows, held_stays}
+use Rattle.isle_emission.proofs.PathValues.{path_reads}
 
--- a binding that is bound has the value of its path in its local
-pub record Agree (env : Environment) (m : Meaning) (args : List Value) (ps : List Path) (bound : List ℕ) (locals : Env) : Type 0 where
-  pub by : (c : BindingId) (v : Value) → is_bound bound c ≡ true → Reads env m args (at ps c) v → look locals c.0 ≡ Some v
+-- what stands at a path is of the path's kind
+pub record IsOfKind (env : Environment) (t : Term) (p : Path) (h : Held) : Type 0 where
+  pub there : IsThere h
+  pub value : (ty : TypeId) → IsPathOf env t p ty → (v : Value) × (h ≡ One v)
+  pub option : (ty : TypeId) → IsOptionOf env t p ty → (o : Option Value) × (h ≡ Optional o)
+
+-- a local holds what stands at its binding's path
+pub record Stands (env : Environment) (m : Meaning) (args : List Value) (t : Term) (bs : List Binding) (known : Known) (locals : Env) (c : BindingId) : Type 0 where
+  pub is : look locals c.0 ≡ value_at env m args known (at (paths_of bs) c)
+  pub kind : IsOfKind env t (at (paths_of bs) c) (value_at env m args known (at (paths_of bs) c))
+
+-- so of each that is bound
+pub record Agree (env : Environment) (m : Meaning) (args : List Value) (t : Term) (bs : List Binding) (bound : List ℕ) (known : Known) (locals : Env) : Type 0 where
+  pub by : (c : BindingId) → is_bound bound c ≡ true → Stands env m args t bs known locals c
 
 -- none is bound
-pub none_agree : (env : Environment) (m : Meaning) (args : List Value) (ps : List Path) → Agree env m args ps [] []
-none_agree env m args ps = record { by = λ c v e r. cc }
+pub none_agree : (env : Environment) (m : Meaning) (args : List Value) (t : Term) (bs : List Binding) (known : Known) → Agree env m args t bs [] known []
+none_agree env m args t bs known = record { by = λ c e. cc }
 
--- a path has one value
-same_read : (env : Environment) (m : Meaning) (args : List Value) (p : Path) (v w : Value) → Reads env m args p v → Reads env m args p w → v ≡ w
-same_read env m args p v w a b = let e : Some v ≡ Some w = sym (a.place []) ∙ b.place [] in cc
+-- still so while later calls are answered
+pub agree_later : (env : Environment) (m : Meaning) (args : List Value) (t : Term) (bs : List Binding) (bound : List ℕ) (known later : Known) (locals : Env) → Grows known later → Agree env m args t bs bound known locals → Agree env m args t bs bound later locals
+agree_later env m args t bs bound known later locals g a = record { by = λ c e. still c (a.by c e) }
+  where
+    still : (c : BindingId) → Stands env m args t bs known locals c → Stands env m args t bs later locals c
+    still c s =
+        let p = at (paths_of bs) c in
+        let same = held_stays p env m args known later g s.kind.there in
+        record { is = s.is ∙ sym same; kind = subst (IsOfKind env t p) (sym same) s.kind }
 
 older : (x : Bool) → (x || (false || false)) ≡ true → x ≡ true
 older true e = refl
 older false e = e
 
 -- a local more
-bind_agrees : (env : Environment) (m : Meaning) (args : List Value) (ps : List Path) (bound : List ℕ) (locals : Env) (b : BindingId) (w : Value)
-    → Agree env m args ps bound locals → Reads env m args (at ps b) w → Agree env m args ps (bound ++ b.0 ∷ []) (bind locals b.0 w)
-bind_agrees env m args ps bound locals b w a r = record {
-  by = λ c v e s. fold_push (newer c.0) None locals (b.0, w) ∙ one c v (eqb b.0 c.0) refl (sym (list_any-append (λ n. eqb n c.0) bound (b.0 ∷ [])) ∙ e) s;
+pub bind_agrees : (env : Environment) (m : Meaning) (args : List Value) (t : Term) (bs : List Binding) (bound : List ℕ) (known : Known) (locals : Env) (b : BindingId) (h : Held)
+    → Agree env m args t bs bound known locals → value_at env m args known (at (paths_of bs) b) ≡ h → IsOfKind env t (at (paths_of bs) b) h → Agree env m args t bs (bound ++ b.0 ∷ []) known (bind locals b.0 h)
+bind_agrees env m args t bs bound known locals b h a at_b kind = record {
+  by = λ c e. one c (eqb b.0 c.0) refl (sym (list_any-append (λ n. eqb n c.0) bound (b.0 ∷ [])) ∙ e);
 }
   where
-    one : (c : BindingId) (v : Value) (same : Bool) → eqb b.0 c.0 ≡ same → (is_bound bound c || is_bound (b.0 ∷ []) c) ≡ true → Reads env m args (at ps c) v → cond same (Some w) (look locals c.0) ≡ Some v
-    one c v true is e s =
-        let there : at ps b ≡ at ps c = ap (λ n. at ps (record { 0 = n })) (eqb-true b.0 c.0 is) in
-        ap Some (same_read env m args (at ps c) w v (subst (λ p. Reads env m args p w) there r) s)
-    one c v false is e s = a.by c v (older (is_bound bound c) (subst (λ x. (is_bound bound c || (x || false)) ≡ true) is e)) s
+    one : (c : BindingId) (same : Bool) → eqb b.0 c.0 ≡ same → (is_bound bound c || is_bound (b.0 ∷ []) c) ≡ true → Stands env m args t bs known (bind locals b.0 h) c
+    one c true is e =
+        let here : at (paths_of bs) b ≡ at (paths_of bs) c = ap (λ n. at (paths_of bs) (record { 0 = n })) (eqb-true b.0 c.0 is) in
+        let held : value_at env m args known (at (paths_of bs) c) ≡ h = ap (value_at env m args known) (sym here) ∙ at_b in
+        record {
+          is = fold_push (newer c.0) Absent locals (b.0, h) ∙ ap (λ x. cond x h (look locals c.0)) is ∙ sym held;
+          kind = subst (λ g. IsOfKind env t (at (paths_of bs) c) g) (sym held) (subst (λ p. IsOfKind env t p h) here kind);
+        }
+    one c false is e =
+        let s = a.by c (older (is_bound bound c) (subst (λ x. (is_bound bound c || (x || false)) ≡ true) is e)) in
+        record { is = fold_push (newer c.0) Absent locals (b.0, h) ∙ ap (λ x. cond x h (look locals c.0)) is ∙ s.is; kind = s.kind }
 
--- the operand of a binding has the value of its path
-pub operand_value : (env : Environment) (m : Meaning) (args : List Value) (ps : List Path) (bound : List ℕ) (locals : Env) (b : BindingId) (v : Value)
-    → Agree env m args ps bound locals → Reads env m args (at ps b) v → value_of args locals (operand_of env ps bound b) ≡ Some v
-operand_value env m args ps bound locals b v a r = one (is_bound bound b) refl
+-- ---- operands
+
+-- the value that an operand stands for, in the function and at the path
+pub record ReadsAs (env : Environment) (m : Meaning) (args : List Value) (bs : List Binding) (bound : List ℕ) (known : Known) (locals : Env) (b : BindingId) : Type 0 where
+  pub v : Value
+  pub place : value_of args locals (operand_of env bs bound b) ≡ One v
+  pub held : value_at env m args known (at (paths_of bs) b) ≡ One v
+
+not_bound : (bound : List ℕ) (n : ℕ) → Contains bound n → is_bound bound (record { 0 = n }) ≡ false → ⊥
+not_bound bound n c e = let t = found bound n c in cc
+
+pub operand_reads : (env : Environment) (m : Meaning) (args : List Value) (t : Term) (bs : List Binding) (bound : List ℕ) (known : Known) (locals : Env) (b : BindingId) (ty : TypeId)
+    → HaveTypes env args t.arg_tys → Agree env m args t bs bound known locals → IsReadAs env t bs bound b ty → ReadsAs env m args bs bound known locals b
+operand_reads env m args t bs bound known locals b ty h a r = one (is_bound bound b) refl
   where
-    one : (x : Bool) → is_bound bound b ≡ x → value_of args locals (operand_of env ps bound b) ≡ Some v
-    one true is = rw is (a.by b v is r)
-    one false is = rw is (r.place locals)
+    one : (x : Bool) → is_bound bound b ≡ x → ReadsAs env m args bs bound known locals b
+    one true is =
+        let s = a.by b is in
+        let k = s.kind.value ty r.path in
+        record { v = k.0; place = rw is (s.is ∙ k.1); held = k.1 }
+    one false is =
+        ⊎_elim
+        (λ in_place. let k = path_reads env m args t (at (paths_of bs) b) ty h r.path in_place in record { v = k.0; place = rw is (k.1.place locals); held = k.1.held known })
+        (λ c. absurd (not_bound bound b.0 c is)) r.read
 
--- the locals after the lets of bindings
-pub record Binds (env : Environment) (m : Meaning) (args : List Value) (ps : List Path) (bound : List ℕ) (bs : List BindingId) (locals : Env) (made : List Made) : Type 0 where
-  pub after : Env
-  pub agree : Agree env m args ps (bound_by bound bs) after
-  pub runs : (more : Body) → run_body m args (lets env ps bs more) locals made ≡ run_body m args more after made
+-- the values that operands stand for, in order
+pub record ReadAll (env : Environment) (m : Meaning) (args : List Value) (bs : List Binding) (bound : List ℕ) (known : Known) (locals : Env) (parameters : List BindingId) : Type 0 where
+  pub vs : List Value
+  pub places : read_values args locals (reads env bs bound parameters) ≡ Some vs
+  pub held : values_at env m args known (at_all (paths_of bs) parameters) ≡ Some vs
 
--- the lets of bindings bind them
-pub lets_bind : (env : Environment) (m : Meaning) (args : List Value) (t : Term) (ps : List Path) (bound : List ℕ) (bs : List BindingId) (locals : Env) (made : List Made)
-    → HaveTypes env args t.arg_tys → AllByRecursion (IsBound env t ps) bs → Agree env m args ps bound locals → Binds env m args ps bound bs locals made
-lets_bind env m args t ps bound [] locals made h k a = record { after = locals; agree = a; runs = λ more. refl }
-lets_bind env m args t ps bound (b ∷ bs) locals made h k a =
-    let r = path_reads env m args t (at ps b) k.0.0 h k.0.1 in
-    let s = lets_bind env m args t ps (bound ++ b.0 ∷ []) bs (bind locals b.0 r.0) made h k.1 (bind_agrees env m args ps bound locals b r.0 a r.1) in
+pub operands_read : (env : Environment) (m : Meaning) (args : List Value) (t : Term) (bs : List Binding) (bound : List ℕ) (known : Known) (locals : Env) (parameters : List BindingId) (tys : List TypeId)
+    → HaveTypes env args t.arg_tys → Agree env m args t bs bound known locals → AreReadAs env t bs bound parameters tys → ReadAll env m args bs bound known locals parameters
+operands_read env m args t bs bound known locals [] [] h a r = record { vs = []; places = refl; held = refl }
+operands_read env m args t bs bound known locals (b ∷ more) (ty ∷ tys) h a r =
+    let k = operand_reads env m args t bs bound known locals b ty h a r.0 in
+    let l = operands_read env m args t bs bound known locals more tys h a r.1 in
     record {
-      after = s.after;
-      agree = s.agree;
-      runs = λ more. rw (r.1.place locals) (s.runs more);
+      vs = k.v ∷ l.vs;
+      places = ap (λ x. value_before x (read_values args locals (reads env bs bound more))) k.place ∙ ap (value_before (One k.v)) l.places;
+      held = ap (λ x. value_before x (values_at env m args known (at_all (paths_of bs) more))) k.held ∙ ap (value_before (One k.v)) l.held;
     }
+operands_read env m args t bs bound known locals [] (ty ∷ tys) h a r = absurd r
+operands_read env m args t bs bound known locals (b ∷ more) [] h a r = absurd r

@@ -1,7 +1,7 @@
 -- The end of a term's function.
 use Rattle.std.proofs.Common.{◌≡◌, ℕ, zero, suc, ◌+◌, List, [], ◌∷◌, ◌++◌, length, get_or, map, Bool, eqb, ◌-◌, true, false, cond, Option, sym, ap, ◌∙◌, arith}
 use Rattle.isle_core.specs.declared.blocks.EvalStep.{EvalStep as CodeStep}
-use Rattle.isle_core.specs.Path.{Path}
+use Rattle.isle_core.specs.declared.rule_sets.Binding.{Binding}
 use Rattle.isle_core.specs.Block.{Block}
 use Rattle.isle_core.specs.BlockViews.{block_of, step}
 use Rattle.isle_core.specs.Rule.{Environment}
@@ -27,18 +27,18 @@ ends_at (y ∷ []) (suc i) x n is = absurd (omega (arith, n))
 ends_at (y ∷ z ∷ ys) zero x n is = absurd (omega (arith, n))
 ends_at (y ∷ z ∷ ys) (suc i) x n is = ends_at (z ∷ ys) i x (omega (arith, n)) is
 
-pub root_ended : (env : Environment) (ps : List Path) (partial : Bool) (name place : List ℕ) (b : Block) (ss : List CodeStmt)
-    → ends_in_return b ≡ true → ((end : Body) → body_onto (map stmt ss) end ≡ block_body env ps partial [] b end) → body ss ≡ block_body env ps partial [] b (tail_of partial name place b)
-root_ended env ps partial name place b ss ends is =
-    sym (onto_done (map stmt ss)) ∙ is Done ∙ ap (λ e. block_body env ps partial [] b (cond e Done (Then (Tail (mark_of partial name place)) Done))) (sym ends)
+pub root_ended : (env : Environment) (bs : List Binding) (partial : Bool) (name place : List ℕ) (b : Block) (ss : List CodeStmt)
+    → ends_in_return b ≡ true → ((end : Body) → body_onto (map stmt ss) end ≡ block_body env bs partial [] b end) → body ss ≡ block_body env bs partial [] b (tail_of partial name place b)
+root_ended env bs partial name place b ss ends is =
+    sym (onto_done (map stmt ss)) ∙ is Done ∙ ap (λ e. block_body env bs partial [] b (cond e Done (Then (Tail (mark_of partial name place)) Done))) (sym ends)
 
-pub root_open : (env : Environment) (ps : List Path) (partial : Bool) (name place : List ℕ) (b : Block) (ss new : List CodeStmt) (mark : Option (List ℕ × List ℕ))
-    → ends_in_return b ≡ false → ((end : Body) → body_onto (map stmt ss) end ≡ block_body env ps partial [] b end) → mark ≡ mark_of partial name place → new ≡ ss ++ code.Tail mark ∷ []
-    → body new ≡ block_body env ps partial [] b (tail_of partial name place b)
-root_open env ps partial name place b ss new mark ends is is_mark pushed =
+pub root_open : (env : Environment) (bs : List Binding) (partial : Bool) (name place : List ℕ) (b : Block) (ss new : List CodeStmt) (mark : Option (List ℕ × List ℕ))
+    → ends_in_return b ≡ false → ((end : Body) → body_onto (map stmt ss) end ≡ block_body env bs partial [] b end) → mark ≡ mark_of partial name place → new ≡ ss ++ code.Tail mark ∷ []
+    → body new ≡ block_body env bs partial [] b (tail_of partial name place b)
+root_open env bs partial name place b ss new mark ends is is_mark pushed =
     ap body pushed
     ∙ sym (onto_done (map stmt (ss ++ code.Tail mark ∷ [])))
     ∙ onto_pushed ss (code.Tail mark) Done
     ∙ ap (λ s. body_onto (map stmt ss) (Then s Done)) (stmt-tail mark ∙ ap Tail is_mark)
     ∙ is (Then (Tail (mark_of partial name place)) Done)
-    ∙ ap (λ e. block_body env ps partial [] b (cond e Done (Then (Tail (mark_of partial name place)) Done))) (sym ends)
+    ∙ ap (λ e. block_body env bs partial [] b (cond e Done (Then (Tail (mark_of partial name place)) Done))) (sym ends)

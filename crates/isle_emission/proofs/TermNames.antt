@@ -10,7 +10,7 @@ use Rattle.isle_core.specs.declared.types.IntType.TheVariants.{U8, U16, U32, U64
 use Rattle.isle_core.specs.declared.types.TypeDef.{TypeDef}
 use Rattle.isle_core.specs.declared.types.TypeDef.TheVariants as def
 use Rattle.isle_core.specs.declared.types.Term.{Term}
-use Rattle.isle_core.specs.Path.{Path}
+use Rattle.isle_core.specs.declared.rule_sets.Binding.{Binding}
 use Rattle.isle_core.specs.Block.{Block}
 use Rattle.isle_core.specs.Rule.{Environment}
 use Rattle.isle_target.specs.Literal.{type_name}
@@ -55,5 +55,5 @@ params_are env [] h = tt
 params_are env (ty ∷ tys) h = ((refl, type_is_builtin env ty h.0), params_are env tys h.1)
 
 -- the names of the function of a term that may be emitted
-pub has_names : (files : Files) (env : Environment) (t : Term) (ps : List Path) (b : Block) → IsEmittable env t → HasNames (term_function files env t ps b)
-has_names files env t ps b h = record { term = h.name; params = params_are env t.arg_tys h.types.1; result = type_is_builtin env t.ret_ty h.types.0 }
+pub has_names : (files : Files) (env : Environment) (t : Term) (bs : List Binding) (b : Block) → IsEmittable env t → HasNames (term_function files env t bs b)
+has_names files env t bs b h = record { term = h.name; params = params_are env t.arg_tys h.types.1; result = type_is_builtin env t.ret_ty h.types.0 }

@@ -1,5 +1,5 @@
 -- The statements of a block.
-use Rattle.std.specs.Prelude.{ℕ, List, [], ◌∷◌, ◌++◌, Bool, true, false, Option, Some, None, slice_get}
+use Rattle.std.specs.Prelude.{ℕ, List, [], ◌∷◌, ◌++◌, Bool, true, false, Option, Some, None, map, slice_get}
 use Rattle.isle_core.specs.declared.BindingId.{BindingId}
 use Rattle.isle_core.specs.declared.rule_sets.Binding.{Binding}
 use Rattle.isle_core.specs.declared.rule_sets.Binding.TheVariants as binding
@@ -27,8 +27,7 @@ callee_of NoCall = External []
 
 -- the operands of bindings as they are read, in order
 abbrev pub reads : Environment → List Binding → List ℕ → List BindingId → List Read
-reads env bs bound [] = []
-reads env bs bound (b ∷ more) = read.Plain (operand_of env bs bound b) ∷ reads env bs bound more
+reads env bs bound parameters = map (λ b. read.Plain (operand_of env bs bound b)) parameters
 
 -- what a bound local computes: a call, the inner value of an option, or what is read in place
 abbrev pub bound_expr : Environment → List Binding → List ℕ → BindingId → Option Binding → TExpr

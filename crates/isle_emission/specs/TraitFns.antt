@@ -1,5 +1,5 @@
 -- The functions of the trait.
-use Rattle.std.specs.Prelude.{List, [], ◌∷◌, Option, Some, None, map, filter_map}
+use Rattle.std.specs.Prelude.{List, [], ◌∷◌, Option, Some, None, map, filter_map, option_map}
 use Rattle.std.specs.List.{AllByRecursion, IsDistinct}
 use Rattle.std.specs.Str.{bytes_eq}
 use Rattle.isle_base.specs.declared.ids.Sym.{Sym}
@@ -25,21 +25,21 @@ fn_for env t func = record {
   kind = kind_of (is_partial t.kind);
 }
 
--- the function of a term's external constructor
-abbrev pub fn_by : Environment → Term → ConstructorKind → Option TraitFn
-fn_by env t (constructor.External func) = Some (fn_for env t func)
-fn_by env t constructor.Absent = None
-fn_by env t constructor.Internal = None
+-- the symbol of an external constructor; extractors are not built
+abbrev pub func_by : ConstructorKind → Option Sym
+func_by (constructor.External func) = Some func
+func_by constructor.Absent = None
+func_by constructor.Internal = None
 
--- the function that a term of this kind calls; extractors are not built
-abbrev pub fn_of_kind : Environment → Term → TermKind → Option TraitFn
-fn_of_kind env t (kind.Decl pure multi partial recursive by extractor) = fn_by env t by
-fn_of_kind env t (kind.Variant ty variant) = None
-fn_of_kind env t (kind.Struct ty) = None
+-- that of a term of this kind
+abbrev pub func_of : TermKind → Option Sym
+func_of (kind.Decl pure multi partial recursive by extractor) = func_by by
+func_of (kind.Variant ty variant) = None
+func_of (kind.Struct ty) = None
 
--- that of a term
+-- the function of a term's external constructor, where it has one
 abbrev pub trait_fn_of : Environment → Term → Option TraitFn
-trait_fn_of env t = fn_of_kind env t t.kind
+trait_fn_of env t = option_map (fn_for env t) (func_of t.kind)
 
 -- those of terms, in order
 abbrev pub trait_fns_in : Environment → List Term → List TraitFn

@@ -23,13 +23,18 @@ fn callee_of(alloc: Global, context: &Context<'_>, term: TermId) -> Result<Calle
         return Ok(Callee::External(Text::new(String::new(alloc))));
     };
     match &called.kind {
-        TermKind::Decl { constructor: ConstructorKind::External { func }, .. } => {
-            Ok(Callee::External(sym_name(alloc, context.typeenv, *func)?))
+        TermKind::Decl {
+            constructor: ConstructorKind::External { func },
+            ..
+        } => { Ok(Callee::External(sym_name(alloc, context.typeenv, *func)?)) }
+        TermKind::Decl {
+            constructor: ConstructorKind::Internal,
+            ..
+        } => { Ok(Callee::Internal(sym_name(alloc, context.typeenv, called.name)?)) }
+        TermKind::Decl {
+            constructor: ConstructorKind::Absent,
+            ..
         }
-        TermKind::Decl { constructor: ConstructorKind::Internal, .. } => {
-            Ok(Callee::Internal(sym_name(alloc, context.typeenv, called.name)?))
-        }
-        TermKind::Decl { constructor: ConstructorKind::Absent, .. }
         | TermKind::Variant { .. }
         | TermKind::Struct { .. } => Ok(Callee::External(Text::new(String::new(alloc)))),
     }
@@ -82,9 +87,13 @@ pub fn bound_expr(
     ensures { IfOk result (λ e. e ≡ Statements.bound_expr (env_of context.now) (bindings_in context.now) bound.now binding (slice_get (bindings_in context.now) binding.0)) }
 {
     match context.bindings.get(binding.index()) {
-        Some(Binding::Constructor { term, parameters, .. }) => {
-            call(alloc, context, bound, *term, parameters.as_slice())
-        }
+        Some(
+            Binding::Constructor {
+                term,
+                parameters,
+                ..
+            },
+        ) => { call(alloc, context, bound, *term, parameters.as_slice()) }
         Some(Binding::MatchSome { source }) => Ok(TExpr::Try {
             source: operand_of(context, bound, *source),
             as_ref: false,

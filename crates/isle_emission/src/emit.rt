@@ -43,7 +43,12 @@ pub fn term_function(
     ensures { IfOk result (λ f. Views.function f ≡ TermFunction.term_function files.now (env_of context.now) term.now (bindings_in context.now) (BlockViews.block block.now)) }
 {
     let name = sym_name(alloc, context.typeenv, term.name)?;
-    let params = params(alloc, context.typeenv, context.termenv, term.arg_tys.as_slice())?;
+    let params = params(
+        alloc,
+        context.typeenv,
+        context.termenv,
+        term.arg_tys.as_slice(),
+    )?;
     let result = ty_name(alloc, context.typeenv, term.ret_ty)?;
     let body = root_stmts(alloc, files, starts, context, term, block)?;
     Ok(Function {

@@ -10,8 +10,8 @@ use isle_core::{ConstructorKind, List, Sym, Term, TermEnv, TermKind, TypeEnv};
 use isle_target::TraitFn;
 use std::alloc::{AllocError, Global};
 
-/// The function of a term's external constructor, which has this symbol.
-fn trait_fn(
+/// The function of this symbol for a term.
+fn fn_for(
     alloc: Global,
     typeenv: &TypeEnv,
     termenv: &TermEnv,
@@ -29,6 +29,34 @@ fn trait_fn(
     })
 }
 
+/// The symbol of a term's external constructor, where it has one.
+fn external(term: &Term) -> Option<Sym>
+    ensures { result ≡ TraitFns.func_of term.now.kind }
+{
+    match &term.kind {
+        TermKind::Decl {
+            constructor: ConstructorKind::External { func },
+            ..
+        } => Some(*func),
+        TermKind::Decl { .. } | TermKind::Variant { .. } | TermKind::Struct { .. } => None,
+    }
+}
+
+/// The function of a term's external constructor, where it has one.
+fn trait_fn(
+    alloc: Global,
+    typeenv: &TypeEnv,
+    termenv: &TermEnv,
+    term: &Term,
+) -> Result<Option<TraitFn>, AllocError>
+    ensures { IfOk result (λ f. f ≡ TraitFns.trait_fn_of (environment typeenv.now termenv.now) term.now) }
+{
+    match external(term) {
+        Some(func) => Ok(Some(fn_for(alloc, typeenv, termenv, term, func)?)),
+        None => Ok(None),
+    }
+}
+
 /// The functions of the external constructors of the environment's terms, in order.
 pub fn trait_fns(
     alloc: Global,
@@ -39,8 +67,8 @@ pub fn trait_fns(
 {
     let mut fns = Vec::new(alloc);
     for term in termenv.terms.as_slice() {
-        if let TermKind::Decl { constructor: ConstructorKind::External { func }, .. } = &term.kind {
-            fns.push(trait_fn(alloc, typeenv, termenv, term, *func)?)?;
+        if let Some(f) = trait_fn(alloc, typeenv, termenv, term)? {
+            fns.push(f)?;
         }
     }
     Ok(fns)

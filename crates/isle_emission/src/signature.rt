@@ -54,7 +54,12 @@ pub fn ty_name(alloc: Global, typeenv: &TypeEnv, ty: TypeId) -> Result<Text, All
 }
 
 /// The types of the parameters.
-pub fn params(alloc: Global, typeenv: &TypeEnv, termenv: &TermEnv, tys: &[TypeId]) -> Result<Vec<Ty>, AllocError>
+pub fn params(
+    alloc: Global,
+    typeenv: &TypeEnv,
+    termenv: &TermEnv,
+    tys: &[TypeId],
+) -> Result<Vec<Ty>, AllocError>
     ensures { IfOk result (λ params. params.items ≡ map (parameter (environment typeenv.now termenv.now)) tys.now) }
 {
     let mut params = Vec::new(alloc);

@@ -1,6 +1,5 @@
 use Rattle.std.proofs.Common.{◌≡◌, get_or, ap, ◌∙◌, slice_get}
 use Rattle.isle_core.specs.BlockViews.{block}
-use Rattle.isle_core.specs.Path.{paths_of}
 use Rattle.isle_core.specs.RuleViews.{environment}
 use Rattle.isle_target.specs.Views.{function}
 use Rattle.isle_emission.specs.TermFunction.{term_function}
@@ -14,24 +13,24 @@ returns-clause-emitted c =
     let is : x ≡ get_or terms c.args.term.0 x = c.index-as_slice-index.is ∙ ap (λ xs. get_or xs c.index.result x) c.as_slice.ensures ∙ ap (λ i. get_or terms i x) c.index.ensures in
     let env = environment c.args.typeenv.now c.args.termenv.now in
     if_ok c.term_function.result _ _
-    (λ f e. at_item terms c.args.term.0 x _ (λ t. function f ≡ term_function c.args.files.now env t (paths_of c.args.rules.now.bindings) (block c.args.block.now)) c.requires.term is
-    (e ∙ ap (λ bs. term_function c.args.files.now env x (paths_of bs) (block c.args.block.now)) c.as_slice-2.ensures))
+    (λ f e. at_item terms c.args.term.0 x _ (λ t. function f ≡ term_function c.args.files.now env t c.args.rules.now.bindings (block c.args.block.now)) c.requires.term is
+    (e ∙ ap (λ bs. term_function c.args.files.now env x bs (block c.args.block.now)) c.as_slice-2.ensures))
     c.term_function.ensures
 
 pub returns-clause-well_formed : goal.returns-clause-well_formed
 returns-clause-well_formed c =
     if_ok c.term_function.result _ _
-    (λ f. is_well_formed c.args.files.now (environment c.args.typeenv.now c.args.termenv.now) (paths_of c.args.rules.now.bindings) (block c.args.block.now) (slice_get c.args.termenv.now.terms c.args.term.0) (function f) c.requires.term)
+    (λ f. is_well_formed c.args.files.now (environment c.args.typeenv.now c.args.termenv.now) c.args.rules.now.bindings (block c.args.block.now) (slice_get c.args.termenv.now.terms c.args.term.0) (function f) c.requires.term)
     (returns-clause-emitted c)
 
 pub returns-clause-shape : goal.returns-clause-shape
 returns-clause-shape c =
     if_ok c.term_function.result _ _
-    (λ f. is_shaped c.args.files.now (environment c.args.typeenv.now c.args.termenv.now) (paths_of c.args.rules.now.bindings) (block c.args.block.now) (slice_get c.args.termenv.now.terms c.args.term.0) (function f) c.requires.term)
+    (λ f. is_shaped c.args.files.now (environment c.args.typeenv.now c.args.termenv.now) c.args.rules.now.bindings (block c.args.block.now) (slice_get c.args.termenv.now.terms c.args.term.0) (function f) c.requires.term)
     (returns-clause-emitted c)
 
 pub returns-clause-run : goal.returns-clause-run
 returns-clause-run c =
     if_ok c.term_function.result _ _
-    (λ f. is_run c.args.files.now (environment c.args.typeenv.now c.args.termenv.now) (paths_of c.args.rules.now.bindings) (block c.args.block.now) (slice_get c.args.termenv.now.terms c.args.term.0) (function f) c.requires.term)
+    (λ f. is_run c.args.files.now (environment c.args.typeenv.now c.args.termenv.now) c.args.rules.now.bindings (block c.args.block.now) (slice_get c.args.termenv.now.terms c.args.term.0) (function f) c.requires.term)
     (returns-clause-emitted c)

@@ -9,8 +9,8 @@ loop-binding-preserved c =
     let i = c.loop-binding.binding-index in
     record {
       stmts = λ end.
-          lets_step (env_of c.args.context.now) (bindings_in c.args.context.now) bs i _ _ c.in_place.result c.index.result c.loop-binding.out.items c.push.new.self.items end
-          c.loop-binding-test.true refl c.index.ensures c.in_place.ensures c.in_ok-push.ensures.items
+          lets_step (env_of c.args.context.now) (bindings_in c.args.context.now) c.loop-binding.bound c.bind.new.self bs i _ _ c.in_ok-computed.computed c.index.result c.index-in-loop-binding.result c.loop-binding.out.items c.push.new.self.items end
+          c.loop-binding-test.true refl c.index.ensures c.index-in-loop-binding.ensures c.in_ok-computed.ensures c.in_ok-push.ensures.items c.in_ok-bind.ensures
           ∙ c.loop-binding.invariant.stmts end;
       bound =
           bound_step bs i _ _ c.index-in-loop-binding.result c.loop-binding.bound c.bind.new.self c.loop-binding-test.true refl c.index-in-loop-binding.ensures c.in_ok-bind.ensures

@@ -3,12 +3,13 @@ use Rattle.isle_target.specs.Program.{Body}
 use Rattle.isle_target.specs.Views.{stmt}
 use Rattle.isle_emission.specs.BodyOnto.{body_onto}
 use Rattle.isle_emission.specs.Contexts.{env_of, bindings_in}
-use Rattle.isle_emission.specs.Statements.{lets, bound_by}
+use Rattle.isle_core.specs.BlockLawful.{bound_by}
+use Rattle.isle_emission.specs.Statements.{lets}
 use Rattle.isle_emission.proofs.statements.push_lets.Given as goal
 
 abbrev pub invariant-loop-binding : goal.invariant-loop-binding
 invariant-loop-binding l = record {
-  stmts : (end : Body) → body_onto (map stmt l.out.items) (lets (env_of l.context) (bindings_in l.context) (drop l.binding-index l.bindings) end)
-      ≡ body_onto (map stmt l.fn.out.items) (lets (env_of l.context) (bindings_in l.context) l.bindings end);
+  stmts : (end : Body) → body_onto (map stmt l.out.items) (lets (env_of l.context) (bindings_in l.context) l.bound (drop l.binding-index l.bindings) end)
+      ≡ body_onto (map stmt l.fn.out.items) (lets (env_of l.context) (bindings_in l.context) l.fn.bound l.bindings end);
   bound : bound_by l.bound (drop l.binding-index l.bindings) ≡ bound_by l.fn.bound l.bindings;
 }

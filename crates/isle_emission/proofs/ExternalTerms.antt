@@ -1,0 +1,111 @@
+-- Terms with external constructors, and their functions of the trait.
+use Rattle.std.proofs.Common.{◌≡◌, ◌⊎◌, inl, inr, ⊎_elim, ℕ, zero, suc, List, [], ◌∷◌, Bool, true, false, cond, Option, Some, None, refl, sym, ap, ◌∙◌, subst}
+use Rattle.std.specs.Prelude.{Contains, slice_get, map, option_map}
+use Rattle.std.specs.List.{cons_option}
+use Rattle.std.specs.List.{AllByRecursion, IsDistinct}
+use Rattle.std.specs.Str.{bytes_eq}
+use Rattle.std.specs.Cmp.Lexicographic.{nat_list_eq_equiv}
+use Rattle.std.proofs.lemmas.List.Elements.{All-contains, All-from_recursion}
+use Rattle.isle_base.specs.declared.ids.Sym.{Sym}
+use Rattle.isle_core.specs.declared.TermId.{TermId}
+use Rattle.isle_core.specs.declared.types.ConstructorKind.{ConstructorKind}
+use Rattle.isle_core.specs.declared.types.ConstructorKind.TheVariants as constructor
+use Rattle.isle_core.specs.declared.types.Term.{Term}
+use Rattle.isle_core.specs.declared.types.TermKind.{TermKind}
+use Rattle.isle_core.specs.declared.types.TermKind.TheVariants as kind
+use Rattle.isle_core.specs.declared.values.Callee.{Callee}
+use Rattle.isle_core.specs.declared.values.Callee.TheVariants.{External, Internal}
+use Rattle.isle_core.specs.Calling.{Calling, ByTurns, ByCases, NoCall, calling, calling_of, calling_by, pure_callee, is_partial}
+use Rattle.isle_core.specs.Terms.{sym_text, callee_by, impure_callee}
+use Rattle.isle_core.specs.BlockLawful.{IsExternal, IsCall}
+use Rattle.isle_core.specs.Rule.{Environment}
+use Rattle.isle_core.proofs.Contained.{head_contained, tail_contained, contained_cases, none_contained}
+use Rattle.isle_target.specs.declared.tree.TraitFn.{TraitFn}
+use Rattle.isle_target.specs.Identifier.{IsIdentifier}
+use Rattle.isle_target.specs.WellFormed.{IsCallee, fn_names, trait_fn}
+use Rattle.isle_emission.specs.Statements.{callee_of}
+use Rattle.isle_emission.specs.TraitFns.{fn_for, func_of, trait_fn_of, trait_fns_in, trait_fns_of, HasFnNames}
+
+-- what an external term's call is
+pub record IsExternalTerm (env : Environment) (t : Term) (partial : Bool) (c : Calling) : Type 0 where
+  pub func : Sym
+  pub fn : trait_fn_of env t ≡ Some (fn_for env t func)
+  pub callee : callee_of c ≡ External (sym_text env func)
+  pub partial' : is_partial t.kind ≡ partial
+
+by_kind : (env : Environment) (t : Term) (k : TermKind) (partial : Bool) → t.kind ≡ k → IsCall partial (calling_by (is_partial k) (impure_callee env t k) (pure_callee env t k)) → IsExternalTerm env t partial (calling_by (is_partial k) (impure_callee env t k) (pure_callee env t k))
+by_kind env t (kind.Decl false multi p recursive (constructor.External func) extractor) partial e h = record { func = func; fn = ap (λ x. option_map (fn_for env t) (func_of x)) e; callee = refl; partial' = ap is_partial e ∙ h.0 }
+by_kind env t (kind.Decl false multi p recursive constructor.Internal extractor) partial e h = absurd h.1
+by_kind env t (kind.Decl false multi p recursive constructor.Absent extractor) partial e h = absurd h
+by_kind env t (kind.Decl true multi p recursive (constructor.External func) extractor) partial e h = absurd h
+by_kind env t (kind.Decl true multi p recursive constructor.Internal extractor) partial e h = absurd h
+by_kind env t (kind.Decl true multi p recursive constructor.Absent extractor) partial e h = absurd h
+by_kind env t (kind.Variant ty variant) partial e h = absurd h
+by_kind env t (kind.Struct ty) partial e h = absurd h
+
+-- a call of an external term
+pub external_term : (env : Environment) (term : TermId) (t : Term) (partial : Bool) → slice_get env.terms term.0 ≡ Some t → IsCall partial (calling env term) → IsExternalTerm env t partial (calling env term)
+external_term env term t partial there h =
+    let is : calling env term ≡ calling_of env (Some t) = ap (calling_of env) there in
+    subst (IsExternalTerm env t partial) (sym is) (by_kind env t t.kind partial refl (subst (IsCall partial) is h))
+
+-- ---- functions of the trait by their names
+
+fn_contained : (env : Environment) (ts : List Term) (i : ℕ) (t : Term) (f : TraitFn) → slice_get ts i ≡ Some t → trait_fn_of env t ≡ Some f → Contains (trait_fns_in env ts) f
+fn_contained env [] i t f e is = cc
+fn_contained env (u ∷ ts) zero t f e is = one (trait_fn_of env u) (ap (trait_fn_of env) (same u t e) ∙ is)
+  where
+    same : (a b : Term) → Some a ≡ Some b → a ≡ b
+    same a b e = cc
+
+    same_fn : (a b : TraitFn) → Some a ≡ Some b → a ≡ b
+    same_fn a b e = cc
+
+    one : (o : Option TraitFn) → o ≡ Some f → Contains (cons_option o (trait_fns_in env ts)) f
+    one None e = cc
+    one (Some g) e = subst (λ x. Contains (x ∷ trait_fns_in env ts) f) (sym (same_fn g f e)) (head_contained f (trait_fns_in env ts))
+fn_contained env (u ∷ ts) (suc i) t f e is = one (trait_fn_of env u) (fn_contained env ts i t f e is)
+  where
+    one : (o : Option TraitFn) → Contains (trait_fns_in env ts) f → Contains (cons_option o (trait_fns_in env ts)) f
+    one None c = c
+    one (Some g) c = tail_contained g (trait_fns_in env ts) f c
+
+name_contained : (fs : List TraitFn) (f : TraitFn) → Contains fs f → Contains (fn_names fs) f.name
+name_contained [] f c = absurd (none_contained f c)
+name_contained (x ∷ fs) f c =
+    ⊎_elim
+    (λ (e : x ≡ f). subst (λ (y : TraitFn). Contains (y.name ∷ fn_names fs) f.name) (sym e) (head_contained f.name (fn_names fs)))
+    (λ d. tail_contained x.name (fn_names fs) f.name (name_contained fs f d)) (contained_cases x fs f c)
+
+-- a function of distinct ones is found by its name
+fn_found : (fs : List TraitFn) (f : TraitFn) → IsDistinct bytes_eq (fn_names fs) → Contains fs f → trait_fn fs f.name ≡ Some f
+unfolding IsDistinct
+fn_found [] f d c = absurd (none_contained f c)
+fn_found (g ∷ fs) f d c = one (contained_cases g fs f c) (fn_found fs f d.1)
+  where
+    here : (b : Bool) → bytes_eq f.name g.name ≡ b → b ≡ true → g ≡ f → cond b (Some g) (trait_fn fs f.name) ≡ Some f
+    here true e is same = ap Some same
+    here false e is same = cc
+
+    there : (b : Bool) → bytes_eq f.name g.name ≡ b → b ≡ false → trait_fn fs f.name ≡ Some f → cond b (Some g) (trait_fn fs f.name) ≡ Some f
+    there true e is found = cc
+    there false e is found = found
+
+    apart : Contains fs f → bytes_eq f.name g.name ≡ false
+    apart k = nat_list_eq_equiv.symm f.name g.name ∙ All-contains (λ y. bytes_eq g.name y ≡ false) (fn_names fs) f.name (All-from_recursion (λ y. bytes_eq g.name y ≡ false) (fn_names fs) d.0) (name_contained fs f k)
+
+    one : (g ≡ f) ⊎ Contains fs f → (Contains fs f → trait_fn fs f.name ≡ Some f) → trait_fn (g ∷ fs) f.name ≡ Some f
+    one (inl e) rest = here (bytes_eq f.name g.name) refl (subst (λ (x : TraitFn). bytes_eq f.name x.name ≡ true) (sym e) (nat_list_eq_equiv.refl f.name)) e
+    one (inr k) rest = there (bytes_eq f.name g.name) refl (apart k) (rest k)
+
+-- the function of an external term is found by its name
+pub term_fn_found : (env : Environment) (term : TermId) (t : Term) (partial : Bool) → HasFnNames env → slice_get env.terms term.0 ≡ Some t → (x : IsExternalTerm env t partial (calling env term))
+    → trait_fn (trait_fns_of env) (sym_text env x.func) ≡ Some (fn_for env t x.func)
+term_fn_found env term t partial names there x = fn_found (trait_fns_of env) (fn_for env t x.func) names.distinct (fn_contained env env.terms term.0 t (fn_for env t x.func) there x.fn)
+
+-- what an external term's call goes to has a name of Rust
+pub callee_is : (env : Environment) (term : TermId) (t : Term) (partial : Bool) → HasFnNames env → slice_get env.terms term.0 ≡ Some t → IsCall partial (calling env term) → IsCallee (callee_of (calling env term))
+callee_is env term t partial names there call =
+    let x = external_term env term t partial there call in
+    subst IsCallee (sym x.callee)
+    (All-contains (λ (f : TraitFn). IsIdentifier f.name) (trait_fns_of env) (fn_for env t x.func) (All-from_recursion (λ (f : TraitFn). IsIdentifier f.name) (trait_fns_of env) names.identifiers) (fn_contained env env.terms term.0 t (fn_for env t x.func) there x.fn))

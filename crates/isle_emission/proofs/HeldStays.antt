@@ -1,0 +1,63 @@
+-- What stands at a path stays there while later calls are answered.
+use Rattle.std.proofs.Common.{◌≡◌, ℕ, List, Option, Some, None, refl, sym, ap}
+use Rattle.isle_core.specs.Value.{Value, Answer}
+use Rattle.isle_core.specs.Meaning.{Meaning}
+use Rattle.isle_core.specs.Calling.{Calling, ByTurns, ByCases, NoCall, calling}
+use Rattle.isle_core.specs.Path.{Path, Arg, ConstBool, ConstInt, Called, Inner, Paths, NoPath, APath}
+use Rattle.isle_core.specs.Held.{Held, Absent, One, Optional, Known, held_of, inner_held, value_before, case_held, call_held, value_at, values_at}
+use Rattle.isle_core.specs.Rule.{Environment}
+
+-- something stands there
+abbrev pub IsThere : Held → Type 0
+IsThere Absent = ⊥
+IsThere (One v) = Unit {0}
+IsThere (Optional o) = Unit {0}
+
+-- all values are there
+abbrev pub AreThere : Option (List Value) → Type 0
+AreThere None = ⊥
+AreThere (Some vs) = Unit {0}
+
+-- the answers that are known stay
+pub record Grows (known later : Known) : Type 0 where
+  pub by : (k : ℕ) (a : Answer) → known k ≡ Some a → later k ≡ Some a
+
+answer_stays : (o p : Option Answer) → ((a : Answer) → o ≡ Some a → p ≡ Some a) → IsThere (held_of o) → held_of p ≡ held_of o
+answer_stays None p h t = absurd t
+answer_stays (Some a) p h t = ap held_of (h a refl)
+
+inner_stays : (h g : Held) → (IsThere h → g ≡ h) → IsThere (inner_held h) → inner_held g ≡ inner_held h
+inner_stays Absent g s t = absurd t
+inner_stays (One v) g s t = absurd t
+inner_stays (Optional None) g s t = absurd t
+inner_stays (Optional (Some v)) g s t = ap inner_held (s tt)
+
+before_stays : (h g : Held) (o p : Option (List Value)) → (IsThere h → g ≡ h) → (AreThere o → p ≡ o) → AreThere (value_before h o) → value_before g p ≡ value_before h o
+before_stays (One v) g (Some vs) p s t k = rw (s tt, t tt) refl
+before_stays (One v) g None p s t k = absurd k
+before_stays Absent g o p s t k = absurd k
+before_stays (Optional w) g o p s t k = absurd k
+
+call_stays : (m : Meaning) (c : Calling) (o p : Option Answer) (vs ws : Option (List Value)) → ((a : Answer) → o ≡ Some a → p ≡ Some a) → (AreThere vs → ws ≡ vs) → IsThere (call_held m c o vs) → call_held m c p ws ≡ call_held m c o vs
+call_stays m (ByTurns callee partial) o p vs ws h k t = answer_stays o p h t
+call_stays m (ByCases callee partial) o p None ws h k t = absurd t
+call_stays m (ByCases callee partial) o p (Some vs) ws h k t = ap (case_held m (ByCases callee partial)) (k tt)
+call_stays m NoCall o p vs ws h k t = absurd t
+
+mutual
+  -- what stands at a path
+  pub held_stays : (p : Path) (env : Environment) (m : Meaning) (args : List Value) (known later : Known) → Grows known later → IsThere (value_at env m args known p) → value_at env m args later p ≡ value_at env m args known p
+  held_stays (Arg i) env m args known later g t = refl
+  held_stays (ConstBool ty b) env m args known later g t = refl
+  held_stays (ConstInt ty n) env m args known later g t = refl
+  held_stays (Called term ps k) env m args known later g t =
+      call_stays m (calling env term) (known k) (later k) (values_at env m args known ps) (values_at env m args later ps) (g.by k) (λ s. values_stay ps env m args known later g s) t
+  held_stays (Inner p) env m args known later g t = inner_stays (value_at env m args known p) (value_at env m args later p) (λ s. held_stays p env m args known later g s) t
+  held_stays p env m args known later g t = absurd t
+
+  -- and at paths in order
+  pub values_stay : (ps : Paths) (env : Environment) (m : Meaning) (args : List Value) (known later : Known) → Grows known later → AreThere (values_at env m args known ps) → values_at env m args later ps ≡ values_at env m args known ps
+  values_stay NoPath env m args known later g t = refl
+  values_stay (APath p ps) env m args known later g t =
+      before_stays (value_at env m args known p) (value_at env m args later p) (values_at env m args known ps) (values_at env m args later ps)
+      (λ s. held_stays p env m args known later g s) (λ s. values_stay ps env m args known later g s) t

@@ -1,0 +1,7 @@
+use Rattle.std.proofs.Common.{◌≡◌, take}
+use Rattle.isle_emission.specs.Contexts.{env_of, bindings_in}
+use Rattle.isle_emission.specs.Statements.{reads}
+use Rattle.isle_emission.proofs.calls.reads.Given as goal
+
+abbrev pub invariant-loop-binding : goal.invariant-loop-binding
+invariant-loop-binding l = l.reads.items ≡ reads (env_of l.context) (bindings_in l.context) l.bound (take l.binding-index l.bindings)
