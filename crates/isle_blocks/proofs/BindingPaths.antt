@@ -1,6 +1,6 @@
 -- The path of the binding at a place.
-use Rattle.std.proofs.Common.{rules, ◌≡◌, ℕ, zero, suc, ◌+◌, ◌<◌, List, [], ◌∷◌, ◌++◌, length, get_or, take, fold, Some, refl, sym, ap, ◌∙◌, subst, arith, length-append, append_assoc}
-use Rattle.std.specs.Prelude.{slice_get, Contains}
+use Rattle.std.proofs.Common.{rules, ◌≡◌, ℕ, zero, suc, ◌+◌, ◌<◌, List, [], ◌∷◌, ◌++◌, length, get_or, take, fold, Option, Some, None, refl, sym, ap, ◌∙◌, subst, arith, length-append, append_assoc}
+use Rattle.std.specs.Prelude.{slice_get, IsSomeAnd, Contains}
 use Rattle.std.proofs.lemmas.List.{get_or-take}
 use Rattle.std.proofs.lemmas.Option.{slice_get-get_or, get_or_from_slice_get}
 use Rattle.isle_core.specs.declared.BindingId.{BindingId}
@@ -9,9 +9,9 @@ use Rattle.isle_core.specs.declared.TypeId.{TypeId}
 use Rattle.isle_core.specs.declared.rule_sets.Binding.{Binding}
 use Rattle.isle_core.specs.declared.rule_sets.Binding.TheVariants as binding
 use Rattle.isle_core.specs.declared.types.Term.{Term}
-use Rattle.isle_core.specs.Path.{Path, Nowhere, Extracted, Called, Chosen, MadeVariant, MadeStruct, VariantField, StructField, Wrapped, Inner, Part, Paths, NoPath, APath, at, at_all, path_over, add_path, paths_of}
+use Rattle.isle_core.specs.Path.{Path, Nowhere, Arg, ConstBool, ConstInt, Extracted, Called, Chosen, MadeVariant, MadeStruct, VariantField, StructField, Wrapped, Inner, Part, Paths, NoPath, APath, at, at_all, path_over, add_path, paths_of}
 use Rattle.isle_core.specs.StandsFor.{EachOnce}
-use Rattle.isle_core.specs.BlockLawful.{IsPathOf, ArePathsOf}
+use Rattle.isle_core.specs.BlockLawful.{IsPathOf, IsOptionOf, ArePathsOf}
 use Rattle.isle_core.specs.Rule.{Environment}
 
 -- ---- the paths before a place
@@ -207,3 +207,26 @@ pub paths_there : (env : Environment) (t : Term) (ps : Paths) (tys : List TypeId
 paths_there env t NoPath tys h = tt
 paths_there env t (APath p ps) [] h = absurd h
 paths_there env t (APath p ps) (ty ∷ tys) h = (path_there env t p ty h.0, paths_there env t ps tys h.1)
+
+pub option_there : (env : Environment) (t : Term) (p : Path) (ty : TypeId) → IsOptionOf env t p ty → IsThere p
+option_there env t Nowhere ty h = absurd h
+option_there env t p ty h = tt
+
+-- what a call is made over
+called_parts : (env : Environment) (t : Term) (o : Option Term) (ps : Paths) (ty : TypeId) → IsSomeAnd o (λ (c : Term). (c.ret_ty ≡ ty) × ArePathsOf env t ps c.arg_tys) → AreThere ps
+called_parts env t None ps ty h = absurd h
+called_parts env t (Some c) ps ty h = paths_there env t ps c.arg_tys h.1
+
+-- a typed path is made over paths that are somewhere
+pub typed_parts : (env : Environment) (t : Term) (p : Path) (ty : TypeId) → IsPathOf env t p ty → HasParts p
+typed_parts env t (Arg i) ty h = tt
+typed_parts env t (ConstBool of b) ty h = tt
+typed_parts env t (ConstInt of n) ty h = tt
+typed_parts env t (Called term ps instance) ty h = called_parts env t (slice_get env.terms term.0) ps ty h.1
+typed_parts env t (Inner p) ty h = option_there env t p ty h
+typed_parts env t p ty h = absurd h
+
+-- and so is that of an option
+pub option_parts : (env : Environment) (t : Term) (p : Path) (ty : TypeId) → IsOptionOf env t p ty → HasParts p
+option_parts env t (Called term ps instance) ty h = called_parts env t (slice_get env.terms term.0) ps ty h.1
+option_parts env t p ty h = absurd h
