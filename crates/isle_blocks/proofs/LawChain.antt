@@ -1,51 +1,70 @@
 -- A chain gives what its rules give.
-use Rattle.std.proofs.Common.{◌≡◌, List, [], ◌∷◌, ◌++◌, Bool, true, false, cond, ◌&&◌, Some, map, refl, ap, ◌∙◌}
+use Rattle.std.proofs.Common.{◌≡◌, ℕ, List, [], ◌∷◌, ◌++◌, Bool, true, false, cond, ◌&&◌, Option, Some, map, refl, ap, ◌∙◌}
+use Rattle.std.specs.List.{AllByRecursion}
 use Rattle.isle_core.specs.declared.BindingId.{BindingId}
+use Rattle.isle_core.specs.declared.rule_sets.Binding.{Binding}
 use Rattle.isle_core.specs.declared.rule_sets.Constraint.{Constraint}
 use Rattle.isle_core.specs.declared.rule_sets.FlatRule.{FlatRule}
-use Rattle.isle_core.specs.Value.{Value}
+use Rattle.isle_core.specs.declared.types.Term.{Term}
+use Rattle.isle_core.specs.Value.{Value, Made}
 use Rattle.isle_core.specs.Meaning.{Meaning}
-use Rattle.isle_core.specs.Path.{Path, at}
+use Rattle.isle_core.specs.Path.{Path, at, paths_of}
 use Rattle.isle_core.specs.Tests.{Test}
-use Rattle.isle_core.specs.Held.{nothing_known, value_at, meets, equal_held, all_hold}
-use Rattle.isle_core.specs.RuleSet.{is_test, equal_test, flat_tests, flat_holds, flat_gives, given, set_outcome}
-use Rattle.isle_core.specs.Block.{Control, Return}
-use Rattle.isle_core.specs.BlockViews.{block_of}
-use Rattle.isle_core.specs.BlockRun.{Went, Goes, Ends, then_go, block_run, control_run, gave, block_outcome}
+use Rattle.isle_core.specs.Held.{Known, nothing_known, value_at, meets, equal_held, all_hold}
+use Rattle.isle_core.specs.CallRun.{Went, Goes, Ends, then_go, returns, run_calls}
+use Rattle.isle_core.specs.RuleSet.{is_test, equal_test, flat_tests, flat_holds, flat_run, gave, given, set_outcome}
+use Rattle.isle_core.specs.BlockViews.{SeenStep, block_of}
+use Rattle.isle_core.specs.BlockRun.{bind_all, block_run, control_run, block_outcome}
+use Rattle.isle_core.specs.StandsFor.{EachOnce}
+use Rattle.isle_core.specs.Ready.{IsReadyRule}
 use Rattle.isle_core.specs.Rule.{Environment}
 use Rattle.isle_blocks.specs.Order.{by_priority}
-use Rattle.isle_blocks.specs.Nest.{all_matched, all_equated, rule_control}
+use Rattle.isle_blocks.specs.Inners.{FindsInners}
+use Rattle.isle_blocks.specs.Nest.{last_step, all_matched, all_equated, rule_step}
 use Rattle.isle_blocks.specs.Chain.{no_tests, chain_steps, chain}
 use Rattle.isle_blocks.proofs.LawFirst.{first, first_is_highest}
-
-goes_on : (w : Went) → then_go w Goes ≡ w
-goes_on (Goes known made) = refl
-goes_on (Ends o) = refl
+use Rattle.isle_blocks.proofs.LawOrder.{all_in_order}
+use Rattle.isle_blocks.proofs.LawBinds.{goes_on, binds_run}
 
 if_inside : (b c : Bool) (x y z : Went) → x ≡ cond c y z → cond b x z ≡ cond (b && c) y z
 if_inside true c x y z e = e
 if_inside false c x y z e = refl
 
--- a control does y where tests hold, and goes on elsewhere
-abbrev DoesWhere : Environment → Meaning → List Value → List Path → Control → List Test → Went → Type 0
-DoesWhere env m args ps c ts y = control_run env m args ps c nothing_known [] ≡ cond (all_hold env (value_at env m args nothing_known) ts) y (Goes nothing_known [])
+-- what a step does at first
+abbrev step_run : Environment → Meaning → List Value → List Path → SeenStep → Went
+step_run env m args ps s = then_go (bind_all env m args ps s.0 nothing_known []) (control_run env m args ps s.1)
 
-matched_does : (cs : List (BindingId × Constraint)) (ts : List Test) (inner : Control) (y : Went) (env : Environment) (m : Meaning) (args : List Value) (ps : List Path)
+-- a step does y where tests hold, and goes on elsewhere
+abbrev DoesWhere : Environment → Meaning → List Value → List Path → SeenStep → List Test → Went → Type 0
+DoesWhere env m args ps s ts y = step_run env m args ps s ≡ cond (all_hold env (value_at env m args nothing_known) ts) y (Goes nothing_known [])
+
+matched_does : (cs : List (BindingId × Constraint)) (ts : List Test) (inner : SeenStep) (y : Went) (env : Environment) (m : Meaning) (args : List Value) (ps : List Path)
     → DoesWhere env m args ps inner ts y → DoesWhere env m args ps (all_matched cs inner) (map (is_test ps) cs ++ ts) y
 matched_does [] ts inner y env m args ps h = h
 matched_does (c ∷ cs) ts inner y env m args ps h =
     if_inside (meets env c.1 (value_at env m args nothing_known (at ps c.0))) (all_hold env (value_at env m args nothing_known) (map (is_test ps) cs ++ ts)) _ _ _
-    (goes_on (control_run env m args ps (all_matched cs inner) nothing_known []) ∙ matched_does cs ts inner y env m args ps h)
+    (goes_on (step_run env m args ps (all_matched cs inner)) ∙ matched_does cs ts inner y env m args ps h)
 
-equated_does : (es : List (BindingId × BindingId)) (inner : Control) (env : Environment) (m : Meaning) (args : List Value) (ps : List Path)
-    → DoesWhere env m args ps (all_equated es inner) (map (equal_test ps) es) (control_run env m args ps inner nothing_known [])
+equated_does : (es : List (BindingId × BindingId)) (inner : SeenStep) (env : Environment) (m : Meaning) (args : List Value) (ps : List Path)
+    → DoesWhere env m args ps (all_equated es inner) (map (equal_test ps) es) (step_run env m args ps inner)
 equated_does [] inner env m args ps = refl
 equated_does (e ∷ es) inner env m args ps =
     if_inside (equal_held (value_at env m args nothing_known (at ps e.0)) (value_at env m args nothing_known (at ps e.1))) (all_hold env (value_at env m args nothing_known) (map (equal_test ps) es)) _ _ _
-    (goes_on (control_run env m args ps (all_equated es inner) nothing_known []) ∙ equated_does es inner env m args ps)
+    (goes_on (step_run env m args ps (all_equated es inner)) ∙ equated_does es inner env m args ps)
 
-rule_does : (f : FlatRule) (env : Environment) (m : Meaning) (args : List Value) (ps : List Path) → DoesWhere env m args ps (rule_control f) (flat_tests ps f) (Ends (flat_gives env m args ps f))
-rule_does f env m args ps = matched_does f.constraints (map (equal_test ps) f.equals) (all_equated f.equals (Return f.pos f.result)) (Ends (flat_gives env m args ps f)) env m args ps (equated_does f.equals (Return f.pos f.result) env m args ps)
+-- ---- rules that are ready
+
+last_runs : (env : Environment) (t : Term) (m : Meaning) (args : List Value) (bs : List Binding) (inners : ℕ → Option BindingId) (f : FlatRule) → FindsInners bs inners → EachOnce (paths_of bs) → IsReadyRule env t (paths_of bs) f
+    → step_run env m args (paths_of bs) (last_step inners f) ≡ flat_run env m args (paths_of bs) f
+last_runs env t m args bs inners f found once h = ap (λ w. then_go w (returns env m args (at (paths_of bs) f.result))) (binds_run env t m args bs inners found once f.ordered [] h.calls nothing_known [])
+
+rule_does : (env : Environment) (t : Term) (m : Meaning) (args : List Value) (bs : List Binding) (inners : ℕ → Option BindingId) (f : FlatRule) → FindsInners bs inners → EachOnce (paths_of bs) → IsReadyRule env t (paths_of bs) f
+    → DoesWhere env m args (paths_of bs) (rule_step inners f) (flat_tests (paths_of bs) f) (flat_run env m args (paths_of bs) f)
+rule_does env t m args bs inners f found once h =
+    let ps = paths_of bs in
+    matched_does f.constraints (map (equal_test ps) f.equals) (all_equated f.equals (last_step inners f)) (flat_run env m args ps f) env m args ps
+    (equated_does f.equals (last_step inners f) env m args ps
+    ∙ ap (λ w. cond (all_hold env (value_at env m args nothing_known) (map (equal_test ps) f.equals)) w (Goes nothing_known [])) (last_runs env t m args bs inners f found once h))
 
 -- a rule without tests holds
 untested_holds : (cs : List (BindingId × Constraint)) (es : List (BindingId × BindingId)) (env : Environment) (m : Meaning) (args : List Value) (ps : List Path) → no_tests cs es ≡ true → all_hold env (value_at env m args nothing_known) (map (is_test ps) cs ++ map (equal_test ps) es) ≡ true
@@ -53,18 +72,29 @@ untested_holds [] [] env m args ps e = refl
 untested_holds [] (x ∷ es) env m args ps e = cc
 untested_holds (x ∷ cs) es env m args ps e = cc
 
-chain_gives : (fs : List FlatRule) (env : Environment) (m : Meaning) (args : List Value) (ps : List Path) (partial : Bool)
-    → gave partial (block_run env m args ps (block_of (chain_steps fs)) nothing_known []) ≡ given env m args ps partial (first (flat_holds env m args ps) fs)
-chain_gives [] env m args ps partial = refl
-chain_gives (f ∷ fs) env m args ps partial =
-    ap (λ w. gave partial (then_go w (block_run env m args ps (block_of (cond (no_tests f.constraints f.equals) [] (chain_steps fs)))))) (rule_does f env m args ps)
-    ∙ pick (flat_holds env m args ps f) (no_tests f.constraints f.equals) (untested_holds f.constraints f.equals env m args ps) (chain_gives fs env m args ps partial)
-  where
-    pick : (holds untested : Bool) → (untested ≡ true → holds ≡ true) → gave partial (block_run env m args ps (block_of (chain_steps fs)) nothing_known []) ≡ given env m args ps partial (first (flat_holds env m args ps) fs)
-        → gave partial (then_go (cond holds (Ends (flat_gives env m args ps f)) (Goes nothing_known [])) (block_run env m args ps (block_of (cond untested [] (chain_steps fs))))) ≡ given env m args ps partial (cond holds (Some f) (first (flat_holds env m args ps) fs))
-    pick true untested h e = refl
-    pick false false h e = e
-    pick false true h e = let k = h refl in cc
+-- nothing is reached behind a result
+result_ends : (w : Went) (env : Environment) (m : Meaning) (args : List Value) (p : Path) (more : Known → List Made → Went) → then_go (then_go w (returns env m args p)) more ≡ then_go w (returns env m args p)
+result_ends (Goes known made) env m args p more = refl
+result_ends (Ends o) env m args p more = refl
 
-pub chain_means : (fs : List FlatRule) (env : Environment) (m : Meaning) (args : List Value) (ps : List Path) (partial : Bool) → block_outcome env m args ps (chain fs) partial ≡ set_outcome env m args ps fs partial
-chain_means fs env m args ps partial = chain_gives (by_priority fs) env m args ps partial ∙ ap (given env m args ps partial) (first_is_highest (flat_holds env m args ps) fs)
+chain_gives : (env : Environment) (t : Term) (m : Meaning) (args : List Value) (bs : List Binding) (inners : ℕ → Option BindingId) (partial : Bool) → FindsInners bs inners → EachOnce (paths_of bs)
+    → (fs : List FlatRule) → AllByRecursion (IsReadyRule env t (paths_of bs)) fs
+    → gave partial (block_run env m args (paths_of bs) (block_of (chain_steps inners fs)) nothing_known []) ≡ given env m args (paths_of bs) partial (first (flat_holds env m args (paths_of bs)) fs)
+chain_gives env t m args bs inners partial found once [] h = refl
+chain_gives env t m args bs inners partial found once (f ∷ fs) h =
+    ap (λ w. gave partial (then_go w (block_run env m args (paths_of bs) (block_of (cond (no_tests f.constraints f.equals) [] (chain_steps inners fs)))))) (rule_does env t m args bs inners f found once h.0)
+    ∙ pick (flat_holds env m args (paths_of bs) f) (no_tests f.constraints f.equals) (untested_holds f.constraints f.equals env m args (paths_of bs)) (chain_gives env t m args bs inners partial found once fs h.1)
+  where
+    ps : List Path
+    ps = paths_of bs
+
+    pick : (holds untested : Bool) → (untested ≡ true → holds ≡ true) → gave partial (block_run env m args ps (block_of (chain_steps inners fs)) nothing_known []) ≡ given env m args ps partial (first (flat_holds env m args ps) fs)
+        → gave partial (then_go (cond holds (flat_run env m args ps f) (Goes nothing_known [])) (block_run env m args ps (block_of (cond untested [] (chain_steps inners fs))))) ≡ given env m args ps partial (cond holds (Some f) (first (flat_holds env m args ps) fs))
+    pick true untested k e = ap (gave partial) (result_ends (run_calls env m args (map (at ps) f.ordered) nothing_known []) env m args (at ps f.result) (block_run env m args ps (block_of (cond untested [] (chain_steps inners fs)))))
+    pick false false k e = e
+    pick false true k e = let bad = k refl in cc
+
+pub chain_means : (env : Environment) (t : Term) (m : Meaning) (args : List Value) (bs : List Binding) (inners : ℕ → Option BindingId) (partial : Bool) → FindsInners bs inners → EachOnce (paths_of bs)
+    → (fs : List FlatRule) → AllByRecursion (IsReadyRule env t (paths_of bs)) fs → block_outcome env m args (paths_of bs) (chain inners fs) partial ≡ set_outcome env m args (paths_of bs) fs partial
+chain_means env t m args bs inners partial found once fs h =
+    chain_gives env t m args bs inners partial found once (by_priority fs) (all_in_order (IsReadyRule env t (paths_of bs)) fs h) ∙ ap (given env m args (paths_of bs) partial) (first_is_highest (flat_holds env m args (paths_of bs)) fs)

@@ -1,6 +1,6 @@
 -- A stable sort by falling priority puts rules in order.
 use Rattle.std.proofs.Common.{subst, ◌≡◌, ℕ, suc, ◌<◌, ◌≤◌, List, [], ◌∷◌, Bool, true, false, cond, not, ◌&&◌, map, length, get_or, refl, sym, ap, ◌∙◌, arith}
-use Rattle.std.specs.List.{filter}
+use Rattle.std.specs.List.{filter, AllByRecursion}
 use Rattle.std.specs.List.Sorted.{IsSortedBy, IsStableBy, ties}
 use Rattle.std.specs.Cmp.{IsStrictWeakOrder}
 use Rattle.std.specs.Ordering.{int_cmp, is_lt}
@@ -160,3 +160,17 @@ filter_shown p (r ∷ rs) = pick (p r.now) (filter_shown p rs)
 pub sorted_is : (xs ys : List (Bor FlatRule)) → IsSortedBy shows_above ys → IsStableBy shows_above xs ys → map shown ys ≡ by_priority (map shown xs)
 sorted_is xs ys up same = one_order (map shown ys) (by_priority (map shown xs)) (falls_from ys (sorted_far shows_above shown_order ys up)) (by_priority_falls (map shown xs))
     (λ k. filter_shown (ties is_above k) ys ∙ ap (map shown) (same (record { ref_ptr = (0, 0); now = k })) ∙ sym (filter_shown (ties is_above k) xs) ∙ sym (by_priority_stable k (map shown xs)))
+
+-- ---- what holds of all rules
+
+insert_all : (P : FlatRule → Type 0) (f : FlatRule) (gs : List FlatRule) → P f → AllByRecursion P gs → AllByRecursion P (insert_rule f gs)
+insert_all P f [] p h = (p, tt)
+insert_all P f (g ∷ gs) p h = pick (is_above g f) (insert_all P f gs p h.1)
+  where
+    pick : (b : Bool) → AllByRecursion P (insert_rule f gs) → AllByRecursion P (cond b (g ∷ insert_rule f gs) (f ∷ g ∷ gs))
+    pick true r = (h.0, r)
+    pick false r = (p, h)
+
+pub all_in_order : (P : FlatRule → Type 0) (fs : List FlatRule) → AllByRecursion P fs → AllByRecursion P (by_priority fs)
+all_in_order P [] h = tt
+all_in_order P (f ∷ fs) h = insert_all P f (by_priority fs) h.0 (all_in_order P fs h.1)

@@ -1,4 +1,8 @@
+pub mod BindingPaths
+pub mod InnerLaws
 pub mod LawOrder
 pub mod LawFirst
+pub mod LawBinds
+pub mod LawBound
 pub mod LawChain
 pub mod LawReady

@@ -1,12 +1,12 @@
 -- The steps of rules, one for each.
-use Rattle.std.specs.Prelude.{List, [], ◌∷◌, Bool, true, false, if◌then◌else◌}
+use Rattle.std.specs.Prelude.{ℕ, List, [], ◌∷◌, Bool, true, false, Option, if◌then◌else◌}
 use Rattle.isle_core.specs.declared.BindingId.{BindingId}
 use Rattle.isle_core.specs.declared.rule_sets.Constraint.{Constraint}
 use Rattle.isle_core.specs.declared.rule_sets.FlatRule.{FlatRule}
 use Rattle.isle_core.specs.Block.{Block}
 use Rattle.isle_core.specs.BlockViews.{SeenStep, block_of}
 use Rattle.isle_blocks.specs.Order.{by_priority}
-use Rattle.isle_blocks.specs.Nest.{rule_control}
+use Rattle.isle_blocks.specs.Nest.{rule_step}
 
 -- no constraint and no equality
 abbrev pub no_tests : List (BindingId × Constraint) → List (BindingId × BindingId) → Bool
@@ -15,10 +15,10 @@ no_tests [] (e ∷ es) = false
 no_tests (c ∷ cs) es = false
 
 -- the steps of rules in order, up to the first rule without tests: nothing behind it is reached
-abbrev pub chain_steps : List FlatRule → List SeenStep
-chain_steps [] = []
-chain_steps (f ∷ fs) = ([], rule_control f) ∷ (if no_tests f.constraints f.equals then [] else chain_steps fs)
+abbrev pub chain_steps : (ℕ → Option BindingId) → List FlatRule → List SeenStep
+chain_steps inners [] = []
+chain_steps inners (f ∷ fs) = rule_step inners f ∷ (if no_tests f.constraints f.equals then [] else chain_steps inners fs)
 
 -- the block of the rules of a set
-abbrev pub chain : List FlatRule → Block
-chain fs = block_of (chain_steps (by_priority fs))
+abbrev pub chain : (ℕ → Option BindingId) → List FlatRule → Block
+chain inners fs = block_of (chain_steps inners (by_priority fs))

@@ -1,4 +1,4 @@
 pub mod Order
+pub mod Inners
 pub mod Nest
 pub mod Chain
-pub mod Ready

@@ -1,4 +1,6 @@
-ghost use Rattle.std.specs.Prelude.{◌≡◌, IfOk, Bool, false, map, List as ListOf};
+ghost use Rattle.std.specs.Prelude.{◌≡◌, IfOk, Bool, [], false, map, List as ListOf};
+ghost use Rattle.std.specs.Ordering.{nat_cmp};
+ghost use Rattle.std.specs.BTreeMap.{get};
 ghost use Rattle.isle_core.specs.declared.types.Term.{Term};
 ghost use Rattle.isle_core.specs.Value.{Value};
 ghost use Rattle.isle_core.specs.Meaning.{Meaning};
@@ -8,13 +10,15 @@ ghost use Rattle.isle_core.specs.RuleSet.{set_outcome};
 ghost use Rattle.isle_core.specs.BlockViews as BlockViews;
 ghost use Rattle.isle_core.specs.BlockRun.{block_outcome};
 ghost use Rattle.isle_core.specs.BlockLawful.{IsLawfulBlock};
+ghost use Rattle.isle_core.specs.Ready.{IsReady};
 ghost use Rattle.isle_blocks.specs.Chain as Chain;
-ghost use Rattle.isle_blocks.specs.Ready.{IsReady};
 
-use crate::nest::{rule_control, step};
+use crate::inners::inner_values;
+use crate::nest::rule_step;
 use crate::order::in_order;
-use isle_core::{Block, EvalStep, FlatRule, List, OutOfMemory, RuleSet};
+use isle_core::{BindingId, Block, EvalStep, FlatRule, List, OutOfMemory, RuleSet};
 use std::alloc::{AllocError, Global};
+use std::collections::BTreeMap;
 
 /// Whether a rule has neither a constraint nor an equality.
 fn is_untested(rule: &FlatRule) -> bool
@@ -24,12 +28,16 @@ fn is_untested(rule: &FlatRule) -> bool
 }
 
 /// The steps of rules in order, up to the first one without tests.
-fn chain_steps(alloc: Global, rules: &[&FlatRule]) -> Result<Vec<EvalStep>, AllocError>
-    ensures { IfOk result (λ steps. map BlockViews.step steps.items ≡ Chain.chain_steps (map (λ f. f.now) rules.now)) }
+fn chain_steps(
+    alloc: Global,
+    inners: &BTreeMap<usize, BindingId>,
+    rules: &[&FlatRule],
+) -> Result<Vec<EvalStep>, AllocError>
+    ensures { IfOk result (λ steps. map BlockViews.step steps.items ≡ Chain.chain_steps (get nat_cmp inners.now) (map (λ f. f.now) rules.now)) }
 {
     let mut steps = Vec::new(alloc);
     for rule in rules {
-        steps.push(step(alloc, rule_control(alloc, rule)?))?;
+        steps.push(rule_step(alloc, inners, rule)?)?;
         if is_untested(rule) {
             return Ok(steps);
         }
@@ -39,22 +47,29 @@ fn chain_steps(alloc: Global, rules: &[&FlatRule]) -> Result<Vec<EvalStep>, Allo
 
 /// The steps of the rules, highest priority first.
 #[tactic(auto, using(isle_core::proofs::SeesBlocks::sees_blocks))]
-fn chained(alloc: Global, rules: &[FlatRule]) -> Result<Block, AllocError>
-    ensures { IfOk result (λ b. BlockViews.block b ≡ Chain.chain rules.now) }
+fn chained(
+    alloc: Global,
+    inners: &BTreeMap<usize, BindingId>,
+    rules: &[FlatRule],
+) -> Result<Block, AllocError>
+    ensures { IfOk result (λ b. BlockViews.block b ≡ Chain.chain (get nat_cmp inners.now) rules.now) }
 {
     let order = in_order(alloc, rules)?;
-    let steps = chain_steps(alloc, order.as_slice())?;
+    let steps = chain_steps(alloc, inners, order.as_slice())?;
     Ok(Block {
         steps: List::new(steps),
     })
 }
 
 /// The block of a rule set: a step for each rule, tried from the highest priority down, and equal ones in their order.
-/// `iterator` says whether the term is `multi`; of such terms no block is built.
+/// A rule's calls are made behind its tests, in order. `iterator` says whether the term is `multi`; of such terms no
+/// block is built.
 pub fn serialize(alloc: Global, rules: &RuleSet, iterator: bool) -> Result<Block, OutOfMemory>
     requires { iterator ≡ false }
-    ensures means { IfOk result (λ b. (env : Environment) (m : Meaning) (args : ListOf Value) (partial : Bool) → block_outcome env m args (paths_of rules.now.bindings) (BlockViews.block b) partial ≡ set_outcome env m args (paths_of rules.now.bindings) rules.now.rules partial) }
-    ensures lawful { IfOk result (λ b. (env : Environment) (t : Term) → IsReady env t rules.now → IsLawfulBlock env t (paths_of rules.now.bindings) (BlockViews.block b)) }
+    ensures means { IfOk result (λ b. (env : Environment) (m : Meaning) (t : Term) (args : ListOf Value) (partial : Bool) → IsReady env t rules.now →
+        block_outcome env m args (paths_of rules.now.bindings) (BlockViews.block b) partial ≡ set_outcome env m args (paths_of rules.now.bindings) rules.now.rules partial) }
+    ensures lawful { IfOk result (λ b. (env : Environment) (t : Term) → IsReady env t rules.now → IsLawfulBlock env t rules.now.bindings [] (BlockViews.block b)) }
 {
-    Ok(chained(alloc, rules.rules.as_slice())?)
+    let inners = inner_values(alloc, rules.bindings.as_slice())?;
+    Ok(chained(alloc, &inners, rules.rules.as_slice())?)
 }

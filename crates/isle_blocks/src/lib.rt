@@ -2,6 +2,7 @@
 #![tactic(auto)]
 
 mod chain;
+mod inners;
 mod nest;
 mod order;
 #[cfg(test)]

@@ -1,4 +1,6 @@
 ghost use Rattle.std.specs.Prelude.{◌≡◌, IfOk, []};
+ghost use Rattle.std.specs.Ordering.{nat_cmp};
+ghost use Rattle.std.specs.BTreeMap.{get};
 ghost use Rattle.isle_core.specs.Block as Blocks;
 ghost use Rattle.isle_core.specs.BlockViews as BlockViews;
 ghost use Rattle.isle_blocks.specs.Nest as Nest;
@@ -7,10 +9,11 @@ use isle_core::{
     BindingId, Block, Constraint, ControlFlow, EvalStep, FlatRule, List, MatchArm, Pos,
 };
 use std::alloc::{AllocError, Global};
+use std::collections::BTreeMap;
 
 /// A step that binds nothing.
 #[tactic(auto, using(isle_core::proofs::SeesBlocks::sees_blocks))]
-pub fn step(alloc: Global, check: ControlFlow) -> EvalStep
+fn unbound(alloc: Global, check: ControlFlow) -> EvalStep
     ensures { BlockViews.step result ≡ ([], BlockViews.control check) }
 {
     EvalStep {
@@ -19,12 +22,12 @@ pub fn step(alloc: Global, check: ControlFlow) -> EvalStep
     }
 }
 
-/// A block of one step that binds nothing.
+/// A block of one step.
 #[tactic(auto, using(isle_core::proofs::SeesBlocks::sees_blocks))]
-fn alone(alloc: Global, check: ControlFlow) -> Result<Block, AllocError>
-    ensures { IfOk result (λ b. BlockViews.block b ≡ Nest.alone (BlockViews.control check)) }
+fn alone(alloc: Global, step: EvalStep) -> Result<Block, AllocError>
+    ensures { IfOk result (λ b. BlockViews.block b ≡ Nest.alone (BlockViews.step step)) }
 {
-    let steps = vec![in alloc; step(alloc, check)]?;
+    let steps = vec![in alloc; step]?;
     Ok(Block {
         steps: List::new(steps),
     })
@@ -36,9 +39,9 @@ fn matched(
     alloc: Global,
     source: BindingId,
     constraint: Constraint,
-    inner: ControlFlow,
-) -> Result<ControlFlow, AllocError>
-    ensures { IfOk result (λ c. BlockViews.control c ≡ Nest.matched (source, constraint) (BlockViews.control inner)) }
+    inner: EvalStep,
+) -> Result<EvalStep, AllocError>
+    ensures { IfOk result (λ s. BlockViews.step s ≡ Nest.matched (source, constraint) (BlockViews.step inner)) }
 {
     let body = alone(alloc, inner)?;
     let arm = MatchArm {
@@ -47,10 +50,11 @@ fn matched(
         body,
     };
     let arms = vec![in alloc; arm]?;
-    Ok(ControlFlow::Match {
+    let check = ControlFlow::Match {
         source,
         arms: List::new(arms),
-    })
+    };
+    Ok(unbound(alloc, check))
 }
 
 /// An equality round what follows it.
@@ -59,59 +63,85 @@ fn equated(
     alloc: Global,
     a: BindingId,
     b: BindingId,
-    inner: ControlFlow,
-) -> Result<ControlFlow, AllocError>
-    ensures { IfOk result (λ c. BlockViews.control c ≡ Nest.equated (a, b) (BlockViews.control inner)) }
+    inner: EvalStep,
+) -> Result<EvalStep, AllocError>
+    ensures { IfOk result (λ s. BlockViews.step s ≡ Nest.equated (a, b) (BlockViews.step inner)) }
 {
     let body = alone(alloc, inner)?;
-    Ok(ControlFlow::Equal { a, b, body })
+    Ok(unbound(alloc, ControlFlow::Equal { a, b, body }))
 }
 
-/// The end of a run.
-#[tactic(auto, using(isle_core::proofs::SeesBlocks::sees_blocks))]
-fn returned(pos: Pos, value: BindingId) -> ControlFlow
-    ensures { BlockViews.control result ≡ Blocks.Return pos value }
+/// Calls in order, directly behind each its inner value where it has one.
+fn binds(
+    alloc: Global,
+    inners: &BTreeMap<usize, BindingId>,
+    ordered: &[BindingId],
+) -> Result<Vec<BindingId>, AllocError>
+    ensures { IfOk result (λ order. order.items ≡ Nest.binds (get nat_cmp inners.now) ordered.now) }
 {
-    ControlFlow::Return { pos, result: value }
+    let mut order = Vec::new(alloc);
+    for call in ordered {
+        order.push(*call)?;
+        if let Some(inner) = inners.get(&call.index()) {
+            order.push(*inner)?;
+        }
+    }
+    Ok(order)
+}
+
+/// The calls and the result of a rule.
+#[tactic(auto, using(isle_core::proofs::SeesBlocks::sees_blocks))]
+fn returned(bind_order: Vec<BindingId>, pos: Pos, value: BindingId) -> EvalStep
+    ensures { BlockViews.step result ≡ (bind_order.items, Blocks.Return pos value) }
+{
+    EvalStep {
+        bind_order: List::new(bind_order),
+        check: ControlFlow::Return { pos, result: value },
+    }
 }
 
 /// Equalities, each round those behind it, and the last one round what follows them.
 fn all_equated(
     alloc: Global,
     equals: &[(BindingId, BindingId)],
-    inner: ControlFlow,
-) -> Result<ControlFlow, AllocError>
-    ensures { IfOk result (λ c. BlockViews.control c ≡ Nest.all_equated equals.now (BlockViews.control inner)) }
+    inner: EvalStep,
+) -> Result<EvalStep, AllocError>
+    ensures { IfOk result (λ s. BlockViews.step s ≡ Nest.all_equated equals.now (BlockViews.step inner)) }
 {
-    let mut control = inner;
+    let mut step = inner;
     for place in (0..equals.len()).rev() {
         let (a, b) = equals[place];
-        control = equated(alloc, a, b, control)?;
+        step = equated(alloc, a, b, step)?;
     }
-    Ok(control)
+    Ok(step)
 }
 
 /// Matches, each round those behind it, and the last one round what follows them.
 fn all_matched(
     alloc: Global,
     constraints: &[(BindingId, Constraint)],
-    inner: ControlFlow,
-) -> Result<ControlFlow, AllocError>
-    ensures { IfOk result (λ c. BlockViews.control c ≡ Nest.all_matched constraints.now (BlockViews.control inner)) }
+    inner: EvalStep,
+) -> Result<EvalStep, AllocError>
+    ensures { IfOk result (λ s. BlockViews.step s ≡ Nest.all_matched constraints.now (BlockViews.step inner)) }
 {
-    let mut control = inner;
+    let mut step = inner;
     for place in (0..constraints.len()).rev() {
         let (source, constraint) = constraints[place];
-        control = matched(alloc, source, constraint, control)?;
+        step = matched(alloc, source, constraint, step)?;
     }
-    Ok(control)
+    Ok(step)
 }
 
-/// What the step of a rule does.
-pub fn rule_control(alloc: Global, rule: &FlatRule) -> Result<ControlFlow, AllocError>
-    ensures { IfOk result (λ c. BlockViews.control c ≡ Nest.rule_control rule.now) }
+/// The step of a rule.
+pub fn rule_step(
+    alloc: Global,
+    inners: &BTreeMap<usize, BindingId>,
+    rule: &FlatRule,
+) -> Result<EvalStep, AllocError>
+    ensures { IfOk result (λ s. BlockViews.step s ≡ Nest.rule_step (get nat_cmp inners.now) rule.now) }
 {
-    let end = returned(rule.pos, rule.result);
-    let inner = all_equated(alloc, rule.equals.as_slice(), end)?;
+    let order = binds(alloc, inners, rule.ordered.as_slice())?;
+    let last = returned(order, rule.pos, rule.result);
+    let inner = all_equated(alloc, rule.equals.as_slice(), last)?;
     all_matched(alloc, rule.constraints.as_slice(), inner)
 }

@@ -1,21 +1,29 @@
-use Rattle.std.proofs.Common.{subst, ◌≡◌, sym, ap, ◌∙◌}
+use Rattle.std.proofs.Common.{subst, ◌≡◌, sym, ap, ◌∙◌, ℕ, [], Option}
+use Rattle.std.specs.Ordering.{nat_cmp}
+use Rattle.std.specs.BTreeMap.{get}
+use Rattle.isle_core.specs.declared.BindingId.{BindingId}
 use Rattle.isle_core.specs.Path.{paths_of}
 use Rattle.isle_core.specs.BlockViews.{block}
 use Rattle.isle_core.specs.BlockRun.{block_outcome}
 use Rattle.isle_core.specs.BlockLawful.{IsLawfulBlock}
+use Rattle.isle_blocks.specs.Inners.{FindsInners}
 use Rattle.isle_blocks.specs.Chain.{chain}
 use Rattle.isle_blocks.proofs.LawChain.{chain_means}
 use Rattle.isle_blocks.proofs.LawReady.{chain_lawful}
 use Rattle.isle_blocks.proofs.chain.serialize.Goals as goal
 
 pub returns-clause-means : goal.returns-clause-means
-returns-clause-means c = λ env m args partial.
+returns-clause-means c = λ env m t args partial h.
     let s = c.args.rules.now in
-    let is_chain : block c.in_ok-chained.field-0 ≡ chain s.rules = c.in_ok-chained.ensures ∙ ap chain c.as_slice.ensures in
-    ap (λ b. block_outcome env m args (paths_of s.bindings) b partial) is_chain ∙ chain_means s.rules env m args (paths_of s.bindings) partial
+    let inners : ℕ → Option BindingId = get nat_cmp c.in_ok-inners.inners in
+    let found : FindsInners s.bindings inners = subst (λ bs. FindsInners bs inners) c.as_slice.ensures c.in_ok-inners.ensures in
+    let is_chain : block c.in_ok-chained.field-0 ≡ chain inners s.rules = c.in_ok-chained.ensures ∙ ap (chain inners) c.as_slice-2.ensures in
+    ap (λ b. block_outcome env m args (paths_of s.bindings) b partial) is_chain ∙ chain_means env t m args s.bindings inners partial found h.once s.rules h.rules
 
 pub returns-clause-lawful : goal.returns-clause-lawful
 returns-clause-lawful c = λ env t h.
     let s = c.args.rules.now in
-    let is_chain : block c.in_ok-chained.field-0 ≡ chain s.rules = c.in_ok-chained.ensures ∙ ap chain c.as_slice.ensures in
-    subst (IsLawfulBlock env t (paths_of s.bindings)) (sym is_chain) (chain_lawful s.rules env t (paths_of s.bindings) h.rules)
+    let inners : ℕ → Option BindingId = get nat_cmp c.in_ok-inners.inners in
+    let found : FindsInners s.bindings inners = subst (λ bs. FindsInners bs inners) c.as_slice.ensures c.in_ok-inners.ensures in
+    let is_chain : block c.in_ok-chained.field-0 ≡ chain inners s.rules = c.in_ok-chained.ensures ∙ ap (chain inners) c.as_slice-2.ensures in
+    subst (IsLawfulBlock env t s.bindings []) (sym is_chain) (chain_lawful env t s.bindings inners found h.once s.rules h.rules)
