@@ -1,5 +1,5 @@
 -- A file is read exactly.
-use Rattle.std.proofs.Common.{◌≡◌, ℕ, zero, suc, ◌+◌, List, [], ◌∷◌, length, true, false, refl, ap, sym, ◌∙◌, subst, arith, Option, Some, None, ℤ, pos}
+use Rattle.std.proofs.Common.{◌≡◌, ℕ, zero, suc, ◌+◌, List, [], ◌∷◌, length, Bool, true, false, refl, ap, sym, ◌∙◌, subst, arith, Option, Some, None, ℤ, pos}
 use Rattle.std.specs.Prelude.{is_some, option_map}
 use Rattle.isle_syntax.specs.Lexeme.{Lexeme}
 use Rattle.isle_syntax.specs.Reader.{Reading, Got, Stuck, Deep, Reader, Ret, Halt, after, run, bind, is_open, is_close, on_word, bytes, place, read_open, read_close, many, all}
@@ -7,7 +7,7 @@ use Rattle.isle_syntax.specs.Word.{kind}
 use Rattle.isle_syntax.specs.Tree.{Pattern, Expr, Def}
 use Rattle.isle_syntax.specs.Tree as tree
 use Rattle.isle_syntax.specs.Grammar.{NameS, PatternS, DefS, FileS, no_def, a_def}
-use Rattle.isle_syntax.specs.Reading.{refuse, given, read_word, name_of, read_name, pattern_of, read_pattern, expr_of, read_expr, read_optional, read_rule_name, prio_of, read_prio, decl_name_of, read_decl_name, read_decl, read_parts, read_rule, Head, DeclHead, RuleHead, head_of, read_head, read_behind, read_def, read_file, no_call, file_of}
+use Rattle.isle_syntax.specs.Reading.{refuse, given, read_word, name_of, read_name, pattern_of, read_pattern, expr_of, read_expr, read_optional, read_rule_name, prio_of, read_prio, decl_name_of, read_decl_name, partial_of, read_partial, read_declared, read_decl, constructor_of, read_constructor, read_extern, read_parts, read_rule, Head, DeclHead, RuleHead, ExternHead, head_of, read_head, read_behind, read_def, read_file, no_call, file_of}
 use Rattle.isle_syntax.specs.ReadingViews.{stops}
 use Rattle.isle_syntax.proofs.Exact.{Hits, hit, too_deep, Anything}
 use Rattle.isle_syntax.proofs.Running.{run-bind, Shrinks, got_is, got_not_deep}
@@ -66,14 +66,18 @@ module _ {F : Type 0} (Q : List Lexeme → Type 0) (g : List Lexeme → Reading 
   patterns_fueled : Fueled Q n (run g (many n read_pattern))
   patterns_fueled = fuel-many Q g n read_pattern pattern_fueled (takes PatternS (run g read_pattern) (pattern_reads {C = Anything} g) (λ p ts rest s. let x = pattern_starts p ts rest s in (x.0, x.1, x.2))) n (omega arith)
 
-  decl_fueled : (file at : ℕ) → Fueled Q n (run g (read_decl n file at))
-  unfolding read_decl read_decl_name
-  decl_fueled file at =
+  partial_fueled : Fueled Q n (run g read_partial)
+  unfolding read_partial
+  partial_fueled = optional_fueled partial_of false
+
+  declared_fueled : (file at : ℕ) (partial : Bool) → Fueled Q n (run g (read_declared n file at partial))
+  unfolding read_declared read_decl_name
+  declared_fueled file at partial =
       fuel-bind Q g less n read_decl_name opened (word_fueled decl_name_of) (λ term. fuel-bind Q g less n read_open (λ o. parts term) open_fueled (λ o.
       fuel-bind Q g less n (many n read_name) (last term) names_fueled (λ args. fuel-bind Q g less n read_name (ends term args) name_fueled (λ ret. close_fueled (made term args ret)))))
     where
       made : List ℕ → List (List ℕ) → List ℕ → Def
-      made term args ret = tree.Decl term false false false false args ret (record { file = file; offset = at })
+      made term args ret = tree.Decl term false false partial false args ret (record { file = file; offset = at })
 
       ends : List ℕ → List (List ℕ) → List ℕ → Reader F Def
       ends term args ret = bind read_close (λ c. Ret (made term args ret))
@@ -86,6 +90,32 @@ module _ {F : Type 0} (Q : List Lexeme → Type 0) (g : List Lexeme → Reading 
 
       opened : List ℕ → Reader F Def
       opened term = bind read_open (λ o. parts term)
+
+  decl_fueled : (file at : ℕ) → Fueled Q n (run g (read_decl n file at))
+  unfolding read_decl
+  decl_fueled file at = fuel-bind Q g less n read_partial (read_declared n file at) partial_fueled (λ partial. declared_fueled file at partial)
+
+  constructor_fueled : Fueled Q n (run g read_constructor)
+  unfolding read_constructor
+  constructor_fueled = word_fueled constructor_of
+
+  extern_fueled : (file at : ℕ) → Fueled Q n (run g (read_extern file at))
+  unfolding read_extern
+  extern_fueled file at =
+      fuel-bind Q g less n read_constructor (λ w. named) constructor_fueled (λ w. fuel-bind Q g less n read_name with_func name_fueled (λ term.
+      fuel-bind Q g less n read_name (ends term) name_fueled (λ func. close_fueled (made term func))))
+    where
+      made : List ℕ → List ℕ → Def
+      made term func = tree.ExternConstructor term func (record { file = file; offset = at })
+
+      ends : List ℕ → List ℕ → Reader F Def
+      ends term func = bind read_close (λ c. Ret (made term func))
+
+      with_func : List ℕ → Reader F Def
+      with_func term = bind read_name (ends term)
+
+      named : Reader F Def
+      named = bind read_name with_func
 
   parts_fueled : Fueled Q n (run g (read_parts n))
   unfolding read_parts
@@ -119,6 +149,7 @@ module _ {F : Type 0} (Q : List Lexeme → Type 0) (g : List Lexeme → Reading 
   behind_fueled : (file at : ℕ) (x : Head) → Fueled Q n (run g (read_behind n file at x))
   behind_fueled file at DeclHead = decl_fueled file at
   behind_fueled file at RuleHead = rule_fueled file at
+  behind_fueled file at ExternHead = extern_fueled file at
 
   head_fueled : Fueled Q n (run g read_head)
   unfolding read_head

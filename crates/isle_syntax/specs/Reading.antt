@@ -1,5 +1,5 @@
 -- Readers of the grammar's forms.
-use Rattle.std.specs.Prelude.{ℕ, length, ℤ, pos, negsuc, ◌^◌, List, [], ◌∷◌, Bool, false, nat_lt, if◌then◌else◌, Option, Some, None, is_some, option_map, bytes_eq, codes}
+use Rattle.std.specs.Prelude.{ℕ, length, ℤ, pos, negsuc, ◌^◌, List, [], ◌∷◌, Bool, true, false, nat_lt, if◌then◌else◌, Option, Some, None, is_some, option_map, bytes_eq, codes}
 use Rattle.isle_syntax.specs.Lexeme.{Lexeme, Open, Close, At, Less, Greater, Word}
 use Rattle.isle_syntax.specs.Reader.{Reading, Deep, run, Reader, Ret, Ask, Peek, Halt, bind, read_open, read_close, many, all, on_word, bytes}
 use Rattle.isle_syntax.specs.Word.{WordKind, Number, Malformed, Truth, Dollar, Underscore, Plain, kind, names, is_flag}
@@ -96,10 +96,34 @@ decl_name_of w = if is_flag w then None else name_of w
 unfoldable pub read_decl_name : {F : Type 0} → Reader F (List ℕ)
 read_decl_name = read_word decl_name_of
 
+-- that a word is the flag `partial`
+abbrev pub partial_of : List ℕ → Option Bool
+partial_of w = if bytes_eq w (codes "partial") then Some true else None
+
+-- whether the flag `partial` stands here
+unfoldable pub read_partial : {F : Type 0} → Reader F Bool
+read_partial = read_optional partial_of false
+
+-- behind the flag of ( decl
+unfoldable pub read_declared : {F : Type 0} → ℕ → ℕ → ℕ → Bool → Reader F Def
+read_declared n file at partial = bind read_decl_name (λ term. bind read_open (λ o. bind (many n read_name) (λ args. bind read_name (λ ret. bind read_close (λ c.
+    Ret (tree.Decl term false false partial false args ret (record { file = file; offset = at })))))))
+
 -- behind ( decl
 unfoldable pub read_decl : {F : Type 0} → ℕ → ℕ → ℕ → Reader F Def
-read_decl n file at = bind read_decl_name (λ term. bind read_open (λ o. bind (many n read_name) (λ args. bind read_name (λ ret. bind read_close (λ c.
-    Ret (tree.Decl term false false false false args ret (record { file = file; offset = at })))))))
+read_decl n file at = bind read_partial (read_declared n file at)
+
+-- the word `constructor`
+abbrev pub constructor_of : List ℕ → Option (List ℕ)
+constructor_of w = if bytes_eq w (codes "constructor") then Some w else None
+
+unfoldable pub read_constructor : {F : Type 0} → Reader F (List ℕ)
+read_constructor = read_word constructor_of
+
+-- behind ( extern
+unfoldable pub read_extern : {F : Type 0} → ℕ → ℕ → Reader F Def
+read_extern file at = bind read_constructor (λ w. bind read_name (λ term. bind read_name (λ func. bind read_close (λ c.
+    Ret (tree.ExternConstructor term func (record { file = file; offset = at }))))))
 
 -- ( N P* )
 unfoldable pub read_parts : {F : Type 0} → ℕ → Reader F (List ℕ × List Pattern)
@@ -114,9 +138,14 @@ read_rule n file at = bind read_rule_name (λ name. bind read_prio (λ prio. bin
 pub data Head : Type 0 where
   DeclHead : Head
   RuleHead : Head
+  ExternHead : Head
 
 abbrev pub head_of : List ℕ → Option Head
-head_of w = if bytes_eq w (codes "decl") then Some DeclHead else (if bytes_eq w (codes "rule") then Some RuleHead else None)
+head_of w =
+    if bytes_eq w (codes "decl") then Some DeclHead
+    else (if bytes_eq w (codes "rule") then Some RuleHead
+    else (if bytes_eq w (codes "extern") then Some ExternHead
+    else None))
 
 unfoldable pub read_head : {F : Type 0} → Reader F Head
 read_head = read_word head_of
@@ -125,6 +154,7 @@ read_head = read_word head_of
 abbrev pub read_behind : {F : Type 0} → ℕ → ℕ → ℕ → Head → Reader F Def
 read_behind n file at DeclHead = read_decl n file at
 read_behind n file at RuleHead = read_rule n file at
+read_behind n file at ExternHead = read_extern file at
 
 -- a definition of the file of that number, its lists of fewer than n parts
 unfoldable pub read_def : {F : Type 0} → ℕ → ℕ → Reader F Def

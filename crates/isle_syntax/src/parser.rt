@@ -32,7 +32,8 @@ fn definitions(alloc: Global, lexer: Lexer<'_>) -> Result<Vec<Def>, Fail>
 }
 
 /// The definitions that the reader's text spells, in order. `NotYet` comes exactly where no definitions of the forms
-/// that are built are spelt: `decl` without flags, and `rule` without conditions whose right side is one word.
+/// that are built are spelt: `decl` with no flag but `partial`, `extern constructor`, and `rule` without conditions whose
+/// right side is one word.
 pub fn parse(alloc: Global, lexer: Lexer<'_>) -> Result<Vec<Def>, ParseFail>
     requires { IsClosed (lexer_text lexer) }
     ensures ok { IfOk result (λ read. Spells (lexer_file lexer.entry) (lexer_text lexer.entry) (defs read.items)) }

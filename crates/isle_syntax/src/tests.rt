@@ -56,6 +56,11 @@ fn spells_definitions(rt: HostRuntime) {
         ("(decl and (let) if)", 1),
         ("(decl decl (pure) rec)", 1),
         ("(decl \u{e9} () u8!)", 1),
+        ("(decl partial f () u8)", 1),
+        ("(decl partial f (u8 partial) partial)", 1),
+        ("(extern constructor f g)", 1),
+        ("(extern constructor constructor extern)", 1),
+        ("(extern(;;)constructor partial _)(rule (f) 1)", 2),
         ("(rule (f) 1)", 1),
         ("(rule n (f) true)", 1),
         ("(rule 5 (f x) x)", 1),
@@ -104,8 +109,26 @@ fn is_not_built(rt: HostRuntime) {
         "(; a ;) b",
         "(;;)(",
         "(type A (enum B))",
-        "(extern constructor f g)",
         "(spec a)",
+        "(extern)",
+        "(extern constructor)",
+        "(extern constructor f)",
+        "(extern constructor f g h)",
+        "(extern constructor f (g))",
+        "(extern constructor 1 g)",
+        "(extern constructor f $g)",
+        "(extern constructors f g)",
+        "(extern f g)",
+        "(extern extractor f g)",
+        "(constructor f g)",
+        "(decl partial f ())",
+        "(decl partial () u8)",
+        "(decl partial f () u8 u8)",
+        "(decl partial partial () u8)",
+        "(decl partial partial f () u8)",
+        "(decl partial pure f () u8)",
+        "(decl pure partial f () u8)",
+        "(decl f partial () u8)",
         "(decl pure (u8) u8)",
         "(decl pure f (u8) u8)",
         "(decl rec () u8)",
@@ -281,5 +304,45 @@ fn keeps_parts(rt: HostRuntime) {
     ];
     for (text, found) in cases {
         assert_eq!(rt; parts(rt.alloc(), text), found, "at {text:?}");
+    }
+}
+
+/// What a text of one definition has as flag `partial`, or as first letters of term and function.
+#[derive(Clone, Copy, Debug, PartialEq, Eq)]
+enum Kept {
+    Partial(bool),
+    Extern(u8, u8),
+}
+
+fn letter(text: &str) -> u8 {
+    match text.as_bytes().first() {
+        Some(byte) => *byte,
+        None => 0,
+    }
+}
+
+fn kept(alloc: Global, text: &str) -> Option<Kept> {
+    let lexer = Lexer::new(0, text).ok()?;
+    let defs = parse(alloc, lexer).ok()?;
+    match defs.first()? {
+        Def::Decl { partial, .. } => Some(Kept::Partial(*partial)),
+        Def::ExternConstructor { term, func, .. } => {
+            Some(Kept::Extern(letter(term.as_str()), letter(func.as_str())))
+        }
+        _ => None,
+    }
+}
+
+#[test]
+fn keeps_flags_and_functions(rt: HostRuntime) {
+    let cases = [
+        ("(decl f () u8)", Some(Kept::Partial(false))),
+        ("(decl partial f () u8)", Some(Kept::Partial(true))),
+        ("(decl f (partial) partial)", Some(Kept::Partial(false))),
+        ("(extern constructor ab xy)", Some(Kept::Extern(b'a', b'x'))),
+        ("(extern constructor ab)", None),
+    ];
+    for (text, found) in cases {
+        assert_eq!(rt; kept(rt.alloc(), text), found, "at {text:?}");
     }
 }
