@@ -1,7 +1,8 @@
 -- What comes of reading a definition, part by part.
-use Rattle.std.proofs.Common.{◌≡◌, ℕ, ℤ, List, [], Bool, false, refl, ap, sym, ◌∙◌, subst, Option}
+use Rattle.std.proofs.Common.{◌≡◌, ◌-◌, ℕ, ℤ, List, [], Bool, false, refl, ap, sym, ◌∙◌, subst, Option}
 use Rattle.isle_syntax.specs.declared.reading.Fail.{Fail}
 use Rattle.isle_syntax.specs.Lexeme.{Lexeme}
+use Rattle.isle_syntax.specs.Depth.{most_open}
 use Rattle.isle_syntax.specs.Reader.{Got, Reader, Ret, after, run, bind, read_open, read_close, many}
 use Rattle.isle_syntax.specs.Reading.{no_call, read_name, read_pattern, read_expr, read_rule_name, read_prio, read_decl_name, read_partial, read_declared, read_decl, read_constructor, read_extern, read_parts, read_rule, Head, read_head, read_behind, read_def}
 use Rattle.isle_syntax.specs.ReadingViews.{Refuses}
@@ -181,7 +182,7 @@ module _ (n file at : ℕ) where
   rule_5 name prio x rhs = bind read_close (λ c. Ret (tree.Rule name prio x.0 x.1 [] rhs (record { file = file; offset = at })))
 
   abbrev rule_4 : Option (List ℕ) → ℤ → List ℕ × List Pattern → Reader ⊥ Def
-  rule_4 name prio x = bind read_expr (rule_5 name prio x)
+  rule_4 name prio x = bind (read_expr n (most_open - 1)) (rule_5 name prio x)
 
   abbrev rule_3 : Option (List ℕ) → ℤ → Reader ⊥ Def
   rule_3 name prio = bind (read_parts n) (rule_4 name prio)
@@ -214,20 +215,20 @@ module _ (n file at : ℕ) where
   rule_to_4 ts us vs ws name prio x e f h = rule_to_3 ts us vs name prio e f ∙ then_got (read_parts n) (rule_4 name prio) vs ws x h
 
   pub rule_refuses_4 : (ts us vs ws : List Lexeme) (fail : Fail) (name : Option (List ℕ)) (prio : ℤ) (x : List ℕ × List Pattern) → run no_call read_rule_name ts ≡ Got name us → run no_call read_prio us ≡ Got prio vs
-      → run no_call (read_parts n) vs ≡ Got x ws → Refuses fail (run no_call read_expr ws) → Refuses fail (run no_call (read_rule n file at) ts)
-  rule_refuses_4 ts us vs ws fail name prio x e f h k = subst (Refuses fail) (sym (rule_to_4 ts us vs ws name prio x e f h)) (then_refuses read_expr (rule_5 name prio x) ws fail k)
+      → run no_call (read_parts n) vs ≡ Got x ws → Refuses fail (run no_call (read_expr n (most_open - 1)) ws) → Refuses fail (run no_call (read_rule n file at) ts)
+  rule_refuses_4 ts us vs ws fail name prio x e f h k = subst (Refuses fail) (sym (rule_to_4 ts us vs ws name prio x e f h)) (then_refuses (read_expr n (most_open - 1)) (rule_5 name prio x) ws fail k)
 
   rule_to_5 : (ts us vs ws xs : List Lexeme) (name : Option (List ℕ)) (prio : ℤ) (x : List ℕ × List Pattern) (rhs : Expr) → run no_call read_rule_name ts ≡ Got name us → run no_call read_prio us ≡ Got prio vs
-      → run no_call (read_parts n) vs ≡ Got x ws → run no_call read_expr ws ≡ Got rhs xs → run no_call (read_rule n file at) ts ≡ run no_call (rule_5 name prio x rhs) xs
-  rule_to_5 ts us vs ws xs name prio x rhs e f h k = rule_to_4 ts us vs ws name prio x e f h ∙ then_got read_expr (rule_5 name prio x) ws xs rhs k
+      → run no_call (read_parts n) vs ≡ Got x ws → run no_call (read_expr n (most_open - 1)) ws ≡ Got rhs xs → run no_call (read_rule n file at) ts ≡ run no_call (rule_5 name prio x rhs) xs
+  rule_to_5 ts us vs ws xs name prio x rhs e f h k = rule_to_4 ts us vs ws name prio x e f h ∙ then_got (read_expr n (most_open - 1)) (rule_5 name prio x) ws xs rhs k
 
   pub rule_refuses_5 : (ts us vs ws xs : List Lexeme) (fail : Fail) (name : Option (List ℕ)) (prio : ℤ) (x : List ℕ × List Pattern) (rhs : Expr) → run no_call read_rule_name ts ≡ Got name us
-      → run no_call read_prio us ≡ Got prio vs → run no_call (read_parts n) vs ≡ Got x ws → run no_call read_expr ws ≡ Got rhs xs → Refuses fail (run no_call read_close xs) → Refuses fail (run no_call (read_rule n file at) ts)
+      → run no_call read_prio us ≡ Got prio vs → run no_call (read_parts n) vs ≡ Got x ws → run no_call (read_expr n (most_open - 1)) ws ≡ Got rhs xs → Refuses fail (run no_call read_close xs) → Refuses fail (run no_call (read_rule n file at) ts)
   rule_refuses_5 ts us vs ws xs fail name prio x rhs e f h k m = subst (Refuses fail) (sym (rule_to_5 ts us vs ws xs name prio x rhs e f h k))
       (then_refuses read_close (λ c. Ret (tree.Rule name prio x.0 x.1 [] rhs (record { file = file; offset = at }))) xs fail m)
 
   pub rule_got : (ts us vs ws xs ys : List Lexeme) (name : Option (List ℕ)) (prio : ℤ) (term : List ℕ) (args : List Pattern) (rhs : Expr) (c : ℕ) → run no_call read_rule_name ts ≡ Got name us
-      → run no_call read_prio us ≡ Got prio vs → run no_call (read_parts n) vs ≡ Got (term, args) ws → run no_call read_expr ws ≡ Got rhs xs → run no_call read_close xs ≡ Got c ys
+      → run no_call read_prio us ≡ Got prio vs → run no_call (read_parts n) vs ≡ Got (term, args) ws → run no_call (read_expr n (most_open - 1)) ws ≡ Got rhs xs → run no_call read_close xs ≡ Got c ys
       → run no_call (read_rule n file at) ts ≡ Got (tree.Rule name prio term args [] rhs (record { file = file; offset = at })) ys
   rule_got ts us vs ws xs ys name prio term args rhs c e f h k m = rule_to_5 ts us vs ws xs name prio (term, args) rhs e f h k ∙ then_got read_close (λ c. Ret (tree.Rule name prio term args [] rhs (record { file = file; offset = at }))) xs ys c m
 

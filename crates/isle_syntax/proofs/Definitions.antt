@@ -1,6 +1,7 @@
 -- The readers of definitions read the grammar's forms.
 use Rattle.std.proofs.Common.{◌≡◌, ℕ, List, [], ◌∷◌, Bool, true, false, ◌⊎◌, inl, inr, refl, ap, sym, ◌∙◌, subst, Option, Some, None, ℤ, pos}
-use Rattle.std.specs.Prelude.{codes, bytes_eq, ◌||◌, if◌then◌else◌, is_some, option_map}
+use Rattle.isle_syntax.specs.Depth.{most_open}
+use Rattle.std.specs.Prelude.{◌-◌, codes, bytes_eq, ◌||◌, if◌then◌else◌, is_some, option_map}
 use Rattle.std.proofs.lemmas.Slice.Eq.{bytes_eq-Decides}
 use Rattle.isle_syntax.specs.Lexeme.{Lexeme, Open, Close, Word}
 use Rattle.isle_syntax.specs.Reader.{Reading, Reader, Ret, run, bind, read_open, read_close, many}
@@ -11,7 +12,8 @@ use Rattle.isle_syntax.specs.Grammar.{Many, none, NameS, symbol, PatternS, ExprS
 use Rattle.isle_syntax.specs.Reading.{name_of, read_name, read_pattern, read_expr, read_rule_name, read_prio, decl_name_of, read_decl_name, read_partial, read_declared, read_decl, constructor_of, read_constructor, read_extern, read_parts, read_rule, Head, DeclHead, RuleHead, ExternHead, head_of, read_head, read_behind, read_def}
 use Rattle.isle_syntax.proofs.Exact.{Whole, Begins, Reads, Anything, Nothing, Then}
 use Rattle.isle_syntax.proofs.Combine.{mapped, nothing_reads, next_reads, then_reads, then_ends, OpenS, CloseS, open_reads, close_then, close_ends, many_reads}
-use Rattle.isle_syntax.proofs.WordForms.{WordS, word_reads, NoWord, a_named, a_plain, name_some, name_is, name_starts, name_reads, pattern_starts, pattern_reads, expr_reads, NoName, rule_name_of, rule_name_reads, prio_word, prio_reads, NoPartial, partial_reads, if_some}
+use Rattle.isle_syntax.proofs.Expressions.{expr_reads}
+use Rattle.isle_syntax.proofs.WordForms.{WordS, word_reads, NoWord, a_named, a_plain, name_some, name_is, name_starts, name_reads, pattern_starts, pattern_reads, NoName, rule_name_of, rule_name_reads, prio_word, prio_reads, NoPartial, partial_reads, if_some}
 
 -- ---- lists
 
@@ -61,7 +63,7 @@ args_end file at partial term = then_ends (Many NameS) (Decl_ret file at partial
 open_ends : (file at : ℕ) (partial : Bool) (term : List ℕ) → Begins (Decl_open file at partial term) []
 open_ends file at partial term = then_ends OpenS (λ o. Decl_args file at partial term) 0 (Open 0 ∷ []) open_whole (args_end file at partial term)
 
-a_decl_name : decl_name_of (codes "a") ≡ Some (codes "a")
+pub a_decl_name : decl_name_of (codes "a") ≡ Some (codes "a")
 unfolding kind
 a_decl_name = refl
 
@@ -171,7 +173,7 @@ Call_args term = Then (Many PatternS) (λ args. Nothing (term, args))
 abbrev Call_term : List ℕ × List Pattern → List Lexeme → List Lexeme → Type 0
 Call_term = Then NameS Call_args
 
-abbrev CallS : List ℕ × List Pattern → List Lexeme → List Lexeme → Type 0
+abbrev pub CallS : List ℕ × List Pattern → List Lexeme → List Lexeme → Type 0
 CallS = Then OpenS (λ o. Call_term)
 
 call_args_end : (term : List ℕ) → Begins (Call_args term) []
@@ -183,7 +185,7 @@ call_term_ends = then_ends NameS Call_args (codes "a") (Word 0 (codes "a") ∷ [
 call_whole : Whole CallS (codes "a", []) (Open 0 ∷ Word 0 (codes "a") ∷ Close 0 ∷ [])
 call_whole tail = (0, Word 0 (codes "a") ∷ Close 0 ∷ tail, refl, (codes "a", Close 0 ∷ tail, name_whole (Close 0 ∷ tail), ([], tail, none 0 tail, (refl, refl))))
 
-parts_read : {F : Type 0} (g : List Lexeme → Reading F) (n : ℕ) → Reads Anything CallS (run g (read_parts n))
+pub parts_read : {F : Type 0} (g : List Lexeme → Reading F) (n : ℕ) → Reads Anything CallS (run g (read_parts n))
 unfolding read_parts
 parts_read {F = F} g n =
     next_reads g OpenS (λ o. Call_term) read_open (λ o. bind read_name with_args) (open_reads g) (λ o.
@@ -236,7 +238,7 @@ rule_reads {F = F} g n file at =
     then_reads g RuleNameS (Rule_prio file at) read_rule_name with_prio (rule_name_reads g) (λ name.
     then_reads g PrioS (Rule_call file at name) read_prio (with_call name) (prio_reads g) (λ prio.
     next_reads g CallS (Rule_rhs file at name prio) (read_parts n) (with_rhs name prio) (parts_read g n) (λ x.
-    next_reads g ExprS (λ rhs. Then CloseS (λ c. Nothing (the_rule file at name prio x rhs))) read_expr (ends name prio x) (expr_reads g) (λ rhs. close_then g (the_rule file at name prio x rhs))
+    next_reads g ExprS (λ rhs. Then CloseS (λ c. Nothing (the_rule file at name prio x rhs))) (read_expr n (most_open - 1)) (ends name prio x) (expr_reads g n (most_open - 1)) (λ rhs. close_then g (the_rule file at name prio x rhs))
     (λ rhs. close_ends (the_rule file at name prio x rhs)))
     (λ x. rhs_ends file at name prio x))
     (λ prio d ts rest s c. open_no_word prio_word ts s.2.1 s.2.0 s.2.2) (λ prio. call_ends file at name prio))
@@ -246,7 +248,7 @@ rule_reads {F = F} g n file at =
     ends name prio x rhs = bind read_close (λ c. Ret (the_rule file at name prio x rhs))
 
     with_rhs : Option (List ℕ) → ℤ → List ℕ × List Pattern → Reader F Def
-    with_rhs name prio x = bind read_expr (ends name prio x)
+    with_rhs name prio x = bind (read_expr n (most_open - 1)) (ends name prio x)
 
     with_call : Option (List ℕ) → ℤ → Reader F Def
     with_call name prio = bind (read_parts n) (with_rhs name prio)

@@ -9,10 +9,10 @@ use Rattle.isle_syntax.specs.Lexeme.{Lexeme, Open, Close, At, Less, Greater, Wor
 use Rattle.isle_syntax.specs.Reader.{Reading, Ret, run, is_close, on_word, bytes, place}
 use Rattle.isle_syntax.specs.Integer.{int_of, magnitude}
 use Rattle.isle_syntax.specs.Word.{WordKind, Number, Malformed, Truth, Dollar, Underscore, Plain, kind, names, IsName}
-use Rattle.isle_syntax.specs.Tree.{Pattern, Expr}
+use Rattle.isle_syntax.specs.Tree.{Pattern}
 use Rattle.isle_syntax.specs.Tree as tree
-use Rattle.isle_syntax.specs.Grammar.{NameS, symbol, PatternS, int, truth, wildcard, var, ExprS, number, fact, underscore, variable, RuleNameS, unnamed, named, PrioS, unwritten, written, PartialS, unflagged, flagged}
-use Rattle.isle_syntax.specs.Reading.{given, read_word, name_of, read_name, pattern_of, read_pattern, expr_of, read_expr, read_optional, read_rule_name, in_64_bits, prio_of, read_prio, partial_of, read_partial}
+use Rattle.isle_syntax.specs.Grammar.{NameS, symbol, PatternS, int, truth, wildcard, var, RuleNameS, unnamed, named, PrioS, unwritten, written, PartialS, unflagged, flagged}
+use Rattle.isle_syntax.specs.Reading.{given, read_word, name_of, read_name, pattern_of, read_pattern, read_optional, read_rule_name, in_64_bits, prio_of, read_prio, partial_of, read_partial}
 use Rattle.isle_syntax.proofs.Exact.{Begins, Reads, Heads, Nothing, Token_then, Either}
 use Rattle.isle_syntax.proofs.Combine.{mapped, nothing_then, ask_reads, peek_reads}
 
@@ -138,29 +138,6 @@ a_plain = refl
 pub pattern_reads : {F : Type 0} {C : List Lexeme → Type 0} (g : List Lexeme → Reading F) → Reads C PatternS (run g read_pattern)
 unfolding read_pattern
 pattern_reads g = mapped pattern_to pattern_from (λ ts d. d) (word_reads g (λ w. pattern_of w (kind w)) (codes "a", tree.Var (codes "a"), ap (pattern_of (codes "a")) a_plain))
-
--- ---- expressions
-
-expr_by : (k : WordKind) (at : ℕ) (w : List ℕ) (x : Expr) (rest : List Lexeme) → kind w ≡ k → expr_of w k ≡ Some x → ExprS x (Word at w ∷ rest) rest
-expr_by (Number n) at w x rest e h = subst (λ z. ExprS z (Word at w ∷ rest) rest) (let y : tree.Number n ≡ x = cc in y) (number at w n rest e)
-expr_by Malformed at w x rest e h = cc
-expr_by (Truth b) at w x rest e h = subst (λ z. ExprS z (Word at w ∷ rest) rest) (let y : tree.Fact b ≡ x = cc in y) (fact at w b rest e)
-expr_by (Dollar name) at w x rest e h = cc
-expr_by Underscore at w x rest e h = subst (λ z. ExprS z (Word at w ∷ rest) rest) (let y : tree.Name w ≡ x = cc in y) (underscore at w rest e)
-expr_by Plain at w x rest e h = subst (λ z. ExprS z (Word at w ∷ rest) rest) (let y : tree.Name w ≡ x = cc in y) (variable at w rest e)
-
-expr_to : (x : Expr) (ts rest : List Lexeme) → WordS (λ w. expr_of w (kind w)) x ts rest → ExprS x ts rest
-expr_to x ts rest (at, w, e, h) = subst (λ z. ExprS x z rest) (sym e) (expr_by (kind w) at w x rest refl h)
-
-expr_from : (x : Expr) (ts rest : List Lexeme) → ExprS x ts rest → WordS (λ w. expr_of w (kind w)) x ts rest
-expr_from _ _ _ (number at w n ts e) = (at, w, refl, ap (expr_of w) e)
-expr_from _ _ _ (fact at w b ts e) = (at, w, refl, ap (expr_of w) e)
-expr_from _ _ _ (underscore at w ts e) = (at, w, refl, ap (expr_of w) e)
-expr_from _ _ _ (variable at w ts e) = (at, w, refl, ap (expr_of w) e)
-
-pub expr_reads : {F : Type 0} {C : List Lexeme → Type 0} (g : List Lexeme → Reading F) → Reads C ExprS (run g read_expr)
-unfolding read_expr
-expr_reads g = mapped expr_to expr_from (λ ts d. d) (word_reads g (λ w. expr_of w (kind w)) (codes "a", tree.Name (codes "a"), ap (expr_of (codes "a")) a_plain))
 
 -- ---- the name of a rule
 

@@ -2,9 +2,9 @@
 use Rattle.std.specs.Prelude.{◌≡◌, ℕ, ℤ, pos, List, [], ◌∷◌, Bool, true, false, Option, Some, None, FitsSigned, codes}
 use Rattle.std.specs.Int.{w64}
 use Rattle.isle_syntax.specs.Lexeme.{Lexeme, Open, Close, Word}
-use Rattle.isle_syntax.specs.Word.{kind, IsName, is_flag}
+use Rattle.isle_syntax.specs.Word.{kind, IsName, is_flag, is_let}
 use Rattle.isle_syntax.specs.Word as word
-use Rattle.isle_syntax.specs.Tree.{Pattern, Expr, Def}
+use Rattle.isle_syntax.specs.Tree.{Pattern, Expr, Exprs, NoExpr, AnExpr, Def}
 use Rattle.isle_syntax.specs.Tree as tree
 
 -- things of a kind, and the parenthesis behind them
@@ -23,12 +23,20 @@ pub data PatternS : Pattern → List Lexeme → List Lexeme → Type 0 where
   wildcard : (at : ℕ) (w : List ℕ) (ts : List Lexeme) → kind w ≡ word.Underscore → PatternS tree.Wildcard (Word at w ∷ ts) ts
   var : (at : ℕ) (w : List ℕ) (ts : List Lexeme) → kind w ≡ word.Plain → PatternS (tree.Var w) (Word at w ∷ ts) ts
 
--- E; here _ is a variable's name
-pub data ExprS : Expr → List Lexeme → List Lexeme → Type 0 where
-  number : (at : ℕ) (w : List ℕ) (n : ℤ) (ts : List Lexeme) → kind w ≡ word.Number n → ExprS (tree.Number n) (Word at w ∷ ts) ts
-  fact : (at : ℕ) (w : List ℕ) (b : Bool) (ts : List Lexeme) → kind w ≡ word.Truth b → ExprS (tree.Fact b) (Word at w ∷ ts) ts
-  underscore : (at : ℕ) (w : List ℕ) (ts : List Lexeme) → kind w ≡ word.Underscore → ExprS (tree.Name w) (Word at w ∷ ts) ts
-  variable : (at : ℕ) (w : List ℕ) (ts : List Lexeme) → kind w ≡ word.Plain → ExprS (tree.Name w) (Word at w ∷ ts) ts
+mutual
+  -- E; here _ is a variable's name
+  pub data ExprS : Expr → List Lexeme → List Lexeme → Type 0 where
+    number : (at : ℕ) (w : List ℕ) (n : ℤ) (ts : List Lexeme) → kind w ≡ word.Number n → ExprS (tree.Number n) (Word at w ∷ ts) ts
+    fact : (at : ℕ) (w : List ℕ) (b : Bool) (ts : List Lexeme) → kind w ≡ word.Truth b → ExprS (tree.Fact b) (Word at w ∷ ts) ts
+    underscore : (at : ℕ) (w : List ℕ) (ts : List Lexeme) → kind w ≡ word.Underscore → ExprS (tree.Name w) (Word at w ∷ ts) ts
+    variable : (at : ℕ) (w : List ℕ) (ts : List Lexeme) → kind w ≡ word.Plain → ExprS (tree.Name w) (Word at w ∷ ts) ts
+    -- ( N E* ), in which N is not `let`
+    call : (at n : ℕ) (w : List ℕ) (args : Exprs) (ts rest : List Lexeme) → IsName w → is_let w ≡ false → ExprsS args ts rest → ExprS (tree.Call w args) (Open at ∷ Word n w ∷ ts) rest
+
+  -- E*, and the parenthesis behind them
+  pub data ExprsS : Exprs → List Lexeme → List Lexeme → Type 0 where
+    no_expr : (at : ℕ) (ts : List Lexeme) → ExprsS NoExpr (Close at ∷ ts) ts
+    an_expr : (e : Expr) (others : Exprs) (ts mid rest : List Lexeme) → ExprS e ts mid → ExprsS others mid rest → ExprsS (AnExpr e others) ts rest
 
 -- [name]
 pub data RuleNameS : Option (List ℕ) → List Lexeme → List Lexeme → Type 0 where

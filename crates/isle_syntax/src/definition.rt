@@ -4,6 +4,7 @@ ghost use Rattle.isle_syntax.specs.Reading.{no_call, next_word, decl_name_of, re
 ghost use Rattle.isle_syntax.specs.ReadingViews.{left, head_seen, Refuses};
 ghost use Rattle.isle_syntax.specs.Views.{def, defs, pattern};
 
+use crate::expression::{expression, most_inside};
 use crate::forms::{is_name, text_of};
 use crate::reading::{Fail, Tokens};
 use crate::tree::{AstPattern, Def};
@@ -218,7 +219,7 @@ impl<'t> Tokens<'t> {
         let name = self.rule_name(alloc)?;
         let prio = self.prio()?;
         let (term, args) = self.parts(alloc, most)?;
-        let rhs = self.expr(alloc)?;
+        let rhs = expression(self, alloc, most, most_inside())?;
         self.close()?;
         Ok(Def::Rule {
             name,

@@ -1,7 +1,7 @@
 //! What a text reads as, worked out by hand from the lexical rules and the grammar.
 
 use crate::{AstExpr, AstPattern, Def, Lexer, ParseFail, parse};
-use std::alloc::Global;
+use std::alloc::{AllocError, Global};
 use std::test::Fail;
 
 /// What came of a text: a number of definitions, the failure, or the place of a comment that never ends.
@@ -72,6 +72,11 @@ fn spells_definitions(rt: HostRuntime) {
         ("(rule (and) 1)", 1),
         ("(rule (let x) 1)", 1),
         ("(rule (f 1 true false _ x -2) E.V)", 1),
+        ("(rule (f) (g))", 1),
+        ("(rule (f x) (g 1 true false _ x -2))", 1),
+        ("(rule (f x) (g (g x) (h (g))))", 1),
+        ("(rule (f) (_ (true) (if) (and let)))", 1),
+        ("(rule (f)(g(;;)(h)1))(rule (f) ( ; a\n g ) )", 2),
         ("(rule (f x$ +1 .5) a-b)", 1),
         ("(rule 9223372036854775807 (f) 0)", 1),
         ("(rule -9223372036854775808 (f) 0)", 1),
@@ -147,8 +152,23 @@ fn is_not_built(rt: HostRuntime) {
         "(decl f () (u8))",
         "(decl f < > u8)",
         "(Decl f () u8)",
-        "(rule (f) (g))",
         "(rule (f) (if x) 1)",
+        "(rule (f) (let ((x u8 1)) x))",
+        "(rule (f) (let x))",
+        "(rule (f) (g (let () 1)))",
+        "(rule (f) ())",
+        "(rule (f) (1))",
+        "(rule (f) ($g))",
+        "(rule (f) ((g)))",
+        "(rule (f x) (g",
+        "(rule (f x) (g)",
+        "(rule (f x) (g (h))",
+        "(rule (f) (g)))",
+        "(rule (f) (g) 1)",
+        "(rule (f) (g $c))",
+        "(rule (f) (g 1f))",
+        "(rule (f) (g x @ 1))",
+        "(rule (f) (g < 1))",
         "(rule (f) $c)",
         "(rule (f $c) 1)",
         "(rule (f (g)) 1)",
@@ -321,7 +341,7 @@ fn letter(text: &str) -> u8 {
     }
 }
 
-fn kept(alloc: Global, text: &str) -> Option<Kept> {
+fn kept_of(alloc: Global, text: &str) -> Option<Kept> {
     let lexer = Lexer::new(0, text).ok()?;
     let defs = parse(alloc, lexer).ok()?;
     match defs.first()? {
@@ -343,6 +363,106 @@ fn keeps_flags_and_functions(rt: HostRuntime) {
         ("(extern constructor ab)", None),
     ];
     for (text, found) in cases {
-        assert_eq!(rt; kept(rt.alloc(), text), found, "at {text:?}");
+        assert_eq!(rt; kept_of(rt.alloc(), text), found, "at {text:?}");
     }
+}
+
+/// What stands somewhere in an expression: a call with the first letter of its name and its number of arguments, a
+/// variable with its first letter, an integer, or something else.
+#[derive(Clone, Copy, Debug, PartialEq, Eq)]
+enum Part {
+    Call(u8, usize),
+    Name(u8),
+    Number(i128),
+    Other,
+}
+
+/// The argument at the end of the path, which names a place among the arguments at each step.
+fn argument<'a>(expr: &'a AstExpr, path: &[usize]) -> Option<&'a AstExpr> {
+    let mut here = expr;
+    for place in path {
+        match here {
+            AstExpr::Term(_, args) => here = args.as_slice().get(*place)?,
+            _ => return None,
+        }
+    }
+    Some(here)
+}
+
+fn part_at(alloc: Global, text: &str, path: &[usize]) -> Option<Part> {
+    let lexer = Lexer::new(0, text).ok()?;
+    let defs = parse(alloc, lexer).ok()?;
+    match defs.first()? {
+        Def::Rule { rhs, .. } => match argument(rhs, path)? {
+            AstExpr::Term(name, args) => {
+                Some(Part::Call(letter(name.as_str()), args.as_slice().len()))
+            }
+            AstExpr::Var(name) => Some(Part::Name(letter(name.as_str()))),
+            AstExpr::Int(value) => Some(Part::Number(*value)),
+            _ => Some(Part::Other),
+        },
+        _ => None,
+    }
+}
+
+const CALLS: &str = "(rule (f x) (g (h 1 x) (g y (i) (g 2)) true))";
+
+#[test]
+fn keeps_calls(rt: HostRuntime) {
+    let cases: [(&[usize], Option<Part>); 11] = [
+        (&[], Some(Part::Call(b'g', 3))),
+        (&[0], Some(Part::Call(b'h', 2))),
+        (&[0, 0], Some(Part::Number(1))),
+        (&[0, 1], Some(Part::Name(b'x'))),
+        (&[0, 2], None),
+        (&[1], Some(Part::Call(b'g', 3))),
+        (&[1, 0], Some(Part::Name(b'y'))),
+        (&[1, 1], Some(Part::Call(b'i', 0))),
+        (&[1, 2, 0], Some(Part::Number(2))),
+        (&[2], Some(Part::Other)),
+        (&[3], None),
+    ];
+    for (path, found) in cases {
+        assert_eq!(rt; part_at(rt.alloc(), CALLS, path), found, "at {path:?}");
+    }
+}
+
+/// A text of one rule in which so many parentheses are open at once, two or more.
+fn nested(alloc: Global, open: usize) -> Result<String, AllocError> {
+    let mut text = String::from_str(alloc, "(rule (f) ")?;
+    for _ in 1..open {
+        text.push_str("(g ")?;
+    }
+    text.push_str("1")?;
+    for _ in 0..open {
+        text.push_str(")")?;
+    }
+    Ok(text)
+}
+
+/// A text of one rule that calls with so many calls, one behind the other.
+fn in_a_row(alloc: Global, calls: usize) -> Result<String, AllocError> {
+    let mut text = String::from_str(alloc, "(rule (f) (g ")?;
+    for _ in 0..calls {
+        text.push_str("(h)")?;
+    }
+    text.push_str("))")?;
+    Ok(text)
+}
+
+#[test]
+fn nests_no_deeper(rt: HostRuntime) -> Result<(), AllocError> {
+    let cases = [
+        (2, Reading::Defs(1)),
+        (256, Reading::Defs(1)),
+        (257, Reading::Fails(ParseFail::NotYet)),
+        (400, Reading::Fails(ParseFail::NotYet)),
+    ];
+    for (open, found) in cases {
+        let text = nested(rt.alloc(), open)?;
+        assert_eq!(rt; read(rt.alloc(), 7, text.as_str()), found, "at {open}");
+    }
+    let text = in_a_row(rt.alloc(), 400)?;
+    assert_eq!(rt; read(rt.alloc(), 7, text.as_str()), Reading::Defs(1));
+    Ok(())
 }
