@@ -1,18 +1,17 @@
 -- The readers of expressions read the grammar's forms.
-use Rattle.std.proofs.Common.{◌≡◌, ℕ, zero, suc, List, [], ◌∷◌, Bool, true, false, ◌⊎◌, inl, inr, refl, ap, sym, ◌∙◌, subst, Option, Some, None, ℤ}
+use Rattle.std.proofs.Common.{◌≡◌, ℕ, zero, suc, List, [], ◌∷◌, Bool, true, false, inl, inr, refl, ap, sym, ◌∙◌, subst, Option, Some, None}
 use Rattle.std.specs.Prelude.{if◌then◌else◌, codes}
 use Rattle.isle_syntax.specs.Lexeme.{Lexeme, Open, Close, Word}
 use Rattle.isle_syntax.specs.Reader.{Reading, Reader, Ret, Peek, Halt, run, bind, is_open, is_close, read_open, many}
-use Rattle.isle_syntax.specs.Word.{WordKind, Number, Malformed, Truth, Dollar, Underscore, Plain, kind, names, IsName, is_let}
+use Rattle.isle_syntax.specs.Word.{WordKind, Number, Malformed, Truth, Dollar, Underscore, Plain, kind, names, is_let}
 use Rattle.isle_syntax.specs.Tree.{Expr, Exprs, NoExpr, AnExpr}
 use Rattle.isle_syntax.specs.Tree as tree
 use Rattle.isle_syntax.specs.Views.{exprs_of}
 use Rattle.isle_syntax.specs.Grammar.{Many, none, more, ExprS, number, fact, underscore, variable, call, ExprsS, no_expr, an_expr}
 use Rattle.isle_syntax.specs.Reading.{name_of, expr_of, read_leaf, callee_of, read_callee, read_called, read_call, read_expr}
 use Rattle.isle_syntax.proofs.Exact.{Whole, Begins, Reads, Anything, Heads, Nothing, Then, Either}
-use Rattle.isle_syntax.proofs.Running.{stuck_not_deep, got_not_deep, deep_is}
 use Rattle.isle_syntax.proofs.Combine.{mapped, nothing_reads, next_reads, then_ends, peek_reads, halt_reads, OpenS, open_reads, many_reads}
-use Rattle.isle_syntax.proofs.WordForms.{WordS, word_reads, word_ends, Gives, a_named, a_plain, name_some, if_some}
+use Rattle.isle_syntax.proofs.WordForms.{WordS, word_reads, word_ends, Gives, a_plain, name_some}
 
 -- ---- a word
 

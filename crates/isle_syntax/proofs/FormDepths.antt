@@ -1,16 +1,16 @@
 -- No form that is built is too deep for its reader where its parentheses nest no deeper than they may.
-use Rattle.std.proofs.Common.{◌≡◌, ℕ, zero, suc, ◌+◌, ◌-◌, ◌≤◌, ◌<◌, List, [], ◌∷◌, length, Bool, true, false, refl, ap, sym, ◌∙◌, subst, arith, Option, Some, None, ℤ, pos}
+use Rattle.std.proofs.Common.{◌≡◌, ℕ, zero, suc, ◌+◌, ◌-◌, ◌≤◌, ◌<◌, List, [], ◌∷◌, length, Bool, false, refl, sym, subst, arith, Option, Some, None, ℤ, pos}
 use Rattle.std.specs.Prelude.{option_map, codes}
 use Rattle.isle_syntax.specs.Lexeme.{Lexeme, Open, Close, At, Less, Greater, Word}
 use Rattle.isle_syntax.specs.Depth.{most_open}
-use Rattle.isle_syntax.specs.Reader.{Reading, Got, Stuck, Deep, Reader, Ret, Peek, Halt, run, bind, is_open, read_open, read_close, many}
+use Rattle.isle_syntax.specs.Reader.{Reading, Got, Deep, Reader, Ret, Peek, Halt, run, bind, is_open, read_open, read_close, many}
 use Rattle.isle_syntax.specs.Word.{kind}
 use Rattle.isle_syntax.specs.Tree.{Pattern, Expr, Def}
 use Rattle.isle_syntax.specs.Tree as tree
 use Rattle.isle_syntax.specs.Views.{exprs_of}
-use Rattle.isle_syntax.specs.Grammar.{Many, NameS, symbol, PatternS, int, truth, wildcard, var, ExprS, RuleNameS, unnamed, named, PrioS, unwritten, written, PartialS, unflagged, flagged}
-use Rattle.isle_syntax.specs.Reading.{read_word, name_of, read_name, pattern_of, read_pattern, read_leaf, callee_of, read_callee, read_called, read_call, read_expr, read_optional, read_rule_name, prio_of, read_prio, decl_name_of, read_decl_name, partial_of, read_partial, read_declared, read_decl, constructor_of, read_constructor, read_extern, read_parts, read_rule, Head, DeclHead, RuleHead, ExternHead, head_of, read_head, read_behind, read_def}
-use Rattle.isle_syntax.proofs.Exact.{Reads, Anything, Nothing, Then}
+use Rattle.isle_syntax.specs.Grammar.{NameS, symbol, PatternS, int, truth, wildcard, var, ExprS, RuleNameS, unnamed, named, PrioS, unwritten, written, PartialS, unflagged, flagged}
+use Rattle.isle_syntax.specs.Reading.{read_word, name_of, read_name, pattern_of, read_pattern, read_leaf, callee_of, read_callee, read_called, read_call, read_expr, read_rule_name, prio_of, read_prio, decl_name_of, read_decl_name, partial_of, read_partial, read_declared, read_decl, constructor_of, read_constructor, read_extern, read_parts, read_rule, Head, DeclHead, RuleHead, ExternHead, head_of, read_head, read_behind, read_def}
+use Rattle.isle_syntax.proofs.Exact.{Anything, Nothing, Then}
 use Rattle.isle_syntax.proofs.Running.{Shrinks, stuck_not_got, stuck_not_deep, got_not_deep}
 use Rattle.isle_syntax.proofs.Combine.{OpenS, CloseS, open_reads, close_then}
 use Rattle.isle_syntax.proofs.Never.{word_never, optional_never, open_never, close_never}

@@ -1,11 +1,10 @@
-use Rattle.std.proofs.Common.{◌≡◌, ◌∙◌, ◌∷◌, [], ◌++◌, ◌-◌, ◌+◌, map, rules, sym, ap, Some, None}
-use Rattle.std.proofs.lemmas.List.{map-append}
+use Rattle.std.proofs.Common.{◌≡◌, ◌∙◌, ◌-◌, ◌+◌, map, rules, sym, ap, Some, None}
 use Rattle.isle_syntax.specs.Reader.{run, many}
 use Rattle.isle_syntax.specs.Reading.{no_call, read_expr}
 use Rattle.isle_syntax.specs.ReadingViews.{left, closes}
 use Rattle.isle_syntax.specs.Views.{expr}
 use Rattle.isle_syntax.proofs.ExpressionSteps.{expr_none}
-use Rattle.isle_syntax.proofs.ListSteps.{in_front, list-more, list-end, list-refuses, list-full, passed}
+use Rattle.isle_syntax.proofs.ListSteps.{list-more, list-pushed, list-end, list-refuses, list-full, passed}
 use Rattle.isle_syntax.proofs.expression.+expressions.Goals as goal
 
 pub arguments-returns-in-Some-clause-got : goal.arguments-returns-in-Some-clause-got
@@ -29,9 +28,8 @@ arguments-loop-preserved t c =
     let r = read_expr c.args.most c.args.depth in
     let now = list-more r c.args.most c.loop.counter (left c.loop.tokens) (left c.expression.new.tokens) (map expr c.loop.args.items) (expr c.in_ok-expression-in-None.field-0) (run no_call (many c.args.most r) (left c.args.tokens.now))
     c.loop-test.true (expr_none c.args.most c.args.depth) e c.in_ok-expression-in-None.ensures.got c.loop.invariant in
-    let pushed : map expr c.push.new.self.items ≡ map expr c.loop.args.items ++ expr c.in_ok-expression-in-None.field-0 ∷ [] =
-    ap (map expr) c.in_ok-push-in-None.ensures.items ∙ map-append expr c.loop.args.items (c.in_ok-expression-in-None.field-0 ∷ []) in
-    ap (λ xs. in_front xs (run no_call (many (c.args.most - (c.loop.counter + 1)) r) (left c.expression.new.tokens))) {y = map expr c.loop.args.items ++ expr c.in_ok-expression-in-None.field-0 ∷ []} pushed ∙ now
+    list-pushed expr c.loop.args.items c.push.new.self.items c.in_ok-expression-in-None.field-0 (run no_call (many (c.args.most - (c.loop.counter + 1)) r) (left c.expression.new.tokens))
+    (run no_call (many c.args.most r) (left c.args.tokens.now)) c.in_ok-push-in-None.ensures.items now
 
 pub arguments-returns-clause-refused : goal.arguments-returns-clause-refused
 arguments-returns-clause-refused t c =

@@ -1,4 +1,4 @@
-use Rattle.std.proofs.Common.{◌≡◌, ℕ, ◌+◌, ◌*◌, ◌-◌, map}
+use Rattle.std.proofs.Common.{◌≡◌, ◌+◌, ◌*◌, ◌-◌, map}
 use Rattle.isle_syntax.specs.Reader.{run, many}
 use Rattle.isle_syntax.specs.Reading.{no_call, read_expr}
 use Rattle.isle_syntax.specs.ReadingViews.{left}
