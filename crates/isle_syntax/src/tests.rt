@@ -407,23 +407,24 @@ fn part_at(alloc: Global, text: &str, path: &[usize]) -> Option<Part> {
 
 const CALLS: &str = "(rule (f x) (g (h 1 x) (g y (i) (g 2)) true))";
 
+const PARTS: [(&'static [usize], Option<Part>); 11] = [
+    (&[], Some(Part::Call(b'g', 3))),
+    (&[0], Some(Part::Call(b'h', 2))),
+    (&[0, 0], Some(Part::Number(1))),
+    (&[0, 1], Some(Part::Name(b'x'))),
+    (&[0, 2], None),
+    (&[1], Some(Part::Call(b'g', 3))),
+    (&[1, 0], Some(Part::Name(b'y'))),
+    (&[1, 1], Some(Part::Call(b'i', 0))),
+    (&[1, 2, 0], Some(Part::Number(2))),
+    (&[2], Some(Part::Other)),
+    (&[3], None),
+];
+
 #[test]
 fn keeps_calls(rt: HostRuntime) {
-    let cases: [(&[usize], Option<Part>); 11] = [
-        (&[], Some(Part::Call(b'g', 3))),
-        (&[0], Some(Part::Call(b'h', 2))),
-        (&[0, 0], Some(Part::Number(1))),
-        (&[0, 1], Some(Part::Name(b'x'))),
-        (&[0, 2], None),
-        (&[1], Some(Part::Call(b'g', 3))),
-        (&[1, 0], Some(Part::Name(b'y'))),
-        (&[1, 1], Some(Part::Call(b'i', 0))),
-        (&[1, 2, 0], Some(Part::Number(2))),
-        (&[2], Some(Part::Other)),
-        (&[3], None),
-    ];
-    for (path, found) in cases {
-        assert_eq!(rt; part_at(rt.alloc(), CALLS, path), found, "at {path:?}");
+    for (place, (path, found)) in PARTS.into_iter().enumerate() {
+        assert_eq!(rt; part_at(rt.alloc(), CALLS, path), found, "at {place}");
     }
 }
 
