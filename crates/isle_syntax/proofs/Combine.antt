@@ -1,7 +1,7 @@
 -- The laws of a reader that is made of readers.
 use Rattle.std.proofs.Common.{◌≡◌, ℕ, zero, suc, List, [], ◌∷◌, ◌++◌, Bool, true, false, IsTrue, ◌⊎◌, inl, inr, cond, refl, ap, sym, ◌∙◌, subst, append_assoc}
 use Rattle.isle_syntax.specs.Lexeme.{Lexeme, Open, Close, At, Less, Greater, Word}
-use Rattle.isle_syntax.specs.Reader.{Reading, Got, Stuck, Deep, Reader, Ret, Ask, Peek, after, run, bind, is_open, is_close, place, read_open, read_close, many}
+use Rattle.isle_syntax.specs.Reader.{Reading, Got, Stuck, Deep, Reader, Ret, Ask, Peek, Halt, after, run, bind, is_open, is_close, place, read_open, read_close, many}
 use Rattle.isle_syntax.specs.Grammar.{Many, none, more}
 use Rattle.isle_syntax.proofs.Exact.{Whole, Begins, Taken, Begun, Hits, hit, too_deep, Reads, Anything, Heads, Nothing, Token_then, Then, Either}
 use Rattle.isle_syntax.proofs.Running.{run-bind, stuck_not_got, stuck_not_deep, got_not_deep, stuck_is, deep_is}
@@ -40,6 +40,16 @@ nothing_reads {A = A} g a = record {
 -- whatever may follow
 pub nothing_then : {F A : Type 0} {C : List Lexeme → Type 0} (g : List Lexeme → Reading F) (a : A) → Reads C (Nothing a) (run g (Ret a))
 nothing_then g a = mapped (λ q ts rest s. s) (λ q ts rest s. s) (λ ts d. tt) (nothing_reads g a)
+
+-- ---- nothing that is read here
+
+pub halt_reads : {F A : Type 0} {C : List Lexeme → Type 0} (g : List Lexeme → Reading F) (S : A → List Lexeme → List Lexeme → Type 0) → Begins S [] → Reads C S (run g Halt)
+halt_reads g S b = record {
+  sound = λ ts rest a e. absurd (got_not_deep _ rest ts a e refl);
+  complete = λ ts rest a s c. too_deep ts refl;
+  closes = λ ts rest e. absurd (stuck_not_deep _ rest ts e refl);
+  deepens = λ ts rest e. ([], deep_is ts rest _ refl e, b);
+}
 
 -- ---- a token, and what hangs on it
 

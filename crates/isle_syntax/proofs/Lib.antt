@@ -3,9 +3,12 @@ pub mod SpeltOnce
 pub mod Exact
 pub mod Running
 pub mod Combine
-pub mod Fuel
 pub mod WordForms
+pub mod Expressions
+pub mod Never
+pub mod Depths
 pub mod Definitions
+pub mod FormDepths
 pub mod Files
 pub mod Boundaries
 pub mod Digits
@@ -13,6 +16,7 @@ pub mod Wrapped
 pub mod Steps
 pub mod Sees
 pub mod ListSteps
+pub mod ExpressionSteps
 pub mod DefinitionSteps
 pub mod FileSteps
 pub mod Within

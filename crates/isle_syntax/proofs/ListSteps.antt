@@ -1,5 +1,6 @@
 -- The steps of a loop that reads a list.
-use Rattle.std.proofs.Common.{◌≡◌, ℕ, zero, suc, ◌+◌, ◌-◌, ◌<◌, ◌≤◌, List, [], ◌∷◌, ◌++◌, length, drop, append-nil, append_assoc, refl, ap, sym, ◌∙◌, subst, arith, Some, None}
+use Rattle.std.proofs.Common.{◌≡◌, ℕ, zero, suc, ◌+◌, ◌-◌, ◌<◌, ◌≤◌, List, [], ◌∷◌, ◌++◌, length, drop, map, append-nil, append_assoc, refl, ap, sym, ◌∙◌, subst, arith, Some, None}
+use Rattle.std.proofs.lemmas.List.{map-append}
 use Rattle.isle_syntax.specs.Lexeme.{Lexeme, Open, Close, At, Less, Greater, Word}
 use Rattle.isle_syntax.specs.Reader.{Reading, Got, Stuck, Deep, Reader, Ret, after, run, bind, read_close, many}
 use Rattle.isle_syntax.specs.Reading.{no_call}
@@ -77,6 +78,10 @@ list-more r m i ts us xs a whole l none e f h =
     let k : m - i ≡ suc (m - (i + 1)) = omega arith in
     sym (in_front-more xs a (run no_call (many (m - (i + 1)) r) us)) ∙ ap (λ o. in_front xs (after o (λ a us. with_others a (run no_call (many (m - (i + 1)) r) us)))) (sym f)
     ∙ ap (in_front xs) (sym (next-by r (m - (i + 1)) ts none e)) ∙ ap (λ n. in_front xs (run no_call (many n r) ts)) (sym k) ∙ h
+
+-- the same of what is seen of values
+pub list-pushed : {A B : Type 0} (f : B → A) (xs ys : List B) (x : B) (o whole : Reading (List A)) → ys ≡ xs ++ x ∷ [] → in_front (map f xs ++ f x ∷ []) o ≡ whole → in_front (map f ys) o ≡ whole
+list-pushed f xs ys x o whole e h = ap (λ zs. in_front (map f zs) o) e ∙ ap (λ zs. in_front zs o) (map-append f xs (x ∷ [])) ∙ h
 
 -- the end of the list
 pub list-end : {A : Type 0} (r : Reader ⊥ A) (m i at : ℕ) (ts us : List Lexeme) (xs : List A) (whole : Reading (List A)) → i < m → Some at ≡ closes ts → us ≡ drop 1 ts

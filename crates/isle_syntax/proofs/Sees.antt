@@ -1,12 +1,13 @@
 -- What contracts see of the code's patterns and expressions, form by form.
-use Rattle.std.proofs.Common.{◌≡◌, ℕ, ℤ, List, Bool, ap, sym, ◌∙◌}
+use Rattle.std.proofs.Common.{◌≡◌, ℕ, ℤ, List, map, Bool, ap, sym, ◌∙◌}
 use Rattle.isle_syntax.specs.declared.tree.AstPattern.TheVariants as code_pattern
 use Rattle.isle_syntax.specs.declared.tree.AstPattern.TheFolds.{fold-roll-AstPattern}
+use Rattle.isle_syntax.specs.declared.tree.AstExpr.{AstExpr}
 use Rattle.isle_syntax.specs.declared.tree.AstExpr.TheVariants as code_expr
 use Rattle.isle_syntax.specs.declared.tree.AstExpr.TheFolds.{fold-roll-AstExpr}
 use Rattle.isle_syntax.specs.Tree.{Pattern, Expr}
 use Rattle.isle_syntax.specs.Tree as tree
-use Rattle.isle_syntax.specs.Views.{Bound, pattern, pattern_step, expr, expr_step, bound_step}
+use Rattle.isle_syntax.specs.Views.{Bound, pattern, pattern_step, exprs_of, expr, expr_step, bound_step}
 
 pub pattern-int : (n : ℤ) → pattern (code_pattern.Int n) ≡ tree.Int n
 pattern-int n = ap pattern (sym (code_pattern.rolls-Int n)) ∙ fold-roll-AstPattern Pattern pattern_step _
@@ -29,4 +30,7 @@ expr-bool b = ap expr (sym (code_expr.rolls-Bool b)) ∙ fold-roll-AstExpr Expr 
 pub expr-var : (name : List ℕ) → expr (code_expr.Var name) ≡ tree.Name name
 expr-var name = ap expr (sym (code_expr.rolls-Var name)) ∙ fold-roll-AstExpr Expr Bound expr_step bound_step _
 
-pub ruleset sees = (pattern-int, pattern-bool, pattern-wildcard, pattern-var, expr-int, expr-bool, expr-var)
+pub expr-term : (name : List ℕ) (args : List AstExpr) → expr (code_expr.Term name args) ≡ tree.Call name (exprs_of (map expr args))
+expr-term name args = ap expr (sym (code_expr.rolls-Term name args)) ∙ fold-roll-AstExpr Expr Bound expr_step bound_step _
+
+pub ruleset sees = (pattern-int, pattern-bool, pattern-wildcard, pattern-var, expr-int, expr-bool, expr-var, expr-term)

@@ -1,9 +1,9 @@
 -- One step of a reader, by what comes next.
-use Rattle.std.proofs.Common.{◌≡◌, ℕ, zero, suc, ◌<◌, List, [], ◌∷◌, length, drop, cond, refl, ap, sym, ◌∙◌, arith, Option, Some, None, ℤ, pos}
+use Rattle.std.proofs.Common.{◌≡◌, ℕ, zero, suc, ◌<◌, List, [], ◌∷◌, length, drop, cond, refl, ap, sym, ◌∙◌, arith, Bool, false, Option, Some, None, ℤ, pos}
 use Rattle.std.specs.Prelude.{is_some, option_map, slice_get}
 use Rattle.isle_syntax.specs.Lexeme.{Lexeme, Open, Close, At, Less, Greater, Word}
 use Rattle.isle_syntax.specs.Reader.{Got, Stuck, run, read_open, read_close}
-use Rattle.isle_syntax.specs.Reading.{given, read_word, next_word, name_of, read_name, pattern_of, read_pattern, expr_of, read_expr, read_optional, read_rule_name, prio_of, read_prio, decl_name_of, read_decl_name, Head, head_of, read_head, no_call}
+use Rattle.isle_syntax.specs.Reading.{given, read_word, next_word, name_of, read_name, pattern_of, read_pattern, expr_of, read_leaf, callee_of, read_callee, read_optional, read_rule_name, prio_of, read_prio, decl_name_of, read_decl_name, partial_of, read_partial, constructor_of, read_constructor, Head, head_of, read_head, no_call}
 use Rattle.isle_syntax.specs.Word.{kind}
 use Rattle.isle_syntax.specs.Tree.{Pattern, Expr}
 use Rattle.isle_syntax.specs.ReadingViews.{opens, closes, stops}
@@ -118,6 +118,22 @@ pub decl_name_stops : (ts : List Lexeme) → next_word decl_name_of ts ≡ None 
 unfolding read_decl_name
 decl_name_stops ts e = word_stops decl_name_of ts e
 
+pub callee_got : (ts us : List Lexeme) (w : List ℕ) → next_word callee_of ts ≡ Some w → us ≡ drop 1 ts → run no_call read_callee ts ≡ Got w us
+unfolding read_callee
+callee_got ts us w e h = word_got callee_of ts us w e h
+
+pub callee_stops : (ts : List Lexeme) → next_word callee_of ts ≡ None → stops (run no_call read_callee ts) ≡ Some (length ts)
+unfolding read_callee
+callee_stops ts e = word_stops callee_of ts e
+
+pub constructor_got : (ts us : List Lexeme) (w : List ℕ) → next_word constructor_of ts ≡ Some w → us ≡ drop 1 ts → run no_call read_constructor ts ≡ Got w us
+unfolding read_constructor
+constructor_got ts us w e h = word_got constructor_of ts us w e h
+
+pub constructor_stops : (ts : List Lexeme) → next_word constructor_of ts ≡ None → stops (run no_call read_constructor ts) ≡ Some (length ts)
+unfolding read_constructor
+constructor_stops ts e = word_stops constructor_of ts e
+
 pub head_got : (ts us : List Lexeme) (h : Head) → next_word head_of ts ≡ Some h → us ≡ drop 1 ts → run no_call read_head ts ≡ Got h us
 unfolding read_head
 head_got ts us h e f = word_got head_of ts us h e f
@@ -134,13 +150,13 @@ pub pattern_stops : (ts : List Lexeme) → next_word (λ w. pattern_of w (kind w
 unfolding read_pattern
 pattern_stops ts e = word_stops (λ w. pattern_of w (kind w)) ts e
 
-pub expr_got : (ts us : List Lexeme) (x : Expr) → next_word (λ w. expr_of w (kind w)) ts ≡ Some x → us ≡ drop 1 ts → run no_call read_expr ts ≡ Got x us
-unfolding read_expr
-expr_got ts us x e h = word_got (λ w. expr_of w (kind w)) ts us x e h
+pub leaf_got : (ts us : List Lexeme) (x : Expr) → next_word (λ w. expr_of w (kind w)) ts ≡ Some x → us ≡ drop 1 ts → run no_call read_leaf ts ≡ Got x us
+unfolding read_leaf
+leaf_got ts us x e h = word_got (λ w. expr_of w (kind w)) ts us x e h
 
-pub expr_stops : (ts : List Lexeme) → next_word (λ w. expr_of w (kind w)) ts ≡ None → stops (run no_call read_expr ts) ≡ Some (length ts)
-unfolding read_expr
-expr_stops ts e = word_stops (λ w. expr_of w (kind w)) ts e
+pub leaf_stops : (ts : List Lexeme) → next_word (λ w. expr_of w (kind w)) ts ≡ None → stops (run no_call read_leaf ts) ≡ Some (length ts)
+unfolding read_leaf
+leaf_stops ts e = word_stops (λ w. expr_of w (kind w)) ts e
 
 -- at the end of the text
 pub name_none : run {F = ⊥} no_call read_name [] ≡ Stuck []
@@ -223,6 +239,18 @@ pub prio_stops : (ts : List Lexeme) → length ts ≡ 0 → stops (run no_call r
 unfolding read_prio
 prio_stops ts e = optional_stops (λ w. prio_of (kind w)) (pos 0) ts e
 
+pub partial_got : (ts us : List Lexeme) (b : Bool) → next_word partial_of ts ≡ Some b → us ≡ drop 1 ts → run no_call read_partial ts ≡ Got b us
+unfolding read_partial
+partial_got ts us b e h = optional_got partial_of false b ts us e h
+
+pub partial_none : (ts : List Lexeme) → next_word partial_of ts ≡ None → 0 < length ts → run no_call read_partial ts ≡ Got false ts
+unfolding read_partial
+partial_none ts e l = optional_other partial_of false ts e l
+
+pub partial_stops : (ts : List Lexeme) → length ts ≡ 0 → stops (run no_call read_partial ts) ≡ Some (length ts)
+unfolding read_partial
+partial_stops ts e = optional_stops partial_of false ts e
+
 pub ruleset steps = (
   open_got,
   open_stops,
@@ -232,16 +260,23 @@ pub ruleset steps = (
   name_stops,
   decl_name_got,
   decl_name_stops,
+  constructor_got,
+  constructor_stops,
   head_got,
   head_stops,
   pattern_got,
   pattern_stops,
-  expr_got,
-  expr_stops,
+  leaf_got,
+  leaf_stops,
+  callee_got,
+  callee_stops,
   rule_name_got,
   rule_name_none,
   rule_name_stops,
   prio_got,
   prio_none,
   prio_stops,
+  partial_got,
+  partial_none,
+  partial_stops,
 )

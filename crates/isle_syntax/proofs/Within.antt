@@ -5,7 +5,7 @@ use Rattle.std.specs.List.{AllByRecursion}
 use Rattle.isle_syntax.specs.Token.{Tok, State, Between, InWord, AfterOpen, AfterSingle, InLine, InComment, Seen, Other, OpenSeen, SemicolonSeen, Scan, is_blank, is_single, is_word_byte, begun, closed, in_comment, ends, ended, next, pending, step, scan, tokens_of}
 use Rattle.isle_syntax.specs.Lexeme.{Lexeme, Open, Close, At, Less, Greater, Word, lexeme, lexemes}
 use Rattle.isle_syntax.specs.Tree.{Def}
-use Rattle.isle_syntax.specs.Grammar.{Many, none, more, NameS, symbol, PatternS, int, truth, wildcard, var, ExprS, number, fact, underscore, variable, RuleNameS, unnamed, named, PrioS, unwritten, written, DefS, decl, rule, FileS, no_def, a_def}
+use Rattle.isle_syntax.specs.Grammar.{Many, none, more, NameS, symbol, PatternS, int, truth, wildcard, var, ExprS, number, fact, underscore, variable, call, ExprsS, no_expr, an_expr, RuleNameS, unnamed, named, PrioS, unwritten, written, PartialS, unflagged, flagged, DefS, decl, extern, rule, FileS, no_def, a_def}
 use Rattle.isle_syntax.specs.Positions.{place_of, IsWithin, AreWithin}
 use Rattle.isle_syntax.specs.Spelling.{Spells}
 use Rattle.isle_syntax.proofs.Scans.{scan-at}
@@ -160,11 +160,17 @@ pattern_keeps n (truth at w b us k) h = h.1
 pattern_keeps n (wildcard at w us k) h = h.1
 pattern_keeps n (var at w us k) h = h.1
 
-expr_keeps : {e : _} {ts rest : List Lexeme} (n : ℕ) → ExprS e ts rest → Within n ts → Within n rest
-expr_keeps n (number at w m us k) h = h.1
-expr_keeps n (fact at w b us k) h = h.1
-expr_keeps n (underscore at w us k) h = h.1
-expr_keeps n (variable at w us k) h = h.1
+mutual
+  expr_keeps : {e : _} {ts rest : List Lexeme} (n : ℕ) → ExprS e ts rest → Within n ts → Within n rest
+  expr_keeps n (number at w m us k) h = h.1
+  expr_keeps n (fact at w b us k) h = h.1
+  expr_keeps n (underscore at w us k) h = h.1
+  expr_keeps n (variable at w us k) h = h.1
+  expr_keeps n (call at m w args us rest k l s) h = exprs_keep n s h.1.1
+
+  exprs_keep : {es : _} {ts rest : List Lexeme} (n : ℕ) → ExprsS es ts rest → Within n ts → Within n rest
+  exprs_keep n (no_expr at us) h = h.1
+  exprs_keep n (an_expr e others us mid rest s m) h = exprs_keep n m (expr_keeps n s h)
 
 rule_name_keeps : {o : _} {ts rest : List Lexeme} (n : ℕ) → RuleNameS o ts rest → Within n ts → Within n rest
 rule_name_keeps n (unnamed us) h = h
@@ -174,10 +180,17 @@ prio_keeps : {z : _} {ts rest : List Lexeme} (n : ℕ) → PrioS z ts rest → W
 prio_keeps n (unwritten us) h = h
 prio_keeps n (written at w m us k f) h = h.1
 
+partial_keeps : {b : _} {ts rest : List Lexeme} (n : ℕ) → PartialS b ts rest → Within n ts → Within n rest
+partial_keeps n (unflagged us) h = h
+partial_keeps n (flagged at w us k) h = h.1
+
 -- a definition's parenthesis is the first of its tokens
 def_keeps : {file : ℕ} {d : Def} {ts rest : List Lexeme} (text : List ℕ) → DefS file d ts rest → Within (length text) ts → IsWithin file text (place_of d) × Within (length text) rest
-def_keeps text (decl at h n o c head term ret args ts mid rest a b e f g) w =
-    (record { named = refl; before = w.0 }, (name_keeps (length text) ret mid _ g (many_keeps (length text) (name_keeps (length text)) f w.1.1.1.1)).1)
+def_keeps text (decl at h n o c head term ret partial args ts us mid rest a s b e f g) w =
+    let behind = partial_keeps (length text) s w.1.1 in
+    (record { named = refl; before = w.0 }, (name_keeps (length text) ret mid _ g (many_keeps (length text) (name_keeps (length text)) f behind.1.1)).1)
+def_keeps text (extern at h k c head second term func ts mid rest a b s t) w =
+    (record { named = refl; before = w.0 }, (name_keeps (length text) func mid _ t (name_keeps (length text) term ts mid s w.1.1.1)).1)
 def_keeps text (rule at h o n c head term name prio args rhs ts us vs mid rest a b e f g k) w =
     let behind = prio_keeps (length text) e (rule_name_keeps (length text) b w.1.1) in
     (record { named = refl; before = w.0 }, (expr_keeps (length text) k (many_keeps (length text) (λ p us rest s. pattern_keeps (length text) s) g behind.1.1)).1)

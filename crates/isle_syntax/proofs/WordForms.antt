@@ -1,17 +1,18 @@
 -- The readers of words read the grammar's forms.
 use Rattle.std.proofs.Common.{◌≡◌, ℕ, ◌<◌, ◌^◌, List, [], ◌∷◌, Bool, true, false, IsTrue, inl, inr, refl, ap, sym, ◌∙◌, subst, arith, Option, Some, None, ℤ, pos, negsuc}
-use Rattle.std.specs.Prelude.{is_some, option_map, if◌then◌else◌, codes, FitsSigned}
+use Rattle.std.specs.Prelude.{is_some, option_map, if◌then◌else◌, bytes_eq, codes, FitsSigned}
 use Rattle.std.specs.Int.{w64}
 use Rattle.std.proofs.lemmas.Bool.Decides.{nat_tests}
+use Rattle.std.proofs.lemmas.Slice.Eq.{bytes_eq-Decides}
 use Rattle.isle_core.specs.Int.{wrapped}
 use Rattle.isle_syntax.specs.Lexeme.{Lexeme, Open, Close, At, Less, Greater, Word}
 use Rattle.isle_syntax.specs.Reader.{Reading, Ret, run, is_close, on_word, bytes, place}
 use Rattle.isle_syntax.specs.Integer.{int_of, magnitude}
 use Rattle.isle_syntax.specs.Word.{WordKind, Number, Malformed, Truth, Dollar, Underscore, Plain, kind, names, IsName}
-use Rattle.isle_syntax.specs.Tree.{Pattern, Expr}
+use Rattle.isle_syntax.specs.Tree.{Pattern}
 use Rattle.isle_syntax.specs.Tree as tree
-use Rattle.isle_syntax.specs.Grammar.{NameS, symbol, PatternS, int, truth, wildcard, var, ExprS, number, fact, underscore, variable, RuleNameS, unnamed, named, PrioS, unwritten, written}
-use Rattle.isle_syntax.specs.Reading.{given, read_word, name_of, read_name, pattern_of, read_pattern, expr_of, read_expr, read_optional, read_rule_name, in_64_bits, prio_of, read_prio}
+use Rattle.isle_syntax.specs.Grammar.{NameS, symbol, PatternS, int, truth, wildcard, var, RuleNameS, unnamed, named, PrioS, unwritten, written, PartialS, unflagged, flagged}
+use Rattle.isle_syntax.specs.Reading.{given, read_word, name_of, read_name, pattern_of, read_pattern, read_optional, read_rule_name, in_64_bits, prio_of, read_prio, partial_of, read_partial}
 use Rattle.isle_syntax.proofs.Exact.{Begins, Reads, Heads, Nothing, Token_then, Either}
 use Rattle.isle_syntax.proofs.Combine.{mapped, nothing_then, ask_reads, peek_reads}
 
@@ -77,7 +78,7 @@ unfolding kind
 a_named = refl
 
 -- what a test lets through
-if_some : {A : Type 0} (b : Bool) (a c : A) → (if b then Some a else None) ≡ Some c → (b ≡ true) × (c ≡ a)
+pub if_some : {A : Type 0} (b : Bool) (a c : A) → (if b then Some a else None) ≡ Some c → (b ≡ true) × (c ≡ a)
 if_some true a c e = (refl, let x : c ≡ a = cc in x)
 if_some false a c e = cc
 
@@ -137,29 +138,6 @@ a_plain = refl
 pub pattern_reads : {F : Type 0} {C : List Lexeme → Type 0} (g : List Lexeme → Reading F) → Reads C PatternS (run g read_pattern)
 unfolding read_pattern
 pattern_reads g = mapped pattern_to pattern_from (λ ts d. d) (word_reads g (λ w. pattern_of w (kind w)) (codes "a", tree.Var (codes "a"), ap (pattern_of (codes "a")) a_plain))
-
--- ---- expressions
-
-expr_by : (k : WordKind) (at : ℕ) (w : List ℕ) (x : Expr) (rest : List Lexeme) → kind w ≡ k → expr_of w k ≡ Some x → ExprS x (Word at w ∷ rest) rest
-expr_by (Number n) at w x rest e h = subst (λ z. ExprS z (Word at w ∷ rest) rest) (let y : tree.Number n ≡ x = cc in y) (number at w n rest e)
-expr_by Malformed at w x rest e h = cc
-expr_by (Truth b) at w x rest e h = subst (λ z. ExprS z (Word at w ∷ rest) rest) (let y : tree.Fact b ≡ x = cc in y) (fact at w b rest e)
-expr_by (Dollar name) at w x rest e h = cc
-expr_by Underscore at w x rest e h = subst (λ z. ExprS z (Word at w ∷ rest) rest) (let y : tree.Name w ≡ x = cc in y) (underscore at w rest e)
-expr_by Plain at w x rest e h = subst (λ z. ExprS z (Word at w ∷ rest) rest) (let y : tree.Name w ≡ x = cc in y) (variable at w rest e)
-
-expr_to : (x : Expr) (ts rest : List Lexeme) → WordS (λ w. expr_of w (kind w)) x ts rest → ExprS x ts rest
-expr_to x ts rest (at, w, e, h) = subst (λ z. ExprS x z rest) (sym e) (expr_by (kind w) at w x rest refl h)
-
-expr_from : (x : Expr) (ts rest : List Lexeme) → ExprS x ts rest → WordS (λ w. expr_of w (kind w)) x ts rest
-expr_from _ _ _ (number at w n ts e) = (at, w, refl, ap (expr_of w) e)
-expr_from _ _ _ (fact at w b ts e) = (at, w, refl, ap (expr_of w) e)
-expr_from _ _ _ (underscore at w ts e) = (at, w, refl, ap (expr_of w) e)
-expr_from _ _ _ (variable at w ts e) = (at, w, refl, ap (expr_of w) e)
-
-pub expr_reads : {F : Type 0} {C : List Lexeme → Type 0} (g : List Lexeme → Reading F) → Reads C ExprS (run g read_expr)
-unfolding read_expr
-expr_reads g = mapped expr_to expr_from (λ ts d. d) (word_reads g (λ w. expr_of w (kind w)) (codes "a", tree.Name (codes "a"), ap (expr_of (codes "a")) a_plain))
 
 -- ---- the name of a rule
 
@@ -231,3 +209,23 @@ a_number = refl
 pub prio_reads : {F : Type 0} (g : List Lexeme → Reading F) → Reads NoPrio PrioS (run g read_prio)
 unfolding read_prio
 prio_reads g = mapped prio_to prio_from (λ ts d. d) (optional_reads g prio_word (pos 0) (codes "1", pos 1, ap prio_of a_number))
+
+-- ---- the flag `partial`
+
+-- what may follow it
+abbrev pub NoPartial : List Lexeme → Type 0
+NoPartial = NoWord partial_of
+
+partial_to : (b : Bool) (ts rest : List Lexeme) → Either (WordS partial_of) (Nothing false) b ts rest → PartialS b ts rest
+partial_to b ts rest (inl (at, w, e, h)) =
+    let x = if_some (bytes_eq w (codes "partial")) true b h in
+    subst (λ y. PartialS y ts rest) (sym x.1) (subst (λ y. PartialS true y rest) (sym e) (flagged at w rest ((bytes_eq-Decides w (codes "partial")).0 x.0)))
+partial_to b ts rest (inr (p, q)) = subst (λ y. PartialS y ts rest) (sym p) (subst (λ y. PartialS false y rest) (sym q) (unflagged rest))
+
+partial_from : (b : Bool) (ts rest : List Lexeme) → PartialS b ts rest → Either (WordS partial_of) (Nothing false) b ts rest
+partial_from _ _ _ (unflagged ts) = inr (refl, refl)
+partial_from _ _ _ (flagged at w ts e) = inl (at, w, refl, ap partial_of e)
+
+pub partial_reads : {F : Type 0} (g : List Lexeme → Reading F) → Reads NoPartial PartialS (run g read_partial)
+unfolding read_partial
+partial_reads g = mapped partial_to partial_from (λ ts d. d) (optional_reads g partial_of false (codes "partial", true, refl))

@@ -5,6 +5,7 @@ pub mod Lexeme
 pub mod Integer
 pub mod Word
 pub mod Grammar
+pub mod Depth
 pub mod Reader
 pub mod Reading
 pub mod Spelling

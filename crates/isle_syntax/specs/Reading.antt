@@ -1,10 +1,12 @@
 -- Readers of the grammar's forms.
-use Rattle.std.specs.Prelude.{ℕ, length, ℤ, pos, negsuc, ◌^◌, List, [], ◌∷◌, Bool, false, nat_lt, if◌then◌else◌, Option, Some, None, is_some, option_map, bytes_eq, codes}
+use Rattle.std.specs.Prelude.{ℕ, zero, suc, ◌-◌, length, ℤ, pos, negsuc, ◌^◌, List, [], ◌∷◌, Bool, true, false, nat_lt, if◌then◌else◌, Option, Some, None, is_some, option_map, bytes_eq, codes}
 use Rattle.isle_syntax.specs.Lexeme.{Lexeme, Open, Close, At, Less, Greater, Word}
-use Rattle.isle_syntax.specs.Reader.{Reading, Deep, run, Reader, Ret, Ask, Peek, Halt, bind, read_open, read_close, many, all, on_word, bytes}
-use Rattle.isle_syntax.specs.Word.{WordKind, Number, Malformed, Truth, Dollar, Underscore, Plain, kind, names, is_flag}
+use Rattle.isle_syntax.specs.Reader.{Reading, Deep, run, Reader, Ret, Ask, Peek, Halt, bind, is_open, read_open, read_close, many, all, on_word, bytes}
+use Rattle.isle_syntax.specs.Depth.{most_open}
+use Rattle.isle_syntax.specs.Word.{WordKind, Number, Malformed, Truth, Dollar, Underscore, Plain, kind, names, is_flag, is_let}
 use Rattle.isle_syntax.specs.Tree.{Pattern, Expr, Def}
 use Rattle.isle_syntax.specs.Tree as tree
+use Rattle.isle_syntax.specs.Views.{exprs_of}
 
 -- fits no token
 abbrev pub refuse : {F A : Type 0} → Reader F A
@@ -59,9 +61,29 @@ expr_of w (Dollar name) = None
 expr_of w Underscore = Some (tree.Name w)
 expr_of w Plain = Some (tree.Name w)
 
--- an expression
-unfoldable pub read_expr : {F : Type 0} → Reader F Expr
-read_expr = read_word (λ w. expr_of w (kind w))
+-- an expression of one word
+unfoldable pub read_leaf : {F : Type 0} → Reader F Expr
+read_leaf = read_word (λ w. expr_of w (kind w))
+
+-- a name that is not `let`
+abbrev pub callee_of : List ℕ → Option (List ℕ)
+callee_of w = if is_let w then None else name_of w
+
+unfoldable pub read_callee : {F : Type 0} → Reader F (List ℕ)
+read_callee = read_word callee_of
+
+-- ( N of a call
+unfoldable pub read_called : {F : Type 0} → Reader F (List ℕ)
+read_called = bind read_open (λ o. read_callee)
+
+-- ( N E* ), of fewer than n arguments, each of which is read so
+unfoldable pub read_call : {F : Type 0} → ℕ → Reader F Expr → Reader F Expr
+read_call n r = bind read_called (λ w. bind (many n r) (λ args. Ret (tree.Call w (exprs_of args))))
+
+-- an expression whose parentheses nest at most d deep, its lists of fewer than n parts
+unfoldable pub read_expr : {F : Type 0} → ℕ → ℕ → Reader F Expr
+read_expr n zero = Peek is_open Halt read_leaf
+read_expr n (suc d) = Peek is_open (read_call n (read_expr n d)) read_leaf
 
 -- what a word gives, or else this where there is no such word
 abbrev pub read_optional : {F A : Type 0} → (List ℕ → Option A) → A → Reader F A
@@ -96,27 +118,56 @@ decl_name_of w = if is_flag w then None else name_of w
 unfoldable pub read_decl_name : {F : Type 0} → Reader F (List ℕ)
 read_decl_name = read_word decl_name_of
 
+-- that a word is the flag `partial`
+abbrev pub partial_of : List ℕ → Option Bool
+partial_of w = if bytes_eq w (codes "partial") then Some true else None
+
+-- whether the flag `partial` stands here
+unfoldable pub read_partial : {F : Type 0} → Reader F Bool
+read_partial = read_optional partial_of false
+
+-- behind the flag of ( decl
+unfoldable pub read_declared : {F : Type 0} → ℕ → ℕ → ℕ → Bool → Reader F Def
+read_declared n file at partial = bind read_decl_name (λ term. bind read_open (λ o. bind (many n read_name) (λ args. bind read_name (λ ret. bind read_close (λ c.
+    Ret (tree.Decl term false false partial false args ret (record { file = file; offset = at })))))))
+
 -- behind ( decl
 unfoldable pub read_decl : {F : Type 0} → ℕ → ℕ → ℕ → Reader F Def
-read_decl n file at = bind read_decl_name (λ term. bind read_open (λ o. bind (many n read_name) (λ args. bind read_name (λ ret. bind read_close (λ c.
-    Ret (tree.Decl term false false false false args ret (record { file = file; offset = at })))))))
+read_decl n file at = bind read_partial (read_declared n file at)
+
+-- the word `constructor`
+abbrev pub constructor_of : List ℕ → Option (List ℕ)
+constructor_of w = if bytes_eq w (codes "constructor") then Some w else None
+
+unfoldable pub read_constructor : {F : Type 0} → Reader F (List ℕ)
+read_constructor = read_word constructor_of
+
+-- behind ( extern
+unfoldable pub read_extern : {F : Type 0} → ℕ → ℕ → Reader F Def
+read_extern file at = bind read_constructor (λ w. bind read_name (λ term. bind read_name (λ func. bind read_close (λ c.
+    Ret (tree.ExternConstructor term func (record { file = file; offset = at }))))))
 
 -- ( N P* )
 unfoldable pub read_parts : {F : Type 0} → ℕ → Reader F (List ℕ × List Pattern)
 read_parts n = bind read_open (λ o. bind read_name (λ term. bind (many n read_pattern) (λ args. Ret (term, args))))
 
--- behind ( rule
+-- behind ( rule, whose parenthesis is open
 unfoldable pub read_rule : {F : Type 0} → ℕ → ℕ → ℕ → Reader F Def
-read_rule n file at = bind read_rule_name (λ name. bind read_prio (λ prio. bind (read_parts n) (λ parts. bind read_expr (λ rhs. bind read_close (λ c.
+read_rule n file at = bind read_rule_name (λ name. bind read_prio (λ prio. bind (read_parts n) (λ parts. bind (read_expr n (most_open - 1)) (λ rhs. bind read_close (λ c.
     Ret (tree.Rule name prio parts.0 parts.1 [] rhs (record { file = file; offset = at })))))))
 
 -- what a definition is, by the word that it begins with
 pub data Head : Type 0 where
   DeclHead : Head
   RuleHead : Head
+  ExternHead : Head
 
 abbrev pub head_of : List ℕ → Option Head
-head_of w = if bytes_eq w (codes "decl") then Some DeclHead else (if bytes_eq w (codes "rule") then Some RuleHead else None)
+head_of w =
+    if bytes_eq w (codes "decl") then Some DeclHead
+    else (if bytes_eq w (codes "rule") then Some RuleHead
+    else (if bytes_eq w (codes "extern") then Some ExternHead
+    else None))
 
 unfoldable pub read_head : {F : Type 0} → Reader F Head
 read_head = read_word head_of
@@ -125,6 +176,7 @@ read_head = read_word head_of
 abbrev pub read_behind : {F : Type 0} → ℕ → ℕ → ℕ → Head → Reader F Def
 read_behind n file at DeclHead = read_decl n file at
 read_behind n file at RuleHead = read_rule n file at
+read_behind n file at ExternHead = read_extern file at
 
 -- a definition of the file of that number, its lists of fewer than n parts
 unfoldable pub read_def : {F : Type 0} → ℕ → ℕ → Reader F Def

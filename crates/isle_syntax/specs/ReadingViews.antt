@@ -8,12 +8,13 @@ use Rattle.isle_syntax.specs.Reader.{Reading, Got, Stuck, Deep}
 use Rattle.isle_syntax.specs.TokenViews.{tokens_seen}
 use Rattle.isle_syntax.specs.declared.definition.Head.{Head as CodeHead}
 use Rattle.isle_syntax.specs.declared.definition.Head.TheVariants as code_head
-use Rattle.isle_syntax.specs.Reading.{Head, DeclHead, RuleHead}
+use Rattle.isle_syntax.specs.Reading.{Head, DeclHead, RuleHead, ExternHead}
 
 -- what a definition is
 abbrev pub head_seen : CodeHead → Head
 head_seen code_head.Decl = DeclHead
 head_seen code_head.Rule = RuleHead
+head_seen code_head.Extern = ExternHead
 
 -- the tokens that are still to be read
 abbrev pub left : Tokens → List Lexeme

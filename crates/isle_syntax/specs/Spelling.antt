@@ -1,8 +1,9 @@
 -- When a text spells definitions.
-use Rattle.std.specs.Prelude.{ℕ, List}
+use Rattle.std.specs.Prelude.{ℕ, ◌≤◌, List}
 use Rattle.std.specs.Str.{IsUtf8}
 use Rattle.isle_syntax.specs.Token.{IsClosed}
 use Rattle.isle_syntax.specs.Lexeme.{lexemes}
+use Rattle.isle_syntax.specs.Depth.{depth, most_open}
 use Rattle.isle_syntax.specs.Grammar.{FileS}
 use Rattle.isle_syntax.specs.Tree.{Def}
 
@@ -10,4 +11,5 @@ use Rattle.isle_syntax.specs.Tree.{Def}
 pub record Spells (file : ℕ) (text : List ℕ) (defs : List Def) : Type 0 where
   pub utf8 : IsUtf8 text
   pub closed : IsClosed text
+  pub shallow : depth (lexemes text) ≤ most_open
   pub definitions : FileS file (lexemes text) defs

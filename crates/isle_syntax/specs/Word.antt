@@ -52,3 +52,7 @@ IsName word = names (kind word) ≡ true
 -- a word that directly behind `decl` is a flag
 abbrev pub is_flag : List ℕ → Bool
 is_flag word = bytes_eq word (codes "pure") || bytes_eq word (codes "multi") || bytes_eq word (codes "partial") || bytes_eq word (codes "rec")
+
+-- the word that where a call has its name begins another form
+abbrev pub is_let : List ℕ → Bool
+is_let word = bytes_eq word (codes "let")

@@ -1,9 +1,10 @@
 ghost use Rattle.std.specs.Prelude.{◌≡◌, IfOk, IfErr, map, option_map};
 ghost use Rattle.isle_syntax.specs.Reader.{run, Got};
-ghost use Rattle.isle_syntax.specs.Reading.{no_call, next_word, decl_name_of, read_decl_name, read_decl, read_parts, read_rule, head_of, read_head, read_behind, read_def, read_file};
+ghost use Rattle.isle_syntax.specs.Reading.{no_call, next_word, decl_name_of, read_decl_name, partial_of, read_partial, read_declared, read_decl, constructor_of, read_constructor, read_extern, read_parts, read_rule, head_of, read_head, read_behind, read_def, read_file};
 ghost use Rattle.isle_syntax.specs.ReadingViews.{left, head_seen, Refuses};
 ghost use Rattle.isle_syntax.specs.Views.{def, defs, pattern};
 
+use crate::expression::{expression, most_inside};
 use crate::forms::{is_name, text_of};
 use crate::reading::{Fail, Tokens};
 use crate::tree::{AstPattern, Def};
@@ -16,6 +17,7 @@ use std::alloc::Global;
 enum Head {
     Decl,
     Rule,
+    Extern,
 }
 
 /// What a definition is that begins with the word.
@@ -25,6 +27,27 @@ fn head_of(word: &str) -> Option<Head>
     match word {
         "decl" => Some(Head::Decl),
         "rule" => Some(Head::Rule),
+        "extern" => Some(Head::Extern),
+        _ => None,
+    }
+}
+
+/// That a word is the flag `partial`.
+fn partial_of(word: &str) -> Option<bool>
+    ensures { result ≡ partial_of word.now }
+{
+    match word {
+        "partial" => Some(true),
+        _ => None,
+    }
+}
+
+/// The word, if it is `constructor`.
+fn constructor_of(word: &str) -> Option<&str>
+    ensures { option_map (λ found. found.now) result ≡ constructor_of word.now }
+{
+    match word {
+        "constructor" => Some(word),
         _ => None,
     }
 }
@@ -80,11 +103,37 @@ impl<'t> Tokens<'t> {
         }
     }
 
-    /// What stands behind `( decl`, for the definition at that place.
-    #[tactic(auto, using(crate::proofs::DefinitionSteps::decl_steps))]
-    fn decl(&mut self, alloc: Global, most: usize, pos: Pos) -> Result<Def, Fail>
-        ensures got { IfOk result (λ read. run no_call (read_decl most pos.file pos.offset) (left self.old) ≡ Got (def read) (left self.new)) }
-        ensures refused { IfErr result (λ fail. Refuses fail (run no_call (read_decl most pos.file pos.offset) (left self.old))) }
+    /// The flag `partial` that is next.
+    #[tactic(auto, using(crate::proofs::Steps::next_some, crate::proofs::Steps::next_none))]
+    fn next_partial(&self) -> Option<bool>
+        ensures { result ≡ next_word partial_of (left self.now) }
+    {
+        partial_of(self.word()?)
+    }
+
+    /// Whether the flag `partial` stands here.
+    #[tactic(auto, using(crate::proofs::Steps::steps))]
+    fn partial(&mut self) -> Result<bool, Fail>
+        ensures got { IfOk result (λ partial. run no_call read_partial (left self.old) ≡ Got partial (left self.new)) }
+        ensures refused { IfErr result (λ fail. Refuses fail (run no_call read_partial (left self.old))) }
+    {
+        if self.len() == 0 {
+            return Err(Fail::At(0));
+        }
+        match self.next_partial() {
+            Some(partial) => {
+                self.skip();
+                Ok(partial)
+            }
+            None => Ok(false),
+        }
+    }
+
+    /// What stands behind the flag of `( decl`, for the definition at that place.
+    #[tactic(auto, using(crate::proofs::DefinitionSteps::declared_steps))]
+    fn declared(&mut self, alloc: Global, most: usize, pos: Pos, partial: bool) -> Result<Def, Fail>
+        ensures got { IfOk result (λ read. run no_call (read_declared most pos.file pos.offset partial) (left self.old) ≡ Got (def read) (left self.new)) }
+        ensures refused { IfErr result (λ fail. Refuses fail (run no_call (read_declared most pos.file pos.offset partial) (left self.old))) }
     {
         let term = self.decl_name(alloc)?;
         self.open()?;
@@ -95,12 +144,58 @@ impl<'t> Tokens<'t> {
             term,
             pure: false,
             multi: false,
-            partial: false,
+            partial,
             recursive: false,
             args: List::new(args),
             ret,
             pos,
         })
+    }
+
+    /// What stands behind `( decl`, for the definition at that place.
+    #[tactic(auto, using(crate::proofs::DefinitionSteps::decl_steps))]
+    fn decl(&mut self, alloc: Global, most: usize, pos: Pos) -> Result<Def, Fail>
+        ensures got { IfOk result (λ read. run no_call (read_decl most pos.file pos.offset) (left self.old) ≡ Got (def read) (left self.new)) }
+        ensures refused { IfErr result (λ fail. Refuses fail (run no_call (read_decl most pos.file pos.offset) (left self.old))) }
+    {
+        let partial = self.partial()?;
+        self.declared(alloc, most, pos, partial)
+    }
+
+    /// The word `constructor` that is next.
+    #[tactic(auto, using(crate::proofs::Steps::next_some, crate::proofs::Steps::next_none))]
+    fn next_constructor(&self) -> Option<&'t str>
+        ensures { option_map (λ word. word.now) result ≡ next_word constructor_of (left self.now) }
+    {
+        constructor_of(self.word()?)
+    }
+
+    /// The word `constructor`.
+    #[tactic(auto, using(crate::proofs::Steps::steps))]
+    fn constructor(&mut self) -> Result<&'t str, Fail>
+        ensures got { IfOk result (λ word. run no_call read_constructor (left self.old) ≡ Got word.now (left self.new)) }
+        ensures refused { IfErr result (λ fail. Refuses fail (run no_call read_constructor (left self.old))) }
+    {
+        match self.next_constructor() {
+            Some(word) => {
+                self.skip();
+                Ok(word)
+            }
+            None => Err(Fail::At(self.len())),
+        }
+    }
+
+    /// What stands behind `( extern`, for the definition at that place.
+    #[tactic(auto, using(crate::proofs::DefinitionSteps::extern_steps))]
+    fn extern_constructor(&mut self, alloc: Global, pos: Pos) -> Result<Def, Fail>
+        ensures got { IfOk result (λ read. run no_call (read_extern pos.file pos.offset) (left self.old) ≡ Got (def read) (left self.new)) }
+        ensures refused { IfErr result (λ fail. Refuses fail (run no_call (read_extern pos.file pos.offset) (left self.old))) }
+    {
+        self.constructor()?;
+        let term = self.name(alloc)?;
+        let func = self.name(alloc)?;
+        self.close()?;
+        Ok(Def::ExternConstructor { term, func, pos })
     }
 
     /// A rule's head: a term, and the patterns of its arguments.
@@ -124,7 +219,7 @@ impl<'t> Tokens<'t> {
         let name = self.rule_name(alloc)?;
         let prio = self.prio()?;
         let (term, args) = self.parts(alloc, most)?;
-        let rhs = self.expr(alloc)?;
+        let rhs = expression(self, alloc, most, most_inside())?;
         self.close()?;
         Ok(Def::Rule {
             name,
@@ -145,6 +240,7 @@ impl<'t> Tokens<'t> {
         match head {
             Head::Decl => self.decl(alloc, most, pos),
             Head::Rule => self.rule(alloc, most, pos),
+            Head::Extern => self.extern_constructor(alloc, pos),
         }
     }
 

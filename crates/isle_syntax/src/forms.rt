@@ -1,12 +1,12 @@
 ghost use Rattle.std.specs.Prelude.{◌≡◌, Some, IfOk, IfErr, option_map};
 ghost use Rattle.isle_syntax.specs.Reader.{run, Got};
-ghost use Rattle.isle_syntax.specs.Reading.{no_call, next_word, name_of, read_name, read_rule_name, prio_of, read_prio, pattern_of, read_pattern, expr_of, read_expr};
-ghost use Rattle.isle_syntax.specs.Views.{pattern, expr};
+ghost use Rattle.isle_syntax.specs.Reading.{no_call, next_word, name_of, read_name, read_rule_name, prio_of, read_prio, pattern_of, read_pattern};
+ghost use Rattle.isle_syntax.specs.Views.{pattern};
 ghost use Rattle.isle_syntax.specs.ReadingViews.{left, Refuses};
 ghost use Rattle.isle_syntax.specs.Word.{kind, names};
 
 use crate::reading::{Fail, Tokens};
-use crate::tree::{AstExpr, AstPattern};
+use crate::tree::AstPattern;
 use crate::word::{Kind, kind_of};
 use isle_core::Text;
 use std::alloc::{AllocError, Global};
@@ -48,19 +48,6 @@ fn pattern_of(alloc: Global, word: &str) -> Result<Option<AstPattern>, AllocErro
         Kind::Truth(truth) => Ok(Some(AstPattern::Bool(truth))),
         Kind::Underscore => Ok(Some(AstPattern::Wildcard)),
         Kind::Plain => Ok(Some(AstPattern::Var(text_of(alloc, word)?))),
-        Kind::Malformed | Kind::Dollar => Ok(None),
-    }
-}
-
-/// The expression that a word is.
-#[tactic(auto, using(crate::proofs::Sees::sees))]
-fn expr_of(alloc: Global, word: &str) -> Result<Option<AstExpr>, AllocError>
-    ensures { IfOk result (λ read. option_map expr read ≡ expr_of word.now (kind word.now)) }
-{
-    match kind_of(word) {
-        Kind::Number(value) => Ok(Some(AstExpr::Int(value))),
-        Kind::Truth(truth) => Ok(Some(AstExpr::Bool(truth))),
-        Kind::Underscore | Kind::Plain => Ok(Some(AstExpr::Var(text_of(alloc, word)?))),
         Kind::Malformed | Kind::Dollar => Ok(None),
     }
 }
@@ -155,32 +142,6 @@ impl<'t> Tokens<'t> {
             Some(pattern) => {
                 self.skip();
                 Ok(pattern)
-            }
-            None => Err(Fail::At(self.len())),
-        }
-    }
-
-    /// An expression that is next.
-    #[tactic(auto, using(crate::proofs::Steps::next_some, crate::proofs::Steps::next_none))]
-    fn next_expr(&self, alloc: Global) -> Result<Option<AstExpr>, AllocError>
-        ensures { IfOk result (λ next. option_map expr next ≡ next_word (λ w. expr_of w (kind w)) (left self.now)) }
-    {
-        match self.word() {
-            Some(word) => expr_of(alloc, word),
-            None => Ok(None),
-        }
-    }
-
-    /// An expression.
-    #[tactic(auto, using(crate::proofs::Steps::steps))]
-    pub fn expr(&mut self, alloc: Global) -> Result<AstExpr, Fail>
-        ensures got { IfOk result (λ read. run no_call read_expr (left self.old) ≡ Got (expr read) (left self.new)) }
-        ensures refused { IfErr result (λ fail. Refuses fail (run no_call read_expr (left self.old))) }
-    {
-        match self.next_expr(alloc)? {
-            Some(expr) => {
-                self.skip();
-                Ok(expr)
             }
             None => Err(Fail::At(self.len())),
         }

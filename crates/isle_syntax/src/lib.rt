@@ -2,6 +2,7 @@
 #![tactic(auto)]
 
 mod definition;
+mod expression;
 mod forms;
 mod integer;
 mod lexer;

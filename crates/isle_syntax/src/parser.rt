@@ -1,8 +1,9 @@
-ghost use Rattle.std.specs.Prelude.{◌≡◌, List, Err, IfOk, IfErr};
+ghost use Rattle.std.specs.Prelude.{◌≡◌, ◌≤◌, List, Err, IfOk, IfErr};
 ghost use Rattle.isle_syntax.specs.Tree.{Def as PureDef};
 ghost use Rattle.isle_syntax.specs.Views.{defs};
 ghost use Rattle.isle_syntax.specs.Lexer.{lexer_file, lexer_text};
 ghost use Rattle.isle_syntax.specs.Lexeme.{lexemes};
+ghost use Rattle.isle_syntax.specs.Depth.{depth, most_open};
 ghost use Rattle.isle_syntax.specs.Grammar.{FileS};
 ghost use Rattle.isle_syntax.specs.Reading.{file_of};
 ghost use Rattle.isle_syntax.specs.ReadingViews.{Refuses};
@@ -24,7 +25,7 @@ pub enum ParseFail {
 
 /// The definitions that the reader's tokens spell.
 fn definitions(alloc: Global, lexer: Lexer<'_>) -> Result<Vec<Def>, Fail>
-    ensures got { IfOk result (λ read. FileS (lexer_file lexer.entry) (lexemes (lexer_text lexer.entry)) (defs read.items)) }
+    ensures got { IfOk result (λ read. FileS (lexer_file lexer.entry) (lexemes (lexer_text lexer.entry)) (defs read.items) × (depth (lexemes (lexer_text lexer.entry)) ≤ most_open)) }
     ensures refused { IfErr result (λ fail. Refuses fail (file_of (lexer_file lexer.entry) (lexemes (lexer_text lexer.entry)))) }
 {
     let tokens = lexer.tokens(alloc)?;
@@ -32,7 +33,8 @@ fn definitions(alloc: Global, lexer: Lexer<'_>) -> Result<Vec<Def>, Fail>
 }
 
 /// The definitions that the reader's text spells, in order. `NotYet` comes exactly where no definitions of the forms
-/// that are built are spelt: `decl` without flags, and `rule` without conditions whose right side is one word.
+/// that are built are spelt: `decl` with no flag but `partial`, `extern constructor`, and `rule` without conditions whose
+/// right side is a word or a call, with at most 256 parentheses open at once.
 pub fn parse(alloc: Global, lexer: Lexer<'_>) -> Result<Vec<Def>, ParseFail>
     requires { IsClosed (lexer_text lexer) }
     ensures ok { IfOk result (λ read. Spells (lexer_file lexer.entry) (lexer_text lexer.entry) (defs read.items)) }

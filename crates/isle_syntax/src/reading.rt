@@ -82,7 +82,7 @@ impl<'t> Tokens<'t> {
     }
 
     /// The place of an opening parenthesis that is next.
-    fn opens(&self) -> Option<usize>
+    pub fn opens(&self) -> Option<usize>
         ensures { result ≡ opens (left self.now) }
     {
         match self.first() {

@@ -1,5 +1,5 @@
 ghost use Rattle.std.specs.Prelude.{◌≡◌};
-ghost use Rattle.isle_syntax.specs.Word.{kind, symbol_kind, is_flag};
+ghost use Rattle.isle_syntax.specs.Word.{kind, symbol_kind, is_flag, is_let};
 ghost use Rattle.isle_syntax.specs.WordViews.{kind_seen};
 
 use crate::integer::int_of;
@@ -53,4 +53,11 @@ pub fn is_flag(word: &str) -> bool
     ensures { result ≡ is_flag word.now }
 {
     matches!(word, "pure" | "multi" | "partial" | "rec")
+}
+
+/// Whether a word begins another form than a call where a call has its name.
+pub fn is_let(word: &str) -> bool
+    ensures { result ≡ is_let word.now }
+{
+    word == "let"
 }
