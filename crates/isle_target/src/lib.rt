@@ -3,6 +3,8 @@
 
 mod bound;
 mod call;
+#[cfg(test)]
+mod call_tests;
 mod callees;
 mod context;
 mod distinct;
