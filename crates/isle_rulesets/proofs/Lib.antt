@@ -1,6 +1,8 @@
 pub mod NumberingLaws
 pub mod DraftLaws
 pub mod RuleTests
+pub mod CallLaws
+pub mod RightSideLaws
 pub mod RuleSetLaws
 pub mod GroupingLaws
 pub mod SampleRule

@@ -110,7 +110,7 @@ filter_once : {A : Type 0} (p : A → Bool) (xs : List A) → EachOnce xs → Ea
 filter_once p [] h = tt
 filter_once p (y ∷ xs) h = once_at y (filter p xs) (p y) (λ c. h.0 (filter_cases p xs y c).0) (filter_once p xs h.1)
 
-append_once : {A : Type 0} (xs ys : List A) → EachOnce xs → EachOnce ys → ((x : A) → Contains xs x → Contains ys x → ⊥) → EachOnce (xs ++ ys)
+pub append_once : {A : Type 0} (xs ys : List A) → EachOnce xs → EachOnce ys → ((x : A) → Contains xs x → Contains ys x → ⊥) → EachOnce (xs ++ ys)
 append_once [] ys h k apart = k
 append_once (x ∷ xs) ys h k apart =
     (λ c. ⊎_elim h.0 (apart x (head_contained x xs)) (Contains-append_cases xs ys x c), append_once xs ys h.1 k (λ y c d. apart y (tail_contained x xs y c) d))

@@ -5,6 +5,7 @@ mod draft;
 mod flat_rules;
 mod grouping;
 mod numbering;
+mod right_side;
 #[cfg(test)]
 mod rule_set_tests;
 

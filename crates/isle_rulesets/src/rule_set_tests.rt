@@ -39,7 +39,7 @@ fn rule_of_each_form(alloc: Global) -> Result<Rule, AllocError>
 fn rule_with_each_form(rt: HostRuntime) -> Result<(), Fail> {
     let alloc = rt.alloc();
     let rule = rule_of_each_form(alloc)?;
-    let set = rule_set(alloc, &[&rule])?;
+    let set = rule_set(alloc, &[], &[&rule])?;
     let bindings = set.bindings.as_slice();
     assert_eq!(rt; bindings.len(), 4);
     for (number, binding) in bindings.iter().enumerate() {
