@@ -158,6 +158,17 @@ called_by_turns env terms term t same there h =
     let k = turns_by env t t.kind h in
     (k.0, ap (λ ts. calling_of env (slice_get ts term.0)) same ∙ ap (calling_of env) there ∙ k.1)
 
+-- so of a term that is there
+some_item : {A : Type 0} (P : A → Type 0) (o : Option A) → IsSomeAnd o P → (x : A) × (o ≡ Some x) × P x
+some_item P None h = absurd h
+some_item P (Some x) h = (x, refl, h)
+
+pub turns_of : (env : Environment) (terms : List Term) (term : TermId) → env.terms ≡ terms → IsSomeAnd (slice_get terms term.0) (λ (x : Term). IsImpureKind x.kind) → (callee : Callee) × (partial : Bool) × (calling env term ≡ ByTurns callee partial)
+turns_of env terms term same h =
+    let t = some_item (λ (x : Term). IsImpureKind x.kind) (slice_get terms term.0) h in
+    let k = called_by_turns env terms term t.0 same t.1 t.2 in
+    (k.0, is_partial t.0.kind, k.1)
+
 -- a call that was added
 pub call_given : (old new : Numbered) (before after : List BindingId) (terms : List Term) (term : TermId) (t : Term) (partial : Bool) (bs : List BindingId) (call value : BindingId) → IsSomeAnd (slice_get terms term.0) (λ (x : Term). IsImpureKind x.kind) → t ≡ get_or terms term.0 t
     → partial ≡ is_partial t.kind → Calls old new (next_call old term bs) partial call value → after ≡ before ++ call ∷ []

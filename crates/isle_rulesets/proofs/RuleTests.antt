@@ -203,3 +203,12 @@ none_there p e = cc
 -- a variable of patterns stands at an argument
 pub stands_at : (qs : List Pattern) (of : TypeId) (x : VarId) → Contains qs (Var of x) → (p : Path) × (args_after qs 0 no_places x.0 ≡ Some p) × Contains (arg_paths qs 0) p
 stands_at qs of x c = let h = var_placed qs 0 no_places of x c in (h.p, h.is, ⊎_elim (λ d. d) (λ e. absurd (none_there h.p e)) h.among)
+
+-- the place of a variable of patterns is an argument
+is_arg : (qs : List Pattern) (n x : ℕ) (places : Places) (p : Path) → args_after qs n places x ≡ Some p → ((i : ℕ) × (p ≡ Arg i)) ⊎ (places x ≡ Some p)
+is_arg [] n x places p e = inr e
+is_arg (q ∷ qs) n x places p e =
+    ⊎_elim (λ h. inl h) (λ k. ⊎_elim (λ (s : Arg n ≡ p). inl (n, sym s)) (λ l. inr l) (after_from q n x places p k)) (is_arg qs (suc n) x (after q (Arg n) places) p e)
+
+pub place_is_arg : (qs : List Pattern) (x : ℕ) (p : Path) → args_after qs 0 no_places x ≡ Some p → (i : ℕ) × (p ≡ Arg i)
+place_is_arg qs x p e = ⊎_elim (λ h. h) (λ k. absurd (none_there p k)) (is_arg qs 0 x no_places p e)

@@ -44,11 +44,12 @@ pub fn rule_sets(alloc: Global, terms: &TermEnv) -> Result<Vec<(TermId, RuleSet)
     requires impure { All (IsImpureRule terms.now.terms) (map seen terms.now.rules) }
     ensures { IfOk result (λ sets. (types : TypeEnv) → AreRuleSets (environment types terms.now) sets.items) }
 {
-    let groups = group(alloc, terms.terms.as_slice().len(), terms.rules.as_slice())?;
+    let callable = terms.terms.as_slice();
+    let groups = group(alloc, callable.len(), terms.rules.as_slice())?;
     let mut sets = Vec::new(alloc);
     for (index, rules) in groups.iter().enumerate() {
         if !rules.is_empty() {
-            sets.push((TermId(index), rule_set(alloc, terms.terms.as_slice(), rules)?))?;
+            sets.push((TermId(index), rule_set(alloc, callable, rules)?))?;
         }
     }
     Ok(sets)
