@@ -1,6 +1,8 @@
 //! From rules to rule sets that stand for them.
 #![tactic(auto)]
 
+#[cfg(test)]
+mod call_tests;
 mod draft;
 mod flat_rules;
 mod grouping;
