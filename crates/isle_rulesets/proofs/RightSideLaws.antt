@@ -96,9 +96,9 @@ var_there ps (Some c) None b e h = absurd h
 
 pub given_var : (terms : List Term) (variables : BTreeMap ℕ BindingId) (n : Numbered) (bs : List BindingId) (e : Expr) (ty : TypeId) (x : VarId) (b : BindingId) → e ≡ expr.Var ty x → get nat_cmp variables x.0 ≡ Some b → Given terms variables n n bs bs e b
 given_var terms variables n bs e ty x b is got env places t s = subst (λ d. Gives env places n n bs bs d b) (sym is) (record {
-    grows = gives_key n n bs p b (record { there = there; extends = extends_self (paths_of n.bindings); only = λ q c. inl c; calls = refl });
-    there = there;
-  })
+  grows = gives_key n n bs p b (record { there = there; extends = extends_self (paths_of n.bindings); only = λ q c. inl c; calls = refl });
+  there = there;
+})
   where
     p : Path
     p = path_or (places x.0)

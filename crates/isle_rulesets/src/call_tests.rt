@@ -186,7 +186,10 @@ fn rules_with_nested_calls(rt: HostRuntime) -> Result<(), Fail> {
     assert_eq!(rt; flat_rules.len(), RULES.len());
     for (number, (flat, expected)) in flat_rules.iter().zip(&RULES).enumerate() {
         let (calls, result) = expected;
-        assert!(rt; are_numbers(flat.ordered.as_slice(), calls), "calls of {number}");
+        assert!(rt;
+            are_numbers(flat.ordered.as_slice(), calls),
+            "calls of {number}"
+        );
         assert!(rt; flat.result.index() == *result, "result of {number}");
     }
     Ok(())
