@@ -1,11 +1,10 @@
 -- A draft has the tests of patterns, one pattern after another.
-use Rattle.std.proofs.Common.{◌≡◌, inl, inr, ⊎_elim, ℕ, ◌<◌, ◌≤◌, ◌+◌, suc, List, [], ◌∷◌, ◌++◌, length, map, take, get_or, sym, ap, ◌∙◌, subst, arith, append_assoc, append-nil, Some}
+use Rattle.std.proofs.Common.{◌≡◌, inl, inr, ⊎_elim, ℕ, ◌<◌, ◌≤◌, ◌+◌, suc, List, [], ◌∷◌, ◌++◌, length, map, take, get_or, refl, sym, ap, ◌∙◌, subst, arith, append_assoc, append-nil, Some}
 use Rattle.std.specs.Prelude.{Contains, All, slice_get}
 use Rattle.std.proofs.lemmas.List.{map_more, length-map, length-take-le, get_or-map}
 use Rattle.std.proofs.lemmas.List.Elements.{Contains-push, Contains-push_cases, Contains-append_left}
 use Rattle.std.proofs.lemmas.Option.{get_or_from_slice_get, slice_get_within}
 use Rattle.isle_core.specs.declared.BindingId.{BindingId}
-use Rattle.isle_core.specs.declared.rule_sets.Binding.{Binding}
 use Rattle.isle_core.specs.declared.rules.Pattern.{Pattern as CodePattern}
 use Rattle.isle_core.specs.Pattern.{Pattern}
 use Rattle.isle_core.specs.Path.{Path, Nowhere, Arg, at, paths_of}
@@ -13,7 +12,7 @@ use Rattle.isle_core.specs.Tests.{Test, Places, no_places, tests, after, args_te
 use Rattle.isle_core.specs.RuleViews.{pattern}
 use Rattle.isle_core.specs.BuiltRule.{IsBuiltPattern}
 use Rattle.isle_rulesets.specs.declared.draft.Draft.{Draft}
-use Rattle.isle_rulesets.specs.Numbering.{Extends, Numbers}
+use Rattle.isle_rulesets.specs.Numbering.{Numbered, Extends, Numbers}
 use Rattle.isle_rulesets.specs.Drafts.{Draws, Drafted}
 use Rattle.isle_rulesets.proofs.NumberingLaws.{extends_self, extends_more, place_of}
 
@@ -25,7 +24,7 @@ at_get ps b p e = get_or_from_slice_get ps b p Nowhere e
 pub at_kept : (ps qs : List Path) (b : BindingId) (p : Path) → Extends ps qs → slice_get ps b.0 ≡ Some p → at qs b ≡ p
 at_kept ps qs b p x e = at_get qs b.0 p (x.kept b.0 p e)
 
-contains_there : (ps : List Path) (b : ℕ) (p : Path) → slice_get ps b ≡ Some p → Contains ps p
+pub contains_there : (ps : List Path) (b : ℕ) (p : Path) → slice_get ps b ≡ Some p → Contains ps p
 contains_there ps b p e = (b, slice_get_within ps b p e, get_or_from_slice_get ps b p p e)
 
 pub contains_kept : (ps qs : List Path) (p : Path) → Extends ps qs → Contains ps p → Contains qs p
@@ -58,13 +57,14 @@ paths_push (p ∷ qs) q i = ap (λ ps. Arg i ∷ ps) (paths_push qs q (suc i) �
 abbrev Takes : Pattern → BindingId → Draft → Draft → Type 0
 Takes q b d e = (ps : List Path) (places : Places) (ts : List Test) → Draws ps places ts d → Draws ps (after q (at ps b) places) (ts ++ tests q (at ps b) places) e
 
-drafted_push : (old mid new : List Binding) (qs : List Pattern) (q : Pattern) (d e : Draft) (b : BindingId) → Drafted old mid qs d → Numbers mid new (Arg (length qs)) b → Takes q b d e → Drafted old new (qs ++ q ∷ []) e
+drafted_push : (old mid new : Numbered) (qs : List Pattern) (q : Pattern) (d e : Draft) (b : BindingId) → Drafted old mid qs d → Numbers mid new (Arg (length qs)) b → Takes q b d e → Drafted old new (qs ++ q ∷ []) e
 drafted_push old mid new qs q d e b h n t = record {
-  extends = extends_more (paths_of old) (paths_of mid) (paths_of new) h.extends n.extends;
+  extends = extends_more (paths_of old.bindings) (paths_of mid.bindings) (paths_of new.bindings) h.extends n.extends;
   only = λ p c. ⊎_elim (λ k. ⊎_elim (λ x. inl x) (λ x. inr (more p (Contains-append_left (arg_paths qs 0) (Arg (length qs) ∷ []) p x))) (h.only p k)) (λ k. inr (more p (last p k))) (n.only p c);
-  all = λ p c. ⊎_elim (λ x. contains_kept (paths_of mid) (paths_of new) p n.extends (h.all p x)) (λ x. subst (Contains (paths_of new)) x (contains_there (paths_of new) b.0 (Arg (length qs)) n.there))
+  all = λ p c. ⊎_elim (λ x. contains_kept (paths_of mid.bindings) (paths_of new.bindings) p n.extends (h.all p x)) (λ x. subst (Contains (paths_of new.bindings)) x (contains_there (paths_of new.bindings) b.0 (Arg (length qs)) n.there))
       (Contains-push_cases (arg_paths qs 0) (Arg (length qs)) p (subst (λ ps. Contains ps p) paths c));
   draws = λ ps x. draws ps x;
+  calls = n.calls ∙ h.calls;
 }
   where
     zero_plus : 0 + length qs ≡ length qs
@@ -79,21 +79,21 @@ drafted_push old mid new qs q d e b h n t = record {
     last : (p : Path) → p ≡ Arg (length qs) → Contains (arg_paths qs 0 ++ Arg (length qs) ∷ []) p
     last p e' = subst (Contains (arg_paths qs 0 ++ Arg (length qs) ∷ [])) (sym e') (Contains-push (arg_paths qs 0) (Arg (length qs)))
 
-    draws : (ps : List Path) → Extends (paths_of new) ps → Draws ps (args_after (qs ++ q ∷ []) 0 no_places) (args_tests (qs ++ q ∷ []) 0 no_places) e
+    draws : (ps : List Path) → Extends (paths_of new.bindings) ps → Draws ps (args_after (qs ++ q ∷ []) 0 no_places) (args_tests (qs ++ q ∷ []) 0 no_places) e
     draws ps x =
         let places = args_after qs 0 no_places in
         let ts = args_tests qs 0 no_places in
-        let place : at ps b ≡ Arg (0 + length qs) = at_kept (paths_of new) ps b (Arg (length qs)) x n.there ∙ ap Arg (sym zero_plus) in
-        let base = subst (λ p. Draws ps (after q p places) (ts ++ tests q p places) e) place (t ps places ts (h.draws ps (extends_more (paths_of mid) (paths_of new) ps n.extends x))) in
+        let place : at ps b ≡ Arg (0 + length qs) = at_kept (paths_of new.bindings) ps b (Arg (length qs)) x n.there ∙ ap Arg (sym zero_plus) in
+        let base = subst (λ p. Draws ps (after q p places) (ts ++ tests q p places) e) place (t ps places ts (h.draws ps (extends_more (paths_of mid.bindings) (paths_of new.bindings) ps n.extends x))) in
         subst (λ us. Draws ps (args_after (qs ++ q ∷ []) 0 no_places) us e) (sym (tests_push qs q 0 no_places))
         (subst (λ ls. Draws ps ls (ts ++ tests q (Arg (0 + length qs)) places) e) (sym (after_push qs q 0 no_places)) base)
 
 -- no pattern
-pub drafted_none : (bs : List Binding) (d : Draft) → ((ps : List Path) → Draws ps no_places [] d) → Drafted bs bs [] d
-drafted_none bs d h = record { extends = extends_self (paths_of bs); only = λ p c. inl c; all = λ p c. absurd (omega arith); draws = λ ps x. h ps }
+pub drafted_none : (bs : Numbered) (d : Draft) → ((ps : List Path) → Draws ps no_places [] d) → Drafted bs bs [] d
+drafted_none bs d h = record { extends = extends_self (paths_of bs.bindings); only = λ p c. inl c; all = λ p c. absurd (omega arith); draws = λ ps x. h ps; calls = refl }
 
 -- the next pattern of the code's list
-pub drafted_more : (old mid new : List Binding) (patterns : List CodePattern) (i : ℕ) (x : CodePattern) (d e : Draft) (b : BindingId) → i < length patterns → x ≡ get_or patterns i x → Drafted old mid (map pattern (take i patterns)) d
+pub drafted_more : (old mid new : Numbered) (patterns : List CodePattern) (i : ℕ) (x : CodePattern) (d e : Draft) (b : BindingId) → i < length patterns → x ≡ get_or patterns i x → Drafted old mid (map pattern (take i patterns)) d
     → Numbers mid new (Arg i) b → Takes (pattern x) b d e → Drafted old new (map pattern (take (i + 1) patterns)) e
 drafted_more old mid new patterns i x d e b lt is h n t =
     let long : i ≡ length (map pattern (take i patterns)) = sym (length-map (take i patterns) pattern ∙ length-take-le i patterns le) in

@@ -12,10 +12,13 @@ use Rattle.std.proofs.lemmas.Option.{slice_get-get_or, slice_get_within}
 use Rattle.isle_core.specs.declared.TermId.{TermId}
 use Rattle.isle_core.specs.declared.rule_sets.RuleSet.{RuleSet}
 use Rattle.isle_core.specs.declared.rules.Rule.{Rule as CodeRule}
-use Rattle.isle_core.specs.RuleViews.{rule, rules}
+use Rattle.isle_core.specs.declared.types.Term.{Term}
+use Rattle.isle_core.specs.declared.types.TermEnv.{TermEnv}
+use Rattle.isle_core.specs.declared.types.TypeEnv.{TypeEnv}
+use Rattle.isle_core.specs.RuleViews.{rule, rules, environment}
 use Rattle.isle_core.specs.StandsFor.{StandsFor}
-use Rattle.isle_core.specs.Rule.{Rule}
-use Rattle.isle_rulesets.specs.Grouping.{AreGroups, AreSetsBelow}
+use Rattle.isle_core.specs.Rule.{Environment, Rule}
+use Rattle.isle_rulesets.specs.Grouping.{AreGroups, AreRuleSets, AreSetsBelow}
 
 -- ---- one rule more
 
@@ -109,24 +112,36 @@ ids_more rs n b e = ap (filter (has rs)) (map-range_with_len_more (λ (i : ℕ).
 length_seen : (rs : List (Bor CodeRule)) (all : List Rule) (n : ℕ) → rules rs ≡ filter (is_of n) all → length rs ≡ length (filter (is_of n) all)
 length_seen rs all n e = sym (length-map rs (λ (r : Bor CodeRule). rule r.now)) ∙ ap length e
 
-pub sets_push : (rs : List Rule) (n : ℕ) (g : List (Bor CodeRule)) (sets items : List (TermId × RuleSet)) (s : RuleSet) → rules g ≡ filter (is_of n) rs → 0 < length g → AreSetsBelow rs n sets → StandsFor s (rules g) → items ≡ sets ++ (record { 0 = n }, s) ∷ []
-    → AreSetsBelow rs (n + 1) items
-sets_push rs n g sets items s e some h st more = record {
-  ids = ap (map (λ (x : TermId × RuleSet). x.0)) more ∙ map_push (λ (x : TermId × RuleSet). x.0) sets (record { 0 = n }, s) ∙ ap (λ xs. xs ++ record { 0 = n } ∷ []) h.ids ∙ sym (ids_more rs n true (any_some (is_of n) rs long));
-  stand = subst (All P) (sym more) (All-push P sets (record { 0 = n }, s) h.stand (subst (StandsFor s) e st));
-}
-  where
-    P : TermId × RuleSet → Type 0
-    P x = StandsFor x.1 (filter (is_of x.0.0) rs)
+-- the rule sets below a place, for each environment of these terms
+abbrev pub SetsIn : List Term → List Rule → ℕ → List (TermId × RuleSet) → Type 0
+SetsIn terms rs n sets = (env : Environment) → env.terms ≡ terms → AreSetsBelow env rs n sets
 
+pub sets_push : (terms slice : List Term) (rs : List Rule) (n : ℕ) (g : List (Bor CodeRule)) (sets items : List (TermId × RuleSet)) (s : RuleSet) → rules g ≡ filter (is_of n) rs → 0 < length g → SetsIn terms rs n sets
+    → slice ≡ terms → ((env : Environment) → env.terms ≡ slice → StandsFor env s (rules g)) → items ≡ sets ++ (record { 0 = n }, s) ∷ [] → SetsIn terms rs (n + 1) items
+sets_push terms slice rs n g sets items s e some below all st more env same =
+    let h = below env same in
+    let P : TermId × RuleSet → Type 0 = λ x. StandsFor env x.1 (filter (is_of x.0.0) rs) in
+    record {
+      ids = ap (map (λ (x : TermId × RuleSet). x.0)) more ∙ map_push (λ (x : TermId × RuleSet). x.0) sets (record { 0 = n }, s) ∙ ap (λ xs. xs ++ record { 0 = n } ∷ []) h.ids ∙ sym (ids_more rs n true (any_some (is_of n) rs long));
+      stand = subst (All P) (sym more) (All-push P sets (record { 0 = n }, s) h.stand (subst (StandsFor env s) e (st env (same ∙ sym all))));
+    }
+  where
     long : 0 < length (filter (is_of n) rs)
     long = subst (λ k. 0 < k) (length_seen g rs n e) some
 
-pub sets_skip : (rs : List Rule) (n : ℕ) (g : List (Bor CodeRule)) (sets : List (TermId × RuleSet)) → rules g ≡ filter (is_of n) rs → length g ≡ 0 → AreSetsBelow rs n sets → AreSetsBelow rs (n + 1) sets
-sets_skip rs n g sets e none h = record {
-  ids = h.ids ∙ sym (ids_more rs n false (any_none (is_of n) rs (sym (length_seen g rs n e) ∙ none)));
-  stand = h.stand;
-}
+pub sets_skip : (terms : List Term) (rs : List Rule) (n : ℕ) (g : List (Bor CodeRule)) (sets : List (TermId × RuleSet)) → rules g ≡ filter (is_of n) rs → length g ≡ 0 → SetsIn terms rs n sets → SetsIn terms rs (n + 1) sets
+sets_skip terms rs n g sets e none below env same =
+    let h = below env same in
+    record {
+      ids = h.ids ∙ sym (ids_more rs n false (any_none (is_of n) rs (sym (length_seen g rs n e) ∙ none)));
+      stand = h.stand;
+    }
+
+-- behind the last group
+pub sets_over : (types : TypeEnv) (terms : TermEnv) (n : ℕ) (sets : List (TermId × RuleSet)) → n ≡ length terms.terms → SetsIn terms.terms (map rule terms.rules) n sets → AreRuleSets (environment types terms) sets
+sets_over types terms n sets many below =
+    let h = below (environment types terms) refl in
+    record { ids = h.ids ∙ ap (λ k. filter (has (map rule terms.rules)) (ids k)) many; stand = h.stand }
 
 -- the rules of a group are rules of the list
 pub group_all : (P : Rule → Type 0) (rs : List Rule) (n : ℕ) (g : List (Bor CodeRule)) → rules g ≡ filter (is_of n) rs → All P rs → All P (rules g)

@@ -15,7 +15,9 @@ use Rattle.isle_core.specs.Path.{Path, path_over, add_path, paths_of}
 use Rattle.isle_core.specs.StandsFor.{EachOnce}
 use Rattle.isle_rulesets.specs.declared.numbering.Key.{Key}
 use Rattle.isle_rulesets.specs.declared.numbering.Key.TheVariants as key
-use Rattle.isle_rulesets.specs.Numbering.{key_cmp, key_binding, key_path, Extends, Numbers, AreNumbered}
+use Rattle.isle_core.proofs.Contained.{contained_cases, none_contained}
+use Rattle.isle_rulesets.specs.Numbering.{key_cmp, key_binding, key_path, Numbered, Extends, Numbers, IsKeyed, IsCallUpTo, AreNumbered}
+use Rattle.isle_rulesets.proofs.RuleTests.{append_once}
 
 -- ---- keys
 
@@ -63,16 +65,16 @@ key_over ps (key.ConstInt s a) = refl
 paths_push : (bs : List Binding) (k : Key) → paths_of (bs ++ key_binding k ∷ []) ≡ paths_of bs ++ key_path k ∷ []
 paths_push bs k = fold_push add_path [] bs (key_binding k) ∙ ap (λ p. paths_of bs ++ p ∷ []) (key_over (paths_of bs) k)
 
-get_push : {A : Type 0} (xs : List A) (y : A) (b : ℕ) (x : A) → slice_get xs b ≡ Some x → slice_get (xs ++ y ∷ []) b ≡ Some x
+pub get_push : {A : Type 0} (xs : List A) (y : A) (b : ℕ) (x : A) → slice_get xs b ≡ Some x → slice_get (xs ++ y ∷ []) b ≡ Some x
 get_push [] y b x e = cc
 get_push (z ∷ xs) y zero x e = e
 get_push (z ∷ xs) y (suc b) x e = get_push xs y b x e
 
-get_last : {A : Type 0} (xs : List A) (y : A) → slice_get (xs ++ y ∷ []) (length xs) ≡ Some y
+pub get_last : {A : Type 0} (xs : List A) (y : A) → slice_get (xs ++ y ∷ []) (length xs) ≡ Some y
 get_last [] y = refl
 get_last (z ∷ xs) y = get_last xs y
 
-get_either : {A : Type 0} (xs : List A) (y : A) (b : ℕ) (x : A) → slice_get (xs ++ y ∷ []) b ≡ Some x → (slice_get xs b ≡ Some x) ⊎ ((b ≡ length xs) × (y ≡ x))
+pub get_either : {A : Type 0} (xs : List A) (y : A) (b : ℕ) (x : A) → slice_get (xs ++ y ∷ []) b ≡ Some x → (slice_get xs b ≡ Some x) ⊎ ((b ≡ length xs) × (y ≡ x))
 get_either [] y zero x e = inr (refl, cc)
 get_either [] y (suc b) x e = cc
 get_either (z ∷ xs) y zero x e = inl e
@@ -112,50 +114,63 @@ paths_length : (bs : List Binding) (ps : List Path) → length (fold add_path ps
 paths_length [] ps = omega arith
 paths_length (b ∷ bs) ps = paths_length bs (add_path ps b) ∙ simp length-append (omega arith)
 
--- what a numbering is behind a new key
-pub numbered_more : (bs items : List Binding) (old new : BTreeMap Key BindingId) (k : Key) (n : ℕ) → AreNumbered bs old → get key_cmp old k ≡ None → n ≡ length bs → items ≡ bs ++ key_binding k ∷ [] → Updates key_cmp old new k (Some (record { 0 = n }))
-    → AreNumbered items new × Numbers bs items (key_path k) (record { 0 = n })
-numbered_more bs items old new k n a none l is u = (
-  record {
-    found = λ q b e. subst (λ ps. slice_get ps b.0 ≡ Some (key_path q)) (sym paths) (found_there (paths_of bs) old k (record { 0 = n }) b q (is_eq (key_cmp k q)) (a.found q b) long refl (sym (u.0 q) ∙ e));
-    keys = λ b p e. ⊎_elim (λ h. earlier b p h) (λ h. last b p h) (get_either (paths_of bs) (key_path k) b p (subst (λ ps. slice_get ps b ≡ Some p) paths e));
-  },
-  record {
-    there = ap (λ ps. slice_get ps n) paths ∙ ap (slice_get (paths_of bs ++ key_path k ∷ [])) long ∙ get_last (paths_of bs) (key_path k);
-    extends = record { kept = λ b p e. subst (λ ps. slice_get ps b ≡ Some p) (sym paths) (get_push (paths_of bs) (key_path k) b p e) };
-    only = λ q c. ⊎_elim (λ h. inl h) (λ h. inr (sym h)) (Contains-push_cases (paths_of bs) (key_path k) q (subst (λ ps. Contains ps q) paths c));
-  },
-)
-  where
-    paths : paths_of items ≡ paths_of bs ++ key_path k ∷ []
-    paths = ap paths_of is ∙ paths_push bs k
+-- ---- one path more stands behind the others
 
-    long : n ≡ length (paths_of bs)
-    long = omega (arith, paths_length bs [])
+pub long_paths : (bs : List Binding) → length (paths_of bs) ≡ length bs
+long_paths bs = omega (arith, paths_length bs [])
 
-    earlier : (b : ℕ) (p : Path) → slice_get (paths_of bs) b ≡ Some p → (q : Key) × (p ≡ key_path q) × (get key_cmp new q ≡ Some (record { 0 = b }))
-    earlier b p h = let o = a.keys b p h in (o.0, o.1, u.0 o.0 ∙ kept_there old k o.0 (record { 0 = n }) (record { 0 = b }) (is_eq (key_cmp k o.0)) none o.2 refl)
+pub push_extends : (ps qs : List Path) (p : Path) → qs ≡ ps ++ p ∷ [] → Extends ps qs
+push_extends ps qs p e = record { kept = λ b q h. subst (λ rs. slice_get rs b ≡ Some q) (sym e) (get_push ps p b q h) }
 
-    last : (b : ℕ) (p : Path) → (b ≡ length (paths_of bs)) × (key_path k ≡ p) → (q : Key) × (p ≡ key_path q) × (get key_cmp new q ≡ Some (record { 0 = b }))
-    last b p h = let same : n ≡ b = long ∙ sym h.0 in (k, sym h.1, u.1 ∙ ap (λ x. Some (record { 0 = x })) same)
-
--- ---- each path once
+-- no path of another kind
+not_keyed : (n : ℕ) (k : Key) → IsCallUpTo n (key_path k) → ⊥
+not_keyed n (key.Argument a) h = h
+not_keyed n (key.ConstBool a) h = h
+not_keyed n (key.ConstInt s a) h = h
 
 pub place_of : {A : Type 0} (xs : List A) (x : A) → Contains xs x → (k : ℕ) × (slice_get xs k ≡ Some x)
 place_of xs x c = (c.0, slice_get-get_or xs c.0 x c.1 ∙ ap Some c.2)
 
-pred_same : (a b : ℕ) → suc a ≡ suc b → a ≡ b
-pred_same a b e = omega arith
+-- a key that is not found has a path that is not there
+new_key : (n : Numbered) (numbers : BTreeMap Key BindingId) (k : Key) → AreNumbered n numbers → get key_cmp numbers k ≡ None → Contains (paths_of n.bindings) (key_path k) → ⊥
+new_key n numbers k a none c =
+    let at = place_of (paths_of n.bindings) (key_path k) c in
+    ⊎_elim (λ (h : IsKeyed numbers at.0 (key_path k)). none_some (record { 0 = at.0 }) (sym none ∙ ap (get key_cmp numbers) (path_same k h.0 h.1) ∙ h.2)) (not_keyed n.calls k) (a.kinds at.0 (key_path k) at.1)
 
-zero_apart : (a : ℕ) → 0 ≡ suc a → ⊥
-zero_apart a e = omega arith
+pub once_push : (xs : List Path) (x : Path) → EachOnce xs → (Contains xs x → ⊥) → EachOnce (xs ++ x ∷ [])
+once_push xs x h new = append_once xs (x ∷ []) h (none_contained x, tt) (λ y c d. ⊎_elim (λ (e : x ≡ y). new (subst (Contains xs) (sym e) c)) (none_contained y) (contained_cases x [] y d))
 
-once_from : {A : Type 0} (xs : List A) → ((a b : ℕ) (x : A) → slice_get xs a ≡ Some x → slice_get xs b ≡ Some x → a ≡ b) → EachOnce xs
-once_from [] h = tt
-once_from (x ∷ xs) h = (λ c. let at = place_of xs x c in zero_apart at.0 (h zero (suc at.0) x refl at.1), once_from xs (λ a b y e f. pred_same a b (h (suc a) (suc b) y e f)))
+-- what a numbering is behind a new key
+pub numbered_more : (old : Numbered) (items : List Binding) (numbers new : BTreeMap Key BindingId) (k : Key) (n : ℕ) → AreNumbered old numbers → get key_cmp numbers k ≡ None → n ≡ length old.bindings → items ≡ old.bindings ++ key_binding k ∷ []
+    → Updates key_cmp numbers new k (Some (record { 0 = n })) → AreNumbered (record { bindings = items; calls = old.calls }) new × Numbers old (record { bindings = items; calls = old.calls }) (key_path k) (record { 0 = n })
+numbered_more old items numbers new k n a none l is u = (
+  record {
+    found = λ q b e. subst (λ ps. slice_get ps b.0 ≡ Some (key_path q)) (sym paths) (found_there ps numbers k (record { 0 = n }) b q (is_eq (key_cmp k q)) (a.found q b) long refl (sym (u.0 q) ∙ e));
+    kinds = λ b p e. ⊎_elim (λ h. earlier b p h) (λ h. inl (last b p h)) (get_either ps (key_path k) b p (subst (λ qs. slice_get qs b ≡ Some p) paths e));
+    once = subst EachOnce (sym paths) (once_push ps (key_path k) a.once (new_key old numbers k a none));
+  },
+  record {
+    there = ap (λ qs. slice_get qs n) paths ∙ ap (slice_get (ps ++ key_path k ∷ [])) long ∙ get_last ps (key_path k);
+    extends = push_extends ps (paths_of items) (key_path k) paths;
+    only = λ q c. ⊎_elim (λ h. inl h) (λ h. inr (sym h)) (Contains-push_cases ps (key_path k) q (subst (λ qs. Contains qs q) paths c));
+    calls = refl;
+  },
+)
+  where
+    ps : List Path
+    ps = paths_of old.bindings
 
-pub numbered_once : (bs : List Binding) (numbers : BTreeMap Key BindingId) → AreNumbered bs numbers → EachOnce (paths_of bs)
-numbered_once bs numbers a = once_from (paths_of bs) (λ x y p e f.
-    let k = a.keys x p e in
-    let q = a.keys y p f in
-    ap (λ (b : BindingId). b.0) (some_same (record { 0 = x }) (record { 0 = y }) (sym k.2 ∙ ap (get key_cmp numbers) (path_same k.0 q.0 (sym k.1 ∙ q.1)) ∙ q.2)))
+    paths : paths_of items ≡ paths_of old.bindings ++ key_path k ∷ []
+    paths = ap paths_of is ∙ paths_push old.bindings k
+
+    long : n ≡ length (paths_of old.bindings)
+    long = l ∙ sym (long_paths old.bindings)
+
+    kept : (b : ℕ) (p : Path) → IsKeyed numbers b p → IsKeyed new b p
+    kept b p o = (o.0, o.1, u.0 o.0 ∙ kept_there numbers k o.0 (record { 0 = n }) (record { 0 = b }) (is_eq (key_cmp k o.0)) none o.2 refl)
+
+    earlier : (b : ℕ) (p : Path) → slice_get (paths_of old.bindings) b ≡ Some p → IsKeyed new b p ⊎ IsCallUpTo old.calls p
+    earlier b p h = ⊎_elim (λ o. inl (kept b p o)) (λ c. inr c) (a.kinds b p h)
+
+    last : (b : ℕ) (p : Path) → (b ≡ length (paths_of old.bindings)) × (key_path k ≡ p) → IsKeyed new b p
+    last b p h = let same : n ≡ b = long ∙ sym h.0 in (k, sym h.1, u.1 ∙ ap (λ x. Some (record { 0 = x })) same)

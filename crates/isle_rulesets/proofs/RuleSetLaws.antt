@@ -1,6 +1,6 @@
 -- Rules become a rule set that stands for them.
-use Rattle.std.proofs.Common.{◌≡◌, inl, inr, ⊎_elim, ℕ, zero, suc, ℤ, Bool, ◌<◌, ◌≤◌, ◌+◌, List, [], ◌∷◌, ◌++◌, length, map, take, get_or, Option, Some, None, Result, Ok, Err, refl, sym, ap, ◌∙◌, subst, arith, append_assoc, append-nil, Bor}
-use Rattle.std.specs.Prelude.{◌↔◌, Contains, All, IsSome, IfOk, filter}
+use Rattle.std.proofs.Common.{◌≡◌, inl, inr, ⊎_elim, ℕ, zero, suc, ◌<◌, ◌≤◌, ◌+◌, List, [], ◌∷◌, ◌++◌, length, map, take, get_or, Option, Some, None, refl, sym, ap, ◌∙◌, subst, arith, append_assoc, append-nil, Bor}
+use Rattle.std.specs.Prelude.{◌↔◌, Contains, All, IsSome, filter, slice_get}
 use Rattle.std.specs.Ordering.{nat_cmp}
 use Rattle.std.specs.BTreeMap.{BTreeMap, get}
 use Rattle.std.proofs.lemmas.List.{map_more, length-map, get_or-map, take_all}
@@ -10,104 +10,106 @@ use Rattle.isle_core.specs.declared.rule_sets.Binding.{Binding}
 use Rattle.isle_core.specs.declared.rule_sets.FlatRule.{FlatRule}
 use Rattle.isle_core.specs.declared.rule_sets.RuleSet.{RuleSet}
 use Rattle.isle_core.specs.declared.rules.Rule.{Rule as CodeRule}
+use Rattle.isle_core.specs.declared.types.Term.{Term}
 use Rattle.isle_core.specs.Pattern.{Pattern}
-use Rattle.isle_core.specs.Expr.{Expr, Var, ConstBool, ConstInt}
-use Rattle.isle_core.specs.declared.TypeId.{TypeId}
-use Rattle.isle_core.specs.Path as path
-use Rattle.isle_core.specs.Path.{Path, Nowhere, at, paths_of}
-use Rattle.isle_core.specs.Tests.{Places, no_places, bool_type, args_after, arg_paths, path as path_of, path_or, rule_tests, rule_result, rule_paths}
+use Rattle.isle_core.specs.Expr as expr
+use Rattle.isle_core.specs.Expr.{Expr, Exprs, NoExpr, AnExpr}
+use Rattle.isle_core.specs.Path.{Path, Nowhere, Arg, at, paths_of}
+use Rattle.isle_core.specs.Calling.{impure}
+use Rattle.isle_core.specs.Tests.{Places, no_places, args_after, arg_paths, expr_paths, rule_places, rule_tests, rule_calls, rule_paths}
 use Rattle.isle_core.specs.RuleSet.{is_test, equal_test, flat_tests}
 use Rattle.isle_core.specs.RuleViews.{rule, rules}
-use Rattle.isle_core.specs.StandsFor.{EachOnce, IsFlat, AreFlat, rules_paths, StandsFor}
-use Rattle.isle_core.specs.BuiltRule.{IsBuiltExpr, IsBuiltRule, IsBoundIn, IsBoundRule}
-use Rattle.isle_core.specs.Rule.{Rule}
-use Rattle.isle_core.proofs.Contained.{head_contained, tail_contained, contained_cases, none_contained}
-use Rattle.isle_core.proofs.SetMeans.{no_trivial}
+use Rattle.isle_core.specs.StandsFor.{EachOnce, AreFirsts, IsFlat, AreFlat, rules_paths, StandsFor}
+use Rattle.isle_core.specs.BuiltRule.{IsBuiltExpr, AreBuiltExprs, IsBuiltRule, IsBoundIn, AreBoundIn, IsBoundRule, CallsImpure, IsImpureRule}
+use Rattle.isle_core.specs.Rule.{Environment, Rule}
+use Rattle.isle_core.proofs.NotTrivial.{no_trivial}
 use Rattle.isle_rulesets.specs.declared.draft.Draft.{Draft}
-use Rattle.isle_rulesets.specs.Numbering.{Extends, Numbers}
+use Rattle.isle_rulesets.specs.Numbering.{Numbered, Extends}
 use Rattle.isle_rulesets.specs.Drafts.{is_constraint, path_at, Drafted}
-use Rattle.isle_rulesets.specs.FlatRules.{IsKnown, Gives, Adds, Covers}
+use Rattle.isle_rulesets.specs.RightSides.{StandsAt, Stand, IsKnown, AreKnown, Gives}
+use Rattle.isle_rulesets.specs.FlatRules.{Adds, rules_impure, Covers}
 use Rattle.isle_rulesets.proofs.NumberingLaws.{extends_self, extends_more}
-use Rattle.isle_rulesets.proofs.DraftLaws.{at_kept, contains_kept}
-use Rattle.isle_rulesets.proofs.RuleTests.{rule_once, parted, parted_keeps, parted_from, parted_once, stands_at}
+use Rattle.isle_rulesets.proofs.DraftLaws.{at_get, contains_kept}
+use Rattle.isle_rulesets.proofs.RuleTests.{rule_once, parted, parted_keeps, parted_from, parted_once, stands_at, place_is_arg}
+use Rattle.isle_rulesets.proofs.RightSideLaws.{Given}
+use Rattle.isle_rulesets.proofs.CallsOnce.{rule_firsts}
 
--- ---- the result of a rule
-
--- a constant has its path's number
-pub gives_const : {E : Type 0} (r : Result BindingId E) (old new : List Binding) (variables : BTreeMap ℕ BindingId) (e : Expr) (p : Path) → ((places : Places) → path_of e places ≡ p) → IfOk r (Numbers old new p) → IfOk r (Gives old new variables e)
-gives_const (Err x) old new variables e p is h = tt
-gives_const (Ok b) old new variables e p is h = record {
-  extends = h.extends;
-  only = λ q c. ⊎_elim (λ d. inl d) (λ k. inr (k ∙ sym (at_kept (paths_of new) (paths_of new) b p (extends_self (paths_of new)) h.there))) (h.only q c);
-  result = λ ps places x k. at_kept (paths_of new) ps b p x h.there ∙ sym (is places);
-}
+-- ---- the variables of a rule
 
 is_there : (ps : List Path) (o : Option BindingId) (p : Path) → path_at ps o ≡ Some p → IsSome o
 is_there ps None p e = cc
 is_there ps (Some b) p e = refl
 
--- a right side that is built and bound has a number, or gets one
-pub result_known : (old new : List Binding) (args : List Pattern) (d : Draft) (e : Expr) → Drafted old new args d → IsBuiltExpr e → IsBoundIn args e → IsKnown d.variables e
-result_known old new args d (Var ty x) h b k =
-    let s = stands_at args k.0 x k.1 in
-    is_there (paths_of new) (get nat_cmp d.variables x.0) s.0 ((h.draws (paths_of new) (extends_self (paths_of new))).knows.by x.0 ∙ s.1)
-result_known old new args d (ConstBool v) h b k = tt
-result_known old new args d (ConstInt ty v) h b k = tt
-result_known old new args d e h b k = absurd b
+-- an expression that is built and bound has numbers for its variables
+mutual
+  pub expr_known : (old new : Numbered) (args : List Pattern) (d : Draft) (e : Expr) → Drafted old new args d → IsBuiltExpr e → IsBoundIn args e → IsKnown d.variables e
+  expr_known old new args d (expr.Var ty x) h b k =
+      let s = stands_at args k.0 x k.1 in
+      is_there (paths_of new.bindings) (get nat_cmp d.variables x.0) s.0 ((h.draws (paths_of new.bindings) (extends_self (paths_of new.bindings))).knows.by x.0 ∙ s.1)
+  expr_known old new args d (expr.ConstBool v) h b k = tt
+  expr_known old new args d (expr.ConstInt ty v) h b k = tt
+  expr_known old new args d (expr.Term ty term es) h b k = exprs_known old new args d es h b k
+  expr_known old new args d e h b k = absurd b
+
+  exprs_known : (old new : Numbered) (args : List Pattern) (d : Draft) (es : Exprs) → Drafted old new args d → AreBuiltExprs es → AreBoundIn args es → AreKnown d.variables es
+  exprs_known old new args d NoExpr h b k = tt
+  exprs_known old new args d (AnExpr e es) h b k = (expr_known old new args d e h b.0 k.0, exprs_known old new args d es h b.1 k.1)
+
+at_there : (ps : List Path) (b : ℕ) (i : ℕ) → get_or ps b Nowhere ≡ Arg i → slice_get ps b ≡ Some (Arg i)
+at_there [] b i e = cc
+at_there (q ∷ ps) zero i e = ap Some e
+at_there (q ∷ ps) (suc b) i e = at_there ps b i e
+
+var_stands : (ps : List Path) (o : Option BindingId) (q : Option Path) → path_at ps o ≡ q → ((p : Path) → q ≡ Some p → (i : ℕ) × (p ≡ Arg i)) → StandsAt ps o q
+var_stands ps None None e h = tt
+var_stands ps (Some b) (Some p) e h =
+    let arg = h p refl in
+    let here : at ps b ≡ p = some_same (at ps b) p e in
+    at_there ps b.0 arg.0 (here ∙ arg.1) ∙ ap Some (sym arg.1)
+  where
+    some_same : (x y : Path) → Some x ≡ Some y → x ≡ y
+    some_same x y e' = cc
+var_stands ps None (Some p) e h = cc
+var_stands ps (Some b) None e h = cc
+
+-- the variables' numbers stand for their paths
+draft_stands : (old new : Numbered) (args : List Pattern) (d : Draft) → Drafted old new args d → Stand (paths_of new.bindings) d.variables (args_after args 0 no_places)
+draft_stands old new args d h = record {
+  by = λ x. var_stands (paths_of new.bindings) (get nat_cmp d.variables x) (args_after args 0 no_places x) ((h.draws (paths_of new.bindings) (extends_self (paths_of new.bindings))).knows.by x) (place_is_arg args x);
+}
 
 -- ---- a rule
 
-at_there : (ps : List Path) (b : ℕ) (p : Path) → get_or ps b Nowhere ≡ p → (p ≡ Nowhere → ⊥) → Contains ps p
-at_there [] b p e h = absurd (h (sym e))
-at_there (q ∷ ps) zero p e h = subst (Contains (q ∷ ps)) e (head_contained q ps)
-at_there (q ∷ ps) (suc b) p e h = tail_contained q ps p (at_there ps b p e h)
-
-bool_somewhere : (ty : TypeId) (v : Bool) → path.ConstBool ty v ≡ Nowhere → ⊥
-bool_somewhere ty v e = cc
-
-int_somewhere : (ty : TypeId) (n : ℤ) → path.ConstInt ty n ≡ Nowhere → ⊥
-int_somewhere ty n e = cc
-
--- the path of a right side is numbered
-result_there : (new : List Binding) (args : List Pattern) (b : BindingId) (e : Expr) → at (paths_of new) b ≡ path_of e (args_after args 0 no_places) → ((p : Path) → Contains (arg_paths args 0) p → Contains (paths_of new) p) → IsBuiltExpr e → IsBoundIn args e
-    → Contains (paths_of new) (path_of e (args_after args 0 no_places))
-result_there new args b (Var ty x) is all h k = let s = stands_at args k.0 x k.1 in subst (λ o. Contains (paths_of new) (path_or o)) (sym s.1) (all s.0 s.2)
-result_there new args b (ConstBool v) is all h k = at_there (paths_of new) b.0 (path.ConstBool bool_type v) is (bool_somewhere bool_type v)
-result_there new args b (ConstInt ty n) is all h k = at_there (paths_of new) b.0 (path.ConstInt ty n) is (int_somewhere ty n)
-result_there new args b e is all h k = absurd h
-
--- a flat rule of a draft and a result
-pub record IsMade (r : Rule) (d : Draft) (b : BindingId) (f : FlatRule) : Type 0 where
+-- a flat rule of a draft, calls and a result
+pub record IsMade (r : Rule) (d : Draft) (calls : List BindingId) (b : BindingId) (f : FlatRule) : Type 0 where
   pub constraints : f.constraints ≡ d.constraints.items
   pub equals : f.equals ≡ d.equals.items
   pub prio : f.prio ≡ r.prio
   pub pos : f.pos ≡ r.pos
   pub iterators : f.iterators ≡ []
-  pub ordered : f.ordered ≡ []
+  pub ordered : f.ordered ≡ calls
   pub result : f.result ≡ b
 
-pub rule_added : (old mid new : List Binding) (r : Rule) (d : Draft) (b : BindingId) (f : FlatRule) → IsBuiltRule r → IsBoundRule r → Drafted old mid r.args d → Gives mid new d.variables r.rhs b → IsMade r d b f → Adds old new r f
-rule_added old mid new r d b f built bound h g is = record {
-  extends = extends_more (paths_of old) (paths_of mid) (paths_of new) h.extends g.extends;
-  only = λ p c. ⊎_elim (λ k. ⊎_elim (λ x. inl x) (λ x. inr (Contains-append_left (arg_paths r.args 0) (rule_result r ∷ []) p x)) (h.only p k))
-      (λ e. inr (Contains-append_right (arg_paths r.args 0) (rule_result r ∷ []) p (subst (Contains (rule_result r ∷ [])) (sym (e ∙ here)) (head_contained (rule_result r) [])))) (g.only p c);
-  all = λ p c. ⊎_elim (λ k. arg_there p k) (λ k. ⊎_elim (λ (s : rule_result r ≡ p). subst (Contains (paths_of new)) s (result_there new r.args b r.rhs here arg_there built.rhs bound)) (λ n. absurd (none_contained p n)) (contained_cases (rule_result r) [] p k))
-      (Contains-append_cases (arg_paths r.args 0) (rule_result r ∷ []) p c);
+pub rule_added : (terms : List Term) (old mid new : Numbered) (r : Rule) (d : Draft) (none calls : List BindingId) (b : BindingId) (f : FlatRule) → IsBuiltRule r → IsBoundRule r → IsImpureRule terms r → Drafted old mid r.args d → none ≡ []
+    → Given terms d.variables mid new none calls r.rhs b → IsMade r d calls b f → (env : Environment) → env.terms ≡ terms → Adds env old new r f
+rule_added terms old mid new r d none calls b f built bound impure_terms h start given is env same = record {
+  extends = extends_more (paths_of old.bindings) (paths_of mid.bindings) (paths_of new.bindings) h.extends g.grows.extends;
+  only = λ p c. ⊎_elim (λ k. ⊎_elim (λ x. inl x) (λ x. inr (Contains-append_left (arg_paths r.args 0) (expr_paths env r.rhs (rule_places r) old.calls) p x)) (h.only p k))
+      (λ k. inr (Contains-append_right (arg_paths r.args 0) (expr_paths env r.rhs (rule_places r) old.calls) p k)) (g.grows.only p c);
+  all = λ p c. ⊎_elim (λ k. contains_kept (paths_of mid.bindings) (paths_of new.bindings) p g.grows.extends (h.all p k)) (λ k. g.grows.all p k) (Contains-append_cases (arg_paths r.args 0) (expr_paths env r.rhs (rule_places r) old.calls) p c);
   flat = λ ps x. flat ps x;
+  calls = g.grows.calls;
 }
   where
-    places : Places
-    places = args_after r.args 0 no_places
+    g : Gives env (rule_places r) (record { bindings = mid.bindings; calls = old.calls }) new [] calls r.rhs b
+    g =
+        let first = given env (rule_places r) same (draft_stands old mid r.args d h) in
+        let second = subst (λ ms. Gives env (rule_places r) mid new ms calls r.rhs b) start first in
+        subst (λ n. Gives env (rule_places r) (record { bindings = mid.bindings; calls = n }) new [] calls r.rhs b) h.calls second
 
-    here : at (paths_of new) b ≡ rule_result r
-    here = g.result (paths_of new) (args_after r.args 0 no_places) (extends_self (paths_of new)) (h.draws (paths_of new) g.extends).knows
-
-    arg_there : (p : Path) → Contains (arg_paths r.args 0) p → Contains (paths_of new) p
-    arg_there p c = contains_kept (paths_of mid) (paths_of new) p g.extends (h.all p c)
-
-    flat : (ps : List Path) → Extends (paths_of new) ps → IsFlat ps r f
+    flat : (ps : List Path) → Extends (paths_of new.bindings) ps → IsFlat env ps r old.calls f
     flat ps x =
-        let dr = h.draws ps (extends_more (paths_of mid) (paths_of new) ps g.extends x) in
+        let dr = h.draws ps (extends_more (paths_of mid.bindings) (paths_of new.bindings) ps g.grows.extends x) in
         let tests : flat_tests ps f ≡ parted (rule_tests r) =
         ap (λ cs. map (is_test ps) cs ++ map (equal_test ps) f.equals) is.constraints ∙ ap (λ es. map (is_test ps) d.constraints.items ++ map (equal_test ps) es) is.equals
         ∙ ap (λ ts. ts ++ map (equal_test ps) d.equals.items) dr.constraints ∙ ap (λ ts. filter is_constraint (rule_tests r) ++ ts) dr.equals in
@@ -118,51 +120,83 @@ rule_added old mid new r d b f built bound h g is = record {
           prio = is.prio;
           pos = is.pos;
           iterators = is.iterators;
-          ordered = is.ordered;
-          result = ap (at ps) is.result ∙ g.result ps (args_after r.args 0 no_places) x dr.knows;
+          ordered = subst (AreFirsts [] (rule_calls env r old.calls)) (sym (ap (map (at ps)) is.ordered ∙ g.grows.ordered ps x)) (rule_firsts env terms r old.calls same built.rhs impure_terms);
+          result = ap (at ps) is.result ∙ at_get ps b.0 _ (x.kept b.0 _ g.there);
         }
 
 -- ---- rules
 
-paths_push : (rs : List Rule) (r : Rule) → rules_paths (rs ++ r ∷ []) ≡ rules_paths rs ++ rule_paths r
-paths_push [] r = append-nil (rule_paths r)
-paths_push (q ∷ rs) r = ap (λ ps. rule_paths q ++ ps) (paths_push rs r) ∙ sym (append_assoc (rule_paths q) (rules_paths rs) (rule_paths r))
+behind : (n k l : ℕ) → (n + k) + l ≡ n + (k + l)
+behind n k l = omega arith
 
-flat_push : (ps : List Path) (rs : List Rule) (fs : List FlatRule) (r : Rule) (f : FlatRule) → AreFlat ps rs fs → IsFlat ps r f → AreFlat ps (rs ++ r ∷ []) (fs ++ f ∷ [])
-flat_push ps [] [] r f h k = (k, tt)
-flat_push ps (q ∷ rs) (g ∷ fs) r f h k = (h.0, flat_push ps rs fs r f h.1 k)
-flat_push ps [] (g ∷ fs) r f h k = absurd h
-flat_push ps (q ∷ rs) [] r f h k = absurd h
+paths_push : (env : Environment) (rs : List Rule) (r : Rule) (n : ℕ) → rules_paths env (rs ++ r ∷ []) n ≡ rules_paths env rs n ++ rule_paths env r (n + rules_impure env rs)
+paths_push env [] r n = append-nil (rule_paths env r n) ∙ ap (rule_paths env r) (none n)
+  where
+    none : (k : ℕ) → k ≡ k + 0
+    none k = omega arith
+paths_push env (q ∷ rs) r n =
+    ap (λ ps. rule_paths env q n ++ ps) (paths_push env rs r (n + impure env q.rhs) ∙ ap (λ k. rules_paths env rs (n + impure env q.rhs) ++ rule_paths env r k) (behind n (impure env q.rhs) (rules_impure env rs)))
+    ∙ sym (append_assoc (rule_paths env q n) (rules_paths env rs (n + impure env q.rhs)) (rule_paths env r (n + rules_impure env (q ∷ rs))))
 
-covers_push : (bs new : List Binding) (rs : List Rule) (fs : List FlatRule) (r : Rule) (f : FlatRule) → Covers bs rs fs → Adds bs new r f → Covers new (rs ++ r ∷ []) (fs ++ f ∷ [])
-covers_push bs new rs fs r f h a = record {
-  only = λ p c. subst (λ ps. Contains ps p) (sym (paths_push rs r)) (⊎_elim (λ k. Contains-append_left (rules_paths rs) (rule_paths r) p (h.only p k)) (λ k. Contains-append_right (rules_paths rs) (rule_paths r) p k) (a.only p c));
-  all = λ p c. ⊎_elim (λ k. contains_kept (paths_of bs) (paths_of new) p a.extends (h.all p k)) (λ k. a.all p k) (Contains-append_cases (rules_paths rs) (rule_paths r) p (subst (λ ps. Contains ps p) (paths_push rs r) c));
-  flat = λ ps x. flat_push ps rs fs r f (h.flat ps (extends_more (paths_of bs) (paths_of new) ps a.extends x)) (a.flat ps x);
+flat_push : (env : Environment) (ps : List Path) (rs : List Rule) (fs : List FlatRule) (r : Rule) (f : FlatRule) (n : ℕ) → AreFlat env ps rs n fs → IsFlat env ps r (n + rules_impure env rs) f → AreFlat env ps (rs ++ r ∷ []) n (fs ++ f ∷ [])
+flat_push env ps [] [] r f n h k = (subst (λ m. IsFlat env ps r m f) (none n) k, tt)
+  where
+    none : (k : ℕ) → k + 0 ≡ k
+    none k = omega arith
+flat_push env ps (q ∷ rs) (g ∷ fs) r f n h k = (h.0, flat_push env ps rs fs r f (n + impure env q.rhs) h.1 (subst (λ m. IsFlat env ps r m f) (sym (behind n (impure env q.rhs) (rules_impure env rs))) k))
+flat_push env ps [] (g ∷ fs) r f n h k = absurd h
+flat_push env ps (q ∷ rs) [] r f n h k = absurd h
+
+impure_push : (env : Environment) (rs : List Rule) (r : Rule) → rules_impure env (rs ++ r ∷ []) ≡ rules_impure env rs + impure env r.rhs
+impure_push env [] r = omega arith
+impure_push env (q ∷ rs) r = ap (λ n. impure env q.rhs + n) (impure_push env rs r) ∙ sym (behind (impure env q.rhs) (rules_impure env rs) (impure env r.rhs))
+
+covers_push : (env : Environment) (old new : Numbered) (rs : List Rule) (fs : List FlatRule) (r : Rule) (f : FlatRule) → Covers env old rs fs → Adds env old new r f → Covers env new (rs ++ r ∷ []) (fs ++ f ∷ [])
+covers_push env old new rs fs r f h a = record {
+  only = λ p c. subst (λ ps. Contains ps p) (sym paths) (⊎_elim (λ k. Contains-append_left (rules_paths env rs 0) (rule_paths env r old.calls) p (h.only p k)) (λ k. Contains-append_right (rules_paths env rs 0) (rule_paths env r old.calls) p k) (a.only p c));
+  all = λ p c. ⊎_elim (λ k. contains_kept (paths_of old.bindings) (paths_of new.bindings) p a.extends (h.all p k)) (λ k. a.all p k) (Contains-append_cases (rules_paths env rs 0) (rule_paths env r old.calls) p (subst (λ ps. Contains ps p) paths c));
+  flat = λ ps x. flat_push env ps rs fs r f 0 (h.flat ps (extends_more (paths_of old.bindings) (paths_of new.bindings) ps a.extends x)) (subst (λ m. IsFlat env ps r m f) from_none (a.flat ps x));
+  calls = a.calls ∙ ap (λ n. n + impure env r.rhs) h.calls ∙ sym (impure_push env rs r);
 }
+  where
+    from_none : old.calls ≡ 0 + rules_impure env rs
+    from_none = h.calls ∙ none (rules_impure env rs)
+      where
+        none : (k : ℕ) → k ≡ 0 + k
+        none k = omega arith
+
+    paths : rules_paths env (rs ++ r ∷ []) 0 ≡ rules_paths env rs 0 ++ rule_paths env r old.calls
+    paths = paths_push env rs r 0 ∙ ap (λ n. rules_paths env rs 0 ++ rule_paths env r n) (sym from_none)
 
 -- no rule
-pub covers_none : Covers [] [] []
-covers_none = record { only = λ p c. c; all = λ p c. c; flat = λ ps x. tt }
+pub covers_none : (env : Environment) → Covers env (record { bindings = []; calls = 0 }) [] []
+covers_none env = record { only = λ p c. c; all = λ p c. c; flat = λ ps x. tt; calls = refl }
+
+-- so for each environment of these terms
+abbrev pub CoversIn : List Term → Numbered → List Rule → List FlatRule → Type 0
+CoversIn terms n rs fs = (env : Environment) → env.terms ≡ terms → Covers env n rs fs
 
 -- the next rule of the code's list
-pub covers_more : (bs new : List Binding) (rs : List (Bor CodeRule)) (i : ℕ) (x : Bor CodeRule) (fs items : List FlatRule) (f : FlatRule) → i < length rs → x ≡ get_or rs i x → Covers bs (rules (take i rs)) fs → Adds bs new (rule x.now) f → items ≡ fs ++ f ∷ []
-    → Covers new (rules (take (i + 1) rs)) items
-covers_more bs new rs i x fs items f lt is h a more =
+pub covers_more : (terms : List Term) (old new : Numbered) (rs : List (Bor CodeRule)) (i : ℕ) (x : Bor CodeRule) (fs items : List FlatRule) (f : FlatRule) → i < length rs → x ≡ get_or rs i x → CoversIn terms old (rules (take i rs)) fs
+    → ((env : Environment) → env.terms ≡ terms → Adds env old new (rule x.now) f) → items ≡ fs ++ f ∷ [] → CoversIn terms new (rules (take (i + 1) rs)) items
+covers_more terms old new rs i x fs items f lt is h a more env same =
     let one = map_more (λ (r : Bor CodeRule). rule r.now) rs i x lt ∙ ap (λ (y : Bor CodeRule). rules (take i rs) ++ rule y.now ∷ []) (sym is) in
-    subst (Covers new (rules (take (i + 1) rs))) (sym more) (subst (λ qs. Covers new qs (fs ++ f ∷ [])) (sym one) (covers_push bs new (rules (take i rs)) fs (rule x.now) f h a))
+    subst (Covers env new (rules (take (i + 1) rs))) (sym more) (subst (λ qs. Covers env new qs (fs ++ f ∷ [])) (sym one) (covers_push env old new (rules (take i rs)) fs (rule x.now) f (h env same) (a env same)))
 
 -- behind the last rule of the code's list
-pub covers_all : (bs : List Binding) (rs : List (Bor CodeRule)) (i : ℕ) (fs : List FlatRule) → length rs ≤ i → Covers bs (rules (take i rs)) fs → Covers bs (rules rs) fs
-covers_all bs rs i fs le h = subst (λ xs. Covers bs (rules xs) fs) (take_all i rs le) h
+pub covers_all : (terms : List Term) (n : Numbered) (rs : List (Bor CodeRule)) (i : ℕ) (fs : List FlatRule) → length rs ≤ i → CoversIn terms n (rules (take i rs)) fs → CoversIn terms n (rules rs) fs
+covers_all terms n rs i fs le h = subst (λ xs. CoversIn terms n (rules xs) fs) (take_all i rs le) h
 
 -- all rules
-pub covers_stands : (s : RuleSet) (bs : List Binding) (rs : List Rule) (fs : List FlatRule) → Covers bs rs fs → EachOnce (paths_of bs) → s.bindings ≡ bs → s.rules ≡ fs → StandsFor s rs
-covers_stands s bs rs fs h once is_bs is_fs = record {
-  once = subst (λ x. EachOnce (paths_of x)) (sym is_bs) once;
-  paths = λ p. subst (λ x. Contains (paths_of x) p ↔ Contains (rules_paths rs) p) (sym is_bs) (h.only p, h.all p);
-  flat = subst (λ x. AreFlat (paths_of s.bindings) rs x) (sym is_fs) (subst (λ x. AreFlat (paths_of x) rs fs) (sym is_bs) (h.flat (paths_of bs) (extends_self (paths_of bs))));
-}
+pub covers_stands : (terms : List Term) (s : RuleSet) (bs : List Binding) (n : Numbered) (rs : List Rule) (fs : List FlatRule) → CoversIn terms n rs fs → EachOnce (paths_of bs) → bs ≡ n.bindings → s.bindings ≡ bs → s.rules ≡ fs → (env : Environment) → env.terms ≡ terms → StandsFor env s rs
+covers_stands terms s bs n rs fs covers once are is is_fs env same =
+    let h = covers env same in
+    let is_bs = is ∙ are in
+    record {
+      once = subst (λ x. EachOnce (paths_of x)) (sym is) once;
+      paths = λ p. subst (λ x. Contains (paths_of x) p ↔ Contains (rules_paths env rs 0) p) (sym is_bs) (h.only p, h.all p);
+      flat = subst (λ x. AreFlat env (paths_of s.bindings) rs 0 x) (sym is_fs) (subst (λ x. AreFlat env (paths_of x) rs 0 fs) (sym is_bs) (h.flat (paths_of n.bindings) (extends_self (paths_of n.bindings))));
+    }
 
 -- a rule of a list of rules of a kind
 pub rule_at : (P : Rule → Type 0) (rs : List (Bor CodeRule)) (i : ℕ) (x : Bor CodeRule) → All P (rules rs) → i < length rs → x ≡ get_or rs i x → P (rule x.now)

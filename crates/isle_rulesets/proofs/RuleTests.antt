@@ -110,7 +110,7 @@ filter_once : {A : Type 0} (p : A → Bool) (xs : List A) → EachOnce xs → Ea
 filter_once p [] h = tt
 filter_once p (y ∷ xs) h = once_at y (filter p xs) (p y) (λ c. h.0 (filter_cases p xs y c).0) (filter_once p xs h.1)
 
-append_once : {A : Type 0} (xs ys : List A) → EachOnce xs → EachOnce ys → ((x : A) → Contains xs x → Contains ys x → ⊥) → EachOnce (xs ++ ys)
+pub append_once : {A : Type 0} (xs ys : List A) → EachOnce xs → EachOnce ys → ((x : A) → Contains xs x → Contains ys x → ⊥) → EachOnce (xs ++ ys)
 append_once [] ys h k apart = k
 append_once (x ∷ xs) ys h k apart =
     (λ c. ⊎_elim h.0 (apart x (head_contained x xs)) (Contains-append_cases xs ys x c), append_once xs ys h.1 k (λ y c d. apart y (tail_contained x xs y c) d))
@@ -203,3 +203,12 @@ none_there p e = cc
 -- a variable of patterns stands at an argument
 pub stands_at : (qs : List Pattern) (of : TypeId) (x : VarId) → Contains qs (Var of x) → (p : Path) × (args_after qs 0 no_places x.0 ≡ Some p) × Contains (arg_paths qs 0) p
 stands_at qs of x c = let h = var_placed qs 0 no_places of x c in (h.p, h.is, ⊎_elim (λ d. d) (λ e. absurd (none_there h.p e)) h.among)
+
+-- the place of a variable of patterns is an argument
+is_arg : (qs : List Pattern) (n x : ℕ) (places : Places) (p : Path) → args_after qs n places x ≡ Some p → ((i : ℕ) × (p ≡ Arg i)) ⊎ (places x ≡ Some p)
+is_arg [] n x places p e = inr e
+is_arg (q ∷ qs) n x places p e =
+    ⊎_elim (λ h. inl h) (λ k. ⊎_elim (λ (s : Arg n ≡ p). inl (n, sym s)) (λ l. inr l) (after_from q n x places p k)) (is_arg qs (suc n) x (after q (Arg n) places) p e)
+
+pub place_is_arg : (qs : List Pattern) (x : ℕ) (p : Path) → args_after qs 0 no_places x ≡ Some p → (i : ℕ) × (p ≡ Arg i)
+place_is_arg qs x p e = ⊎_elim (λ h. h) (λ k. absurd (none_there p k)) (is_arg qs 0 x no_places p e)

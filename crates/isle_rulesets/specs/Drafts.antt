@@ -3,13 +3,12 @@ use Rattle.std.specs.Prelude.{◌≡◌, ◌⊎◌, ℕ, List, Bool, true, false
 use Rattle.std.specs.Ordering.{nat_cmp}
 use Rattle.std.specs.BTreeMap.{BTreeMap, get}
 use Rattle.isle_core.specs.declared.BindingId.{BindingId}
-use Rattle.isle_core.specs.declared.rule_sets.Binding.{Binding}
 use Rattle.isle_core.specs.Pattern.{Pattern}
 use Rattle.isle_core.specs.Path.{Path, at, paths_of}
 use Rattle.isle_core.specs.Tests.{Test, Is, Equal, Places, no_places, args_tests, args_after, arg_paths}
 use Rattle.isle_core.specs.RuleSet.{is_test, equal_test}
 use Rattle.isle_rulesets.specs.declared.draft.Draft.{Draft}
-use Rattle.isle_rulesets.specs.Numbering.{Extends}
+use Rattle.isle_rulesets.specs.Numbering.{Extends, Numbered}
 
 -- the tests of a draft that are constraints, and those that are equalities
 abbrev pub is_constraint : Test → Bool
@@ -36,8 +35,9 @@ pub record Draws (ps : List Path) (places : Places) (ts : List Test) (d : Draft)
   pub equals : map (equal_test ps) d.equals.items ≡ filter is_equality ts
 
 -- the arguments of the patterns are numbered, nothing else was, and the draft has the patterns' tests
-pub record Drafted (old new : List Binding) (patterns : List Pattern) (d : Draft) : Type 0 where
-  pub extends : Extends (paths_of old) (paths_of new)
-  pub only : (p : Path) → Contains (paths_of new) p → Contains (paths_of old) p ⊎ Contains (arg_paths patterns 0) p
-  pub all : (p : Path) → Contains (arg_paths patterns 0) p → Contains (paths_of new) p
-  pub draws : (ps : List Path) → Extends (paths_of new) ps → Draws ps (args_after patterns 0 no_places) (args_tests patterns 0 no_places) d
+pub record Drafted (old new : Numbered) (patterns : List Pattern) (d : Draft) : Type 0 where
+  pub extends : Extends (paths_of old.bindings) (paths_of new.bindings)
+  pub only : (p : Path) → Contains (paths_of new.bindings) p → Contains (paths_of old.bindings) p ⊎ Contains (arg_paths patterns 0) p
+  pub all : (p : Path) → Contains (arg_paths patterns 0) p → Contains (paths_of new.bindings) p
+  pub draws : (ps : List Path) → Extends (paths_of new.bindings) ps → Draws ps (args_after patterns 0 no_places) (args_tests patterns 0 no_places) d
+  pub calls : new.calls ≡ old.calls

@@ -19,9 +19,9 @@ pub record AreGroups (groups : List (Vec (Bor CodeRule))) (count : ℕ) (rules :
 -- the terms with rules in order of ids, each with a rule set that stands for its rules
 pub record AreRuleSets (env : Environment) (sets : List (TermId × RuleSet)) : Type 0 where
   pub ids : map (λ s. s.0) sets ≡ with_rules env
-  pub stand : All (λ (s : TermId × RuleSet). StandsFor s.1 (rules_of env s.0)) sets
+  pub stand : All (λ (s : TermId × RuleSet). StandsFor env s.1 (rules_of env s.0)) sets
 
 -- the rule sets of the terms before the n-th
-pub record AreSetsBelow (rs : List Rule) (n : ℕ) (sets : List (TermId × RuleSet)) : Type 0 where
+pub record AreSetsBelow (env : Environment) (rs : List Rule) (n : ℕ) (sets : List (TermId × RuleSet)) : Type 0 where
   pub ids : map (λ s. s.0) sets ≡ filter (λ (id : TermId). list_any (λ (r : Rule). r.root_term.0 == id.0) rs) (map (λ (i : ℕ). record { 0 = i }) (range_with_len 0 n))
-  pub stand : All (λ (s : TermId × RuleSet). StandsFor s.1 (filter (λ (r : Rule). r.root_term.0 == s.0.0) rs)) sets
+  pub stand : All (λ (s : TermId × RuleSet). StandsFor env s.1 (filter (λ (r : Rule). r.root_term.0 == s.0.0) rs)) sets

@@ -1,4 +1,6 @@
 pub mod Numbering
 pub mod Drafts
+pub mod RightSides
 pub mod FlatRules
 pub mod Grouping
+pub mod Samples

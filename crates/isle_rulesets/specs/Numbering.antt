@@ -1,13 +1,15 @@
 -- Bindings numbered in order, each path once.
-use Rattle.std.specs.Prelude.{◌≡◌, ◌⊎◌, ℕ, List, Some, slice_get, Contains}
+use Rattle.std.specs.Prelude.{◌≡◌, ◌⊎◌, ◌≤◌, ℕ, suc, List, [], ◌∷◌, Bool, Some, if◌then◌else◌, slice_get, Contains}
 use Rattle.std.specs.declared.cmp.Ordering.{Ordering}
 use Rattle.std.specs.BTreeMap.{BTreeMap, get}
 use Rattle.isle_core.specs.declared.BindingId.{BindingId}
+use Rattle.isle_core.specs.declared.TermId.{TermId}
 use Rattle.isle_core.specs.declared.rule_sets.Binding.{Binding}
 use Rattle.isle_core.specs.declared.rule_sets.Binding.TheVariants as binding
 use Rattle.isle_core.specs.Path as path
-use Rattle.isle_core.specs.Path.{Path, paths_of}
+use Rattle.isle_core.specs.Path.{Path, Called, Inner, at_all, paths_of}
 use Rattle.isle_core.specs.Tests.{bool_type}
+use Rattle.isle_core.specs.StandsFor.{EachOnce}
 use Rattle.isle_rulesets.specs.declared.numbering.Key.{Key}
 use Rattle.isle_rulesets.specs.declared.numbering.Key.TheVariants as key
 use Rattle.isle_rulesets.specs.contracts.numbering.KeyOrd.TheImpl as key_ord
@@ -28,17 +30,46 @@ key_path (key.Argument index) = path.Arg index
 key_path (key.ConstBool val) = path.ConstBool bool_type val
 key_path (key.ConstInt ty val) = path.ConstInt ty val
 
+-- bindings, and how many of them are calls
+pub record Numbered : Type 0 where
+  pub bindings : List Binding
+  pub calls : ℕ
+
 -- each path stands where it stood
 pub record Extends (ps qs : List Path) : Type 0 where
   pub kept : (b : ℕ) (p : Path) → slice_get ps b ≡ Some p → slice_get qs b ≡ Some p
 
 -- the path has this number, and nothing else was added
-pub record Numbers (old new : List Binding) (p : Path) (b : BindingId) : Type 0 where
-  pub there : slice_get (paths_of new) b.0 ≡ Some p
-  pub extends : Extends (paths_of old) (paths_of new)
-  pub only : (q : Path) → Contains (paths_of new) q → Contains (paths_of old) q ⊎ (q ≡ p)
+pub record Numbers (old new : Numbered) (p : Path) (b : BindingId) : Type 0 where
+  pub there : slice_get (paths_of new.bindings) b.0 ≡ Some p
+  pub extends : Extends (paths_of old.bindings) (paths_of new.bindings)
+  pub only : (q : Path) → Contains (paths_of new.bindings) q → Contains (paths_of old.bindings) q ⊎ (q ≡ p)
+  pub calls : new.calls ≡ old.calls
 
--- a key is found where its path stands
-pub record AreNumbered (bindings : List Binding) (numbers : BTreeMap Key BindingId) : Type 0 where
-  pub found : (k : Key) (b : BindingId) → get key_cmp numbers k ≡ Some b → slice_get (paths_of bindings) b.0 ≡ Some (key_path k)
-  pub keys : (b : ℕ) (p : Path) → slice_get (paths_of bindings) b ≡ Some p → (k : Key) × (p ≡ key_path k) × (get key_cmp numbers k ≡ Some (record { 0 = b }))
+-- the next call of a term on numbers
+abbrev pub next_call : Numbered → TermId → List BindingId → Path
+next_call old term parameters = Called term (at_all (paths_of old.bindings) parameters) (suc old.calls)
+
+-- the next call has a number and its value one, its inner value where it may be nothing, and nothing else was added
+pub record Calls (old new : Numbered) (p : Path) (partial : Bool) (call result : BindingId) : Type 0 where
+  pub there : slice_get (paths_of new.bindings) call.0 ≡ Some p
+  pub value : slice_get (paths_of new.bindings) result.0 ≡ Some (if partial then Inner p else p)
+  pub extends : Extends (paths_of old.bindings) (paths_of new.bindings)
+  pub only : (q : Path) → Contains (paths_of new.bindings) q → Contains (paths_of old.bindings) q ⊎ Contains (if partial then p ∷ Inner p ∷ [] else p ∷ []) q
+  pub calls : new.calls ≡ suc old.calls
+
+-- the path of a key that has this number
+abbrev pub IsKeyed : BTreeMap Key BindingId → ℕ → Path → Type 0
+IsKeyed numbers b p = (k : Key) × (p ≡ key_path k) × (get key_cmp numbers k ≡ Some (record { 0 = b }))
+
+-- a call of an occurrence up to this one, or the inner value of one
+abbrev pub IsCallUpTo : ℕ → Path → Type 0
+IsCallUpTo n (Called term ps instance) = instance ≤ n
+IsCallUpTo n (Inner p) = IsCallUpTo n p
+IsCallUpTo n p = ⊥
+
+-- a key is found where its path stands, each other path is of a call that was counted, and no path stands twice
+pub record AreNumbered (n : Numbered) (numbers : BTreeMap Key BindingId) : Type 0 where
+  pub found : (k : Key) (b : BindingId) → get key_cmp numbers k ≡ Some b → slice_get (paths_of n.bindings) b.0 ≡ Some (key_path k)
+  pub kinds : (b : ℕ) (p : Path) → slice_get (paths_of n.bindings) b ≡ Some p → IsKeyed numbers b p ⊎ IsCallUpTo n.calls p
+  pub once : EachOnce (paths_of n.bindings)

@@ -1,7 +1,7 @@
 ghost use Rattle.std.specs.Prelude.{◌≡◌, length, IfOk, All, map, []};
 ghost use Rattle.isle_core.specs.declared.types.TypeEnv.{TypeEnv};
 ghost use Rattle.isle_core.specs.RuleViews.{rule as seen, environment};
-ghost use Rattle.isle_core.specs.BuiltRule.{IsBuiltRule, IsBoundRule};
+ghost use Rattle.isle_core.specs.BuiltRule.{IsBuiltRule, IsBoundRule, IsImpureRule};
 ghost use Rattle.isle_rulesets.specs.Grouping.{AreGroups, AreRuleSets};
 
 use crate::flat_rules::rule_set;
@@ -41,13 +41,15 @@ fn group<'a>(
 pub fn rule_sets(alloc: Global, terms: &TermEnv) -> Result<Vec<(TermId, RuleSet)>, AllocError>
     requires built { All IsBuiltRule (map seen terms.now.rules) }
     requires bound { All IsBoundRule (map seen terms.now.rules) }
+    requires impure { All (IsImpureRule terms.now.terms) (map seen terms.now.rules) }
     ensures { IfOk result (λ sets. (types : TypeEnv) → AreRuleSets (environment types terms.now) sets.items) }
 {
-    let groups = group(alloc, terms.terms.as_slice().len(), terms.rules.as_slice())?;
+    let callable = terms.terms.as_slice();
+    let groups = group(alloc, callable.len(), terms.rules.as_slice())?;
     let mut sets = Vec::new(alloc);
     for (index, rules) in groups.iter().enumerate() {
         if !rules.is_empty() {
-            sets.push((TermId(index), rule_set(alloc, rules)?))?;
+            sets.push((TermId(index), rule_set(alloc, callable, rules)?))?;
         }
     }
     Ok(sets)

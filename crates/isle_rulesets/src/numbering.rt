@@ -1,9 +1,9 @@
 ghost use Rattle.std.specs.Prelude.{◌≡◌, IfOk, []};
-ghost use Rattle.isle_rulesets.specs.Numbering.{key_binding, key_path, Numbers};
+ghost use Rattle.isle_rulesets.specs.Numbering.{key_binding, key_path, Numbers, Calls, next_call};
 ghost use Rattle.isle_core.specs.Path.{paths_of};
 ghost use Rattle.isle_core.specs.StandsFor.{EachOnce};
 
-use isle_core::{Binding, BindingId, TypeId};
+use isle_core::{Binding, BindingId, List, TermId, TypeId};
 use std::alloc::{AllocError, Global};
 use std::collections::BTreeMap;
 use std::marker::Model;
@@ -29,33 +29,40 @@ impl Key {
     }
 }
 
-/// Bindings, each once, with the number of each by its key.
+/// The number of a call, and that of its value.
+#[derive(Clone, Copy, Debug)]
+pub struct Call {
+    pub number: BindingId,
+    pub value: BindingId,
+}
+
+/// Bindings, each once, with the number of each by its key; calls have none, and are counted.
 #[derive(Drop)]
 pub struct Numbering {
     bindings: Vec<Binding>,
     numbers: BTreeMap<Key, BindingId>,
+    calls: usize,
 }
 
 impl Model for Numbering {
-    ghost use Rattle.std.specs.Prelude.{List};
-    ghost use Rattle.isle_core.specs.declared.rule_sets.Binding.{Binding as CodeBinding};
-    ghost use Rattle.isle_rulesets.specs.Numbering.{AreNumbered};
+    ghost use Rattle.isle_rulesets.specs.Numbering.{Numbered, AreNumbered};
 
-    ghost Value = { List CodeBinding };
+    ghost Value = { Numbered };
 
-    ghost view = { λ n. n.bindings.items };
+    ghost view = { λ n. record { bindings = n.bindings.items; calls = n.calls } };
 
-    ghost invariant = { λ n. AreNumbered n.bindings.items n.numbers };
+    ghost invariant = { λ n. AreNumbered (record { bindings = n.bindings.items; calls = n.calls }) n.numbers };
 }
 
 impl Numbering {
     /// No binding.
     pub fn new(alloc: Global) -> Numbering
-        ensures { result ≡ [] }
+        ensures { result ≡ record { bindings = []; calls = 0 } }
     {
         Numbering {
             bindings: Vec::new(alloc),
             numbers: BTreeMap::new(alloc),
+            calls: 0,
         }
     }
 
@@ -77,9 +84,37 @@ impl Numbering {
         }
     }
 
+    /// The next call, of an occurrence of its own; its value is the inner one where it may be nothing.
+    pub fn call(
+        &mut self,
+        term: TermId,
+        parameters: List<BindingId>,
+        is_partial: bool,
+    ) -> Result<Call, AllocError>
+        ensures { IfOk result (λ c. Calls self.old self.new (next_call self.old term parameters) is_partial c.number c.value) }
+    {
+        let instance = self.calls.checked_add(1).ok_or(AllocError)?;
+        let number = BindingId(self.bindings.len());
+        self.bindings.push(Binding::Constructor {
+            term,
+            parameters,
+            instance,
+        })?;
+        self.calls = instance;
+        if !is_partial {
+            return Ok(Call {
+                number,
+                value: number,
+            });
+        }
+        let value = BindingId(self.bindings.len());
+        self.bindings.push(Binding::MatchSome { source: number })?;
+        Ok(Call { number, value })
+    }
+
     /// The bindings, no two of one path.
     pub fn into_bindings(self) -> Vec<Binding>
-        ensures bindings { result.items ≡ self }
+        ensures bindings { result.items ≡ self.bindings }
         ensures once { EachOnce (paths_of result.items) }
     {
         let Numbering { bindings, .. } = self;

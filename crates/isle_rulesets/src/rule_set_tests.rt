@@ -1,8 +1,9 @@
 //! The rule set of a rule with each form, by its numbers; and that a term without rules has none.
 
-ghost use Rattle.std.specs.Prelude.{IfOk};
+ghost use Rattle.std.specs.Prelude.{IfOk, List as ListOf};
+ghost use Rattle.isle_core.specs.declared.types.Term.{Term as CodeTerm};
 ghost use Rattle.isle_core.specs.RuleViews.{rule as seen};
-ghost use Rattle.isle_core.specs.BuiltRule.{IsBuiltRule, IsBoundRule};
+ghost use Rattle.isle_rulesets.specs.Samples.{IsSampleRule};
 
 use crate::{rule_set, rule_sets};
 use isle_core::{
@@ -14,7 +15,7 @@ use std::test::Fail;
 
 /// `(rule 3 (f x 7 x true) x)`, the variable met again.
 fn rule_of_each_form(alloc: Global) -> Result<Rule, AllocError>
-    ensures { IfOk result (λ r. IsBuiltRule (seen r) × IsBoundRule (seen r)) }
+    ensures { IfOk result (λ r. (terms : ListOf CodeTerm) → IsSampleRule terms (seen r)) }
 {
     let ty = TypeId(1);
     let args = vec![in alloc;
@@ -39,7 +40,7 @@ fn rule_of_each_form(alloc: Global) -> Result<Rule, AllocError>
 fn rule_with_each_form(rt: HostRuntime) -> Result<(), Fail> {
     let alloc = rt.alloc();
     let rule = rule_of_each_form(alloc)?;
-    let set = rule_set(alloc, &[&rule])?;
+    let set = rule_set(alloc, &[], &[&rule])?;
     let bindings = set.bindings.as_slice();
     assert_eq!(rt; bindings.len(), 4);
     for (number, binding) in bindings.iter().enumerate() {

@@ -1,0 +1,129 @@
+-- A numbering keeps each call once.
+use Rattle.std.proofs.Common.{◌≡◌, ◌⊎◌, inl, inr, ⊎_elim, ℕ, ◌≤◌, ◌+◌, suc, List, [], ◌∷◌, ◌++◌, length, Bool, true, false, Some, refl, sym, ap, ◌∙◌, subst, arith, length-append}
+use Rattle.std.specs.Prelude.{slice_get, Contains}
+use Rattle.std.specs.BTreeMap.{BTreeMap}
+use Rattle.std.proofs.lemmas.List.Sums.{fold_push}
+use Rattle.std.proofs.lemmas.List.Elements.{Contains-push_cases}
+use Rattle.isle_core.specs.declared.BindingId.{BindingId}
+use Rattle.isle_core.specs.declared.TermId.{TermId}
+use Rattle.isle_core.specs.declared.rule_sets.Binding.{Binding}
+use Rattle.isle_core.specs.declared.rule_sets.Binding.TheVariants as binding
+use Rattle.isle_core.specs.Path.{Path, Paths, Inner, Called, path_over, add_path, paths_of, at, at_all}
+use Rattle.isle_core.specs.StandsFor.{EachOnce}
+use Rattle.isle_core.proofs.Contained.{head_contained, tail_contained, contained_cases, none_contained}
+use Rattle.isle_rulesets.specs.declared.numbering.Key.{Key}
+use Rattle.isle_rulesets.specs.declared.numbering.Key.TheVariants as key
+use Rattle.isle_rulesets.specs.Numbering.{key_path, Numbered, Extends, next_call, Calls, IsKeyed, IsCallUpTo, AreNumbered}
+use Rattle.isle_rulesets.proofs.NumberingLaws.{get_push, get_last, get_either, push_extends, extends_more, once_push, place_of, long_paths}
+use Rattle.isle_rulesets.proofs.DraftLaws.{at_get}
+
+-- ---- kinds of paths
+
+up_to_more : (m n : ℕ) (p : Path) → m ≤ n → IsCallUpTo m p → IsCallUpTo n p
+up_to_more m n (Called term ps instance) le h = omega arith
+up_to_more m n (Inner p) le h = up_to_more m n p le h
+up_to_more m n p le h = absurd h
+
+key_no_call : (k : Key) (term : TermId) (ps : Paths) (i : ℕ) → Called term ps i ≡ key_path k → ⊥
+key_no_call (key.Argument a) term ps i e = cc
+key_no_call (key.ConstBool a) term ps i e = cc
+key_no_call (key.ConstInt s a) term ps i e = cc
+
+key_no_inner : (k : Key) (p : Path) → Inner p ≡ key_path k → ⊥
+key_no_inner (key.Argument a) p e = cc
+key_no_inner (key.ConstBool a) p e = cc
+key_no_inner (key.ConstInt s a) p e = cc
+
+inner_no_call : (term : TermId) (ps : Paths) (i : ℕ) → Inner (Called term ps i) ≡ Called term ps i → ⊥
+inner_no_call term ps i e = cc
+
+-- ---- one path more
+
+paths_more : (bs items : List Binding) (b : Binding) (p : Path) → items ≡ bs ++ b ∷ [] → path_over (paths_of bs) b ≡ p → paths_of items ≡ paths_of bs ++ p ∷ []
+paths_more bs items b p is over = ap paths_of is ∙ fold_push add_path [] bs b ∙ ap (λ q. paths_of bs ++ q ∷ []) over
+
+last_there : (bs items : List Binding) (p : Path) (m : ℕ) → paths_of items ≡ paths_of bs ++ p ∷ [] → m ≡ length bs → slice_get (paths_of items) m ≡ Some p
+last_there bs items p m paths long = ap (λ ps. slice_get ps m) paths ∙ ap (slice_get (paths_of bs ++ p ∷ [])) (long ∙ sym (long_paths bs)) ∙ get_last (paths_of bs) p
+
+-- a numbering behind a path that is new
+call_pushed : (n : Numbered) (items : List Binding) (numbers : BTreeMap Key BindingId) (p : Path) (k : ℕ) → AreNumbered n numbers → paths_of items ≡ paths_of n.bindings ++ p ∷ [] → n.calls ≤ k → IsCallUpTo k p → (Contains (paths_of n.bindings) p → ⊥)
+    → AreNumbered (record { bindings = items; calls = k }) numbers
+call_pushed n items numbers p k a paths le is new = record {
+  found = λ q b e. subst (λ ps. slice_get ps b.0 ≡ Some (key_path q)) (sym paths) (get_push (paths_of n.bindings) p b.0 (key_path q) (a.found q b e));
+  kinds = λ b q e. ⊎_elim (λ h. ⊎_elim (λ o. inl o) (λ c. inr (up_to_more n.calls k q le c)) (a.kinds b q h)) (λ h. inr (subst (IsCallUpTo k) h.1 is)) (get_either (paths_of n.bindings) p b q (subst (λ ps. slice_get ps b ≡ Some q) paths e));
+  once = subst EachOnce (sym paths) (once_push (paths_of n.bindings) p a.once new);
+}
+
+-- no path is of a later call
+none_later : (n : Numbered) (numbers : BTreeMap Key BindingId) (p : Path) → AreNumbered n numbers → ((k : Key) → p ≡ key_path k → ⊥) → (IsCallUpTo n.calls p → ⊥) → Contains (paths_of n.bindings) p → ⊥
+none_later n numbers p a no_key no_call c =
+    let at = place_of (paths_of n.bindings) p c in
+    ⊎_elim (λ (h : IsKeyed numbers at.0 p). no_key h.0 h.1) no_call (a.kinds at.0 p at.1)
+
+-- ---- calls
+
+-- what a numbering is behind a call
+pub call_more : (old : Numbered) (items : List Binding) (numbers : BTreeMap Key BindingId) (term : TermId) (bs : List BindingId) (m k : ℕ) → AreNumbered old numbers → k ≡ suc old.calls → m ≡ length old.bindings
+    → items ≡ old.bindings ++ binding.Constructor term bs k ∷ [] → AreNumbered (record { bindings = items; calls = k }) numbers × Calls old (record { bindings = items; calls = k }) (next_call old term bs) false (record { 0 = m }) (record { 0 = m })
+call_more old items numbers term bs m k a count long is = (
+  call_pushed old items numbers p k a paths le up (none_later old numbers p a (λ q. key_no_call q term qs (suc old.calls)) (λ h. omega arith)),
+  record {
+    there = last_there old.bindings items p m paths long;
+    value = last_there old.bindings items p m paths long;
+    extends = push_extends (paths_of old.bindings) (paths_of items) p paths;
+    only = λ q c. ⊎_elim (λ h. inl h) (λ h. inr (subst (Contains (p ∷ [])) h (head_contained p []))) (Contains-push_cases (paths_of old.bindings) p q (subst (λ ps. Contains ps q) paths c));
+    calls = count;
+  },
+)
+  where
+    qs : Paths
+    qs = at_all (paths_of old.bindings) bs
+
+    p : Path
+    p = Called term (at_all (paths_of old.bindings) bs) (suc old.calls)
+
+    paths : paths_of items ≡ paths_of old.bindings ++ Called term (at_all (paths_of old.bindings) bs) (suc old.calls) ∷ []
+    paths = paths_more old.bindings items (binding.Constructor term bs k) p is (ap (Called term qs) count)
+
+    le : old.calls ≤ k
+    le = omega arith
+
+    up : suc old.calls ≤ k
+    up = omega arith
+
+-- and behind the inner value of that call
+pub inner_more : (old mid : Numbered) (items : List Binding) (numbers : BTreeMap Key BindingId) (term : TermId) (bs : List BindingId) (call value : BindingId) → AreNumbered old numbers → AreNumbered mid numbers → Calls old mid (next_call old term bs) false call call
+    → value.0 ≡ length mid.bindings → items ≡ mid.bindings ++ binding.MatchSome call ∷ []
+    → AreNumbered (record { bindings = items; calls = mid.calls }) numbers × Calls old (record { bindings = items; calls = mid.calls }) (next_call old term bs) true call value
+inner_more old mid items numbers term bs call value a b h long is = (
+  call_pushed mid items numbers (Inner p) mid.calls b paths le up new,
+  record {
+    there = more.kept call.0 p h.there;
+    value = last_there mid.bindings items (Inner p) value.0 paths long;
+    extends = extends_more (paths_of old.bindings) (paths_of mid.bindings) (paths_of items) h.extends more;
+    only = λ q c. ⊎_elim (λ d. ⊎_elim (λ k. inl k) (λ k. inr (first q k)) (h.only q d)) (λ k. inr (subst (Contains (p ∷ Inner p ∷ [])) k (tail_contained p (Inner p ∷ []) (Inner p) (head_contained (Inner p) []))))
+        (Contains-push_cases (paths_of mid.bindings) (Inner p) q (subst (λ ps. Contains ps q) paths c));
+    calls = h.calls;
+  },
+)
+  where
+    p : Path
+    p = Called term (at_all (paths_of old.bindings) bs) (suc old.calls)
+
+    paths : paths_of items ≡ paths_of mid.bindings ++ Inner (next_call old term bs) ∷ []
+    paths = paths_more mid.bindings items (binding.MatchSome call) (Inner p) is (ap Inner (at_get (paths_of mid.bindings) call.0 p h.there))
+
+    more : Extends (paths_of mid.bindings) (paths_of items)
+    more = push_extends (paths_of mid.bindings) (paths_of items) (Inner p) paths
+
+    le : mid.calls ≤ mid.calls
+    le = omega arith
+
+    up : suc old.calls ≤ mid.calls
+    up = let e = h.calls in omega arith
+
+    first : (q : Path) → Contains (next_call old term bs ∷ []) q → Contains (next_call old term bs ∷ Inner (next_call old term bs) ∷ []) q
+    first q c = ⊎_elim (λ (e : p ≡ q). subst (Contains (p ∷ Inner p ∷ [])) e (head_contained p (Inner p ∷ []))) (λ d. absurd (none_contained q d)) (contained_cases p [] q c)
+
+    new : Contains (paths_of mid.bindings) (Inner (next_call old term bs)) → ⊥
+    new c = ⊎_elim (λ d. none_later old numbers (Inner p) a (λ k. key_no_inner k p) (λ e. omega arith) d) (λ d. ⊎_elim (λ (e : p ≡ Inner p). inner_no_call term (at_all (paths_of old.bindings) bs) (suc old.calls) (sym e)) (none_contained (Inner p)) (contained_cases p [] (Inner p) d)) (h.only (Inner p) c)

@@ -1,0 +1,327 @@
+-- The right side of a rule is numbered, call by call.
+use Rattle.std.proofs.Common.{◌≡◌, ◌⊎◌, inl, inr, ⊎_elim, ℕ, zero, suc, ◌<◌, ◌≤◌, ◌+◌, ℤ, List, [], ◌∷◌, ◌++◌, length, map, take, get_or, if◌then◌else◌, Bool, true, false, Option, Some, None, Result, Ok, Err, refl, sym, ap, ◌∙◌, subst, arith, append_assoc, append-nil}
+use Rattle.std.specs.Prelude.{Contains, IsSome, IsSomeAnd, IfOk, slice_get}
+use Rattle.std.specs.Ordering.{nat_cmp}
+use Rattle.std.specs.BTreeMap.{BTreeMap, get}
+use Rattle.std.proofs.lemmas.List.{map_more, map-append, length-map, get_or-map, take_all}
+use Rattle.std.proofs.lemmas.List.Elements.{Contains-append_left, Contains-append_right, Contains-append_cases}
+use Rattle.std.proofs.lemmas.Option.{slice_get-get_or}
+use Rattle.isle_core.specs.declared.BindingId.{BindingId}
+use Rattle.isle_core.specs.declared.TermId.{TermId}
+use Rattle.isle_core.specs.declared.TypeId.{TypeId}
+use Rattle.isle_core.specs.declared.VarId.{VarId}
+use Rattle.isle_core.specs.declared.types.Term.{Term}
+use Rattle.isle_core.specs.declared.types.TermKind.{TermKind}
+use Rattle.isle_core.specs.declared.types.TermKind.TheVariants as kind
+use Rattle.isle_core.specs.declared.types.ConstructorKind.TheVariants as constructor
+use Rattle.isle_core.specs.declared.values.Callee.{Callee}
+use Rattle.isle_core.specs.declared.values.Callee.TheVariants.{External, Internal}
+use Rattle.isle_core.specs.Terms.{sym_text, impure_callee}
+use Rattle.isle_core.specs.declared.rules.Expr.{Expr as CodeExpr}
+use Rattle.isle_core.specs.Expr as expr
+use Rattle.isle_core.specs.Expr.{Expr, Exprs, NoExpr, AnExpr}
+use Rattle.isle_core.specs.RuleViews.{expr as seen, exprs_of}
+use Rattle.isle_core.specs.BuiltRule.{IsImpureKind, CallsImpure, AllCallImpure}
+use Rattle.isle_core.specs.Calling.{Calling, ByTurns, ByCases, NoCall, is_partial, pure_callee, calling_by, calling_of, calling, instance_of, one_more, impure, impure_all}
+use Rattle.isle_core.specs.Path as path
+use Rattle.isle_core.specs.Path.{Path, Paths, NoPath, APath, at, at_all, paths_of}
+use Rattle.isle_core.specs.Tests.{Places, path as path_of, paths, path_or, bool_type, calls as calls_of, calls_all, expr_paths, exprs_paths, call_path, answer_path, with_inner, if_ordered}
+use Rattle.isle_core.specs.Rule.{Environment}
+use Rattle.isle_core.proofs.Contained.{head_contained, contained_cases, none_contained}
+use Rattle.isle_rulesets.specs.Numbering.{Numbered, Extends, Numbers, next_call, Calls}
+use Rattle.isle_rulesets.specs.RightSides.{StandsAt, Stand, IsKnown, AreKnown, Grows, Gives, GivesCall, AllAt, GivesAll}
+use Rattle.isle_rulesets.proofs.NumberingLaws.{extends_self, extends_more}
+use Rattle.isle_rulesets.proofs.DraftLaws.{at_get, at_kept, contains_there, contains_kept}
+
+-- ---- one step after another
+
+grows_self : (n : Numbered) (bs : List BindingId) → Grows n n bs bs [] [] 0
+grows_self n bs = record {
+  extends = extends_self (paths_of n.bindings);
+  only = λ p c. inl c;
+  all = λ p c. absurd (none_contained p c);
+  ordered = λ qs x. sym (append-nil (map (at qs) bs));
+  calls = omega arith;
+}
+
+grows_then : (a b c : Numbered) (xs ys zs : List BindingId) (ps qs cs ds : List Path) (k l : ℕ) → Grows a b xs ys ps cs k → Grows b c ys zs qs ds l → Grows a c xs zs (ps ++ qs) (cs ++ ds) (k + l)
+grows_then a b c xs ys zs ps qs cs ds k l g h = record {
+  extends = extends_more (paths_of a.bindings) (paths_of b.bindings) (paths_of c.bindings) g.extends h.extends;
+  only = λ p d. ⊎_elim (λ e. ⊎_elim (λ f. inl f) (λ f. inr (Contains-append_left ps qs p f)) (g.only p e)) (λ e. inr (Contains-append_right ps qs p e)) (h.only p d);
+  all = λ p d. ⊎_elim (λ e. contains_kept (paths_of b.bindings) (paths_of c.bindings) p h.extends (g.all p e)) (λ e. h.all p e) (Contains-append_cases ps qs p d);
+  ordered = λ rs x. h.ordered rs x ∙ ap (λ ms. ms ++ ds) (g.ordered rs (extends_more (paths_of b.bindings) (paths_of c.bindings) rs h.extends x)) ∙ append_assoc (map (at rs) xs) cs ds;
+  calls = h.calls ∙ ap (λ n. n + l) g.calls ∙ assoc;
+}
+  where
+    assoc : (a.calls + k) + l ≡ a.calls + (k + l)
+    assoc = omega arith
+
+-- ---- constants and variables
+
+gives_key : (old new : Numbered) (bs : List BindingId) (p : Path) (b : BindingId) → Numbers old new p b → Grows old new bs bs (p ∷ []) [] 0
+gives_key old new bs p b h = record {
+  extends = h.extends;
+  only = λ q c. ⊎_elim (λ d. inl d) (λ e. inr (subst (Contains (p ∷ [])) (sym e) (head_contained p []))) (h.only q c);
+  all = λ q c. ⊎_elim (λ e. subst (Contains (paths_of new.bindings)) e (contains_there (paths_of new.bindings) b.0 p h.there)) (λ d. absurd (none_contained q d)) (contained_cases p [] q c);
+  ordered = λ qs x. sym (append-nil (map (at qs) bs));
+  calls = h.calls ∙ zero_more;
+}
+  where
+    zero_more : old.calls ≡ old.calls + 0
+    zero_more = omega arith
+
+-- what the code says of an expression's numbering
+abbrev pub Given : List Term → BTreeMap ℕ BindingId → Numbered → Numbered → List BindingId → List BindingId → Expr → BindingId → Type 0
+Given terms variables old new before after e b = (env : Environment) (places : Places) → env.terms ≡ terms → Stand (paths_of old.bindings) variables places → Gives env places old new before after e b
+
+-- what the code says of expressions in order
+abbrev pub AllGiven : List Term → BTreeMap ℕ BindingId → Numbered → Numbered → List BindingId → List BindingId → Exprs → List BindingId → Type 0
+AllGiven terms variables old new before after es bs = (env : Environment) (places : Places) → env.terms ≡ terms → Stand (paths_of old.bindings) variables places → GivesAll env places old new before after es bs
+
+pub given_bool : {E : Type 0} (r : Result BindingId E) (terms : List Term) (variables : BTreeMap ℕ BindingId) (old new : Numbered) (bs : List BindingId) (e : Expr) (v : Bool) → e ≡ expr.ConstBool v → IfOk r (Numbers old new (path.ConstBool bool_type v)) → IfOk r (Given terms variables old new bs bs e)
+given_bool (Err x) terms variables old new bs e v is h = tt
+given_bool (Ok b) terms variables old new bs e v is h = λ env places t s. subst (λ d. Gives env places old new bs bs d b) (sym is) (record { grows = gives_key old new bs (path.ConstBool bool_type v) b h; there = h.there })
+
+pub given_int : {E : Type 0} (r : Result BindingId E) (terms : List Term) (variables : BTreeMap ℕ BindingId) (old new : Numbered) (bs : List BindingId) (e : Expr) (ty : TypeId) (n : ℤ) → e ≡ expr.ConstInt ty n → IfOk r (Numbers old new (path.ConstInt ty n)) → IfOk r (Given terms variables old new bs bs e)
+given_int (Err x) terms variables old new bs e ty n is h = tt
+given_int (Ok b) terms variables old new bs e ty n is h = λ env places t s. subst (λ d. Gives env places old new bs bs d b) (sym is) (record { grows = gives_key old new bs (path.ConstInt ty n) b h; there = h.there })
+
+var_there : (ps : List Path) (o : Option BindingId) (q : Option Path) (b : BindingId) → o ≡ Some b → StandsAt ps o q → slice_get ps b.0 ≡ Some (path_or q)
+var_there ps (Some c) (Some p) b e h = subst (λ (x : BindingId). slice_get ps x.0 ≡ Some p) (some_same c b e) h
+  where
+    some_same : (x y : BindingId) → Some x ≡ Some y → x ≡ y
+    some_same x y e' = cc
+var_there ps None q b e h = cc
+var_there ps (Some c) None b e h = absurd h
+
+pub given_var : (terms : List Term) (variables : BTreeMap ℕ BindingId) (n : Numbered) (bs : List BindingId) (e : Expr) (ty : TypeId) (x : VarId) (b : BindingId) → e ≡ expr.Var ty x → get nat_cmp variables x.0 ≡ Some b → Given terms variables n n bs bs e b
+given_var terms variables n bs e ty x b is got env places t s = subst (λ d. Gives env places n n bs bs d b) (sym is) (record {
+  grows = gives_key n n bs p b (record { there = there; extends = extends_self (paths_of n.bindings); only = λ q c. inl c; calls = refl });
+  there = there;
+})
+  where
+    p : Path
+    p = path_or (places x.0)
+
+    there : slice_get (paths_of n.bindings) b.0 ≡ Some (path_or (places x.0))
+    there = var_there (paths_of n.bindings) (get nat_cmp variables x.0) (places x.0) b got (s.by x.0)
+
+-- ---- calls
+
+all_at : (ps : List Path) (bs : List BindingId) (qs : Paths) → AllAt ps bs qs → at_all ps bs ≡ qs
+all_at ps [] NoPath h = refl
+all_at ps (b ∷ bs) (APath q qs) h = ap (λ p. APath p (at_all ps bs)) (at_get ps b.0 q h.0) ∙ ap (APath q) (all_at ps bs qs h.1)
+all_at ps [] (APath q qs) h = absurd h
+all_at ps (b ∷ bs) NoPath h = absurd h
+
+one_behind : (c : Calling) (n : ℕ) → n + one_more c 0 ≡ one_more c n
+one_behind (ByTurns callee partial) n = omega arith
+one_behind (ByCases callee partial) n = omega arith
+one_behind NoCall n = omega arith
+
+-- a call behind its arguments
+call_behind : (env : Environment) (places : Places) (old mid new : Numbered) (before middle after : List BindingId) (ty : TypeId) (term : TermId) (es : Exprs) (bs : List BindingId) (b : BindingId) → GivesAll env places old mid before middle es bs
+    → GivesCall mid new middle after (calling env term) (call_path env term (at_all (paths_of mid.bindings) bs) mid.calls) b → Gives env places old new before after (expr.Term ty term es) b
+call_behind env places old mid new before middle after ty term es bs b g h =
+    let k = subst (λ p. GivesCall mid new middle after (calling env term) p b) same h in
+    record {
+      grows = subst (λ n. Grows old new before after (expr_paths env (expr.Term ty term es) places old.calls) (calls_of env (expr.Term ty term es) places old.calls) n) (one_behind (calling env term) (impure_all env es))
+          (grows_then old mid new before middle after (exprs_paths env es places old.calls) (with_inner (calling env term) p) (calls_all env es places old.calls) (if_ordered (calling env term) p) (impure_all env es) (one_more (calling env term) 0) g.grows k.grows);
+      there = k.there;
+    }
+  where
+    p : Path
+    p = call_path env term (paths env es places old.calls) (old.calls + impure_all env es)
+
+    same : call_path env term (at_all (paths_of mid.bindings) bs) mid.calls ≡ call_path env term (paths env es places old.calls) (old.calls + impure_all env es)
+    same = ap (λ qs. call_path env term qs mid.calls) (all_at (paths_of mid.bindings) bs (paths env es places old.calls) g.there) ∙ ap (call_path env term (paths env es places old.calls)) g.grows.calls
+
+-- an item that is there
+some_at : {A : Type 0} (P : A → Type 0) (xs : List A) (i : ℕ) (x : A) → IsSomeAnd (slice_get xs i) P → x ≡ get_or xs i x → P x
+some_at P [] i x h e = absurd h
+some_at P (y ∷ xs) zero x h e = subst P (sym e) h
+some_at P (y ∷ xs) (suc i) x h e = some_at P xs i x h e
+
+some_there : {A : Type 0} (P : A → Type 0) (xs : List A) (i : ℕ) (x : A) → IsSomeAnd (slice_get xs i) P → x ≡ get_or xs i x → slice_get xs i ≡ Some x
+some_there P [] i x h e = absurd h
+some_there P (y ∷ xs) zero x h e = ap Some (sym e)
+some_there P (y ∷ xs) (suc i) x h e = some_there P xs i x h e
+
+turns_by : (env : Environment) (t : Term) (k : TermKind) → IsImpureKind k → (callee : Callee) × (calling_by (is_partial k) (impure_callee env t k) (pure_callee env t k) ≡ ByTurns callee (is_partial k))
+turns_by env t (kind.Decl false multi partial recursive constructor.Internal extractor) h = (Internal (sym_text env t.name), refl)
+turns_by env t (kind.Decl false multi partial recursive (constructor.External func) extractor) h = (External (sym_text env func), refl)
+turns_by env t k h = absurd h
+
+-- an impure term is called by turns
+pub called_by_turns : (env : Environment) (terms : List Term) (term : TermId) (t : Term) → env.terms ≡ terms → slice_get terms term.0 ≡ Some t → IsImpureKind t.kind → (callee : Callee) × (calling env term ≡ ByTurns callee (is_partial t.kind))
+called_by_turns env terms term t same there h =
+    let k = turns_by env t t.kind h in
+    (k.0, ap (λ ts. calling_of env (slice_get ts term.0)) same ∙ ap (calling_of env) there ∙ k.1)
+
+-- so of a term that is there
+some_item : {A : Type 0} (P : A → Type 0) (o : Option A) → IsSomeAnd o P → (x : A) × (o ≡ Some x) × P x
+some_item P None h = absurd h
+some_item P (Some x) h = (x, refl, h)
+
+pub turns_of : (env : Environment) (terms : List Term) (term : TermId) → env.terms ≡ terms → IsSomeAnd (slice_get terms term.0) (λ (x : Term). IsImpureKind x.kind) → (callee : Callee) × (partial : Bool) × (calling env term ≡ ByTurns callee partial)
+turns_of env terms term same h =
+    let t = some_item (λ (x : Term). IsImpureKind x.kind) (slice_get terms term.0) h in
+    let k = called_by_turns env terms term t.0 same t.1 t.2 in
+    (k.0, is_partial t.0.kind, k.1)
+
+-- a call that was added
+pub call_given : (old new : Numbered) (before after : List BindingId) (terms : List Term) (term : TermId) (t : Term) (partial : Bool) (bs : List BindingId) (call value : BindingId) → IsSomeAnd (slice_get terms term.0) (λ (x : Term). IsImpureKind x.kind) → t ≡ get_or terms term.0 t
+    → partial ≡ is_partial t.kind → Calls old new (next_call old term bs) partial call value → after ≡ before ++ call ∷ []
+    → (env : Environment) → env.terms ≡ terms → GivesCall old new before after (calling env term) (call_path env term (at_all (paths_of old.bindings) bs) old.calls) value
+call_given old new before after terms term t partial bs call value h here of k more env same =
+    subst (λ c. GivesCall old new before after c (path.Called term (at_all (paths_of old.bindings) bs) (instance_of c old.calls)) value) (sym (turns.1 ∙ ap (ByTurns turns.0) (sym of)))
+    (record {
+      grows = record {
+        extends = k.extends;
+        only = k.only;
+        all = all partial k;
+        ordered = λ qs x. ap (map (at qs)) more ∙ map-append (at qs) before (call ∷ []) ∙ ap (λ q. map (at qs) before ++ q ∷ []) (at_kept (paths_of new.bindings) qs call p x k.there);
+        calls = k.calls ∙ one_more_is;
+      };
+      there = k.value;
+    })
+  where
+    turns : (callee : Callee) × (calling env term ≡ ByTurns callee (is_partial t.kind))
+    turns = called_by_turns env terms term t same (some_there (λ (x : Term). IsImpureKind x.kind) terms term.0 t h here) (some_at (λ (x : Term). IsImpureKind x.kind) terms term.0 t h here)
+
+    p : Path
+    p = next_call old term bs
+
+    one_more_is : suc old.calls ≡ old.calls + 1
+    one_more_is = omega arith
+
+    all : (b : Bool) → Calls old new (next_call old term bs) b call value → (q : Path) → Contains (if b then next_call old term bs ∷ path.Inner (next_call old term bs) ∷ [] else next_call old term bs ∷ []) q → Contains (paths_of new.bindings) q
+    all true c q d =
+        ⊎_elim (λ e. subst (Contains (paths_of new.bindings)) e (contains_there (paths_of new.bindings) call.0 p c.there))
+        (λ f. ⊎_elim (λ e. subst (Contains (paths_of new.bindings)) e (contains_there (paths_of new.bindings) value.0 (path.Inner p) c.value)) (λ n. absurd (none_contained q n)) (contained_cases (path.Inner p) [] q f))
+        (contained_cases p (path.Inner p ∷ []) q d)
+    all false c q d = ⊎_elim (λ e. subst (Contains (paths_of new.bindings)) e (contains_there (paths_of new.bindings) call.0 p c.there)) (λ n. absurd (none_contained q n)) (contained_cases p [] q d)
+
+-- a call behind its arguments, where it was added
+pub given_call : {E : Type 0} (r : Result BindingId E) (terms : List Term) (variables : BTreeMap ℕ BindingId) (old mid new : Numbered) (before middle after : List BindingId) (e : Expr) (ty : TypeId) (term : TermId) (es : Exprs) (bs : List BindingId) → e ≡ expr.Term ty term es
+    → AllGiven terms variables old mid before middle es bs
+    → IfOk r (λ b. (env : Environment) → env.terms ≡ terms → GivesCall mid new middle after (calling env term) (call_path env term (at_all (paths_of mid.bindings) bs) mid.calls) b) → IfOk r (Given terms variables old new before after e)
+given_call (Err x) terms variables old mid new before middle after e ty term es bs is g h = tt
+given_call (Ok b) terms variables old mid new before middle after e ty term es bs is g h =
+    λ env places t s. subst (λ d. Gives env places old new before after d b) (sym is) (call_behind env places old mid new before middle after ty term es bs b (g env places t s) (h env t))
+
+-- ---- expressions in order
+
+impure_push : (env : Environment) (es : List Expr) (e : Expr) → impure_all env (exprs_of (es ++ e ∷ [])) ≡ impure_all env (exprs_of es) + impure env e
+impure_push env [] e = omega arith
+impure_push env (x ∷ es) e = ap (λ n. impure env x + n) (impure_push env es e) ∙ assoc (impure env x) (impure_all env (exprs_of es)) (impure env e)
+  where
+    assoc : (a b c : ℕ) → a + (b + c) ≡ (a + b) + c
+    assoc a b c = omega arith
+
+behind : (n k l : ℕ) → (n + k) + l ≡ n + (k + l)
+behind n k l = omega arith
+
+calls_push : (env : Environment) (places : Places) (es : List Expr) (e : Expr) (n : ℕ) → calls_all env (exprs_of (es ++ e ∷ [])) places n ≡ calls_all env (exprs_of es) places n ++ calls_of env e places (n + impure_all env (exprs_of es))
+calls_push env places [] e n = append-nil (calls_of env e places n) ∙ ap (calls_of env e places) (none n)
+  where
+    none : (k : ℕ) → k ≡ k + 0
+    none k = omega arith
+calls_push env places (x ∷ es) e n =
+    ap (λ cs. calls_of env x places n ++ cs) (calls_push env places es e (n + impure env x) ∙ ap (λ k. calls_all env (exprs_of es) places (n + impure env x) ++ calls_of env e places k) (behind n (impure env x) (impure_all env (exprs_of es))))
+    ∙ sym (append_assoc (calls_of env x places n) (calls_all env (exprs_of es) places (n + impure env x)) (calls_of env e places (n + impure_all env (exprs_of (x ∷ es)))))
+
+paths_push : (env : Environment) (places : Places) (es : List Expr) (e : Expr) (n : ℕ) → exprs_paths env (exprs_of (es ++ e ∷ [])) places n ≡ exprs_paths env (exprs_of es) places n ++ expr_paths env e places (n + impure_all env (exprs_of es))
+paths_push env places [] e n = append-nil (expr_paths env e places n) ∙ ap (expr_paths env e places) (none n)
+  where
+    none : (k : ℕ) → k ≡ k + 0
+    none k = omega arith
+paths_push env places (x ∷ es) e n =
+    ap (λ cs. expr_paths env x places n ++ cs) (paths_push env places es e (n + impure env x) ∙ ap (λ k. exprs_paths env (exprs_of es) places (n + impure env x) ++ expr_paths env e places k) (behind n (impure env x) (impure_all env (exprs_of es))))
+    ∙ sym (append_assoc (expr_paths env x places n) (exprs_paths env (exprs_of es) places (n + impure env x)) (expr_paths env e places (n + impure_all env (exprs_of (x ∷ es)))))
+
+all_kept : (ps qs : List Path) (bs : List BindingId) (xs : Paths) → Extends ps qs → AllAt ps bs xs → AllAt qs bs xs
+all_kept ps qs [] NoPath x h = tt
+all_kept ps qs (b ∷ bs) (APath p xs) x h = (x.kept b.0 p h.0, all_kept ps qs bs xs x h.1)
+all_kept ps qs [] (APath p xs) x h = absurd h
+all_kept ps qs (b ∷ bs) NoPath x h = absurd h
+
+all_push : (env : Environment) (places : Places) (ps : List Path) (bs : List BindingId) (es : List Expr) (b : BindingId) (e : Expr) (n : ℕ) → AllAt ps bs (paths env (exprs_of es) places n) → slice_get ps b.0 ≡ Some (path_of env e places (n + impure_all env (exprs_of es)))
+    → AllAt ps (bs ++ b ∷ []) (paths env (exprs_of (es ++ e ∷ [])) places n)
+all_push env places ps [] [] b e n h k = (subst (λ m. slice_get ps b.0 ≡ Some (path_of env e places m)) (none n) k, tt)
+  where
+    none : (k : ℕ) → k + 0 ≡ k
+    none k = omega arith
+all_push env places ps (c ∷ bs) (x ∷ es) b e n h k =
+    (h.0, all_push env places ps bs es b e (n + impure env x) h.1 (subst (λ m. slice_get ps b.0 ≡ Some (path_of env e places m)) (sym (behind n (impure env x) (impure_all env (exprs_of es)))) k))
+all_push env places ps [] (x ∷ es) b e n h k = absurd h
+all_push env places ps (c ∷ bs) [] b e n h k = absurd h
+
+pub gives_none : (env : Environment) (places : Places) (n : Numbered) (bs : List BindingId) → GivesAll env places n n bs bs NoExpr []
+gives_none env places n bs = record { grows = grows_self n bs; there = tt }
+
+gives_push : (env : Environment) (places : Places) (old mid new : Numbered) (before middle after : List BindingId) (es : List Expr) (e : Expr) (bs : List BindingId) (b : BindingId) → GivesAll env places old mid before middle (exprs_of es) bs → Gives env places mid new middle after e b
+    → GivesAll env places old new before after (exprs_of (es ++ e ∷ [])) (bs ++ b ∷ [])
+gives_push env places old mid new before middle after es e bs b g h = record {
+  grows = rw (paths_push env places es e old.calls, calls_push env places es e old.calls, impure_push env es e)
+      (grows_then old mid new before middle after (exprs_paths env (exprs_of es) places old.calls) (expr_paths env e places n) (calls_all env (exprs_of es) places old.calls) (calls_of env e places n) (impure_all env (exprs_of es)) (impure env e) g.grows
+      (subst (λ m. Grows mid new middle after (expr_paths env e places m) (calls_of env e places m) (impure env e)) g.grows.calls h.grows));
+  there = all_push env places (paths_of new.bindings) bs es b e old.calls (all_kept (paths_of mid.bindings) (paths_of new.bindings) bs (paths env (exprs_of es) places old.calls) h.grows.extends g.there)
+      (subst (λ m. slice_get (paths_of new.bindings) b.0 ≡ Some (path_of env e places m)) g.grows.calls h.there);
+}
+  where
+    n : ℕ
+    n = old.calls + impure_all env (exprs_of es)
+
+pub stand_kept : (ps qs : List Path) (variables : BTreeMap ℕ BindingId) (places : Places) → Extends ps qs → Stand ps variables places → Stand qs variables places
+stand_kept ps qs variables places x s = record { by = λ y. kept (get nat_cmp variables y) (places y) (s.by y) }
+  where
+    kept : (o : Option BindingId) (q : Option Path) → StandsAt ps o q → StandsAt qs o q
+    kept None None h = tt
+    kept (Some b) (Some p) h = x.kept b.0 p h
+    kept None (Some p) h = absurd h
+    kept (Some b) None h = absurd h
+
+-- the next expression of the code's list
+pub given_more : (terms : List Term) (variables : BTreeMap ℕ BindingId) (old mid new : Numbered) (before middle after : List BindingId) (es : List CodeExpr) (i : ℕ) (x : CodeExpr) (bs items : List BindingId) (b : BindingId) → i < length es → x ≡ get_or es i x
+    → AllGiven terms variables old mid before middle (exprs_of (map seen (take i es))) bs → Given terms variables mid new middle after (seen x) b → items ≡ bs ++ b ∷ []
+    → AllGiven terms variables old new before after (exprs_of (map seen (take (i + 1) es))) items
+given_more terms variables old mid new before middle after es i x bs items b lt is g h more env places t s =
+    let first = g env places t s in
+    subst (GivesAll env places old new before after (exprs_of (map seen (take (i + 1) es)))) (sym more)
+    (subst (λ xs. GivesAll env places old new before after (exprs_of xs) (bs ++ b ∷ [])) (sym (map_more seen es i x lt ∙ ap (λ y. map seen (take i es) ++ seen y ∷ []) (sym is)))
+    (gives_push env places old mid new before middle after (map seen (take i es)) (seen x) bs b first (h env places t (stand_kept (paths_of old.bindings) (paths_of mid.bindings) variables places first.grows.extends s))))
+
+-- behind the last one
+pub given_over : (terms : List Term) (variables : BTreeMap ℕ BindingId) (old new : Numbered) (before after : List BindingId) (es : List CodeExpr) (i : ℕ) (bs : List BindingId) → length es ≤ i
+    → AllGiven terms variables old new before after (exprs_of (map seen (take i es))) bs → AllGiven terms variables old new before after (exprs_of (map seen es)) bs
+given_over terms variables old new before after es i bs le h = subst (λ xs. AllGiven terms variables old new before after (exprs_of (map seen xs)) bs) (take_all i es le) h
+
+known_in : (variables : BTreeMap ℕ BindingId) (es : List Expr) (i : ℕ) (e : Expr) → AreKnown variables (exprs_of es) → slice_get es i ≡ Some e → IsKnown variables e
+known_in variables [] i e h k = cc
+known_in variables (x ∷ es) zero e h k = subst (IsKnown variables) (some_same x e k) h.0
+  where
+    some_same : (x y : Expr) → Some x ≡ Some y → x ≡ y
+    some_same x y e' = cc
+known_in variables (x ∷ es) (suc i) e h k = known_in variables es i e h.1 k
+
+impure_in : (terms : List Term) (es : List Expr) (i : ℕ) (e : Expr) → AllCallImpure terms (exprs_of es) → slice_get es i ≡ Some e → CallsImpure terms e
+impure_in terms [] i e h k = cc
+impure_in terms (x ∷ es) zero e h k = subst (CallsImpure terms) (some_same x e k) h.0
+  where
+    some_same : (x y : Expr) → Some x ≡ Some y → x ≡ y
+    some_same x y e' = cc
+impure_in terms (x ∷ es) (suc i) e h k = impure_in terms es i e h.1 k
+
+seen_at : (es : List CodeExpr) (i : ℕ) (x : CodeExpr) → i < length es → x ≡ get_or es i x → slice_get (map seen es) i ≡ Some (seen x)
+seen_at es i x lt is = slice_get-get_or (map seen es) i (seen x) within ∙ ap Some (get_or-map seen es i x (seen x) lt ∙ ap seen (sym is))
+  where
+    within : i < length (map seen es)
+    within = omega (arith, length-map es seen)
+
+-- an expression of the code's list
+pub known_at : (variables : BTreeMap ℕ BindingId) (es : List CodeExpr) (i : ℕ) (x : CodeExpr) → AreKnown variables (exprs_of (map seen es)) → i < length es → x ≡ get_or es i x → IsKnown variables (seen x)
+known_at variables es i x h lt is = known_in variables (map seen es) i (seen x) h (seen_at es i x lt is)
+
+pub impure_at : (terms : List Term) (es : List CodeExpr) (i : ℕ) (x : CodeExpr) → AllCallImpure terms (exprs_of (map seen es)) → i < length es → x ≡ get_or es i x → CallsImpure terms (seen x)
+impure_at terms es i x h lt is = impure_in terms (map seen es) i (seen x) h (seen_at es i x lt is)
