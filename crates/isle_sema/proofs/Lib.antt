@@ -16,3 +16,5 @@ pub mod TypedTerms
 pub mod PatternLaws
 pub mod LookUps
 pub mod ReducedLaws
+pub mod ReadyCalls
+pub mod ReadyRules

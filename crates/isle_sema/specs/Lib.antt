@@ -11,3 +11,4 @@ pub mod Language
 pub mod TypedRule
 pub mod FaultsSeen
 pub mod Typing
+pub mod ReadyRule

@@ -1,0 +1,267 @@
+-- Rules whose parts have the types of their term are ready for a block.
+use Rattle.std.proofs.Common.{◌≡◌, ◌⊎◌, ⊎_elim, ℕ, suc, ◌+◌, Bool, true, false, cond, List, [], ◌∷◌, ◌++◌, map, Option, Some, None, refl, sym, ap, ◌∙◌, subst, arith}
+use Rattle.std.specs.Prelude.{◌==◌, Contains, slice_get}
+use Rattle.std.specs.List.{AllByRecursion}
+use Rattle.std.proofs.lemmas.Bool.{eqb-true, eq-eqb}
+use Rattle.std.proofs.lemmas.List.Elements.{All-contains, All-from_recursion, recursion_from_All, Contains-append_left, Contains-append_right, Contains-append_cases}
+use Rattle.isle_core.specs.declared.TermId.{TermId}
+use Rattle.isle_core.specs.declared.TypeId.{TypeId}
+use Rattle.isle_core.specs.declared.VarId.{VarId}
+use Rattle.isle_core.specs.declared.rule_sets.FlatRule.{FlatRule}
+use Rattle.isle_core.specs.declared.rule_sets.RuleSet.{RuleSet}
+use Rattle.isle_core.specs.declared.types.Term.{Term}
+use Rattle.isle_core.specs.BlockLawful.{IsPathOf}
+use Rattle.isle_core.specs.Calling.{Calling, calling, is_partial, is_fallible, instance_of, impure, impure_all}
+use Rattle.isle_core.specs.Expr as expr
+use Rattle.isle_core.specs.Expr.{Expr, Exprs, NoExpr, AnExpr}
+use Rattle.isle_core.specs.Match.{with}
+use Rattle.isle_core.specs.Path.{Path, Nowhere, Arg, Called, Inner, Paths, at, paths_of}
+use Rattle.isle_core.specs.Pattern.{Pattern, Var, ConstBool, ConstInt, Wildcard, BindPattern, ConstPrim, And}
+use Rattle.isle_core.specs.Pattern as pattern
+use Rattle.isle_core.specs.Ready.{StandsOn, AreReadyCalls, IsReadyRule, IsReady}
+use Rattle.isle_core.specs.Rule.{Rule, Environment, rules_of}
+use Rattle.isle_core.specs.RuleSet.{is_test, equal_test}
+use Rattle.isle_core.specs.StandsFor.{EachOnce, IsFlat, AreFlat, rules_paths, StandsFor}
+use Rattle.isle_core.specs.Tests.{Test, Places, no_places, met_tests, met_after, tests, after, args_tests, args_after, arg_paths, path, paths as all_paths, path_or, call_path, with_inner, expr_paths, exprs_paths, rule_tests, rule_places, rule_calls, rule_paths}
+use Rattle.isle_core.proofs.CallOccurrences.{AreRising, rising_firsts}
+use Rattle.isle_core.proofs.Contained.{head_contained, tail_contained, contained_cases, none_contained}
+use Rattle.isle_core.proofs.KeptPlaces.{args_keep}
+use Rattle.isle_syntax.specs.Tree.{Def}
+use Rattle.isle_sema.specs.TypedRule.{IsPatternOf, ArePatternsOf, IsExprOf, IsRuleOf, numbers}
+use Rattle.isle_sema.specs.ReadyRule.{IsReadyTest}
+use Rattle.isle_sema.specs.Typing.{Typed}
+use Rattle.isle_sema.proofs.ReadyCalls.{ArePlacedAs, path_typed, path_stands, calls_ready, expr_rises, ordered_once}
+use Rattle.isle_sema.proofs.TypedRules.{typed_of}
+
+-- ---- types of arguments, and variables without a path
+
+-- the types are those of the arguments from the i-th on
+AtFrom : Term → ℕ → List TypeId → Type 0
+AtFrom t i tys = (k : ℕ) (ty : TypeId) → slice_get tys k ≡ Some ty → slice_get t.arg_tys (i + k) ≡ Some ty
+
+at_first : (t : Term) (i : ℕ) (ty : TypeId) (tys : List TypeId) → AtFrom t i (ty ∷ tys) → slice_get t.arg_tys i ≡ Some ty
+unfolding AtFrom
+at_first t i ty tys h = let same : i + 0 ≡ i = omega arith in subst (λ n. slice_get t.arg_tys n ≡ Some ty) same (h 0 ty refl)
+
+at_rest : (t : Term) (i : ℕ) (ty : TypeId) (tys : List TypeId) → AtFrom t i (ty ∷ tys) → AtFrom t (suc i) tys
+unfolding AtFrom
+at_rest t i ty tys h k of e = let same : i + suc k ≡ suc i + k = omega arith in subst (λ n. slice_get t.arg_tys n ≡ Some of) same (h (suc k) of e)
+
+-- no variable of these numbers has a path
+AreNew : Places → List ℕ → Type 0
+AreNew places ms = AllByRecursion (λ (m : ℕ). places m ≡ None) ms
+
+new_at : (b : Bool) (places : Places) (x m : ℕ) (p : Path) → x == m ≡ b → (x ≡ m → ⊥) → places m ≡ None → cond b (Some p) (places m) ≡ None
+new_at true places x m p e other h = absurd (other (eqb-true x m e))
+new_at false places x m p e other h = h
+
+still_new : (places : Places) (x : ℕ) (p : Path) (ms : List ℕ) → (Contains ms x → ⊥) → AreNew places ms → AreNew (with places x p) ms
+unfolding AreNew
+still_new places x p [] other h = tt
+still_new places x p (m ∷ ms) other h = (new_at (x == m) places x m p refl (λ e. other (subst (Contains (m ∷ ms)) (sym e) (head_contained m ms))) h.0, still_new places x p ms (λ c. other (tail_contained m ms x c)) h.1)
+
+new_behind : (q : Pattern) (qs : List Pattern) (p : Path) (places : Places) → EachOnce (numbers (q ∷ qs)) → AreNew places (numbers (q ∷ qs)) → AreNew (after q p places) (numbers qs)
+unfolding AreNew
+new_behind (Var of x) qs p places once h = subst (λ o. AllByRecursion (λ (m : ℕ). met_after o x.0 p places m ≡ None) (numbers qs)) (sym h.0) (still_new places x.0 p (numbers qs) once.0 h.1)
+new_behind (ConstBool b) qs p places once h = h
+new_behind (ConstInt of n) qs p places once h = h
+new_behind (Wildcard of) qs p places once h = h
+new_behind (BindPattern of x q) qs p places once h = h
+new_behind (ConstPrim of name) qs p places once h = h
+new_behind (pattern.Term of term rs) qs p places once h = h
+new_behind (And of rs) qs p places once h = h
+
+once_behind : (q : Pattern) (qs : List Pattern) → EachOnce (numbers (q ∷ qs)) → EachOnce (numbers qs)
+once_behind (Var of x) qs once = once.1
+once_behind (ConstBool b) qs once = once
+once_behind (ConstInt of n) qs once = once
+once_behind (Wildcard of) qs once = once
+once_behind (BindPattern of x q) qs once = once
+once_behind (ConstPrim of name) qs once = once
+once_behind (pattern.Term of term rs) qs once = once
+once_behind (And of rs) qs once = once
+
+-- ---- tests
+
+all_both : {A : Type 0} (P : A → Type 0) (xs ys : List A) → AllByRecursion P xs → AllByRecursion P ys → AllByRecursion P (xs ++ ys)
+all_both P [] ys h k = k
+all_both P (x ∷ xs) ys h k = (h.0, all_both P xs ys h.1 k)
+
+test_ready : (env : Environment) (t : Term) (ty : TypeId) (q : Pattern) (qs : List Pattern) (i : ℕ) (places : Places) → slice_get t.arg_tys i ≡ Some ty → IsPatternOf env ty q → AreNew places (numbers (q ∷ qs))
+    → AllByRecursion (IsReadyTest env t) (tests q (Arg i) places)
+unfolding AreNew
+test_ready env t ty (Var of x) qs i places here h new = subst (λ o. AllByRecursion (IsReadyTest env t) (met_tests o (Arg i))) (sym new.0) tt
+test_ready env t ty (ConstBool b) qs i places here h new = (record { ty = ty; path = here; in_place = tt; constraint = h }, tt)
+test_ready env t ty (ConstInt of n) qs i places here h new = (record { ty = ty; path = here; in_place = tt; constraint = h }, tt)
+test_ready env t ty (Wildcard of) qs i places here h new = tt
+test_ready env t ty (BindPattern of x q) qs i places here h new = absurd h
+test_ready env t ty (ConstPrim of name) qs i places here h new = absurd h
+test_ready env t ty (pattern.Term of term rs) qs i places here h new = absurd h
+test_ready env t ty (And of rs) qs i places here h new = absurd h
+
+tests_ready : (env : Environment) (t : Term) (tys : List TypeId) (ps : List Pattern) (i : ℕ) (places : Places) → AtFrom t i tys → ArePatternsOf env tys ps → EachOnce (numbers ps) → AreNew places (numbers ps)
+    → AllByRecursion (IsReadyTest env t) (args_tests ps i places)
+tests_ready env t [] [] i places from h once new = tt
+tests_ready env t [] (q ∷ qs) i places from h once new = absurd h
+tests_ready env t (ty ∷ tys) [] i places from h once new = absurd h
+tests_ready env t (ty ∷ tys) (q ∷ qs) i places from h once new =
+    all_both (IsReadyTest env t) (tests q (Arg i) places) (args_tests qs (suc i) (after q (Arg i) places)) (test_ready env t ty q qs i places (at_first t i ty tys from) h.0 new)
+    (tests_ready env t tys qs (suc i) (after q (Arg i) places) (at_rest t i ty tys from) h.1 (once_behind q qs once) (new_behind q qs (Arg i) places once new))
+
+-- ---- the result
+
+-- a variable stands at an argument of its type
+PlacedAs : Term → List Pattern → ℕ → Places → TypeId → ℕ → Type 0
+PlacedAs t ps i places of x = (k : ℕ) × (args_after ps i places x ≡ Some (Arg k)) × (slice_get t.arg_tys k ≡ Some of)
+
+placed_here : (env : Environment) (t : Term) (ty of : TypeId) (x : VarId) (qs : List Pattern) (i : ℕ) (places : Places) → slice_get t.arg_tys i ≡ Some ty → IsPatternOf env ty (Var of x) → AreNew places (numbers (Var of x ∷ qs)) → PlacedAs t (Var of x ∷ qs) i places of x.0
+unfolding PlacedAs AreNew
+placed_here env t ty of x qs i places here h new =
+    let is : after (Var of x) (Arg i) places x.0 ≡ Some (Arg i) = ap (λ o. met_after o x.0 (Arg i) places x.0) new.0 ∙ ap (λ b. cond b (Some (Arg i)) (places x.0)) (eq-eqb x.0 x.0 refl) in
+    (i, args_keep qs (suc i) (after (Var of x) (Arg i) places) x.0 (Arg i) is, here ∙ ap Some (sym h))
+
+placed : (env : Environment) (t : Term) (tys : List TypeId) (ps : List Pattern) (i : ℕ) (places : Places) (of : TypeId) (x : VarId) → AtFrom t i tys → ArePatternsOf env tys ps → EachOnce (numbers ps) → AreNew places (numbers ps)
+    → Contains ps (Var of x) → PlacedAs t ps i places of x.0
+unfolding PlacedAs
+placed env t [] [] i places of x from h once new c = absurd (none_contained (Var of x) c)
+placed env t [] (q ∷ qs) i places of x from h once new c = absurd h
+placed env t (ty ∷ tys) [] i places of x from h once new c = absurd h
+placed env t (ty ∷ tys) (q ∷ qs) i places of x from h once new c =
+    ⊎_elim
+    (λ (s : q ≡ Var of x). subst (λ r. PlacedAs t (r ∷ qs) i places of x.0) (sym s)
+    (placed_here env t ty of x qs i places (at_first t i ty tys from) (subst (IsPatternOf env ty) s h.0) (subst (λ r. AreNew places (numbers (r ∷ qs))) s new)))
+    (λ d. placed env t tys qs (suc i) (after q (Arg i) places) of x (at_rest t i ty tys from) h.1 (once_behind q qs once) (new_behind q qs (Arg i) places once new) d) (contained_cases q qs (Var of x) c)
+
+all_new : (ms : List ℕ) → AreNew no_places ms
+unfolding AreNew
+all_new [] = tt
+all_new (m ∷ ms) = (refl, all_new ms)
+
+from_start : (t : Term) → AtFrom t 0 t.arg_tys
+unfolding AtFrom
+from_start t k ty e = let same : k ≡ 0 + k = omega arith in subst (λ n. slice_get t.arg_tys n ≡ Some ty) same e
+
+-- the variables of a rule stand at arguments of their types
+rule_placed : (env : Environment) (t : Term) (args : List Pattern) → ArePatternsOf env t.arg_tys args → EachOnce (numbers args) → ArePlacedAs t args (args_after args 0 no_places)
+unfolding PlacedAs
+rule_placed env t args h once of x c = placed env t t.arg_tys args 0 no_places of x (from_start t) h once (all_new (numbers args)) c
+
+-- ---- inner values
+
+-- only calls that may be nothing have inner values among paths
+abbrev Fallible : Environment → List Path → Type 0
+Fallible env ps = (term : TermId) (qs : Paths) (k : ℕ) → Contains ps (Inner (Called term qs k)) → is_fallible (calling env term) ≡ true
+
+-- an argument, or nowhere
+abbrev IsArgument : Option Path → Type 0
+IsArgument None = Unit {0}
+IsArgument (Some p) = (k : ℕ) × (p ≡ Arg k)
+
+met_argument : (o : Option Path) (x y k : ℕ) (places : Places) → ((z : ℕ) → IsArgument (places z)) → IsArgument (met_after o x (Arg k) places y)
+met_argument (Some q) x y k places h = h y
+met_argument None x y k places h = one (x == y)
+  where
+    one : (b : Bool) → IsArgument (cond b (Some (Arg k)) (places y))
+    one true = (k, refl)
+    one false = h y
+
+after_argument : (q : Pattern) (k : ℕ) (places : Places) → ((z : ℕ) → IsArgument (places z)) → (y : ℕ) → IsArgument (after q (Arg k) places y)
+after_argument (Var of x) k places h y = met_argument (places x.0) x.0 y k places h
+after_argument q k places h y = h y
+
+args_argument : (qs : List Pattern) (i : ℕ) (places : Places) → ((z : ℕ) → IsArgument (places z)) → (y : ℕ) → IsArgument (args_after qs i places y)
+args_argument [] i places h = h
+args_argument (q ∷ qs) i places h = args_argument qs (suc i) (after q (Arg i) places) (after_argument q i places h)
+
+one_fallible : (env : Environment) (p : Path) → ((term : TermId) (qs : Paths) (k : ℕ) → p ≡ Inner (Called term qs k) → ⊥) → Fallible env (p ∷ [])
+one_fallible env p apart term qs k c = absurd (⊎_elim (λ e. apart term qs k e) (λ d. none_contained (Inner (Called term qs k)) d) (contained_cases p [] (Inner (Called term qs k)) c))
+
+both_fallible : (env : Environment) (xs ys : List Path) → Fallible env xs → Fallible env ys → Fallible env (xs ++ ys)
+both_fallible env xs ys h k term qs n c = ⊎_elim (h term qs n) (k term qs n) (Contains-append_cases xs ys (Inner (Called term qs n)) c)
+
+argument_apart : (o : Option Path) → IsArgument o → (term : TermId) (qs : Paths) (k : ℕ) → path_or o ≡ Inner (Called term qs k) → ⊥
+argument_apart None h term qs k e = cc
+argument_apart (Some p) h term qs k e = let same : Arg h.0 ≡ Inner (Called term qs k) = sym h.1 ∙ e in cc
+
+inner_same : (a b : TermId) (ps qs : Paths) (j k : ℕ) → Inner (Called a ps j) ≡ Inner (Called b qs k) → a ≡ b
+inner_same a b ps qs j k e = cc
+
+call_apart : (a b : TermId) (ps qs : Paths) (j k : ℕ) → Called a ps j ≡ Inner (Called b qs k) → ⊥
+call_apart a b ps qs j k e = cc
+
+call_fallible : (env : Environment) (term : TermId) (ps : Paths) (j : ℕ) (b : Bool) → is_fallible (calling env term) ≡ b → Fallible env (cond b (Called term ps j ∷ Inner (Called term ps j) ∷ []) (Called term ps j ∷ []))
+call_fallible env term ps j true is other qs k c =
+    ⊎_elim (λ e. absurd (call_apart term other ps qs j k e))
+    (λ d. ⊎_elim (λ e. subst (λ x. is_fallible (calling env x) ≡ true) (inner_same term other ps qs j k e) is) (λ f. absurd (none_contained (Inner (Called other qs k)) f)) (contained_cases (Inner (Called term ps j)) [] (Inner (Called other qs k)) d))
+    (contained_cases (Called term ps j) (Inner (Called term ps j) ∷ []) (Inner (Called other qs k)) c)
+call_fallible env term ps j false is = one_fallible env (Called term ps j) (λ other qs k e. call_apart term other ps qs j k e)
+
+mutual
+  expr_fallible : (e : Expr) (env : Environment) (places : Places) (n : ℕ) → ((y : ℕ) → IsArgument (places y)) → Fallible env (expr_paths env e places n)
+  expr_fallible (expr.Var of x) env places n h = one_fallible env (path_or (places x.0)) (argument_apart (places x.0) (h x.0))
+  expr_fallible (expr.ConstBool b) env places n h = one_fallible env _ (λ term qs k e. cc)
+  expr_fallible (expr.ConstInt of v) env places n h = one_fallible env _ (λ term qs k e. cc)
+  expr_fallible (expr.Term of term es) env places n h =
+      both_fallible env (exprs_paths env es places n) (with_inner (calling env term) (call_path env term (all_paths env es places n) (n + impure_all env es))) (exprs_fallible es env places n h)
+      (call_fallible env term (all_paths env es places n) (instance_of (calling env term) (n + impure_all env es)) (is_fallible (calling env term)) refl)
+  expr_fallible (expr.ConstPrim of name) env places n h = one_fallible env Nowhere (λ term qs k e. cc)
+  expr_fallible (expr.Let of bindings inner) env places n h = one_fallible env Nowhere (λ term qs k e. cc)
+
+  exprs_fallible : (es : Exprs) (env : Environment) (places : Places) (n : ℕ) → ((y : ℕ) → IsArgument (places y)) → Fallible env (exprs_paths env es places n)
+  exprs_fallible NoExpr env places n h term qs k c = absurd (none_contained (Inner (Called term qs k)) c)
+  exprs_fallible (AnExpr e es) env places n h = both_fallible env (expr_paths env e places n) (exprs_paths env es places (n + impure env e)) (expr_fallible e env places n h) (exprs_fallible es env places (n + impure env e) h)
+
+args_fallible : (env : Environment) (qs : List Pattern) (i : ℕ) → Fallible env (arg_paths qs i)
+args_fallible env [] i term ps k c = absurd (none_contained (Inner (Called term ps k)) c)
+args_fallible env (q ∷ qs) i term ps k c = ⊎_elim (λ e. let bad : Arg i ≡ Inner (Called term ps k) = e in cc) (args_fallible env qs (suc i) term ps k) (contained_cases (Arg i) (arg_paths qs (suc i)) (Inner (Called term ps k)) c)
+
+rules_fallible : (rules : List Rule) (env : Environment) (n : ℕ) → Fallible env (rules_paths env rules n)
+rules_fallible [] env n term qs k c = absurd (none_contained (Inner (Called term qs k)) c)
+rules_fallible (r ∷ rules) env n =
+    both_fallible env (rule_paths env r n) (rules_paths env rules (n + impure env r.rhs))
+    (both_fallible env (arg_paths r.args 0) (expr_paths env r.rhs (rule_places r) n) (args_fallible env r.args 0) (expr_fallible r.rhs env (rule_places r) n (args_argument r.args 0 no_places (λ z. tt))))
+    (rules_fallible rules env (n + impure env r.rhs))
+
+-- ---- rule sets
+
+each : {A : Type 0} (P : A → Type 0) (xs : List A) → ((x : A) → Contains xs x → P x) → AllByRecursion P xs
+each P [] h = tt
+each P (x ∷ xs) h = (h x (head_contained x xs), each P xs (λ y c. h y (tail_contained x xs y c)))
+
+contained_map : {A B : Type 0} (f : A → B) (xs : List A) (x : A) → Contains xs x → Contains (map f xs) (f x)
+contained_map f [] x c = absurd (none_contained x c)
+contained_map f (y ∷ xs) x c = ⊎_elim (λ (s : y ≡ x). subst (λ z. Contains (map f (y ∷ xs)) (f z)) s (head_contained (f y) (map f xs))) (λ d. tail_contained (f y) (map f xs) (f x) (contained_map f xs x d)) (contained_cases y xs x c)
+
+module _ (env : Environment) (t : Term) (ps : List Path) (fit : Fallible env ps) where
+  flat_ready : (r : Rule) (n : ℕ) (f : FlatRule) → IsFlat env ps r n f → IsRuleOf env t r → ((p : Path) → Contains (rule_paths env r n) p → Contains ps p) → IsReadyRule env t ps f
+  flat_ready r n f flat h among =
+      let at_args = rule_placed env t r.args h.args h.once in
+      let rises = expr_rises env t (is_partial t.kind) r.args (rule_places r) at_args r.rhs n t.ret_ty h.rhs in
+      let same : map (at ps) f.ordered ≡ rule_calls env r n = rising_firsts n (rule_calls env r n) (map (at ps) f.ordered) rises flat.ordered in
+      record {
+        constraints = each _ f.constraints (λ c d. let k = ready (is_test ps c) (Contains-append_left (map (is_test ps) f.constraints) (map (equal_test ps) f.equals) (is_test ps c) (contained_map (is_test ps) f.constraints c d)) in record { ty = k.ty; path = k.path; in_place = k.in_place; constraint = k.constraint });
+        equals = each _ f.equals (λ e d. let k = ready (equal_test ps e) (Contains-append_right (map (is_test ps) f.constraints) (map (equal_test ps) f.equals) (equal_test ps e) (contained_map (equal_test ps) f.equals e d)) in record { ty = k.ty; left = k.left; left_in_place = k.left_in_place; right = k.right; right_in_place = k.right_in_place });
+        calls = subst (AreReadyCalls env t ps []) (sym same) (calls_ready env t (is_partial t.kind) r.args (rule_places r) at_args r.rhs n t.ret_ty ps [] h.rhs refl fit (λ p c. among p (Contains-append_right (arg_paths r.args 0) (expr_paths env r.rhs (rule_places r) n) p c)));
+        once = ordered_once env ps f.ordered n (subst (AreRising n) (sym same) rises);
+        result = subst (λ p. IsPathOf env t p t.ret_ty) (sym flat.result) (path_typed env t (is_partial t.kind) r.args (rule_places r) at_args r.rhs n t.ret_ty h.rhs);
+        stands = subst (StandsOn (map (at ps) f.ordered)) (sym flat.result) (subst (λ done. StandsOn done (path env r.rhs (rule_places r) n)) (sym same) (path_stands env t (is_partial t.kind) r.args (rule_places r) at_args r.rhs n t.ret_ty (rule_calls env r n) h.rhs (λ p c. c)));
+      }
+    where
+      ready : (x : Test) → Contains (map (is_test ps) f.constraints ++ map (equal_test ps) f.equals) x → IsReadyTest env t x
+      ready x c = All-contains (IsReadyTest env t) (rule_tests r) x (All-from_recursion (IsReadyTest env t) (rule_tests r) (tests_ready env t t.arg_tys r.args 0 no_places (from_start t) h.args h.once (all_new (numbers r.args)))) (flat.no_other x c).0
+
+  flats_ready : (rs : List Rule) (n : ℕ) (fs : List FlatRule) → AreFlat env ps rs n fs → AllByRecursion (IsRuleOf env t) rs → ((p : Path) → Contains (rules_paths env rs n) p → Contains ps p) → AllByRecursion (IsReadyRule env t ps) fs
+  flats_ready [] n [] flat h among = tt
+  flats_ready [] n (f ∷ fs) flat h among = absurd flat
+  flats_ready (r ∷ rs) n [] flat h among = absurd flat
+  flats_ready (r ∷ rs) n (f ∷ fs) flat h among =
+      (flat_ready r n f flat.0 h.0 (λ p c. among p (Contains-append_left (rule_paths env r n) (rules_paths env rs (n + impure env r.rhs)) p c)),
+       flats_ready rs (n + impure env r.rhs) fs flat.1 h.1 (λ p c. among p (Contains-append_right (rule_paths env r n) (rules_paths env rs (n + impure env r.rhs)) p c)))
+
+-- a rule set that stands for the rules of a term is ready
+pub set_ready : (defs : List Def) (env : Environment) (id : TermId) (t : Term) (s : RuleSet) → Typed defs env → slice_get env.terms id.0 ≡ Some t → StandsFor env s (rules_of env id) → IsReady env t s
+set_ready defs env id t s h there stands = record {
+  once = stands.once;
+  rules = flats_ready env t (paths_of s.bindings) (λ term qs k c. rules_fallible (rules_of env id) env 0 term qs k ((stands.paths (Inner (Called term qs k))).0 c)) (rules_of env id) 0 s.rules stands.flat
+      (recursion_from_All (IsRuleOf env t) (rules_of env id) (typed_of defs env id t h there)) (λ p c. (stands.paths p).1 c);
+}
