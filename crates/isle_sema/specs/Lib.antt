@@ -9,5 +9,5 @@ pub mod Heads
 pub mod Faults
 pub mod Language
 pub mod TypedRule
-pub mod FaultsSeen
+pub mod LookedUp
 pub mod Typing
