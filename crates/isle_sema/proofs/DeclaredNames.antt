@@ -12,7 +12,7 @@ use Rattle.isle_core.specs.Terms.{sym_text}
 use Rattle.isle_syntax.specs.Tree as tree
 use Rattle.isle_syntax.specs.Tree.{Def}
 use Rattle.isle_sema.specs.Symbols.{index_of, added, number_or, def_names, symbols}
-use Rattle.isle_sema.specs.Signatures.{Signature, RuleDef, signatures, rule_defs}
+use Rattle.isle_sema.specs.Signatures.{Signature, Extern, RuleDef, signatures, externs, rule_defs}
 use Rattle.isle_sema.specs.Elaborated.{term_of}
 use Rattle.isle_sema.specs.Faults.{repeats, repeats_after}
 use Rattle.isle_sema.specs.Heads.{terms_of}
@@ -96,7 +96,9 @@ are_among (tree.Rule name prio term args iflets rhs pos ∷ defs) names =
     let d = tree.Rule name prio term args iflets rhs pos in
     among_behind names d defs (are_among defs (fold added names (def_names d)))
 are_among (tree.TypeDecl name is_extern is_nodebug body pos ∷ defs) names = are_among defs names
-are_among (tree.ExternConstructor term func pos ∷ defs) names = are_among defs names
+are_among (tree.ExternConstructor term func pos ∷ defs) names =
+    let d = tree.ExternConstructor term func pos in
+    among_behind names d defs (are_among defs (fold added names (def_names d)))
 are_among (tree.ExternExtractor term func infallible pos ∷ defs) names = are_among defs names
 are_among (tree.ExternConst name ty pos ∷ defs) names = are_among defs names
 are_among (tree.Extractor term params template pos ∷ defs) names = are_among defs names
@@ -107,13 +109,13 @@ are_among (tree.Passed head items pos ∷ defs) names = are_among defs names
 text_of : (syms : List (List ℕ)) (name : List ℕ) (n : ℕ) → index_of syms name ≡ Some n → get_or syms (number_or (index_of syms name)) [] ≡ name
 text_of syms name n e = ap (λ o. get_or syms (number_or o) []) e ∙ stands syms name n e
 
-texts_of : (defs : List Def) (rules : List RuleDef) (sigs : List Signature) → AreAmong (symbols defs) sigs → map (λ (t : Term). sym_text (env_of defs) t.name) (map (term_of (symbols defs) rules) sigs) ≡ terms_of sigs
+texts_of : (defs : List Def) (xs : List Extern) (rules : List RuleDef) (sigs : List Signature) → AreAmong (symbols defs) sigs → map (λ (t : Term). sym_text (env_of defs) t.name) (map (term_of (symbols defs) xs rules) sigs) ≡ terms_of sigs
 unfolding AreAmong
-texts_of defs rules [] h = refl
-texts_of defs rules (s ∷ sigs) h =
-    let rest = texts_of defs rules sigs h.1 in
-    ap (λ name. name ∷ map (λ (t : Term). sym_text (env_of defs) t.name) (map (term_of (symbols defs) rules) sigs)) (text_of (symbols defs) s.term h.0.0 h.0.1) ∙ ap (λ names. s.term ∷ names) rest
+texts_of defs xs rules [] h = refl
+texts_of defs xs rules (s ∷ sigs) h =
+    let rest = texts_of defs xs rules sigs h.1 in
+    ap (λ name. name ∷ map (λ (t : Term). sym_text (env_of defs) t.name) (map (term_of (symbols defs) xs rules) sigs)) (text_of (symbols defs) s.term h.0.0 h.0.1) ∙ ap (λ names. s.term ∷ names) rest
 
 -- the names of the terms are the declared names
 pub declared_names : (defs : List Def) → map (λ (t : Term). sym_text (env_of defs) t.name) (env_of defs).terms ≡ terms_of (signatures defs)
-declared_names defs = texts_of defs (rule_defs defs) (signatures defs) (are_among defs [])
+declared_names defs = texts_of defs (externs defs) (rule_defs defs) (signatures defs) (are_among defs [])

@@ -7,7 +7,7 @@ use Rattle.isle_syntax.specs.declared.tree.AstPattern.{AstPattern}
 use Rattle.isle_syntax.specs.declared.tree.Def.{Def as CodeDef}
 use Rattle.isle_syntax.specs.Views.{pattern, def}
 use Rattle.isle_sema.specs.Symbols.{added, pattern_names, def_names}
-use Rattle.isle_sema.proofs.Variables.{names_from}
+use Rattle.isle_sema.proofs.MetVariables.{names_from}
 
 -- one text more
 pub texts_more : (texts : List (List ℕ)) (i : ℕ) (text d : List ℕ) (names : List (List ℕ)) → i < length texts → text ≡ get_or texts i d

@@ -1,7 +1,8 @@
+pub mod Parts
 pub mod TypedOnce
 pub mod SymbolLaws
 pub mod Sees
-pub mod Variables
+pub mod MetVariables
 pub mod Forms
 pub mod FaultLaws
 pub mod Interned
@@ -9,11 +10,16 @@ pub mod SymbolsAgain
 pub mod TypedConstants
 pub mod BoundVariables
 pub mod VariablesOnce
+pub mod TypedExprs
 pub mod TypedRules
 pub mod OneRule
 pub mod DeclaredNames
 pub mod TypedTerms
 pub mod PatternLaws
+pub mod ExprLaws
+pub mod VariableTypes
+pub mod PlaceLaws
+pub mod CallLaws
 pub mod LookUps
 pub mod ReducedLaws
 pub mod ReadyCalls

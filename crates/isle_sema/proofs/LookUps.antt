@@ -1,35 +1,44 @@
--- Looking up a declaration by its name is looking up its place.
+-- Looking up a thing by its name is looking up its place.
 use Rattle.std.proofs.Common.{◌≡◌, ℕ, suc, ◌+◌, ◌<◌, ◌≤◌, length, get_or, Bool, true, false, cond, List, [], ◌∷◌, map, Option, Some, None, refl, sym, ap, ◌∙◌, arith}
-use Rattle.std.specs.Prelude.{option_map, slice_get, IfSome, MatchOption}
+use Rattle.std.specs.Prelude.{drop, option_map, slice_get, IfSome, MatchOption}
 use Rattle.std.specs.Option.{option_copied}
-use Rattle.std.specs.List.{HoldsAt}
+use Rattle.std.specs.List.{HoldsAt, find}
 use denote.Ref.{Bor}
 use Rattle.std.specs.Str.{bytes_eq}
-use Rattle.std.proofs.lemmas.Option.{slice_get-map, slice_get_past, slice_get_read}
+use Rattle.std.proofs.lemmas.Option.{slice_get-map, slice_get_past, slice_get_read, slice_get_within, get_or_from_slice_get}
+use Rattle.std.proofs.lemmas.List.{drop_more}
 use Rattle.isle_sema.specs.declared.collected.Signature.{Signature as CodeSignature}
+use Rattle.isle_sema.specs.declared.collected.Extern.{Extern as CodeExtern}
 use Rattle.isle_sema.specs.Symbols.{index_of}
-use Rattle.isle_sema.specs.Signatures.{Signature}
-use Rattle.isle_sema.specs.Collected.{signature}
+use Rattle.isle_sema.specs.Signatures.{Signature, Extern, func_named}
+use Rattle.isle_sema.specs.Collected.{signature, extern}
 use Rattle.isle_sema.specs.Elaborated.{signature_named}
-use Rattle.isle_sema.specs.Heads.{terms_of}
+use Rattle.isle_sema.specs.Heads.{terms_of, extern_terms}
 
 -- what stands at a place, if there is one
 abbrev pub at_place : {A : Type 0} → List A → Option ℕ → Option A
 at_place xs None = None
 at_place xs (Some n) = slice_get xs n
 
-at_later : {A : Type 0} (x : A) (xs : List A) (o : Option ℕ) → at_place xs o ≡ at_place (x ∷ xs) (option_map (λ (n : ℕ). n + 1) o)
+pub at_later : {A : Type 0} (x : A) (xs : List A) (o : Option ℕ) → at_place xs o ≡ at_place (x ∷ xs) (option_map (λ (n : ℕ). n + 1) o)
 at_later x xs None = refl
 at_later x xs (Some n) = let next : suc n ≡ n + 1 = omega arith in ap (slice_get (x ∷ xs)) next
 
-named_from : (s : Signature) (sigs : List Signature) (name : List ℕ) (first : Bool) → signature_named sigs name ≡ at_place sigs (index_of (terms_of sigs) name)
-    → cond first (Some s) (signature_named sigs name) ≡ at_place (s ∷ sigs) (cond first (Some 0) (option_map (λ (n : ℕ). n + 1) (index_of (terms_of sigs) name)))
-named_from s sigs name true rest = refl
-named_from s sigs name false rest = rest ∙ at_later s sigs (index_of (terms_of sigs) name)
+found_from : {A : Type 0} (name_of : A → List ℕ) (x : A) (xs : List A) (name : List ℕ) (first : Bool) → find (λ (y : A). bytes_eq (name_of y) name) xs ≡ at_place xs (index_of (map name_of xs) name)
+    → cond first (Some x) (find (λ (y : A). bytes_eq (name_of y) name) xs) ≡ at_place (x ∷ xs) (cond first (Some 0) (option_map (λ (n : ℕ). n + 1) (index_of (map name_of xs) name)))
+found_from name_of x xs name true rest = refl
+found_from name_of x xs name false rest = rest ∙ at_later x xs (index_of (map name_of xs) name)
+
+-- the first thing of a name stands at the name's place
+pub found_at : {A : Type 0} (name_of : A → List ℕ) (xs : List A) (name : List ℕ) → find (λ (y : A). bytes_eq (name_of y) name) xs ≡ at_place xs (index_of (map name_of xs) name)
+found_at name_of [] name = refl
+found_at name_of (x ∷ xs) name = found_from name_of x xs name (bytes_eq (name_of x) name) (found_at name_of xs name)
 
 pub named_at : (sigs : List Signature) (name : List ℕ) → signature_named sigs name ≡ at_place sigs (index_of (terms_of sigs) name)
-named_at [] name = refl
-named_at (s ∷ sigs) name = named_from s sigs name (bytes_eq s.term name) (named_at sigs name)
+named_at sigs name = found_at (λ (s : Signature). s.term) sigs name
+
+pub func_at : (xs : List Extern) (name : List ℕ) → func_named xs name ≡ option_map (λ (x : Extern). x.func) (at_place xs (index_of (extern_terms xs) name))
+func_at xs name = ap (option_map (λ (x : Extern). x.func)) (found_at (λ (x : Extern). x.term) xs name)
 
 -- the same of code's declarations
 pub named_none : (sigs : List CodeSignature) (names : List (List ℕ)) (name : List ℕ) → names ≡ terms_of (map signature sigs) → index_of names name ≡ None → None ≡ signature_named (map signature sigs) name
@@ -39,7 +48,35 @@ pub named_some : (sigs : List CodeSignature) (names : List (List ℕ)) (name : L
 named_some sigs names name n is some =
     sym (named_at (map signature sigs) name ∙ ap (λ ns. at_place (map signature sigs) (index_of ns name)) (sym is) ∙ ap (at_place (map signature sigs)) some ∙ slice_get-map signature sigs n)
 
+-- and of its external constructors
+pub func_none : (xs : List CodeExtern) (names : List (List ℕ)) (name : List ℕ) → names ≡ extern_terms (map extern xs) → index_of names name ≡ None → None ≡ func_named (map extern xs) name
+func_none xs names name is none =
+    sym (func_at (map extern xs) name ∙ ap (λ ns. option_map (λ (x : Extern). x.func) (at_place (map extern xs) (index_of ns name))) (sym is) ∙ ap (λ o. option_map (λ (x : Extern). x.func) (at_place (map extern xs) o)) none)
+
+pub func_some : (xs : List CodeExtern) (names : List (List ℕ)) (name : List ℕ) (n : ℕ) → names ≡ extern_terms (map extern xs) → index_of names name ≡ Some n
+    → option_map (λ (x : Extern). x.func) (option_map extern (slice_get xs n)) ≡ func_named (map extern xs) name
+func_some xs names name n is some =
+    sym (func_at (map extern xs) name ∙ ap (λ ns. option_map (λ (x : Extern). x.func) (at_place (map extern xs) (index_of ns name))) (sym is) ∙ ap (λ o. option_map (λ (x : Extern). x.func) (at_place (map extern xs) o)) some
+    ∙ ap (option_map (λ (x : Extern). x.func)) (slice_get-map extern xs n))
+
 -- what stands at a place, behind a reference
 pub got : {X : Type 0} (xs : List X) (i : ℕ) (r : Option (Bor X)) → IfSome r (λ x. x.now ≡ get_or xs i x.now) → MatchOption r (length xs ≤ i) (λ x. (i < length xs) × HoldsAt (λ y. x.now ≡ y) xs i) → option_copied r ≡ slice_get xs i
 got xs i None e h = sym (slice_get_past xs i h)
 got xs i (Some x) e h = sym (slice_get_read xs (length xs) i x.now refl h.0 e)
+
+-- ---- the rest of a list
+
+-- what stands at a place is the first of the rest
+pub drop_got : {A : Type 0} (xs : List A) (i : ℕ) (x : A) → slice_get xs i ≡ Some x → drop i xs ≡ x ∷ drop (i + 1) xs
+drop_got xs i x e =
+    let lt = slice_get_within xs i x e in
+    drop_more xs i x lt ∙ ap (λ y. y ∷ drop (i + 1) xs) (get_or_from_slice_get xs i x x e)
+
+-- what is behind a reference stands at the place
+pub there : {X : Type 0} (xs : List X) (i : ℕ) (r : Option (Bor X)) (x : Bor X) → IfSome r (λ x. x.now ≡ get_or xs i x.now) → MatchOption r (length xs ≤ i) (λ x. (i < length xs) × HoldsAt (λ y. x.now ≡ y) xs i) → r ≡ Some x → slice_get xs i ≡ Some x.now
+there xs i r x e h is = sym (got xs i r e h) ∙ ap option_copied is
+
+-- where there is nothing at the place, nothing is left
+pub past : {X : Type 0} (xs : List X) (i : ℕ) (r : Option (Bor X)) → MatchOption r (length xs ≤ i) (λ x. (i < length xs) × HoldsAt (λ y. x.now ≡ y) xs i) → r ≡ None → length xs ≤ i
+past xs i None h e = h
+past xs i (Some x) h e = cc

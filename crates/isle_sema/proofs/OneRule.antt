@@ -1,20 +1,19 @@
 -- A term has at most one rule.
 use Rattle.std.proofs.Common.{◌≡◌, ℕ, ◌+◌, ◌≤◌, Bool, true, false, cond, List, [], ◌∷◌, ◌++◌, length, Option, Some, None, refl, sym, ap, ◌∙◌, subst, arith}
-use Rattle.std.specs.Prelude.{◌==◌, not, option_map, filter, is_some}
+use Rattle.std.specs.Prelude.{◌==◌, ◌||◌, option_map, filter, is_some}
 use Rattle.std.specs.Str.{bytes_eq}
-use Rattle.std.specs.List.{list_all}
-use Rattle.std.proofs.lemmas.Bool.{or_parts, and_parts, eqb-true, not-true}
+use Rattle.std.proofs.lemmas.Bool.{or_parts, eqb-true}
 use Rattle.std.proofs.lemmas.Slice.Eq.{bytes_eq-Decides}
 use Rattle.isle_core.specs.declared.TermId.{TermId}
 use Rattle.isle_core.specs.Rule.{Rule, Environment, rules_of}
 use Rattle.isle_syntax.specs.Tree.{Def}
 use Rattle.isle_sema.specs.Symbols.{index_of, symbols}
-use Rattle.isle_sema.specs.Signatures.{Signature, RuleDef, signatures, rule_defs, term_named}
+use Rattle.isle_sema.specs.Signatures.{Signature, Extern, RuleDef, signatures, externs, rule_defs, term_named, func_named}
 use Rattle.isle_sema.specs.Elaborated.{signature_named, term_or, rule_over, rules_from}
-use Rattle.isle_sema.specs.Faults.{repeats, repeats_after, breaks, signatures_fault, rules_fault}
-use Rattle.isle_sema.specs.Language.{is_built_def}
+use Rattle.isle_sema.specs.Faults.{repeats_after, breaks, rules_fault}
 use Rattle.isle_sema.specs.Heads.{terms_of, heads_of}
 use Rattle.isle_sema.specs.Typing.{Typed}
+use Rattle.isle_sema.proofs.Parts.{heads_apart, sound_rules}
 use Rattle.isle_sema.proofs.SymbolLaws.{index_of_new}
 use Rattle.isle_sema.proofs.LookUps.{at_place, named_at}
 use Rattle.isle_sema.proofs.BoundVariables.{index_stays, none_of}
@@ -56,16 +55,17 @@ AreRooted : List Signature → List RuleDef → Type 0
 AreRooted sigs [] = Unit {0}
 AreRooted sigs (r ∷ rules) = (index_of (terms_of sigs) r.term ≡ Some (root sigs r)) × AreRooted sigs rules
 
-rooted_at : (sigs : List Signature) (r : RuleDef) (o : Option ℕ) → breaks r (at_place sigs o) ≡ false → o ≡ Some (term_or (option_map (λ (n : ℕ). record { 0 = n }) o)).0
+rooted_at : (sigs : List Signature) (r : RuleDef) (o : Option ℕ) → breaks sigs r (at_place sigs o) ≡ false → o ≡ Some (term_or (option_map (λ (n : ℕ). record { 0 = n }) o)).0
 rooted_at sigs r None h = cc
 rooted_at sigs r (Some n) h = refl
 
-rooted : (sigs : List Signature) (rules : List RuleDef) → rules_fault sigs rules ≡ false → AreRooted sigs rules
+rooted : (sigs : List Signature) (xs : List Extern) (rules : List RuleDef) → rules_fault sigs xs rules ≡ false → AreRooted sigs rules
 unfolding AreRooted root
-rooted sigs [] h = tt
-rooted sigs (r ∷ rules) h =
-    let k = or_parts (breaks r (signature_named sigs r.term)) (rules_fault sigs rules) h in
-    (rooted_at sigs r (index_of (terms_of sigs) r.term) (ap (breaks r) (sym (named_at sigs r.term)) ∙ k.0), rooted sigs rules k.1)
+rooted sigs xs [] h = tt
+rooted sigs xs (r ∷ rules) h =
+    let k = or_parts (is_some (func_named xs r.term) || breaks sigs r (signature_named sigs r.term)) (rules_fault sigs xs rules) h in
+    let l = or_parts (is_some (func_named xs r.term)) (breaks sigs r (signature_named sigs r.term)) k.0 in
+    (rooted_at sigs r (index_of (terms_of sigs) r.term) (ap (breaks sigs r) (sym (named_at sigs r.term)) ∙ l.1), rooted sigs xs rules k.1)
 
 -- ---- rules whose heads do not repeat
 
@@ -98,7 +98,7 @@ none_left syms sigs before name n i (r ∷ rules) h met at are =
     let parts = or_parts (is_some (index_of before r.term)) (repeats_after (before ++ r.term ∷ []) (heads_of rules)) h in
     let rest = none_left syms sigs (before ++ r.term ∷ []) name n (i + 1) rules parts.1 (some_stays before r.term name (index_of before name) refl met) at are.1 in
     let same = λ (e : root sigs r == n ≡ true). same_name (terms_of sigs) r.term name n (are.0 ∙ ap Some (eqb-true (root sigs r) n e)) at in
-    dropped (root sigs r == n) (rule_over syms (term_or (term_named sigs r.term)) (signature_named sigs r.term) i r) (of n (rules_from syms sigs (i + 1) rules))
+    dropped (root sigs r == n) (rule_over syms sigs (term_or (term_named sigs r.term)) (signature_named sigs r.term) i r) (of n (rules_from syms sigs (i + 1) rules))
     (λ e. contrary (is_some (index_of before r.term)) parts.0 (ap (λ x. is_some (index_of before x)) (same e) ∙ met)) rest
 
 one_left : (syms : List (List ℕ)) (sigs : List Signature) (before : List (List ℕ)) (n i : ℕ) (rules : List RuleDef) → repeats_after before (heads_of rules) ≡ false → AreRooted sigs rules → length (of n (rules_from syms sigs i rules)) ≤ 1
@@ -107,13 +107,12 @@ one_left syms sigs before n i [] h are = omega arith
 one_left syms sigs before n i (r ∷ rules) h are =
     let parts = or_parts (is_some (index_of before r.term)) (repeats_after (before ++ r.term ∷ []) (heads_of rules)) h in
     let met = ap is_some (index_of_new before r.term (none_of (index_of before r.term) parts.0)) in
-    alone (root sigs r == n) (rule_over syms (term_or (term_named sigs r.term)) (signature_named sigs r.term) i r) (of n (rules_from syms sigs (i + 1) rules))
+    alone (root sigs r == n) (rule_over syms sigs (term_or (term_named sigs r.term)) (signature_named sigs r.term) i r) (of n (rules_from syms sigs (i + 1) rules))
     (λ e. none_left syms sigs (before ++ r.term ∷ []) r.term n (i + 1) rules parts.1 met (are.0 ∙ ap Some (eqb-true (root sigs r) n e)) are.1)
     (one_left syms sigs (before ++ r.term ∷ []) n (i + 1) rules parts.1 are.1)
 
 -- a term has at most one rule
 pub typed_one : (defs : List Def) (env : Environment) (id : TermId) → Typed defs env → length (rules_of env id) ≤ 1
 typed_one defs env id h =
-    let b = and_parts (list_all is_built_def defs) (not (repeats (heads_of (rule_defs defs)))) h.built in
-    let s = or_parts (signatures_fault (signatures defs)) (rules_fault (signatures defs) (rule_defs defs)) h.sound in
-    subst (λ (e : Environment). length (rules_of e id) ≤ 1) (sym h.given) (one_left (symbols defs) (signatures defs) [] id.0 0 (rule_defs defs) (not-true (repeats (heads_of (rule_defs defs))) b.1) (rooted (signatures defs) (rule_defs defs) s.1))
+    subst (λ (e : Environment). length (rules_of e id) ≤ 1) (sym h.given)
+    (one_left (symbols defs) (signatures defs) [] id.0 0 (rule_defs defs) (heads_apart defs h.built) (rooted (signatures defs) (externs defs) (rule_defs defs) (sound_rules defs h.sound)))

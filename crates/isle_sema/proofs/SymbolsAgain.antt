@@ -8,7 +8,7 @@ use Rattle.std.proofs.lemmas.Slice.Eq.{bytes_eq-Decides}
 use Rattle.isle_core.specs.declared.types.TermKind.TheVariants as kind
 use Rattle.isle_core.specs.declared.types.ExtractorKind.TheVariants as extractor
 use Rattle.isle_sema.specs.Symbols.{index_of, added, sym_of}
-use Rattle.isle_sema.specs.Signatures.{Signature, RuleDef, has_rule}
+use Rattle.isle_sema.specs.Signatures.{Signature, Extern, RuleDef, func_named, has_rule}
 use Rattle.isle_sema.specs.Elaborated.{type_of, constructor_of, term_of}
 use Rattle.isle_sema.specs.Faults.{repeats, repeats_after}
 use Rattle.isle_sema.specs.Heads.{heads_of, term_over}
@@ -87,8 +87,8 @@ pub known : (rules : List RuleDef) (name : List ℕ) → is_some (index_of (fold
 known rules name = known_from [] rules name
 
 -- the terms of declarations
-pub terms_over : (syms : List (List ℕ)) (rules : List RuleDef) (sigs : List Signature) → map (term_over syms (fold added [] (heads_of rules))) sigs ≡ map (term_of syms rules) sigs
-terms_over syms rules [] = refl
-terms_over syms rules (s ∷ sigs) =
-    ap (λ ts. term_over syms (fold added [] (heads_of rules)) s ∷ ts) (terms_over syms rules sigs)
-    ∙ ap (λ (b : Bool). record { name = sym_of syms s.term; decl_pos = s.pos; arg_tys = map type_of s.args; ret_ty = type_of s.ret; kind = kind.Decl false false false false (constructor_of b) extractor.Absent } ∷ map (term_of syms rules) sigs) (known rules s.term)
+pub terms_over : (syms : List (List ℕ)) (xs : List Extern) (rules : List RuleDef) (sigs : List Signature) → map (term_over syms xs (fold added [] (heads_of rules))) sigs ≡ map (term_of syms xs rules) sigs
+terms_over syms xs rules [] = refl
+terms_over syms xs rules (s ∷ sigs) =
+    ap (λ ts. term_over syms xs (fold added [] (heads_of rules)) s ∷ ts) (terms_over syms xs rules sigs)
+    ∙ ap (λ (b : Bool). record { name = sym_of syms s.term; decl_pos = s.pos; arg_tys = map type_of s.args; ret_ty = type_of s.ret; kind = kind.Decl false false s.partial false (constructor_of syms (func_named xs s.term) b) extractor.Absent } ∷ map (term_of syms xs rules) sigs) (known rules s.term)

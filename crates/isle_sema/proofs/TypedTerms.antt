@@ -1,14 +1,15 @@
 -- What the terms of an environment are to its definitions.
-use Rattle.std.proofs.Common.{◌≡◌, ℕ, zero, suc, ◌+◌, ◌<◌, ◌≤◌, false, List, [], ◌∷◌, length, map, Option, Some, None, refl, sym, ap, ◌∙◌, subst, arith}
-use Rattle.std.specs.Prelude.{◌||◌, Contains, option_map, slice_get, IsSomeAnd}
-use Rattle.std.specs.List.{AllByRecursion, IsDistinct, list_any, range_with_len}
+use Rattle.std.proofs.Common.{◌≡◌, ℕ, zero, suc, ◌+◌, ◌<◌, ◌≤◌, Bool, false, List, [], ◌∷◌, length, map, Option, Some, None, refl, sym, ap, ◌∙◌, subst, arith}
+use Rattle.std.specs.Prelude.{Contains, option_map, slice_get, IsSomeAnd}
+use Rattle.std.specs.List.{AllByRecursion, IsDistinct, range_with_len}
 use Rattle.std.specs.Str.{bytes_eq}
-use Rattle.std.proofs.lemmas.Bool.{or_parts}
 use Rattle.std.proofs.lemmas.Option.{slice_get-map, same_Some}
 use Rattle.std.proofs.lemmas.List.Elements.{All-from_recursion, All-filter, All-contains}
 use Rattle.isle_core.specs.declared.TermId.{TermId}
 use Rattle.isle_core.specs.declared.types.Term.{Term}
-use Rattle.isle_core.specs.Outcome.{is_partial}
+use Rattle.isle_core.specs.declared.types.TermKind.TheVariants as kind
+use Rattle.isle_core.specs.declared.types.ConstructorKind.{ConstructorKind}
+use Rattle.isle_core.specs.declared.types.ExtractorKind.TheVariants as extractor
 use Rattle.isle_core.specs.Rule.{Environment}
 use Rattle.isle_core.specs.Terms.{sym_text, term_ids, has_rules, with_rules}
 use Rattle.isle_core.proofs.Contained.{head_contained, tail_contained}
@@ -17,11 +18,11 @@ use Rattle.isle_syntax.specs.Tree.{Def}
 use Rattle.isle_syntax.specs.Positions.{place_of}
 use Rattle.isle_sema.specs.Symbols.{symbols}
 use Rattle.isle_sema.specs.Builtins.{builtins, IsBuiltinDef, IsBuiltinType}
-use Rattle.isle_sema.specs.Signatures.{Signature, signatures, rule_defs}
-use Rattle.isle_sema.specs.Elaborated.{type_of, term_of}
+use Rattle.isle_sema.specs.Signatures.{Signature, signatures, externs, rule_defs, func_named, has_rule}
+use Rattle.isle_sema.specs.Elaborated.{type_of, constructor_of, term_of}
 use Rattle.isle_sema.specs.Heads.{terms_of}
-use Rattle.isle_sema.specs.Faults.{repeats, names_no_type, has_too_many, signatures_fault, rules_fault}
 use Rattle.isle_sema.specs.Typing.{env_of, Typed}
+use Rattle.isle_sema.proofs.Parts.{names_apart}
 use Rattle.isle_sema.proofs.TypedConstants.{type_below}
 use Rattle.isle_sema.proofs.DeclaredNames.{declared_names, distinct_names}
 
@@ -31,9 +32,9 @@ some_term : (f : Signature → Term) (o : Option Signature) (t : Term) → optio
 some_term f None t e = absurd cc
 some_term f (Some s) t e = (s, refl, same_Some (f s) t e)
 
-declared : (defs : List Def) (env : Environment) (i : ℕ) (t : Term) → Typed defs env → slice_get env.terms i ≡ Some t → (s : Signature) × (slice_get (signatures defs) i ≡ Some s) × (term_of (symbols defs) (rule_defs defs) s ≡ t)
+declared : (defs : List Def) (env : Environment) (i : ℕ) (t : Term) → Typed defs env → slice_get env.terms i ≡ Some t → (s : Signature) × (slice_get (signatures defs) i ≡ Some s) × (term_of (symbols defs) (externs defs) (rule_defs defs) s ≡ t)
 declared defs env i t h at =
-    let f = term_of (symbols defs) (rule_defs defs) in
+    let f = term_of (symbols defs) (externs defs) (rule_defs defs) in
     some_term f (slice_get (signatures defs) i) t (sym (slice_get-map f (signatures defs) i) ∙ ap (λ (e : Environment). slice_get e.terms i) (sym h.given) ∙ at)
 
 -- ---- its types
@@ -60,9 +61,14 @@ typed_types defs env i t h at =
     subst (λ (u : Term). AllByRecursion (IsBuiltinType env) (u.ret_ty ∷ u.arg_tys)) d.2
     (subst (λ (e : Environment). AllByRecursion (IsBuiltinType e) (type_of d.0.ret ∷ map type_of d.0.args)) (sym h.given) (name_built defs d.0.ret, names_built defs d.0.args))
 
--- no term is partial
-pub typed_plain : (defs : List Def) (env : Environment) (i : ℕ) (t : Term) → Typed defs env → slice_get env.terms i ≡ Some t → is_partial t.kind ≡ false
-typed_plain defs env i t h at = let d = declared defs env i t h at in subst (λ (u : Term). is_partial u.kind ≡ false) d.2 refl
+-- ---- its kind
+
+-- a term has at most the flag `partial`, and no extractor
+pub typed_kind : (defs : List Def) (env : Environment) (i : ℕ) (t : Term) → Typed defs env → slice_get env.terms i ≡ Some t → (partial : Bool) × (by : ConstructorKind) × (kind.Decl false false partial false by extractor.Absent ≡ t.kind)
+typed_kind defs env i t h at =
+    let d = declared defs env i t h at in
+    let by = constructor_of (symbols defs) (func_named (externs defs) d.0.term) (has_rule (rule_defs defs) d.0.term) in
+    (d.0.partial, by, ap (λ (u : Term). u.kind) d.2)
 
 -- ---- its place
 
@@ -81,7 +87,7 @@ first_is d defs here s at e = (d, head_contained d defs, at ∙ ap (λ (x : Sign
 stands_in : (defs : List Def) (i : ℕ) (s : Signature) → slice_get (signatures defs) i ≡ Some s → StandsIn defs s
 stands_in [] i s e = absurd cc
 stands_in (tree.Decl term pure multi partial recursive args ret pos ∷ defs) zero s e =
-    first_is (tree.Decl term pure multi partial recursive args ret pos) defs (record { term = term; args = args; ret = ret; pos = pos }) s refl e
+    first_is (tree.Decl term pure multi partial recursive args ret pos) defs (record { term = term; partial = partial; args = args; ret = ret; pos = pos }) s refl e
 stands_in (tree.Decl term pure multi partial recursive args ret pos ∷ defs) (suc i) s e = later (tree.Decl term pure multi partial recursive args ret pos) defs s (stands_in defs i s e)
 stands_in (tree.Rule name prio term args iflets rhs pos ∷ defs) i s e = later (tree.Rule name prio term args iflets rhs pos) defs s (stands_in defs i s e)
 stands_in (tree.TypeDecl name is_extern is_nodebug body pos ∷ defs) i s e = later (tree.TypeDecl name is_extern is_nodebug body pos) defs s (stands_in defs i s e)
@@ -123,8 +129,5 @@ typed_there defs env id h among =
 -- the declared names don't repeat
 pub typed_names : (defs : List Def) (env : Environment) → Typed defs env → IsDistinct bytes_eq (map (λ (t : Term). sym_text env t.name) env.terms)
 typed_names defs env h =
-    let sigs = signatures defs in
-    let s = or_parts (signatures_fault sigs) (rules_fault sigs (rule_defs defs)) h.sound in
-    let k = or_parts (repeats (terms_of sigs) || list_any names_no_type sigs) (list_any has_too_many sigs) s.0 in
-    let l = or_parts (repeats (terms_of sigs)) (list_any names_no_type sigs) k.0 in
-    subst (λ (e : Environment). IsDistinct bytes_eq (map (λ (t : Term). sym_text e t.name) e.terms)) (sym h.given) (subst (IsDistinct bytes_eq) (sym (declared_names defs)) (distinct_names (terms_of sigs) l.0))
+    subst (λ (e : Environment). IsDistinct bytes_eq (map (λ (t : Term). sym_text e t.name) e.terms)) (sym h.given)
+    (subst (IsDistinct bytes_eq) (sym (declared_names defs)) (distinct_names (terms_of (signatures defs)) (names_apart defs h.sound)))

@@ -9,6 +9,6 @@ pub mod Heads
 pub mod Faults
 pub mod Language
 pub mod TypedRule
-pub mod FaultsSeen
+pub mod LookedUp
 pub mod Typing
 pub mod ReadyRule

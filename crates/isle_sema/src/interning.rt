@@ -1,6 +1,6 @@
 ghost use Rattle.std.specs.Prelude.{◌≡◌, ◌++◌, ◌∷◌, [], IfOk, OnOk, List, map, fold, flat_map, option_to_list};
-ghost use Rattle.isle_syntax.specs.Views.{pattern, expr, def, defs as seen};
-ghost use Rattle.isle_sema.specs.Symbols.{added, pattern_names, expr_names, def_names, symbols};
+ghost use Rattle.isle_syntax.specs.Views.{pattern, expr, exprs_of, def, defs as seen};
+ghost use Rattle.isle_sema.specs.Symbols.{added, pattern_names, expr_names, exprs_names, def_names, symbols};
 
 use crate::symbols::Symbols;
 use isle_core::Text;
@@ -50,15 +50,31 @@ fn intern_patterns(
     Ok(())
 }
 
-/// The names in an expression.
+/// The names in an expression, a call's own before those of its arguments.
+#[cycle(names)]
 #[tactic(auto, using(crate::proofs::Sees::expr_sees))]
 fn intern_expr(alloc: Global, names: &mut Symbols, e: &AstExpr) -> Result<(), AllocError>
     ensures { OnOk result (names.new ≡ fold added names.old (expr_names (expr e.now))) }
 {
     match e {
         AstExpr::Var(name) => intern(alloc, names, name),
+        AstExpr::Term(name, args) => {
+            intern(alloc, names, name)?;
+            intern_exprs(alloc, names, args.as_slice())
+        }
         _ => Ok(()),
     }
+}
+
+/// The names in expressions, in order.
+#[cycle(names)]
+fn intern_exprs(alloc: Global, names: &mut Symbols, es: &[AstExpr]) -> Result<(), AllocError>
+    ensures { OnOk result (names.new ≡ fold added names.old (exprs_names (exprs_of (map expr es.now)))) }
+{
+    for e in es {
+        intern_expr(alloc, names, e)?;
+    }
+    Ok(())
 }
 
 /// The names in a rule: its own, its head's, those of its patterns and of its right side.
@@ -94,6 +110,10 @@ fn intern_def(alloc: Global, names: &mut Symbols, given: &Def) -> Result<(), All
             intern(alloc, names, term)?;
             intern_texts(alloc, names, args.as_slice())?;
             intern(alloc, names, ret)
+        }
+        Def::ExternConstructor { term, func, .. } => {
+            intern(alloc, names, term)?;
+            intern(alloc, names, func)
         }
         Def::Rule {
             name,

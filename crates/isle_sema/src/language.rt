@@ -1,9 +1,9 @@
 ghost use Rattle.std.specs.Prelude.{◌≡◌, ◌++◌, ◌∷◌, IfOk, ℕ, List, true, if◌then◌else◌, flat_map, map};
 ghost use Rattle.std.specs.List.{list_all};
-ghost use Rattle.isle_syntax.specs.Views.{pattern, expr, iflet, def, defs as seen};
+ghost use Rattle.isle_syntax.specs.Views.{pattern, expr, exprs_of, iflet, def, defs as seen};
 ghost use Rattle.isle_sema.specs.Symbols.{pattern_names};
 ghost use Rattle.isle_sema.specs.Faults.{repeats, repeats_after};
-ghost use Rattle.isle_sema.specs.Language.{is_built_pattern, is_built_expr, is_built_def};
+ghost use Rattle.isle_sema.specs.Language.{is_built_pattern, is_built_expr, are_built_exprs, is_built_def};
 
 use crate::symbols::Symbols;
 use isle_syntax::{AstExpr, AstPattern, Def};
@@ -27,6 +27,7 @@ fn is_built_pattern(p: &AstPattern) -> bool
 }
 
 /// Whether the form of an expression is built.
+#[cycle(built)]
 #[tactic(auto, using(crate::proofs::Sees::expr_sees))]
 fn is_built_expr(e: &AstExpr) -> bool
     ensures { result ≡ is_built_expr (expr e.now) }
@@ -37,8 +38,21 @@ fn is_built_expr(e: &AstExpr) -> bool
         AstExpr::Var(_) => true,
         AstExpr::Const(_) => false,
         AstExpr::Let(_, _) => false,
-        AstExpr::Term(_, _) => false,
+        AstExpr::Term(_, args) => are_built_exprs(args.as_slice()),
     }
+}
+
+/// Whether the form of each expression is built.
+#[cycle(built)]
+fn are_built_exprs(es: &[AstExpr]) -> bool
+    ensures { result ≡ are_built_exprs (exprs_of (map expr es.now)) }
+{
+    for e in es {
+        if !is_built_expr(e) {
+            return false;
+        }
+    }
+    true
 }
 
 /// Whether a pattern is a variable that was met before; it is met now.
@@ -88,8 +102,8 @@ fn are_built_patterns(patterns: &[AstPattern]) -> bool
     true
 }
 
-/// Whether a definition is one that is built: a declaration without flags, or a rule without conditions whose forms are
-/// built and which names no variable twice.
+/// Whether a definition is one that is built: a declaration with at most the flag `partial`, an external constructor, or
+/// a rule without conditions whose forms are built and which names no variable twice in its patterns.
 pub fn is_built_def(alloc: Global, given: &Def) -> Result<bool, AllocError>
     ensures { IfOk result (λ built. built ≡ is_built_def (def given.now)) }
 {
@@ -97,10 +111,10 @@ pub fn is_built_def(alloc: Global, given: &Def) -> Result<bool, AllocError>
         Def::Decl {
             pure,
             multi,
-            partial,
             recursive,
             ..
-        } => { Ok(!*pure && !*multi && !*partial && !*recursive) }
+        } => Ok(!*pure && !*multi && !*recursive),
+        Def::ExternConstructor { .. } => Ok(true),
         Def::Rule {
             args,
             iflets,

@@ -1,21 +1,23 @@
-ghost use Rattle.std.specs.Prelude.{◌≡◌, ◌==◌, IfOk, ℕ, List, Some, map};
-ghost use Rattle.isle_syntax.specs.Views.{pattern, expr};
+ghost use Rattle.std.specs.Prelude.{◌≡◌, ◌||◌, IfOk, Some, is_some, map};
+ghost use Rattle.isle_syntax.specs.Views.{pattern};
 ghost use Rattle.isle_sema.specs.Collected.{signature, rule as seen};
 ghost use Rattle.isle_sema.specs.Elaborated.{type_of, signature_named};
-ghost use Rattle.isle_sema.specs.Faults.{repeats, is_misplaced, any_misplaced, typed_vars, type_in, is_other, is_wrong, breaks, rules_fault};
-ghost use Rattle.isle_sema.specs.FaultsSeen.{is_var, FindsFirst};
+ghost use Rattle.isle_sema.specs.Faults.{repeats, is_misplaced, any_misplaced, is_rhs_wrong, is_too_large, breaks, rules_fault};
 ghost use Rattle.isle_sema.specs.Heads.{heads_of};
-ghost use Rattle.isle_sema.specs.Signatures.{Signature as Declaration};
+ghost use Rattle.isle_sema.specs.Signatures.{func_named};
 
+use crate::calls::{calls_partial, nodes};
 use crate::collected::{RuleDef, Signature};
-use crate::declarations::by_name;
+use crate::constructors::Constructors;
+use crate::declarations::Declarations;
 use crate::elaborated_patterns::type_of;
+use crate::expr_faults::is_wrong;
 use crate::language::meet;
 use crate::symbols::Symbols;
+use crate::variables::Variables;
 use isle_core::{Text, TypeId};
-use isle_syntax::{AstExpr, AstPattern};
+use isle_syntax::AstPattern;
 use std::alloc::{AllocError, Global};
-use std::collections::BTreeMap;
 
 /// Whether an integer stands at a `bool`, or a truth at an integer.
 #[tactic(auto, using(crate::proofs::Sees::pattern_sees))]
@@ -44,88 +46,73 @@ fn any_misplaced(patterns: &[AstPattern], types: &[Text]) -> bool
         .any(|(p, ty)| is_misplaced(p, type_of(ty)))
 }
 
-/// Whether a pattern is the variable.
-#[tactic(auto, using(crate::proofs::Sees::pattern_sees))]
-fn is_var(p: &AstPattern, name: &str) -> bool
-    ensures { result ≡ is_var name.now (pattern p.now) }
+/// Whether the right side is wrong, or calls a term that may answer nothing where its own must answer.
+fn is_rhs_wrong(
+    alloc: Global,
+    declared: &Declarations,
+    rule: &RuleDef,
+    own: &Signature,
+) -> Result<bool, AllocError>
+    ensures { IfOk result (λ found. found ≡ is_rhs_wrong declared.now (seen rule.now) (signature own.now)) }
 {
-    match p {
-        AstPattern::Var(var) => var.as_str() == name,
-        AstPattern::Int(_) => false,
-        AstPattern::Bool(_) => false,
-        AstPattern::Wildcard => false,
-        AstPattern::Const(_) => false,
-        AstPattern::Bind(_, _) => false,
-        AstPattern::And(_) => false,
-        AstPattern::Term(_, _) => false,
-    }
+    let vars = Variables::new(alloc, rule.args, own.args)?;
+    Ok(
+        is_wrong(declared, &vars, rule.rhs, type_of(own.ret))
+            || (!own.partial && calls_partial(declared, rule.rhs)),
+    )
 }
 
-/// The type of a variable of patterns.
-fn type_in(patterns: &[AstPattern], types: &[Text], name: &str) -> Option<TypeId>
-    ensures { result ≡ type_in (typed_vars (map pattern patterns.now) (map type_of types.now)) name.now }
+/// Whether a rule has more than 4,096 nodes.
+fn is_too_large(rule: &RuleDef) -> bool
+    ensures { result ≡ is_too_large (seen rule.now) }
 {
-    match patterns.iter().zip(types).find(|(p, _)| is_var(p, name)) {
-        Some((_, ty)) => Some(type_of(ty)),
-        None => None,
-    }
-}
-
-/// Whether there is no type, or another.
-fn is_other(found: Option<TypeId>, ty: TypeId) -> bool
-    ensures { result ≡ is_other found ty }
-{
-    match found {
-        Some(it) => it.index() != ty.index(),
-        None => true,
-    }
-}
-
-/// Whether a right side does not fit the result's type.
-#[tactic(auto, using(crate::proofs::Sees::expr_sees))]
-fn is_wrong(rhs: &AstExpr, ty: TypeId, patterns: &[AstPattern], types: &[Text]) -> bool
-    ensures { result ≡ is_wrong (expr rhs.now) ty (typed_vars (map pattern patterns.now) (map type_of types.now)) }
-{
-    match rhs {
-        AstExpr::Int(_) => ty.index() == 0,
-        AstExpr::Bool(_) => ty.index() != 0,
-        AstExpr::Var(name) => is_other(type_in(patterns, types, name.as_str()), ty),
-        AstExpr::Const(_) => false,
-        AstExpr::Let(_, _) => false,
-        AstExpr::Term(_, _) => false,
-    }
+    nodes(rule.rhs).saturating_add(rule.args.len()) > 4096
 }
 
 /// Whether a rule is no rule of this declaration.
-fn breaks(rule: &RuleDef, declared: &Signature) -> bool
-    ensures { result ≡ breaks (seen rule.now) (Some (signature declared.now)) }
+fn breaks(
+    alloc: Global,
+    declared: &Declarations,
+    rule: &RuleDef,
+    own: &Signature,
+) -> Result<bool, AllocError>
+    ensures { IfOk result (λ found. found ≡ breaks declared.now (seen rule.now) (Some (signature own.now))) }
 {
-    rule.args.len() != declared.args.len()
-        || any_misplaced(rule.args, declared.args)
-        || is_wrong(rule.rhs, type_of(declared.ret), rule.args, declared.args)
+    if rule.args.len() != own.args.len() || any_misplaced(rule.args, own.args) {
+        return Ok(true);
+    }
+    Ok(is_rhs_wrong(alloc, declared, rule, own)? || is_too_large(rule))
 }
 
-/// Whether a rule is no rule of the declaration that its head names.
-fn is_fault(declared: &BTreeMap<&str, Signature>, rule: &RuleDef) -> bool
-    ensures { (sigs : List Declaration) → FindsFirst sigs declared.now → result ≡ breaks (seen rule.now) (signature_named sigs rule.now.term.now) }
+/// Whether a rule's term has an external constructor, or the rule is none of the declaration that its head names.
+fn is_fault(
+    alloc: Global,
+    declared: &Declarations,
+    constructors: &Constructors,
+    rule: &RuleDef,
+) -> Result<bool, AllocError>
+    ensures { IfOk result (λ found. found ≡ (is_some (func_named constructors.now rule.now.term.now) || breaks declared.now (seen rule.now) (signature_named declared.now rule.now.term.now))) }
 {
-    match declared.get(rule.term.as_str()) {
-        Some(found) => breaks(rule, found),
-        None => true,
+    if constructors.has(rule.term) {
+        return Ok(true);
+    }
+    match declared.named(rule.term) {
+        Some(own) => breaks(alloc, declared, rule, &own),
+        None => Ok(true),
     }
 }
 
-/// Whether a rule is wrong.
+/// Whether a rule is wrong, or its term has an external constructor.
 pub fn rules_fault(
     alloc: Global,
-    signatures: &[Signature],
+    declared: &Declarations,
+    constructors: &Constructors,
     rules: &[RuleDef],
 ) -> Result<bool, AllocError>
-    ensures { IfOk result (λ found. found ≡ rules_fault (map signature signatures.now) (map seen rules.now)) }
+    ensures { IfOk result (λ found. found ≡ rules_fault declared.now constructors.now (map seen rules.now)) }
 {
-    let declared = by_name(alloc, signatures)?;
     for rule in rules {
-        if is_fault(&declared, rule) {
+        if is_fault(alloc, declared, constructors, rule)? {
             return Ok(true);
         }
     }

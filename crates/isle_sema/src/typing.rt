@@ -1,16 +1,21 @@
-ghost use Rattle.std.specs.Prelude.{◌≡◌, Err, IfOk, [], ◌∷◌, map, ◌||◌};
+ghost use Rattle.std.specs.Prelude.{◌≡◌, Err, IfOk, [], ◌∷◌, map, not, ◌&&◌, ◌||◌};
 ghost use Rattle.isle_core.specs.declared.types.TypeEnv.{TypeEnv as TheTypes};
 ghost use Rattle.isle_core.specs.Rule.{Environment};
 ghost use Rattle.isle_core.specs.RuleViews.{environment};
 ghost use Rattle.isle_syntax.specs.Views.{defs as seen};
 ghost use Rattle.isle_sema.specs.Builtins.{builtins};
-ghost use Rattle.isle_sema.specs.Collected.{signature, rule};
-ghost use Rattle.isle_sema.specs.Faults.{repeats, signatures_fault, rules_fault};
+ghost use Rattle.isle_sema.specs.Collected.{rule};
+ghost use Rattle.isle_sema.specs.Faults.{repeats, signatures_fault, externs_fault, rules_fault};
 ghost use Rattle.isle_sema.specs.Heads.{heads_of};
+ghost use Rattle.isle_sema.specs.Language.{rules_call_external};
 ghost use Rattle.isle_sema.specs.Typing.{TypesFrom, Typed, TypedOnly};
 
-use crate::collected::{RuleDef, Signature, rule_defs, signatures};
+use crate::calls::rules_call_external;
+use crate::collected::{RuleDef, externs, rule_defs, signatures};
+use crate::constructors::Constructors;
+use crate::declarations::Declarations;
 use crate::elaborated::elaborated;
+use crate::extern_faults::externs_fault;
 use crate::interning::symbols;
 use crate::language::are_built_defs;
 use crate::rule_faults::{heads_repeat, rules_fault};
@@ -77,28 +82,53 @@ pub fn type_env_from_ast(alloc: Global, defs: &[Def]) -> Result<TypeEnv, EnvErro
     })
 }
 
-/// Whether the rules of one term are two, or a declaration or a rule is wrong.
-fn have_fault(alloc: Global, declared: &[Signature], rules: &[RuleDef]) -> Result<bool, AllocError>
-    ensures { IfOk result (λ found. found ≡ (repeats (heads_of (map rule rules.now)) || signatures_fault (map signature declared.now) || rules_fault (map signature declared.now) (map rule rules.now))) }
+/// Whether no two rules are of one term, and they call only terms with external constructors.
+fn are_built_together(
+    alloc: Global,
+    constructors: &Constructors,
+    rules: &[RuleDef],
+) -> Result<bool, AllocError>
+    ensures { IfOk result (λ built. built ≡ (not (repeats (heads_of (map rule rules.now))) && rules_call_external constructors.now (map rule rules.now))) }
+{
+    if heads_repeat(alloc, rules)? {
+        return Ok(false);
+    }
+    Ok(rules_call_external(constructors, rules))
+}
+
+/// Whether a declaration, an external constructor or a rule is wrong.
+fn have_fault(
+    alloc: Global,
+    declared: &Declarations,
+    constructors: &Constructors,
+    rules: &[RuleDef],
+) -> Result<bool, AllocError>
+    ensures { IfOk result (λ found. found ≡ (signatures_fault declared.now || externs_fault declared.now constructors.now || rules_fault declared.now constructors.now (map rule rules.now))) }
 {
     Ok(
-        heads_repeat(alloc, rules)?
-            || signatures_fault(alloc, declared)?
-            || rules_fault(alloc, declared, rules)?,
+        signatures_fault(alloc, declared.signatures())?
+            || externs_fault(alloc, declared, constructors.externs())?
+            || rules_fault(alloc, declared, constructors, rules)?,
     )
 }
 
 /// The terms, rules and converters of the definitions, whose types are given. `NotYet` as of `type_env_from_ast`, and
-/// where two rules are of one term or a definition is wrong.
+/// where two rules are of one term, one calls a term without an external constructor, or a definition is wrong.
 pub fn term_env_from_ast(alloc: Global, env: &TypeEnv, defs: &[Def]) -> Result<TermEnv, EnvError>
     requires { TypesFrom (seen defs.now) env.now }
     ensures ok { IfOk result (λ terms. TypedOnly (seen defs.now) (environment env.now terms)) }
     ensures not_yet { result ≡ Err EnvError.NotYet → (all : Environment) → Typed (seen defs.now) all → ⊥ }
 {
-    let declared = signatures(alloc, defs)?;
+    let signatures = signatures(alloc, defs)?;
+    let externs = externs(alloc, defs)?;
     let rules = rule_defs(alloc, defs)?;
-    if have_fault(alloc, &declared, &rules)? {
+    let declared = Declarations::new(alloc, &signatures)?;
+    let constructors = Constructors::new(alloc, &externs)?;
+    if !are_built_together(alloc, &constructors, &rules)? {
         return Err(EnvError::NotYet);
     }
-    Ok(elaborated(alloc, env, &declared, &rules)?)
+    if have_fault(alloc, &declared, &constructors, &rules)? {
+        return Err(EnvError::NotYet);
+    }
+    Ok(elaborated(alloc, env, &declared, &constructors, &rules)?)
 }

@@ -1,6 +1,6 @@
 use Rattle.std.proofs.Common.{ap, sym, ◌∙◌, ◌+◌, fold}
 use Rattle.isle_sema.specs.Symbols.{added}
-use Rattle.isle_sema.proofs.Variables.{names_from}
+use Rattle.isle_sema.proofs.MetVariables.{names_from}
 use Rattle.isle_sema.proofs.Interned.{patterns_more}
 use Rattle.isle_sema.proofs.interning.intern_patterns.Goals as goal
 

@@ -1,6 +1,6 @@
 use Rattle.std.proofs.Common.{◌≡◌, fold}
 use Rattle.isle_sema.specs.Symbols.{added}
-use Rattle.isle_sema.proofs.Variables.{names_from}
+use Rattle.isle_sema.proofs.MetVariables.{names_from}
 use Rattle.isle_sema.proofs.interning.intern_patterns.Given as goal
 
 abbrev pub invariant-loop-p : goal.invariant-loop-p

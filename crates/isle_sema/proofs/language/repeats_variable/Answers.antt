@@ -1,6 +1,6 @@
 use Rattle.std.proofs.Common.{sym, ap, ◌∙◌, cond, true, ◌+◌}
 use Rattle.isle_sema.specs.Faults.{repeats_after}
-use Rattle.isle_sema.proofs.Variables.{met_more, names_from}
+use Rattle.isle_sema.proofs.MetVariables.{met_more, names_from}
 use Rattle.isle_sema.proofs.language.repeats_variable.Goals as goal
 
 pub returns-then-branch : goal.returns-then-branch
