@@ -194,7 +194,7 @@ call_fallible env term ps j true is other qs k c =
     ⊎_elim (λ e. absurd (call_apart term other ps qs j k e))
     (λ d. ⊎_elim (λ e. subst (λ x. is_fallible (calling env x) ≡ true) (inner_same term other ps qs j k e) is) (λ f. absurd (none_contained (Inner (Called other qs k)) f)) (contained_cases (Inner (Called term ps j)) [] (Inner (Called other qs k)) d))
     (contained_cases (Called term ps j) (Inner (Called term ps j) ∷ []) (Inner (Called other qs k)) c)
-call_fallible env term ps j false is = one_fallible env (Called term ps j) (λ other qs k e. call_apart term other ps qs j k e)
+call_fallible env term ps j false is other qs k c = one_fallible env (Called term ps j) (λ other qs k e. call_apart term other ps qs j k e) other qs k c
 
 mutual
   expr_fallible : (e : Expr) (env : Environment) (places : Places) (n : ℕ) → ((y : ℕ) → IsArgument (places y)) → Fallible env (expr_paths env e places n)
@@ -209,7 +209,7 @@ mutual
 
   exprs_fallible : (es : Exprs) (env : Environment) (places : Places) (n : ℕ) → ((y : ℕ) → IsArgument (places y)) → Fallible env (exprs_paths env es places n)
   exprs_fallible NoExpr env places n h term qs k c = absurd (none_contained (Inner (Called term qs k)) c)
-  exprs_fallible (AnExpr e es) env places n h = both_fallible env (expr_paths env e places n) (exprs_paths env es places (n + impure env e)) (expr_fallible e env places n h) (exprs_fallible es env places (n + impure env e) h)
+  exprs_fallible (AnExpr e es) env places n h term qs k c = both_fallible env (expr_paths env e places n) (exprs_paths env es places (n + impure env e)) (expr_fallible e env places n h) (exprs_fallible es env places (n + impure env e) h) term qs k c
 
 args_fallible : (env : Environment) (qs : List Pattern) (i : ℕ) → Fallible env (arg_paths qs i)
 args_fallible env [] i term ps k c = absurd (none_contained (Inner (Called term ps k)) c)
@@ -217,10 +217,10 @@ args_fallible env (q ∷ qs) i term ps k c = ⊎_elim (λ e. let bad : Arg i ≡
 
 rules_fallible : (rules : List Rule) (env : Environment) (n : ℕ) → Fallible env (rules_paths env rules n)
 rules_fallible [] env n term qs k c = absurd (none_contained (Inner (Called term qs k)) c)
-rules_fallible (r ∷ rules) env n =
+rules_fallible (r ∷ rules) env n term qs k c =
     both_fallible env (rule_paths env r n) (rules_paths env rules (n + impure env r.rhs))
     (both_fallible env (arg_paths r.args 0) (expr_paths env r.rhs (rule_places r) n) (args_fallible env r.args 0) (expr_fallible r.rhs env (rule_places r) n (args_argument r.args 0 no_places (λ z. tt))))
-    (rules_fallible rules env (n + impure env r.rhs))
+    (rules_fallible rules env (n + impure env r.rhs)) term qs k c
 
 -- ---- rule sets
 
