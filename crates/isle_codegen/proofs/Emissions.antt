@@ -7,11 +7,10 @@ use Rattle.isle_core.specs.declared.TermId.{TermId}
 use Rattle.isle_core.specs.declared.files.Files.{Files}
 use Rattle.isle_core.specs.declared.rule_sets.RuleSet.{RuleSet}
 use Rattle.isle_core.specs.declared.types.Term.{Term}
-use Rattle.isle_core.specs.Path.{paths_of}
 use Rattle.isle_core.specs.Block.{Block}
 use Rattle.isle_core.specs.BlockLawful.{IsLawfulBlock}
 use Rattle.isle_core.specs.Rule.{Environment}
-use Rattle.isle_blocks.specs.Ready.{IsReady}
+use Rattle.isle_core.specs.Ready.{IsReady}
 use Rattle.isle_target.specs.Program.{Function}
 use Rattle.isle_emission.specs.TermFunction.{term_function}
 use Rattle.isle_codegen.specs.Emits.{MeansSet, CanEmit, IsEmitted, AreEmitted}
@@ -25,14 +24,14 @@ at_place ts i x t is e = slice_get-get_or ts i x (slice_get_within ts i t e) ∙
 
 -- the function of a block of the rule set is emitted for it
 pub is_emitted : (files : Files) (env : Environment) (id : TermId) (s : RuleSet) (t : Term) (b : Block) (f : Function) → CanEmit files env (id, s) → slice_get env.terms id.0 ≡ Some t
-    → ((u : Term) → IsReady env u s → IsLawfulBlock env u (paths_of s.bindings) b) → MeansSet s b → f ≡ term_function files env t (paths_of s.bindings) b → IsEmitted files env id s f
+    → ((u : Term) → IsReady env u s → IsLawfulBlock env u s.bindings [] b) → MeansSet env s b → f ≡ term_function files env t s.bindings b → IsEmitted files env id s f
 is_emitted files env id s t b f h there lawful means given = record {
   term = h.term;
   there = h.there;
   block = b;
   lawful = lawful h.term h.ready;
   means = means;
-  given = given ∙ ap (λ (u : Term). term_function files env u (paths_of s.bindings) b) (some_one t h.term (sym there ∙ h.there));
+  given = given ∙ ap (λ (u : Term). term_function files env u s.bindings b) (some_one t h.term (sym there ∙ h.there));
 }
 
 both_emitted : (files : Files) (env : Environment) (ss ts : List (TermId × RuleSet)) (fs gs : List Function) → AreEmitted files env ss fs → AreEmitted files env ts gs → AreEmitted files env (ss ++ ts) (fs ++ gs)

@@ -1,6 +1,6 @@
 -- The functions of an environment are well formed, and mean its rules.
-use Rattle.std.proofs.Common.{◌≡◌, List, [], ◌∷◌, map, Some, sym, ap, ◌∙◌, subst}
-use Rattle.std.specs.Prelude.{Contains}
+use Rattle.std.proofs.Common.{◌≡◌, ℕ, suc, List, [], ◌∷◌, map, Some, refl, sym, ap, ◌∙◌, subst}
+use Rattle.std.specs.Prelude.{Contains, slice_get}
 use Rattle.std.specs.List.{AllByRecursion, IsDistinct}
 use Rattle.std.specs.Str.{bytes_eq}
 use Rattle.std.proofs.lemmas.List.Elements.{recursion_from_All}
@@ -8,18 +8,20 @@ use Rattle.isle_core.specs.declared.TermId.{TermId}
 use Rattle.isle_core.specs.declared.files.Files.{Files}
 use Rattle.isle_core.specs.declared.rule_sets.RuleSet.{RuleSet}
 use Rattle.isle_core.specs.declared.types.Term.{Term}
-use Rattle.isle_core.specs.Path.{paths_of}
 use Rattle.isle_core.specs.StandsFor.{StandsFor}
 use Rattle.isle_core.specs.Terms.{term_name, with_rules}
 use Rattle.isle_core.specs.Rule.{Environment, rules_of}
 use Rattle.isle_syntax.specs.Tree.{Def}
 use Rattle.isle_rulesets.specs.Grouping.{AreRuleSets}
 use Rattle.isle_sema.specs.Typing.{Typed}
-use Rattle.isle_sema.proofs.TypedTerms.{typed_names}
+use Rattle.isle_sema.proofs.TypedTerms.{typed_names, typed_types}
 use Rattle.isle_target.specs.Program.{Function, Program}
-use Rattle.isle_target.specs.WellFormed.{IsFunction, IsWellFormed}
+use Rattle.isle_target.specs.WellFormed.{IsTraitFn, fn_names, IsFunction, IsWellFormed}
+use Rattle.isle_target.specs.declared.tree.TraitFn.{TraitFn}
 use Rattle.isle_codegen.specs.Emits.{CanEmit, AreEmitted}
 use Rattle.isle_emission.specs.Emitted.{IsEmittable}
+use Rattle.isle_emission.specs.TraitFns.{trait_fns_of, HasFnNames}
+use Rattle.isle_emission.proofs.TraitFnForms.{HasBuiltinTypes, fns_are}
 use Rattle.isle_emission.specs.OfTerm.{IsOfTerm, AreDeclared}
 use Rattle.isle_codegen.specs.Headline.{FunctionsMean}
 use Rattle.isle_emission.proofs.Tails.{of_its_term}
@@ -34,7 +36,7 @@ are_declared files env (s ∷ sets) (f ∷ fs) h = (
   record {
     term = h.0.term;
     there = h.0.there;
-    of_term = subst (IsOfTerm files env h.0.term) (sym h.0.given) (of_its_term files env h.0.term (paths_of s.1.bindings) h.0.block h.0.lawful);
+    of_term = subst (IsOfTerm files env h.0.term) (sym h.0.given) (of_its_term files env h.0.term s.1.bindings h.0.block h.0.lawful);
   },
   are_declared files env sets fs h.1,
 )
@@ -45,15 +47,23 @@ some_same : (a b : Term) → Some a ≡ Some b → a ≡ b
 some_same a b e = cc
 
 -- each is well formed
-are_well_formed : (files : Files) (env : Environment) (p : Program) (sets : List (TermId × RuleSet)) (fs : List Function) → AllByRecursion (CanEmit files env) sets → AreEmitted files env sets fs → AllByRecursion (IsFunction p) fs
-are_well_formed files env p [] [] c h = tt
-are_well_formed files env p (s ∷ sets) (f ∷ fs) c h =
+are_well_formed : (files : Files) (env : Environment) (p : Program) (sets : List (TermId × RuleSet)) (fs : List Function) → p.trait_fns ≡ trait_fns_of env → AllByRecursion (CanEmit files env) sets → AreEmitted files env sets fs → AllByRecursion (IsFunction p) fs
+are_well_formed files env p [] [] same c h = tt
+are_well_formed files env p (s ∷ sets) (f ∷ fs) same c h =
     let e : IsEmittable env h.0.term = subst (IsEmittable env) (some_same c.0.term h.0.term (sym c.0.there ∙ h.0.there)) c.0.emittable in (
-      subst (IsFunction p) (sym h.0.given) (emitted_well_formed files env h.0.term (paths_of s.1.bindings) h.0.block e h.0.lawful p),
-      are_well_formed files env p sets fs c.1 h.1,
+      subst (IsFunction p) (sym h.0.given) (emitted_well_formed files env h.0.term s.1.bindings h.0.block e h.0.lawful c.0.fns p same),
+      are_well_formed files env p sets fs same c.1 h.1,
     )
-are_well_formed files env p [] (f ∷ fs) c h = absurd h
-are_well_formed files env p (s ∷ sets) [] c h = absurd h
+are_well_formed files env p [] (f ∷ fs) same c h = absurd h
+are_well_formed files env p (s ∷ sets) [] same c h = absurd h
+
+-- the types of all terms are builtin
+builtin_types : (defs : List Def) (env : Environment) → Typed defs env → AllByRecursion (HasBuiltinTypes env) env.terms
+builtin_types defs env typed = each env.terms (λ i t e. typed_types defs env i t typed e)
+  where
+    each : (ts : List Term) → ((i : ℕ) (t : Term) → slice_get ts i ≡ Some t → HasBuiltinTypes env t) → AllByRecursion (HasBuiltinTypes env) ts
+    each [] h = tt
+    each (t ∷ ts) h = (h 0 t refl, each ts (λ i u e. h (suc i) u e))
 
 module _ (defs : List Def) (files : Files) (env : Environment) (typed : Typed defs env) (sets : List (TermId × RuleSet)) (stand : AreRuleSets env sets) (fs : List Function) (emitted : AreEmitted files env sets fs) where
   names_of : map (λ (f : Function). f.term) fs ≡ map (term_name env) (with_rules env)
@@ -62,14 +72,15 @@ module _ (defs : List Def) (files : Files) (env : Environment) (typed : Typed de
   distinct : IsDistinct bytes_eq (map (λ (f : Function). f.term) fs)
   distinct = subst (IsDistinct bytes_eq) (sym names_of) (distinct_names env (typed_names defs env typed))
 
-  -- a program of these functions alone is well formed
-  pub program_well_formed : (p : Program) → p.trait_fns ≡ [] → p.types ≡ [] → p.fns ≡ fs → AllByRecursion (CanEmit files env) sets → IsWellFormed p
-  program_well_formed p a b e c =
+  -- a program of these functions and those of the trait is well formed
+  pub program_well_formed : (p : Program) → HasFnNames env → p.trait_fns ≡ trait_fns_of env → p.types ≡ [] → p.fns ≡ fs → AllByRecursion (CanEmit files env) sets → IsWellFormed p
+  program_well_formed p names a b e c =
       record {
-        trait_fns = rw a tt;
+        trait_fns = subst (AllByRecursion IsTraitFn) (sym a) (fns_are env env.terms names.identifiers (builtin_types defs env typed));
         types = rw b tt;
-        fns = subst (AllByRecursion (IsFunction p)) (sym e) (are_well_formed files env p sets fs c emitted);
+        fns = subst (AllByRecursion (IsFunction p)) (sym e) (are_well_formed files env p sets fs a c emitted);
         distinct = subst (λ (xs : List Function). IsDistinct bytes_eq (map (λ (f : Function). f.term) xs)) (sym e) distinct;
+        trait_names = subst (λ (xs : List TraitFn). IsDistinct bytes_eq (fn_names xs)) (sym a) names.distinct;
       }
 
   -- and its functions mean the rules
@@ -81,6 +92,6 @@ module _ (defs : List Def) (files : Files) (env : Environment) (typed : Typed de
         mean = λ id c.
             means_rules defs files env p id typed
             (subst (λ (xs : List Function). HasFunction files env xs id) (sym e)
-            (has_function files env sets fs id emitted (recursion_from_All (λ (s : TermId × RuleSet). StandsFor s.1 (rules_of env s.0)) sets stand.stand) distinct
+            (has_function files env sets fs id emitted (recursion_from_All (λ (s : TermId × RuleSet). StandsFor env s.1 (rules_of env s.0)) sets stand.stand) distinct
             (subst (λ (ids : List TermId). Contains ids id) (sym stand.ids) c)));
       }

@@ -6,31 +6,23 @@ use Rattle.std.proofs.lemmas.Bool.{and_parts}
 use Rattle.std.proofs.lemmas.List.Elements.{recursion_from_All}
 use Rattle.isle_core.specs.declared.TermId.{TermId}
 use Rattle.isle_core.specs.declared.files.Files.{Files}
-use Rattle.isle_core.specs.declared.rule_sets.FlatRule.{FlatRule}
 use Rattle.isle_core.specs.declared.rule_sets.RuleSet.{RuleSet}
 use Rattle.isle_core.specs.declared.types.Term.{Term}
-use Rattle.isle_core.specs.Path.{Path, paths_of}
 use Rattle.isle_core.specs.Places.{LiesIn}
 use Rattle.isle_core.specs.StandsFor.{StandsFor}
 use Rattle.isle_core.specs.Terms.{term_name, with_rules}
 use Rattle.isle_core.specs.Rule.{Environment, rules_of}
 use Rattle.isle_core.proofs.Contained.{head_contained, tail_contained}
-use Rattle.isle_blocks.specs.Ready.{IsReadyRule}
 use Rattle.isle_syntax.specs.Tree.{Def}
 use Rattle.isle_rulesets.specs.Grouping.{AreRuleSets}
 use Rattle.isle_sema.specs.Typing.{Typed}
-use Rattle.isle_sema.specs.ReadyRule.{IsReadyFlat}
 use Rattle.isle_sema.proofs.ReadyRules.{set_ready}
 use Rattle.isle_sema.proofs.TypedTerms.{typed_types, typed_there}
 use Rattle.isle_codegen.specs.Names.{is_term_name, are_term_names}
 use Rattle.isle_codegen.specs.Emission.{ArePlaced}
+use Rattle.isle_emission.specs.TraitFns.{HasFnNames}
 use Rattle.isle_codegen.specs.Emits.{CanEmit}
 use Rattle.isle_codegen.proofs.EmittedNames.{name_of_term}
-
--- a rule that is ready by its own crate's words
-ready_all : (env : Environment) (t : Term) (ps : List Path) (fs : List FlatRule) → AllByRecursion (IsReadyFlat env t ps) fs → AllByRecursion (IsReadyRule env t ps) fs
-ready_all env t ps [] h = tt
-ready_all env t ps (f ∷ fs) h = (record { constraints = h.0.constraints; equals = h.0.equals; result = h.0.result }, ready_all env t ps fs h.1)
 
 placed_at : (files : Files) (ts : List Term) (i : ℕ) (t : Term) → AllByRecursion (λ (u : Term). LiesIn files u.decl_pos) ts → slice_get ts i ≡ Some t → LiesIn files t.decl_pos
 placed_at files [] i t h e = cc
@@ -42,25 +34,26 @@ placed_at files (u ∷ ts) (suc i) t h e = placed_at files ts i t h.1 e
 
 -- a term of those with rules, its name and its rule set
 one : (defs : List Def) (files : Files) (env : Environment) (s : TermId × RuleSet) → Typed defs env → ArePlaced files env → Contains (with_rules env) s.0
-    → is_term_name (term_name env s.0) ≡ true → StandsFor s.1 (rules_of env s.0) → CanEmit files env s
-one defs files env s h placed c name stands =
+    → is_term_name (term_name env s.0) ≡ true → HasFnNames env → StandsFor env s.1 (rules_of env s.0) → CanEmit files env s
+one defs files env s h placed c name fns stands =
     let t = typed_there defs env s.0 h c in
     record {
       term = t.0;
       there = t.1;
       placed = placed_at files env.terms s.0.0 t.0 placed t.1;
       emittable = record { name = subst (λ n. IsTrue (is_term_name n)) (name_of_term env s.0 t.0 t.1) name; types = typed_types defs env s.0.0 t.0 h t.1 };
-      ready = record { rules = ready_all env t.0 (paths_of s.1.bindings) s.1.rules (set_ready defs env s.0 t.0 s.1 h t.1 stands) };
+      ready = set_ready defs env s.0 t.0 s.1 h t.1 stands;
+      fns = fns;
     }
 
-module _ (defs : List Def) (files : Files) (env : Environment) (typed : Typed defs env) (placed : ArePlaced files env) where
+module _ (defs : List Def) (files : Files) (env : Environment) (typed : Typed defs env) (placed : ArePlaced files env) (fns : HasFnNames env) where
   each : (sets : List (TermId × RuleSet)) → ((id : TermId) → Contains (map (λ (s : TermId × RuleSet). s.0) sets) id → Contains (with_rules env) id)
       → list_all (λ (id : TermId). is_term_name (term_name env id)) (map (λ (s : TermId × RuleSet). s.0) sets) ≡ true
-      → AllByRecursion (λ (s : TermId × RuleSet). StandsFor s.1 (rules_of env s.0)) sets → AllByRecursion (CanEmit files env) sets
+      → AllByRecursion (λ (s : TermId × RuleSet). StandsFor env s.1 (rules_of env s.0)) sets → AllByRecursion (CanEmit files env) sets
   each [] among names stand = tt
   each (s ∷ sets) among names stand =
       let both = and_parts (is_term_name (term_name env s.0)) (list_all (λ (id : TermId). is_term_name (term_name env id)) (map (λ (x : TermId × RuleSet). x.0) sets)) names in (
-        one defs files env s typed placed (among s.0 (head_contained s.0 (map (λ (x : TermId × RuleSet). x.0) sets))) both.0 stand.0,
+        one defs files env s typed placed (among s.0 (head_contained s.0 (map (λ (x : TermId × RuleSet). x.0) sets))) both.0 fns stand.0,
         each sets (λ id c. among id (tail_contained s.0 (map (λ (x : TermId × RuleSet). x.0) sets) id c)) both.1 stand.1,
       )
 
@@ -69,4 +62,4 @@ module _ (defs : List Def) (files : Files) (env : Environment) (typed : Typed de
   can_emit sets names h =
       each sets (λ id c. subst (λ (ids : List TermId). Contains ids id) h.ids c)
       (ap (list_all (λ (id : TermId). is_term_name (term_name env id))) h.ids ∙ names)
-      (recursion_from_All (λ (s : TermId × RuleSet). StandsFor s.1 (rules_of env s.0)) sets h.stand)
+      (recursion_from_All (λ (s : TermId × RuleSet). StandsFor env s.1 (rules_of env s.0)) sets h.stand)

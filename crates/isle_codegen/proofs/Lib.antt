@@ -2,6 +2,7 @@ pub mod Sources
 pub mod Headers
 pub mod Refusals
 pub mod EmittedNames
+pub mod CalledTerms
 pub mod MeanRules
 pub mod Emitting
 pub mod EmittedProgram

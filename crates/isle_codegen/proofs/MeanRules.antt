@@ -8,7 +8,6 @@ use Rattle.std.specs.Str.{bytes_eq}
 use Rattle.isle_core.specs.declared.TermId.{TermId}
 use Rattle.isle_core.specs.declared.TypeId.{TypeId}
 use Rattle.isle_core.specs.declared.files.Files.{Files}
-use Rattle.isle_core.specs.declared.rule_sets.FlatRule.{FlatRule}
 use Rattle.isle_core.specs.declared.rule_sets.RuleSet.{RuleSet}
 use Rattle.isle_core.specs.declared.types.Term.{Term}
 use Rattle.isle_core.specs.Value.{Value, Ran}
@@ -17,22 +16,22 @@ use Rattle.isle_core.specs.HasType.{HaveTypes}
 use Rattle.isle_core.specs.Lawful.{IsLawful}
 use Rattle.isle_core.specs.HighestMatch.{outcome_of}
 use Rattle.isle_core.specs.Outcome.{Prescription, is_partial}
-use Rattle.isle_core.specs.Path.{Path, paths_of}
+use Rattle.isle_core.specs.Path.{paths_of}
 use Rattle.isle_core.specs.BlockRun.{block_outcome}
-use Rattle.isle_core.specs.RuleSet.{given, highest, flat_holds}
 use Rattle.isle_core.specs.StandsFor.{StandsFor}
 use Rattle.isle_core.specs.Terms.{term_name}
 use Rattle.isle_core.specs.Rule.{Environment, Rule, rules_of}
-use Rattle.isle_core.specs.BuiltRule.{IsBuiltRule}
+use Rattle.isle_core.specs.BuiltRule.{IsBuiltRule, IsBoundRule, IsImpureRule}
 use Rattle.isle_core.proofs.Contained.{head_contained, tail_contained, contained_cases, none_contained}
 use Rattle.isle_core.proofs.OutcomeOf.{outcome_of_one}
 use Rattle.isle_core.proofs.OutcomeOnce.{prescribed_once}
+use Rattle.isle_core.proofs.ImpureCalls.{AreImpure, outcome_impure, all_kept}
 use Rattle.isle_core.proofs.SetMeans.{set_means}
 use Rattle.isle_ink.specs.Bytes.{same_bytes}
 use Rattle.isle_ink.proofs.Bytes.{same_bytes_refl, same_bytes_sound}
 use Rattle.isle_syntax.specs.Tree.{Def}
 use Rattle.isle_sema.specs.Typing.{Typed}
-use Rattle.isle_sema.proofs.TypedRules.{typed_built, typed_args}
+use Rattle.isle_sema.proofs.TypedRules.{typed_built, typed_bound, typed_impure, typed_args}
 use Rattle.isle_sema.proofs.OneRule.{typed_one}
 use Rattle.isle_target.specs.Program.{Function, Program}
 use Rattle.isle_target.specs.Run.{run, function_of}
@@ -40,6 +39,7 @@ use Rattle.isle_codegen.specs.Emits.{IsEmitted, AreEmitted}
 use Rattle.isle_emission.specs.Emitted.{ran_of}
 use Rattle.isle_codegen.specs.Headline.{GivesAs, GivesOutcome, MeansRules}
 use Rattle.isle_emission.proofs.Simulation.{runs_as_block}
+use Rattle.isle_codegen.proofs.CalledTerms.{bindings_answered}
 use Rattle.isle_codegen.proofs.EmittedNames.{name_of_term, emitted_name}
 
 -- ---- the function of a term is found by its name
@@ -47,7 +47,7 @@ use Rattle.isle_codegen.proofs.EmittedNames.{name_of_term, emitted_name}
 -- the function that is found by a term's name is emitted for a rule set that stands for the term's rules
 pub record HasFunction (files : Files) (env : Environment) (fs : List Function) (id : TermId) : Type 0 where
   pub set : RuleSet
-  pub stands : StandsFor set (rules_of env id)
+  pub stands : StandsFor env set (rules_of env id)
   pub function : Function
   pub emitted : IsEmitted files env id set function
   pub found : function_of (term_name env id) fs ≡ Some function
@@ -69,7 +69,7 @@ later_found name f g fs true e differ h =
     differs x k = let same : bytes_eq x x ≡ true = (bytes_eq-Decides x x).1 refl in cc
 
 module _ (files : Files) (env : Environment) (f : Function) (fs : List Function) (id : TermId) where
-  here_found : (s : TermId × RuleSet) → IsEmitted files env s.0 s.1 f → StandsFor s.1 (rules_of env s.0) → s.0 ≡ id → HasFunction files env (f ∷ fs) id
+  here_found : (s : TermId × RuleSet) → IsEmitted files env s.0 s.1 f → StandsFor env s.1 (rules_of env s.0) → s.0 ≡ id → HasFunction files env (f ∷ fs) id
   here_found s e st same = subst (HasFunction files env (f ∷ fs)) same (record {
     set = s.1;
     stands = st;
@@ -91,7 +91,7 @@ module _ (files : Files) (env : Environment) (f : Function) (fs : List Function)
 
 -- the function of each term that is listed is found
 pub has_function : (files : Files) (env : Environment) (sets : List (TermId × RuleSet)) (fs : List Function) (id : TermId) → AreEmitted files env sets fs
-    → AllByRecursion (λ (s : TermId × RuleSet). StandsFor s.1 (rules_of env s.0)) sets → IsDistinct bytes_eq (map (λ (f : Function). f.term) fs)
+    → AllByRecursion (λ (s : TermId × RuleSet). StandsFor env s.1 (rules_of env s.0)) sets → IsDistinct bytes_eq (map (λ (f : Function). f.term) fs)
     → Contains (map (λ (s : TermId × RuleSet). s.0) sets) id → HasFunction files env fs id
 unfolding IsDistinct
 has_function files env [] [] id e st d c = absurd (none_contained id c)
@@ -103,18 +103,14 @@ has_function files env (s ∷ sets) [] id e st d c = absurd e
 
 -- ---- it gives what the rules prescribe
 
-set_calls : (env : Environment) (m : Meaning) (args : List Value) (ps : List Path) (partial : Bool) (o : Option FlatRule) → (given env m args ps partial o).calls ≡ []
-set_calls env m args ps partial None = refl
-set_calls env m args ps partial (Some f) = refl
-
 as_many : (env : Environment) (args : List Value) (tys : List TypeId) → HaveTypes env args tys → length args ≡ length tys
 as_many env [] [] h = refl
 as_many env (v ∷ args) (ty ∷ tys) h = ap suc (as_many env args tys h.1)
 as_many env [] (ty ∷ tys) h = absurd h
 as_many env (v ∷ args) [] h = absurd h
 
-gives_as : (env : Environment) (t : Term) (o : Prescription) → o.calls ≡ [] → GivesAs env (is_partial t.kind) o (ran_of env t o)
-gives_as env t o e = record { end = refl; calls = rw e refl }
+gives_as : (env : Environment) (t : Term) (o : Prescription) → AreImpure env o.calls → GivesAs env (is_partial t.kind) o (ran_of env t o)
+gives_as env t o h = record { end = refl; calls = all_kept env o.calls h }
 
 pick_all : (P : Rule → Type 0) (r : Rule) (rs : List Rule) (b : Bool) → P r → AllByRecursion P rs → AllByRecursion P (cond b (r ∷ rs) rs)
 pick_all P r rs true h k = (h, k)
@@ -124,9 +120,9 @@ keep_all : (P : Rule → Type 0) (keep : Rule → Bool) (rs : List Rule) → All
 keep_all P keep [] h = tt
 keep_all P keep (r ∷ rs) h = pick_all P r (filter keep rs) (keep r) h.0 (keep_all P keep rs h.1)
 
--- the rules of one term are built
-built_of : (defs : List Def) (env : Environment) (id : TermId) → Typed defs env → All IsBuiltRule (rules_of env id)
-built_of defs env id h = All-from_recursion IsBuiltRule (rules_of env id) (keep_all IsBuiltRule (λ (r : Rule). r.root_term.0 == id.0) env.rules (recursion_from_All IsBuiltRule env.rules (typed_built defs env h)))
+-- what is so of all rules is so of those of one term
+of_term : (P : Rule → Type 0) (env : Environment) (id : TermId) → All P env.rules → All P (rules_of env id)
+of_term P env id h = All-from_recursion P (rules_of env id) (keep_all P (λ (r : Rule). r.root_term.0 == id.0) env.rules (recursion_from_All P env.rules h))
 
 module _ (defs : List Def) (files : Files) (env : Environment) (p : Program) (id : TermId) (typed : Typed defs env) (h : HasFunction files env p.fns id) where
   abbrev the_term : Term
@@ -136,38 +132,34 @@ module _ (defs : List Def) (files : Files) (env : Environment) (p : Program) (id
   partial = is_partial the_term.kind
 
   -- what the block gives is what the rules give
-  same_outcome : (args : List Value) (m : Meaning) → HaveTypes env args the_term.arg_tys
+  same_outcome : (args : List Value) (m : Meaning) → HaveTypes env args the_term.arg_tys → IsLawful env id m
       → block_outcome env m args (paths_of h.set.bindings) h.emitted.block partial ≡ outcome_of env m args (rules_of env id) partial
-  same_outcome args m types =
-      h.emitted.means env m args partial
-      ∙ set_means env m args (paths_of h.set.bindings) (rules_of env id) h.set.rules partial (built_of defs env id typed)
+  same_outcome args m types lawful =
+      h.emitted.means m args partial
+      ∙ set_means env m args (paths_of h.set.bindings) (rules_of env id) h.set.rules partial
+      (of_term IsBuiltRule env id (typed_built defs env typed)) (of_term IsBoundRule env id (typed_bound defs env typed)) (of_term (IsImpureRule env.terms) env id (typed_impure defs env typed)) lawful.answers
       (λ k d lt. typed_args defs env id the_term typed h.emitted.there k d lt ∙ sym (as_many env args the_term.arg_tys types)) h.stands.flat
 
-  no_calls : (args : List Value) (m : Meaning) → HaveTypes env args the_term.arg_tys → (outcome_of env m args (rules_of env id) partial).calls ≡ []
-  no_calls args m types =
-      ap (λ (o : Prescription). o.calls) (sym (same_outcome args m types) ∙ h.emitted.means env m args partial)
-      ∙ set_calls env m args (paths_of h.set.bindings) partial (highest (flat_holds env m args (paths_of h.set.bindings)) h.set.rules)
-
-  runs : (args : List Value) (m : Meaning) → HaveTypes env args the_term.arg_tys → run p (term_name env id) args m ≡ Some (ran_of env the_term (outcome_of env m args (rules_of env id) partial))
-  runs args m types =
+  runs : (args : List Value) (m : Meaning) → HaveTypes env args the_term.arg_tys → IsLawful env id m → run p (term_name env id) args m ≡ Some (ran_of env the_term (outcome_of env m args (rules_of env id) partial))
+  runs args m types lawful =
       let named = name_of_term env id the_term h.emitted.there in
       ap (λ (n : List ℕ). run p n args m) named
-      ∙ runs_as_block files env the_term (paths_of h.set.bindings) h.emitted.block h.emitted.lawful p args m
-      (ap (λ (n : List ℕ). function_of n p.fns) (sym named) ∙ h.found ∙ ap (λ (f : Function). Some f) h.emitted.given) types
-      ∙ ap (λ (o : Prescription). Some (ran_of env the_term o)) (same_outcome args m types)
+      ∙ runs_as_block files env the_term h.set.bindings h.emitted.block h.emitted.lawful p args m
+      (ap (λ (n : List ℕ). function_of n p.fns) (sym named) ∙ h.found ∙ ap (λ (f : Function). Some f) h.emitted.given) types (bindings_answered env id m h.set h.stands lawful)
+      ∙ ap (λ (o : Prescription). Some (ran_of env the_term o)) (same_outcome args m types lawful)
 
-  gives_outcome : (args : List Value) (m : Meaning) → HaveTypes env args the_term.arg_tys → GivesOutcome env p id the_term args m
-  gives_outcome args m types =
+  gives_outcome : (args : List Value) (m : Meaning) → HaveTypes env args the_term.arg_tys → IsLawful env id m → GivesOutcome env p id the_term args m
+  gives_outcome args m types lawful =
       let prescribed = outcome_of_one env m args (rules_of env id) partial (typed_one defs env id typed) in
       record {
         outcome = outcome_of env m args (rules_of env id) partial;
         prescribed = prescribed;
         only = λ other k. prescribed_once k prescribed;
-        given = subst (λ (r : Option Ran). IsSomeAnd r (GivesAs env partial (outcome_of env m args (rules_of env id) partial))) (sym (runs args m types)) (gives_as env the_term _ (no_calls args m types));
+        given = subst (λ (r : Option Ran). IsSomeAnd r (GivesAs env partial (outcome_of env m args (rules_of env id) partial))) (sym (runs args m types lawful)) (gives_as env the_term _ (outcome_impure env m args (rules_of env id) partial));
       }
 
   -- the function of the term means its rules
   pub means_rules : MeansRules env p id
   means_rules =
       subst (λ (o : Option Term). IsSomeAnd o (λ (t : Term). (args : List Value) (m : Meaning) → HaveTypes env args t.arg_tys → IsLawful env id m → GivesOutcome env p id t args m)) (sym h.emitted.there)
-      (λ args m types lawful. gives_outcome args m types)
+      (λ args m types lawful. gives_outcome args m types lawful)

@@ -1,5 +1,5 @@
 -- The program that is emitted for an environment.
-use Rattle.std.specs.Prelude.{◌≡◌, List, [], false, not}
+use Rattle.std.specs.Prelude.{◌≡◌, List, [], not}
 use Rattle.std.specs.List.{AllByRecursion}
 use Rattle.isle_core.specs.declared.options.CodegenOptions.{CodegenOptions}
 use Rattle.isle_core.specs.declared.files.Files.{Files}
@@ -9,14 +9,9 @@ use Rattle.isle_core.specs.Rule.{Environment}
 use Rattle.isle_syntax.specs.Tree.{Def}
 use Rattle.isle_syntax.specs.Positions.{place_of}
 use Rattle.isle_codegen.specs.Source.{IsCompilable}
-use Rattle.isle_target.specs.declared.tree.TraitFn.{TraitFn}
+use Rattle.isle_emission.specs.TraitFns.{trait_fns_of}
 use Rattle.isle_target.specs.declared.tree.TypeItem.{TypeItem}
 use Rattle.isle_target.specs.Program.{Program}
-
--- neither logging nor splitting is asked for; neither is built
-pub record IsBuilt (options : CodegenOptions) : Type 0 where
-  pub no_logging : options.emit_logging ≡ false
-  pub no_splitting : options.split_match_arms ≡ false
 
 -- an environment that definitions give, whose names may be emitted
 pub record IsGiven (env : Environment) : Type 0 where
@@ -30,10 +25,6 @@ ArePlaced files env = AllByRecursion (λ (t : Term). LiesIn files t.decl_pos) en
 -- the definitions stand in the files
 abbrev pub DefsArePlaced : Files → List Def → Type 0
 DefsArePlaced files defs = AllByRecursion (λ (d : Def). LiesIn files (place_of d)) defs
-
--- the functions of the trait: no external function is built
-abbrev pub trait_fns_of : Environment → List TraitFn
-trait_fns_of env = []
 
 -- the declared types: none is built
 abbrev pub type_items_of : Environment → List TypeItem

@@ -13,31 +13,34 @@ use Rattle.isle_core.specs.BlockRun.{block_outcome}
 use Rattle.isle_core.specs.BlockLawful.{IsLawfulBlock}
 use Rattle.isle_core.specs.Places.{LiesIn}
 use Rattle.isle_core.specs.Rule.{Environment}
-use Rattle.isle_blocks.specs.Ready.{IsReady}
+use Rattle.isle_core.specs.Ready.{IsReady}
 use Rattle.isle_target.specs.Program.{Function}
 use Rattle.isle_emission.specs.TermFunction.{term_function}
 use Rattle.isle_emission.specs.Emitted.{IsEmittable}
+use Rattle.isle_emission.specs.TraitFns.{HasFnNames}
 
--- the term is there and may be emitted, its declaration lies in the files, and its rule set is ready for a block
+-- the term is there and may be emitted, its declaration lies in the files, its rule set is ready for a block, and
+-- functions of the trait may be called by their names
 pub record CanEmit (files : Files) (env : Environment) (s : TermId × RuleSet) : Type 0 where
   pub term : Term
   pub there : slice_get env.terms s.0.0 ≡ Some term
   pub placed : LiesIn files term.decl_pos
   pub emittable : IsEmittable env term
   pub ready : IsReady env term s.1
+  pub fns : HasFnNames env
 
 -- the block means the rule set
-abbrev pub MeansSet : RuleSet → Block → Type 0
-MeansSet s b = (env : Environment) (m : Meaning) (args : List Value) (partial : Bool) → block_outcome env m args (paths_of s.bindings) b partial ≡ set_outcome env m args (paths_of s.bindings) s.rules partial
+abbrev pub MeansSet : Environment → RuleSet → Block → Type 0
+MeansSet env s b = (m : Meaning) (args : List Value) (partial : Bool) → block_outcome env m args (paths_of s.bindings) b partial ≡ set_outcome env m args (paths_of s.bindings) s.rules partial
 
 -- the function of the term, from a block that is lawful for its rule set and means it
 pub record IsEmitted (files : Files) (env : Environment) (id : TermId) (s : RuleSet) (f : Function) : Type 0 where
   pub term : Term
   pub there : slice_get env.terms id.0 ≡ Some term
   pub block : Block
-  pub lawful : IsLawfulBlock env term (paths_of s.bindings) block
-  pub means : MeansSet s block
-  pub given : f ≡ term_function files env term (paths_of s.bindings) block
+  pub lawful : IsLawfulBlock env term s.bindings [] block
+  pub means : MeansSet env s block
+  pub given : f ≡ term_function files env term s.bindings block
 
 -- so of each term with its rule set, in order
 abbrev pub AreEmitted : Files → Environment → List (TermId × RuleSet) → List Function → Type 0

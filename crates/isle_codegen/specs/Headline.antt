@@ -1,14 +1,14 @@
 -- What an emitted text is to the definitions that it was made from.
-use Rattle.std.specs.Prelude.{◌≡◌, ℕ, List, map, filter, Bool, true, false, Contains, slice_get, IsSomeAnd}
+use Rattle.std.specs.Prelude.{◌≡◌, ℕ, List, map, filter, Bool, Contains, slice_get, IsSomeAnd}
 use Rattle.isle_base.specs.declared.ids.TermId.{TermId}
 use Rattle.isle_core.specs.declared.types.Term.{Term}
 use Rattle.isle_core.specs.declared.options.CodegenOptions.{CodegenOptions}
 use Rattle.isle_core.specs.declared.files.Files.{Files}
-use Rattle.isle_core.specs.Value.{Value, Made, End, Gives, GivesSome, GivesNone, IsUnreachable, Ran}
+use Rattle.isle_core.specs.Value.{Value, Made, Ran}
 use Rattle.isle_core.specs.Meaning.{Meaning}
 use Rattle.isle_core.specs.HasType.{HaveTypes}
 use Rattle.isle_core.specs.Lawful.{IsLawful}
-use Rattle.isle_core.specs.Outcome.{Result, Value', Failure, Unmatched, Prescription, Prescribed, is_partial}
+use Rattle.isle_core.specs.Outcome.{Prescription, Prescribed, is_partial}
 use Rattle.isle_core.specs.Rule.{Environment, rules_of}
 use Rattle.isle_core.specs.Terms.{with_rules, term_name, is_impure}
 use Rattle.isle_syntax.specs.Tree.{Def}
@@ -17,14 +17,8 @@ use Rattle.isle_target.specs.Program.{Function, Program}
 use Rattle.isle_target.specs.Reading.{SpellsOnly}
 use Rattle.isle_target.specs.Run.{run}
 use Rattle.isle_codegen.specs.Emission.{IsFrame}
+use Rattle.isle_emission.specs.Ends.{end_of}
 use Rattle.isle_emission.specs.OfTerm.{AreDeclared}
-
--- how a run ends that has the result: of a partial term in an option
-abbrev pub end_of : Bool → Result → End
-end_of true (Value' v) = GivesSome v
-end_of false (Value' v) = Gives v
-end_of partial Failure = GivesNone
-end_of partial Unmatched = IsUnreachable
 
 -- the calls of impure terms
 abbrev pub impure_calls : Environment → List Made → List Made

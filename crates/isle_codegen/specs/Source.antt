@@ -5,16 +5,18 @@ use Rattle.isle_syntax.specs.Tree.{Def}
 use Rattle.isle_syntax.specs.Spelling.{Spells}
 use Rattle.isle_sema.specs.Typing.{Typed}
 use Rattle.isle_codegen.specs.Names.{are_term_names}
+use Rattle.isle_emission.specs.TraitFns.{HasFnNames}
 
 -- the texts, read as the files from that number on, spell the definitions one after the other
 abbrev pub Source : ℕ → List (List ℕ) → List Def → Type 0
 Source file [] defs = defs ≡ []
 Source file (text ∷ texts) defs = (ds : List Def) × (es : List Def) × Spells file text ds × Source (file + 1) texts es × (defs ≡ ds ++ es)
 
--- the definitions are built and have no fault, and the names of their terms may be emitted
+-- the definitions are built and have no fault, and the names of their terms and external functions may be emitted
 pub record IsCompilable (defs : List Def) (env : Environment) : Type 0 where
   pub typed : Typed defs env
   pub names : are_term_names env ≡ true
+  pub fns : HasFnNames env
 
 -- the texts are of the language: they spell such definitions
 abbrev pub InLanguage : List (List ℕ) → Type 0

@@ -3,17 +3,19 @@ ghost use Rattle.std.specs.String.{string_bytes};
 ghost use Rattle.isle_core.specs.Inputs.{bytes_each};
 ghost use Rattle.isle_core.specs.Rule.{Environment};
 ghost use Rattle.isle_syntax.specs.Views.{defs as seen};
-ghost use Rattle.isle_codegen.specs.Emission.{IsBuilt, DefsArePlaced};
+ghost use Rattle.isle_codegen.specs.Emission.{DefsArePlaced};
+ghost use Rattle.isle_emission.specs.Built.{IsBuilt};
 ghost use Rattle.isle_codegen.specs.Source.{IsCompilable};
 ghost use Rattle.isle_codegen.specs.Names.{are_file_names};
 ghost use Rattle.isle_codegen.specs.Header.{HasHeader};
 ghost use Rattle.isle_codegen.specs.Headline.{HasHeadline, SpellsOne};
 ghost use Rattle.isle_codegen.specs.Causes.{CompilesTo, IsRefusal, IsCompiled, HasCause, printed};
 
-use crate::names::{NameError, are_file_names, are_term_names};
+use crate::names::{NameError, are_file_names, are_fn_names, are_term_names};
 use crate::source::parse_all;
 use crate::text::codegen;
 use isle_core::{CodegenOptions, Dir, Errors, Files, IoCause, ReadError};
+use isle_emission::trait_fns;
 use isle_rulesets::rule_sets;
 use isle_sema::{EnvError, term_env_from_ast, type_env_from_ast};
 use isle_syntax::{Def, ParseFail};
@@ -80,7 +82,8 @@ fn compiled(alloc: Global, files: &Files, options: &CodegenOptions) -> Result<St
 }
 
 /// The text of the program of the definitions, which stand in the files. `NotYet` comes exactly where they are not of
-/// the language that is built, or the name of a term may not be emitted.
+/// the language that is built, or the name of a term or of an external function may not be
+/// emitted.
 fn compile(
     alloc: Global,
     files: &Files,
@@ -102,6 +105,12 @@ fn compile(
         Ok(termenv) => termenv,
         Err(fail) => return Err(fail),
     };
+    let fns = trait_fns(alloc, &typeenv, &termenv)?;
+    match are_fn_names(alloc, fns.as_slice()) {
+        Ok(true) => {}
+        Ok(false) => return Err(EnvError::NotYet),
+        Err(_) => return Err(EnvError::Memory),
+    }
     let terms = rule_sets(alloc, &termenv)?;
     if !are_term_names(&typeenv, &termenv, terms.as_slice()) {
         return Err(EnvError::NotYet);

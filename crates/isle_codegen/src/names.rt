@@ -1,11 +1,16 @@
-ghost use Rattle.std.specs.Prelude.{◌≡◌, map};
-ghost use Rattle.std.specs.List.{list_all};
+ghost use Rattle.std.specs.Prelude.{◌≡◌, ◌↔◌, IsTrue, IfOk, map};
+ghost use Rattle.std.specs.List.{AllByRecursion, list_all};
+ghost use Rattle.isle_target.specs.declared.tree.TraitFn.{TraitFn as TheFn};
+ghost use Rattle.isle_target.specs.Identifier.{IsIdentifier};
+ghost use Rattle.isle_emission.specs.TraitFns.{AreFnNames};
 ghost use Rattle.isle_ink.specs.Token.{is_word_byte};
 ghost use Rattle.isle_core.specs.RuleViews.{environment};
 ghost use Rattle.isle_core.specs.Terms.{with_rules, term_name};
 ghost use Rattle.isle_codegen.specs.Names.{is_name_byte, is_file_name, are_file_names, is_term_name, are_term_names};
 
-use isle_core::{RuleSet, TermEnv, TermId, Text, TypeEnv};
+use isle_core::{OutOfMemory, RuleSet, TermEnv, TermId, Text, TypeEnv};
+use isle_target::{TraitFn, are_apart, is_identifier};
+use std::alloc::Global;
 
 /// What a name stands for.
 #[derive(Clone, Copy, Debug, PartialEq, Eq)]
@@ -91,4 +96,26 @@ pub fn are_term_names(typeenv: &TypeEnv, termenv: &TermEnv, terms: &[(TermId, Ru
     ensures { result ≡ are_term_names (environment typeenv.now termenv.now) }
 {
     are_listed_names(typeenv, termenv, terms)
+}
+
+/// Whether functions of the trait may be called by their names: each is a name of Rust, and no two are equal.
+pub fn are_fn_names(alloc: Global, fns: &[TraitFn]) -> Result<bool, OutOfMemory>
+    ensures { IfOk result (λ b. IsTrue b ↔ AreFnNames fns.now) }
+{
+    if !are_identifiers(fns) {
+        return Ok(false);
+    }
+    are_apart(alloc, fns)
+}
+
+/// Whether the name of each function is a name of Rust.
+fn are_identifiers(fns: &[TraitFn]) -> bool
+    ensures { IsTrue result ↔ AllByRecursion (λ (f : TheFn). IsIdentifier f.name) fns.now }
+{
+    for f in fns {
+        if !is_identifier(f.name.as_str()) {
+            return false;
+        }
+    }
+    true
 }

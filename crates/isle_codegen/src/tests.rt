@@ -1,7 +1,7 @@
 //! What files give: the texts' first lines, and the failures. Every expected value is worked out by hand.
 
 ghost use Rattle.std.specs.Prelude.{◌≡◌, IfOk};
-ghost use Rattle.isle_codegen.specs.Emission.{IsBuilt};
+ghost use Rattle.isle_codegen.specs.Built.{IsBuilt};
 
 use crate::{FileError, from_files};
 use isle_core::{CodegenOptions, IoCause, List, MemDir, Prefix, Text};

@@ -4,15 +4,14 @@ ghost use Rattle.isle_core.specs.RuleViews.{environment};
 ghost use Rattle.isle_rulesets.specs.Grouping.{AreRuleSets};
 ghost use Rattle.isle_target.specs.Views.{function, program};
 ghost use Rattle.isle_target.specs.WellFormed.{IsWellFormed};
-ghost use Rattle.isle_codegen.specs.Emission.{IsBuilt, IsGiven, IsFrame, ArePlaced};
+ghost use Rattle.isle_codegen.specs.Emission.{IsGiven, IsFrame, ArePlaced};
+ghost use Rattle.isle_emission.specs.Built.{IsBuilt};
 ghost use Rattle.isle_codegen.specs.Emits.{CanEmit, IsEmitted, AreEmitted};
 ghost use Rattle.isle_codegen.specs.Headline.{FunctionsMean};
 ghost use Rattle.isle_emission.specs.LineStarts.{starts_of};
 
-use crate::context::{Context, is_partial};
-use crate::emit::term_function;
-use crate::line_starts::LineStarts;
 use isle_blocks::serialize;
+use isle_emission::{Context, LineStarts, is_partial, term_function, trait_fns};
 use isle_core::{CodegenOptions, Files, List, OutOfMemory, RuleSet, TermEnv, TermId, TypeEnv};
 use isle_target::{Function, Program};
 use std::alloc::Global;
@@ -80,10 +79,11 @@ pub fn codegen_tree(
     ensures frame { IfOk result (λ p. IsFrame options.now (environment typeenv.now termenv.now) (program p)) }
     ensures functions { IfOk result (λ p. FunctionsMean files.now (environment typeenv.now termenv.now) (program p)) }
 {
+    let trait_fns = trait_fns(alloc, typeenv, termenv)?;
     let fns = emit_all(alloc, files, typeenv, termenv, terms)?;
     Ok(Program {
         allow: !options.exclude_global_allow_pragmas,
-        trait_fns: List::new(Vec::new(alloc)),
+        trait_fns: List::new(trait_fns),
         types: List::new(Vec::new(alloc)),
         fns: List::new(fns),
     })

@@ -16,3 +16,4 @@ pub mod SetMeans
 pub mod AnsweredByTurn
 pub mod SeesRules
 pub mod SeesBlocks
+pub mod ImpureCalls

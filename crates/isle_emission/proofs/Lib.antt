@@ -20,3 +20,4 @@ pub mod Tails
 pub mod Roots
 pub mod EmittedLaws
 pub mod SampleEmission
+pub mod TraitFnForms

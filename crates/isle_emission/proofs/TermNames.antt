@@ -47,10 +47,10 @@ def_is_builtin (Some (def.Enum name is_extern is_nodebug variants pos)) P a b c 
 def_is_builtin (Some (def.Struct name is_extern is_nodebug fields pos)) P a b c h = absurd (c name is_extern is_nodebug fields pos h)
 
 -- the name of a builtin type
-type_is_builtin : (env : Environment) (ty : TypeId) → IsBuiltinType env ty → IsBuiltin (type_text env ty)
+pub type_is_builtin : (env : Environment) (ty : TypeId) → IsBuiltinType env ty → IsBuiltin (type_text env ty)
 type_is_builtin env ty h = def_is_builtin (slice_get env.types.types ty.0) _ (λ name rust pos k. k) (λ name is_extern is_nodebug variants pos k. k) (λ name is_extern is_nodebug fields pos k. k) h
 
-params_are : (env : Environment) (tys : List TypeId) → AllByRecursion (IsBuiltinType env) tys → AllByRecursion IsTy (map (parameter env) tys)
+pub params_are : (env : Environment) (tys : List TypeId) → AllByRecursion (IsBuiltinType env) tys → AllByRecursion IsTy (map (parameter env) tys)
 params_are env [] h = tt
 params_are env (ty ∷ tys) h = ((refl, type_is_builtin env ty h.0), params_are env tys h.1)
 

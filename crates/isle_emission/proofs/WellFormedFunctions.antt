@@ -22,7 +22,7 @@ use Rattle.isle_emission.proofs.BlockForms.{block_is}
 use Rattle.isle_emission.proofs.BlockThere.{root_there}
 use Rattle.isle_emission.proofs.BlockFits.{function_fits}
 
-kind_is : (partial : Bool) → IsKind (kind_of partial)
+pub kind_is : (partial : Bool) → IsKind (kind_of partial)
 kind_is true = tt
 kind_is false = tt
 

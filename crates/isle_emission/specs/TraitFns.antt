@@ -49,7 +49,11 @@ trait_fns_in env ts = filter_map (trait_fn_of env) ts
 abbrev pub trait_fns_of : Environment → List TraitFn
 trait_fns_of env = trait_fns_in env env.terms
 
--- their names are names of Rust, no two of them equal
-pub record HasFnNames (env : Environment) : Type 0 where
-  pub identifiers : AllByRecursion (λ (f : TraitFn). IsIdentifier f.name) (trait_fns_of env)
-  pub distinct : IsDistinct bytes_eq (fn_names (trait_fns_of env))
+-- names of functions of the trait: names of Rust, no two of them equal
+pub record AreFnNames (fns : List TraitFn) : Type 0 where
+  pub identifiers : AllByRecursion (λ (f : TraitFn). IsIdentifier f.name) fns
+  pub distinct : IsDistinct bytes_eq (fn_names fns)
+
+-- so of those of the environment
+abbrev pub HasFnNames : Environment → Type 0
+HasFnNames env = AreFnNames (trait_fns_of env)

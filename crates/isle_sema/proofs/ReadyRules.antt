@@ -153,7 +153,7 @@ abbrev Fallible : Environment → List Path → Type 0
 Fallible env ps = (term : TermId) (qs : Paths) (k : ℕ) → Contains ps (Inner (Called term qs k)) → is_fallible (calling env term) ≡ true
 
 -- an argument, or nowhere
-abbrev IsArgument : Option Path → Type 0
+abbrev pub IsArgument : Option Path → Type 0
 IsArgument None = Unit {0}
 IsArgument (Some p) = (k : ℕ) × (p ≡ Arg k)
 
@@ -169,7 +169,7 @@ after_argument : (q : Pattern) (k : ℕ) (places : Places) → ((z : ℕ) → Is
 after_argument (Var of x) k places h y = met_argument (places x.0) x.0 y k places h
 after_argument q k places h y = h y
 
-args_argument : (qs : List Pattern) (i : ℕ) (places : Places) → ((z : ℕ) → IsArgument (places z)) → (y : ℕ) → IsArgument (args_after qs i places y)
+pub args_argument : (qs : List Pattern) (i : ℕ) (places : Places) → ((z : ℕ) → IsArgument (places z)) → (y : ℕ) → IsArgument (args_after qs i places y)
 args_argument [] i places h = h
 args_argument (q ∷ qs) i places h = args_argument qs (suc i) (after q (Arg i) places) (after_argument q i places h)
 

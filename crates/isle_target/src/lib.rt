@@ -31,8 +31,10 @@ mod trait_tests;
 mod tree;
 
 pub use bound::Bound;
+pub use distinct::are_apart;
 pub use forms::well_formed;
 pub use holds::Holds;
+pub use identifier::is_identifier;
 pub use literal::{rust_int_literal, type_name};
 pub use print::print_program;
 pub use tree::{

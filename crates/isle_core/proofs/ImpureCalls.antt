@@ -1,0 +1,145 @@
+-- The calls that rules prescribe go to impure terms.
+use Rattle.std.proofs.Common.{◌≡◌, ℕ, zero, suc, List, [], ◌∷◌, ◌++◌, Bool, true, false, Option, Some, None, refl, sym, ap, ◌∙◌, subst}
+use Rattle.std.specs.Prelude.{◌||◌, filter, slice_get}
+use Rattle.std.specs.List.{AllByRecursion, list_any}
+use Rattle.std.specs.Str.{bytes_eq}
+use Rattle.std.proofs.lemmas.Slice.Eq.{bytes_eq-Decides}
+use Rattle.isle_base.specs.declared.ids.TermId.{TermId}
+use Rattle.isle_core.specs.declared.types.Term.{Term}
+use Rattle.isle_core.specs.declared.values.Callee.{Callee}
+use Rattle.isle_core.specs.declared.values.Callee.TheVariants.{External, Internal}
+use Rattle.isle_core.specs.Value.{Value, Made}
+use Rattle.isle_core.specs.Answered.{Held, Absent, One, Optional, answer_held}
+use Rattle.isle_core.specs.Meaning.{Meaning, turn, case}
+use Rattle.isle_core.specs.Calling.{Calling, ByTurns, ByCases, NoCall, calling, calling_of, calling_by, pure_callee, is_partial}
+use Rattle.isle_core.specs.Match.{Names}
+use Rattle.isle_core.specs.Expr as expr
+use Rattle.isle_core.specs.Expr.{Expr, Exprs, NoExpr, AnExpr}
+use Rattle.isle_core.specs.Eval.{Evaluated, Answered, Failed, EvaluatedAll, AllAnswered, OneFailed, named, answered, then_all, before, then_one, called_with, evaluated, evaluated_all}
+use Rattle.isle_core.specs.HighestMatch.{highest_match, given_by, outcome_of}
+use Rattle.isle_core.specs.Outcome.{prescription_of}
+use Rattle.isle_core.specs.Terms.{goes_to, impure_callee, is_impure}
+use Rattle.isle_core.specs.Rule.{Environment, Rule}
+
+-- each call goes to an impure term
+abbrev pub AreImpure : Environment → List Made → Type 0
+AreImpure env calls = AllByRecursion (λ (c : Made). is_impure env c.callee ≡ true) calls
+
+one_more : (env : Environment) (made : List Made) (c : Made) → AreImpure env made → is_impure env c.callee ≡ true → AreImpure env (made ++ c ∷ [])
+one_more env [] c h k = (k, tt)
+one_more env (d ∷ made) c h k = (h.0, one_more env made c h.1 k)
+
+same_bytes : (xs : List ℕ) → bytes_eq xs xs ≡ true
+same_bytes xs = (bytes_eq-Decides xs xs).1 refl
+
+goes_there : (callee : Callee) → goes_to callee (Some callee) ≡ true
+goes_there (External name) = same_bytes name
+goes_there (Internal name) = same_bytes name
+
+or_true : (b c : Bool) → c ≡ true → (b || c) ≡ true
+or_true true c e = refl
+or_true false c e = e
+
+some_same : (a b : Term) → Some a ≡ Some b → a ≡ b
+some_same a b e = cc
+
+any_there : (env : Environment) (callee : Callee) (ts : List Term) (i : ℕ) (t : Term) → slice_get ts i ≡ Some t → goes_to callee (impure_callee env t t.kind) ≡ true → list_any (λ (u : Term). goes_to callee (impure_callee env u u.kind)) ts ≡ true
+any_there env callee [] i t e h = cc
+any_there env callee (u ∷ ts) zero t e h =
+    let here : goes_to callee (impure_callee env u u.kind) ≡ true = subst (λ (x : Term). goes_to callee (impure_callee env x x.kind) ≡ true) (sym (some_same u t e)) h in
+    ap (λ b. b || list_any (λ (x : Term). goes_to callee (impure_callee env x x.kind)) ts) here
+any_there env callee (u ∷ ts) (suc i) t e h = or_true (goes_to callee (impure_callee env u u.kind)) _ (any_there env callee ts i t e h)
+
+by_turns : (partial : Bool) (o p : Option Callee) (callee : Callee) (b : Bool) → calling_by partial o p ≡ ByTurns callee b → o ≡ Some callee
+by_turns partial (Some c) p callee b e = cc
+by_turns partial None (Some c) callee b e = cc
+by_turns partial None None callee b e = cc
+
+-- what takes turns is impure
+turned_impure : (env : Environment) (term : TermId) (callee : Callee) (partial : Bool) → calling env term ≡ ByTurns callee partial → is_impure env callee ≡ true
+turned_impure env term callee partial e = one (slice_get env.terms term.0) refl
+  where
+    one : (o : Option Term) → slice_get env.terms term.0 ≡ o → is_impure env callee ≡ true
+    one None at_term = let bad : NoCall ≡ ByTurns callee partial = sym (ap (calling_of env) at_term) ∙ e in cc
+    one (Some t) at_term =
+        let goes = by_turns (is_partial t.kind) (impure_callee env t t.kind) (pure_callee env t t.kind) callee partial (sym (ap (calling_of env) at_term) ∙ e) in
+        any_there env callee env.terms term.0 t at_term (ap (goes_to callee) goes ∙ goes_there callee)
+
+-- ---- evaluation
+
+calls_in : Evaluated → List Made
+calls_in (Answered v made) = made
+calls_in (Failed made) = made
+
+calls_in_all : EvaluatedAll → List Made
+calls_in_all (AllAnswered vs made) = made
+calls_in_all (OneFailed made) = made
+
+named_impure : (env : Environment) (o : Option Value) (made : List Made) → AreImpure env made → AreImpure env (calls_in (named o made))
+unfolding calls_in
+named_impure env None made h = h
+named_impure env (Some v) made h = h
+
+answered_impure : (env : Environment) (h : Held) (made : List Made) → AreImpure env made → AreImpure env (calls_in (answered h made))
+unfolding calls_in
+answered_impure env (One v) made k = k
+answered_impure env (Optional (Some v)) made k = k
+answered_impure env (Optional None) made k = k
+answered_impure env Absent made k = k
+
+called_impure : (env : Environment) (m : Meaning) (c : Calling) (vs : List Value) (made : List Made) → ((callee : Callee) (partial : Bool) → c ≡ ByTurns callee partial → is_impure env callee ≡ true) → AreImpure env made → AreImpure env (calls_in (called_with m c vs made))
+unfolding calls_in
+called_impure env m (ByTurns callee partial) vs made h k = answered_impure env (answer_held (turn m callee made)) (made ++ record { callee = callee; args = vs } ∷ []) (one_more env made (record { callee = callee; args = vs }) k (h callee partial refl))
+called_impure env m (ByCases callee partial) vs made h k = answered_impure env (answer_held (case m callee vs)) made k
+called_impure env m NoCall vs made h k = k
+
+then_impure : (env : Environment) (r : EvaluatedAll) (go : List Value → List Made → Evaluated) → AreImpure env (calls_in_all r) → ((vs : List Value) (made : List Made) → AreImpure env made → AreImpure env (calls_in (go vs made))) → AreImpure env (calls_in (then_one r go))
+unfolding calls_in calls_in_all
+then_impure env (AllAnswered vs made) go h k = k vs made h
+then_impure env (OneFailed made) go h k = h
+
+all_impure : (env : Environment) (r : Evaluated) (go : Value → List Made → EvaluatedAll) → AreImpure env (calls_in r) → ((v : Value) (made : List Made) → AreImpure env made → AreImpure env (calls_in_all (go v made))) → AreImpure env (calls_in_all (then_all r go))
+unfolding calls_in calls_in_all
+all_impure env (Answered v made) go h k = k v made h
+all_impure env (Failed made) go h k = h
+
+before_impure : (env : Environment) (v : Value) (r : EvaluatedAll) → AreImpure env (calls_in_all r) → AreImpure env (calls_in_all (before v r))
+unfolding calls_in_all
+before_impure env v (AllAnswered vs made) h = h
+before_impure env v (OneFailed made) h = h
+
+mutual
+  expr_impure : (e : Expr) (env : Environment) (m : Meaning) (names : Names) (made : List Made) → AreImpure env made → AreImpure env (calls_in (evaluated env m e names made))
+  unfolding calls_in calls_in_all
+  expr_impure (expr.Var ty x) env m names made h = named_impure env (names x.0) made h
+  expr_impure (expr.ConstBool b) env m names made h = h
+  expr_impure (expr.ConstInt ty n) env m names made h = h
+  expr_impure (expr.ConstPrim ty name) env m names made h = h
+  expr_impure (expr.Let ty bindings inner) env m names made h = h
+  expr_impure (expr.Term ty term es) env m names made h =
+      then_impure env (evaluated_all env m es names made) (called_with m (calling env term)) (exprs_impure es env m names made h)
+      (λ vs calls k. called_impure env m (calling env term) vs calls (turned_impure env term) k)
+
+  exprs_impure : (es : Exprs) (env : Environment) (m : Meaning) (names : Names) (made : List Made) → AreImpure env made → AreImpure env (calls_in_all (evaluated_all env m es names made))
+  exprs_impure NoExpr env m names made h = h
+  exprs_impure (AnExpr e es) env m names made h =
+      all_impure env (evaluated env m e names made) (λ v calls. before v (evaluated_all env m es names calls)) (expr_impure e env m names made h)
+      (λ v calls k. before_impure env v (evaluated_all env m es names calls) (exprs_impure es env m names calls k))
+
+prescribed_impure : (env : Environment) (r : Evaluated) → AreImpure env (calls_in r) → AreImpure env (prescription_of r).calls
+unfolding calls_in
+prescribed_impure env (Answered v made) h = h
+prescribed_impure env (Failed made) h = h
+
+given_impure : (env : Environment) (m : Meaning) (partial : Bool) (o : Option (Rule × Names)) → AreImpure env (given_by env m partial o).calls
+given_impure env m partial None = tt
+given_impure env m partial (Some o) = prescribed_impure env (evaluated env m o.0.rhs o.1 []) (expr_impure o.0.rhs env m o.1 [] tt)
+
+-- the calls of an outcome
+pub outcome_impure : (env : Environment) (m : Meaning) (args : List Value) (rules : List Rule) (partial : Bool) → AreImpure env (outcome_of env m args rules partial).calls
+outcome_impure env m args rules partial = given_impure env m partial (highest_match env m args rules)
+
+-- none of them is left out
+pub all_kept : (env : Environment) (calls : List Made) → AreImpure env calls → filter (λ (c : Made). is_impure env c.callee) calls ≡ calls
+all_kept env [] h = refl
+all_kept env (c ∷ calls) h = rw h.0 (ap (λ cs. c ∷ cs) (all_kept env calls h.1))
