@@ -1,6 +1,6 @@
 -- No call of a right side stands twice.
-use Rattle.std.proofs.Common.{◌≡◌, ⊎_elim, Bool, ℕ, suc, ◌<◌, ◌≤◌, ◌+◌, List, [], ◌∷◌, ◌++◌, refl, sym, ap, ◌∙◌, subst, arith, append-nil, Some}
-use Rattle.std.specs.Prelude.{Contains, IsSomeAnd, slice_get}
+use Rattle.std.proofs.Common.{◌≡◌, ⊎_elim, Bool, ℕ, suc, ◌<◌, ◌≤◌, ◌+◌, List, [], ◌∷◌, ◌++◌, sym, subst, arith}
+use Rattle.std.specs.Prelude.{Contains}
 use Rattle.std.specs.List.{AllByRecursion}
 use Rattle.std.proofs.lemmas.List.Elements.{All-contains, All-from_recursion}
 use Rattle.isle_core.specs.declared.TermId.{TermId}
@@ -9,10 +9,10 @@ use Rattle.isle_core.specs.declared.values.Callee.{Callee}
 use Rattle.isle_core.specs.Expr as expr
 use Rattle.isle_core.specs.Expr.{Expr, Exprs, NoExpr, AnExpr}
 use Rattle.isle_core.specs.Path.{Path, Paths, Called}
-use Rattle.isle_core.specs.Calling.{Calling, ByTurns, ByCases, NoCall, calling, instance_of, one_more, impure, impure_all}
-use Rattle.isle_core.specs.Tests.{Places, calls, calls_all, paths, call_path, if_ordered, rule_places, rule_calls}
+use Rattle.isle_core.specs.Calling.{Calling, ByTurns, calling, instance_of, one_more, impure, impure_all}
+use Rattle.isle_core.specs.Tests.{Places, calls, calls_all, paths, if_ordered, rule_places, rule_calls}
 use Rattle.isle_core.specs.StandsFor.{EachOnce, AreFirsts, no_more, first}
-use Rattle.isle_core.specs.BuiltRule.{IsBuiltExpr, AreBuiltExprs, IsImpureKind, CallsImpure, AllCallImpure}
+use Rattle.isle_core.specs.BuiltRule.{IsBuiltExpr, AreBuiltExprs, CallsImpure, AllCallImpure}
 use Rattle.isle_core.specs.Rule.{Environment, Rule}
 use Rattle.isle_core.proofs.Contained.{head_contained, tail_contained, contained_cases, none_contained}
 use Rattle.isle_rulesets.proofs.RuleTests.{append_once}

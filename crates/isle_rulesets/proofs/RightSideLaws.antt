@@ -1,6 +1,6 @@
 -- The right side of a rule is numbered, call by call.
-use Rattle.std.proofs.Common.{◌≡◌, ◌⊎◌, inl, inr, ⊎_elim, ℕ, zero, suc, ◌<◌, ◌≤◌, ◌+◌, ℤ, List, [], ◌∷◌, ◌++◌, length, map, take, get_or, if◌then◌else◌, Bool, true, false, Option, Some, None, Result, Ok, Err, refl, sym, ap, ◌∙◌, subst, arith, append_assoc, append-nil}
-use Rattle.std.specs.Prelude.{Contains, IsSome, IsSomeAnd, IfOk, slice_get}
+use Rattle.std.proofs.Common.{◌≡◌, inl, inr, ⊎_elim, ℕ, zero, suc, ◌<◌, ◌≤◌, ◌+◌, ℤ, List, [], ◌∷◌, ◌++◌, length, map, take, get_or, if◌then◌else◌, Bool, true, false, Option, Some, None, Result, Ok, Err, refl, sym, ap, ◌∙◌, subst, arith, append_assoc, append-nil}
+use Rattle.std.specs.Prelude.{Contains, IsSomeAnd, IfOk, slice_get}
 use Rattle.std.specs.Ordering.{nat_cmp}
 use Rattle.std.specs.BTreeMap.{BTreeMap, get}
 use Rattle.std.proofs.lemmas.List.{map_more, map-append, length-map, get_or-map, take_all}
@@ -25,7 +25,7 @@ use Rattle.isle_core.specs.BuiltRule.{IsImpureKind, CallsImpure, AllCallImpure}
 use Rattle.isle_core.specs.Calling.{Calling, ByTurns, ByCases, NoCall, is_partial, pure_callee, calling_by, calling_of, calling, instance_of, one_more, impure, impure_all}
 use Rattle.isle_core.specs.Path as path
 use Rattle.isle_core.specs.Path.{Path, Paths, NoPath, APath, at, at_all, paths_of}
-use Rattle.isle_core.specs.Tests.{Places, path as path_of, paths, path_or, bool_type, calls as calls_of, calls_all, expr_paths, exprs_paths, call_path, answer_path, with_inner, if_ordered}
+use Rattle.isle_core.specs.Tests.{Places, path as path_of, paths, path_or, bool_type, calls as calls_of, calls_all, expr_paths, exprs_paths, call_path, with_inner, if_ordered}
 use Rattle.isle_core.specs.Rule.{Environment}
 use Rattle.isle_core.proofs.Contained.{head_contained, contained_cases, none_contained}
 use Rattle.isle_rulesets.specs.Numbering.{Numbered, Extends, Numbers, next_call, Calls}

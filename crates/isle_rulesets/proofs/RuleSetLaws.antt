@@ -2,7 +2,7 @@
 use Rattle.std.proofs.Common.{◌≡◌, inl, inr, ⊎_elim, ℕ, zero, suc, ◌<◌, ◌≤◌, ◌+◌, List, [], ◌∷◌, ◌++◌, length, map, take, get_or, Option, Some, None, refl, sym, ap, ◌∙◌, subst, arith, append_assoc, append-nil, Bor}
 use Rattle.std.specs.Prelude.{◌↔◌, Contains, All, IsSome, filter, slice_get}
 use Rattle.std.specs.Ordering.{nat_cmp}
-use Rattle.std.specs.BTreeMap.{BTreeMap, get}
+use Rattle.std.specs.BTreeMap.{get}
 use Rattle.std.proofs.lemmas.List.{map_more, length-map, get_or-map, take_all}
 use Rattle.std.proofs.lemmas.List.Elements.{Contains-append_left, Contains-append_right, Contains-append_cases}
 use Rattle.isle_core.specs.declared.BindingId.{BindingId}
@@ -16,11 +16,11 @@ use Rattle.isle_core.specs.Expr as expr
 use Rattle.isle_core.specs.Expr.{Expr, Exprs, NoExpr, AnExpr}
 use Rattle.isle_core.specs.Path.{Path, Nowhere, Arg, at, paths_of}
 use Rattle.isle_core.specs.Calling.{impure}
-use Rattle.isle_core.specs.Tests.{Places, no_places, args_after, arg_paths, expr_paths, rule_places, rule_tests, rule_calls, rule_paths}
+use Rattle.isle_core.specs.Tests.{no_places, args_after, arg_paths, expr_paths, rule_places, rule_tests, rule_calls, rule_paths}
 use Rattle.isle_core.specs.RuleSet.{is_test, equal_test, flat_tests}
 use Rattle.isle_core.specs.RuleViews.{rule, rules}
 use Rattle.isle_core.specs.StandsFor.{EachOnce, AreFirsts, IsFlat, AreFlat, rules_paths, StandsFor}
-use Rattle.isle_core.specs.BuiltRule.{IsBuiltExpr, AreBuiltExprs, IsBuiltRule, IsBoundIn, AreBoundIn, IsBoundRule, CallsImpure, IsImpureRule}
+use Rattle.isle_core.specs.BuiltRule.{IsBuiltExpr, AreBuiltExprs, IsBuiltRule, IsBoundIn, AreBoundIn, IsBoundRule, IsImpureRule}
 use Rattle.isle_core.specs.Rule.{Environment, Rule}
 use Rattle.isle_core.proofs.NotTrivial.{no_trivial}
 use Rattle.isle_rulesets.specs.declared.draft.Draft.{Draft}

@@ -3,13 +3,11 @@ use Rattle.std.specs.Prelude.{◌≡◌, ◌⊎◌, ℕ, ◌+◌, List, [], ◌�
 use Rattle.std.specs.Ordering.{nat_cmp}
 use Rattle.std.specs.BTreeMap.{BTreeMap, get}
 use Rattle.isle_core.specs.declared.BindingId.{BindingId}
-use Rattle.isle_core.specs.declared.TermId.{TermId}
-use Rattle.isle_core.specs.declared.types.Term.{Term}
 use Rattle.isle_core.specs.Expr as expr
 use Rattle.isle_core.specs.Expr.{Expr, Exprs, NoExpr, AnExpr}
-use Rattle.isle_core.specs.Path.{Path, Paths, NoPath, APath, at, at_all, paths_of}
-use Rattle.isle_core.specs.Calling.{Calling, calling, one_more, impure, impure_all}
-use Rattle.isle_core.specs.Tests.{Places, path, paths, calls, calls_all, expr_paths, exprs_paths, call_path, answer_path, with_inner, if_ordered}
+use Rattle.isle_core.specs.Path.{Path, Paths, NoPath, APath, at, paths_of}
+use Rattle.isle_core.specs.Calling.{Calling, one_more, impure, impure_all}
+use Rattle.isle_core.specs.Tests.{Places, path, paths, calls, calls_all, expr_paths, exprs_paths, answer_path, with_inner, if_ordered}
 use Rattle.isle_core.specs.Rule.{Environment}
 use Rattle.isle_rulesets.specs.Numbering.{Numbered, Extends}
 

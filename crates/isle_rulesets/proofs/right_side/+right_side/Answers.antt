@@ -1,4 +1,4 @@
-use Rattle.std.proofs.Common.{◌≡◌, rules, map, ap, ◌∙◌, arith}
+use Rattle.std.proofs.Common.{◌≡◌, rules, map, ap, ◌∙◌}
 use denote.Param.Weighed.{at_most}
 use Rattle.isle_core.specs.Expr as pure_expr
 use Rattle.isle_core.specs.RuleViews.{expr, exprs_of}

@@ -1,4 +1,4 @@
-use Rattle.std.proofs.Common.{◌≡◌, rules, suc, true, false}
+use Rattle.std.proofs.Common.{◌≡◌, rules, true, false}
 use Rattle.isle_rulesets.specs.Numbering.{Numbered}
 use Rattle.isle_rulesets.proofs.CallLaws.{call_more, inner_more}
 use Rattle.isle_rulesets.proofs.numbering.Numbering.call.Goals as goal
