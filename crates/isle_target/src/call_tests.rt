@@ -83,27 +83,39 @@ fn some(o: Operand) -> TExpr {
     TExpr::Some(Read::Plain(o))
 }
 
+// What a case calls.
+fn callee(case: u8) -> &'static str {
+    match case {
+        1 | 8 => "maybe",
+        2 => "maybe_one",
+        4 => "two",
+        6 => "other",
+        13 => "a.b",
+        _ => "one",
+    }
+}
+
+// What a case calls it with.
+fn arguments(alloc: Global, case: u8) -> Result<List<Read>, AllocError> {
+    match case {
+        2 | 8 => arg(alloc, Operand::Arg(0)),
+        3 => arg(alloc, Operand::Int(IntType::U8, 7)),
+        4 => args(alloc, Operand::Arg(0), Operand::Bool(true)),
+        9 => arg(alloc, Operand::Local(1)),
+        10 => arg(alloc, Operand::Arg(1)),
+        _ => Ok(no_args(alloc)),
+    }
+}
+
 // What v1 is bound to.
 fn first(alloc: Global, case: u8) -> Result<TExpr, AllocError> {
     match case {
         0 => Ok(read(Operand::Arg(0))),
-        1 => call(alloc, "maybe", no_args(alloc)),
-        2 => call(alloc, "maybe_one", arg(alloc, Operand::Arg(0))?),
-        3 => call(alloc, "one", arg(alloc, Operand::Int(IntType::U8, 7))?),
-        4 => {
-            let pair = args(alloc, Operand::Arg(0), Operand::Bool(true))?;
-            call(alloc, "two", pair)
-        }
         5 => Ok(some(Operand::Arg(0))),
-        6 => call(alloc, "other", no_args(alloc)),
-        7 => call(alloc, "one", no_args(alloc)),
-        8 => call(alloc, "maybe", arg(alloc, Operand::Arg(0))?),
-        9 => call(alloc, "one", arg(alloc, Operand::Local(1))?),
-        10 => call(alloc, "one", arg(alloc, Operand::Arg(1))?),
         11 => Ok(tried(Operand::Arg(0))),
         12 => Ok(tried(Operand::Local(1))),
-        13 => call(alloc, "a.b", no_args(alloc)),
-        _ => Ok(read(Operand::Local(2))),
+        14 => Ok(read(Operand::Local(2))),
+        _ => call(alloc, callee(case), arguments(alloc, case)?),
     }
 }
 
