@@ -17,11 +17,11 @@ use Rattle.isle_target.specs.Bound.{logged, Undoes, Finds}
 -- ---- one local more
 
 -- the local that is bound
-holds_now : (bound : Locals) (y : ℕ) (h : Holds) (n : ℕ) → y ≡ n → local_holds (bound ++ (y, h) ∷ []) n ≡ Some h
+pub holds_now : (bound : Locals) (y : ℕ) (h : Holds) (n : ℕ) → y ≡ n → local_holds (bound ++ (y, h) ∷ []) n ≡ Some h
 holds_now bound y h n e = fold-append (newer n) None bound ((y, h) ∷ []) ∙ rw (eq-eqb y n e) refl
 
 -- another
-holds_still : (bound : Locals) (y : ℕ) (h : Holds) (n : ℕ) → (y ≡ n → ⊥) → local_holds (bound ++ (y, h) ∷ []) n ≡ local_holds bound n
+pub holds_still : (bound : Locals) (y : ℕ) (h : Holds) (n : ℕ) → (y ≡ n → ⊥) → local_holds (bound ++ (y, h) ∷ []) n ≡ local_holds bound n
 holds_still bound y h n apart = fold-append (newer n) None bound ((y, h) ∷ []) ∙ rw (ne_eqb y n apart) refl
 
 logged_more : (log : List Entry) (e : Entry) → logged (log ++ e ∷ []) ≡ logged log ++ (e.local, e.holds) ∷ []

@@ -57,7 +57,7 @@ fn note(
     }
 }
 
-// Gives the local of an entry what it held before.
+// Gives the local of an entry what it held before; a local that the map has takes no memory.
 fn restore(held: &mut BTreeMap<usize, Holds>, entry: Entry)
     requires { IsSome (get nat_cmp held.old entry.local) }
     ensures { Updates nat_cmp held.old held.new entry.local entry.before }

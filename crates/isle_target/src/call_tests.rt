@@ -83,27 +83,39 @@ fn some(o: Operand) -> TExpr {
     TExpr::Some(Read::Plain(o))
 }
 
+// What a case calls.
+fn callee(case: u8) -> &'static str {
+    match case {
+        1 | 8 => "maybe",
+        2 => "maybe_one",
+        4 => "two",
+        6 => "other",
+        13 => "a.b",
+        _ => "one",
+    }
+}
+
+// What a case calls it with.
+fn arguments(alloc: Global, case: u8) -> Result<List<Read>, AllocError> {
+    match case {
+        2 | 8 => arg(alloc, Operand::Arg(0)),
+        3 => arg(alloc, Operand::Int(IntType::U8, 7)),
+        4 => args(alloc, Operand::Arg(0), Operand::Bool(true)),
+        9 => arg(alloc, Operand::Local(1)),
+        10 => arg(alloc, Operand::Arg(1)),
+        _ => Ok(no_args(alloc)),
+    }
+}
+
 // What v1 is bound to.
 fn first(alloc: Global, case: u8) -> Result<TExpr, AllocError> {
     match case {
         0 => Ok(read(Operand::Arg(0))),
-        1 => call(alloc, "maybe", no_args(alloc)),
-        2 => call(alloc, "maybe_one", arg(alloc, Operand::Arg(0))?),
-        3 => call(alloc, "one", arg(alloc, Operand::Int(IntType::U8, 7))?),
-        4 => {
-            let pair = args(alloc, Operand::Arg(0), Operand::Bool(true))?;
-            call(alloc, "two", pair)
-        }
         5 => Ok(some(Operand::Arg(0))),
-        6 => call(alloc, "other", no_args(alloc)),
-        7 => call(alloc, "one", no_args(alloc)),
-        8 => call(alloc, "maybe", arg(alloc, Operand::Arg(0))?),
-        9 => call(alloc, "one", arg(alloc, Operand::Local(1))?),
-        10 => call(alloc, "one", arg(alloc, Operand::Arg(1))?),
         11 => Ok(tried(Operand::Arg(0))),
         12 => Ok(tried(Operand::Local(1))),
-        13 => call(alloc, "a.b", no_args(alloc)),
-        _ => Ok(read(Operand::Local(2))),
+        14 => Ok(read(Operand::Local(2))),
+        _ => call(alloc, callee(case), arguments(alloc, case)?),
     }
 }
 
@@ -172,43 +184,46 @@ fn body(alloc: Global, cases: [u8; 3]) -> Result<List<Stmt>, AllocError> {
     Ok(List::new(stmts))
 }
 
+// Three cases, and whether a function of the one kind and of the other may have them.
+const JUDGED: [(u8, u8, u8, bool, bool); 32] = [
+    (1, 0, 3, false, true),
+    (1, 1, 1, false, true),
+    (1, 0, 1, false, false),
+    (1, 0, 0, false, true),
+    (1, 0, 2, false, false),
+    (1, 2, 0, false, false),
+    (1, 4, 0, false, false),
+    (1, 5, 2, false, true),
+    (1, 5, 3, false, false),
+    (2, 0, 3, false, true),
+    (3, 5, 0, true, false),
+    (3, 5, 1, false, true),
+    (3, 2, 2, true, false),
+    (3, 0, 3, false, false),
+    (4, 3, 0, true, false),
+    (4, 4, 1, false, true),
+    (4, 4, 2, false, false),
+    (0, 3, 0, true, false),
+    (0, 3, 1, false, true),
+    (5, 1, 1, false, true),
+    (5, 5, 2, false, true),
+    (6, 5, 0, false, false),
+    (7, 5, 0, false, false),
+    (8, 5, 0, false, false),
+    (9, 5, 0, false, false),
+    (10, 5, 0, false, false),
+    (11, 5, 1, false, false),
+    (12, 5, 1, false, false),
+    (13, 5, 0, false, false),
+    (14, 5, 0, false, false),
+    (1, 5, 4, false, false),
+    (1, 5, 5, false, false),
+];
+
 #[test]
 fn judges_calls(rt: HostRuntime) -> Result<(), Fail> {
     let alloc = rt.alloc();
-    for (a, b, c, plain, option) in [
-        (1, 0, 3, false, true),
-        (1, 1, 1, false, true),
-        (1, 0, 1, false, false),
-        (1, 0, 0, false, true),
-        (1, 0, 2, false, false),
-        (1, 2, 0, false, false),
-        (1, 4, 0, false, false),
-        (1, 5, 2, false, true),
-        (1, 5, 3, false, false),
-        (2, 0, 3, false, true),
-        (3, 5, 0, true, false),
-        (3, 5, 1, false, true),
-        (3, 2, 2, true, false),
-        (3, 0, 3, false, false),
-        (4, 3, 0, true, false),
-        (4, 4, 1, false, true),
-        (4, 4, 2, false, false),
-        (0, 3, 0, true, false),
-        (0, 3, 1, false, true),
-        (5, 1, 1, false, true),
-        (5, 5, 2, false, true),
-        (6, 5, 0, false, false),
-        (7, 5, 0, false, false),
-        (8, 5, 0, false, false),
-        (9, 5, 0, false, false),
-        (10, 5, 0, false, false),
-        (11, 5, 1, false, false),
-        (12, 5, 1, false, false),
-        (13, 5, 0, false, false),
-        (14, 5, 0, false, false),
-        (1, 5, 4, false, false),
-        (1, 5, 5, false, false),
-    ] {
+    for (a, b, c, plain, option) in JUDGED {
         for (kind, want) in [(ReturnKind::Plain, plain), (ReturnKind::Option, option)] {
             let p = program(alloc, kind, body(alloc, [a, b, c])?)?;
             let is = well_formed(alloc, &p)?;
@@ -258,46 +273,49 @@ fn refuses_what_is_not_built(rt: HostRuntime) -> Result<(), Fail> {
     Ok(())
 }
 
+// Three cases, the kind of their function, and its text.
+const PRINTED: [(u8, u8, u8, ReturnKind, &str); 5] = [
+    (
+        1,
+        1,
+        1,
+        ReturnKind::Option,
+        "{\n    let v1 = C::maybe(ctx);\n    let v1 = v1?;\n    return Some(v1);\n}\n",
+    ),
+    (
+        2,
+        0,
+        3,
+        ReturnKind::Option,
+        "{\n    let v1 = C::maybe_one(ctx, arg0);\n    let v2 = v1?;\n    return Some(v2);\n}\n",
+    ),
+    (
+        1,
+        5,
+        2,
+        ReturnKind::Option,
+        "{\n    let v1 = C::maybe(ctx);\n    let v2 = v1;\n    return v2;\n}\n",
+    ),
+    (
+        3,
+        2,
+        2,
+        ReturnKind::Plain,
+        "{\n    let v1 = C::one(ctx, 0x7_u8);\n    let v2 = C::one(ctx, v1);\n    return v2;\n}\n",
+    ),
+    (
+        4,
+        3,
+        0,
+        ReturnKind::Plain,
+        "{\n    let v1 = C::two(ctx, arg0, true);\n    if v1 == arg0 {\n        let v1 = C::maybe(ctx);\n    }\n    return v1;\n}\n",
+    ),
+];
+
 #[test]
 fn prints_calls(rt: HostRuntime) -> Result<(), Fail> {
     let alloc = rt.alloc();
-    for (a, b, c, kind, want) in [
-        (
-            1,
-            1,
-            1,
-            ReturnKind::Option,
-            "{\n    let v1 = C::maybe(ctx);\n    let v1 = v1?;\n    return Some(v1);\n}\n",
-        ),
-        (
-            2,
-            0,
-            3,
-            ReturnKind::Option,
-            "{\n    let v1 = C::maybe_one(ctx, arg0);\n    let v2 = v1?;\n    return Some(v2);\n}\n",
-        ),
-        (
-            1,
-            5,
-            2,
-            ReturnKind::Option,
-            "{\n    let v1 = C::maybe(ctx);\n    let v2 = v1;\n    return v2;\n}\n",
-        ),
-        (
-            3,
-            2,
-            2,
-            ReturnKind::Plain,
-            "{\n    let v1 = C::one(ctx, 0x7_u8);\n    let v2 = C::one(ctx, v1);\n    return v2;\n}\n",
-        ),
-        (
-            4,
-            3,
-            0,
-            ReturnKind::Plain,
-            "{\n    let v1 = C::two(ctx, arg0, true);\n    if v1 == arg0 {\n        let v1 = C::maybe(ctx);\n    }\n    return v1;\n}\n",
-        ),
-    ] {
+    for (a, b, c, kind, want) in PRINTED {
         let p = program(alloc, kind, body(alloc, [a, b, c])?)?;
         let good = well_formed(alloc, &p)?;
         assert!(rt; good);
