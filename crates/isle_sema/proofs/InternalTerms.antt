@@ -1,5 +1,5 @@
 -- A term with rules comes from its rules.
-use Rattle.std.proofs.Common.{◌≡◌, ℕ, ◌+◌, Bool, true, false, cond, List, [], ◌∷◌, map, Option, Some, None, refl, sym, ap, ◌∙◌}
+use Rattle.std.proofs.Common.{◌≡◌, ℕ, ◌+◌, Bool, true, false, cond, List, [], ◌∷◌, Option, Some, None, refl, sym, ap, ◌∙◌}
 use Rattle.std.specs.Prelude.{◌==◌, ◌||◌, Contains, option_map, slice_get, filter, is_some}
 use Rattle.std.specs.List.{AllByRecursion, list_any}
 use Rattle.std.specs.Str.{bytes_eq}
@@ -21,7 +21,7 @@ use Rattle.isle_sema.specs.Signatures.{Signature, Extern, RuleDef, signatures, e
 use Rattle.isle_sema.specs.Elaborated.{constructor_of, signature_named, term_or, rules_from}
 use Rattle.isle_sema.specs.Faults.{breaks, rules_fault}
 use Rattle.isle_sema.specs.Heads.{terms_of}
-use Rattle.isle_sema.specs.Typing.{env_of, Typed}
+use Rattle.isle_sema.specs.Typing.{Typed}
 use Rattle.isle_sema.proofs.LookUps.{at_place, named_at}
 use Rattle.isle_sema.proofs.Parts.{sound_rules}
 use Rattle.isle_sema.proofs.TypedExprs.{named_is}
