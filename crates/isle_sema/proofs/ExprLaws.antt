@@ -53,14 +53,14 @@ all_typed sigs names es vars i typed le h =
     ∙ ap (before (map elaborated typed)) (no_expr sigs (map type_of (drop i names)) vars) ∙ before_none (map elaborated typed))
 
 -- one expression more
-pub typed_more : (sigs : List Signature) (names : List (List ℕ)) (es : List AstExpr) (vars : List (List ℕ)) (i : ℕ) (typed more : List CodeTyped) (e d : AstExpr) (name : List ℕ) (x : CodeTyped)
-    → i < length es → e ≡ get_or es i d → slice_get names i ≡ Some name → more ≡ typed ++ x ∷ [] → elaborated x ≡ expr_at sigs (type_of name) (expr e) vars → IsTyped sigs names es vars i typed → IsTyped sigs names es vars (i + 1) more
-typed_more sigs names es vars i typed more e d name x lt is at added seen h =
+pub typed_more : (sigs : List Signature) (names : List (List ℕ)) (es : List AstExpr) (vars : List (List ℕ)) (i : ℕ) (typed more : List CodeTyped) (e d : AstExpr) (name : List ℕ) (ty : TypeId) (x : CodeTyped)
+    → i < length es → e ≡ get_or es i d → slice_get names i ≡ Some name → more ≡ typed ++ x ∷ [] → ty ≡ type_of name → elaborated x ≡ expr_at sigs ty (expr e) vars → IsTyped sigs names es vars i typed → IsTyped sigs names es vars (i + 1) more
+typed_more sigs names es vars i typed more e d name ty x lt is at added of seen h =
     let rest = left sigs names es vars (i + 1) in
     let first : left sigs names es vars i ≡ AnExpr (elaborated x) rest =
     ap (λ ns. exprs_at sigs (map type_of ns) (exprs_of (map expr (drop i es))) vars) (drop_got names i name at)
     ∙ ap (λ xs. exprs_at sigs (type_of name ∷ map type_of (drop (i + 1) names)) (exprs_of (map expr xs)) vars) (drop_more es i d lt ∙ ap (λ y. y ∷ drop (i + 1) es) (sym is))
-    ∙ ap (λ y. AnExpr y rest) (sym seen) in
+    ∙ ap (λ y. AnExpr y rest) (sym (seen ∙ ap (λ y. expr_at sigs y (expr e) vars) of)) in
     record {
       typing =
           h.typing ∙ ap (before (map elaborated typed)) first ∙ sym (before_more (map elaborated typed) (elaborated x) rest)

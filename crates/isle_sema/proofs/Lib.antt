@@ -15,6 +15,7 @@ pub mod TypedRules
 pub mod OneRule
 pub mod DeclaredNames
 pub mod TypedTerms
+pub mod InternalTerms
 pub mod PatternLaws
 pub mod ExprLaws
 pub mod VariableTypes

@@ -32,7 +32,7 @@ some_term : (f : Signature → Term) (o : Option Signature) (t : Term) → optio
 some_term f None t e = absurd cc
 some_term f (Some s) t e = (s, refl, same_Some (f s) t e)
 
-declared : (defs : List Def) (env : Environment) (i : ℕ) (t : Term) → Typed defs env → slice_get env.terms i ≡ Some t → (s : Signature) × (slice_get (signatures defs) i ≡ Some s) × (term_of (symbols defs) (externs defs) (rule_defs defs) s ≡ t)
+pub declared : (defs : List Def) (env : Environment) (i : ℕ) (t : Term) → Typed defs env → slice_get env.terms i ≡ Some t → (s : Signature) × (slice_get (signatures defs) i ≡ Some s) × (term_of (symbols defs) (externs defs) (rule_defs defs) s ≡ t)
 declared defs env i t h at =
     let f = term_of (symbols defs) (externs defs) (rule_defs defs) in
     some_term f (slice_get (signatures defs) i) t (sym (slice_get-map f (signatures defs) i) ∙ ap (λ (e : Environment). slice_get e.terms i) (sym h.given) ∙ at)

@@ -5,6 +5,8 @@ ghost use Rattle.isle_sema.specs.Symbols.{added};
 
 use crate::builtins::type_named;
 use crate::collected::{RuleDef, Signature};
+use crate::constructors::Constructors;
+use crate::declarations::Declarations;
 use crate::elaborated::elaborated;
 use crate::interning::symbols_of;
 use crate::reduced::reduced_at;
@@ -107,13 +109,17 @@ fn one_rule(alloc: Global) -> Result<TermEnv, AllocError> {
     let rhs = AstExpr::Var(text(alloc, "x")?);
     let signature = Signature {
         term: &term,
+        partial: false,
         args: args.as_slice(),
         ret: &ret,
         pos,
     };
     let rule = rule_of_priority_two(None, &term, patterns.as_slice(), &rhs);
     let types = types_of(alloc, names.as_slice())?;
-    elaborated(alloc, &types, &[signature], &[rule])
+    let signatures = [signature];
+    let declared = Declarations::new(alloc, &signatures)?;
+    let constructors = Constructors::new(alloc, &[])?;
+    elaborated(alloc, &types, &declared, &constructors, &[rule])
 }
 
 fn is_the_term(term: &Term) -> bool {

@@ -55,6 +55,12 @@ fn without_fault(rt: HostRuntime) {
         "(decl f (u8 bool) bool) (rule (f y x) x)",
         "(decl f () i128) (rule n -5 (f) -1)",
         "(decl f (u8) u8) (decl g (u8) u8) (rule (f x) x) (rule (g x) x)",
+        "(decl partial f () u8) (rule (f) 1)",
+        "(decl f (u8) u8) (extern constructor f g)",
+        "(extern constructor f g) (decl f () u8) (decl h () u8) (rule (h) (f))",
+        "(decl f (u8) u8) (decl k (u8) u8) (extern constructor f g) (extern constructor k g)",
+        "(decl f (u8 bool) u8) (extern constructor f g) (decl h (u8) u8) (rule (h x) (f (f x true) false))",
+        "(decl partial f (u8) u8) (extern constructor f g) (decl partial h (u8) u8) (rule (h x) (f x))",
     ];
     for text in texts {
         assert_eq!(rt; read(rt.alloc(), text), Terms, "at {text:?}");
@@ -100,6 +106,75 @@ fn with_a_fault(rt: HostRuntime) {
     for (text, want) in cases {
         assert_eq!(rt; read(rt.alloc(), text), want, "at {text:?}");
     }
+}
+
+#[test]
+fn with_a_fault_of_a_constructor(rt: HostRuntime) {
+    let texts = [
+        "(decl f () u8) (extern constructor f g) (extern constructor f k)",
+        "(decl f () u8) (extern constructor f g) (extern constructor f g)",
+        "(extern constructor f g)",
+        "(decl g () u8) (extern constructor f g)",
+        "(decl f () u8) (extern constructor f g) (rule (f) 1)",
+    ];
+    for text in texts {
+        assert_eq!(rt; read(rt.alloc(), text), Types, "at {text:?}");
+    }
+}
+
+#[test]
+fn with_a_fault_of_a_call(rt: HostRuntime) {
+    let texts = [
+        "(decl h () u8) (rule (h) (f))",
+        "(decl f () u8) (decl h () u8) (rule (h) (f))",
+        "(decl f () u8) (decl h () u8) (rule (f) 1) (rule (h) (f))",
+        "(decl f (u8) u8) (extern constructor f g) (decl h () u8) (rule (h) (f))",
+        "(decl f (u8) u8) (extern constructor f g) (decl h () u8) (rule (h) (f 1 2))",
+        "(decl f (u8) u8) (extern constructor f g) (decl h () u8) (rule (h) (f x))",
+        "(decl f (u8) u8) (extern constructor f g) (decl h () u8) (rule (h) (f true))",
+        "(decl f (u8) u8) (extern constructor f g) (decl h (u16) u8) (rule (h x) (f x))",
+        "(decl f (u8) u8) (extern constructor f g) (decl h () u8) (rule (h) (f (f true)))",
+        "(decl f (u8 u8) u8) (extern constructor f g) (decl h (u16) u8) (rule (h x) (f 1 x))",
+        "(decl f () u16) (extern constructor f g) (decl h () u8) (rule (h) (f))",
+        "(decl partial f () u8) (extern constructor f g) (decl h () u8) (rule (h) (f))",
+        "(decl f (u8) u8) (decl partial k () u8) (extern constructor f g) (extern constructor k g) (decl h () u8) (rule (h) (f (k)))",
+    ];
+    for text in texts {
+        assert_eq!(rt; read(rt.alloc(), text), Types, "at {text:?}");
+    }
+}
+
+/// A word as often.
+fn push_often(text: &mut String, word: &str, count: usize) -> Result<(), AllocError> {
+    for _ in 0..count {
+        text.push_str(word)?;
+    }
+    Ok(())
+}
+
+/// A rule of as many patterns, with 4,081 nodes on its right side.
+fn large(alloc: Global, count: usize) -> Result<String, AllocError> {
+    let mut text = String::from_str(alloc, "(extern constructor f f) (extern constructor k k)")?;
+    text.push_str("(decl k (u8 u8 u8 u8 u8 u8 u8 u8 u8 u8 u8 u8 u8 u8 u8) u8) (decl f (")?;
+    push_often(&mut text, "u8 ", 255)?;
+    text.push_str(") u8) (decl h (")?;
+    push_often(&mut text, "u8 ", count)?;
+    text.push_str(") u8) (rule (h ")?;
+    push_often(&mut text, "_ ", count)?;
+    text.push_str(") (f ")?;
+    push_often(&mut text, "(k 1 1 1 1 1 1 1 1 1 1 1 1 1 1 1) ", 255)?;
+    text.push_str("))")?;
+    Ok(text)
+}
+
+#[test]
+fn at_most_4096_nodes(rt: HostRuntime) -> Result<(), Fail> {
+    let cases = [(0, Terms), (15, Terms), (16, Types), (17, Types)];
+    for (count, want) in cases {
+        let text = large(rt.alloc(), count)?;
+        assert_eq!(rt; read(rt.alloc(), text.as_str()), want, "at {count}");
+    }
+    Ok(())
 }
 
 /// A declaration with as many arguments.

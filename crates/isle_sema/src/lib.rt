@@ -2,6 +2,8 @@
 #![tactic(auto)]
 
 mod builtins;
+#[cfg(test)]
+mod call_tests;
 mod calls;
 mod collected;
 mod constructors;

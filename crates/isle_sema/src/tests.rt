@@ -3,6 +3,7 @@
 use crate::{EnvError, term_env_from_ast, type_env_from_ast};
 use isle_core::{BuiltinType, IntType, List, Pos, Text, TypeDef};
 use isle_syntax::Def;
+use std::alloc::{AllocError, Global};
 use std::test::Fail;
 
 #[test]
@@ -42,6 +43,40 @@ fn numbers_the_builtin_types(rt: HostRuntime) -> Result<(), Fail> {
         let is_it = matches!(ty, TypeDef::Builtin(builtin) if *builtin == want);
         assert!(rt; is_it, "at {number}");
     }
+    Ok(())
+}
+
+/// Whether a declaration with these flags gives types.
+fn gives_types(
+    alloc: Global,
+    pure: bool,
+    multi: bool,
+    partial: bool,
+    recursive: bool,
+) -> Result<bool, AllocError> {
+    let def = Def::Decl {
+        term: Text::new(String::from_str(alloc, "f")?),
+        pure,
+        multi,
+        partial,
+        recursive,
+        args: List::new(Vec::new(alloc)),
+        ret: Text::new(String::from_str(alloc, "u8")?),
+        pos: Pos { file: 0, offset: 0 },
+    };
+    let defs = vec![in alloc; def]?;
+    Ok(type_env_from_ast(alloc, defs.as_slice()).is_ok())
+}
+
+#[test]
+fn at_most_the_flag_partial(rt: HostRuntime) -> Result<(), Fail> {
+    let alloc = rt.alloc();
+    assert!(rt; gives_types(alloc, false, false, false, false)?);
+    assert!(rt; gives_types(alloc, false, false, true, false)?);
+    assert!(rt; !gives_types(alloc, true, false, false, false)?);
+    assert!(rt; !gives_types(alloc, false, true, false, false)?);
+    assert!(rt; !gives_types(alloc, false, false, false, true)?);
+    assert!(rt; !gives_types(alloc, true, false, true, false)?);
     Ok(())
 }
 
