@@ -110,6 +110,7 @@ before_impure env v (OneFailed made) h = h
 
 mutual
   unfolding calls_in calls_in_all
+
   expr_impure : (e : Expr) (env : Environment) (m : Meaning) (names : Names) (made : List Made) → AreImpure env made → AreImpure env (calls_in (evaluated env m e names made))
   expr_impure (expr.Var ty x) env m names made h = named_impure env (names x.0) made h
   expr_impure (expr.ConstBool b) env m names made h = h

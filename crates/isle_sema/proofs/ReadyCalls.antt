@@ -115,9 +115,10 @@ module _ (env : Environment) (t : Term) (allowed : Bool) (args : List Pattern) (
     paths_stand : (es : Exprs) (n : ℕ) (tys : List TypeId) (done : List Path) → AreExprsOf env allowed args tys es → Among (calls_all env es places n) done → AllStandOn done (all_paths env es places n)
     paths_stand NoExpr n [] done h a = tt
     paths_stand (AnExpr e es) n (ty ∷ tys) done h a =
-        let n1 = n + impure env e in
-        (path_stands e n ty done h.0 (λ p c. a p (Contains-append_left (calls env e places n) (calls_all env es places n1) p c)),
-         paths_stand es n1 tys done h.1 (λ p c. a p (Contains-append_right (calls env e places n) (calls_all env es places n1) p c)))
+        let n1 = n + impure env e in (
+          path_stands e n ty done h.0 (λ p c. a p (Contains-append_left (calls env e places n) (calls_all env es places n1) p c)),
+          paths_stand es n1 tys done h.1 (λ p c. a p (Contains-append_right (calls env e places n) (calls_all env es places n1) p c)),
+        )
     paths_stand NoExpr n (ty ∷ tys) done h a = absurd h
     paths_stand (AnExpr e es) n [] done h a = absurd h
 
@@ -164,9 +165,11 @@ module _ (env : Environment) (t : Term) (allowed : Bool) (args : List Pattern) (
         let q = call_path env term qs (n + impure_all env es) in
         ready_more ps done (calls_all env es places n) (if_ordered (calling env term) q)
         (all_calls_ready es n c.0.arg_tys ps done c.2.2 same fit (λ p d. a p (Contains-append_left (exprs_paths env es places n) (with_inner (calling env term) q) p d)))
-        (λ later among made. subst (λ d. AreReadyCalls env t ps later (if_ordered d q)) (sym k.is)
-            (one_ready ps later term c.0 k qs _ c.1 (paths_typed es n c.0.arg_tys c.2.2) (paths_stand es n c.0.arg_tys later c.2.2 made) same fit
-                (λ p d. a p (Contains-append_right (exprs_paths env es places n) (with_inner (calling env term) q) p (subst (λ x. Contains (with_inner x q) p) (sym k.is) d))), tt))
+        (λ later among made. subst (λ d. AreReadyCalls env t ps later (if_ordered d q)) (sym k.is) (
+          one_ready ps later term c.0 k qs _ c.1 (paths_typed es n c.0.arg_tys c.2.2) (paths_stand es n c.0.arg_tys later c.2.2 made) same fit
+              (λ p d. a p (Contains-append_right (exprs_paths env es places n) (with_inner (calling env term) q) p (subst (λ x. Contains (with_inner x q) p) (sym k.is) d))),
+          tt,
+        ))
     calls_ready (expr.ConstPrim of name) n ty ps done h same fit a = absurd h
     calls_ready (expr.Let of bindings inner) n ty ps done h same fit a = absurd h
 
@@ -202,7 +205,7 @@ module _ (env : Environment) (t : Term) (allowed : Bool) (args : List Pattern) (
         let k = turns env allowed term c.0 c.1 c.2.0 in
         subst (λ d. AreRising n ((calls_all env es places n ++ if_ordered d (Called term (all_paths env es places n) (instance_of d (n + impure_all env es)))) ++ more)) (sym k.is)
         (call_rises (is_partial c.0.kind) (External k.name) n (impure_all env es) term (all_paths env es places n) (calls_all env es places n) more (λ after s. all_calls_rise es n c.0.arg_tys after c.2.2 s)
-            (subst (λ d. AreRising (n + one_more d (impure_all env es)) more) k.is r))
+        (subst (λ d. AreRising (n + one_more d (impure_all env es)) more) k.is r))
     calls_rise (expr.ConstPrim of name) n ty more h r = absurd h
     calls_rise (expr.Let of bindings inner) n ty more h r = absurd h
 

@@ -254,9 +254,10 @@ module _ (env : Environment) (t : Term) (ps : List Path) (fit : Fallible env ps)
   flats_ready [] n [] flat h among = tt
   flats_ready [] n (f ∷ fs) flat h among = absurd flat
   flats_ready (r ∷ rs) n [] flat h among = absurd flat
-  flats_ready (r ∷ rs) n (f ∷ fs) flat h among =
-      (flat_ready r n f flat.0 h.0 (λ p c. among p (Contains-append_left (rule_paths env r n) (rules_paths env rs (n + impure env r.rhs)) p c)),
-       flats_ready rs (n + impure env r.rhs) fs flat.1 h.1 (λ p c. among p (Contains-append_right (rule_paths env r n) (rules_paths env rs (n + impure env r.rhs)) p c)))
+  flats_ready (r ∷ rs) n (f ∷ fs) flat h among = (
+    flat_ready r n f flat.0 h.0 (λ p c. among p (Contains-append_left (rule_paths env r n) (rules_paths env rs (n + impure env r.rhs)) p c)),
+    flats_ready rs (n + impure env r.rhs) fs flat.1 h.1 (λ p c. among p (Contains-append_right (rule_paths env r n) (rules_paths env rs (n + impure env r.rhs)) p c)),
+  )
 
 -- a rule set that stands for the rules of a term is ready
 pub set_ready : (defs : List Def) (env : Environment) (id : TermId) (t : Term) (s : RuleSet) → Typed defs env → slice_get env.terms id.0 ≡ Some t → StandsFor env s (rules_of env id) → IsReady env t s
