@@ -1,14 +1,12 @@
 //! Texts of the language, and the functions that they give. Expected texts are read off `docs/TARGET.md`.
 
-use crate::runs::{compile, holds};
-use isle_core::OutOfMemory;
-use std::alloc::Global;
+use crate::runs::{compile, functions, holds};
 use std::test::Fail;
 
 /// A text of the language, the number of its functions, and what stands in the emitted text, blanks aside.
 type Compiled = (&'static str, usize, &'static str);
 
-const COMPILED: [Compiled; 44] = [
+const COMPILED: [Compiled; 45] = [
     // Blanks, comments and declarations alone give no function.
     ("", 0, "pub trait Context { } pub trait ContextIter {"),
     (
@@ -23,6 +21,11 @@ const COMPILED: [Compiled; 44] = [
     ),
     (
         "(decl a-b () u8) (decl a.b () u8) (decl \u{e9} () u8)",
+        0,
+        "pub trait Context { } pub trait ContextIter {",
+    ),
+    (
+        "(decl partial f (u8) u8)",
         0,
         "pub trait Context { } pub trait ContextIter {",
     ),
@@ -186,17 +189,6 @@ const COMPILED: [Compiled; 44] = [
     ),
 ];
 
-/// The number of functions in an emitted text.
-fn functions(text: &str) -> usize {
-    let mut count = 0;
-    for line in text.lines() {
-        if line.starts_with("pub fn constructor_") {
-            count = usize::min(count, 1_000) + 1;
-        }
-    }
-    count
-}
-
 #[test]
 fn compiles_the_language(rt: HostRuntime) -> Result<(), Fail> {
     let alloc = rt.alloc();
@@ -206,34 +198,6 @@ fn compiles_the_language(rt: HostRuntime) -> Result<(), Fail> {
         assert_eq!(rt; left.err.len(), 0, "at {text}");
         assert_eq!(rt; functions(left.out.as_str()), *count, "at {text}");
         assert!(rt; holds(alloc, left.out.as_str(), inside)?, "at {text}");
-    }
-    Ok(())
-}
-
-/// A term with as many arguments, and a rule that gives the last one.
-fn wide(alloc: Global, count: usize) -> Result<String, OutOfMemory> {
-    let mut text = String::from_str(alloc, "(decl f (")?;
-    for _ in 0..count {
-        text.push_str("u8 ")?;
-    }
-    text.push_str(") u8) (rule (f")?;
-    for _ in 1..count {
-        text.push_str(" _")?;
-    }
-    text.push_str(" x) x)")?;
-    Ok(text)
-}
-
-#[test]
-fn takes_256_arguments(rt: HostRuntime) -> Result<(), Fail> {
-    let alloc = rt.alloc();
-    for (count, status) in [(1, 0), (256, 0), (257, 14)] {
-        let text = wide(alloc, count)?;
-        let left = compile(alloc, text.as_str())?;
-        assert_eq!(rt; left.status, status, "at {count}");
-        if count == 256 {
-            assert!(rt; left.out.as_str().contains("return arg255;"));
-        }
     }
     Ok(())
 }

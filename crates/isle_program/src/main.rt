@@ -3,7 +3,11 @@
 
 mod answer;
 #[cfg(test)]
+mod call_tests;
+#[cfg(test)]
 mod compiled_tests;
+#[cfg(test)]
+mod limit_tests;
 mod lines;
 #[cfg(test)]
 mod refused_tests;

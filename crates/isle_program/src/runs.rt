@@ -48,7 +48,7 @@ pub fn run_on(
     fails: usize,
 ) -> Result<Left, OutOfMemory> {
     let words = words_of(alloc, words)?;
-    let mut out = MemSink::new(alloc, 10_000, vec![in alloc; fails]?, 10)?;
+    let mut out = MemSink::new(alloc, 1 << 17, vec![in alloc; fails]?, 10)?;
     let mut err = MemSink::new(alloc, 1_000, Vec::new(alloc), 7)?;
     let exit = run_words(alloc, words.as_slice(), &mut dir, &mut out, &mut err);
     Ok(Left {
@@ -80,4 +80,22 @@ pub fn holds(alloc: Global, text: &str, inside: &str) -> Result<bool, OutOfMemor
     let text = without_blanks(alloc, text)?;
     let inside = without_blanks(alloc, inside)?;
     Ok(text.as_str().contains(inside.as_str()))
+}
+
+/// Whether a text ends with another, blanks aside.
+pub fn ends(alloc: Global, text: &str, end: &str) -> Result<bool, OutOfMemory> {
+    let text = without_blanks(alloc, text)?;
+    let end = without_blanks(alloc, end)?;
+    Ok(text.as_str().ends_with(end.as_str()))
+}
+
+/// The number of functions in an emitted text.
+pub fn functions(text: &str) -> usize {
+    let mut count = 0;
+    for line in text.lines() {
+        if line.starts_with("pub fn constructor_") {
+            count = usize::min(count, 1_000) + 1;
+        }
+    }
+    count
 }
