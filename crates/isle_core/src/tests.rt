@@ -178,6 +178,29 @@ fn places(rt: HostRuntime) -> Result<(), Fail> {
 }
 
 #[test]
+fn places_by_prefixes(rt: HostRuntime) -> Result<(), Fail> {
+    let alloc = rt.alloc();
+    for (replaced, want) in [
+        ("", "src/a line 2"),
+        ("src/=lib/", "lib/a line 2"),
+        ("lib/=no/ src/a=A src/=S/", "A line 2"),
+        ("src/=S/ src/a=A", "S/a line 2"),
+        ("src/a=", " line 2"),
+    ] {
+        let names = words(alloc, "c src/a")?;
+        let prefixes = prefixes(alloc, replaced)?;
+        let mut dir = kept(alloc, 0, 64)?;
+        let files = Files::from_paths(alloc, &mut dir, &names, &prefixes)?;
+        let pos = Pos { file: 1, offset: 4 };
+        assert!(rt; 1 < files.file_names.as_slice().len());
+        assert!(rt; 1 < files.file_texts.as_slice().len());
+        assert!(rt; 4 <= files.file_texts.as_slice()[1].as_str().len());
+        assert_eq!(rt; pos.pretty_print_line(alloc, &files)?.as_str(), want);
+    }
+    Ok(())
+}
+
+#[test]
 fn options_and_errors(rt: HostRuntime) -> Result<(), Fail> {
     let alloc = rt.alloc();
     let options = CodegenOptions::new(alloc);
