@@ -12,31 +12,31 @@ use Rattle.isle_core.specs.declared.types.Term.{Term}
 use Rattle.isle_core.specs.declared.values.Callee.{Callee}
 use Rattle.isle_core.specs.Value.{Value, Answer, Made}
 use Rattle.isle_core.specs.Meaning.{Meaning, turn}
-use Rattle.isle_core.specs.Answered.{answer_held, answer}
+use Rattle.isle_core.specs.Answered.{answer_held}
 use Rattle.isle_core.specs.Calling.{Calling, ByTurns, ByCases, NoCall, calling, is_partial}
 use Rattle.isle_core.specs.Match.{with}
 use Rattle.isle_core.specs.Outcome.{Failure}
 use Rattle.isle_core.specs.HasType.{HaveTypes}
 use Rattle.isle_core.specs.Lawful.{AnswersFit}
 use Rattle.isle_core.specs.Path.{Path, Arg, ConstBool, ConstInt, Called, Inner, at, at_all, paths_of}
-use Rattle.isle_core.specs.Held.{Held, Absent, One, Optional, Known, held_of, inner_held, value_at, values_at}
+use Rattle.isle_core.specs.Held.{Held, Absent, One, Optional, Known, inner_held, value_at, values_at}
 use Rattle.isle_core.specs.CallRun as went
 use Rattle.isle_core.specs.CallRun.{Went, then_go, take_turn, make_call, unless_nothing}
 use Rattle.isle_core.specs.BlockRun.{bind_one, bind_all}
 use Rattle.isle_core.specs.StandsFor.{EachOnce}
-use Rattle.isle_core.specs.BlockLawful.{IsPathOf, IsOptionOf, IsInPlace, IsCall, IsPlain, IsCallBound, IsInnerBound, IsBindable, AreBindable, AreReadAs, bound_by, occurrence, occurrence_at, occurrences}
+use Rattle.isle_core.specs.BlockLawful.{IsOptionOf, IsInPlace, IsCall, IsPlain, IsBindable, AreBindable, AreReadAs, bound_by, occurrence, occurrence_at, occurrences}
 use Rattle.isle_core.specs.Rule.{Environment}
-use Rattle.isle_core.proofs.Contained.{head_contained, tail_contained, contained_cases, none_contained}
+use Rattle.isle_core.proofs.Contained.{head_contained, contained_cases, none_contained}
 use Rattle.isle_core.proofs.AnsweredByTurn.{turn_is, turn_held}
 use Rattle.isle_core.proofs.TurnKinds as turn_kind
 use Rattle.isle_target.specs.declared.tree.Read.TheVariants as read
 use Rattle.isle_target.specs.declared.tree.TExpr.{TExpr}
 use Rattle.isle_target.specs.declared.tree.TExpr.TheVariants as expr
-use Rattle.isle_target.specs.Program.{Let, Body, Then}
-use Rattle.isle_target.specs.Run.{Env, bind, value_of, read_values, Flow, Goes, Ends, then_run, on_held, run_bind, run_call, run_try, run_let, run_body}
+use Rattle.isle_target.specs.Program.{Body}
+use Rattle.isle_target.specs.Run.{Env, bind, value_of, read_values, Goes, Ends, then_run, run_bind, run_call, run_try, run_let, run_body}
 use Rattle.isle_emission.specs.Ends.{end_of}
 use Rattle.isle_emission.specs.Emitted.{AnswersBindings}
-use Rattle.isle_emission.specs.Operands.{is_bound, in_place, operand_of}
+use Rattle.isle_emission.specs.Operands.{in_place, operand_of}
 use Rattle.isle_emission.specs.Statements.{callee_of, reads, bound_expr, lets}
 use Rattle.isle_emission.proofs.BoundTests.{found}
 use Rattle.isle_emission.proofs.HeldStays.{IsThere, Grows}

@@ -1,5 +1,5 @@
 -- The statements of a block are of the forms that are built.
-use Rattle.std.proofs.Common.{◌≡◌, ◌⊎◌, ⊎_elim, ℕ, ℤ, List, [], ◌∷◌, ◌++◌, Bool, true, false, Option, Some, None, refl, sym, subst}
+use Rattle.std.proofs.Common.{◌≡◌, ⊎_elim, ℕ, ℤ, List, [], ◌∷◌, ◌++◌, Bool, true, false, Option, Some, None, refl, sym, subst}
 use Rattle.std.specs.Prelude.{IsSomeAnd, Contains, slice_get}
 use Rattle.std.specs.List.{AllByRecursion}
 use Rattle.isle_core.specs.declared.BindingId.{BindingId}
@@ -14,17 +14,16 @@ use Rattle.isle_core.specs.HasType.{IsOfDef, HasType}
 use Rattle.isle_core.specs.Constants.{int_of_def, int_value}
 use Rattle.isle_core.specs.declared.rule_sets.Binding.{Binding}
 use Rattle.isle_core.specs.declared.rule_sets.Binding.TheVariants as binding
-use Rattle.isle_core.specs.Calling.{Calling, ByTurns, ByCases, NoCall, calling}
 use Rattle.isle_core.specs.Path.{Path, Arg, ConstBool, ConstInt, at, paths_of}
 use Rattle.isle_core.specs.Block as block
 use Rattle.isle_core.specs.Block.{Block, Stop, Step, Control}
-use Rattle.isle_core.specs.BlockLawful.{IsPathOf, IsConstraintOf, IsInPlace, IsCall, IsPlain, IsReadAs, AreReadAs, IsBindable, AreBindable, IsLawfulBlock, IsLawfulControl, bound_by}
+use Rattle.isle_core.specs.BlockLawful.{IsPathOf, IsConstraintOf, IsInPlace, IsReadAs, AreReadAs, IsBindable, AreBindable, IsLawfulBlock, IsLawfulControl, bound_by}
 use Rattle.isle_core.specs.Rule.{Environment}
 use Rattle.isle_target.specs.declared.tree.Operand.{Operand}
 use Rattle.isle_target.specs.Program.{Body, Done, Then}
-use Rattle.isle_target.specs.WellFormed.{IsOperand, IsRead, IsCallee, IsExpr, IsStmt, IsBody}
+use Rattle.isle_target.specs.WellFormed.{IsOperand, IsRead, IsExpr, IsStmt, IsBody}
 use Rattle.isle_emission.specs.Operands.{constant, in_place, tested, is_bound, operand_of}
-use Rattle.isle_emission.specs.Statements.{callee_of, reads, bound_expr, lets, returned, block_body, control_stmt}
+use Rattle.isle_emission.specs.Statements.{reads, bound_expr, lets, returned, block_body, control_stmt}
 use Rattle.isle_emission.specs.TraitFns.{HasFnNames}
 use Rattle.isle_emission.proofs.BoundTests.{found}
 use Rattle.isle_emission.proofs.ExternalTerms.{callee_is}

@@ -1,7 +1,6 @@
 -- What the statements of a block read is there, and holds what is asked of it.
-use Rattle.std.proofs.Common.{◌≡◌, ◌⊎◌, ⊎_elim, ℕ, suc, List, [], ◌∷◌, ◌++◌, length, Bool, true, false, cond, eqb, ltb, Option, Some, None, map, fold, slice_get, refl, sym, ap, ◌∙◌, subst}
-use Rattle.std.specs.Prelude.{◌||◌, Contains, IsSome, IsTrue, nat_lt}
-use Rattle.std.specs.List.{list_any, list_all}
+use Rattle.std.proofs.Common.{◌≡◌, ⊎_elim, ℕ, suc, List, [], ◌∷◌, ◌++◌, length, Bool, true, false, cond, eqb, Option, Some, None, map, slice_get, refl, sym, ap, ◌∙◌, subst}
+use Rattle.std.specs.Prelude.{◌||◌, Contains, IsSome, IsTrue}
 use Rattle.std.proofs.lemmas.Bool.{eqb-true, eq-eqb, lt-ltb}
 use Rattle.std.proofs.lemmas.List.{length-map}
 use Rattle.std.proofs.lemmas.List.Folds.{list_any-append}
@@ -17,7 +16,7 @@ use Rattle.isle_core.specs.declared.types.Term.{Term}
 use Rattle.isle_core.specs.Calling.{Calling, ByTurns, ByCases, NoCall, calling, is_partial}
 use Rattle.isle_core.specs.Value.{Value, Truth, Int, Opaque, Variant, Struct}
 use Rattle.isle_core.specs.Constants.{int_value}
-use Rattle.isle_core.specs.Path.{Path, Arg, ConstBool, ConstInt, Called, Inner, at, paths_of}
+use Rattle.isle_core.specs.Path.{Path, Arg, ConstBool, ConstInt, Called, at, paths_of}
 use Rattle.isle_core.specs.Block as block
 use Rattle.isle_core.specs.Block.{Block, Stop, Step, Control}
 use Rattle.isle_core.specs.BlockLawful.{IsPathOf, IsOptionOf, IsConstraintOf, IsInPlace, IsCall, IsPlain, IsReadAs, AreReadAs, IsBindable, AreBindable, IsLawfulBlock, IsLawfulControl, bound_by}
@@ -26,13 +25,13 @@ use Rattle.isle_target.specs.declared.holds.Holds.{Holds}
 use Rattle.isle_target.specs.declared.holds.Holds.TheVariants as holds
 use Rattle.isle_target.specs.declared.tree.Operand.{Operand}
 use Rattle.isle_target.specs.Program.{Body, Done, Then}
-use Rattle.isle_target.specs.WellFormed.{Locals, newer, local_holds, operand_holds, read_holds, is_value, are_values, kind_holds, trait_fn, call_holds, callee_holds, inner_holds, expr_holds, GivesKind, behind_let, IsBodyThere}
+use Rattle.isle_target.specs.WellFormed.{Locals, newer, local_holds, operand_holds, is_value, are_values, kind_holds, call_holds, callee_holds, inner_holds, expr_holds, GivesKind, behind_let, IsBodyThere}
 use Rattle.isle_emission.specs.Operands.{constant, in_place, tested, is_bound, operand_of}
 use Rattle.isle_emission.specs.Statements.{callee_of, reads, bound_expr, lets, returned, block_body, control_stmt}
 use Rattle.isle_emission.specs.TermFunction.{parameter, kind_of}
 use Rattle.isle_emission.specs.TraitFns.{trait_fns_of, HasFnNames}
 use Rattle.isle_emission.proofs.BoundTests.{found}
-use Rattle.isle_emission.proofs.ExternalTerms.{IsExternalTerm, external_term, term_fn_found}
+use Rattle.isle_emission.proofs.ExternalTerms.{external_term, term_fn_found}
 
 -- ---- operands
 

@@ -1,23 +1,21 @@
 -- Terms with external constructors, and their functions of the trait.
 use Rattle.std.proofs.Common.{◌≡◌, ◌⊎◌, inl, inr, ⊎_elim, ℕ, zero, suc, List, [], ◌∷◌, Bool, true, false, cond, Option, Some, None, refl, sym, ap, ◌∙◌, subst}
-use Rattle.std.specs.Prelude.{Contains, slice_get, map, option_map}
+use Rattle.std.specs.Prelude.{Contains, slice_get, option_map}
 use Rattle.std.specs.List.{cons_option}
-use Rattle.std.specs.List.{AllByRecursion, IsDistinct}
+use Rattle.std.specs.List.{IsDistinct}
 use Rattle.std.specs.Str.{bytes_eq}
 use Rattle.std.specs.Cmp.Lexicographic.{nat_list_eq_equiv}
 use Rattle.std.proofs.lemmas.List.Elements.{All-contains, All-from_recursion}
 use Rattle.isle_base.specs.declared.ids.Sym.{Sym}
 use Rattle.isle_core.specs.declared.TermId.{TermId}
-use Rattle.isle_core.specs.declared.types.ConstructorKind.{ConstructorKind}
 use Rattle.isle_core.specs.declared.types.ConstructorKind.TheVariants as constructor
 use Rattle.isle_core.specs.declared.types.Term.{Term}
 use Rattle.isle_core.specs.declared.types.TermKind.{TermKind}
 use Rattle.isle_core.specs.declared.types.TermKind.TheVariants as kind
-use Rattle.isle_core.specs.declared.values.Callee.{Callee}
-use Rattle.isle_core.specs.declared.values.Callee.TheVariants.{External, Internal}
-use Rattle.isle_core.specs.Calling.{Calling, ByTurns, ByCases, NoCall, calling, calling_of, calling_by, pure_callee, is_partial}
-use Rattle.isle_core.specs.Terms.{sym_text, callee_by, impure_callee}
-use Rattle.isle_core.specs.BlockLawful.{IsExternal, IsCall}
+use Rattle.isle_core.specs.declared.values.Callee.TheVariants.{External}
+use Rattle.isle_core.specs.Calling.{Calling, calling, calling_of, calling_by, pure_callee, is_partial}
+use Rattle.isle_core.specs.Terms.{sym_text, impure_callee}
+use Rattle.isle_core.specs.BlockLawful.{IsCall}
 use Rattle.isle_core.specs.Rule.{Environment}
 use Rattle.isle_core.proofs.Contained.{head_contained, tail_contained, contained_cases, none_contained}
 use Rattle.isle_target.specs.declared.tree.TraitFn.{TraitFn}

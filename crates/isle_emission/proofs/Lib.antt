@@ -21,3 +21,4 @@ pub mod Roots
 pub mod EmittedLaws
 pub mod SampleEmission
 pub mod TraitFnForms
+pub mod CallEmission

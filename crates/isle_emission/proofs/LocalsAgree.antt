@@ -1,5 +1,5 @@
 -- The locals that are bound hold what stands at the paths of their bindings.
-use Rattle.std.proofs.Common.{◌≡◌, ◌⊎◌, ⊎_elim, ℕ, List, [], ◌∷◌, ◌++◌, Bool, true, false, cond, eqb, Option, Some, None, refl, sym, ap, ◌∙◌, subst}
+use Rattle.std.proofs.Common.{◌≡◌, ⊎_elim, ℕ, List, [], ◌∷◌, ◌++◌, Bool, true, false, cond, eqb, Option, Some, refl, sym, ap, ◌∙◌, subst}
 use Rattle.std.specs.Prelude.{◌||◌, Contains}
 use Rattle.std.proofs.lemmas.Bool.{eqb-true}
 use Rattle.std.proofs.lemmas.List.Folds.{list_any-append}
@@ -11,9 +11,9 @@ use Rattle.isle_core.specs.declared.types.Term.{Term}
 use Rattle.isle_core.specs.Value.{Value}
 use Rattle.isle_core.specs.Meaning.{Meaning}
 use Rattle.isle_core.specs.HasType.{HaveTypes}
-use Rattle.isle_core.specs.Path.{Path, Paths, at, at_all, paths_of}
+use Rattle.isle_core.specs.Path.{Path, at, at_all, paths_of}
 use Rattle.isle_core.specs.Held.{Held, Absent, One, Optional, Known, value_before, value_at, values_at}
-use Rattle.isle_core.specs.BlockLawful.{IsPathOf, IsOptionOf, IsInPlace, IsReadAs, AreReadAs}
+use Rattle.isle_core.specs.BlockLawful.{IsPathOf, IsOptionOf, IsReadAs, AreReadAs}
 use Rattle.isle_core.specs.Rule.{Environment}
 use Rattle.isle_target.specs.Run.{Env, newer, look, bind, value_of, read_values}
 use Rattle.isle_emission.specs.Operands.{is_bound, operand_of}

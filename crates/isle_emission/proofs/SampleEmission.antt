@@ -27,7 +27,7 @@ use Rattle.isle_emission.specs.MayEmit.{AtTerm, MayEmit}
 use Rattle.isle_emission.specs.TraitFns.{trait_fns_in, HasFnNames}
 use Rattle.isle_emission.specs.Samples.{u8, first, second, sample_match, declared_at, sample_types, sample_names, sample_term, sample_terms, sample_id, sample_bindings, sample_block}
 
-is_seven : (env : Environment) → env.types.types ≡ sample_types → HasType env (int_value env u8 (pos 7)) u8
+pub is_seven : (env : Environment) → env.types.types ≡ sample_types → HasType env (int_value env u8 (pos 7)) u8
 is_seven env types = subst (λ (ds : List TypeDef). IsSomeAnd (slice_get ds 1) (λ d. IsOfDef d (int_of_def (slice_get ds 1) (pos 7)))) (sym types) (refl, omega arith)
 
 is_u8 : (env : Environment) → env.types.types ≡ sample_types → IsBuiltinType env u8
@@ -58,7 +58,7 @@ no_fns env terms = record {
   distinct = subst (λ ts. IsDistinct bytes_eq (fn_names (trait_fns_in env ts))) (sym terms) tt;
 }
 
-emittable : (env : Environment) (name : ℕ) (partial : Bool) → env.types.types ≡ sample_types → IsTrue (list_all is_word_byte (slice_index_or env.types.syms name [])) → IsEmittable env (sample_term name partial)
+pub emittable : (env : Environment) (name : ℕ) (partial : Bool) → env.types.types ≡ sample_types → IsTrue (list_all is_word_byte (slice_index_or env.types.syms name [])) → IsEmittable env (sample_term name partial)
 emittable env name partial types is_name = record { name = is_name; types = (is_u8 env types, (is_u8 env types, (is_u8 env types, tt))) }
 
 may_emit : (files : Files) (env : Environment) (partial ends : Bool) → LiesIn files declared_at → env.types.types ≡ sample_types → env.types.syms ≡ sample_names → env.terms ≡ sample_terms

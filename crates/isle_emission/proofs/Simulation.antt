@@ -1,18 +1,18 @@
 -- The function of a term runs as its block.
-use Rattle.std.proofs.Common.{◌≡◌, ℕ, List, [], Bool, true, false, cond, Option, Some, None, refl, sym, ap, ◌∙◌, subst}
+use Rattle.std.proofs.Common.{◌≡◌, ℕ, List, [], Bool, true, false, cond, Some, None, refl, sym, ap, ◌∙◌, subst}
 use Rattle.std.specs.Prelude.{Contains}
 use Rattle.isle_core.specs.declared.BindingId.{BindingId}
 use Rattle.isle_core.specs.declared.files.Files.{Files}
 use Rattle.isle_core.specs.declared.rule_sets.Binding.{Binding}
 use Rattle.isle_core.specs.declared.types.Term.{Term}
-use Rattle.isle_core.specs.Value.{Value, Answer, Made}
+use Rattle.isle_core.specs.Value.{Value, Made}
 use Rattle.isle_core.specs.SameValue.{same_value}
 use Rattle.isle_core.specs.Meaning.{Meaning}
 use Rattle.isle_core.specs.HasType.{HaveTypes}
 use Rattle.isle_core.specs.Calling.{is_partial}
 use Rattle.isle_core.specs.Outcome.{Value', Prescription}
-use Rattle.isle_core.specs.Path.{at, paths_of}
-use Rattle.isle_core.specs.Held.{One, Known, nothing_known, meets, equal_held}
+use Rattle.isle_core.specs.Path.{paths_of}
+use Rattle.isle_core.specs.Held.{One, Known, nothing_known, meets}
 use Rattle.isle_core.specs.Places.{place_in}
 use Rattle.isle_core.specs.Block as block
 use Rattle.isle_core.specs.Block.{Block, Stop, Step, Control}
@@ -21,7 +21,7 @@ use Rattle.isle_core.specs.CallRun.{Went, then_go}
 use Rattle.isle_core.specs.RuleSet.{gave}
 use Rattle.isle_core.specs.BlockRun.{bind_all, block_run, control_run}
 use Rattle.isle_core.specs.StandsFor.{EachOnce}
-use Rattle.isle_core.specs.BlockLawful.{IsReadAs, IsInPlace, bound_by, occurrences, MakesOnce, IsLawfulBlock, IsLawfulControl}
+use Rattle.isle_core.specs.BlockLawful.{bound_by, occurrences, MakesOnce, IsLawfulBlock, IsLawfulControl}
 use Rattle.isle_core.specs.Terms.{sym_text}
 use Rattle.isle_core.specs.Rule.{Environment}
 use Rattle.isle_core.proofs.Contained.{none_contained}
@@ -30,13 +30,13 @@ use Rattle.isle_target.specs.Program.{Tail, Body, Done, Then}
 use Rattle.isle_target.specs.Run.{Env, value_of, Flow, Goes, Ends, then_run, behind, run_return, run_stmt, run_body, ended, function_run}
 use Rattle.isle_emission.specs.Ends.{end_of}
 use Rattle.isle_emission.specs.Operands.{operand_of}
-use Rattle.isle_emission.specs.Statements.{returned, lets, block_body, control_stmt}
+use Rattle.isle_emission.specs.Statements.{returned, block_body, control_stmt}
 use Rattle.isle_emission.specs.TermFunction.{ends_in_return, mark_of, tail_of, term_function}
 use Rattle.isle_emission.specs.Emitted.{AnswersBindings, RunsAsBlock}
 use Rattle.isle_emission.proofs.HeldStays.{Grows}
 use Rattle.isle_emission.proofs.PathValues.{constraint_tests}
 use Rattle.isle_emission.proofs.LocalsAgree.{Agree, none_agree, agree_later, operand_reads}
-use Rattle.isle_emission.proofs.BindsRun.{AreNew, Keeps, LetsRun, lets_run}
+use Rattle.isle_emission.proofs.BindsRun.{Keeps, LetsRun, lets_run}
 
 -- ---- ends
 

@@ -10,7 +10,7 @@ use Rattle.isle_core.specs.Rule.{Environment}
 use Rattle.isle_target.specs.declared.tree.TraitFn.{TraitFn}
 use Rattle.isle_target.specs.Identifier.{IsIdentifier}
 use Rattle.isle_target.specs.WellFormed.{IsTraitFn}
-use Rattle.isle_emission.specs.TraitFns.{fn_for, func_of, trait_fn_of, trait_fns_in}
+use Rattle.isle_emission.specs.TraitFns.{fn_for, func_of, trait_fns_in}
 use Rattle.isle_emission.proofs.TermNames.{type_is_builtin, params_are}
 use Rattle.isle_emission.proofs.WellFormedFunctions.{kind_is}
 

@@ -1,6 +1,6 @@
 -- How the run of a term's function ends.
-use Rattle.std.specs.Prelude.{List, Bool, true, false, filter}
-use Rattle.isle_core.specs.Value.{Made, End, Gives, GivesSome, GivesNone, IsUnreachable}
+use Rattle.std.specs.Prelude.{Bool, true, false}
+use Rattle.isle_core.specs.Value.{End, Gives, GivesSome, GivesNone, IsUnreachable}
 use Rattle.isle_core.specs.Outcome.{Result, Value', Failure, Unmatched}
 
 -- how a run ends that has the result: of a partial term in an option

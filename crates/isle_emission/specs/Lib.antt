@@ -13,3 +13,4 @@ pub mod BodyOnto
 pub mod LineStarts
 pub mod MayEmit
 pub mod Samples
+pub mod CallSamples

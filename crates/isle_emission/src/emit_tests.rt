@@ -17,15 +17,15 @@ use std::alloc::{AllocError, Global};
 use std::test::Fail;
 
 /// The first argument, and the second one.
-const FIRST: BindingId = BindingId(0);
+pub const FIRST: BindingId = BindingId(0);
 
-const SECOND: BindingId = BindingId(1);
+pub const SECOND: BindingId = BindingId(1);
 
 /// The type of the arguments and the results.
-const U8: TypeId = TypeId(1);
+pub const U8: TypeId = TypeId(1);
 
 /// Where all terms are declared: in the third line.
-const DECLARED: Pos = Pos { file: 0, offset: 2 };
+pub const DECLARED: Pos = Pos { file: 0, offset: 2 };
 
 const ALL_ENDS: &str = "
 pub fn constructor_all<C: Context>(ctx: &mut C, arg0: u8, arg1: u8,) -> u8 {
@@ -75,7 +75,8 @@ pub fn constructor_some<C: Context>(ctx: &mut C, arg0: u8, arg1: u8,) -> Option<
 }
 ";
 
-fn texts(alloc: Global, words: &[&str]) -> Result<List<Text>, AllocError>
+/// Words as texts.
+pub fn texts(alloc: Global, words: &[&str]) -> Result<List<Text>, AllocError>
     ensures { IfOk result (λ texts. texts ≡ map (λ word. word.now) words.now) }
 {
     let mut texts = Vec::new(alloc);
@@ -85,7 +86,8 @@ fn texts(alloc: Global, words: &[&str]) -> Result<List<Text>, AllocError>
     Ok(List::new(texts))
 }
 
-fn files(alloc: Global) -> Result<Files, AllocError>
+/// One file, in which the terms are declared.
+pub fn files(alloc: Global) -> Result<Files, AllocError>
     ensures { IfOk result (λ files. LiesIn files Samples.declared_at) }
 {
     Ok(Files {
@@ -94,22 +96,30 @@ fn files(alloc: Global) -> Result<Files, AllocError>
     })
 }
 
-fn typeenv(alloc: Global) -> Result<TypeEnv, AllocError>
-    ensures types { IfOk result (λ env. env.types ≡ Samples.sample_types) }
-    ensures names { IfOk result (λ env. env.syms ≡ Samples.sample_names) }
+/// bool and u8.
+pub fn types(alloc: Global) -> Result<List<TypeDef>, AllocError>
+    ensures { IfOk result (λ types. types ≡ Samples.sample_types) }
 {
     let types = vec![in alloc;
         TypeDef::Builtin(BuiltinType::Bool),
         TypeDef::Builtin(BuiltinType::Int(IntType::U8)),
     ]?;
+    Ok(List::new(types))
+}
+
+fn typeenv(alloc: Global) -> Result<TypeEnv, AllocError>
+    ensures types { IfOk result (λ env. env.types ≡ Samples.sample_types) }
+    ensures names { IfOk result (λ env. env.syms ≡ Samples.sample_names) }
+{
     Ok(TypeEnv {
         syms: texts(alloc, &["all", "some"])?,
-        types: List::new(types),
+        types: types(alloc)?,
         consts: List::new(Vec::new(alloc)),
     })
 }
 
-fn term(alloc: Global, name: usize, partial: bool) -> Result<Term, AllocError>
+/// A term that has rules, by its name.
+pub fn term(alloc: Global, name: usize, partial: bool) -> Result<Term, AllocError>
     ensures { IfOk result (λ t. t ≡ Samples.sample_term name partial) }
 {
     Ok(Term {
@@ -154,7 +164,11 @@ fn rules(alloc: Global) -> Result<RuleSet, AllocError>
 
 /// A step behind bindings.
 #[tactic(auto, using(isle_core::proofs::SeesBlocks::sees_blocks))]
-fn step(alloc: Global, bind_order: &[BindingId], check: ControlFlow) -> Result<EvalStep, AllocError>
+pub fn step(
+    alloc: Global,
+    bind_order: &[BindingId],
+    check: ControlFlow,
+) -> Result<EvalStep, AllocError>
     ensures { IfOk result (λ s. BlockViews.step s ≡ (bind_order.now, BlockViews.control check)) }
 {
     Ok(EvalStep {
@@ -165,7 +179,7 @@ fn step(alloc: Global, bind_order: &[BindingId], check: ControlFlow) -> Result<E
 
 /// A block of one step that binds nothing.
 #[tactic(auto, using(isle_core::proofs::SeesBlocks::sees_blocks))]
-fn alone(alloc: Global, check: ControlFlow) -> Result<Block, AllocError>
+pub fn alone(alloc: Global, check: ControlFlow) -> Result<Block, AllocError>
     ensures { IfOk result (λ b. BlockViews.block b ≡ Samples.alone (BlockViews.control check)) }
 {
     let steps = vec![in alloc; step(alloc, &[], check)?]?;
@@ -174,8 +188,9 @@ fn alone(alloc: Global, check: ControlFlow) -> Result<Block, AllocError>
     })
 }
 
+/// A step that returns this value.
 #[tactic(auto, using(isle_core::proofs::SeesBlocks::sees_blocks))]
-fn returned(value: BindingId) -> ControlFlow
+pub fn returned(value: BindingId) -> ControlFlow
     ensures { BlockViews.control result ≡ Blocks.Return Samples.declared_at value }
 {
     ControlFlow::Return {

@@ -2,6 +2,8 @@
 #![tactic(auto)]
 
 mod bound;
+#[cfg(test)]
+mod call_emit_tests;
 mod calls;
 mod context;
 mod emit;
