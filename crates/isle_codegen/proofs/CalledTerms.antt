@@ -81,7 +81,7 @@ rules_of_called [] env n term qs k c = absurd (none_contained (Called term qs k)
 rules_of_called (r ∷ rules) env n term qs k c =
     both_of (called (r ∷ rules)) (rule_paths env r n) (rules_paths env rules (n + impure env r.rhs))
     (both_of (called (r ∷ rules)) (arg_paths r.args 0) (expr_paths env r.rhs (rule_places r) n) (args_of (called (r ∷ rules)) r.args 0)
-        (wider (called_in r) (called (r ∷ rules)) (expr_paths env r.rhs (rule_places r) n) (λ t d. Contains-append_left (called_in r) (called rules) t d) (expr_of r.rhs env (rule_places r) n (args_argument r.args 0 no_places (λ z. tt)))))
+    (wider (called_in r) (called (r ∷ rules)) (expr_paths env r.rhs (rule_places r) n) (λ t d. Contains-append_left (called_in r) (called rules) t d) (expr_of r.rhs env (rule_places r) n (args_argument r.args 0 no_places (λ z. tt)))))
     (wider (called rules) (called (r ∷ rules)) (rules_paths env rules (n + impure env r.rhs)) (λ t d. Contains-append_right (called_in r) (called rules) t d) (rules_of_called rules env (n + impure env r.rhs))) term qs k c
 
 -- ---- bindings

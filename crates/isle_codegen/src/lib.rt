@@ -9,8 +9,8 @@ mod tests;
 mod text;
 mod tree;
 
-pub use isle_emission::emit_term;
 pub use files::{FileError, from_files};
+pub use isle_emission::emit_term;
 pub use names::{NameError, NameUse};
 pub use text::codegen;
 pub use tree::codegen_tree;

@@ -11,8 +11,8 @@ ghost use Rattle.isle_codegen.specs.Headline.{FunctionsMean};
 ghost use Rattle.isle_emission.specs.LineStarts.{starts_of};
 
 use isle_blocks::serialize;
-use isle_emission::{Context, LineStarts, is_partial, term_function, trait_fns};
 use isle_core::{CodegenOptions, Files, List, OutOfMemory, RuleSet, TermEnv, TermId, TypeEnv};
+use isle_emission::{Context, LineStarts, is_partial, term_function, trait_fns};
 use isle_target::{Function, Program};
 use std::alloc::Global;
 
