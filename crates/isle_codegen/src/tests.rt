@@ -1,7 +1,7 @@
 //! What files give: the texts' first lines, and the failures. Every expected value is worked out by hand.
 
 ghost use Rattle.std.specs.Prelude.{◌≡◌, IfOk};
-ghost use Rattle.isle_codegen.specs.Built.{IsBuilt};
+ghost use Rattle.isle_emission.specs.Built.{IsBuilt};
 
 use crate::{FileError, from_files};
 use isle_core::{CodegenOptions, IoCause, List, MemDir, Prefix, Text};
@@ -20,7 +20,8 @@ enum Why {
 /// A directory of files, in which the calls of these numbers fail.
 fn kept(alloc: Global, fails: &[usize]) -> Result<MemDir, Fail> {
     let names = [
-        "empty", "src/a", "src/b", "x\ny", "x\u{7f}", "bad\ny", "decl", "open",
+        "empty", "src/a", "src/b", "x\ny", "x\u{7f}", "bad\ny", "decl", "open", "e", "k",
+        "calls e", "fn",
     ];
     let texts = [
         "",
@@ -31,6 +32,10 @@ fn kept(alloc: Global, fails: &[usize]) -> Result<MemDir, Fail> {
         "",
         "(decl pure X (u8) u8)",
         "(;",
+        "(decl e () u8) (extern constructor e g)",
+        "(decl k () u8) (extern constructor k g)",
+        "(decl f () u8) (rule (f) (e))",
+        "(decl k () u8) (extern constructor k fn)",
     ];
     let mut files = Vec::new(alloc);
     for (name, text) in names.iter().zip(texts) {
@@ -94,7 +99,7 @@ fn names_the_files(rt: HostRuntime) -> Result<(), Fail> {
 ";
     let cases: [(&[&str], &str); 5] = [
         (&[], ""),
-        (&["empty"], "// - empty\n"),
+        (&["calls e", "e"], "// - calls e\n// - e\n"),
         (&["src/a", "src/b"], "// - lib/a\n// - lib/b\n"),
         (
             &["src/b", "empty", "src/b"],
@@ -115,11 +120,14 @@ fn names_the_files(rt: HostRuntime) -> Result<(), Fail> {
 
 #[test]
 fn says_why_not(rt: HostRuntime) -> Result<(), Fail> {
-    let cases: [(&[&str], &[usize], Why); 11] = [
+    let cases: [(&[&str], &[usize], Why); 14] = [
         (&["empty", "x\ny"], &[], Why::NotYet),
         (&["x\u{7f}"], &[], Why::NotYet),
         (&["src/a", "decl"], &[], Why::NotYet),
         (&["open"], &[], Why::NotYet),
+        (&["calls e"], &[], Why::NotYet),
+        (&["e", "k"], &[], Why::NotYet),
+        (&["fn"], &[], Why::NotYet),
         (&["src/a", "gone"], &[], Why::Io(1, IoCause::Absent)),
         (&["decl", "gone"], &[], Why::Io(1, IoCause::Absent)),
         (&["x\ny", "open", "gone"], &[], Why::Io(2, IoCause::Absent)),
