@@ -29,6 +29,7 @@ pub mod BlockRun
 pub mod BlockLawful
 pub mod Ready
 pub mod Lawful
+pub mod Having
 pub mod Printed
 pub mod Inputs
 pub mod Places

@@ -31,12 +31,15 @@ mod trait_tests;
 mod tree;
 
 pub use bound::Bound;
+pub use callees::Callees;
 pub use distinct::are_apart;
 pub use forms::well_formed;
 pub use holds::Holds;
 pub use identifier::is_identifier;
 pub use literal::{rust_int_literal, type_name};
+pub use names::int_type_named;
 pub use print::print_program;
+pub use shapes::is_held;
 pub use tree::{
     Function, Operand, Program, Read, Stmt, TBind, TCall, TExpr, TFields, TPat, TraitFn, Ty,
     TypeBody, TypeItem,

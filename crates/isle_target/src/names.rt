@@ -38,8 +38,8 @@ fn is_same(a: &str, b: &str) -> bool
     a == b
 }
 
-// The integer type of the name.
-fn int_type_named(name: &str) -> Option<IntType>
+/// The integer type of the name.
+pub fn int_type_named(name: &str) -> Option<IntType>
     ensures { result ≡ type_named name.now }
 {
     if is_same("u8", name) {

@@ -10,8 +10,8 @@ use crate::identifier::is_identifier;
 use crate::tree::{Operand, Read, Stmt, TCall, TExpr};
 use isle_core::{Callee, IntType};
 
-// Whether the number is one of the type, as a value holds it.
-fn is_held(ty: IntType, val: i128) -> bool
+/// Whether the number is one of the type, as a value holds it.
+pub fn is_held(ty: IntType, val: i128) -> bool
     ensures { IsTrue result ↔ IsHeld ty val }
 {
     match ty {
