@@ -1,13 +1,12 @@
 -- Tokens begin and end between characters.
-use Rattle.std.proofs.Common.{map, ◌++◌, ◌≡◌, ℕ, zero, suc, ◌+◌, ◌<◌, ◌≤◌, List, length, take, get_or, Bool, true, false, not, refl, sym, ap, ◌∙◌, subst, arith}
+use Rattle.std.proofs.Common.{◌++◌, ◌≡◌, ℕ, zero, suc, ◌+◌, ◌<◌, ◌≤◌, List, [], ◌∷◌, length, take, get_or, Bool, true, false, not, refl, sym, subst, arith}
 use Rattle.std.specs.Prelude.{IsCharBoundary, ◌==◌, if◌then◌else◌}
 use Rattle.std.specs.Str.{IsUtf8}
 use Rattle.std.proofs.lemmas.Str.{IsCharBoundary-start, IsCharBoundary-end, IsCharBoundary-before_ascii, IsCharBoundary-after_ascii}
-use Rattle.std.proofs.lemmas.List.{take_all, map-append}
+use Rattle.std.proofs.lemmas.List.{take_all}
 use Rattle.std.proofs.lemmas.Bool.Decides.{nat_tests}
-use Rattle.isle_syntax.specs.Token.{State, Between, InWord, AfterOpen, AfterSingle, InLine, InComment, Seen, Other, OpenSeen, SemicolonSeen, is_blank, is_single, is_word_byte, begun, seen_after, closed, in_comment, ends, ended, next, pending, scan}
-use Rattle.isle_syntax.specs.Lexeme.{Lexeme, lexeme, lexemes}
-use Rattle.isle_syntax.specs.Cuts.{PendingIsCut}
+use Rattle.isle_syntax.specs.Token.{Tok, State, Between, InWord, AfterOpen, AfterSingle, InLine, InComment, Seen, Other, OpenSeen, SemicolonSeen, is_blank, is_single, is_word_byte, begun, seen_after, closed, in_comment, ends, ended, next, pending, scan, tokens_of}
+use Rattle.isle_syntax.specs.Cuts.{AreCuts}
 use Rattle.isle_syntax.proofs.Scans.{state-more, tokens-more, scan-at}
 
 -- where what was begun begins
@@ -92,29 +91,40 @@ module _ (text : List ℕ) (at : ℕ) (utf8 : IsUtf8 text) (inside : at < length
   starts_next (InComment from outer seen) h = starts_comment from outer seen
 
   -- a token that ends here is a part of the text
-  pub ended_cut : (state : State) → Starts text state at → ends state (get_or text at 0) ≡ true → PendingIsCut text state at
+  ended_cut : (state : State) → Starts text state at → ends state (get_or text at 0) ≡ true → AreCuts text (pending state at)
   ended_cut Between h e = tt
-  ended_cut (InWord from) h e = record {
-    some = h.0;
-    within = omega (arith, inside);
-    begins = h.1;
-    ends = IsCharBoundary-before_ascii text at inside (word_ascii (get_or text at 0) (not_true (is_word_byte (get_or text at 0)) e));
-  }
+  ended_cut (InWord from) h e = (
+    record {
+      some = h.0;
+      within = omega (arith, inside);
+      begins = h.1;
+      ends = IsCharBoundary-before_ascii text at inside (word_ascii (get_or text at 0) (not_true (is_word_byte (get_or text at 0)) e));
+    },
+    tt,
+  )
     where
       not_true : (b : Bool) → not b ≡ true → b ≡ false
       not_true true e = cc
       not_true false e = refl
-  ended_cut (AfterOpen from) h e = record { some = omega arith; within = omega (arith, h.0, inside); begins = h.1; ends = subst (IsCharBoundary text) (sym h.0) h.2 }
-  ended_cut (AfterSingle from) h e = record { some = omega arith; within = omega (arith, h.0, inside); begins = h.1; ends = subst (IsCharBoundary text) (sym h.0) h.2 }
+  ended_cut (AfterOpen from) h e = (record { some = omega arith; within = omega (arith, h.0, inside); begins = h.1; ends = subst (IsCharBoundary text) (sym h.0) h.2 }, tt)
+  ended_cut (AfterSingle from) h e = (record { some = omega arith; within = omega (arith, h.0, inside); begins = h.1; ends = subst (IsCharBoundary text) (sym h.0) h.2 }, tt)
   ended_cut InLine h e = tt
   ended_cut (InComment from outer seen) h e = tt
 
+  -- and so where a byte may end it
+  any_cut : (state : State) → Starts text state at → AreCuts text (ended state at (get_or text at 0))
+  any_cut state h = by (ends state (get_or text at 0)) refl
+    where
+      by : (e : Bool) → ends state (get_or text at 0) ≡ e → AreCuts text (if e then pending state at else [])
+      by true e = ended_cut state h e
+      by false e = tt
+
 -- where the text ends
-last_cut : (text : List ℕ) (state : State) → Starts text state (length text) → PendingIsCut text state (length text)
+last_cut : (text : List ℕ) (state : State) → Starts text state (length text) → AreCuts text (pending state (length text))
 last_cut text Between h = tt
-last_cut text (InWord from) h = record { some = h.0; within = omega arith; begins = h.1; ends = IsCharBoundary-end text }
-last_cut text (AfterOpen from) h = record { some = omega arith; within = omega (arith, h.0); begins = h.1; ends = subst (IsCharBoundary text) (sym h.0) h.2 }
-last_cut text (AfterSingle from) h = record { some = omega arith; within = omega (arith, h.0); begins = h.1; ends = subst (IsCharBoundary text) (sym h.0) h.2 }
+last_cut text (InWord from) h = (record { some = h.0; within = omega arith; begins = h.1; ends = IsCharBoundary-end text }, tt)
+last_cut text (AfterOpen from) h = (record { some = omega arith; within = omega (arith, h.0); begins = h.1; ends = subst (IsCharBoundary text) (sym h.0) h.2 }, tt)
+last_cut text (AfterSingle from) h = (record { some = omega arith; within = omega (arith, h.0); begins = h.1; ends = subst (IsCharBoundary text) (sym h.0) h.2 }, tt)
 last_cut text InLine h = tt
 last_cut text (InComment from outer seen) h = tt
 
@@ -126,22 +136,25 @@ starts_at text utf8 (suc i) le =
     subst (λ n. Starts text (scan (take n text)).state n) (sym one)
     (subst (λ state. Starts text state (i + 1)) (sym (state-more text i l)) (starts_next text i utf8 l (scan (take i text)).state (starts_at text utf8 i (omega arith))))
 
--- each token that ends in the text is a part of it
-pub cut_at : (text : List ℕ) → IsUtf8 text → (i : ℕ) → i < length text → ends (scan (take i text)).state (get_or text i 0) ≡ true → PendingIsCut text (scan (take i text)).state i
-cut_at text utf8 i l e = ended_cut text i utf8 l (scan (take i text)).state (starts_at text utf8 i (omega (arith, l))) e
+both_cut : (text : List ℕ) (ts us : List Tok) → AreCuts text ts → AreCuts text us → AreCuts text (ts ++ us)
+both_cut text [] us h k = k
+both_cut text (t ∷ ts) us h k = (h.0, both_cut text ts us h.1 k)
 
--- and so is the last one
-pub cut_at_end : (text : List ℕ) → IsUtf8 text → PendingIsCut text (scan text).state (length text)
-cut_at_end text utf8 = last_cut text (scan text).state (subst (λ t. Starts text (scan t).state (length text)) (take_all (length text) text (omega arith)) (starts_at text utf8 (length text) (omega arith)))
+cuts_at : (text : List ℕ) → IsUtf8 text → (i : ℕ) → i ≤ length text → AreCuts text (scan (take i text)).tokens
+cuts_at text utf8 zero le = tt
+cuts_at text utf8 (suc i) le =
+    let one : suc i ≡ i + 1 = omega arith in
+    let l : i < length text = omega arith in
+    subst (λ n. AreCuts text (scan (take n text)).tokens) (sym one)
+    (subst (AreCuts text) (sym (tokens-more text i l))
+    (both_cut text (scan (take i text)).tokens (ended (scan (take i text)).state i (get_or text i 0)) (cuts_at text utf8 i (omega arith))
+    (any_cut text i utf8 l (scan (take i text)).state (starts_at text utf8 i (omega arith)))))
 
--- a byte more, seen as tokens with their bytes
-pub lexemes-more : (text : List ℕ) (i : ℕ) (state : State) (b : ℕ) (old new : List Lexeme) → i < length text → state ≡ (scan (take i text)).state → b ≡ get_or text i 0
-    → old ≡ map (lexeme text) (scan (take i text)).tokens → new ≡ old ++ map (lexeme text) (ended state i b) → new ≡ map (lexeme text) (scan (take (i + 1) text)).tokens
-lexemes-more text i state b old new l is byte e f =
-    f ∙ rw (e, is, byte) (sym (map-append (lexeme text) (scan (take i text)).tokens (ended (scan (take i text)).state i (get_or text i 0))) ∙ ap (map (lexeme text)) (sym (tokens-more text i l)))
-
--- and at the end
-pub lexemes-end : (text : List ℕ) (i : ℕ) (state : State) (old new : List Lexeme) → length text ≤ i → state ≡ (scan (take i text)).state
-    → old ≡ map (lexeme text) (scan (take i text)).tokens → new ≡ old ++ map (lexeme text) (pending state (length text)) → new ≡ lexemes text
-lexemes-end text i state old new l is e f =
-    f ∙ rw (e, is, take_all i text l) (sym (map-append (lexeme text) (scan text).tokens (pending (scan text).state (length text))) ∙ ap (λ n. map (lexeme text) ((scan text).tokens ++ pending (scan text).state n)) (sym (scan-at text)))
+-- each token of a text is a part of it, between characters
+pub tokens_cut : (text : List ℕ) → IsUtf8 text → AreCuts text (tokens_of text)
+tokens_cut text utf8 =
+    let whole : take (length text) text ≡ text = take_all (length text) text (omega arith) in
+    let so_far : AreCuts text (scan text).tokens = subst (λ t. AreCuts text (scan t).tokens) whole (cuts_at text utf8 (length text) (omega arith)) in
+    let state : Starts text (scan text).state (length text) = subst (λ t. Starts text (scan t).state (length text)) whole (starts_at text utf8 (length text) (omega arith)) in
+    both_cut text (scan text).tokens (pending (scan text).state (scan text).at) so_far
+    (subst (λ n. AreCuts text (pending (scan text).state n)) (sym (scan-at text)) (last_cut text (scan text).state state))

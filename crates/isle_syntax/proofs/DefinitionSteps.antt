@@ -12,10 +12,10 @@ use Rattle.isle_syntax.proofs.Running.{run-bind}
 use Rattle.isle_syntax.proofs.ListSteps.{refuses-after, passed}
 
 -- behind what was got
-then_got : {A B : Type 0} (r : Reader ⊥ A) (k : A → Reader ⊥ B) (ts us : List Lexeme) (a : A) → run no_call r ts ≡ Got a us → run no_call (bind r k) ts ≡ run no_call (k a) us
+pub then_got : {A B : Type 0} (r : Reader ⊥ A) (k : A → Reader ⊥ B) (ts us : List Lexeme) (a : A) → run no_call r ts ≡ Got a us → run no_call (bind r k) ts ≡ run no_call (k a) us
 then_got r k ts us a e = run-bind no_call r k ts ∙ ap (λ o. after o (λ b vs. run no_call (k b) vs)) e
 
-then_refuses : {A B : Type 0} (r : Reader ⊥ A) (k : A → Reader ⊥ B) (ts : List Lexeme) (fail : Fail) → Refuses fail (run no_call r ts) → Refuses fail (run no_call (bind r k) ts)
+pub then_refuses : {A B : Type 0} (r : Reader ⊥ A) (k : A → Reader ⊥ B) (ts : List Lexeme) (fail : Fail) → Refuses fail (run no_call r ts) → Refuses fail (run no_call (bind r k) ts)
 then_refuses r k ts fail h = subst (Refuses fail) (sym (run-bind no_call r k ts)) (refuses-after fail (run no_call r ts) (λ b vs. run no_call (k b) vs) h)
 
 -- ---- behind the flag of ( decl

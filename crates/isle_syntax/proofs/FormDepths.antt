@@ -52,10 +52,10 @@ closed_even most opened a b ts rest (at, mid, e, (p, q)) =
 -- ---- the forms
 
 module _ {F : Type 0} (g : List Lexeme → Reading F) (less : Shrinks g) (most n : ℕ) where
-  word_depths : {A : Type 0} (opened : ℕ) (f : List ℕ → Option A) → Gives f → Depths most opened opened n (run g (read_word f))
+  pub word_depths : {A : Type 0} (opened : ℕ) (f : List ℕ → Option A) → Gives f → Depths most opened opened n (run g (read_word f))
   word_depths opened f x = depths_of most opened opened n (word_reads {C = Anything} g f x) (word_even most opened f) (word_never g f)
 
-  name_depths : (opened : ℕ) → Depths most opened opened n (run g read_name)
+  pub name_depths : (opened : ℕ) → Depths most opened opened n (run g read_name)
   unfolding read_name
   name_depths opened = depths_of most opened opened n (name_reads {C = Anything} g) (name_even most opened) (word_never g name_of)
 
@@ -79,13 +79,13 @@ module _ {F : Type 0} (g : List Lexeme → Reading F) (less : Shrinks g) (most n
   unfolding read_partial
   partial_depths opened = depths_of most opened opened n (partial_reads g) (partial_even most opened) (optional_never g partial_of false)
 
-  open_depths : (opened : ℕ) → suc opened ≤ most → Depths most opened (suc opened) n (run g read_open)
+  pub open_depths : (opened : ℕ) → suc opened ≤ most → Depths most opened (suc opened) n (run g read_open)
   open_depths opened l = depths_of most opened (suc opened) n (open_reads {C = Anything} g) (open_even most opened l) (open_never g)
 
-  close_depths : {A : Type 0} (opened m : ℕ) (a : A) → Depths most (suc opened) opened m (run g (bind read_close (λ c. Ret a)))
+  pub close_depths : {A : Type 0} (opened m : ℕ) (a : A) → Depths most (suc opened) opened m (run g (bind read_close (λ c. Ret a)))
   close_depths opened m a = depths_of most (suc opened) opened m (close_then g a) (closed_even most opened a) (close_never g a)
 
-  list_depths : {A : Type 0} (opened : ℕ) (r : Reader F A) → Takes (run g r) → Depths most (suc opened) (suc opened) n (run g r) → Depths most (suc opened) opened n (run g (many n r))
+  pub list_depths : {A : Type 0} (opened : ℕ) (r : Reader F A) → Takes (run g r) → Depths most (suc opened) (suc opened) n (run g r) → Depths most (suc opened) opened n (run g (many n r))
   list_depths opened r taking h = depths_many g less most opened n r (λ b m. close_depths opened m b) taking h n (omega arith)
 
   names_depths : (opened : ℕ) → Depths most (suc opened) opened n (run g (many n read_name))

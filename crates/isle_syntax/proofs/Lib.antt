@@ -10,6 +10,8 @@ pub mod Depths
 pub mod Definitions
 pub mod FormDepths
 pub mod Files
+pub mod Begun
+pub mod Taking
 pub mod Boundaries
 pub mod Digits
 pub mod Wrapped

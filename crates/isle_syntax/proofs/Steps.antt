@@ -84,7 +84,7 @@ given_stops : {A : Type 0} (o : Option A) (ts : List Lexeme) (t : Lexeme) → o 
 given_stops None ts t e = refl
 given_stops (Some b) ts t e = cc
 
-word_got : {A : Type 0} (f : List ℕ → Option A) (ts us : List Lexeme) (a : A) → next_word f ts ≡ Some a → us ≡ drop 1 ts → run no_call (read_word f) ts ≡ Got a us
+pub word_got : {A : Type 0} (f : List ℕ → Option A) (ts us : List Lexeme) (a : A) → next_word f ts ≡ Some a → us ≡ drop 1 ts → run no_call (read_word f) ts ≡ Got a us
 word_got f [] us a e h = cc
 word_got f (Open n ∷ ts) us a e h = cc
 word_got f (Close n ∷ ts) us a e h = cc
@@ -93,7 +93,7 @@ word_got f (Less n ∷ ts) us a e h = cc
 word_got f (Greater n ∷ ts) us a e h = cc
 word_got f (Word n w ∷ ts) us a e h = given_got (f w) ts (Word n w) a e ∙ ap (Got a) (sym h)
 
-word_stops : {A : Type 0} (f : List ℕ → Option A) (ts : List Lexeme) → next_word f ts ≡ None → stops (run no_call (read_word f) ts) ≡ Some (length ts)
+pub word_stops : {A : Type 0} (f : List ℕ → Option A) (ts : List Lexeme) → next_word f ts ≡ None → stops (run no_call (read_word f) ts) ≡ Some (length ts)
 word_stops f [] e = refl
 word_stops f (Open n ∷ ts) e = refl
 word_stops f (Close n ∷ ts) e = refl

@@ -1,116 +1,16 @@
 -- Definitions stand where their text has tokens.
-use Rattle.std.proofs.Common.{◌≡◌, ℕ, zero, suc, ◌+◌, ◌<◌, ◌≤◌, List, [], ◌∷◌, ◌++◌, length, map, Bool, true, false, refl, sym, subst, arith}
-use Rattle.std.specs.Prelude.{◌==◌, if◌then◌else◌, fold, slice_index}
+use Rattle.std.proofs.Common.{◌≡◌, ℕ, ◌<◌, List, [], ◌∷◌, length, map, Bool, true, false, refl, sym, subst}
+use Rattle.std.specs.Prelude.{◌==◌, if◌then◌else◌, slice_index}
 use Rattle.std.specs.List.{AllByRecursion}
-use Rattle.isle_syntax.specs.Token.{Tok, State, Between, InWord, AfterOpen, AfterSingle, InLine, InComment, Seen, Other, OpenSeen, SemicolonSeen, Scan, is_blank, is_single, is_word_byte, begun, closed, in_comment, ends, ended, next, pending, step, scan, tokens_of}
+use Rattle.isle_syntax.specs.Token.{Tok, tokens_of}
 use Rattle.isle_syntax.specs.Lexeme.{Lexeme, Open, Close, At, Less, Greater, Word, lexeme, lexemes}
 use Rattle.isle_syntax.specs.Tree.{Def}
 use Rattle.isle_syntax.specs.Grammar.{Many, none, more, NameS, symbol, PatternS, int, truth, wildcard, var, ExprS, number, fact, underscore, variable, call, ExprsS, no_expr, an_expr, RuleNameS, unnamed, named, PrioS, unwritten, written, PartialS, unflagged, flagged, DefS, decl, extern, rule, FileS, no_def, a_def}
 use Rattle.isle_syntax.specs.Positions.{place_of, IsWithin, AreWithin}
 use Rattle.isle_syntax.specs.Spelling.{Spells}
-use Rattle.isle_syntax.proofs.Scans.{scan-at}
+use Rattle.isle_syntax.proofs.Begun.{Before, tokens_before}
 
--- ---- tokens begin before the place that was reached
-
--- what was begun began before this place
-abbrev Began : State → ℕ → Type 0
-Began Between at = Unit {0}
-Began (InWord from) at = from < at
-Began (AfterOpen from) at = from < at
-Began (AfterSingle from) at = from < at
-Began InLine at = Unit {0}
-Began (InComment from outer seen) at = Unit {0}
-
--- each token begins before this place
-abbrev Before : ℕ → List Tok → Type 0
-Before at ts = AllByRecursion (λ (t : Tok). t.from < at) ts
-
-began_single : (at : ℕ) (s : Bool) → Began (if s then AfterSingle at else InWord at) (at + 1)
-began_single at true = omega arith
-began_single at false = omega arith
-
-began_line : (at : ℕ) (l s : Bool) → Began (if l then InLine else (if s then AfterSingle at else InWord at)) (at + 1)
-began_line at true s = tt
-began_line at false s = began_single at s
-
-began_open : (at : ℕ) (o l s : Bool) → Began (if o then AfterOpen at else (if l then InLine else (if s then AfterSingle at else InWord at))) (at + 1)
-began_open at true l s = omega arith
-began_open at false l s = began_line at l s
-
-began_any : (at : ℕ) (b o l s : Bool) → Began (if b then Between else (if o then AfterOpen at else (if l then InLine else (if s then AfterSingle at else InWord at)))) (at + 1)
-began_any at true o l s = tt
-began_any at false o l s = began_open at o l s
-
-began_begun : (at b : ℕ) → Began (begun at b) (at + 1)
-began_begun at b = began_any at (is_blank b) (b == 40) (b == 59) (is_single b)
-
-pick_state : (c : Bool) (s t : State) (at : ℕ) → Began s at → Began t at → Began (if c then s else t) at
-pick_state true s t at h k = h
-pick_state false s t at h k = k
-
-began_closed : (from outer at : ℕ) → Began (closed from outer) at
-began_closed from zero at = tt
-began_closed from (suc outer) at = tt
-
-began_comment : (from outer : ℕ) (seen : Seen) (b at : ℕ) → Began (in_comment from outer seen b) at
-began_comment from outer Other b at = tt
-began_comment from outer OpenSeen b at = pick_state (b == 59) _ _ at tt tt
-began_comment from outer SemicolonSeen b at = pick_state (b == 41) _ _ at (began_closed from outer at) tt
-
-began_next : (st : State) (at b : ℕ) → Began st at → Began (next st at b) (at + 1)
-began_next Between at b h = began_begun at b
-began_next (InWord from) at b h = pick_state (is_word_byte b) _ _ (at + 1) (omega (arith, h)) (began_begun at b)
-began_next (AfterOpen from) at b h = pick_state (b == 59) _ _ (at + 1) tt (began_begun at b)
-began_next (AfterSingle from) at b h = began_begun at b
-began_next InLine at b h = pick_state (b == 10) _ _ (at + 1) tt tt
-began_next (InComment from outer seen) at b h = began_comment from outer seen b (at + 1)
-
-pending_before : (st : State) (at n : ℕ) → Began st at → at ≤ n → Before n (pending st at)
-pending_before Between at n h l = tt
-pending_before (InWord from) at n h l = (omega (arith, h, l), tt)
-pending_before (AfterOpen from) at n h l = (omega (arith, h, l), tt)
-pending_before (AfterSingle from) at n h l = (omega (arith, h, l), tt)
-pending_before InLine at n h l = tt
-pending_before (InComment from outer seen) at n h l = tt
-
-pick_before : (c : Bool) (ts : List Tok) (n : ℕ) → Before n ts → Before n (if c then ts else [])
-pick_before true ts n h = h
-pick_before false ts n h = tt
-
-both_before : (n : ℕ) (ts us : List Tok) → Before n ts → Before n us → Before n (ts ++ us)
-both_before n [] us h k = k
-both_before n (t ∷ ts) us h k = (h.0, both_before n ts us h.1 k)
-
-later : (n : ℕ) (ts : List Tok) → Before n ts → Before (n + 1) ts
-later n [] h = tt
-later n (t ∷ ts) h = (omega (arith, h.0), later n ts h.1)
-
--- the tokens so far begin before what was reached, and so does what was begun
-record AreBefore (s : Scan) : Type 0 where
-  tokens : Before s.at s.tokens
-  state : Began s.state s.at
-
-step_before : (s : Scan) (b : ℕ) → AreBefore s → AreBefore (step s b)
-unfolding step
-step_before s b h = record {
-  tokens = both_before (s.at + 1) s.tokens (ended s.state s.at b) (later s.at s.tokens h.tokens)
-      (pick_before (ends s.state b) (pending s.state s.at) (s.at + 1) (pending_before s.state s.at (s.at + 1) h.state (omega arith)));
-  state = began_next s.state s.at b h.state;
-}
-
-fold_before : (bs : List ℕ) (s : Scan) → AreBefore s → AreBefore (fold step s bs)
-fold_before [] s h = h
-fold_before (b ∷ bs) s h = fold_before bs (step s b) (step_before s b h)
-
-scan_before : (text : List ℕ) → AreBefore (scan text)
-scan_before text = fold_before text (record { tokens = []; state = Between; at = 0 }) (record { tokens = tt; state = tt })
-
-tokens_before : (text : List ℕ) → Before (length text) (tokens_of text)
-tokens_before text =
-    subst (λ n. Before n (tokens_of text)) (scan-at text)
-    (both_before (scan text).at (scan text).tokens _ (scan_before text).tokens (pending_before (scan text).state (scan text).at (scan text).at (scan_before text).state (omega arith)))
-
--- ---- and so do the tokens with their bytes
+-- ---- tokens with their bytes
 
 -- where a token begins
 abbrev place : Lexeme → ℕ

@@ -7,7 +7,7 @@ use Rattle.std.proofs.lemmas.Slice.Eq.{bytes_eq-Decides}
 use Rattle.isle_core.specs.Int.{wrapped}
 use Rattle.isle_syntax.specs.Lexeme.{Lexeme, Open, Close, At, Less, Greater, Word}
 use Rattle.isle_syntax.specs.Reader.{Reading, Ret, run, is_close, on_word, bytes, place}
-use Rattle.isle_syntax.specs.Integer.{int_of, magnitude}
+use Rattle.isle_syntax.specs.Integer.{int_of, signed_of, magnitude}
 use Rattle.isle_syntax.specs.Word.{WordKind, Number, Malformed, Truth, Dollar, Underscore, Plain, kind, names, IsName}
 use Rattle.isle_syntax.specs.Tree.{Pattern}
 use Rattle.isle_syntax.specs.Tree as tree
@@ -203,7 +203,7 @@ prio_from _ _ _ (unwritten ts) = inr (refl, refl)
 prio_from _ _ _ (written at w n ts e f) = inl (at, w, refl, prio_some (kind w) n e f)
 
 a_number : kind (codes "1") ≡ Number (pos 1)
-unfolding kind int_of magnitude wrapped
+unfolding kind int_of signed_of magnitude wrapped
 a_number = refl
 
 pub prio_reads : {F : Type 0} (g : List Lexeme → Reading F) → Reads NoPrio PrioS (run g read_prio)

@@ -44,11 +44,13 @@ bounded (Some n) = if nat_lt n (2 ^ 128) then Some n else None
 unfoldable pub magnitude : List ℕ → Option ℕ
 magnitude word = if is_decimal (slice_index word 0) then bounded (number (base_of word) (behind_base word)) else None
 
--- the value that a word spells, with a - in front or without, wrapped to 128 signed bits
+-- the value that a word spells, with a - in front or without
+unfoldable pub signed_of : List ℕ → Option ℤ
+signed_of word = if slice_index word 0 == 45 then option_map (λ n. neg_ℤ (pos n)) (magnitude (drop 1 word)) else option_map (λ n. pos n) (magnitude word)
+
+-- the same, wrapped to 128 signed bits
 unfoldable pub int_of : List ℕ → Option ℤ
-int_of word =
-    if slice_index word 0 == 45 then option_map (λ n. wrapped I128 (neg_ℤ (pos n))) (magnitude (drop 1 word))
-    else option_map (λ n. wrapped I128 (pos n)) (magnitude word)
+int_of word = option_map (wrapped I128) (signed_of word)
 
 -- n and one digit more of the base, below 2 ^ 128
 abbrev pub grown : ℕ → ℕ → ℕ → Option ℕ

@@ -1,5 +1,6 @@
 -- What a reader reads.
-use Rattle.std.specs.Prelude.{ℕ, List}
+use Rattle.std.specs.Prelude.{◌≡◌, ℕ, List}
+use Rattle.isle_syntax.specs.Token.{Tok, tokens_from}
 use Rattle.isle_syntax.specs.declared.lexer.Lexer.{Lexer}
 
 -- the number of the file
@@ -9,3 +10,11 @@ lexer_file lexer = lexer.file
 -- the text
 abbrev pub lexer_text : Lexer → List ℕ
 lexer_text lexer = lexer.text.now
+
+-- the tokens that are still to come
+abbrev pub lexer_left : Lexer → List Tok
+lexer_left lexer = tokens_from lexer.text.now lexer.at
+
+-- no token was taken
+abbrev pub IsUntaken : Lexer → Type 0
+IsUntaken lexer = lexer.at ≡ 0

@@ -12,6 +12,7 @@ pub mod Spelling
 pub mod Cuts
 pub mod TokenViews
 pub mod WordViews
+pub mod SignedViews
 pub mod ReadingViews
 pub mod LexerViews
 pub mod Lexer

@@ -1,10 +1,6 @@
 -- A rule text as tokens, by a fold over its bytes.
-use Rattle.std.specs.Prelude.{◌≡◌, ℕ, zero, suc, ◌+◌, List, [], ◌∷◌, ◌++◌, Bool, true, false, ◌==◌, ◌||◌, not, if◌then◌else◌, Option, Some, None, fold}
-
--- a token by the bytes that it takes, from the first up to the one behind it
-pub record Tok : Type 0 where
-  pub from : ℕ
-  pub to : ℕ
+use Rattle.std.specs.Prelude.{◌≡◌, ℕ, zero, suc, ◌+◌, List, [], ◌∷◌, ◌++◌, Bool, true, false, ◌==◌, ◌||◌, not, if◌then◌else◌, Option, Some, None, drop, fold}
+pub use Rattle.isle_syntax.specs.declared.token.Tok.{Tok}
 
 -- what the byte before was, in a comment that may nest
 pub data Seen : Type 0 where
@@ -118,6 +114,14 @@ scan = fold step (record { tokens = []; state = Between; at = 0 })
 -- the tokens of a text
 abbrev pub tokens_of : List ℕ → List Tok
 tokens_of text = (scan text).tokens ++ pending (scan text).state (scan text).at
+
+-- what follows a place at which no token was begun, byte by byte
+abbrev pub scan_from : List ℕ → ℕ → Scan
+scan_from text at = fold step (record { tokens = []; state = Between; at = at }) (drop at text)
+
+-- the tokens of a text behind such a place
+abbrev pub tokens_from : List ℕ → ℕ → List Tok
+tokens_from text at = (scan_from text at).tokens ++ pending (scan_from text at).state (scan_from text at).at
 
 -- where the comment began that is open
 abbrev pub open_at : State → Option ℕ

@@ -16,7 +16,7 @@ use std::alloc::{AllocError, Global};
 /// How many parentheses may be open at once.
 const MOST_OPEN: usize = 256;
 
-/// How many of them may be open inside the parentheses of a definition.
+/// How many of them may be open inside the outermost parentheses.
 #[tactic(auto, unfolding(crate::specs::Depth::most_open))]
 pub fn most_inside() -> usize
     ensures { result ≡ most_open - 1 }

@@ -1,7 +1,15 @@
-ghost use Rattle.std.specs.Prelude.{◌≡◌, ◌≢◌, ◌≤◌, ◌==◌, IsTrue, length, slice_index, ℤ, pos, neg_ℤ};
+ghost use Rattle.std.specs.Prelude.{◌≡◌, ◌≢◌, ◌≤◌, ◌==◌, IsTrue, length, slice_index, ℤ, pos, neg_ℤ, option_map};
 ghost use Rattle.isle_core.specs.Int.{wrapped};
 ghost use Rattle.isle_core.specs.declared.types.IntType.TheVariants.{I128};
-ghost use Rattle.isle_syntax.specs.Integer.{is_decimal, number, base_of, bounded, magnitude, int_of, grown};
+ghost use Rattle.isle_syntax.specs.Integer.{is_decimal, number, base_of, bounded, magnitude, signed_of, int_of, grown};
+ghost use Rattle.isle_syntax.specs.SignedViews.{signed};
+
+/// A number by its sign and its magnitude; `-0` is 0.
+#[derive(Clone, Copy, Debug, PartialEq, Eq)]
+pub struct Signed {
+    pub negative: bool,
+    pub magnitude: u128,
+}
 
 /// A number with one digit more of the base. None comes where the byte is no such digit, or the number is too large.
 fn grown(base: u32, value: u128, byte: u8) -> Option<u128>
@@ -89,14 +97,34 @@ fn negated(magnitude: u128) -> i128
     magnitude.wrapping_neg().cast_signed()
 }
 
+/// The value that a word spells: an optional `-`, then a decimal word that begins with a digit, or `0x`, `0o`, `0b` and
+/// digits of that base, `_` anywhere among them. None comes exactly where it spells none, or one of 2^128 and more.
+#[tactic(auto, unfolding(crate::specs::Integer::signed_of))]
+pub fn signed_of(word: &[u8]) -> Option<Signed>
+    ensures { option_map signed result ≡ signed_of word.now }
+{
+    if is_negative(word) {
+        Some(Signed {
+            negative: true,
+            magnitude: magnitude(&word[1..])?,
+        })
+    } else {
+        Some(Signed {
+            negative: false,
+            magnitude: magnitude(word)?,
+        })
+    }
+}
+
 /// The value that a word spells, wrapped to 128 signed bits.
 #[tactic(auto, unfolding(crate::specs::Integer::int_of))]
 pub fn int_of(word: &[u8]) -> Option<i128>
     ensures { result ≡ int_of word.now }
 {
-    if is_negative(word) {
-        Some(negated(magnitude(&word[1..])?))
+    let value = signed_of(word)?;
+    if value.negative {
+        Some(negated(value.magnitude))
     } else {
-        Some(wrapped(magnitude(word)?))
+        Some(wrapped(value.magnitude))
     }
 }

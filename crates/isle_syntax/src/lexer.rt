@@ -1,13 +1,13 @@
-ghost use Rattle.std.specs.Prelude.{◌≡◌, ◌≤◌, ◌<◌, ◌+◌, ◌++◌, map, IfOk, IfErr, OnOk, IsTrue, Some};
+ghost use Rattle.std.specs.Prelude.{◌≡◌, ◌≤◌, ◌<◌, ◌+◌, [], ◌∷◌, ◌++◌, IfOk, IfErr, IfSome, Some, None};
 ghost use Rattle.std.specs.Str.{IsUtf8};
-ghost use Rattle.isle_syntax.specs.Token.{is_blank, is_single, is_word_byte, begun, seen_after, in_comment, ends, ended, next, pending, scan, unclosed, IsClosed};
-ghost use Rattle.isle_syntax.specs.Cuts.{PendingIsCut};
-ghost use Rattle.isle_syntax.specs.Lexeme.{lexeme, lexemes};
+ghost use Rattle.isle_syntax.specs.Token.{is_blank, is_single, is_word_byte, begun, seen_after, in_comment, ends, next, pending, scan, tokens_from, unclosed, IsClosed};
+ghost use Rattle.isle_syntax.specs.Cuts.{IsBegun};
+ghost use Rattle.isle_syntax.specs.Lexeme.{lexemes};
 ghost use Rattle.isle_syntax.specs.LexerViews.{state, seen, outer_of};
-ghost use Rattle.isle_syntax.specs.Lexer.{lexer_file, lexer_text};
+ghost use Rattle.isle_syntax.specs.Lexer.{lexer_file, lexer_text, lexer_left, IsUntaken};
 ghost use Rattle.isle_syntax.specs.TokenViews.{tokens_seen};
 
-use crate::token::{Token, token_at};
+use crate::token::{Tok, Token, token_at};
 use isle_core::Pos;
 use std::alloc::{AllocError, Global};
 
@@ -130,74 +130,73 @@ fn ends(begin: State, byte: u8) -> bool
     }
 }
 
-/// Adds the token that was begun, where it ends before this place.
-fn push_pending<'a>(
-    tokens: &mut Vec<Token<'a>>,
-    text: &'a str,
-    begin: State,
-    at: usize,
-) -> Result<(), AllocError>
-    requires { PendingIsCut text.now (state begin) at }
-    ensures { OnOk result (tokens_seen tokens.new.items ≡ tokens_seen tokens.old.items ++ map (lexeme text.now) (pending (state begin) at)) }
+/// The token that was begun, where it ends before this place.
+fn pending(begin: State, at: usize) -> Option<Tok>
+    requires { IsBegun (state begin) at }
+    ensures some { IfSome result (λ tok. pending (state begin) at ≡ tok ∷ []) }
+    ensures none { result ≡ None → pending (state begin) at ≡ [] }
 {
     match begin {
-        State::Word(from) => tokens.push(token_at(text, from, at))?,
-        State::Open(from) | State::Single(from) => tokens.push(token_at(text, from, from + 1))?,
-        State::Between | State::Line | State::Comment(..) => (),
-    }
-    Ok(())
-}
-
-/// Adds the token that the byte at this place ends.
-fn push_ended<'a>(
-    tokens: &mut Vec<Token<'a>>,
-    text: &'a str,
-    begin: State,
-    at: usize,
-    byte: u8,
-) -> Result<(), AllocError>
-    requires { IsTrue (ends (state begin) byte) → PendingIsCut text.now (state begin) at }
-    ensures { OnOk result (tokens_seen tokens.new.items ≡ tokens_seen tokens.old.items ++ map (lexeme text.now) (ended (state begin) at byte)) }
-{
-    if ends(begin, byte) {
-        push_pending(tokens, text, begin, at)
-    } else {
-        Ok(())
+        State::Word(from) => Some(Tok { from, to: at }),
+        State::Open(from) | State::Single(from) => Some(Tok { from, to: from + 1 }),
+        State::Between | State::Line | State::Comment(..) => None,
     }
 }
 
-/// The tokens of a text, in order.
-fn tokens_in(alloc: Global, text: &str) -> Result<Vec<Token<'_>>, AllocError>
-    ensures { IfOk result (λ tokens. tokens_seen tokens.items ≡ lexemes text.now) }
+/// What is begun behind a place, and where it ends: at a byte that ends a token, or where the text ends.
+fn behind(text: &[u8], from: usize) -> (State, usize)
+    ensures left { tokens_from text.now from ≡ pending (state result.0) result.1 ++ tokens_from text.now result.1 }
+    ensures none { pending (state result.0) result.1 ≡ [] → tokens_from text.now result.1 ≡ [] }
+    ensures begun { IsBegun (state result.0) result.1 }
 {
-    let mut tokens = Vec::new(alloc);
     let mut begin = State::Between;
-    for (at, byte) in text.as_bytes().iter().enumerate() {
-        push_ended(&mut tokens, text, begin, at, *byte)?;
-        begin = next(begin, at, *byte);
+    let mut at = from;
+    while at < text.len() {
+        if ends(begin, text[at]) {
+            return (begin, at);
+        }
+        begin = next(begin, at, text[at]);
+        at += 1;
     }
-    push_pending(&mut tokens, text, begin, text.len())?;
-    Ok(tokens)
+    (begin, at)
 }
 
-/// The reader of a text, in which every comment ends.
-#[derive(Clone, Copy, Debug)]
+/// The tokens of a text, one by one.
+#[derive(Clone, Debug, Drop)]
 pub struct Lexer<'a> {
     file: usize,
     text: &'a str,
+    /// The place behind the tokens that were taken.
+    at: usize,
 }
 
 impl<'a> Lexer<'a> {
-    /// The reader of the text of the file of that number. Err gives the start of a nested comment that never ends,
+    /// The tokens of the text of the file of that number. Err gives the start of a nested comment that never ends,
     /// the outermost one's.
     pub fn new(file: usize, src: &'a str) -> Result<Lexer<'a>, Pos>
-        ensures ok { IfOk result (λ lexer. IsClosed src.now × (lexer_file lexer ≡ file) × (lexer_text lexer ≡ src.now)) }
+        ensures ok { IfOk result (λ lexer. IsClosed src.now × IsUntaken lexer × (lexer_file lexer ≡ file) × (lexer_text lexer ≡ src.now)) }
         ensures err { IfErr result (λ pos. (unclosed src.now ≡ Some pos.offset) × (pos.file ≡ file)) }
     {
         match end_of(src.as_bytes()) {
             State::Comment(offset, _, _) => Err(Pos { file, offset }),
-            _ => Ok(Lexer { file, text: src }),
+            _ => Ok(Lexer {
+                file,
+                text: src,
+                at: 0,
+            }),
         }
+    }
+
+    /// The next token, by the bytes that it takes. None comes exactly where no token is left. It takes no memory.
+    pub fn next_token(&mut self) -> Option<Tok>
+        ensures some { IfSome result (λ tok. lexer_left self.old ≡ tok ∷ lexer_left self.new) }
+        ensures none { result ≡ None → (lexer_left self.old ≡ []) × (lexer_left self.new ≡ []) }
+        ensures file { lexer_file self.new ≡ lexer_file self.old }
+        ensures text { lexer_text self.new ≡ lexer_text self.old }
+    {
+        let (begin, at) = behind(self.text.as_bytes(), self.at);
+        self.at = at;
+        pending(begin, at)
     }
 
     /// The number of the file.
@@ -207,11 +206,17 @@ impl<'a> Lexer<'a> {
         self.file
     }
 
-    /// The tokens of the text, in order.
-    pub(crate) fn tokens(&self, alloc: Global) -> Result<Vec<Token<'a>>, AllocError>
-        ensures tokens { IfOk result (λ tokens. tokens_seen tokens.items ≡ lexemes (lexer_text self.now)) }
-        ensures utf8 { IsUtf8 (lexer_text self.now) }
+    /// The tokens that are left, in order, as the grammar sees them.
+    pub fn tokens(mut self, alloc: Global) -> Result<Vec<Token<'a>>, AllocError>
+        requires { IsUntaken self }
+        ensures tokens { IfOk result (λ tokens. tokens_seen tokens.items ≡ lexemes (lexer_text self.entry)) }
+        ensures utf8 { IsUtf8 (lexer_text self.entry) }
     {
-        tokens_in(alloc, self.text)
+        let text = self.text;
+        let mut tokens = Vec::new(alloc);
+        while let Some(tok) = self.next_token() {
+            tokens.push(token_at(text, tok.from, tok.to))?;
+        }
+        Ok(tokens)
     }
 }

@@ -6,6 +6,8 @@ mod expression;
 mod forms;
 mod integer;
 mod lexer;
+#[cfg(test)]
+mod lexer_tests;
 mod lists;
 mod parser;
 mod reading;
@@ -15,8 +17,13 @@ mod token;
 mod tree;
 mod word;
 
+pub use expression::most_inside;
+pub use forms::{is_name, text_of};
+pub use integer::{Signed, signed_of};
 pub use lexer::Lexer;
 pub use parser::{ParseFail, parse};
+pub use reading::{Fail, Tokens};
+pub use token::{Tok, Token};
 pub use tree::{
     AstAny, AstBody, AstExpr, AstFields, AstIfLet, AstLet, AstPattern, AstVariant, Def,
 };

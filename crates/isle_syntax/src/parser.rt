@@ -1,7 +1,7 @@
 ghost use Rattle.std.specs.Prelude.{◌≡◌, ◌≤◌, List, Err, IfOk, IfErr};
 ghost use Rattle.isle_syntax.specs.Tree.{Def as PureDef};
 ghost use Rattle.isle_syntax.specs.Views.{defs};
-ghost use Rattle.isle_syntax.specs.Lexer.{lexer_file, lexer_text};
+ghost use Rattle.isle_syntax.specs.Lexer.{lexer_file, lexer_text, IsUntaken};
 ghost use Rattle.isle_syntax.specs.Lexeme.{lexemes};
 ghost use Rattle.isle_syntax.specs.Depth.{depth, most_open};
 ghost use Rattle.isle_syntax.specs.Grammar.{FileS};
@@ -25,18 +25,21 @@ pub enum ParseFail {
 
 /// The definitions that the reader's tokens spell.
 fn definitions(alloc: Global, lexer: Lexer<'_>) -> Result<Vec<Def>, Fail>
+    requires { IsUntaken lexer }
     ensures got { IfOk result (λ read. FileS (lexer_file lexer.entry) (lexemes (lexer_text lexer.entry)) (defs read.items) × (depth (lexemes (lexer_text lexer.entry)) ≤ most_open)) }
     ensures refused { IfErr result (λ fail. Refuses fail (file_of (lexer_file lexer.entry) (lexemes (lexer_text lexer.entry)))) }
 {
+    let file = lexer.file();
     let tokens = lexer.tokens(alloc)?;
-    Tokens::new(tokens.as_slice()).definitions(alloc, tokens.len(), lexer.file())
+    Tokens::new(tokens.as_slice()).definitions(alloc, tokens.len(), file)
 }
 
 /// The definitions that the reader's text spells, in order. `NotYet` comes exactly where no definitions of the forms
 /// that are built are spelt: `decl` with no flag but `partial`, `extern constructor`, and `rule` without conditions whose
 /// right side is a word or a call, with at most 256 parentheses open at once.
 pub fn parse(alloc: Global, lexer: Lexer<'_>) -> Result<Vec<Def>, ParseFail>
-    requires { IsClosed (lexer_text lexer) }
+    requires closed { IsClosed (lexer_text lexer) }
+    requires untaken { IsUntaken lexer }
     ensures ok { IfOk result (λ read. Spells (lexer_file lexer.entry) (lexer_text lexer.entry) (defs read.items)) }
     ensures only { IfOk result (λ read. (others : List PureDef) → Spells (lexer_file lexer.entry) (lexer_text lexer.entry) others → others ≡ defs read.items) }
     ensures not_yet { result ≡ Err ParseFail.NotYet → (others : List PureDef) → Spells (lexer_file lexer.entry) (lexer_text lexer.entry) others → ⊥ }

@@ -3,6 +3,13 @@ ghost use Rattle.isle_syntax.specs.Cuts.{IsCut};
 ghost use Rattle.isle_syntax.specs.Lexeme.{lexeme};
 ghost use Rattle.isle_syntax.specs.TokenViews.{token_seen};
 
+/// A token by the bytes that it takes, from the first up to the one behind it.
+#[derive(Clone, Copy, Debug, PartialEq, Eq)]
+pub struct Tok {
+    pub from: usize,
+    pub to: usize,
+}
+
 /// A token, with the place where it begins.
 #[derive(Clone, Copy, Debug)]
 pub enum Token<'a> {

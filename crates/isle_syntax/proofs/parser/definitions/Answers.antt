@@ -14,4 +14,4 @@ returns-clause-got c =
     let ts : List Lexeme = lexemes (lexer_text c.args.lexer) in
     let all : left c.new.result ≡ ts = search rules in
     let most : c.len.result ≡ length ts = search (rules, length-map) in
-    IfOk-weaker c.definitions.result _ _ (λ read p. file_read (lexer_file c.args.lexer) c.file.result c.len.result (left c.new.result) ts (left c.definitions.new.self) (defs read.items) c.file.ensures most all p) c.definitions.ensures.got
+    IfOk-weaker c.definitions.result _ _ (λ read p. file_read (lexer_file c.args.lexer) c.file-file.result c.len.result (left c.new.result) ts (left c.definitions.new.self) (defs read.items) c.file-file.ensures most all p) c.definitions.ensures.got
