@@ -1,0 +1,4 @@
+pub mod Written
+pub mod Views
+pub mod Spelling
+pub mod Reading

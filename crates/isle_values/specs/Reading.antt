@@ -1,0 +1,61 @@
+-- Readers of values.
+use Rattle.std.specs.Prelude.{ℕ, zero, suc, ◌-◌, ◌&&◌, length, List, true, false, if◌then◌else◌, Option, Some, None, is_none, option_map, bytes_eq, codes}
+use Rattle.std.specs.Str.{is_utf8}
+use Rattle.isle_syntax.specs.Depth.{most_open}
+use Rattle.isle_syntax.specs.Integer.{signed_of}
+use Rattle.isle_syntax.specs.Lexeme.{Lexeme, lexemes}
+use Rattle.isle_syntax.specs.Token.{unclosed}
+use Rattle.isle_syntax.specs.Reader.{Reading, Got, Stuck, Deep, Reader, Ret, Peek, End, Halt, run, bind, is_open, read_open, many}
+use Rattle.isle_syntax.specs.Reading.{no_call, read_word, read_name, refuse}
+use Rattle.isle_values.specs.Views.{in_order}
+use Rattle.isle_values.specs.Written.{Written, Writtens, Truth, Number, Made}
+
+-- the value that a word is
+abbrev pub word_value : List ℕ → Option Written
+word_value w =
+    if bytes_eq w (codes "true") then Some (Truth true)
+    else (if bytes_eq w (codes "false") then Some (Truth false)
+    else option_map (λ n. Number n) (signed_of w))
+
+-- a value of one word
+unfoldable pub read_simple : {F : Type 0} → Reader F Written
+read_simple = read_word word_value
+
+-- ( N of a made value
+unfoldable pub read_begun : {F : Type 0} → Reader F (List ℕ)
+read_begun = bind read_open (λ o. read_name)
+
+-- ( N V* ), of fewer than n parts, each of which is read so
+unfoldable pub read_made : {F : Type 0} → ℕ → Reader F Written → Reader F Written
+read_made n r = bind read_begun (λ w. bind (many n r) (λ parts. Ret (Made w (in_order parts))))
+
+-- a value whose parentheses nest at most d deep, its lists of fewer than n parts
+unfoldable pub read_value : {F : Type 0} → ℕ → ℕ → Reader F Written
+read_value n zero = Peek is_open Halt read_simple
+read_value n (suc d) = Peek is_open (read_made n (read_value n d)) read_simple
+
+-- ( V* )
+unfoldable pub read_list : {F : Type 0} → ℕ → ℕ → Reader F (List Written)
+read_list n d = bind read_open (λ o. many n (read_value n d))
+
+-- the end of the text
+abbrev pub read_end : {F : Type 0} → List Written → Reader F (List Written)
+read_end vs = End (Ret vs) refuse
+
+-- ( V* ) and nothing behind it
+unfoldable pub read_whole : {F : Type 0} → ℕ → ℕ → Reader F (List Written)
+read_whole n d = bind (read_list n d) read_end
+
+-- what comes of tokens as a list of values
+abbrev pub values_of : List Lexeme → Reading (List Written)
+values_of ts = run no_call (read_whole (length ts) (most_open - 1)) ts
+
+-- the values that are got
+abbrev pub got : Reading (List Written) → Option Writtens
+got (Got vs rest) = Some (in_order vs)
+got (Stuck rest) = None
+got (Deep rest) = None
+
+-- the values that a text spells
+unfoldable pub spelt : List ℕ → Option Writtens
+spelt text = if is_utf8 text && is_none (unclosed text) then got (values_of (lexemes text)) else None

@@ -1,0 +1,14 @@
+//! The grammar of the program's command lines, and its exact reader.
+#![tactic(auto)]
+
+mod commands;
+mod line;
+mod options;
+mod run;
+mod state;
+#[cfg(test)]
+mod tests;
+mod word;
+
+pub use commands::{Command, Kind, LineFail, Source};
+pub use line::command;
