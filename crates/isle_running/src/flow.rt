@@ -1,0 +1,9 @@
+use isle_core::End;
+
+/// How statements end: they go on, the function ends, or what is read isn't there.
+#[derive(Debug, Drop)]
+pub enum Flow {
+    Goes,
+    Ends(End),
+    Stuck,
+}

@@ -1,0 +1,37 @@
+//! Runs of target programs under given answers.
+#![tactic(auto)]
+
+mod binding;
+mod bound;
+mod called;
+mod calls;
+mod entry;
+mod fitting;
+mod flow;
+mod form;
+mod forms;
+mod frame;
+mod holding;
+mod lines;
+#[cfg(test)]
+mod lines_tests;
+mod reading;
+mod run;
+mod run_error;
+#[cfg(test)]
+mod run_tests;
+mod served;
+mod shown;
+mod signatures;
+mod source;
+mod sources;
+mod taking;
+mod term;
+mod terms;
+mod typed;
+mod value;
+mod within;
+
+pub use lines::{end_line, push_call};
+pub use run_error::RunError;
+pub use term::{run_term, takes};
