@@ -1,0 +1,125 @@
+-- The readers of answers have the laws of readers.
+use Rattle.std.proofs.Common.{◌≡◌, ℕ, zero, suc, ◌+◌, List, ◌∷◌, true, false, inl, inr, refl, ap, sym, ◌∙◌, subst, arith, Some}
+use Rattle.std.specs.Prelude.{codes}
+use Rattle.isle_syntax.specs.Lexeme.{Lexeme, Open, Close, Word}
+use Rattle.isle_syntax.specs.Grammar.{Many}
+use Rattle.isle_syntax.specs.Reader.{Ret, bind, is_open, is_close, read_open, read_close, many}
+use Rattle.isle_syntax.proofs.Exact.{Heads, Nothing, Then, Either}
+use Rattle.isle_syntax.proofs.Combine.{OpenS, CloseS}
+use Rattle.isle_syntax.proofs.WordForms.{WordS}
+use Rattle.isle_answers.specs.Form.{ResultForm, One, Tuple, AnswerForm, Plain, Found, Several}
+use Rattle.isle_answers.specs.Form as form
+use Rattle.isle_answers.specs.Spelling.{ResultS, AnswerS, plain, found, nothing, several}
+use Rattle.isle_answers.specs.Reading.{ResultHead, TupleHead, MadeHead, AnswerHead, SomeHead, NoneHead, ListHead, ResultIs, result_head_of, answer_head_of, read_answer_head, read_result, read_result_behind, read_simple_result, read_answer_behind, read_answer_list, read_simple_answer, read_answer}
+use Rattle.isle_answers.proofs.Laws.{Law, law_word, law_open, law_close, law_ret, law_map, law_next, law_peek, law_top, law_many}
+use Rattle.isle_answers.proofs.ValueLaws.{simple_starts}
+use Rattle.isle_answers.proofs.HeadWords.{result_head_is, answer_head_is, some_head, none_head, list_head, own_head, plain_tuple_head}
+use Rattle.isle_answers.proofs.ResultLaws.{BehindS, ResultListS, SimpleResultS, result_list_to, simple_result_to, result_from, result_starts, simple_result_law, behind_law, result_law}
+
+-- ---- the same said by parts
+
+abbrev NoAnswerS : AnswerForm → List Lexeme → List Lexeme → Type 0
+NoAnswerS = Then CloseS (λ c. Nothing form.Nothing)
+
+-- behind the first word of a list
+abbrev AnswerBehindS : AnswerHead → AnswerForm → List Lexeme → List Lexeme → Type 0
+AnswerBehindS SomeHead = Then ResultS (λ r. Then CloseS (λ c. Nothing (Found r)))
+AnswerBehindS NoneHead = NoAnswerS
+AnswerBehindS ListHead = Then (Many ResultS) (λ rs. Nothing (Several rs))
+AnswerBehindS (ResultIs h) = Then (BehindS h) (λ r. Nothing (Plain r))
+
+abbrev AnswerListS : AnswerForm → List Lexeme → List Lexeme → Type 0
+AnswerListS = Then OpenS (λ o. Then (WordS answer_head_of) AnswerBehindS)
+
+-- an answer of one word
+abbrev SimpleAnswerS : AnswerForm → List Lexeme → List Lexeme → Type 0
+SimpleAnswerS = Then SimpleResultS (λ r. Nothing (Plain r))
+
+behind_to : (h : AnswerHead) (at m : ℕ) (w : List ℕ) (a : AnswerForm) (ts rest : List Lexeme) → answer_head_of w ≡ Some h → AnswerBehindS h a ts rest → AnswerS a (Open at ∷ Word m w ∷ ts) rest
+behind_to SomeHead at m w a ts rest e (r, mid, s, (c, us, ec, (p, q))) =
+    subst (λ z. AnswerS z (Open at ∷ Word m w ∷ ts) rest) (sym p)
+    (found at m c w r ts rest (answer_head_is w SomeHead e) (subst (λ z. ResultS r ts z) (ec ∙ ap (λ z. Close c ∷ z) q) s))
+behind_to NoneHead at m w a ts rest e (c, us, ec, (p, q)) =
+    subst (λ z. AnswerS z (Open at ∷ Word m w ∷ ts) rest) (sym p)
+    (subst (λ z. AnswerS form.Nothing (Open at ∷ Word m w ∷ z) rest) (sym (ec ∙ ap (λ z. Close c ∷ z) q)) (nothing at m c w rest (answer_head_is w NoneHead e)))
+behind_to ListHead at m w a ts rest e (rs, mid, s, (p, q)) =
+    subst (λ z. AnswerS z (Open at ∷ Word m w ∷ ts) rest) (sym p) (several at m w rs ts rest (answer_head_is w ListHead e) (subst (λ z. Many ResultS rs ts z) q s))
+behind_to (ResultIs h) at m w a ts rest e (r, mid, s, (p, q)) =
+    subst (λ z. AnswerS z (Open at ∷ Word m w ∷ ts) rest) (sym p)
+    (plain r (Open at ∷ Word m w ∷ ts) rest (result_list_to r (Open at ∷ Word m w ∷ ts) rest (at, Word m w ∷ ts, refl, (h, ts, (m, w, refl, answer_head_is w (ResultIs h) e), subst (λ z. BehindS h r ts z) q s))))
+
+list_to : (a : AnswerForm) (ts rest : List Lexeme) → AnswerListS a ts rest → AnswerS a ts rest
+list_to a ts rest (o, us, eo, (h, vs, (at, w, ew, eh), b)) =
+    subst (λ z. AnswerS a z rest) (sym (eo ∙ ap (λ z. Open o ∷ z) ew)) (behind_to h o at w a vs rest eh b)
+
+shape_to : (a : AnswerForm) (ts rest : List Lexeme) → Either AnswerListS SimpleAnswerS a ts rest → AnswerS a ts rest
+shape_to a ts rest (inl s) = list_to a ts rest s
+shape_to a ts rest (inr (r, mid, s, (p, q))) = subst (λ z. AnswerS z ts rest) (sym p) (plain r ts rest (simple_result_to r ts rest (subst (λ z. SimpleResultS r ts z) q s)))
+
+-- a result's first word is an answer's
+plain_head : (h : ResultHead) (w : List ℕ) → result_head_of w ≡ Some h → answer_head_of w ≡ Some (ResultIs h)
+plain_head TupleHead w e = plain_tuple_head w (result_head_is w TupleHead e)
+plain_head (MadeHead v) w e = let x = result_head_is w (MadeHead v) e in own_head w x.1 x.2 ∙ ap (λ z. Some (ResultIs (MadeHead z))) (sym x.0)
+
+plain_from : (r : ResultForm) (ts rest : List Lexeme) → Either ResultListS SimpleResultS r ts rest → Either AnswerListS SimpleAnswerS (Plain r) ts rest
+plain_from r ts rest (inl (o, us, eo, (h, vs, (at, w, ew, eh), b))) = inl (o, us, eo, (ResultIs h, vs, (at, w, ew, plain_head h w eh), (r, rest, b, (refl, refl))))
+plain_from r ts rest (inr s) = inr (r, rest, s, (refl, refl))
+
+shape_from : (a : AnswerForm) (ts rest : List Lexeme) → AnswerS a ts rest → Either AnswerListS SimpleAnswerS a ts rest
+shape_from _ _ _ (plain r ts rest s) = plain_from r ts rest (result_from r ts rest s)
+shape_from _ _ _ (found at h c w r ts rest e s) =
+    inl (at, Word h w ∷ ts, refl, (SomeHead, ts, (h, w, refl, some_head w e), (r, Close c ∷ rest, s, (c, rest, refl, (refl, refl)))))
+shape_from _ _ _ (nothing at h c w rest e) =
+    inl (at, Word h w ∷ Close c ∷ rest, refl, (NoneHead, Close c ∷ rest, (h, w, refl, none_head w e), (c, rest, refl, (refl, refl))))
+shape_from _ _ _ (several at h w rs ts rest e m) =
+    inl (at, Word h w ∷ ts, refl, (ListHead, ts, (h, w, refl, list_head w e), (rs, rest, m, (refl, refl))))
+
+pub answer_starts : (a : AnswerForm) (ts rest : List Lexeme) → AnswerS a ts rest → Heads is_close false ts
+answer_starts _ _ _ (plain r ts rest s) = result_starts r ts rest s
+answer_starts _ _ _ (found at h c w r ts rest e s) = (Open at, Word h w ∷ ts, refl, refl)
+answer_starts _ _ _ (nothing at h c w rest e) = (Open at, Word h w ∷ Close c ∷ rest, refl, refl)
+answer_starts _ _ _ (several at h w rs ts rest e m) = (Open at, Word h w ∷ ts, refl, refl)
+
+list_starts : (a : AnswerForm) (ts rest : List Lexeme) → AnswerListS a ts rest → Heads is_open true ts
+list_starts a ts rest s = (Open s.0, s.1, s.2, refl)
+
+word_starts : (a : AnswerForm) (ts rest : List Lexeme) → SimpleAnswerS a ts rest → Heads is_open false ts
+word_starts a ts rest s = simple_starts s.2.0 ts s.2.1 s.2.2
+
+a_none : answer_head_of (codes "none") ≡ Some NoneHead
+a_none = refl
+
+module _ (most n : ℕ) where
+  simple_law : (opened : ℕ) → Law most opened opened n SimpleAnswerS read_simple_answer
+  unfolding read_simple_answer
+  simple_law opened = law_next most opened opened opened n read_simple_result (λ r. Ret (Plain r)) (simple_result_law most n opened) (λ r. law_ret most opened n (Plain r))
+
+  -- a closing parenthesis, and the answer
+  closed_law : (opened : ℕ) (a : AnswerForm) → Law most (suc opened) opened n (Then CloseS (λ c. Nothing a)) (bind read_close (λ c. Ret a))
+  closed_law opened a = law_next most (suc opened) opened opened n read_close (λ c. Ret a) (law_close most opened n) (λ c. law_ret most opened n a)
+
+  answer_behind_law : (d opened : ℕ) → most ≡ suc opened + d → (h : AnswerHead) → Law most (suc opened) opened n (AnswerBehindS h) (read_answer_behind n d h)
+  unfolding read_answer_behind
+  answer_behind_law d opened e SomeHead =
+      law_next most (suc opened) (suc opened) opened n (read_result n d) (λ r. bind read_close (λ c. Ret (Found r))) (result_law most n d (suc opened) e) (λ r. closed_law opened (Found r))
+  answer_behind_law d opened e NoneHead = closed_law opened form.Nothing
+  answer_behind_law d opened e ListHead =
+      law_next most (suc opened) opened opened n (many n (read_result n d)) (λ rs. Ret (Several rs)) (law_many most opened n (read_result n d) result_starts (result_law most n d (suc opened) e)) (λ rs. law_ret most opened n (Several rs))
+  answer_behind_law d opened e (ResultIs h) =
+      law_next most (suc opened) opened opened n (read_result_behind n d h) (λ r. Ret (Plain r)) (behind_law most n d opened e h) (λ r. law_ret most opened n (Plain r))
+
+  head_law : (opened : ℕ) → Law most opened opened n (WordS answer_head_of) read_answer_head
+  unfolding read_answer_head
+  head_law opened = law_word most opened n answer_head_of (codes "none", NoneHead, a_none)
+
+  list_law : (d opened : ℕ) → most ≡ suc opened + d → Law most opened opened n AnswerListS (read_answer_list n d)
+  unfolding read_answer_list
+  list_law d opened e = law_next most opened (suc opened) opened n read_open (λ o. bind read_answer_head (λ h. read_answer_behind n d h)) (law_open most opened n (omega (arith, e))) (λ o.
+      law_next most (suc opened) (suc opened) opened n read_answer_head (λ h. read_answer_behind n d h) (head_law (suc opened)) (λ h. answer_behind_law d opened e h))
+
+  pub answer_law : (d opened : ℕ) → most ≡ opened + d → Law most opened opened n AnswerS (read_answer n d)
+  unfolding read_answer
+  answer_law zero opened e = law_map most opened opened n shape_to shape_from
+      (law_top {S = AnswerListS} {T = SimpleAnswerS} most opened n read_simple_answer (omega (arith, e)) list_starts word_starts (simple_law opened))
+  answer_law (suc d) opened e = law_map most opened opened n shape_to shape_from
+      (law_peek most opened opened n is_open (read_answer_list n d) read_simple_answer list_starts word_starts (list_law d opened (omega (arith, e))) (simple_law opened))

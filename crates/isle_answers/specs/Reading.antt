@@ -1,0 +1,271 @@
+-- Readers of answers files.
+use Rattle.std.specs.Prelude.{ℕ, zero, suc, ◌-◌, length, List, [], ◌∷◌, reverse, Bool, true, false, ◌&&◌, if◌then◌else◌, Option, Some, None, option_map, bytes_eq, codes}
+use Rattle.isle_core.specs.declared.values.Callee.{Callee}
+use Rattle.isle_syntax.specs.Depth.{most_open}
+use Rattle.isle_syntax.specs.Lexeme.{Lexeme}
+use Rattle.isle_syntax.specs.Reader.{Reading, Reader, Ret, Peek, End, Halt, run, bind, is_open, is_close, read_open, read_close, many}
+use Rattle.isle_syntax.specs.Reading.{no_call, read_word, read_name, name_of, refuse}
+use Rattle.isle_values.specs.Written.{Written, Writtens, Truth, Number, Made, NoValue, AValue}
+use Rattle.isle_values.specs.Views.{in_order}
+use Rattle.isle_values.specs.Reading.{read_simple, read_value, read_list}
+use Rattle.isle_answers.specs.Form.{ResultForm, One, Tuple, AnswerForm, Plain, Found, Nothing, Several, CaseForm, Form}
+use Rattle.isle_answers.specs.Form as form
+use Rattle.isle_answers.specs.Words.{count_of, callee_of, is_reserved}
+
+-- ---- results and answers
+
+-- what a list is that is a result, by its first word
+pub data ResultHead : Type 0 where
+  TupleHead : ResultHead
+  MadeHead : List ℕ → ResultHead
+
+-- what a list is that is an answer
+pub data AnswerHead : Type 0 where
+  SomeHead : AnswerHead
+  NoneHead : AnswerHead
+  ListHead : AnswerHead
+  ResultIs : ResultHead → AnswerHead
+
+-- the first word of a result's list
+abbrev pub result_head_of : List ℕ → Option ResultHead
+result_head_of w =
+    if bytes_eq w (codes "tuple") then Some TupleHead
+    else (if is_reserved w then None
+    else option_map (λ name. MadeHead name) (name_of w))
+
+-- the first word of an answer's list
+abbrev pub answer_head_of : List ℕ → Option AnswerHead
+answer_head_of w =
+    if bytes_eq w (codes "some") then Some SomeHead
+    else (if bytes_eq w (codes "none") then Some NoneHead
+    else (if bytes_eq w (codes "list") then Some ListHead
+    else option_map (λ h. ResultIs h) (result_head_of w)))
+
+unfoldable pub read_result_head : {F : Type 0} → Reader F ResultHead
+read_result_head = read_word result_head_of
+
+unfoldable pub read_answer_head : {F : Type 0} → Reader F AnswerHead
+read_answer_head = read_word answer_head_of
+
+-- a result of one word
+unfoldable pub read_simple_result : {F : Type 0} → Reader F ResultForm
+read_simple_result = bind read_simple (λ v. Ret (One v))
+
+-- behind the first word of a result's list, its values' parentheses nesting at most d deep
+unfoldable pub read_result_behind : {F : Type 0} → ℕ → ℕ → ResultHead → Reader F ResultForm
+read_result_behind n d TupleHead = bind (many n (read_value n d)) (λ vs. Ret (Tuple vs))
+read_result_behind n d (MadeHead w) = bind (many n (read_value n d)) (λ vs. Ret (One (Made w (in_order vs))))
+
+-- behind the parenthesis of a result's list
+unfoldable pub read_result_list : {F : Type 0} → ℕ → ℕ → Reader F ResultForm
+read_result_list n d = bind read_open (λ o. bind read_result_head (λ h. read_result_behind n d h))
+
+-- R, whose parentheses nest at most d deep
+unfoldable pub read_result : {F : Type 0} → ℕ → ℕ → Reader F ResultForm
+read_result n zero = Peek is_open Halt read_simple_result
+read_result n (suc d) = Peek is_open (read_result_list n d) read_simple_result
+
+-- behind the first word of an answer's list
+unfoldable pub read_answer_behind : {F : Type 0} → ℕ → ℕ → AnswerHead → Reader F AnswerForm
+read_answer_behind n d SomeHead = bind (read_result n d) (λ r. bind read_close (λ c. Ret (Found r)))
+read_answer_behind n d NoneHead = bind read_close (λ c. Ret Nothing)
+read_answer_behind n d ListHead = bind (many n (read_result n d)) (λ rs. Ret (Several rs))
+read_answer_behind n d (ResultIs h) = bind (read_result_behind n d h) (λ r. Ret (Plain r))
+
+unfoldable pub read_answer_list : {F : Type 0} → ℕ → ℕ → Reader F AnswerForm
+read_answer_list n d = bind read_open (λ o. bind read_answer_head (λ h. read_answer_behind n d h))
+
+unfoldable pub read_simple_answer : {F : Type 0} → Reader F AnswerForm
+read_simple_answer = bind read_simple_result (λ r. Ret (Plain r))
+
+-- A, whose parentheses nest at most d deep
+unfoldable pub read_answer : {F : Type 0} → ℕ → ℕ → Reader F AnswerForm
+read_answer n zero = Peek is_open Halt read_simple_answer
+read_answer n (suc d) = Peek is_open (read_answer_list n d) read_simple_answer
+
+-- ---- cases
+
+-- what a list in `answers` is
+pub data PartHead : Type 0 where
+  CaseHead : PartHead
+  RestHead : PartHead
+
+abbrev pub part_head_of : List ℕ → Option PartHead
+part_head_of w =
+    if bytes_eq w (codes "case") then Some CaseHead
+    else (if bytes_eq w (codes "rest") then Some RestHead
+    else None)
+
+unfoldable pub read_part_head : {F : Type 0} → Reader F PartHead
+read_part_head = read_word part_head_of
+
+-- ( V* ) A ) of a case
+unfoldable pub read_case : {F : Type 0} → ℕ → ℕ → Reader F CaseForm
+read_case n d = bind (read_list n (d - 1)) (λ args. bind (read_answer n d) (λ a. bind read_close (λ c. Ret (record { args = args; answer = a }))))
+
+-- A ) ) of the rest
+unfoldable pub read_rest : {F : Type 0} → ℕ → ℕ → Reader F AnswerForm
+read_rest n d = bind (read_answer n d) (λ a. bind read_close (λ c. bind read_close (λ e. Ret a)))
+
+-- a case and what stands behind it, or the rest
+unfoldable pub read_part : {F : Type 0} → ℕ → ℕ → Reader F (List CaseForm × AnswerForm) → PartHead → Reader F (List CaseForm × AnswerForm)
+read_part n d more CaseHead = bind (read_case n d) (λ c. bind more (λ others. Ret (c ∷ others.0, others.1)))
+read_part n d more RestHead = bind (read_rest n d) (λ a. Ret ([], a))
+
+-- fewer than m cases, the rest, and the parenthesis behind it
+unfoldable pub read_cases : {F : Type 0} → ℕ → ℕ → ℕ → Reader F (List CaseForm × AnswerForm)
+read_cases n d zero = Halt
+read_cases n d (suc m) = bind read_open (λ o. bind read_part_head (λ h. read_part n d (read_cases n d m) h))
+
+-- ---- turns
+
+-- values of a list of values
+abbrev pub listed : Writtens → List Written
+listed NoValue = []
+listed (AValue v vs) = v ∷ listed vs
+
+-- the result that a value is
+abbrev pub result_is : Written → Option ResultForm
+result_is (Truth b) = Some (One (Truth b))
+result_is (Number n) = Some (One (Number n))
+result_is (Made w parts) = if bytes_eq w (codes "tuple") then Some (Tuple (listed parts)) else (if is_reserved w then None else Some (One (Made w parts)))
+
+abbrev pub with_result : Option ResultForm → Option (List ResultForm) → Option (List ResultForm)
+with_result None rs = None
+with_result (Some r) rs = option_map (λ others. r ∷ others) rs
+
+-- the results that values are
+abbrev pub results_are : Writtens → Option (List ResultForm)
+results_are NoValue = Some []
+results_are (AValue v vs) = with_result (result_is v) (results_are vs)
+
+-- the only one of these values
+abbrev pub only_of : Writtens → Option Written
+only_of NoValue = None
+only_of (AValue v NoValue) = Some v
+only_of (AValue v (AValue u vs)) = None
+
+-- the answer `some` of these parts
+abbrev pub found_is : Writtens → Option AnswerForm
+found_is NoValue = None
+found_is (AValue v NoValue) = option_map (λ r. Found r) (result_is v)
+found_is (AValue v (AValue u vs)) = None
+
+-- the answer `none` of these parts
+abbrev pub nothing_is : Writtens → Option AnswerForm
+nothing_is NoValue = Some Nothing
+nothing_is (AValue v vs) = None
+
+-- the answer that a value is
+abbrev pub answer_is : Written → Option AnswerForm
+answer_is (Truth b) = Some (Plain (One (Truth b)))
+answer_is (Number n) = Some (Plain (One (Number n)))
+answer_is (Made w parts) =
+    if bytes_eq w (codes "some") then found_is parts
+    else (if bytes_eq w (codes "none") then nothing_is parts
+    else (if bytes_eq w (codes "list") then option_map (λ rs. Several rs) (results_are parts)
+    else option_map (λ r. Plain r) (result_is (Made w parts))))
+
+-- the answer that these parts of a `rest` are
+abbrev pub only_answer : Writtens → Option AnswerForm
+only_answer NoValue = None
+only_answer (AValue v NoValue) = answer_is v
+only_answer (AValue v (AValue u vs)) = None
+
+-- the rest that a value is
+abbrev pub rest_value : Written → Option AnswerForm
+rest_value (Truth b) = None
+rest_value (Number n) = None
+rest_value (Made w parts) = if bytes_eq w (codes "rest") then only_answer parts else None
+
+-- the rest that a turn is
+abbrev pub rest_is : AnswerForm → Option AnswerForm
+rest_is (Plain (One v)) = rest_value v
+rest_is (Plain (Tuple vs)) = None
+rest_is (Found r) = None
+rest_is Nothing = None
+rest_is (Several rs) = None
+
+-- the turns and the rest, where what was read stands in reverse
+abbrev pub ended : List AnswerForm → Option (List AnswerForm × AnswerForm)
+ended [] = None
+ended (last ∷ before) = option_map (λ a. (reverse before, a)) (rest_is last)
+
+-- the parenthesis behind the turns
+abbrev pub read_ended : {F : Type 0} → Option (List AnswerForm × AnswerForm) → Reader F (List AnswerForm × AnswerForm)
+read_ended None = refuse
+read_ended (Some turns) = bind read_close (λ c. Ret turns)
+
+-- fewer than m turns behind those that were read, the rest, and the parenthesis behind it
+unfoldable pub read_turns : {F : Type 0} → ℕ → ℕ → ℕ → List AnswerForm → Reader F (List AnswerForm × AnswerForm)
+read_turns n d zero done = Halt
+read_turns n d (suc m) done = Peek is_close (read_ended (ended done)) (bind (read_answer n d) (λ a. read_turns n d m (a ∷ done)))
+
+-- ---- forms
+
+-- what a form is
+pub data FormHead : Type 0 where
+  HeldHead : FormHead
+  MaxHead : FormHead
+  ConstHead : FormHead
+  AnswersHead : FormHead
+  TurnsHead : FormHead
+
+-- what a form is, where `held` and `max` may still stand or may not
+abbrev pub form_head_of : (held max : Bool) → List ℕ → Option FormHead
+form_head_of held max w =
+    if held && bytes_eq w (codes "held") then Some HeldHead
+    else (if max && bytes_eq w (codes "max") then Some MaxHead
+    else (if bytes_eq w (codes "const") then Some ConstHead
+    else (if bytes_eq w (codes "answers") then Some AnswersHead
+    else (if bytes_eq w (codes "turns") then Some TurnsHead
+    else None))))
+
+unfoldable pub read_form_head : {F : Type 0} → (held max : Bool) → Reader F FormHead
+read_form_head held max = read_word (form_head_of held max)
+
+unfoldable pub read_count : {F : Type 0} → Reader F ℕ
+read_count = read_word count_of
+
+unfoldable pub read_callee : {F : Type 0} → Reader F Callee
+read_callee = read_word callee_of
+
+-- N ) of `held` and `max`
+unfoldable pub read_counted : {F : Type 0} → Reader F ℕ
+read_counted = bind read_count (λ n. bind read_close (λ c. Ret n))
+
+-- NAME V ) of the constant at that place
+unfoldable pub read_const : {F : Type 0} → ℕ → ℕ → ℕ → Reader F Form
+read_const n d at = bind read_name (λ name. bind (read_value n d) (λ v. bind read_close (λ c. Ret (form.Const name v at))))
+
+-- behind the first word of the form at that place
+unfoldable pub read_behind : {F : Type 0} → ℕ → ℕ → ℕ → FormHead → Reader F Form
+read_behind n d at HeldHead = bind read_counted (λ count. Ret (form.Held count at))
+read_behind n d at MaxHead = bind read_counted (λ count. Ret (form.Max count at))
+read_behind n d at ConstHead = read_const n d at
+read_behind n d at AnswersHead = bind read_callee (λ callee. bind (read_cases n (d - 1) n) (λ x. Ret (form.Answers callee x.0 x.1 at)))
+read_behind n d at TurnsHead = bind read_callee (λ callee. bind (read_turns n d n []) (λ x. Ret (form.Turns callee x.0 x.1 at)))
+
+-- that the form may still stand behind this one
+abbrev pub held_behind : Bool → FormHead → Bool
+held_behind held HeldHead = false
+held_behind held MaxHead = held
+held_behind held ConstHead = held
+held_behind held AnswersHead = held
+held_behind held TurnsHead = held
+
+abbrev pub max_behind : Bool → FormHead → Bool
+max_behind max HeldHead = max
+max_behind max MaxHead = false
+max_behind max ConstHead = max
+max_behind max AnswersHead = max
+max_behind max TurnsHead = max
+
+-- at most m forms up to the end
+unfoldable pub read_forms : {F : Type 0} → ℕ → ℕ → ℕ → (held max : Bool) → Reader F (List Form)
+read_forms n d zero held max = End (Ret []) Halt
+read_forms n d (suc m) held max = End (Ret []) (bind read_open (λ at. bind (read_form_head held max) (λ h. bind (read_behind n d at h) (λ f. bind (read_forms n d m (held_behind held h) (max_behind max h)) (λ others. Ret (f ∷ others))))))
+
+-- what comes of tokens as an answers file
+abbrev pub forms_of : List Lexeme → Reading (List Form)
+forms_of ts = run no_call (read_forms (length ts) (most_open - 1) (length ts) true true) ts

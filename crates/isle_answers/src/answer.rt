@@ -1,0 +1,133 @@
+ghost use Rattle.std.specs.Prelude.{◌≡◌, IfOk, IfErr, option_map};
+ghost use Rattle.isle_syntax.specs.Reader.{run, Got};
+ghost use Rattle.isle_syntax.specs.Reading.{no_call, next_word};
+ghost use Rattle.isle_syntax.specs.ReadingViews.{left, Refuses};
+ghost use Rattle.isle_answers.specs.Reading.{answer_head_of, read_answer_head, read_answer_behind, read_answer_list, read_answer};
+ghost use Rattle.isle_answers.specs.Views.{answer_seen};
+ghost use Rattle.isle_answers.specs.HeadViews.{answer_head_seen};
+
+use crate::form::AnswerForm;
+use crate::result::{ResultHead, result, result_behind, result_head_of, results, simple_result};
+use isle_core::List;
+use isle_syntax::{Fail, Tokens};
+use std::alloc::{AllocError, Global};
+
+/// What a list is that is an answer.
+#[derive(Debug, Drop)]
+pub enum AnswerHead {
+    Some,
+    Nothing,
+    List,
+    Result(ResultHead),
+}
+
+/// What an answer's list is that begins with the word.
+fn answer_head_of(alloc: Global, word: &str) -> Result<Option<AnswerHead>, AllocError>
+    ensures { IfOk result (λ read. option_map answer_head_seen read ≡ answer_head_of word.now) }
+{
+    match word {
+        "some" => Ok(Some(AnswerHead::Some)),
+        "none" => Ok(Some(AnswerHead::Nothing)),
+        "list" => Ok(Some(AnswerHead::List)),
+        _ => match result_head_of(alloc, word)? {
+            Some(head) => Ok(Some(AnswerHead::Result(head))),
+            None => Ok(None),
+        },
+    }
+}
+
+/// What an answer's list is, by the word that is next.
+#[tactic(auto, using(isle_syntax::proofs::Steps::next_some, isle_syntax::proofs::Steps::next_none))]
+fn next_head(tokens: &Tokens<'_>, alloc: Global) -> Result<Option<AnswerHead>, AllocError>
+    ensures { IfOk result (λ next. option_map answer_head_seen next ≡ next_word answer_head_of (left tokens.now)) }
+{
+    match tokens.word() {
+        Some(word) => answer_head_of(alloc, word),
+        None => Ok(None),
+    }
+}
+
+/// What an answer's list is, by its first word.
+#[tactic(auto, using(crate::proofs::Leaves::leaves))]
+fn answer_head(tokens: &mut Tokens<'_>, alloc: Global) -> Result<AnswerHead, Fail>
+    ensures got { IfOk result (λ head. run no_call read_answer_head (left tokens.old) ≡ Got (answer_head_seen head) (left tokens.new)) }
+    ensures refused { IfErr result (λ fail. Refuses fail (run no_call read_answer_head (left tokens.old))) }
+{
+    match next_head(tokens, alloc)? {
+        Some(head) => {
+            tokens.skip();
+            Ok(head)
+        }
+        None => Err(Fail::At(tokens.len())),
+    }
+}
+
+/// What stands behind the first word of an answer's list.
+#[tactic(auto, using(crate::proofs::AnswerSteps::behind_steps))]
+fn answer_behind(
+    tokens: &mut Tokens<'_>,
+    alloc: Global,
+    most: usize,
+    depth: usize,
+    head: AnswerHead,
+) -> Result<AnswerForm, Fail>
+    ensures got { IfOk result (λ read. run no_call (read_answer_behind most depth (answer_head_seen head)) (left tokens.old) ≡ Got (answer_seen read) (left tokens.new)) }
+    ensures refused { IfErr result (λ fail. Refuses fail (run no_call (read_answer_behind most depth (answer_head_seen head)) (left tokens.old))) }
+{
+    match head {
+        AnswerHead::Some => {
+            let found = result(tokens, alloc, most, depth)?;
+            tokens.close()?;
+            Ok(AnswerForm::Some(found))
+        }
+        AnswerHead::Nothing => {
+            tokens.close()?;
+            Ok(AnswerForm::Nothing)
+        }
+        AnswerHead::List => {
+            let several = results(tokens, alloc, most, depth)?;
+            Ok(AnswerForm::List(List::new(several)))
+        }
+        AnswerHead::Result(head) => Ok(AnswerForm::Plain(result_behind(
+            tokens, alloc, most, depth, head,
+        )?)),
+    }
+}
+
+/// An answer's list.
+#[tactic(auto, using(crate::proofs::AnswerSteps::list_steps))]
+fn answer_list(
+    tokens: &mut Tokens<'_>,
+    alloc: Global,
+    most: usize,
+    depth: usize,
+) -> Result<AnswerForm, Fail>
+    ensures got { IfOk result (λ read. run no_call (read_answer_list most depth) (left tokens.old) ≡ Got (answer_seen read) (left tokens.new)) }
+    ensures refused { IfErr result (λ fail. Refuses fail (run no_call (read_answer_list most depth) (left tokens.old))) }
+{
+    tokens.open()?;
+    let head = answer_head(tokens, alloc)?;
+    answer_behind(tokens, alloc, most, depth, head)
+}
+
+/// An answer whose parentheses nest at most `depth` deep, its lists of fewer than `most` parts.
+#[tactic(auto, using(crate::proofs::Choices::answer_choice))]
+pub fn answer(
+    tokens: &mut Tokens<'_>,
+    alloc: Global,
+    most: usize,
+    depth: usize,
+) -> Result<AnswerForm, Fail>
+    ensures got { IfOk result (λ read. run no_call (read_answer most depth) (left tokens.old) ≡ Got (answer_seen read) (left tokens.new)) }
+    ensures refused { IfErr result (λ fail. Refuses fail (run no_call (read_answer most depth) (left tokens.old))) }
+{
+    match tokens.opens() {
+        None => Ok(AnswerForm::Plain(simple_result(tokens)?)),
+        Some(_) => {
+            if depth == 0 {
+                return Err(Fail::At(tokens.len()));
+            }
+            answer_list(tokens, alloc, most, depth - 1)
+        }
+    }
+}

@@ -1,0 +1,149 @@
+ghost use Rattle.std.specs.Prelude.{◌≡◌, IfOk, IfErr, map, option_map};
+ghost use Rattle.isle_syntax.specs.Reader.{run, Got, many};
+ghost use Rattle.isle_syntax.specs.Reading.{no_call, next_word};
+ghost use Rattle.isle_syntax.specs.ReadingViews.{left, Refuses};
+ghost use Rattle.isle_answers.specs.Reading.{result_head_of, read_result_head, read_simple_result, read_result_behind, read_result_list, read_result};
+ghost use Rattle.isle_answers.specs.Views.{result_seen};
+ghost use Rattle.isle_answers.specs.HeadViews.{result_head_seen};
+
+use crate::form::ResultForm;
+use crate::words::is_reserved;
+use isle_core::{List, Text};
+use isle_syntax::{Fail, Tokens, is_name, text_of};
+use isle_values::{Written, parts, simple};
+use std::alloc::{AllocError, Global};
+
+/// What a list is that is a result.
+#[derive(Debug, Drop)]
+pub enum ResultHead {
+    Tuple,
+    Made(Text),
+}
+
+/// What a result's list is that begins with the word.
+pub fn result_head_of(alloc: Global, word: &str) -> Result<Option<ResultHead>, AllocError>
+    ensures { IfOk result (λ read. option_map result_head_seen read ≡ result_head_of word.now) }
+{
+    if word == "tuple" {
+        return Ok(Some(ResultHead::Tuple));
+    }
+    if is_reserved(word) || !is_name(word) {
+        return Ok(None);
+    }
+    Ok(Some(ResultHead::Made(text_of(alloc, word)?)))
+}
+
+/// What a result's list is, by the word that is next.
+#[tactic(auto, using(isle_syntax::proofs::Steps::next_some, isle_syntax::proofs::Steps::next_none))]
+fn next_head(tokens: &Tokens<'_>, alloc: Global) -> Result<Option<ResultHead>, AllocError>
+    ensures { IfOk result (λ next. option_map result_head_seen next ≡ next_word result_head_of (left tokens.now)) }
+{
+    match tokens.word() {
+        Some(word) => result_head_of(alloc, word),
+        None => Ok(None),
+    }
+}
+
+/// What a result's list is, by its first word.
+#[tactic(auto, using(crate::proofs::Leaves::leaves))]
+fn result_head(tokens: &mut Tokens<'_>, alloc: Global) -> Result<ResultHead, Fail>
+    ensures got { IfOk result (λ head. run no_call read_result_head (left tokens.old) ≡ Got (result_head_seen head) (left tokens.new)) }
+    ensures refused { IfErr result (λ fail. Refuses fail (run no_call read_result_head (left tokens.old))) }
+{
+    match next_head(tokens, alloc)? {
+        Some(head) => {
+            tokens.skip();
+            Ok(head)
+        }
+        None => Err(Fail::At(tokens.len())),
+    }
+}
+
+/// A result of one word.
+#[tactic(auto, using(crate::proofs::ResultSteps::simple_result_steps))]
+pub fn simple_result(tokens: &mut Tokens<'_>) -> Result<ResultForm, Fail>
+    ensures got { IfOk result (λ read. run no_call read_simple_result (left tokens.old) ≡ Got (result_seen read) (left tokens.new)) }
+    ensures refused { IfErr result (λ fail. Refuses fail (run no_call read_simple_result (left tokens.old))) }
+{
+    Ok(ResultForm::One(simple(tokens)?))
+}
+
+/// What stands behind the first word of a result's list.
+#[tactic(auto, using(crate::proofs::ResultSteps::behind_steps, isle_values::proofs::Sees::sees))]
+pub fn result_behind(
+    tokens: &mut Tokens<'_>,
+    alloc: Global,
+    most: usize,
+    depth: usize,
+    head: ResultHead,
+) -> Result<ResultForm, Fail>
+    ensures got { IfOk result (λ read. run no_call (read_result_behind most depth (result_head_seen head)) (left tokens.old) ≡ Got (result_seen read) (left tokens.new)) }
+    ensures refused { IfErr result (λ fail. Refuses fail (run no_call (read_result_behind most depth (result_head_seen head)) (left tokens.old))) }
+{
+    let values = List::new(parts(tokens, alloc, most, depth)?);
+    match head {
+        ResultHead::Tuple => Ok(ResultForm::Tuple(values)),
+        ResultHead::Made(name) => Ok(ResultForm::One(Written::Made(name, values))),
+    }
+}
+
+/// A result's list.
+#[tactic(auto, using(crate::proofs::ResultSteps::list_steps))]
+fn result_list(
+    tokens: &mut Tokens<'_>,
+    alloc: Global,
+    most: usize,
+    depth: usize,
+) -> Result<ResultForm, Fail>
+    ensures got { IfOk result (λ read. run no_call (read_result_list most depth) (left tokens.old) ≡ Got (result_seen read) (left tokens.new)) }
+    ensures refused { IfErr result (λ fail. Refuses fail (run no_call (read_result_list most depth) (left tokens.old))) }
+{
+    tokens.open()?;
+    let head = result_head(tokens, alloc)?;
+    result_behind(tokens, alloc, most, depth, head)
+}
+
+/// A result whose parentheses nest at most `depth` deep, its lists of fewer than `most` parts.
+#[tactic(auto, using(crate::proofs::Choices::result_choice))]
+pub fn result(
+    tokens: &mut Tokens<'_>,
+    alloc: Global,
+    most: usize,
+    depth: usize,
+) -> Result<ResultForm, Fail>
+    ensures got { IfOk result (λ read. run no_call (read_result most depth) (left tokens.old) ≡ Got (result_seen read) (left tokens.new)) }
+    ensures refused { IfErr result (λ fail. Refuses fail (run no_call (read_result most depth) (left tokens.old))) }
+{
+    match tokens.opens() {
+        None => simple_result(tokens),
+        Some(_) => {
+            if depth == 0 {
+                return Err(Fail::At(tokens.len()));
+            }
+            result_list(tokens, alloc, most, depth - 1)
+        }
+    }
+}
+
+/// Fewer than `most` results up to a closing parenthesis, which is taken.
+pub fn results(
+    tokens: &mut Tokens<'_>,
+    alloc: Global,
+    most: usize,
+    depth: usize,
+) -> Result<Vec<ResultForm>, Fail>
+    ensures got { IfOk result (λ read. run no_call (many most (read_result most depth)) (left tokens.old) ≡ Got (map result_seen read.items) (left tokens.new)) }
+    ensures refused { IfErr result (λ fail. Refuses fail (run no_call (many most (read_result most depth)) (left tokens.old))) }
+{
+    let mut results = Vec::new(alloc);
+    for _ in 0..most {
+        match tokens.closes() {
+            Some(_) => {
+                tokens.skip();
+                return Ok(results);
+            }
+            None => results.push(result(tokens, alloc, most, depth)?)?,
+        }
+    }
+    Err(Fail::At(tokens.len()))
+}

@@ -1,0 +1,77 @@
+ghost use Rattle.std.specs.Prelude.{◌≡◌, ◌-◌, ℕ, List, drop, length, Err, IfOk};
+ghost use Rattle.isle_syntax.specs.Reader.{place};
+ghost use Rattle.isle_syntax.specs.TokenViews.{token_seen, tokens_seen};
+ghost use Rattle.isle_answers.specs.Form.{Form as PureForm};
+ghost use Rattle.isle_answers.specs.Places.{first_place, IsTokenFault, IsFault};
+ghost use Rattle.isle_answers.specs.Spelling.{SpellsTokens, SpellsForms};
+ghost use Rattle.isle_answers.specs.Views.{forms_seen};
+ghost use Rattle.isle_answers.specs.declared.texts.AnswersFail.TheVariants.{At};
+
+use crate::form::Form;
+use crate::reading::all_forms;
+use isle_core::List;
+use isle_syntax::{Fail, Lexer, Token, Tokens, most_inside};
+use std::alloc::Global;
+
+/// Why a text gives no forms.
+#[derive(Clone, Copy, Debug, PartialEq, Eq)]
+pub enum AnswersFail {
+    /// The start of a comment that never ends, or else the place of the first token with which no answers file begins,
+    /// or the length of the text where a token is missing.
+    At(usize),
+    Memory,
+}
+
+/// Where a token begins.
+fn place(token: Token<'_>) -> usize
+    ensures { result ≡ place (token_seen token.entry) }
+{
+    match token {
+        Token::Open(at)
+        | Token::Close(at)
+        | Token::At(at)
+        | Token::Less(at)
+        | Token::Greater(at)
+        | Token::Word(at, _) => at,
+    }
+}
+
+/// The place of the token from which on so many are left, or the end.
+fn place_of(tokens: &[Token<'_>], left: usize, end: usize) -> usize
+    ensures { result ≡ first_place (drop (length tokens.now - left) (tokens_seen tokens.now)) end }
+{
+    match tokens.get(tokens.len().saturating_sub(left)) {
+        Some(token) => place(*token),
+        None => end,
+    }
+}
+
+/// The forms that these tokens of a text of that length spell.
+fn of_tokens(alloc: Global, tokens: &[Token<'_>], end: usize) -> Result<Vec<Form>, AnswersFail>
+    ensures spelt { IfOk result (λ read. SpellsTokens (tokens_seen tokens.now) (forms_seen read.items)) }
+    ensures fault { (at : ℕ) → result ≡ Err (At at) → IsTokenFault (tokens_seen tokens.now) end at }
+{
+    let mut cursor = Tokens::new(tokens);
+    match all_forms(&mut cursor, alloc, tokens.len(), most_inside()) {
+        Ok(read) => Ok(read),
+        Err(Fail::At(left)) => Err(AnswersFail::At(place_of(tokens, left, end))),
+        Err(Fail::Memory) => Err(AnswersFail::Memory),
+    }
+}
+
+/// The forms of the answers file that a text spells, in order. `At` comes exactly where it spells none, with the place
+/// where it goes wrong.
+pub fn forms(alloc: Global, text: &str) -> Result<List<Form>, AnswersFail>
+    ensures spelt { IfOk result (λ read. SpellsForms text.now (forms_seen read)) }
+    ensures only { IfOk result (λ read. (others : List PureForm) → SpellsForms text.now others → others ≡ forms_seen read) }
+    ensures fault { (at : ℕ) → result ≡ Err (At at) → IsFault text.now at }
+{
+    let lexer = match Lexer::new(0, text) {
+        Ok(lexer) => lexer,
+        Err(pos) => return Err(AnswersFail::At(pos.offset)),
+    };
+    match lexer.tokens(alloc) {
+        Ok(tokens) => Ok(List::new(of_tokens(alloc, tokens.as_slice(), text.len())?)),
+        Err(_) => Err(AnswersFail::Memory),
+    }
+}
