@@ -1,5 +1,5 @@
 -- The calls among the bindings of a rule set are of terms that its rules call.
-use Rattle.std.proofs.Common.{◌≡◌, ◌⊎◌, ⊎_elim, ℕ, zero, suc, ◌+◌, List, [], ◌∷◌, ◌++◌, Bool, true, false, cond, Option, Some, None, refl, sym, ap, ◌∙◌, subst}
+use Rattle.std.proofs.Common.{◌≡◌, ⊎_elim, ℕ, zero, suc, ◌+◌, List, [], ◌∷◌, ◌++◌, Bool, true, false, cond, Option, Some, None, refl, sym, ◌∙◌, subst}
 use Rattle.std.specs.Prelude.{Contains, slice_get}
 use Rattle.std.proofs.lemmas.List.Elements.{Contains-append_left, Contains-append_right, Contains-append_cases}
 use Rattle.isle_core.specs.declared.TermId.{TermId}
@@ -7,7 +7,7 @@ use Rattle.isle_core.specs.declared.rule_sets.Binding.{Binding}
 use Rattle.isle_core.specs.declared.rule_sets.Binding.TheVariants as binding
 use Rattle.isle_core.specs.declared.rule_sets.RuleSet.{RuleSet}
 use Rattle.isle_core.specs.Meaning.{Meaning}
-use Rattle.isle_core.specs.Calling.{Calling, calling, is_fallible, instance_of, impure, impure_all}
+use Rattle.isle_core.specs.Calling.{calling, is_fallible, instance_of, impure, impure_all}
 use Rattle.isle_core.specs.Expr as expr
 use Rattle.isle_core.specs.Expr.{Expr, Exprs, NoExpr, AnExpr}
 use Rattle.isle_core.specs.Lawful.{called_by, called_by_all, called_in, called, AnswersFit, IsLawful}

@@ -42,7 +42,7 @@ source_from files file (text ∷ texts) defs same many each h =
     (source_from files (file + 1) texts h.1 same (omega (arith, many)) (λ i lt. ap (text_in files) {y = file + suc i} (omega arith) ∙ each (suc i) (omega (arith, lt))) h.3))
 
 -- the definitions that the texts of files spell stand in them
-pub source_placed : (files : Files) (defs : List Def) → length files.file_texts ≡ length files.file_names → Source 0 files.file_texts defs → DefsArePlaced files defs
+source_placed : (files : Files) (defs : List Def) → length files.file_texts ≡ length files.file_names → Source 0 files.file_texts defs → DefsArePlaced files defs
 source_placed files defs same h = source_from files 0 files.file_texts defs same (omega arith) (λ i lt. ap (text_in files) {y = i} (omega arith)) h
 
 placed_among : (files : Files) (defs : List Def) (d : Def) → DefsArePlaced files defs → Contains defs d → LiesIn files (place_of d)
@@ -54,6 +54,10 @@ each_placed files [] h = tt
 each_placed files (t ∷ ts) h = (h 0 t refl, each_placed files ts (λ i u e. h (suc i) u e))
 
 -- the terms of definitions that stand in the files are declared there
-pub terms_placed : (files : Files) (defs : List Def) (env : Environment) → Typed defs env → DefsArePlaced files defs → ArePlaced files env
+terms_placed : (files : Files) (defs : List Def) (env : Environment) → Typed defs env → DefsArePlaced files defs → ArePlaced files env
 terms_placed files defs env h k =
     each_placed files env.terms (λ i t e. let d = typed_places defs env i t h e in subst (LiesIn files) d.2 (placed_among files defs d.0 k d.1))
+
+-- the terms of the definitions that the texts of files spell are declared there
+pub source_terms_placed : (files : Files) (defs : List Def) (env : Environment) → length files.file_texts ≡ length files.file_names → Source 0 files.file_texts defs → Typed defs env → ArePlaced files env
+source_terms_placed files defs env same source typed = terms_placed files defs env typed (source_placed files defs same source)

@@ -7,8 +7,8 @@ use Rattle.isle_core.specs.declared.read_error.ReadError.TheVariants as read
 use Rattle.isle_core.specs.Inputs.{AreRead, Fails}
 use Rattle.isle_core.specs.Printed.{shown}
 use Rattle.isle_syntax.specs.Tree.{Def}
-use Rattle.isle_codegen.specs.declared.files.FileError.{FileError}
-use Rattle.isle_codegen.specs.declared.files.FileError.TheVariants as error
+use Rattle.isle_codegen.specs.declared.file_error.FileError.{FileError}
+use Rattle.isle_codegen.specs.declared.file_error.FileError.TheVariants as error
 use Rattle.isle_codegen.specs.Names.{are_file_names}
 use Rattle.isle_codegen.specs.Source.{Source, InLanguage}
 use Rattle.isle_codegen.specs.Headline.{HasHeadline}

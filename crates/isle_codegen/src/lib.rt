@@ -1,6 +1,8 @@
 //! From rule files to the text of a target program.
 #![tactic(auto)]
 
+mod checked;
+mod file_error;
 mod files;
 mod names;
 mod source;
@@ -9,7 +11,9 @@ mod tests;
 mod text;
 mod tree;
 
-pub use files::{FileError, from_files};
+pub use checked::{Checked, check_files};
+pub use file_error::FileError;
+pub use files::from_files;
 pub use isle_emission::emit_term;
 pub use names::{NameError, NameUse};
 pub use text::codegen;

@@ -1,9 +1,8 @@
 use Rattle.isle_core.specs.RuleViews.{environment}
 use Rattle.isle_syntax.specs.Views.{defs as seen}
 use Rattle.isle_sema.proofs.TypedRules.{typed_built, typed_bound, typed_impure}
-use Rattle.isle_codegen.proofs.Placed.{terms_placed}
 use Rattle.isle_codegen.proofs.Refusals.{not_typed}
-use Rattle.isle_codegen.proofs.files.compile.Goals as goal
+use Rattle.isle_codegen.proofs.checked.check_defs.Goals as goal
 
 pub returns-in-Err-clause-not_yet : goal.returns-in-Err-clause-not_yet
 returns-in-Err-clause-not_yet c = λ e. not_typed (seen c.args.defs.now) c.in-Err.fail c.in-Err.ensures.not_yet e
@@ -16,7 +15,3 @@ rule_sets-requires-clause-bound c = typed_bound (seen c.args.defs.now) (environm
 
 pub rule_sets-requires-clause-impure : goal.rule_sets-requires-clause-impure
 rule_sets-requires-clause-impure c = typed_impure (seen c.args.defs.now) (environment c.in-Ok.typeenv c.in-Ok-term_env_from_ast.termenv) c.in-Ok-term_env_from_ast.ensures.ok.typed
-
-pub codegen-requires-clause-places : goal.codegen-requires-clause-places
-codegen-requires-clause-places c =
-    terms_placed c.args.files.now (seen c.args.defs.now) (environment c.in-Ok.typeenv c.in-Ok-term_env_from_ast.termenv) c.in-Ok-term_env_from_ast.ensures.ok.typed c.requires.places
