@@ -1,0 +1,7 @@
+pub mod HaveTypes
+mod AllSeen
+mod FindTypes
+mod Rest
+mod FirstNamed
+mod Turns
+mod PlaceOf

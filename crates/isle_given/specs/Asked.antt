@@ -1,0 +1,26 @@
+-- What names stand for in an environment: the term that is run, and what callees answer.
+use Rattle.std.specs.Prelude.{ℕ, List, [], Option, find, option_map, slice_get}
+use Rattle.std.specs.Str.{bytes_eq}
+use Rattle.std.specs.Option.{option_map_or}
+use Rattle.isle_core.specs.declared.TermId.{TermId}
+use Rattle.isle_core.specs.declared.TypeId.{TypeId}
+use Rattle.isle_core.specs.declared.types.Term.{Term}
+use Rattle.isle_core.specs.declared.values.Callee.{Callee}
+use Rattle.isle_core.specs.Rule.{Environment}
+use Rattle.isle_core.specs.Terms.{with_rules, term_name, impure_callee, goes_to}
+
+-- the first term with rules that has this name
+abbrev pub asked_term : Environment → List ℕ → Option TermId
+asked_term env name = find (λ (id : TermId). bytes_eq name (term_name env id)) (with_rules env)
+
+-- the types of a term's arguments
+abbrev pub arg_types : Environment → TermId → List TypeId
+arg_types env id = option_map_or (λ (t : Term). t.arg_tys) (slice_get env.terms id.0) []
+
+-- those of the term that has this name; where none has rules and it, there are none
+abbrev pub asked_types : Environment → List ℕ → List TypeId
+asked_types env name = option_map_or (arg_types env) (asked_term env name) []
+
+-- the type of what a call of an impure callee answers
+abbrev pub answer_type : Environment → Callee → Option TypeId
+answer_type env callee = option_map (λ (t : Term). t.ret_ty) (find (λ (t : Term). goes_to callee (impure_callee env t t.kind)) env.terms)

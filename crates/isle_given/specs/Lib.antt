@@ -1,0 +1,5 @@
+pub mod Given
+pub mod Asked
+pub mod Forms
+pub mod AnswerTypes
+pub mod Called

@@ -1,0 +1,19 @@
+//! What users give a run: written values and answers, at the types of an environment.
+#![tactic(auto)]
+
+mod answer_types;
+mod answers;
+mod asked;
+mod built;
+mod names;
+mod number;
+#[cfg(test)]
+mod tests;
+mod value;
+mod values;
+
+pub use answer_types::AnswerTypes;
+pub use answers::{answers_at, place_at};
+pub use asked::asked_term;
+pub use built::are_built;
+pub use values::values_at;

@@ -1,0 +1,5 @@
+pub mod Conforming
+pub mod Trial
+pub mod Stopped
+pub mod Ran
+pub mod Told
