@@ -1,5 +1,8 @@
 -- The lines that refusals write.
 use Rattle.std.specs.Prelude.{ℕ, List, [], ◌∷◌, ◌++◌, map, codes, nat_lt, if◌then◌else◌, ◌⊎◌, Option}
+use Rattle.isle_ink.specs.Number.{numeral}
+use Rattle.isle_trial.specs.declared.halt.Halt.{Halt}
+use Rattle.isle_trial.specs.declared.halt.Halt.TheVariants as halt
 use Rattle.isle_outside.specs.Directory.{Rose}
 use Rattle.isle_outside.specs.Sinks.{Took, TookPart}
 use Rattle.isle_outside.specs.declared.errors.IoCause.{IoCause}
@@ -35,6 +38,45 @@ not_yet_line = line (codes "isle: not yet")
 -- the output failed
 abbrev pub write_fault_line : List ℕ
 write_fault_line = line (codes "isle: write fault")
+
+-- what stands before a word with which no line goes on
+unfoldable pub bad_word_head : List ℕ
+bad_word_head = codes "isle: bad word "
+
+-- no line goes on with the word
+abbrev pub bad_word_line : List ℕ → List ℕ
+bad_word_line word = bad_word_head ++ (map masked word ++ codes "\n")
+
+-- a line would go on
+abbrev pub missing_word_line : List ℕ
+missing_word_line = line (codes "isle: missing word")
+
+-- what stands before the name of a term that has no rules
+unfoldable pub no_term_head : List ℕ
+no_term_head = codes "isle: no term "
+
+-- another number of arguments
+unfoldable pub count_line : List ℕ
+count_line = line (codes "isle: argument count")
+
+-- what stands before the number of an argument
+unfoldable pub argument_head : List ℕ
+argument_head = codes "isle: argument "
+
+-- what stands behind the number of an argument
+unfoldable pub argument_end : List ℕ
+argument_end = codes " has another type\n"
+
+-- what stands before the place where answers go wrong
+unfoldable pub answers_head : List ℕ
+answers_head = codes "isle: bad answers at "
+
+-- why a term is not run
+abbrev pub halt_line : List ℕ → Halt → List ℕ
+halt_line term halt.NoTerm = no_term_head ++ (map masked term ++ codes "\n")
+halt_line term halt.ArgCount = count_line
+halt_line term (halt.ArgType i) = argument_head ++ (numeral 10 i ++ argument_end)
+halt_line term (halt.BadAnswers at) = answers_head ++ (numeral 10 at ++ codes "\n")
 
 -- memory ran out
 abbrev pub memory_line : List ℕ

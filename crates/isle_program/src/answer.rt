@@ -1,65 +1,81 @@
-ghost use Rattle.std.specs.Prelude.{◌≡◌, ◌≤◌, None, Err, IfOk, IfErr, IsOkUnless, IfSome};
+//! The text that a line asks for.
+
+ghost use Rattle.std.specs.Prelude.{◌≡◌, ◌≤◌, [], ◌∷◌, ℕ, List, IfOk, IfErr, IsOkUnless, IsSomeAnd};
+ghost use Rattle.std.specs.Option.{option_copied};
 ghost use Rattle.std.specs.String.{string_bytes};
 ghost use Rattle.isle_outside.specs.Directory.{Rose};
-ghost use Rattle.isle_core.specs.Inputs.{bytes_each};
-ghost use Rattle.isle_program.specs.Words.{named_of};
-ghost use Rattle.isle_program.specs.Valid.{IsAnswer, HasCause, NamesValid};
+ghost use Rattle.isle_words.specs.Asked.{Compile};
+ghost use Rattle.isle_words.specs.Lines.{no_options};
+ghost use Rattle.isle_words.specs.Views.{seen_command};
+ghost use Rattle.isle_program.specs.Asking.{IsBuilt};
+ghost use Rattle.isle_program.specs.Valid.{IsValid, Answers, IsAnswer};
+ghost use Rattle.isle_program.specs.Causes.{HasCause};
 
-use crate::words::named;
-use isle_codegen::{FileError, from_files};
-use isle_core::{CodegenOptions, Dir, IoCause};
-use std::alloc::{AllocError, AllocFailed, Global};
+use crate::about::{help, version};
+use crate::built::is_built;
+use crate::compiled::compiled;
+use crate::ran::ran;
+use crate::refusal::Refusal;
+use isle_core::{Dir, Text};
+use isle_words::{Command, Source};
+use std::alloc::Global;
 
-/// Why no text is written.
-#[derive(Clone, Copy, Debug, PartialEq, Eq)]
-pub enum Refusal {
-    /// The words are no line, or the input is not of the language, that is built.
-    NotYet,
-    /// The input was not read.
-    Unread(IoCause),
-    Memory,
-}
-
-impl From<AllocError> for Refusal {
-    ghost use Rattle.std.specs.Prelude.{◌≡◌};
-    ghost use Rattle.isle_program.specs.declared.answer.Refusal.TheVariants.{Memory};
-
-    ghost from_gives = { λ _ e. e ≡ Memory };
-
-    fn from(_: AllocError) -> Self {
-        Refusal::Memory
-    }
-}
-
-impl<T: Drop> From<AllocFailed<T>> for Refusal {
-    ghost use Rattle.std.specs.Prelude.{◌≡◌};
-    ghost use Rattle.isle_program.specs.declared.answer.Refusal.TheVariants.{Memory};
-
-    ghost from_gives = { λ _ e. e ≡ Memory };
-
-    fn from(_: AllocFailed<T>) -> Self {
-        Refusal::Memory
-    }
-}
-
-/// The text that the words ask for.
-pub fn answer<D: Dir>(alloc: Global, words: &[String], dir: &mut D) -> Result<String, Refusal>
-    ensures ok { IfOk result (λ text. IsAnswer (named_of (bytes_each words.now)) (D.files dir.old) (string_bytes text)) }
-    ensures err { IfErr result (λ e. HasCause e (named_of (bytes_each words.now)) (D.files dir.old) (D.faults dir.old) (D.faults dir.new)) }
-    ensures no_line { named_of (bytes_each words.now) ≡ None → result ≡ Err Refusal.NotYet }
-    ensures complete { NamesValid (named_of (bytes_each words.now)) (D.files dir.old) → (Rose (D.faults dir.old) (D.faults dir.new) → ⊥) → IsOkUnless result Refusal.Memory }
+/// The text that a line asks for.
+pub fn answer<D: Dir>(alloc: Global, command: &Command, dir: &mut D) -> Result<String, Refusal>
+    ensures ok { IfOk result (λ text. IsAnswer (seen_command command.now) (D.files dir.old) (string_bytes text)) }
+    ensures err { IfErr result (λ e. HasCause e (seen_command command.now) (D.files dir.old) (D.faults dir.old) (D.faults dir.new)) }
+    ensures complete { (name : List ℕ) → seen_command command.now ≡ Compile no_options (name ∷ []) → IsSomeAnd (D.files dir.old) (λ fs. IsValid fs name) → (Rose (D.faults dir.old) (D.faults dir.new) → ⊥) → IsOkUnless result Refusal.Memory }
     ensures files { D.files dir.new ≡ D.files dir.old }
-    ensures later { D.faults dir.old ≤ D.faults dir.new }
 {
-    let Some(name) = named(words) else {
+    if !is_built(command) {
         return Err(Refusal::NotYet);
-    };
-    let inputs = vec![in alloc; String::from_str(alloc, name)?]?;
-    let options = CodegenOptions::new(alloc);
-    match from_files(alloc, dir, inputs.as_slice(), &options) {
-        Ok(text) => Ok(text),
-        Err(FileError::Io { cause, .. }) => Err(Refusal::Unread(cause)),
-        Err(FileError::Memory) => Err(Refusal::Memory),
-        Err(_) => Err(Refusal::NotYet),
+    }
+    built_answer(alloc, command, dir)
+}
+
+// The name of the file of answers.
+fn name_of(answers: &Option<Text>) -> Option<&str>
+    ensures { option_copied result ≡ answers.now }
+{
+    match answers {
+        Some(name) => Some(name.as_str()),
+        None => None,
+    }
+}
+
+// The text that a line asks for which is built.
+fn built_answer<D: Dir>(alloc: Global, command: &Command, dir: &mut D) -> Result<String, Refusal>
+    requires { IsBuilt (seen_command command.now) }
+    ensures ok { IfOk result (λ text. Answers (seen_command command.now) (D.files dir.old) (string_bytes text)) }
+    ensures err { IfErr result (λ e. HasCause e (seen_command command.now) (D.files dir.old) (D.faults dir.old) (D.faults dir.new)) }
+    ensures complete { (name : List ℕ) → seen_command command.now ≡ Compile no_options (name ∷ []) → IsSomeAnd (D.files dir.old) (λ fs. IsValid fs name) → (Rose (D.faults dir.old) (D.faults dir.new) → ⊥) → IsOkUnless result Refusal.Memory }
+    ensures files { D.files dir.new ≡ D.files dir.old }
+{
+    match command {
+        Command::Help => Ok(String::from_str(alloc, help())?),
+        Command::Version => Ok(String::from_str(alloc, version())?),
+        Command::Compile { names, .. } => match names.as_slice() {
+            [name] => compiled(alloc, name.as_str(), dir),
+            _ => Err(Refusal::NotYet),
+        },
+        Command::Run {
+            source: Source::File(name),
+            term,
+            values,
+            answers,
+            ..
+        } => ran(
+            alloc,
+            name.as_str(),
+            term.as_str(),
+            values.as_slice(),
+            name_of(answers),
+            dir,
+        ),
+        Command::Run { .. }
+        | Command::Build { .. }
+        | Command::Prelude(_)
+        | Command::Units
+        | Command::Isa(_) => Err(Refusal::NotYet),
     }
 }

@@ -1,14 +1,23 @@
 //! The program: words, a directory and two sinks, to a text, a line and a status.
 #![tactic(auto)]
 
+mod about;
 mod answer;
+mod asked;
+mod built;
 #[cfg(test)]
 mod call_tests;
+mod compiled;
 #[cfg(test)]
 mod compiled_tests;
+mod inputs;
 #[cfg(test)]
 mod limit_tests;
+#[cfg(test)]
+mod line_tests;
 mod lines;
+mod ran;
+mod refusal;
 #[cfg(test)]
 mod refused_tests;
 mod run;
@@ -16,7 +25,8 @@ mod run;
 mod runs;
 #[cfg(test)]
 mod tests;
-mod words;
+#[cfg(test)]
+mod trial_tests;
 
 use isle_core::{StdDir, StdSink};
 use run::run_words;

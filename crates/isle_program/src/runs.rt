@@ -40,6 +40,16 @@ pub fn dir_of(
     Ok(MemDir::new(alloc, files, vec![in alloc; fails]?, 1 << 20))
 }
 
+/// A directory with a source, `a.isle`, and answers, `t`.
+pub fn dir_with(alloc: Global, source: &str, answers: &str) -> Result<MemDir, OutOfMemory> {
+    let mut files = Vec::new(alloc);
+    let name = String::from_str(alloc, "a.isle")?;
+    files.push((name, Vec::from_slice(alloc, source.as_bytes())?))?;
+    let name = String::from_str(alloc, "t")?;
+    files.push((name, Vec::from_slice(alloc, answers.as_bytes())?))?;
+    Ok(MemDir::new(alloc, files, Vec::new(alloc), 1 << 20))
+}
+
 /// Runs the words over the directory. The output takes ten bytes at once, and its call of the number fails.
 pub fn run_on(
     alloc: Global,

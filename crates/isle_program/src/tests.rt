@@ -15,13 +15,101 @@ type Case = (
 
 const NOT_YET: &[u8] = b"isle: not yet\n";
 
-const CASES: [Case; 12] = [
-    (&["run"], "a", b"", 0, 14, NOT_YET),
-    (&["compile"], "a", b"", 0, 14, NOT_YET),
-    (&["compile", ""], "", b"", 0, 14, NOT_YET),
-    (&["compile", "--log"], "--log", b"", 0, 14, NOT_YET),
-    (&["compile", "a", "a"], "a", b"", 0, 14, NOT_YET),
+const MISSING_WORD: &[u8] = b"isle: missing word\n";
+
+const CASES: [Case; 37] = [
+    // Words with which a line begins, and words that are none.
+    (&["run"], "a", b"", 0, 2, MISSING_WORD),
+    (&["compile"], "a", b"", 0, 2, MISSING_WORD),
+    (&["compile", "--log"], "--log", b"", 0, 2, MISSING_WORD),
+    (&["build"], "a", b"", 0, 2, MISSING_WORD),
+    (&["run", "a", "f"], "a", b"", 0, 2, MISSING_WORD),
+    (
+        &["run", "a", "f", "()", "--answers"],
+        "a",
+        b"",
+        0,
+        2,
+        MISSING_WORD,
+    ),
+    (&["compile", ""], "", b"", 0, 2, b"isle: bad word \n"),
+    (
+        &["compile", "--log", "--log", "a.isle"],
+        "a.isle",
+        b"",
+        0,
+        2,
+        b"isle: bad word --log\n",
+    ),
+    (
+        &["compiles", "a"],
+        "a",
+        b"",
+        0,
+        2,
+        b"isle: bad word compiles\n",
+    ),
+    (
+        &["compile", "a", "--lag"],
+        "a",
+        b"",
+        0,
+        2,
+        b"isle: bad word --lag\n",
+    ),
+    (
+        &["--help", "units"],
+        "a",
+        b"",
+        0,
+        2,
+        b"isle: bad word units\n",
+    ),
+    (&["a\x1f\tb"], "a", b"", 0, 2, b"isle: bad word a??b\n"),
+    (
+        &["run", "a", "f", "("],
+        "a",
+        b"",
+        0,
+        2,
+        b"isle: bad word (\n",
+    ),
+    // Lines that are not built.
+    (&["compile", "a", "b"], "a", b"", 0, 14, NOT_YET),
+    (&["compile", "--log", "a"], "a", b"", 0, 14, NOT_YET),
+    (
+        &["compile", "--prefix", "a=b", "a"],
+        "a",
+        b"",
+        0,
+        14,
+        NOT_YET,
+    ),
+    (&["build", "opt"], "a", b"", 0, 14, NOT_YET),
+    (&["units"], "a", b"", 0, 14, NOT_YET),
+    (&["isa", "x86"], "a", b"", 0, 14, NOT_YET),
+    (&["prelude", "clif-opt"], "a", b"", 0, 14, NOT_YET),
+    (
+        &["run", "--trace", "a", "f", "()"],
+        "a",
+        b"",
+        0,
+        14,
+        NOT_YET,
+    ),
+    (
+        &["run", "--split", "a", "f", "()"],
+        "a",
+        b"",
+        0,
+        14,
+        NOT_YET,
+    ),
+    (&["run", "unit:opt", "f", "()"], "a", b"", 0, 14, NOT_YET),
+    (&["run", "a", "f", "((E.V))"], "a", b"", 0, 14, NOT_YET),
+    // A name that may not be emitted.
     (&["compile", "a\nb"], "a\nb", b"", 0, 14, NOT_YET),
+    // Inputs that are not read.
     (
         &["compile", "a"],
         "b",
@@ -70,7 +158,76 @@ const CASES: [Case; 12] = [
         5,
         b"isle: cannot read file first.isle: absent\n",
     ),
+    (
+        &["run", "a", "f", "(1 true)"],
+        "b",
+        b"",
+        0,
+        5,
+        b"isle: cannot read file a: absent\n",
+    ),
+    (
+        &["run", "a", "f", "()", "--answers", "b"],
+        "a",
+        b"",
+        0,
+        5,
+        b"isle: cannot read file b: absent\n",
+    ),
+    (
+        &["run", "a", "f", "()", "--answers", "b"],
+        "b",
+        b"",
+        0,
+        5,
+        b"isle: cannot read file a: absent\n",
+    ),
+    (
+        &["run", "a", "f", "()", "--answers", "b"],
+        "c",
+        b"",
+        0,
+        5,
+        b"isle: cannot read file a: absent\n",
+    ),
+    (
+        &["run", "a", "f", "()", "--answers", "a"],
+        "a",
+        b"\xff",
+        0,
+        5,
+        b"isle: cannot read file a: not utf-8\n",
+    ),
+    (
+        &["run", "a", "f", "()", "--answers", "b"],
+        "a",
+        b" ",
+        4,
+        5,
+        b"isle: cannot read file b: fault\n",
+    ),
 ];
+
+/// What the program says of itself: the words, and what `out` begins with.
+const SAID: [(&str, &str); 2] = [
+    (
+        "--help",
+        "isle: a code generator for ISLE, the language of instruction selectors\n\n  isle compile ",
+    ),
+    ("--version", "isle 0.5.0\n"),
+];
+
+#[test]
+fn says_what_it_is(rt: HostRuntime) -> Result<(), Fail> {
+    let alloc = rt.alloc();
+    for (word, text) in SAID.iter() {
+        let left = run_on(alloc, &[*word], dir_of(alloc, "a", b"", 1)?, 0)?;
+        assert_eq!(rt; left.status, 0, "at {word}");
+        assert!(rt; left.out.as_str().starts_with(text), "at {word}");
+        assert_eq!(rt; left.err.len(), 0, "at {word}");
+    }
+    Ok(())
+}
 
 #[test]
 fn refuses_with_status_and_line(rt: HostRuntime) -> Result<(), Fail> {

@@ -1,0 +1,20 @@
+-- What the program says of itself.
+use Rattle.std.specs.Prelude.{ℕ, List, ◌++◌, codes}
+
+-- every form of line, with what it does and an example
+unfoldable pub help_text : List ℕ
+help_text =
+    codes "isle: a code generator for ISLE, the language of instruction selectors\n\n" ++ (
+    codes "  isle compile [OPTION..] NAME..\n      Compiles rule files and writes the Rust text of their terms.\n      isle compile examples/constants.isle\n" ++ (
+    codes "  isle build [OPTION..] UNIT\n      Builds a unit from its preludes and its files (not yet).\n      isle build opt\n" ++ (
+    codes "  isle run [--trace] [OPTION..] SOURCE TERM VALUES [--answers FILE]\n      Runs the function of a term of a rule file at the values, and writes how it ends and what it calls.\n      FILE says what calls answer. Of SOURCE, unit: and a unit's name is not yet there, nor is --trace.\n      isle run examples/calls.isle lower_sum '()' --answers examples/calls.answers\n" ++ (
+    codes "  isle prelude KIND\n      Writes a prelude (not yet).\n      isle prelude clif-opt\n" ++ (
+    codes "  isle units\n      Lists the units (not yet).\n      isle units\n" ++ (
+    codes "  isle isa TARGET\n      Writes what a target has (not yet).\n      isle isa x86\n" ++ (
+    codes "  isle --help\n      Writes this text.\n      isle --help\n" ++ (
+    codes "  isle --version\n      Writes the program's name and version.\n      isle --version\n\n" ++ (
+    codes "OPTION is --no-allow, --log, --split, --threshold N or --prefix P=NAME (not yet).\nNo words mean: isle compile first.isle\n")))))))))
+
+-- the program's name and version
+unfoldable pub version_text : List ℕ
+version_text = codes "isle 0.5.0\n"

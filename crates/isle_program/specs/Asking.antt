@@ -1,0 +1,71 @@
+-- What words ask for, and which lines are built.
+use Rattle.std.specs.Prelude.{◌≡◌, ℕ, List, [], ◌∷◌, Bool, true, false, Option, Some, None}
+use Rattle.isle_values.specs.Written.{Written, Writtens, Truth, Number, Made, NoValue, AValue}
+use Rattle.isle_words.specs.Asked.{Asked, Help, Version, Compile, Build, Prelude, Units, Isa, Run}
+use Rattle.isle_words.specs.Lines.{LineS, no_options}
+use Rattle.isle_words.specs.declared.commands.Source.{Source}
+use Rattle.isle_words.specs.declared.commands.Source.TheVariants as source
+
+-- the words ask for this, and for nothing else
+pub record Asks (words : List (List ℕ)) (asked : Asked) : Type 0 where
+  pub line : LineS words asked
+  pub only : (other : Asked) → LineS words other → other ≡ asked
+
+-- a value that is built: a truth or a number
+abbrev pub is_plain : Written → Bool
+is_plain (Truth b) = true
+is_plain (Number n) = true
+is_plain (Made name parts) = false
+
+-- all of them are
+abbrev pub ArePlain : Writtens → Type 0
+ArePlain NoValue = Unit {0}
+ArePlain (AValue v vs) = (is_plain v ≡ true) × ArePlain vs
+
+-- one name
+abbrev pub IsOne : List (List ℕ) → Type 0
+IsOne [] = ⊥
+IsOne (name ∷ []) = Unit {0}
+IsOne (name ∷ other ∷ names) = ⊥
+
+-- a file, and no unit
+abbrev pub IsFile : Source → Type 0
+IsFile (source.File name) = Unit {0}
+IsFile (source.Unit name) = ⊥
+
+-- a line that is built: one file is compiled, or a term of it run, with no option
+abbrev pub IsBuilt : Asked → Type 0
+IsBuilt Help = Unit {0}
+IsBuilt Version = Unit {0}
+IsBuilt (Compile options names) = (options ≡ no_options) × IsOne names
+IsBuilt (Build options unit) = ⊥
+IsBuilt (Prelude kind) = ⊥
+IsBuilt Units = ⊥
+IsBuilt (Isa target) = ⊥
+IsBuilt (Run trace options from term vs answers) = (trace ≡ false) × (options ≡ no_options) × IsFile from × ArePlain vs
+
+-- the name of a source
+abbrev pub source_name : Source → List ℕ
+source_name (source.File name) = name
+source_name (source.Unit name) = name
+
+-- a file of answers, if any
+abbrev pub answers_names : Option (List ℕ) → List (List ℕ)
+answers_names None = []
+answers_names (Some name) = name ∷ []
+
+-- the names of the inputs, in the order in which they are read
+abbrev pub inputs_of : Asked → List (List ℕ)
+inputs_of Help = []
+inputs_of Version = []
+inputs_of (Compile options names) = names
+inputs_of (Build options unit) = []
+inputs_of (Prelude kind) = []
+inputs_of Units = []
+inputs_of (Isa target) = []
+inputs_of (Run trace options from term vs answers) = source_name from ∷ answers_names answers
+
+-- the term that is run
+abbrev pub term_of : Asked → List ℕ
+term_of (Run trace options from term vs answers) = term
+term_of asked = []
