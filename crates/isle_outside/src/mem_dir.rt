@@ -57,6 +57,13 @@ impl MemDir {
         }
     }
 
+    /// The files that it keeps, in their order.
+    pub fn files(&self) -> &[(String, Vec<u8>)]
+        ensures { files_of result.now ≡ files_in self.now }
+    {
+        &self.files
+    }
+
     /// How often it has failed, up to 2^64 - 1.
     pub fn faults(&self) -> u64
         ensures { result ≡ faults_in self.now }

@@ -1,35 +1,8 @@
-//! The program: words, a directory and two sinks, to a text, a line and a status.
+//! The program: the words of the process, the current folder, standard output and standard error.
 #![tactic(auto)]
 
-mod about;
-mod answer;
-mod asked;
-mod built;
-#[cfg(test)]
-mod call_tests;
-mod compiled;
-#[cfg(test)]
-mod compiled_tests;
-mod inputs;
-#[cfg(test)]
-mod limit_tests;
-#[cfg(test)]
-mod line_tests;
-mod lines;
-mod ran;
-mod refusal;
-#[cfg(test)]
-mod refused_tests;
-mod run;
-#[cfg(test)]
-mod runs;
-#[cfg(test)]
-mod tests;
-#[cfg(test)]
-mod trial_tests;
-
 use isle_core::{StdDir, StdSink};
-use run::run_words;
+use isle_top::run_words;
 use std::alloc::Global;
 use std::io::ErrorKind;
 use std::process::ExitCode;

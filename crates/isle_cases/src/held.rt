@@ -1,0 +1,218 @@
+//! A case's run, and what it leaves against what the case wants.
+
+ghost use Rattle.std.specs.Prelude.{◌<◌, IfOk};
+
+use crate::case::{Case, Entry, Key};
+use crate::slip::Slip;
+use crate::spelling::{number, spelt, text_spelt, words_of};
+use crate::wanted::{Shelf, entry, wanted_out};
+use isle_outside::{MemDir, MemSink};
+use isle_top::run_words;
+use std::alloc::Global;
+
+/// The most bytes that the directory gives at once, where a case says nothing.
+const DIR_PIECE: usize = 1 << 20;
+
+/// The most bytes that a sink takes at once, where a case says nothing.
+const SINK_PIECE: usize = 10;
+
+/// The room of a sink, where a case says nothing.
+const ROOM: usize = 1 << 20;
+
+/// What a run left.
+#[derive(Debug, Drop)]
+pub struct Left {
+    pub status: u8,
+    pub dir: MemDir,
+    pub out: MemSink,
+    pub err: MemSink,
+}
+
+/// The lines of the head and of the case that have this key and name.
+fn entries<'c>(
+    alloc: Global,
+    case: &'c Case,
+    head: &'c Case,
+    key: Key,
+    name: &str,
+) -> Result<Vec<&'c Entry>, Slip> {
+    let mut found = Vec::new(alloc);
+    for entry in case.entries.iter().chain(head.entries.iter()) {
+        if entry.key == key && (name.is_empty() || entry.name.as_str() == name) {
+            found.push(entry)?;
+        }
+    }
+    Ok(found)
+}
+
+/// The files of these lines.
+fn files_of(alloc: Global, entries: &[&Entry]) -> Result<Vec<(String, Vec<u8>)>, Slip> {
+    let mut files = Vec::new(alloc);
+    for entry in entries {
+        let name = text_spelt(alloc, entry.name.as_str())?;
+        files.push((name, spelt(alloc, entry.text.as_str())?))?;
+    }
+    Ok(files)
+}
+
+/// The files of the case.
+fn files_before(alloc: Global, case: &Case, head: &Case) -> Result<Vec<(String, Vec<u8>)>, Slip> {
+    files_of(alloc, entries(alloc, case, head, Key::File, "")?.as_slice())
+}
+
+/// The files that the case wants afterwards: those listed, or else those of the case.
+fn files_after(alloc: Global, case: &Case, head: &Case) -> Result<Vec<(String, Vec<u8>)>, Slip> {
+    let listed = entries(alloc, case, head, Key::After, "")?;
+    if listed.is_empty() {
+        return files_before(alloc, case, head);
+    }
+    files_of(alloc, listed.as_slice())
+}
+
+/// The numbers of the calls of an object that fail.
+fn fails(alloc: Global, case: &Case, head: &Case, object: &str) -> Result<Vec<usize>, Slip> {
+    let mut fails = Vec::new(alloc);
+    for entry in entries(alloc, case, head, Key::Fails, object)? {
+        for word in entry.text.as_str().split_whitespace() {
+            fails.push(number(word)?)?;
+        }
+    }
+    Ok(fails)
+}
+
+/// A limit of an object, the case's own before the head's.
+fn limit(
+    alloc: Global,
+    case: &Case,
+    head: &Case,
+    key: Key,
+    object: &str,
+    usual: usize,
+) -> Result<usize, Slip> {
+    match entries(alloc, case, head, key, object)?.first() {
+        Some(entry) => number(entry.text.as_str()),
+        None => Ok(usual),
+    }
+}
+
+/// A piece of an object: at least one byte.
+fn piece(alloc: Global, case: &Case, head: &Case, object: &str, usual: usize) -> Result<usize, Slip>
+    ensures { IfOk result (λ piece. 0 < piece) }
+{
+    let piece = limit(alloc, case, head, Key::Piece, object, usual)?;
+    if piece == 0 { Err(Slip::Number) } else { Ok(piece) }
+}
+
+/// An empty sink of a case.
+fn sink(alloc: Global, case: &Case, head: &Case, object: &str) -> Result<MemSink, Slip> {
+    let room = limit(alloc, case, head, Key::Room, object, ROOM)?;
+    let fails = fails(alloc, case, head, object)?;
+    let piece = piece(alloc, case, head, object, SINK_PIECE)?;
+    match MemSink::new(alloc, room, fails, piece) {
+        Ok(sink) => Ok(sink),
+        Err(_) => Err(Slip::Memory),
+    }
+}
+
+/// The directory of a case.
+fn dir(alloc: Global, case: &Case, head: &Case) -> Result<MemDir, Slip> {
+    let files = files_before(alloc, case, head)?;
+    let fails = fails(alloc, case, head, "dir")?;
+    let piece = piece(alloc, case, head, "dir", DIR_PIECE)?;
+    Ok(MemDir::new(alloc, files, fails, piece))
+}
+
+/// The words of a case.
+pub fn words(alloc: Global, case: &Case, head: &Case) -> Result<Vec<String>, Slip> {
+    match entry(case, head, Key::Words)? {
+        Some(entry) => words_of(alloc, entry.text.as_str()),
+        None => Err(Slip::NoWords),
+    }
+}
+
+/// Runs the words of a case.
+pub fn run(alloc: Global, case: &Case, head: &Case, words: &[String]) -> Result<Left, Slip> {
+    if let Some(slip) = head.slip.or(case.slip) {
+        return Err(slip);
+    }
+    let mut dir = dir(alloc, case, head)?;
+    let mut out = sink(alloc, case, head, "out")?;
+    let mut err = sink(alloc, case, head, "err")?;
+    let exit = run_words(alloc, words, &mut dir, &mut out, &mut err);
+    Ok(Left {
+        status: exit.0,
+        dir,
+        out,
+        err,
+    })
+}
+
+/// The status that a case wants.
+fn status(case: &Case, head: &Case) -> Result<usize, Slip> {
+    match entry(case, head, Key::Status)? {
+        Some(entry) => number(entry.text.as_str()),
+        None => Ok(0),
+    }
+}
+
+/// Whether `out` has what the case wants; at another status than 0 it is empty, if nothing is said.
+fn has_out(
+    alloc: Global,
+    case: &Case,
+    head: &Case,
+    words: &[String],
+    shelf: &Shelf,
+    left: &Left,
+) -> Result<bool, Slip> {
+    match wanted_out(alloc, case, head, words, shelf)? {
+        Some(wanted) => Ok(wanted.is_met(alloc, left.out.bytes())?),
+        None if left.status == 0 => Err(Slip::NoOut),
+        None => Ok(left.out.bytes().is_empty()),
+    }
+}
+
+/// Whether `err` has what the case wants: nothing, if nothing is said.
+fn has_err(alloc: Global, case: &Case, head: &Case, left: &Left) -> Result<bool, Slip> {
+    match entry(case, head, Key::Err)? {
+        Some(entry) => Ok(spelt(alloc, entry.text.as_str())?.as_slice() == left.err.bytes()),
+        None => Ok(left.err.bytes().is_empty()),
+    }
+}
+
+/// Whether two lists of files are one.
+fn are_same(files: &[(String, Vec<u8>)], others: &[(String, Vec<u8>)]) -> bool {
+    if files.len() != others.len() {
+        return false;
+    }
+    for (file, other) in files.iter().zip(others) {
+        if file.0.as_str() != other.0.as_str() || file.1.as_slice() != other.1.as_slice() {
+            return false;
+        }
+    }
+    true
+}
+
+/// Holds what a run left against what its case wants.
+pub fn hold(
+    alloc: Global,
+    case: &Case,
+    head: &Case,
+    words: &[String],
+    shelf: &Shelf,
+    left: &Left,
+) -> Result<(), Slip> {
+    if usize::from(left.status) != status(case, head)? {
+        return Err(Slip::Status);
+    }
+    if !has_err(alloc, case, head, left)? {
+        return Err(Slip::Err);
+    }
+    if !has_out(alloc, case, head, words, shelf, left)? {
+        return Err(Slip::Out);
+    }
+    let after = files_after(alloc, case, head)?;
+    if !are_same(left.dir.files(), after.as_slice()) {
+        return Err(Slip::Files);
+    }
+    Ok(())
+}

@@ -1,8 +1,0 @@
-use Rattle.std.proofs.Common.{refl, ◌∷◌, []}
-use Rattle.isle_program.specs.Lines.{masked}
-use Rattle.isle_program.proofs.Pieces.{took_until}
-use Rattle.isle_program.proofs.lines.write_masked.Goals as goal
-
-pub returns-in-Err-clause-part : goal.returns-in-Err-clause-part
-returns-in-Err-clause-part g c = rw (← c.as_bytes-byte-items.ensures.value) (
-    took_until masked c.as_bytes-byte-items.result.now c.loop-byte.byte-index _ (g.S.Sink.taken c.loop-byte.sink) _ (c.masked.result ∷ []) c.loop-byte-test.true c.loop-byte.invariant.taken refl c.in-Err.ensures.part)

@@ -1,0 +1,38 @@
+-- Why a line of words is not answered.
+use Rattle.std.specs.Prelude.{ℕ, ◌<◌, ◌⊎◌, List, [], ◌∷◌, length, Option, IfSome}
+use Rattle.isle_outside.specs.Directory.{Files}
+use Rattle.isle_core.specs.Inputs.{AreRead, Fails}
+use Rattle.isle_core.specs.declared.read_error.ReadError.TheVariants as read
+use Rattle.isle_values.specs.Written.{Writtens}
+use Rattle.isle_codegen.specs.Causes.{IsNotBuilt}
+use Rattle.isle_words.specs.Asked.{Asked, Compile, Run}
+use Rattle.isle_words.specs.Lines.{no_options}
+use Rattle.isle_trial.specs.Stopped.{HasNoLines}
+use Rattle.isle_trial.specs.declared.trial_error.TrialError.{TrialError}
+use Rattle.isle_trial.specs.declared.trial_error.TrialError.TheVariants as trial
+use Rattle.isle_top.specs.declared.refusal.Refusal.{Refusal}
+use Rattle.isle_top.specs.declared.refusal.Refusal.TheVariants as refusal
+use Rattle.isle_top.specs.Asking.{IsBuilt, inputs_of, source_name}
+use Rattle.isle_top.specs.Valid.{AreAnswers, one_file}
+
+-- a run of the term of the source of this name, under the answers of the file, gives no lines
+pub record GivesNoLines (name term : List ℕ) (vs : Writtens) (answers : Option (List ℕ)) (files : Option Files) (e : TrialError) : Type 0 where
+  pub source : List ℕ
+  pub given : List ℕ
+  pub read : IfSome files (λ fs. AreRead fs (name ∷ []) (source ∷ []) × AreAnswers fs answers given)
+  pub none : HasNoLines no_options (one_file name source) term vs given e
+
+-- the inputs were read, and are not of what is built
+abbrev pub IsNotOfIt : Asked → Option Files → Type 0
+IsNotOfIt (Compile options names) files = IfSome files (λ fs. IsNotBuilt no_options fs names)
+IsNotOfIt (Run trace options from term vs answers) files = GivesNoLines (source_name from) term vs answers files trial.NotYet
+IsNotOfIt asked files = ⊥
+
+-- why a line is not answered: it is not built, or its inputs are not; an input was not read, the first that is not; a term
+-- is not run; or want of memory
+abbrev pub HasCause : Refusal → Asked → Option Files → (before after : ℕ) → Type 0
+HasCause refusal.NotYet asked files before after = (IsBuilt asked → ⊥) ⊎ IsNotOfIt asked files
+HasCause (refusal.Unread index why) asked files before after = (index < length (inputs_of asked)) × Fails (read.Io index why) files (inputs_of asked) before after
+HasCause (refusal.Halted h) (Run trace options from term vs answers) files before after = GivesNoLines (source_name from) term vs answers files (trial.Halted h)
+HasCause (refusal.Halted h) asked files before after = ⊥
+HasCause refusal.Memory asked files before after = Unit {0}

@@ -1,0 +1,25 @@
+-- What the inputs of a run are.
+use Rattle.std.specs.Prelude.{◌≡◌, ℕ, ◌<◌, List, [], ◌∷◌, length, Option, IfSome}
+use Rattle.isle_outside.specs.Directory.{Files, bytes_of}
+use Rattle.isle_outside.specs.Reading.{IsCause}
+use Rattle.isle_core.specs.Inputs.{AreRead, RoseAt}
+use Rattle.isle_core.specs.declared.files.Files.{Files as FileTexts}
+use Rattle.isle_core.specs.declared.read_error.ReadError.{ReadError}
+use Rattle.isle_core.specs.declared.read_error.ReadError.TheVariants as error
+use Rattle.isle_top.specs.Valid.{AreAnswers, one_file}
+
+-- a source of the one text of its file, and the text of the file of answers
+pub record AreInputs (name : List ℕ) (answers : Option (List ℕ)) (files : Option Files) (source : FileTexts) (given : List ℕ) : Type 0 where
+  pub text : List ℕ
+  pub one : source ≡ one_file name text
+  pub read : IfSome files (λ fs. AreRead fs (name ∷ []) (text ∷ []) × AreAnswers fs answers given)
+
+-- why the input of this number and name is not read
+abbrev pub FailsTo : ReadError → (index : ℕ) → Option Files → List ℕ → (before after : ℕ) → Type 0
+FailsTo error.Memory index files name before after = Unit {0}
+FailsTo (error.Io at why) index files name before after = (at ≡ index) × RoseAt why before after × IfSome files (λ fs. IsCause why (bytes_of fs name))
+
+-- the input that is told is one of these
+abbrev pub IsOf : ReadError → List (List ℕ) → Type 0
+IsOf error.Memory names = Unit {0}
+IsOf (error.Io index why) names = index < length names

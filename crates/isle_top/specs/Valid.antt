@@ -1,0 +1,66 @@
+-- What the program answers to lines of words.
+use Rattle.std.specs.Prelude.{◌≡◌, ℕ, List, [], ◌∷◌, true, Option, Some, None, IfSome}
+use Rattle.isle_outside.specs.Directory.{Files, bytes_of}
+use Rattle.isle_outside.specs.Reading.{IsText}
+use Rattle.isle_core.specs.Inputs.{AreRead}
+use Rattle.isle_core.specs.declared.files.Files.{Files as FileTexts}
+use Rattle.isle_values.specs.Written.{Writtens}
+use Rattle.isle_codegen.specs.Names.{is_file_name}
+use Rattle.isle_codegen.specs.Source.{InLanguage}
+use Rattle.isle_codegen.specs.Header.{HasHeader}
+use Rattle.isle_codegen.specs.Headline.{SpellsOne}
+use Rattle.isle_codegen.specs.Causes.{IsCompiled, printed}
+use Rattle.isle_words.specs.Asked.{Asked, Help, Version, Compile, Run}
+use Rattle.isle_words.specs.Lines.{no_options}
+use Rattle.isle_trial.specs.Trial.{IsTrial}
+use Rattle.isle_top.specs.About.{help_text, version_text}
+use Rattle.isle_top.specs.Asking.{source_name, IsBuilt}
+
+-- the file of the name holds a text of the language, and its name may be emitted
+pub record IsValid (files : Files) (name : List ℕ) : Type 0 where
+  pub text : List ℕ
+  pub there : IsText text (bytes_of files name)
+  pub language : InLanguage (text ∷ [])
+  pub emitted : is_file_name name ≡ true
+
+-- the text is what the file of the name is compiled to: the name may be emitted, and behind its header comment the text
+-- spells exactly one program, that of the file where the directory tells its files
+pub record IsProgramOf (name : List ℕ) (files : Option Files) (text : List ℕ) : Type 0 where
+  pub emitted : is_file_name name ≡ true
+  pub header : HasHeader (name ∷ []) text
+  pub spells : SpellsOne text
+  pub compiled : IfSome files (λ fs. IsCompiled no_options fs (name ∷ []) text)
+
+-- the text of a file of answers; without a file it is empty
+abbrev pub AreAnswers : Files → Option (List ℕ) → List ℕ → Type 0
+AreAnswers files None text = text ≡ []
+AreAnswers files (Some name) text = IsText text (bytes_of files name)
+
+-- a source of one text
+abbrev pub one_file : (name text : List ℕ) → FileTexts
+one_file name text = record { file_names = printed no_options (name ∷ []); file_texts = text ∷ [] }
+
+-- the lines are those of a run of the term, of the source of this name, under the answers of the file
+pub record IsRunOf (name term : List ℕ) (vs : Writtens) (answers : Option (List ℕ)) (files : Option Files) (lines : List ℕ) : Type 0 where
+  pub source : List ℕ
+  pub given : List ℕ
+  pub read : IfSome files (λ fs. AreRead fs (name ∷ []) (source ∷ []) × AreAnswers fs answers given)
+  pub trial : IsTrial no_options (one_file name source) term vs given lines
+
+-- what the names of a `compile` are answered
+abbrev pub compile_answer : List (List ℕ) → Option Files → List ℕ → Type 0
+compile_answer [] files text = ⊥
+compile_answer (name ∷ []) files text = IsProgramOf name files text
+compile_answer (name ∷ other ∷ names) files text = ⊥
+
+-- the text answers a line of words that is built
+abbrev pub Answers : Asked → Option Files → List ℕ → Type 0
+Answers Help files text = text ≡ help_text
+Answers Version files text = text ≡ version_text
+Answers (Compile options names) files text = compile_answer names files text
+Answers (Run trace options from term vs answers) files text = IsRunOf (source_name from) term vs answers files text
+Answers asked files text = ⊥
+
+-- the text answers the line
+abbrev pub IsAnswer : Asked → Option Files → List ℕ → Type 0
+IsAnswer asked files text = IsBuilt asked × Answers asked files text

@@ -1,0 +1,49 @@
+//! What the program says of itself.
+
+ghost use Rattle.std.specs.Prelude.{◌≡◌};
+ghost use Rattle.isle_top.specs.About.{help_text, version_text};
+
+/// Every form of line, with what it does and an example.
+#[tactic(auto, unfolding(crate::specs::About::help_text))]
+pub fn help() -> &'static str
+    ensures { result.now ≡ help_text }
+{
+    "isle: a code generator for ISLE, the language of instruction selectors\n\
+\n\
+\x20 isle compile [OPTION..] NAME..\n\
+\x20     Compiles rule files and writes the Rust text of their terms.\n\
+\x20     isle compile examples/constants.isle\n\
+\x20 isle build [OPTION..] UNIT\n\
+\x20     Builds a unit from its preludes and its files (not yet).\n\
+\x20     isle build opt\n\
+\x20 isle run [--trace] [OPTION..] SOURCE TERM VALUES [--answers FILE]\n\
+\x20     Runs the function of a term of a rule file at the values, and writes how it ends and what it calls.\n\
+\x20     FILE says what calls answer. Of SOURCE, unit: and a unit's name is not yet there, nor is --trace.\n\
+\x20     isle run examples/calls.isle lower_sum '()' --answers examples/calls.answers\n\
+\x20 isle prelude KIND\n\
+\x20     Writes a prelude (not yet).\n\
+\x20     isle prelude clif-opt\n\
+\x20 isle units\n\
+\x20     Lists the units (not yet).\n\
+\x20     isle units\n\
+\x20 isle isa TARGET\n\
+\x20     Writes what a target has (not yet).\n\
+\x20     isle isa x86\n\
+\x20 isle --help\n\
+\x20     Writes this text.\n\
+\x20     isle --help\n\
+\x20 isle --version\n\
+\x20     Writes the program's name and version.\n\
+\x20     isle --version\n\
+\n\
+OPTION is --no-allow, --log, --split, --threshold N or --prefix P=NAME (not yet).\n\
+No words mean: isle compile first.isle\n"
+}
+
+/// The program's name and version.
+#[tactic(auto, unfolding(crate::specs::About::version_text))]
+pub fn version() -> &'static str
+    ensures { result.now ≡ version_text }
+{
+    "isle 0.5.0\n"
+}

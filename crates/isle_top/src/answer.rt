@@ -1,0 +1,81 @@
+//! The text that a line asks for.
+
+ghost use Rattle.std.specs.Prelude.{◌≡◌, ◌≤◌, [], ◌∷◌, ℕ, List, IfOk, IfErr, IsOkUnless, IsSomeAnd};
+ghost use Rattle.std.specs.Option.{option_copied};
+ghost use Rattle.std.specs.String.{string_bytes};
+ghost use Rattle.isle_outside.specs.Directory.{Rose};
+ghost use Rattle.isle_words.specs.Asked.{Compile};
+ghost use Rattle.isle_words.specs.Lines.{no_options};
+ghost use Rattle.isle_words.specs.Views.{seen_command};
+ghost use Rattle.isle_top.specs.Asking.{IsBuilt};
+ghost use Rattle.isle_top.specs.Valid.{IsValid, Answers, IsAnswer};
+ghost use Rattle.isle_top.specs.Causes.{HasCause};
+
+use crate::about::{help, version};
+use crate::built::is_built;
+use crate::compiled::compiled;
+use crate::ran::ran;
+use crate::refusal::Refusal;
+use isle_core::{Dir, Text};
+use isle_words::{Command, Source};
+use std::alloc::Global;
+
+/// The text that a line asks for.
+pub fn answer<D: Dir>(alloc: Global, command: &Command, dir: &mut D) -> Result<String, Refusal>
+    ensures ok { IfOk result (λ text. IsAnswer (seen_command command.now) (D.files dir.old) (string_bytes text)) }
+    ensures err { IfErr result (λ e. HasCause e (seen_command command.now) (D.files dir.old) (D.faults dir.old) (D.faults dir.new)) }
+    ensures complete { (name : List ℕ) → seen_command command.now ≡ Compile no_options (name ∷ []) → IsSomeAnd (D.files dir.old) (λ fs. IsValid fs name) → (Rose (D.faults dir.old) (D.faults dir.new) → ⊥) → IsOkUnless result Refusal.Memory }
+    ensures files { D.files dir.new ≡ D.files dir.old }
+{
+    if !is_built(command) {
+        return Err(Refusal::NotYet);
+    }
+    built_answer(alloc, command, dir)
+}
+
+// The name of the file of answers.
+fn name_of(answers: &Option<Text>) -> Option<&str>
+    ensures { option_copied result ≡ answers.now }
+{
+    match answers {
+        Some(name) => Some(name.as_str()),
+        None => None,
+    }
+}
+
+// The text that a line asks for which is built.
+fn built_answer<D: Dir>(alloc: Global, command: &Command, dir: &mut D) -> Result<String, Refusal>
+    requires { IsBuilt (seen_command command.now) }
+    ensures ok { IfOk result (λ text. Answers (seen_command command.now) (D.files dir.old) (string_bytes text)) }
+    ensures err { IfErr result (λ e. HasCause e (seen_command command.now) (D.files dir.old) (D.faults dir.old) (D.faults dir.new)) }
+    ensures complete { (name : List ℕ) → seen_command command.now ≡ Compile no_options (name ∷ []) → IsSomeAnd (D.files dir.old) (λ fs. IsValid fs name) → (Rose (D.faults dir.old) (D.faults dir.new) → ⊥) → IsOkUnless result Refusal.Memory }
+    ensures files { D.files dir.new ≡ D.files dir.old }
+{
+    match command {
+        Command::Help => Ok(String::from_str(alloc, help())?),
+        Command::Version => Ok(String::from_str(alloc, version())?),
+        Command::Compile { names, .. } => match names.as_slice() {
+            [name] => compiled(alloc, name.as_str(), dir),
+            _ => Err(Refusal::NotYet),
+        },
+        Command::Run {
+            source: Source::File(name),
+            term,
+            values,
+            answers,
+            ..
+        } => ran(
+            alloc,
+            name.as_str(),
+            term.as_str(),
+            values.as_slice(),
+            name_of(answers),
+            dir,
+        ),
+        Command::Run { .. }
+        | Command::Build { .. }
+        | Command::Prelude(_)
+        | Command::Units
+        | Command::Isa(_) => Err(Refusal::NotYet),
+    }
+}

@@ -1,0 +1,87 @@
+//! The inputs of a run: its source, and its file of answers.
+
+ghost use Rattle.std.specs.Prelude.{◌≡◌, ◌≤◌, ◌∷◌, IfOk, IfErr, IfSome, IsSomeAnd};
+ghost use Rattle.std.specs.Option.{option_copied};
+ghost use Rattle.isle_outside.specs.Directory.{bytes_of};
+ghost use Rattle.isle_outside.specs.Reading.{IsText};
+ghost use Rattle.isle_core.specs.Inputs.{Fails};
+ghost use Rattle.isle_top.specs.Asking.{answers_names};
+ghost use Rattle.isle_top.specs.Valid.{AreAnswers, one_file};
+ghost use Rattle.isle_top.specs.Inputs.{AreInputs, FailsTo, IsOf};
+
+use isle_core::{Dir, Files, List, OutOfMemory, ReadError, ReadFail, Text, read_text};
+use std::alloc::Global;
+
+/// A source of one text, and the text of the answers.
+#[derive(Debug, Drop)]
+pub struct Inputs {
+    pub files: Files,
+    pub answers: Text,
+}
+
+// The text of the input of this number and name.
+fn text_at<D: Dir>(alloc: Global, index: usize, name: &str, dir: &mut D) -> Result<Text, ReadError>
+    ensures ok { IfOk result (λ text. IfSome (D.files dir.old) (λ fs. IsText text (bytes_of fs name.now))) }
+    ensures err { IfErr result (λ e. FailsTo e index (D.files dir.old) name.now (D.faults dir.old) (D.faults dir.new)) }
+    ensures files { D.files dir.new ≡ D.files dir.old }
+    ensures later { D.faults dir.old ≤ D.faults dir.new }
+{
+    match read_text(alloc, dir, name) {
+        Ok(text) => Ok(Text::new(text)),
+        Err(ReadFail::Io(cause)) => Err(ReadError::Io { index, cause }),
+        Err(ReadFail::Memory) => Err(ReadError::Memory),
+    }
+}
+
+// The text of the answers; without a file of them it is empty.
+fn answers_text<D: Dir>(
+    alloc: Global,
+    answers: Option<&str>,
+    dir: &mut D,
+) -> Result<Text, ReadError>
+    ensures ok { IfOk result (λ text. IfSome (D.files dir.old) (λ fs. AreAnswers fs (option_copied answers.entry) text)) }
+    ensures err { IfErr result (λ e. IsSomeAnd (option_copied answers.entry) (λ file. FailsTo e 1 (D.files dir.old) file (D.faults dir.old) (D.faults dir.new))) }
+    ensures files { D.files dir.new ≡ D.files dir.old }
+    ensures later { D.faults dir.old ≤ D.faults dir.new }
+{
+    match answers {
+        Some(file) => text_at(alloc, 1, file, dir),
+        None => Ok(Text::new(String::new(alloc))),
+    }
+}
+
+// A source of one text.
+fn one_file(alloc: Global, name: &str, text: Text) -> Result<Files, OutOfMemory>
+    ensures { IfOk result (λ files. files ≡ one_file name.now text) }
+{
+    let name = Text::new(String::from_str(alloc, name)?);
+    Ok(Files {
+        file_names: List::new(vec![in alloc; name]?),
+        file_texts: List::new(vec![in alloc; text]?),
+    })
+}
+
+/// The inputs of these names, the source first; without a file of answers their text is empty. The first that is not
+/// read is told by its number: 0 is the source, 1 the file of answers.
+pub fn read_inputs<D: Dir>(
+    alloc: Global,
+    source: &str,
+    answers: Option<&str>,
+    dir: &mut D,
+) -> Result<Inputs, ReadError>
+    ensures ok { IfOk result (λ read. AreInputs source.now (option_copied answers.entry) (D.files dir.old) read.files read.answers) }
+    ensures err { IfErr result (λ e. Fails e (D.files dir.old) (source.now ∷ answers_names (option_copied answers.entry)) (D.faults dir.old) (D.faults dir.new)) }
+    ensures there { IfErr result (λ e. IsOf e (source.now ∷ answers_names (option_copied answers.entry))) }
+    ensures files { D.files dir.new ≡ D.files dir.old }
+    ensures later { D.faults dir.old ≤ D.faults dir.new }
+{
+    let text = match text_at(alloc, 0, source, dir) {
+        Ok(text) => text,
+        Err(e) => return Err(e),
+    };
+    let files = one_file(alloc, source, text)?;
+    match answers_text(alloc, answers, dir) {
+        Ok(answers) => Ok(Inputs { files, answers }),
+        Err(e) => Err(e),
+    }
+}

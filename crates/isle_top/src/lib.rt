@@ -1,0 +1,15 @@
+//! The top call: words, a directory and two sinks, to a text, a line and a status.
+#![tactic(auto)]
+
+mod about;
+mod answer;
+mod asked;
+mod built;
+mod compiled;
+mod inputs;
+mod lines;
+mod ran;
+mod refusal;
+mod run;
+
+pub use run::{Exit, run_words};

@@ -1,0 +1,243 @@
+ghost use Rattle.std.specs.Prelude.{◌≡◌, ◌≤◌, ◌<◌, [], ◌∷◌, ◌++◌, OnOk, OnErr, map};
+ghost use Rattle.isle_ink.specs.Number.{glyph, numeral};
+ghost use Rattle.isle_outside.specs.Directory.{Rose};
+ghost use Rattle.isle_outside.specs.Sinks.{Took, TookPart};
+ghost use Rattle.isle_top.specs.Lines.{
+  masked,
+  cause_end,
+  unread_head,
+  unread_line,
+  bad_word_head,
+  bad_word_line,
+  no_term_head,
+  count_line,
+  argument_head,
+  argument_end,
+  answers_head,
+  halt_line,
+};
+
+use isle_core::{Failed, IoCause, Sink, write_all};
+use isle_trial::Halt;
+
+/// What is asked for is not built.
+pub const NOT_YET: &str = "isle: not yet\n";
+
+/// The output failed.
+pub const WRITE_FAULT: &str = "isle: write fault\n";
+
+/// Memory ran out.
+pub const OUT_OF_MEMORY: &str = "isle: out of memory\n";
+
+/// A line would go on.
+pub const MISSING_WORD: &str = "isle: missing word\n";
+
+/// A byte as a line shows it.
+fn masked(byte: u8) -> u8
+    ensures { result ≡ masked byte }
+{
+    if byte < 32 { b'?' } else { byte }
+}
+
+/// What stands behind the name of a file that was not read: why, in words.
+fn cause_end(cause: IoCause) -> &'static str
+    ensures { result.now ≡ cause_end cause }
+{
+    match cause {
+        IoCause::Fault => ": fault\n",
+        IoCause::Absent => ": absent\n",
+        IoCause::NotUtf8 => ": not utf-8\n",
+        IoCause::TooLong => ": too long\n",
+    }
+}
+
+/// Writes a name, each byte below 32 as `?`. It takes no memory.
+fn write_masked<S: Sink>(sink: &mut S, name: &str) -> Result<(), Failed>
+    ensures ok { OnOk result (Took (S.taken sink.old) (S.taken sink.new) (map masked name.now)) }
+    ensures part { OnErr result (TookPart (S.taken sink.old) (S.taken sink.new) (map masked name.now)) }
+    ensures failed { OnErr result (Rose (S.faults sink.old) (S.faults sink.new)) }
+    ensures later { S.faults sink.old ≤ S.faults sink.new }
+{
+    for byte in name.as_bytes() {
+        let piece = [masked(*byte)];
+        match write_all(sink, &piece) {
+            Ok(()) => {}
+            Err(fault) => return Err(fault),
+        }
+    }
+    Ok(())
+}
+
+/// Writes a name, each byte below 32 as `?`, and what stands behind it. It takes no memory.
+fn write_name<S: Sink>(sink: &mut S, name: &str, end: &str) -> Result<(), Failed>
+    ensures ok { OnOk result (Took (S.taken sink.old) (S.taken sink.new) (map masked name.now ++ end.now)) }
+    ensures part { OnErr result (TookPart (S.taken sink.old) (S.taken sink.new) (map masked name.now ++ end.now)) }
+    ensures failed { OnErr result (Rose (S.faults sink.old) (S.faults sink.new)) }
+    ensures later { S.faults sink.old ≤ S.faults sink.new }
+{
+    match write_masked(sink, name) {
+        Ok(()) => write_all(sink, end.as_bytes()),
+        Err(fault) => Err(fault),
+    }
+}
+
+/// Writes the line of a file that was not read. It takes no memory.
+pub fn write_unread<S: Sink>(sink: &mut S, name: &str, cause: IoCause) -> Result<(), Failed>
+    ensures ok { OnOk result (Took (S.taken sink.old) (S.taken sink.new) (unread_line name.now cause)) }
+    ensures part { OnErr result (TookPart (S.taken sink.old) (S.taken sink.new) (unread_line name.now cause)) }
+    ensures failed { OnErr result (Rose (S.faults sink.old) (S.faults sink.new)) }
+{
+    match write_head(sink) {
+        Ok(()) => write_name(sink, name, cause_end(cause)),
+        Err(fault) => Err(fault),
+    }
+}
+
+/// Writes what stands before the name of a file that was not read.
+#[tactic(auto, unfolding(crate::specs::Lines::unread_head))]
+fn write_head<S: Sink>(sink: &mut S) -> Result<(), Failed>
+    ensures ok { OnOk result (Took (S.taken sink.old) (S.taken sink.new) unread_head) }
+    ensures part { OnErr result (TookPart (S.taken sink.old) (S.taken sink.new) unread_head) }
+    ensures failed { OnErr result (Rose (S.faults sink.old) (S.faults sink.new)) }
+    ensures later { S.faults sink.old ≤ S.faults sink.new }
+{
+    write_all(sink, b"isle: cannot read file ")
+}
+
+/// Writes the line of a word with which no line goes on. It takes no memory.
+pub fn write_bad_word<S: Sink>(sink: &mut S, word: &str) -> Result<(), Failed>
+    ensures ok { OnOk result (Took (S.taken sink.old) (S.taken sink.new) (bad_word_line word.now)) }
+    ensures part { OnErr result (TookPart (S.taken sink.old) (S.taken sink.new) (bad_word_line word.now)) }
+    ensures failed { OnErr result (Rose (S.faults sink.old) (S.faults sink.new)) }
+{
+    write_named(sink, bad_word_head(), word)
+}
+
+/// Writes the line of a term that is not run. It takes no memory.
+pub fn write_halt<S: Sink>(sink: &mut S, term: &str, halt: Halt) -> Result<(), Failed>
+    ensures ok { OnOk result (Took (S.taken sink.old) (S.taken sink.new) (halt_line term.now halt)) }
+    ensures part { OnErr result (TookPart (S.taken sink.old) (S.taken sink.new) (halt_line term.now halt)) }
+    ensures failed { OnErr result (Rose (S.faults sink.old) (S.faults sink.new)) }
+{
+    match halt {
+        Halt::NoTerm => write_named(sink, no_term_head(), term),
+        Halt::ArgCount => write_all(sink, count_line().as_bytes()),
+        Halt::ArgType(argument) => write_numbered(sink, argument_head(), argument, argument_end()),
+        Halt::BadAnswers(place) => write_numbered(sink, answers_head(), place, "\n"),
+    }
+}
+
+/// Writes a fixed text, a name with each byte below 32 as `?`, and the line's end. It takes no memory.
+fn write_named<S: Sink>(sink: &mut S, head: &str, name: &str) -> Result<(), Failed>
+    ensures ok { OnOk result (Took (S.taken sink.old) (S.taken sink.new) (head.now ++ (map masked name.now ++ 10 ∷ []))) }
+    ensures part { OnErr result (TookPart (S.taken sink.old) (S.taken sink.new) (head.now ++ (map masked name.now ++ 10 ∷ []))) }
+    ensures failed { OnErr result (Rose (S.faults sink.old) (S.faults sink.new)) }
+    ensures later { S.faults sink.old ≤ S.faults sink.new }
+{
+    match write_all(sink, head.as_bytes()) {
+        Ok(()) => write_name(sink, name, "\n"),
+        Err(fault) => Err(fault),
+    }
+}
+
+/// Writes a number between two fixed texts. It takes no memory.
+fn write_numbered<S: Sink>(sink: &mut S, head: &str, number: usize, end: &str) -> Result<(), Failed>
+    ensures ok { OnOk result (Took (S.taken sink.old) (S.taken sink.new) (head.now ++ (numeral 10 number ++ end.now))) }
+    ensures part { OnErr result (TookPart (S.taken sink.old) (S.taken sink.new) (head.now ++ (numeral 10 number ++ end.now))) }
+    ensures failed { OnErr result (Rose (S.faults sink.old) (S.faults sink.new)) }
+    ensures later { S.faults sink.old ≤ S.faults sink.new }
+{
+    match write_all(sink, head.as_bytes()) {
+        Ok(()) => write_count(sink, number, end),
+        Err(fault) => Err(fault),
+    }
+}
+
+/// Writes a number, and what stands behind it. It takes no memory.
+fn write_count<S: Sink>(sink: &mut S, number: usize, end: &str) -> Result<(), Failed>
+    ensures ok { OnOk result (Took (S.taken sink.old) (S.taken sink.new) (numeral 10 number ++ end.now)) }
+    ensures part { OnErr result (TookPart (S.taken sink.old) (S.taken sink.new) (numeral 10 number ++ end.now)) }
+    ensures failed { OnErr result (Rose (S.faults sink.old) (S.faults sink.new)) }
+    ensures later { S.faults sink.old ≤ S.faults sink.new }
+{
+    match write_number(sink, number) {
+        Ok(()) => write_all(sink, end.as_bytes()),
+        Err(fault) => Err(fault),
+    }
+}
+
+/// Writes a number's decimal digits, the highest first and with no zero before them; 0 is one digit. It takes no memory.
+pub fn write_number<S: Sink>(sink: &mut S, number: usize) -> Result<(), Failed>
+    ensures ok { OnOk result (Took (S.taken sink.old) (S.taken sink.new) (numeral 10 number)) }
+    ensures part { OnErr result (TookPart (S.taken sink.old) (S.taken sink.new) (numeral 10 number)) }
+    ensures failed { OnErr result (Rose (S.faults sink.old) (S.faults sink.new)) }
+    ensures later { S.faults sink.old ≤ S.faults sink.new }
+{
+    if number < 10 {
+        return write_digit(sink, number);
+    }
+    match write_number(sink, number / 10) {
+        Ok(()) => write_digit(sink, number % 10),
+        Err(fault) => Err(fault),
+    }
+}
+
+/// Writes one decimal digit.
+fn write_digit<S: Sink>(sink: &mut S, digit: usize) -> Result<(), Failed>
+    requires { digit < 10 }
+    ensures ok { OnOk result (Took (S.taken sink.old) (S.taken sink.new) (glyph digit ∷ [])) }
+    ensures part { OnErr result (TookPart (S.taken sink.old) (S.taken sink.new) (glyph digit ∷ [])) }
+    ensures failed { OnErr result (Rose (S.faults sink.old) (S.faults sink.new)) }
+    ensures later { S.faults sink.old ≤ S.faults sink.new }
+{
+    let piece = [b'0' + digit as u8];
+    write_all(sink, &piece)
+}
+
+/// What stands before a word with which no line goes on.
+#[tactic(auto, unfolding(crate::specs::Lines::bad_word_head))]
+fn bad_word_head() -> &'static str
+    ensures { result.now ≡ bad_word_head }
+{
+    "isle: bad word "
+}
+
+/// What stands before the name of a term that has no rules.
+#[tactic(auto, unfolding(crate::specs::Lines::no_term_head))]
+fn no_term_head() -> &'static str
+    ensures { result.now ≡ no_term_head }
+{
+    "isle: no term "
+}
+
+/// The line of another number of arguments.
+#[tactic(auto, unfolding(crate::specs::Lines::count_line))]
+fn count_line() -> &'static str
+    ensures { result.now ≡ count_line }
+{
+    "isle: argument count\n"
+}
+
+/// What stands before the number of an argument.
+#[tactic(auto, unfolding(crate::specs::Lines::argument_head))]
+fn argument_head() -> &'static str
+    ensures { result.now ≡ argument_head }
+{
+    "isle: argument "
+}
+
+/// What stands behind the number of an argument.
+#[tactic(auto, unfolding(crate::specs::Lines::argument_end))]
+fn argument_end() -> &'static str
+    ensures { result.now ≡ argument_end }
+{
+    " has another type\n"
+}
+
+/// What stands before the place where answers go wrong.
+#[tactic(auto, unfolding(crate::specs::Lines::answers_head))]
+fn answers_head() -> &'static str
+    ensures { result.now ≡ answers_head }
+{
+    "isle: bad answers at "
+}

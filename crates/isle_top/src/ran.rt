@@ -1,0 +1,53 @@
+//! The lines of a run of a term of a file.
+
+ghost use Rattle.std.specs.Prelude.{◌≡◌, ◌≤◌, false, IfOk, IfErr};
+ghost use Rattle.std.specs.Option.{option_copied};
+ghost use Rattle.std.specs.String.{string_bytes};
+ghost use Rattle.isle_values.specs.Views.{seen};
+ghost use Rattle.isle_words.specs.Asked.{Run};
+ghost use Rattle.isle_words.specs.Lines.{no_options};
+ghost use Rattle.isle_words.specs.declared.commands.Source.TheVariants.{File};
+ghost use Rattle.isle_top.specs.Valid.{IsRunOf};
+ghost use Rattle.isle_top.specs.Causes.{HasCause};
+
+use crate::inputs::read_inputs;
+use crate::refusal::Refusal;
+use isle_core::{CodegenOptions, Dir, ReadError};
+use isle_trial::{TrialError, trial};
+use isle_values::Written;
+use std::alloc::Global;
+
+/// The lines of a run of the term of the source of this name at the values, under the answers of a file.
+pub fn ran<D: Dir>(
+    alloc: Global,
+    source: &str,
+    term: &str,
+    values: &[Written],
+    answers: Option<&str>,
+    dir: &mut D,
+) -> Result<String, Refusal>
+    ensures ok { IfOk result (λ lines. IsRunOf source.now term.now (seen values.now) (option_copied answers.entry) (D.files dir.old) (string_bytes lines)) }
+    ensures err { IfErr result (λ e. HasCause e (Run false no_options (File source.now) term.now (seen values.now) (option_copied answers.entry)) (D.files dir.old) (D.faults dir.old) (D.faults dir.new)) }
+    ensures files { D.files dir.new ≡ D.files dir.old }
+    ensures later { D.faults dir.old ≤ D.faults dir.new }
+{
+    let read = match read_inputs(alloc, source, answers, dir) {
+        Ok(read) => read,
+        Err(ReadError::Io { index, cause }) => return Err(Refusal::Unread(index, cause)),
+        Err(ReadError::Memory) => return Err(Refusal::Memory),
+    };
+    let options = CodegenOptions::new(alloc);
+    match trial(
+        alloc,
+        &read.files,
+        &options,
+        term,
+        values,
+        read.answers.as_str(),
+    ) {
+        Ok(lines) => Ok(lines),
+        Err(TrialError::NotYet) => Err(Refusal::NotYet),
+        Err(TrialError::Halted(halt)) => Err(Refusal::Halted(halt)),
+        Err(TrialError::Memory) => Err(Refusal::Memory),
+    }
+}

@@ -1,0 +1,163 @@
+ghost use Rattle.std.specs.Prelude.{◌≡◌, ◌≢◌, ◌⊎◌, [], ◌∷◌, ℕ, List, Some, IsSomeAnd, slice_get};
+ghost use Rattle.isle_outside.specs.Directory.{Rose};
+ghost use Rattle.isle_outside.specs.Sinks.{Took, TookPart};
+ghost use Rattle.isle_core.specs.Inputs.{bytes_each};
+ghost use Rattle.isle_words.specs.Asked.{Asked, Compile};
+ghost use Rattle.isle_words.specs.Lines.{LineS, no_options};
+ghost use Rattle.isle_words.specs.Views.{seen_command};
+ghost use Rattle.isle_top.specs.Asking.{Asks};
+ghost use Rattle.isle_top.specs.Causes.{HasCause};
+ghost use Rattle.isle_top.specs.Lines.{not_yet_line, write_fault_line, memory_line, Wrote};
+ghost use Rattle.isle_top.specs.Statuses.{IsStatus, IsNoLine, IsUnread, IsHalt};
+ghost use Rattle.isle_top.specs.Valid.{IsValid, IsAnswer};
+
+use crate::answer::answer;
+use crate::asked::{input_name, term_of};
+use crate::lines::{
+    MISSING_WORD, NOT_YET, OUT_OF_MEMORY, WRITE_FAULT, write_bad_word, write_halt, write_unread,
+};
+use crate::refusal::Refusal;
+use isle_core::{Dir, Sink, write_all};
+use isle_words::{Command, LineFail, command};
+use std::alloc::Global;
+
+/// The status of a run: 0 done, 2 the words are no line, 5 an input was not read, 11 the output failed, 12 memory ran out,
+/// 13 a term is not run, 14 what is asked for is not built.
+#[derive(Clone, Copy, Debug, PartialEq, Eq)]
+pub struct Exit(pub u8);
+
+/// Runs the program: does what the words ask for, and writes the text that answers them to `out`. Every status but 0 writes
+/// its line to `err`. Writing takes no memory.
+pub fn run_words<D: Dir, O: Sink, E: Sink>(
+    alloc: Global,
+    words: &[String],
+    dir: &mut D,
+    out: &mut O,
+    err: &mut E,
+) -> Exit
+    // At status 0 `out` took the answer, and nothing else.
+    ensures done { result.0 ≡ 0 → (asked : Asked) × Asks (bytes_each words.now) asked
+        × ((text : List ℕ) × IsAnswer asked (D.files dir.old) text × Took (O.taken out.old) (O.taken out.new) text) }
+    ensures quiet { result.0 ≡ 0 → E.taken err.new ≡ E.taken err.old }
+
+    // At status 11 its count rose, and it took a part of the answer.
+    ensures part { result.0 ≡ 11 → (asked : Asked) × Asks (bytes_each words.now) asked × Rose (O.faults out.old) (O.faults out.new)
+        × ((text : List ℕ) × IsAnswer asked (D.files dir.old) text × TookPart (O.taken out.old) (O.taken out.new) text) }
+    ensures part_line { result.0 ≡ 11 → Wrote (E.taken err.old) (E.taken err.new) (E.faults err.old) (E.faults err.new) write_fault_line }
+
+    // At every other status it took nothing.
+    ensures untouched { result.0 ≢ 0 → result.0 ≢ 11 → O.taken out.new ≡ O.taken out.old }
+
+    // Status 2: the words are no line, and the line says why; words that are none end so, or with 12.
+    ensures bad { result.0 ≡ 2 → IsNoLine (bytes_each words.now) (Wrote (E.taken err.old) (E.taken err.new) (E.faults err.old) (E.faults err.new)) }
+    ensures no_line { ((asked : Asked) → LineS (bytes_each words.now) asked → ⊥) → (result.0 ≡ 2) ⊎ (result.0 ≡ 12) }
+
+    // Status 14: the line is not built, or its inputs were read and are not.
+    ensures not_yet { result.0 ≡ 14 → (asked : Asked) × Asks (bytes_each words.now) asked × HasCause Refusal.NotYet asked (D.files dir.old) (D.faults dir.old) (D.faults dir.new) }
+    ensures not_yet_line { result.0 ≡ 14 → Wrote (E.taken err.old) (E.taken err.new) (E.faults err.old) (E.faults err.new) not_yet_line }
+
+    // Status 5: an input was not read, and the line says which and why.
+    ensures unread { result.0 ≡ 5 → (asked : Asked) × Asks (bytes_each words.now) asked × IsUnread asked (D.files dir.old) (D.faults dir.old) (D.faults dir.new)
+        (Wrote (E.taken err.old) (E.taken err.new) (E.faults err.old) (E.faults err.new)) }
+
+    // Status 13: the term is not run, and the line says why.
+    ensures halted { result.0 ≡ 13 → (asked : Asked) × Asks (bytes_each words.now) asked × IsHalt asked (D.files dir.old) (D.faults dir.old) (D.faults dir.new)
+        (Wrote (E.taken err.old) (E.taken err.new) (E.faults err.old) (E.faults err.new)) }
+
+    // Status 12: want of memory, free until writing begins.
+    ensures memory_line { result.0 ≡ 12 → Wrote (E.taken err.old) (E.taken err.new) (E.faults err.old) (E.faults err.new) memory_line }
+
+    ensures statuses { IsStatus result.0 }
+
+    // Valid input is compiled, where nothing fails and memory suffices.
+    ensures complete { (name : List ℕ) → LineS (bytes_each words.now) (Compile no_options (name ∷ [])) → IsSomeAnd (D.files dir.old) (λ fs. IsValid fs name)
+        → (Rose (D.faults dir.old) (D.faults dir.new) → ⊥) → (result.0 ≡ 0) ⊎ (result.0 ≡ 11) ⊎ (result.0 ≡ 12) }
+    ensures files { D.files dir.new ≡ D.files dir.old }
+{
+    match command(alloc, words) {
+        Ok(asked) => run_command(alloc, &asked, dir, out, err),
+        Err(LineFail::Bad(index)) => {
+            let _ = write_bad_word(err, word_at(words, index));
+            Exit(2)
+        }
+        Err(LineFail::Missing) => {
+            complain(err, MISSING_WORD);
+            Exit(2)
+        }
+        Err(LineFail::Memory) => {
+            complain(err, OUT_OF_MEMORY);
+            Exit(12)
+        }
+    }
+}
+
+// The word of this number.
+fn word_at(words: &[String], index: usize) -> &str
+    ensures { (word : List ℕ) → slice_get (bytes_each words.now) index ≡ Some word → result.now ≡ word }
+{
+    match words.get(index) {
+        Some(word) => word.as_str(),
+        None => "",
+    }
+}
+
+// Does what a line asks for.
+fn run_command<D: Dir, O: Sink, E: Sink>(
+    alloc: Global,
+    asked: &Command,
+    dir: &mut D,
+    out: &mut O,
+    err: &mut E,
+) -> Exit
+    ensures done { result.0 ≡ 0 → (text : List ℕ) × IsAnswer (seen_command asked.now) (D.files dir.old) text × Took (O.taken out.old) (O.taken out.new) text }
+    ensures quiet { result.0 ≡ 0 → E.taken err.new ≡ E.taken err.old }
+    ensures part { result.0 ≡ 11 → Rose (O.faults out.old) (O.faults out.new)
+        × ((text : List ℕ) × IsAnswer (seen_command asked.now) (D.files dir.old) text × TookPart (O.taken out.old) (O.taken out.new) text) }
+    ensures part_line { result.0 ≡ 11 → Wrote (E.taken err.old) (E.taken err.new) (E.faults err.old) (E.faults err.new) write_fault_line }
+    ensures untouched { result.0 ≢ 0 → result.0 ≢ 11 → O.taken out.new ≡ O.taken out.old }
+    ensures known { result.0 ≢ 2 }
+    ensures not_yet { result.0 ≡ 14 → HasCause Refusal.NotYet (seen_command asked.now) (D.files dir.old) (D.faults dir.old) (D.faults dir.new) }
+    ensures not_yet_line { result.0 ≡ 14 → Wrote (E.taken err.old) (E.taken err.new) (E.faults err.old) (E.faults err.new) not_yet_line }
+    ensures unread { result.0 ≡ 5 → IsUnread (seen_command asked.now) (D.files dir.old) (D.faults dir.old) (D.faults dir.new)
+        (Wrote (E.taken err.old) (E.taken err.new) (E.faults err.old) (E.faults err.new)) }
+    ensures halted { result.0 ≡ 13 → IsHalt (seen_command asked.now) (D.files dir.old) (D.faults dir.old) (D.faults dir.new)
+        (Wrote (E.taken err.old) (E.taken err.new) (E.faults err.old) (E.faults err.new)) }
+    ensures memory_line { result.0 ≡ 12 → Wrote (E.taken err.old) (E.taken err.new) (E.faults err.old) (E.faults err.new) memory_line }
+    ensures statuses { IsStatus result.0 }
+    ensures complete { (name : List ℕ) → seen_command asked.now ≡ Compile no_options (name ∷ []) → IsSomeAnd (D.files dir.old) (λ fs. IsValid fs name)
+        → (Rose (D.faults dir.old) (D.faults dir.new) → ⊥) → (result.0 ≡ 0) ⊎ (result.0 ≡ 11) ⊎ (result.0 ≡ 12) }
+    ensures files { D.files dir.new ≡ D.files dir.old }
+{
+    match answer(alloc, asked, dir) {
+        Ok(text) => match write_all(out, text.as_bytes()) {
+            Ok(()) => Exit(0),
+            Err(_) => {
+                complain(err, WRITE_FAULT);
+                Exit(11)
+            }
+        },
+        Err(Refusal::NotYet) => {
+            complain(err, NOT_YET);
+            Exit(14)
+        }
+        Err(Refusal::Unread(index, cause)) => {
+            let _ = write_unread(err, input_name(asked, index), cause);
+            Exit(5)
+        }
+        Err(Refusal::Halted(halt)) => {
+            let _ = write_halt(err, term_of(asked), halt);
+            Exit(13)
+        }
+        Err(Refusal::Memory) => {
+            complain(err, OUT_OF_MEMORY);
+            Exit(12)
+        }
+    }
+}
+
+/// Writes a line, as far as the sink takes it.
+fn complain<E: Sink>(err: &mut E, line: &str)
+    ensures { Wrote (E.taken err.old) (E.taken err.new) (E.faults err.old) (E.faults err.new) line.now }
+{
+    let _ = write_all(err, line.as_bytes());
+}
