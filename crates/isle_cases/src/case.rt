@@ -108,9 +108,7 @@ impl Case {
             self.mark(Slip::Block);
             return Ok(());
         };
-        entry
-            .text
-            .push_str(line.strip_prefix(" ").unwrap_or(line))?;
+        entry.text.push_str(line.strip_prefix(" ").unwrap_or(line))?;
         entry.text.push_str("\\n")
     }
 

@@ -100,7 +100,11 @@ fn piece(alloc: Global, case: &Case, head: &Case, object: &str, usual: usize) ->
     ensures { IfOk result (λ piece. 0 < piece) }
 {
     let piece = limit(alloc, case, head, Key::Piece, object, usual)?;
-    if piece == 0 { Err(Slip::Number) } else { Ok(piece) }
+    if piece == 0 {
+        Err(Slip::Number)
+    } else {
+        Ok(piece)
+    }
 }
 
 /// An empty sink of a case.

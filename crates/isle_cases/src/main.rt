@@ -27,7 +27,13 @@ struct Report {
 
 impl Report {
     /// Counts a case.
-    fn count(&mut self, alloc: Global, topic: &str, name: &str, held: Result<(), Slip>) -> Result<(), Slip> {
+    fn count(
+        &mut self,
+        alloc: Global,
+        topic: &str,
+        name: &str,
+        held: Result<(), Slip>,
+    ) -> Result<(), Slip> {
         self.cases = self.cases.saturating_add(1);
         match held {
             Ok(()) => {
@@ -85,7 +91,13 @@ fn judge(alloc: Global, case: &Case, head: &Case, shelf: &Shelf) -> Result<(), S
 }
 
 /// Counts the cases of a topic. One without cases is counted as one that doesn't hold.
-fn count_topic(alloc: Global, name: &str, text: &str, shelf: &Shelf, report: &mut Report) -> Result<(), Slip> {
+fn count_topic(
+    alloc: Global,
+    name: &str,
+    text: &str,
+    shelf: &Shelf,
+    report: &mut Report,
+) -> Result<(), Slip> {
     let cases = cases_of(alloc, text)?;
     let [head, cases @ ..] = cases.as_slice() else {
         return Err(Slip::Memory);

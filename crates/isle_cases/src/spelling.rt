@@ -69,7 +69,11 @@ fn push_often(alloc: Global, bytes: &mut Vec<u8>, piece: &str) -> Result<(), Sli
         None => (0, number(count)?),
     };
     for turn in from..to {
-        push_turn(alloc, bytes, inner, turn)?;
+        if inner.contains('#') {
+            push_turn(alloc, bytes, inner, turn)?;
+        } else {
+            bytes.extend_from_slice(inner.as_bytes())?;
+        }
     }
     bytes.extend_from_slice(rest.as_bytes())?;
     Ok(())
@@ -79,7 +83,10 @@ fn push_often(alloc: Global, bytes: &mut Vec<u8>, piece: &str) -> Result<(), Sli
 fn push_turn(alloc: Global, bytes: &mut Vec<u8>, inner: &str, turn: usize) -> Result<(), Slip> {
     for (place, piece) in inner.split('#').enumerate() {
         let (above, rest) = match piece.as_bytes() {
-            [b'+', digit @ b'1'..=b'9', rest @ ..] if place > 0 => (usize::from(*digit - b'0'), rest),
+            [b'+', digit @ b'1'..=b'9', rest @ ..] if place > 0 => (
+                usize::from(*digit - b'0'),
+                rest,
+            ),
             rest => (0, rest),
         };
         if place > 0 {

@@ -9,8 +9,6 @@ mod position;
 mod read_error;
 mod rule_sets;
 mod rules;
-#[cfg(test)]
-mod tests;
 mod types;
 mod values;
 

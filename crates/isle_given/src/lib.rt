@@ -7,8 +7,6 @@ mod asked;
 mod built;
 mod names;
 mod number;
-#[cfg(test)]
-mod tests;
 mod value;
 mod values;
 

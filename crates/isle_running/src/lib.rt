@@ -13,13 +13,9 @@ mod forms;
 mod frame;
 mod holding;
 mod lines;
-#[cfg(test)]
-mod lines_tests;
 mod reading;
 mod run;
 mod run_error;
-#[cfg(test)]
-mod run_tests;
 mod served;
 mod shown;
 mod signatures;

@@ -6,8 +6,6 @@ mod line;
 mod options;
 mod run;
 mod state;
-#[cfg(test)]
-mod tests;
 mod word;
 
 pub use commands::{Command, Kind, LineFail, Source};
