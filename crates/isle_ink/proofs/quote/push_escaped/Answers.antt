@@ -1,7 +1,7 @@
 use Rattle.std.proofs.Common.{◌++◌, sym, ap, ◌∙◌, arith}
 use Rattle.std.specs.Prelude.{string_bytes}
 use Rattle.isle_ink.proofs.Quotes.{escaped-plain}
-use Rattle.isle_ink.proofs.printer.push_escaped.Goals as goal
+use Rattle.isle_ink.proofs.quote.push_escaped.Goals as goal
 
 pub returns-in_ok-push-in_default : goal.returns-in_ok-push-in_default
 returns-in_ok-push-in_default c =
