@@ -4,8 +4,6 @@
 mod boxed;
 mod ids;
 mod list;
-#[cfg(test)]
-mod tests;
 mod text;
 
 pub use boxed::Boxed;

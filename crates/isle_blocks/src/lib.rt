@@ -5,7 +5,5 @@ mod chain;
 mod inners;
 mod nest;
 mod order;
-#[cfg(test)]
-mod tests;
 
 pub use chain::serialize;

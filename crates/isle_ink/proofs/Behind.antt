@@ -1,9 +1,10 @@
 -- A text behind one that ends between tokens: the tokens of both.
-use Rattle.std.proofs.Common.{◌≡◌, ℕ, List, [], ◌∷◌, ◌++◌, Bool, true, false, cond, eqb, refl, sym, ap, ◌∙◌, append_assoc}
-use Rattle.std.specs.Prelude.{◌&&◌, ◌||◌, fold}
+use Rattle.std.proofs.Common.{◌≡◌, ℕ, List, [], ◌∷◌, ◌++◌, Bool, true, false, cond, eqb, refl, sym, ap, ◌∙◌, append_assoc, arith}
+use Rattle.std.specs.Prelude.{◌&&◌, ◌||◌, ◌<◌, length, slice_index, fold}
 use Rattle.std.proofs.lemmas.List.{append-nil}
 use Rattle.isle_ink.specs.Token.{Token, Word, Mark, Quoted, Stray, State, Between, InWord, AfterMark, InComment, InQuotes, Escaped, Scan, is_word_byte, is_blank, joins, begun, step, last_of, scan, finished, tokens_of}
-use Rattle.isle_ink.proofs.Scans.{scan-append}
+use Rattle.isle_ink.specs.Glue.{Ends}
+use Rattle.isle_ink.proofs.Scans.{scan-append, scan-next}
 
 -- a scan with tokens before its own
 unfoldable pub behind : List Token → Scan → Scan
@@ -50,3 +51,22 @@ tokens-behind s text h =
     ap finished (scan-behind s text h)
     ∙ append_assoc (scan s).tokens (scan text).tokens (last_of (scan text).state)
     ∙ sym (ap (λ ts. ts ++ tokens_of text) (ap (λ st. (scan s).tokens ++ last_of st) h ∙ append-nil (scan s).tokens))
+
+-- a text that begins with what ends the first one
+scan-piece : (s : List ℕ) (b : ℕ) (bs : List ℕ) → Ends (scan s).state b → scan (s ++ b ∷ bs) ≡ behind (finished (scan s)) (scan (b ∷ bs))
+unfolding step
+scan-piece s b bs e =
+    scan-next s b bs e
+    ∙ ap (λ x. fold step x bs) (ap (λ ts. begun ts b) (sym (append-nil (finished (scan s)))) ∙ begun-behind (finished (scan s)) [] b)
+    ∙ fold-behind (finished (scan s)) (begun [] b) bs
+
+pub state-piece : (s w : List ℕ) → 0 < length w → Ends (scan s).state (slice_index w 0) → (scan (s ++ w)).state ≡ (scan w).state
+unfolding behind
+state-piece s [] some e = absurd (omega arith)
+state-piece s (b ∷ bs) some e = ap (λ x. x.state) (scan-piece s b bs e)
+
+pub tokens-piece : (s w : List ℕ) → 0 < length w → Ends (scan s).state (slice_index w 0) → tokens_of (s ++ w) ≡ tokens_of s ++ tokens_of w
+unfolding behind
+tokens-piece s [] some e = absurd (omega arith)
+tokens-piece s (b ∷ bs) some e =
+    ap finished (scan-piece s b bs e) ∙ append_assoc (finished (scan s)) (scan (b ∷ bs)).tokens (last_of (scan (b ∷ bs)).state)

@@ -1,13 +1,14 @@
 -- A text between quotes is read as that text.
 use Rattle.std.proofs.Common.{◌≡◌, ℕ, ◌≤◌, List, [], ◌∷◌, ◌++◌, Bool, true, false, cond, eqb, ltb, refl, sym, ap, ◌∙◌, append_assoc, arith, ⊎_elim}
 use Rattle.std.specs.Prelude.{fold, ◌||◌}
+use Rattle.std.specs.List.{list_all}
 use Rattle.std.proofs.lemmas.List.{append-nil}
-use Rattle.std.proofs.lemmas.Bool.{ne_eqb, le-ltb, cases_lt}
+use Rattle.std.proofs.lemmas.Bool.{ne_eqb, le-ltb, cases_lt, and_parts}
 use Rattle.std.proofs.lemmas.Str.{encode_ascii, encodes-append}
 use lib.Utf8.{encode, encodes}
 use Rattle.isle_ink.specs.Token.{Token, Quoted, Between, InQuotes, Escaped, begun, step, scan, finished}
 use Rattle.isle_ink.specs.Glue.{Ends}
-use Rattle.isle_ink.specs.Quote.{escaped, quoted}
+use Rattle.isle_ink.specs.Quote.{is_plain, escaped, quoted}
 use Rattle.isle_ink.proofs.Scans.{scan-next}
 
 within_quotes : (ts : List Token) (w text rest : List ℕ) → fold step (record { tokens = ts; state = InQuotes w }) (escaped text ++ rest) ≡ fold step (record { tokens = ts; state = InQuotes (w ++ text) }) rest
@@ -66,3 +67,13 @@ escaped-plain c quote slash = ⊎_elim (λ low. rw (encode_ascii c low, ne_eqb c
 -- one character more
 pub escaped-char : (cs : List ℕ) (c : ℕ) → escaped (encodes (cs ++ c ∷ [])) ≡ escaped (encodes cs) ++ escaped (encode c)
 escaped-char cs c = ap escaped (encodes-append cs (c ∷ []) ∙ ap (λ x. encodes cs ++ x) (append-nil (encode c))) ∙ escaped-append (encodes cs) (encode c)
+
+-- ---- a text that needs no backslash
+
+plain_byte : (b : Bool) → cond b false true ≡ true → b ≡ false
+plain_byte false h = refl
+plain_byte true h = absurd cc
+
+pub escaped_is_plain : (bs : List ℕ) → list_all is_plain bs ≡ true → escaped bs ≡ bs
+escaped_is_plain [] h = refl
+escaped_is_plain (b ∷ bs) h = let parts = and_parts (is_plain b) _ h in rw (plain_byte (eqb b 34 || eqb b 92) parts.0, escaped_is_plain bs parts.1) refl

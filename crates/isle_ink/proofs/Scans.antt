@@ -5,10 +5,11 @@ use Rattle.std.specs.List.{list_all}
 use Rattle.std.proofs.lemmas.List.{append-nil}
 use Rattle.std.proofs.lemmas.List.Sums.{fold-append}
 use Rattle.std.proofs.lemmas.Bool.{or_parts, and_parts}
+use Rattle.std.proofs.lemmas.Bool.Decides.{nat_tests}
 use Rattle.isle_ink.specs.declared.printer.Last.{Last}
 use Rattle.isle_ink.specs.declared.printer.Last.TheVariants as last
 use Rattle.isle_ink.specs.Token.{Token, Word, Mark, State, Between, InWord, AfterMark, is_word_byte, joins, goes_on, begun, step, scan, finished, tokens_of, is_word, is_mark, is_mark_byte}
-use Rattle.isle_ink.specs.Glue.{Settles, Ends, meets, noted}
+use Rattle.isle_ink.specs.Glue.{Settles, Ends, EndsAtWord, meets, is_open, noted}
 
 -- a text goes on from where the text before it ended
 pub scan-append : (s t : List ℕ) → scan (s ++ t) ≡ fold step (scan s) t
@@ -41,6 +42,15 @@ ends_at_blank : (l : Last) (st : State) → Settles l st → Ends st 32
 ends_at_blank last.Nothing st h = ends_apart last.Nothing st 32 h refl
 ends_at_blank last.Word st h = ends_apart last.Word st 32 h refl
 ends_at_blank (last.Mark a) st h = ends_apart (last.Mark a) st 32 h (mark_before_blank a)
+
+mark_before_word : (a b : ℕ) → is_word_byte b ≡ true → goes_on a b ≡ false
+mark_before_word a b h = grind (arith, nat_tests)
+
+-- a word, unless one was noted
+pub word_apart : (l : Last) (st : State) → Settles l st → is_open l ≡ false → EndsAtWord st
+word_apart last.Nothing st h shut = λ b is. rw h (ends-Between b)
+word_apart last.Word st h shut = absurd cc
+word_apart (last.Mark a) st h shut = λ b is. rw h (ends-AfterMark a b (mark_before_word a b is))
 
 -- ---- a token more
 
@@ -91,6 +101,24 @@ scan-word s (b ∷ bs) h e =
 
 pub tokens-word : (s w : List ℕ) → is_word w ≡ true → Ends (scan s).state (slice_index w 0) → tokens_of (s ++ w) ≡ tokens_of s ++ Word w ∷ []
 tokens-word s w h e = ap finished (scan-word s w h e)
+
+-- a word behind what ends at each word
+pub scan-word_apart : (s w : List ℕ) → is_word w ≡ true → EndsAtWord (scan s).state → scan (s ++ w) ≡ record { tokens = finished (scan s); state = InWord w }
+scan-word_apart s [] h e = absurd cc
+scan-word_apart s (b ∷ bs) h e = scan-word s (b ∷ bs) h (e b (and_parts (is_word_byte b) _ h).0)
+
+pub tokens-word_apart : (s w : List ℕ) → is_word w ≡ true → EndsAtWord (scan s).state → tokens_of (s ++ w) ≡ tokens_of s ++ Word w ∷ []
+tokens-word_apart s w h e = ap finished (scan-word_apart s w h e)
+
+-- more bytes of a word
+pub scan-word_more : (s w bs : List ℕ) (ts : List Token) → list_all is_word_byte bs ≡ true → scan s ≡ record { tokens = ts; state = InWord w } → scan (s ++ bs) ≡ record { tokens = ts; state = InWord (w ++ bs) }
+scan-word_more s w bs ts h e = scan-append s bs ∙ ap (λ x. fold step x bs) e ∙ word_grows ts w bs h
+
+-- what was noted of a word holds of a longer one
+pub settles_more : (l : Last) (w v : List ℕ) → Settles l (InWord w) → Settles l (InWord v)
+settles_more last.Nothing w v h = absurd cc
+settles_more last.Word w v h = (v, refl)
+settles_more (last.Mark a) w v h = absurd cc
 
 -- ---- a mark
 

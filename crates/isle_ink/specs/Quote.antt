@@ -1,5 +1,9 @@
 -- How a text stands between quotes.
-use Rattle.std.specs.Prelude.{ℕ, List, [], ◌∷◌, ◌++◌, ◌==◌, ◌||◌, if◌then◌else◌}
+use Rattle.std.specs.Prelude.{ℕ, List, [], ◌∷◌, ◌++◌, Bool, true, false, ◌==◌, ◌||◌, if◌then◌else◌}
+
+-- a byte that needs no backslash
+abbrev pub is_plain : ℕ → Bool
+is_plain b = if (b == 34) || (b == 92) then false else true
 
 -- a backslash before each quote and each backslash
 abbrev pub escaped : List ℕ → List ℕ

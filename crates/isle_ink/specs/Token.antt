@@ -106,3 +106,7 @@ is_mark (a ∷ b ∷ c ∷ bs) = false
 -- whether b goes on what was begun with a mark a
 abbrev pub goes_on : ℕ → ℕ → Bool
 goes_on a b = joins a b || ((a == 47) && (b == 47))
+
+-- what is begun behind a blank, or behind a mark of one byte
+abbrev pub left_open : ℕ → State
+left_open b = if is_blank b then Between else AfterMark b

@@ -4,10 +4,8 @@
 mod comment;
 mod numeral;
 mod printer;
+mod quote;
 
 pub use comment::push_comment;
 pub use numeral::push_numeral;
 pub use printer::Printer;
-
-#[cfg(test)]
-mod tests;

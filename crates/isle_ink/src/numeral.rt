@@ -17,16 +17,30 @@ fn glyph(digit: u8) -> char
     }
 }
 
+// Appends the digits of a number that is not long.
+fn push_short(out: &mut String, n: u64, base: u64) -> Result<(), AllocError>
+    requires low { 2 ≤ base }
+    requires high { base ≤ 16 }
+    ensures { OnOk result (string_bytes out.new ≡ string_bytes out.old ++ numeral base n) }
+{
+    if n >= base {
+        push_short(out, n / base, base)?;
+    }
+    out.push(glyph((n % base) as u8))?;
+    Ok(())
+}
+
 /// Appends a number's digits, the highest first and with no zero before them; 0 is one digit.
 pub fn push_numeral(out: &mut String, n: u128, base: u8) -> Result<(), AllocError>
     requires low { 2 ≤ base }
     requires high { base ≤ 16 }
     ensures { OnOk result (string_bytes out.new ≡ string_bytes out.old ++ numeral base n) }
 {
-    let wide = u128::from(base);
-    if n >= wide {
-        push_numeral(out, n / wide, base)?;
+    if n < 0x1_0000_0000_0000_0000 {
+        return push_short(out, n as u64, u64::from(base));
     }
+    let wide = u128::from(base);
+    push_numeral(out, n / wide, base)?;
     out.push(glyph((n % wide) as u8))?;
     Ok(())
 }

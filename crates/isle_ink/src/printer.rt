@@ -1,13 +1,13 @@
 //! The printer. Its value is the list of the tokens printed so far: blanks, lines and comments are its own affair.
 
-ghost use Rattle.std.specs.Prelude.{◌≡◌, ◌++◌, [], ◌∷◌, OnOk, IfOk, IsTrue, string_bytes, encode_utf8};
+ghost use Rattle.std.specs.Prelude.{◌≡◌, ◌<◌, ◌≤◌, ◌-◌, ◌++◌, [], ◌∷◌, OnOk, IsTrue, length, slice_index, string_bytes};
 ghost use Rattle.std.specs.List.{list_all};
-ghost use Rattle.isle_ink.specs.Token.{Word, Mark, Quoted, is_word, is_word_byte, is_mark, goes_on, tokens_of, scan, Between};
-ghost use Rattle.isle_ink.specs.Glue.{Settles, Ends, meets, noted};
+ghost use Rattle.isle_ink.specs.Token.{Word, Mark, Quoted, is_word, is_word_byte, is_blank, is_mark, goes_on, left_open, tokens_of, scan, Between, InWord};
+ghost use Rattle.isle_ink.specs.Glue.{Settles, Ends, EndsAtWord, meets, is_open, noted};
 ghost use Rattle.isle_ink.specs.Number.{numeral};
-ghost use Rattle.isle_ink.specs.Quote.{escaped, quoted};
 
 use crate::numeral::push_numeral;
+use crate::quote::quote;
 use std::alloc::{AllocError, Global};
 use std::marker::Model;
 
@@ -19,12 +19,13 @@ enum Last {
     Mark(u8),
 }
 
-/// A text on its way, token by token.
+/// A text on its way, token by token. A token of several parts is put together in `parts`.
 #[derive(Drop)]
 pub struct Printer {
     text: String,
     last: Last,
     depth: usize,
+    parts: String,
 }
 
 impl Model for Printer {
@@ -85,6 +86,24 @@ fn noted(mark: &[u8]) -> Last
     }
 }
 
+// A space, a tab, CR or LF.
+fn is_blank(b: u8) -> bool
+    ensures { result ≡ is_blank b }
+{
+    b == b' ' || b == b'\t' || b == b'\n' || b == b'\r'
+}
+
+// What stays open behind a blank, or behind a mark of one byte.
+fn behind(last: u8) -> Last
+    ensures { Settles result (left_open last) }
+{
+    if is_blank(last) {
+        Last::Nothing
+    } else {
+        Last::Mark(last)
+    }
+}
+
 // Puts a blank if the next byte would run into the token before it.
 fn part_from(text: &mut String, last: &mut Last, next: u8) -> Result<(), AllocError>
     requires { Settles last.old (scan (string_bytes text.old)).state }
@@ -96,6 +115,44 @@ fn part_from(text: &mut String, last: &mut Last, next: u8) -> Result<(), AllocEr
         text.push_str(" ")?;
         *last = Last::Nothing;
     }
+    Ok(())
+}
+
+// Whether a word put down now would run into the token before it.
+fn is_open(last: Last) -> bool
+    ensures { result ≡ is_open last }
+{
+    match last {
+        Last::Word => true,
+        Last::Nothing | Last::Mark(_) => false,
+    }
+}
+
+// Puts a blank if a word would run into the token before it.
+fn part_from_word(text: &mut String, last: &mut Last) -> Result<(), AllocError>
+    requires { Settles last.old (scan (string_bytes text.old)).state }
+    ensures ok { OnOk result (EndsAtWord (scan (string_bytes text.new)).state) }
+    ensures settled { Settles last.new (scan (string_bytes text.new)).state }
+    ensures same { tokens_of (string_bytes text.new) ≡ tokens_of (string_bytes text.old) }
+{
+    if is_open(*last) {
+        text.push_str(" ")?;
+        *last = Last::Nothing;
+    }
+    Ok(())
+}
+
+// Prints a word.
+fn push_word(text: &mut String, last: &mut Last, word: &str) -> Result<(), AllocError>
+    requires word { IsTrue (is_word word.now) }
+    requires settled { Settles last.old (scan (string_bytes text.old)).state }
+    ensures ok { OnOk result (tokens_of (string_bytes text.new) ≡ tokens_of (string_bytes text.old) ++ Word word.now ∷ []) }
+    ensures scanned { OnOk result (scan (string_bytes text.new) ≡ record { tokens = tokens_of (string_bytes text.old); state = InWord word.now }) }
+    ensures settled { Settles last.new (scan (string_bytes text.new)).state }
+{
+    part_from_word(text, last)?;
+    text.push_str(word)?;
+    *last = Last::Word;
     Ok(())
 }
 
@@ -128,30 +185,6 @@ fn pad(text: &mut String, depth: usize) -> Result<(), AllocError>
     Ok(())
 }
 
-// Writes one character of a string, with a backslash if it needs one.
-fn push_escaped(out: &mut String, c: char) -> Result<(), AllocError>
-    ensures { OnOk result (string_bytes out.new ≡ string_bytes out.old ++ escaped (encode_utf8 c)) }
-{
-    match c {
-        '"' => out.push_str("\\\"")?,
-        '\\' => out.push_str("\\\\")?,
-        _ => out.push(c)?,
-    }
-    Ok(())
-}
-
-// The string literal of a text.
-fn quoted(alloc: Global, text: &str) -> Result<String, AllocError>
-    ensures { IfOk result (λ t. string_bytes t ≡ quoted text.now) }
-{
-    let mut out = String::from_str(alloc, "\"")?;
-    for c in text.chars() {
-        push_escaped(&mut out, c)?;
-    }
-    out.push_str("\"")?;
-    Ok(out)
-}
-
 impl Printer {
     /// A printer that has printed nothing.
     pub fn new(alloc: Global) -> Self
@@ -161,6 +194,7 @@ impl Printer {
             text: String::new(alloc),
             last: Last::Nothing,
             depth: 0,
+            parts: String::new(alloc),
         }
     }
 
@@ -176,10 +210,7 @@ impl Printer {
         requires { IsTrue (is_word word.now) }
         ensures { OnOk result (self.new ≡ self.old ++ Word word.now ∷ []) }
     {
-        part_from(&mut self.text, &mut self.last, word.as_bytes()[0])?;
-        self.text.push_str(word)?;
-        self.last = Last::Word;
-        Ok(())
+        push_word(&mut self.text, &mut self.last, word)
     }
 
     /// Prints a mark, as ; or ::. What is printed after an error is left open.
@@ -194,24 +225,71 @@ impl Printer {
         Ok(())
     }
 
+    /// Prints one word of two parts, as constructor_a. What is printed after an error is left open.
+    pub fn prefixed(&mut self, prefix: &str, word: &str) -> Result<(), AllocError>
+        requires prefix { IsTrue (is_word prefix.now) }
+        requires word { IsTrue (list_all is_word_byte word.now) }
+        ensures { OnOk result (self.new ≡ self.old ++ Word (prefix.now ++ word.now) ∷ []) }
+    {
+        push_word(&mut self.text, &mut self.last, prefix)?;
+        self.text.push_str(word)?;
+        Ok(())
+    }
+
+    /// Prints one word: a number between two parts, as 0xff_u8. What is printed after an error is left open.
+    pub fn number(
+        &mut self,
+        before: &str,
+        n: u128,
+        base: u8,
+        behind: &str,
+    ) -> Result<(), AllocError>
+        requires low { 2 ≤ base }
+        requires high { base ≤ 16 }
+        requires before { IsTrue (list_all is_word_byte before.now) }
+        requires behind { IsTrue (list_all is_word_byte behind.now) }
+        ensures { OnOk result (self.new ≡ self.old ++ Word (before.now ++ (numeral base n ++ behind.now)) ∷ []) }
+    {
+        self.parts.clear();
+        self.parts.push_str(before)?;
+        push_numeral(&mut self.parts, n, base)?;
+        self.parts.push_str(behind)?;
+        push_word(&mut self.text, &mut self.last, &self.parts)
+    }
+
     /// Prints one word: some letters and behind them a number, as v12. What is printed after an error is left open.
-    pub fn numbered(&mut self, alloc: Global, prefix: &str, n: usize) -> Result<(), AllocError>
+    pub fn numbered(&mut self, _alloc: Global, prefix: &str, n: usize) -> Result<(), AllocError>
         requires { IsTrue (list_all is_word_byte prefix.now) }
         ensures { OnOk result (self.new ≡ self.old ++ Word (prefix.now ++ numeral 10 n) ∷ []) }
     {
-        let mut name = String::from_str(alloc, prefix)?;
-        push_numeral(&mut name, n as u128, 10)?;
-        self.word(&name)
+        self.parts.clear();
+        self.parts.push_str(prefix)?;
+        push_numeral(&mut self.parts, n as u128, 10)?;
+        push_word(&mut self.text, &mut self.last, &self.parts)
     }
 
     /// Prints a text between quotes, whatever it holds. What is printed after an error is left open.
-    pub fn quoted(&mut self, alloc: Global, text: &str) -> Result<(), AllocError>
+    pub fn quoted(&mut self, _alloc: Global, text: &str) -> Result<(), AllocError>
         ensures { OnOk result (self.new ≡ self.old ++ Quoted text.now ∷ []) }
     {
-        let text = quoted(alloc, text)?;
+        quote(&mut self.parts, text)?;
         part_from(&mut self.text, &mut self.last, b'"')?;
-        self.text.push_str(&text)?;
+        self.text.push_str(&self.parts)?;
         self.last = Last::Nothing;
+        Ok(())
+    }
+
+    /// Prints a piece of text as it is: some tokens, and behind them a blank, or a mark of one byte as the last one. What
+    /// is printed after an error is left open.
+    pub fn piece(&mut self, piece: &str) -> Result<(), AllocError>
+        requires begins { 0 < length piece.now }
+        requires ends { (scan piece.now).state ≡ left_open (slice_index piece.now (length piece.now - 1)) }
+        ensures { OnOk result (self.new ≡ self.old ++ tokens_of piece.now) }
+    {
+        let bytes = piece.as_bytes();
+        part_from(&mut self.text, &mut self.last, bytes[0])?;
+        self.text.push_str(piece)?;
+        self.last = behind(bytes[bytes.len() - 1]);
         Ok(())
     }
 

@@ -1,7 +1,6 @@
 -- A numbering keeps each call once.
-use Rattle.std.proofs.Common.{◌≡◌, inl, inr, ⊎_elim, ℕ, ◌≤◌, suc, List, [], ◌∷◌, ◌++◌, length, true, false, Some, sym, ap, ◌∙◌, subst, arith}
+use Rattle.std.proofs.Common.{◌≡◌, inl, inr, ⊎_elim, ℕ, ◌≤◌, suc, List, [], ◌∷◌, ◌++◌, length, true, false, Option, Some, sym, ap, ◌∙◌, subst, arith}
 use Rattle.std.specs.Prelude.{slice_get, Contains}
-use Rattle.std.specs.BTreeMap.{BTreeMap}
 use Rattle.std.proofs.lemmas.List.Sums.{fold_push}
 use Rattle.std.proofs.lemmas.List.Elements.{Contains-push_cases}
 use Rattle.isle_core.specs.declared.BindingId.{BindingId}
@@ -46,7 +45,7 @@ last_there : (bs items : List Binding) (p : Path) (m : ℕ) → paths_of items �
 last_there bs items p m paths long = ap (λ ps. slice_get ps m) paths ∙ ap (slice_get (paths_of bs ++ p ∷ [])) (long ∙ sym (long_paths bs)) ∙ get_last (paths_of bs) p
 
 -- a numbering behind a path that is new
-call_pushed : (n : Numbered) (items : List Binding) (numbers : BTreeMap Key BindingId) (p : Path) (k : ℕ) → AreNumbered n numbers → paths_of items ≡ paths_of n.bindings ++ p ∷ [] → n.calls ≤ k → IsCallUpTo k p → (Contains (paths_of n.bindings) p → ⊥)
+call_pushed : (n : Numbered) (items : List Binding) (numbers : Key → Option BindingId) (p : Path) (k : ℕ) → AreNumbered n numbers → paths_of items ≡ paths_of n.bindings ++ p ∷ [] → n.calls ≤ k → IsCallUpTo k p → (Contains (paths_of n.bindings) p → ⊥)
     → AreNumbered (record { bindings = items; calls = k }) numbers
 call_pushed n items numbers p k a paths le is new = record {
   found = λ q b e. subst (λ ps. slice_get ps b.0 ≡ Some (key_path q)) (sym paths) (get_push (paths_of n.bindings) p b.0 (key_path q) (a.found q b e));
@@ -55,7 +54,7 @@ call_pushed n items numbers p k a paths le is new = record {
 }
 
 -- no path is of a later call
-none_later : (n : Numbered) (numbers : BTreeMap Key BindingId) (p : Path) → AreNumbered n numbers → ((k : Key) → p ≡ key_path k → ⊥) → (IsCallUpTo n.calls p → ⊥) → Contains (paths_of n.bindings) p → ⊥
+none_later : (n : Numbered) (numbers : Key → Option BindingId) (p : Path) → AreNumbered n numbers → ((k : Key) → p ≡ key_path k → ⊥) → (IsCallUpTo n.calls p → ⊥) → Contains (paths_of n.bindings) p → ⊥
 none_later n numbers p a no_key no_call c =
     let at = place_of (paths_of n.bindings) p c in
     ⊎_elim (λ (h : IsKeyed numbers at.0 p). no_key h.0 h.1) no_call (a.kinds at.0 p at.1)
@@ -63,7 +62,7 @@ none_later n numbers p a no_key no_call c =
 -- ---- calls
 
 -- what a numbering is behind a call
-pub call_more : (old : Numbered) (items : List Binding) (numbers : BTreeMap Key BindingId) (term : TermId) (bs : List BindingId) (m k : ℕ) → AreNumbered old numbers → k ≡ suc old.calls → m ≡ length old.bindings
+pub call_more : (old : Numbered) (items : List Binding) (numbers : Key → Option BindingId) (term : TermId) (bs : List BindingId) (m k : ℕ) → AreNumbered old numbers → k ≡ suc old.calls → m ≡ length old.bindings
     → items ≡ old.bindings ++ binding.Constructor term bs k ∷ [] → AreNumbered (record { bindings = items; calls = k }) numbers × Calls old (record { bindings = items; calls = k }) (next_call old term bs) false (record { 0 = m }) (record { 0 = m })
 call_more old items numbers term bs m k a count long is = (
   call_pushed old items numbers p k a paths le up (none_later old numbers p a (λ q. key_no_call q term qs (suc old.calls)) (λ h. omega arith)),
@@ -92,7 +91,7 @@ call_more old items numbers term bs m k a count long is = (
     up = omega arith
 
 -- and behind the inner value of that call
-pub inner_more : (old mid : Numbered) (items : List Binding) (numbers : BTreeMap Key BindingId) (term : TermId) (bs : List BindingId) (call value : BindingId) → AreNumbered old numbers → AreNumbered mid numbers → Calls old mid (next_call old term bs) false call call
+pub inner_more : (old mid : Numbered) (items : List Binding) (numbers : Key → Option BindingId) (term : TermId) (bs : List BindingId) (call value : BindingId) → AreNumbered old numbers → AreNumbered mid numbers → Calls old mid (next_call old term bs) false call call
     → value.0 ≡ length mid.bindings → items ≡ mid.bindings ++ binding.MatchSome call ∷ []
     → AreNumbered (record { bindings = items; calls = mid.calls }) numbers × Calls old (record { bindings = items; calls = mid.calls }) (next_call old term bs) true call value
 inner_more old mid items numbers term bs call value a b h long is = (

@@ -6,4 +6,3 @@ pub mod RightSideLaws
 pub mod CallsOnce
 pub mod RuleSetLaws
 pub mod GroupingLaws
-pub mod SampleRule

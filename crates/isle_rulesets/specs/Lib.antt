@@ -3,4 +3,3 @@ pub mod Drafts
 pub mod RightSides
 pub mod FlatRules
 pub mod Grouping
-pub mod Samples

@@ -1,5 +1,5 @@
 -- Bindings numbered in order, each path once.
-use Rattle.std.specs.Prelude.{◌≡◌, ◌⊎◌, ◌≤◌, ℕ, suc, List, [], ◌∷◌, Bool, Some, if◌then◌else◌, slice_get, Contains}
+use Rattle.std.specs.Prelude.{◌≡◌, ◌⊎◌, ◌≤◌, ℕ, suc, List, [], ◌∷◌, Bool, false, Option, Some, ◌==◌, ◌&&◌, nat_lt, if◌then◌else◌, slice_get, Contains}
 use Rattle.std.specs.declared.cmp.Ordering.{Ordering}
 use Rattle.std.specs.BTreeMap.{BTreeMap, get}
 use Rattle.isle_core.specs.declared.BindingId.{BindingId}
@@ -58,9 +58,20 @@ pub record Calls (old new : Numbered) (p : Path) (partial : Bool) (call result :
   pub only : (q : Path) → Contains (paths_of new.bindings) q → Contains (paths_of old.bindings) q ⊎ Contains (if partial then p ∷ Inner p ∷ [] else p ∷ []) q
   pub calls : new.calls ≡ suc old.calls
 
+-- the number of a key: an argument below the count has its index, and any other key what the map has
+abbrev pub known : ℕ → BTreeMap Key BindingId → Key → Option BindingId
+known count numbers (key.Argument index) = if nat_lt index count then Some (record { 0 = index }) else get key_cmp numbers (key.Argument index)
+known count numbers (key.ConstBool val) = get key_cmp numbers (key.ConstBool val)
+known count numbers (key.ConstInt ty val) = get key_cmp numbers (key.ConstInt ty val)
+
+-- whether the key is that argument, and its number would be its index
+abbrev pub is_next : ℕ → ℕ → Key → Bool
+is_next count number (key.Argument index) = (index == count) && (number == count)
+is_next count number k = false
+
 -- the path of a key that has this number
-abbrev pub IsKeyed : BTreeMap Key BindingId → ℕ → Path → Type 0
-IsKeyed numbers b p = (k : Key) × (p ≡ key_path k) × (get key_cmp numbers k ≡ Some (record { 0 = b }))
+abbrev pub IsKeyed : (Key → Option BindingId) → ℕ → Path → Type 0
+IsKeyed numbers b p = (k : Key) × (p ≡ key_path k) × (numbers k ≡ Some (record { 0 = b }))
 
 -- a call of an occurrence up to this one, or the inner value of one
 abbrev pub IsCallUpTo : ℕ → Path → Type 0
@@ -69,7 +80,7 @@ IsCallUpTo n (Inner p) = IsCallUpTo n p
 IsCallUpTo n p = ⊥
 
 -- a key is found where its path stands, each other path is of a call that was counted, and no path stands twice
-pub record AreNumbered (n : Numbered) (numbers : BTreeMap Key BindingId) : Type 0 where
-  pub found : (k : Key) (b : BindingId) → get key_cmp numbers k ≡ Some b → slice_get (paths_of n.bindings) b.0 ≡ Some (key_path k)
+pub record AreNumbered (n : Numbered) (numbers : Key → Option BindingId) : Type 0 where
+  pub found : (k : Key) (b : BindingId) → numbers k ≡ Some b → slice_get (paths_of n.bindings) b.0 ≡ Some (key_path k)
   pub kinds : (b : ℕ) (p : Path) → slice_get (paths_of n.bindings) b ≡ Some p → IsKeyed numbers b p ⊎ IsCallUpTo n.calls p
   pub once : EachOnce (paths_of n.bindings)

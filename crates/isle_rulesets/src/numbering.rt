@@ -1,5 +1,5 @@
 ghost use Rattle.std.specs.Prelude.{◌≡◌, IfOk, []};
-ghost use Rattle.isle_rulesets.specs.Numbering.{key_binding, key_path, Numbers, Calls, next_call};
+ghost use Rattle.isle_rulesets.specs.Numbering.{key_binding, key_path, known, is_next, Numbers, Calls, next_call};
 ghost use Rattle.isle_core.specs.Path.{paths_of};
 ghost use Rattle.isle_core.specs.StandsFor.{EachOnce};
 
@@ -36,22 +36,46 @@ pub struct Call {
     pub value: BindingId,
 }
 
-/// Bindings, each once, with the number of each by its key; calls have none, and are counted.
+/// The number of a key: an argument below the count has its index, and any other key what the map has.
+fn known(count: usize, numbers: &BTreeMap<Key, BindingId>, key: Key) -> Option<BindingId>
+    ensures { result ≡ known count numbers.now key }
+{
+    if let Key::Argument(index) = key {
+        if index < count {
+            return Some(BindingId(index));
+        }
+    }
+    numbers.get(&key).copied()
+}
+
+/// Whether the key is the argument of this number, and gets that number.
+fn is_next(count: usize, number: usize, key: Key) -> bool
+    ensures { result ≡ is_next count number key }
+{
+    match key {
+        Key::Argument(index) => index == count && number == count,
+        Key::ConstBool(_) | Key::ConstInt(..) => false,
+    }
+}
+
+/// Bindings, each once. The first ones may be arguments in order, which are counted; of the others the map has the
+/// number by the key. Calls have no key, and are counted too.
 #[derive(Drop)]
 pub struct Numbering {
     bindings: Vec<Binding>,
+    arguments: usize,
     numbers: BTreeMap<Key, BindingId>,
     calls: usize,
 }
 
 impl Model for Numbering {
-    ghost use Rattle.isle_rulesets.specs.Numbering.{Numbered, AreNumbered};
+    ghost use Rattle.isle_rulesets.specs.Numbering.{Numbered, AreNumbered, known};
 
     ghost Value = { Numbered };
 
     ghost view = { λ n. record { bindings = n.bindings.items; calls = n.calls } };
 
-    ghost invariant = { λ n. AreNumbered (record { bindings = n.bindings.items; calls = n.calls }) n.numbers };
+    ghost invariant = { λ n. AreNumbered (record { bindings = n.bindings.items; calls = n.calls }) (known n.arguments n.numbers) };
 }
 
 impl Numbering {
@@ -61,6 +85,7 @@ impl Numbering {
     {
         Numbering {
             bindings: Vec::new(alloc),
+            arguments: 0,
             numbers: BTreeMap::new(alloc),
             calls: 0,
         }
@@ -70,11 +95,15 @@ impl Numbering {
     pub fn intern(&mut self, key: Key) -> Result<BindingId, AllocError>
         ensures { IfOk result (λ b. Numbers self.old self.new (key_path key) b) }
     {
-        if let Some(number) = self.numbers.get(&key) {
-            return Ok(*number);
+        if let Some(number) = known(self.arguments, &self.numbers, key) {
+            return Ok(number);
         }
         let number = BindingId(self.bindings.len());
         self.bindings.push(key.binding())?;
+        if is_next(self.arguments, number.index(), key) {
+            self.arguments = self.bindings.len();
+            return Ok(number);
+        }
         match self.numbers.insert(key, number) {
             Ok(_) => Ok(number),
             Err(_) => {

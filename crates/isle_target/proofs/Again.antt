@@ -21,11 +21,10 @@ use Rattle.isle_target.specs.declared.tree.Operand.{Operand}
 use Rattle.isle_target.specs.declared.tree.Operand.TheVariants as operand
 use Rattle.isle_target.specs.declared.tree.Read.{Read}
 use Rattle.isle_target.specs.declared.tree.Read.TheVariants as read
-use Rattle.isle_target.specs.declared.tree.TCall.{TCall}
 use Rattle.isle_target.specs.declared.tree.TExpr.{TExpr}
 use Rattle.isle_target.specs.declared.tree.TExpr.TheVariants as expr
 use Rattle.isle_target.specs.Literal.{literal_tokens}
-use Rattle.isle_target.specs.Spelling.{operand_tokens, call_head, args_tokens, call_tokens, expr_tokens, stmt_tokens, body_tokens, constructor_word, no_rule, params_tokens, result_tokens, if_eq_head, function_head, function_tokens, functions_tokens, allow_part, trait_head, close, program_tokens, comma, typed_tokens, joined_tokens, results_tokens, trait_fn_head, trait_result, trait_fn_tokens, trait_fns_tokens, trait_tokens}
+use Rattle.isle_target.specs.Spelling.{operand_tokens, args_tokens, call_tokens, expr_tokens, stmt_tokens, body_tokens, constructor_word, no_rule, params_tokens, result_tokens, if_eq_head, function_head, function_tokens, functions_tokens, allow_part, close, program_tokens, joined_tokens, results_tokens, trait_fn_head, trait_fn_tokens, trait_fns_tokens, trait_tokens}
 use Rattle.isle_target.specs.Program.{Stmt, Let, IfEq, Return, Tail, Body, Done, Then, Function, Program}
 use Rattle.isle_target.specs.WellFormed.{IsOperand, IsRead, IsCallee, IsExpr, IsStmt, IsBody, IsBuiltin, IsTy, IsKind, AreResults, IsTraitFn, IsTypeItem, IsFunction, IsWellFormed}
 use Rattle.isle_target.specs.Reading.{same_token, phrase, at, read_args, read_expr, read_stmt, read_body, read_params, read_result, read_function, read_functions, read_joined, read_trait_fn, read_trait_fns, read_trait, read_items, read_program, program_of, SpellsOnly}

@@ -1,5 +1,5 @@
 -- The map of the functions that may be called, filled from the last to the first.
-use Rattle.std.proofs.Common.{◌≡◌, ℕ, ◌+◌, ◌<◌, List, [], ◌∷◌, length, drop, get_or, Bool, true, false, cond, Option, Some, refl, sym, ap, ◌∙◌}
+use Rattle.std.proofs.Common.{◌≡◌, ℕ, ◌+◌, ◌<◌, List, ◌∷◌, length, drop, get_or, Bool, true, false, cond, Some, refl, sym, ap, ◌∙◌}
 use Rattle.std.specs.Prelude.{option_map}
 use Rattle.std.specs.Str.{bytes_eq}
 use Rattle.std.specs.Ordering.{nat_cmp}
@@ -10,7 +10,7 @@ use Rattle.std.proofs.lemmas.Map.Text.{btree_map_updates_str}
 use denote.Ref.{Bor}
 use Rattle.isle_target.specs.declared.tree.TraitFn.{TraitFn}
 use Rattle.isle_target.specs.WellFormed.{trait_fn}
-use Rattle.isle_target.specs.Callees.{at_name, FindsCallees}
+use Rattle.isle_target.specs.Callees.{FindsCallees}
 
 -- one function more, before those that are there
 pub callees_more : (fns : List TraitFn) (i : ℕ) (f d : TraitFn) (item : Bor TraitFn) (key : Bor (List ℕ)) (old new : BTreeMap (Bor (List ℕ)) (Bor TraitFn)) → i < length fns → f ≡ get_or fns i d → item.now ≡ f → key.now ≡ f.name

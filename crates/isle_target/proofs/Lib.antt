@@ -8,6 +8,5 @@ pub mod Newest
 pub mod FindCallees
 pub mod TypeNames
 pub mod Prints
-pub mod Signs
 pub mod Words
 pub mod Again

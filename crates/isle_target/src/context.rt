@@ -6,22 +6,18 @@ ghost use Rattle.isle_target.specs.Identifier.{IsIdentifier};
 ghost use Rattle.isle_target.specs.WellFormed.{AreResults, IsTy, IsTraitFn};
 ghost use Rattle.isle_target.specs.Spelling.{trait_head, self_param, trait_fn_head, comma, typed_tokens, joined_tokens, results_tokens, trait_result, trait_fn_tokens, trait_fns_tokens, trait_tokens};
 
-use crate::function::{print_result, print_typed};
+use crate::function::{print_gives, print_result, print_typed};
 use crate::tree::{TraitFn, Ty};
 use isle_core::{ReturnKind, Text};
 use isle_ink::Printer;
 use std::alloc::{AllocError, Global};
 
 // Prints `(&mut self,`.
+#[tactic(auto, unfolding(isle_ink::specs::Token::step, isle_ink::specs::Token::begun))]
 fn print_self(out: &mut Printer) -> Result<(), AllocError>
     ensures { OnOk result (out.new ≡ out.old ++ self_param) }
 {
-    out.mark("(")?;
-    out.mark("&")?;
-    out.word("mut")?;
-    out.word("self")?;
-    out.mark(",")?;
-    out.space()
+    out.piece("(&mut self, ")
 }
 
 // Prints what a function begins with.
@@ -71,9 +67,7 @@ fn print_end(out: &mut Printer, kind: ReturnKind, tys: &[Text]) -> Result<(), Al
     requires { AreResults tys.now }
     ensures { OnOk result (out.new ≡ out.old ++ trait_result kind tys.now) }
 {
-    out.space()?;
-    out.mark("->")?;
-    out.space()?;
+    print_gives(out)?;
     print_results(out, kind, tys)?;
     out.mark(";")
 }
@@ -103,14 +97,11 @@ fn print_trait_fns(out: &mut Printer, alloc: Global, fns: &[TraitFn]) -> Result<
 }
 
 // Prints what the trait begins with.
+#[tactic(auto, unfolding(isle_ink::specs::Token::step, isle_ink::specs::Token::begun))]
 fn print_trait_head(out: &mut Printer) -> Result<(), AllocError>
     ensures { OnOk result (out.new ≡ out.old ++ trait_head) }
 {
-    out.word("pub")?;
-    out.word("trait")?;
-    out.word("Context")?;
-    out.space()?;
-    out.mark("{")
+    out.piece("pub trait Context {")
 }
 
 /// Prints the trait that a program's functions are generic over. What is printed after an error is left open.

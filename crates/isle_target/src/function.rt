@@ -1,8 +1,8 @@
 //! The text of the function of a term.
 
-ghost use Rattle.std.specs.Prelude.{◌≡◌, ◌++◌, [], ◌∷◌, OnOk};
+ghost use Rattle.std.specs.Prelude.{◌≡◌, ◌++◌, [], ◌∷◌, OnOk, codes};
 ghost use Rattle.std.specs.List.{AllByRecursion};
-ghost use Rattle.isle_ink.specs.Token.{Word};
+ghost use Rattle.isle_ink.specs.Token.{Word, Mark};
 ghost use Rattle.isle_target.specs.Views.{function, body};
 ghost use Rattle.isle_target.specs.WellFormed.{IsTermName, IsBuiltin, IsTy, IsBody, HasNames};
 ghost use Rattle.isle_target.specs.Spelling.{constructor_word, generics, context_param, function_head, typed_tokens, param_tokens, params_tokens, result_tokens, result_part, function_tokens};
@@ -13,52 +13,47 @@ use isle_core::ReturnKind;
 use isle_ink::Printer;
 use std::alloc::{AllocError, Global};
 
+// Prints `pub fn`.
+#[tactic(auto, unfolding(isle_ink::specs::Token::step, isle_ink::specs::Token::begun))]
+fn print_pub(out: &mut Printer) -> Result<(), AllocError>
+    ensures { OnOk result (out.new ≡ out.old ++ Word (codes "pub") ∷ Word (codes "fn") ∷ []) }
+{
+    out.piece("pub fn ")
+}
+
 // Prints the name of a term's function.
-#[tactic(auto, using(crate::proofs::TypeNames::constructor_is_word), unfolding(crate::specs::Spelling::constructor_word))]
-fn print_constructor(out: &mut Printer, alloc: Global, term: &str) -> Result<(), AllocError>
+#[tactic(auto, unfolding(crate::specs::Spelling::constructor_word))]
+fn print_constructor(out: &mut Printer, term: &str) -> Result<(), AllocError>
     requires { IsTermName term.now }
     ensures { OnOk result (out.new ≡ out.old ++ Word (constructor_word term.now) ∷ []) }
 {
-    let name = format!(in alloc; "constructor_{term}")?;
-    out.word(&name)
+    out.prefixed("constructor_", term)
 }
 
-// Prints `<C: Context>`.
+// Prints `<C: Context>(ctx: &mut C,`.
+#[tactic(auto, unfolding(isle_ink::specs::Token::step, isle_ink::specs::Token::begun))]
 fn print_generics(out: &mut Printer) -> Result<(), AllocError>
-    ensures { OnOk result (out.new ≡ out.old ++ generics) }
+    ensures { OnOk result (out.new ≡ out.old ++ (generics ++ context_param)) }
 {
-    out.mark("<")?;
-    out.word("C")?;
-    out.mark(":")?;
-    out.space()?;
-    out.word("Context")?;
-    out.mark(">")
-}
-
-// Prints `(ctx: &mut C,`.
-fn print_context(out: &mut Printer) -> Result<(), AllocError>
-    ensures { OnOk result (out.new ≡ out.old ++ context_param) }
-{
-    out.mark("(")?;
-    out.word("ctx")?;
-    out.mark(":")?;
-    out.space()?;
-    out.mark("&")?;
-    out.word("mut")?;
-    out.word("C")?;
-    out.mark(",")
+    out.piece("<C: Context>(ctx: &mut C,")
 }
 
 // Prints what a function begins with, up to its context.
-fn print_head(out: &mut Printer, alloc: Global, term: &str) -> Result<(), AllocError>
+fn print_head(out: &mut Printer, term: &str) -> Result<(), AllocError>
     requires { IsTermName term.now }
     ensures { OnOk result (out.new ≡ out.old ++ function_head term.now) }
 {
-    out.word("pub")?;
-    out.word("fn")?;
-    print_constructor(out, alloc, term)?;
-    print_generics(out)?;
-    print_context(out)
+    print_pub(out)?;
+    print_constructor(out, term)?;
+    print_generics(out)
+}
+
+// Prints `: `.
+#[tactic(auto, unfolding(isle_ink::specs::Token::step, isle_ink::specs::Token::begun))]
+fn print_colon(out: &mut Printer) -> Result<(), AllocError>
+    ensures { OnOk result (out.new ≡ out.old ++ Mark (codes ":") ∷ []) }
+{
+    out.piece(": ")
 }
 
 /// Prints the parameter of this number with its type. What is printed after an error is left open.
@@ -68,8 +63,7 @@ pub fn print_typed(out: &mut Printer, alloc: Global, i: usize, ty: &Ty) -> Resul
     ensures { OnOk result (out.new ≡ out.old ++ typed_tokens i ty.now) }
 {
     out.numbered(alloc, "arg", i)?;
-    out.mark(":")?;
-    out.space()?;
+    print_colon(out)?;
     out.word(ty.name.as_str())
 }
 
@@ -112,14 +106,20 @@ pub fn print_result(out: &mut Printer, kind: ReturnKind, ty: &str) -> Result<(),
     }
 }
 
+/// Prints `->`, with a blank before it and behind it. What is printed after an error is left open.
+#[tactic(auto, unfolding(isle_ink::specs::Token::step, isle_ink::specs::Token::begun))]
+pub fn print_gives(out: &mut Printer) -> Result<(), AllocError>
+    ensures { OnOk result (out.new ≡ out.old ++ Mark (codes "->") ∷ []) }
+{
+    out.piece(" -> ")
+}
+
 // Prints `-> RESULT {`.
 fn print_arrow(out: &mut Printer, kind: ReturnKind, ty: &str) -> Result<(), AllocError>
     requires { IsBuiltin ty.now }
     ensures { OnOk result (out.new ≡ out.old ++ result_part kind ty.now) }
 {
-    out.space()?;
-    out.mark("->")?;
-    out.space()?;
+    print_gives(out)?;
     print_result(out, kind, ty)?;
     out.space()?;
     out.mark("{")
@@ -132,7 +132,7 @@ pub fn print_function(out: &mut Printer, alloc: Global, f: &Function) -> Result<
     ensures { OnOk result (out.new ≡ out.old ++ function_tokens (function f.now)) }
 {
     out.line()?;
-    print_head(out, alloc, f.term.as_str())?;
+    print_head(out, f.term.as_str())?;
     print_params(out, alloc, f.params.as_slice())?;
     print_arrow(out, f.kind, f.result.as_str())?;
     print_body(out, alloc, f.body.as_slice())?;

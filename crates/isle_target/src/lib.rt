@@ -3,8 +3,6 @@
 
 mod bound;
 mod call;
-#[cfg(test)]
-mod call_tests;
 mod callees;
 mod context;
 mod distinct;
@@ -22,12 +20,8 @@ mod operand;
 mod print;
 mod shapes;
 mod statement;
-#[cfg(test)]
-mod tests;
 mod there;
 mod trait_fns;
-#[cfg(test)]
-mod trait_tests;
 mod tree;
 
 pub use bound::Bound;

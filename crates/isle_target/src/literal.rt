@@ -1,12 +1,13 @@
 //! Numbers of the builtin integer types, as Rust spells them.
 
-ghost use Rattle.std.specs.Prelude.{◌≡◌, ℤ, ◌++◌, ◌^◌, ◌%◌, ◌<◌, OnOk, IfOk, string_bytes, codes};
+ghost use Rattle.std.specs.Prelude.{◌≡◌, ℤ, ◌++◌, ◌^◌, ◌%◌, ◌<◌, [], ◌∷◌, OnOk, IfOk, string_bytes, codes};
+ghost use Rattle.isle_ink.specs.Token.{Word};
 ghost use mir.Val.{bits, hbits};
 ghost use Rattle.isle_core.specs.Int.{width, is_signed, WrapsTo, wrapped};
-ghost use Rattle.isle_target.specs.Literal.{type_name, literal_word, literal_text, of_bits};
+ghost use Rattle.isle_target.specs.Literal.{type_name, literal_word, literal_text, literal_tokens, of_bits};
 
 use isle_core::{IntType, OutOfMemory};
-use isle_ink::push_numeral;
+use isle_ink::{Printer, push_numeral};
 use std::alloc::{AllocError, Global};
 
 // Whether the type's numbers may lie below 0.
@@ -38,6 +39,26 @@ pub fn type_name(ty: IntType) -> &'static str
         IntType::I64 => "i64",
         IntType::I128 => "i128",
         IntType::ISize => "isize",
+    }
+}
+
+// The type's name behind a number.
+fn suffix(ty: IntType) -> &'static str
+    ensures { result.now ≡ codes "_" ++ type_name ty }
+{
+    match ty {
+        IntType::U8 => "_u8",
+        IntType::U16 => "_u16",
+        IntType::U32 => "_u32",
+        IntType::U64 => "_u64",
+        IntType::U128 => "_u128",
+        IntType::USize => "_usize",
+        IntType::I8 => "_i8",
+        IntType::I16 => "_i16",
+        IntType::I32 => "_i32",
+        IntType::I64 => "_i64",
+        IntType::I128 => "_i128",
+        IntType::ISize => "_isize",
     }
 }
 
@@ -79,8 +100,7 @@ fn push_word(out: &mut String, ty: IntType, n: u128) -> Result<(), AllocError>
         out.push_str("0x")?;
         push_numeral(out, n, 16)?;
     }
-    out.push_str("_")?;
-    out.push_str(type_name(ty))
+    out.push_str(suffix(ty))
 }
 
 // The number that the type's bits stand for.
@@ -99,6 +119,40 @@ fn push_bits(out: &mut String, ty: IntType, n: u128) -> Result<(), AllocError>
     push_word(out, ty, half - (n - half))
 }
 
+// Prints a magnitude and its type.
+fn print_word(out: &mut Printer, ty: IntType, n: u128) -> Result<(), AllocError>
+    ensures { OnOk result (out.new ≡ out.old ++ Word (literal_word ty n) ∷ []) }
+{
+    if is_signed(ty) {
+        out.number("", n, 10, suffix(ty))
+    } else {
+        out.number("0x", n, 16, suffix(ty))
+    }
+}
+
+// Prints the number that the type's bits stand for, its sign as a mark of its own.
+fn print_bits(out: &mut Printer, ty: IntType, n: u128) -> Result<(), AllocError>
+    requires { n < 2 ^ bits (width ty) }
+    ensures { OnOk result (out.new ≡ out.old ++ literal_tokens ty (of_bits ty n)) }
+{
+    if !is_signed(ty) {
+        return print_word(out, ty, n);
+    }
+    let half = high_bit(ty);
+    if n < half {
+        return print_word(out, ty, n);
+    }
+    out.mark("-")?;
+    print_word(out, ty, half - (n - half))
+}
+
+/// Prints a number of the type, its sign as a mark of its own. What is printed after an error is left open.
+pub fn print_literal(out: &mut Printer, ty: IntType, val: i128) -> Result<(), AllocError>
+    ensures { OnOk result (out.new ≡ out.old ++ literal_tokens ty (wrapped ty val)) }
+{
+    print_bits(out, ty, low_bits(ty, val.cast_unsigned()))
+}
+
 /// A number as a Rust literal of the type, to which it is wrapped: `0xfe_u8` for -2 at `u8`, `-1_i64` for -1 at `i64`.
 /// Unsigned types have hexadecimal digits, signed ones decimal. The only error is want of memory.
 pub fn rust_int_literal(alloc: Global, ty: IntType, val: i128) -> Result<String, OutOfMemory>
@@ -110,104 +164,4 @@ pub fn rust_int_literal(alloc: Global, ty: IntType, val: i128) -> Result<String,
     let mut out = String::new(alloc);
     push_bits(&mut out, ty, bits)?;
     Ok(out)
-}
-
-#[cfg(test)]
-mod tests {
-    use super::*;
-    use std::test::Fail;
-
-    #[test]
-    fn wraps_to_the_type(rt: HostRuntime) -> Result<(), Fail> {
-        let cases = [
-            (IntType::U8, -2, "0xfe_u8"),
-            (IntType::U8, 0, "0x0_u8"),
-            (IntType::I8, 255, "-1_i8"),
-            (IntType::I64, -1, "-1_i64"),
-            (IntType::I16, 65535, "-1_i16"),
-            (IntType::U64, 5, "0x5_u64"),
-            (IntType::U64, -1, "0xffffffffffffffff_u64"),
-            (IntType::U128, -1, "0xffffffffffffffffffffffffffffffff_u128"),
-            (IntType::USize, -1, "0xffffffffffffffff_usize"),
-            (IntType::ISize, -1, "-1_isize"),
-        ];
-        for (ty, val, want) in cases {
-            let text = rust_int_literal(rt.alloc(), ty, val)?;
-            assert_eq!(rt; text.as_str(), want);
-        }
-        Ok(())
-    }
-
-    #[test]
-    fn spells_the_highest(rt: HostRuntime) -> Result<(), Fail> {
-        let cases = [
-            (IntType::U8, 0xff, "0xff_u8"),
-            (IntType::U16, 0xffff, "0xffff_u16"),
-            (IntType::U32, 0xffff_ffff, "0xffffffff_u32"),
-            (
-                IntType::U64,
-                0xffff_ffff_ffff_ffff,
-                "0xffffffffffffffff_u64",
-            ),
-            (
-                IntType::USize,
-                0xffff_ffff_ffff_ffff,
-                "0xffffffffffffffff_usize",
-            ),
-            (
-                IntType::U128,
-                i128::MAX,
-                "0x7fffffffffffffffffffffffffffffff_u128",
-            ),
-            (IntType::I8, 127, "127_i8"),
-            (IntType::I16, 32767, "32767_i16"),
-            (IntType::I32, 2147483647, "2147483647_i32"),
-            (IntType::I64, i64::MAX as i128, "9223372036854775807_i64"),
-            (
-                IntType::ISize,
-                i64::MAX as i128,
-                "9223372036854775807_isize",
-            ),
-            (
-                IntType::I128,
-                i128::MAX,
-                "170141183460469231731687303715884105727_i128",
-            ),
-        ];
-        for (ty, val, want) in cases {
-            let text = rust_int_literal(rt.alloc(), ty, val)?;
-            assert_eq!(rt; text.as_str(), want);
-        }
-        Ok(())
-    }
-
-    #[test]
-    fn spells_the_lowest(rt: HostRuntime) -> Result<(), Fail> {
-        let cases = [
-            (IntType::U16, 0, "0x0_u16"),
-            (IntType::U32, 0, "0x0_u32"),
-            (IntType::U64, 0, "0x0_u64"),
-            (IntType::USize, 0, "0x0_usize"),
-            (IntType::U128, 0, "0x0_u128"),
-            (IntType::I8, -128, "-128_i8"),
-            (IntType::I16, -32768, "-32768_i16"),
-            (IntType::I32, -2147483648, "-2147483648_i32"),
-            (IntType::I64, i64::MIN as i128, "-9223372036854775808_i64"),
-            (
-                IntType::ISize,
-                i64::MIN as i128,
-                "-9223372036854775808_isize",
-            ),
-            (
-                IntType::I128,
-                i128::MIN,
-                "-170141183460469231731687303715884105728_i128",
-            ),
-        ];
-        for (ty, val, want) in cases {
-            let text = rust_int_literal(rt.alloc(), ty, val)?;
-            assert_eq!(rt; text.as_str(), want);
-        }
-        Ok(())
-    }
 }

@@ -1,34 +1,14 @@
 //! The text of operands, and of what is computed from them. A form that isn't built has none.
 
 ghost use Rattle.std.specs.Prelude.{◌≡◌, ◌++◌, false, OnOk};
-ghost use Rattle.isle_core.specs.Int.{wrapped};
-ghost use Rattle.isle_target.specs.Literal.{literal_tokens};
 ghost use Rattle.isle_target.specs.Spelling.{operand_tokens, read_tokens, expr_tokens};
 ghost use Rattle.isle_target.specs.WellFormed.{IsExpr};
 
 use crate::call::print_call;
-use crate::literal::rust_int_literal;
+use crate::literal::print_literal;
 use crate::tree::{Operand, Read, TExpr};
-use isle_core::IntType;
 use isle_ink::Printer;
 use std::alloc::{AllocError, Global};
-
-// A number of the type, its sign as a mark of its own.
-fn print_literal(out: &mut Printer, alloc: Global, ty: IntType, val: i128) -> Result<(), AllocError>
-    ensures { OnOk result (out.new ≡ out.old ++ literal_tokens ty (wrapped ty val)) }
-{
-    let text = match rust_int_literal(alloc, ty, val) {
-        Ok(text) => text,
-        Err(_) => return Err(AllocError),
-    };
-    match text.strip_prefix("-") {
-        Some(word) => {
-            out.mark("-")?;
-            out.word(word)
-        }
-        None => out.word(&text),
-    }
-}
 
 /// Prints an operand. What is printed after an error is left open.
 pub fn print_operand(out: &mut Printer, alloc: Global, o: &Operand) -> Result<(), AllocError>
@@ -39,7 +19,7 @@ pub fn print_operand(out: &mut Printer, alloc: Global, o: &Operand) -> Result<()
         Operand::Arg(n) => out.numbered(alloc, "arg", *n),
         Operand::Bool(true) => out.word("true"),
         Operand::Bool(false) => out.word("false"),
-        Operand::Int(ty, val) => print_literal(out, alloc, *ty, *val),
+        Operand::Int(ty, val) => print_literal(out, *ty, *val),
         Operand::Raw(_) | Operand::Name(_) => Ok(()),
     }
 }

@@ -1,10 +1,10 @@
 //! The text of statements. A form that isn't built has none.
 
-ghost use Rattle.std.specs.Prelude.{◌≡◌, ◌++◌, [], ◌∷◌, OnOk};
-ghost use Rattle.isle_ink.specs.Token.{Quoted};
+ghost use Rattle.std.specs.Prelude.{◌≡◌, ◌++◌, [], ◌∷◌, OnOk, codes};
+ghost use Rattle.isle_ink.specs.Token.{Mark, Quoted};
 ghost use Rattle.isle_target.specs.Views.{stmt, body};
 ghost use Rattle.isle_target.specs.WellFormed.{IsExpr, IsStmt, IsBody};
-ghost use Rattle.isle_target.specs.Spelling.{let_tokens, return_tokens, if_eq_head, no_rule, unreachable_head, texts_tokens, tail_tokens, stmt_tokens, body_tokens};
+ghost use Rattle.isle_target.specs.Spelling.{let_tokens, return_tokens, if_eq_head, no_rule, unreachable_head, tail_tokens, stmt_tokens, body_tokens};
 
 use crate::operand::{print_expr, print_operand};
 use crate::tree::{Operand, Stmt, TExpr};
@@ -13,75 +13,66 @@ use isle_ink::Printer;
 use std::alloc::{AllocError, Global};
 
 /// What a run says that no rule matched in.
-const NO_RULE: &str = "no rule matched for term {} at {}; should it be partial?";
+const NO_RULE: &str = "unreachable!(\"no rule matched for term {} at {}; should it be partial?\", ";
 
 // Prints `let vN = EXPR;`.
+#[tactic(auto, unfolding(isle_ink::specs::Token::step, isle_ink::specs::Token::begun))]
 fn print_let(out: &mut Printer, alloc: Global, n: usize, e: &TExpr) -> Result<(), AllocError>
     requires { IsExpr e.now }
     ensures { OnOk result (out.new ≡ out.old ++ let_tokens n e.now) }
 {
-    out.word("let")?;
+    out.piece("let ")?;
     out.numbered(alloc, "v", n)?;
-    out.space()?;
-    out.mark("=")?;
-    out.space()?;
+    out.piece(" = ")?;
     print_expr(out, alloc, e)?;
     out.mark(";")
 }
 
 // Prints `return EXPR;`.
+#[tactic(auto, unfolding(isle_ink::specs::Token::step, isle_ink::specs::Token::begun))]
 fn print_return(out: &mut Printer, alloc: Global, e: &TExpr) -> Result<(), AllocError>
     requires { IsExpr e.now }
     ensures { OnOk result (out.new ≡ out.old ++ return_tokens e.now) }
 {
-    out.word("return")?;
-    out.space()?;
+    out.piece("return ")?;
     print_expr(out, alloc, e)?;
     out.mark(";")
 }
 
 // Prints `if OP == OP {`.
+#[tactic(auto, unfolding(isle_ink::specs::Token::step, isle_ink::specs::Token::begun))]
 fn print_if_eq(out: &mut Printer, alloc: Global, a: &Operand, b: &Operand) -> Result<(), AllocError>
     ensures { OnOk result (out.new ≡ out.old ++ if_eq_head a.now b.now) }
 {
-    out.word("if")?;
-    out.space()?;
+    out.piece("if ")?;
     print_operand(out, alloc, a)?;
-    out.space()?;
-    out.mark("==")?;
-    out.space()?;
+    out.piece(" == ")?;
     print_operand(out, alloc, b)?;
-    out.space()?;
-    out.mark("{")
+    out.piece(" {")
 }
 
-// Prints what is said where no rule matches.
-#[tactic(auto, unfolding(crate::specs::Spelling::no_rule))]
-fn print_no_rule(out: &mut Printer, alloc: Global) -> Result<(), AllocError>
-    ensures { OnOk result (out.new ≡ out.old ++ Quoted no_rule ∷ []) }
+// Prints what is said where no rule matches, up to the term.
+#[tactic(auto, unfolding(crate::specs::Spelling::no_rule, isle_ink::specs::Token::step, isle_ink::specs::Token::begun))]
+fn print_no_rule(out: &mut Printer) -> Result<(), AllocError>
+    ensures { OnOk result (out.new ≡ out.old ++ (unreachable_head ++ Quoted no_rule ∷ Mark (codes ",") ∷ [])) }
 {
-    out.quoted(alloc, NO_RULE)
+    out.piece(NO_RULE)
 }
 
-// Prints `unreachable!(`.
-fn print_unreachable(out: &mut Printer) -> Result<(), AllocError>
-    ensures { OnOk result (out.new ≡ out.old ++ unreachable_head) }
+// Prints `, `.
+#[tactic(auto, unfolding(isle_ink::specs::Token::step, isle_ink::specs::Token::begun))]
+fn print_comma(out: &mut Printer) -> Result<(), AllocError>
+    ensures { OnOk result (out.new ≡ out.old ++ Mark (codes ",") ∷ []) }
 {
-    out.word("unreachable")?;
-    out.mark("!")?;
-    out.mark("(")
+    out.piece(", ")
 }
 
-// Prints what is said of a term and its place, and the end of the call.
+// Prints a term and its place, and the end of the call.
 fn print_texts(out: &mut Printer, alloc: Global, term: &str, place: &str) -> Result<(), AllocError>
-    ensures { OnOk result (out.new ≡ out.old ++ texts_tokens term.now place.now) }
+    ensures { OnOk result (out.new ≡ out.old ++ Quoted term.now ∷ Mark (codes ",") ∷ Quoted place.now ∷ Mark (codes ")") ∷ []) }
 {
-    print_no_rule(out, alloc)?;
-    out.mark(",")?;
-    out.space()?;
     out.quoted(alloc, term)?;
-    out.mark(",")?;
-    out.space()?;
+    print_comma(out)?;
     out.quoted(alloc, place)?;
     out.mark(")")
 }
@@ -97,7 +88,7 @@ fn print_tail(
     match texts {
         None => out.word("None"),
         Some(texts) => {
-            print_unreachable(out)?;
+            print_no_rule(out)?;
             print_texts(out, alloc, texts.0.as_str(), texts.1.as_str())
         }
     }

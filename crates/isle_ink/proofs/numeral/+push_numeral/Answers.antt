@@ -2,9 +2,8 @@ use Rattle.std.proofs.Common.{◌≡◌, ◌%◌, ◌++◌, ◌∷◌, [], ◌/�
 use Rattle.std.specs.Prelude.{string_bytes}
 use Rattle.std.proofs.lemmas.Str.{encode_ascii}
 use Rattle.isle_ink.specs.Number.{numeral, glyph}
-use Rattle.isle_ink.proofs.Numerals.{numeral-longer, numeral-single, glyph_below}
+use Rattle.isle_ink.proofs.Numerals.{numeral-longer, glyph_below}
 use Rattle.isle_ink.proofs.numeral.+push_numeral.Goals as goal
-use Rattle.isle_ink.proofs.numeral.+push_numeral.Goals.{then-n-wide+in_ok-push_numeral, else-n-wide}
 
 pub returns : goal.returns
 returns t c =
@@ -13,12 +12,8 @@ returns t c =
     let old = string_bytes c.args.out.now in
     let wide = c.from-wide.ensures in
     let one_byte = encode_ascii (glyph (n % b)) (glyph_below (n % b) (omega arith)) in
-    let digit : string_bytes c.push.new.self ≡ string_bytes c.if-n-wide.out ++ glyph (n % b) ∷ [] =
-    rw (c.in_ok-push.ensures.bytes, c.glyph.ensures, wide, one_byte) in
-    elim c.if-n-wide.branch [
-      | then-n-wide+in_ok-push_numeral w ↦
-          digit ∙ ap (λ s. string_bytes s ++ glyph (n % b) ∷ []) w.out-is ∙ ap (λ l. l ++ glyph (n % b) ∷ []) (w.in_ok-push_numeral.ensures ∙ ap (λ x. old ++ numeral b (n / x)) wide)
-          ∙ append_assoc old (numeral b (n / b)) (glyph (n % b) ∷ []) ∙ ap (λ l. old ++ l) (sym (numeral-longer b n c.requires.low (omega arith)))
-      | else-n-wide w ↦
-          digit ∙ ap (λ s. string_bytes s ++ glyph (n % b) ∷ []) w.out-is ∙ ap (λ l. old ++ l) (sym (numeral-single b n c.requires.low (omega arith)))
-    ]
+    let digit : string_bytes c.push.new.self ≡ string_bytes c.push_numeral.new.out ++ glyph (n % b) ∷ [] = rw (c.in_ok-push.ensures.bytes, c.glyph.ensures, wide, one_byte) in
+    digit
+    ∙ ap (λ l. l ++ glyph (n % b) ∷ []) (c.in_ok-push_numeral.ensures ∙ ap (λ x. old ++ numeral b (n / x)) wide)
+    ∙ append_assoc old (numeral b (n / b)) (glyph (n % b) ∷ [])
+    ∙ ap (λ l. old ++ l) (sym (numeral-longer b n c.requires.low (omega arith)))

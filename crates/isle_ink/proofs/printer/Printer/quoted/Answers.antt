@@ -7,8 +7,8 @@ use Rattle.isle_ink.proofs.printer.Printer.quoted.Goals as goal
 
 pub invariant_of-self-2 : goal.invariant_of-self-2
 invariant_of-self-2 c =
-    rw (c.in_ok-push_str.ensures.bytes, c.deref.ensures, c.in_ok-text.ensures) (ap (λ x. x.state) (scan-quoted (string_bytes c.part_from.new.text) c.args.text.now c.in_ok-part_from.ensures.ok))
+    rw (c.in_ok-push_str.ensures.bytes, c.deref.ensures, c.in_ok-quote.ensures) (ap (λ x. x.state) (scan-quoted (string_bytes c.part_from.new.text) c.args.text.now c.in_ok-part_from.ensures.ok))
 
 pub returns : goal.returns
 returns c =
-    rw (c.in_ok-push_str.ensures.bytes, c.deref.ensures, c.in_ok-text.ensures) (ap finished (scan-quoted (string_bytes c.part_from.new.text) c.args.text.now c.in_ok-part_from.ensures.ok) ∙ append-nil _ ∙ ap (λ ts. ts ++ Quoted c.args.text.now ∷ []) (c.in_ok-part_from.ensures.same ∙ c.self.view_is))
+    rw (c.in_ok-push_str.ensures.bytes, c.deref.ensures, c.in_ok-quote.ensures) (ap finished (scan-quoted (string_bytes c.part_from.new.text) c.args.text.now c.in_ok-part_from.ensures.ok) ∙ append-nil _ ∙ ap (λ ts. ts ++ Quoted c.args.text.now ∷ []) (c.in_ok-part_from.ensures.same ∙ c.self.view_is))
