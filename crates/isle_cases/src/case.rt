@@ -135,11 +135,11 @@ impl Case {
         Ok(())
     }
 
-    /// The one line with this key, if there is one.
-    pub fn only(&self, key: Key) -> Result<Option<&Entry>, Slip> {
+    /// The one line with this key and this name, if there is one. A key without names has the empty one.
+    pub fn only(&self, key: Key, name: &str) -> Result<Option<&Entry>, Slip> {
         let mut found = None;
         for entry in &self.entries {
-            if entry.key == key {
+            if entry.key == key && entry.name.as_str() == name {
                 if found.is_some() {
                     return Err(Slip::Twice);
                 }

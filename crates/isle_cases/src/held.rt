@@ -8,7 +8,7 @@ use crate::spelling::{number, spelt, text_spelt, words_of};
 use crate::wanted::{Shelf, entry, wanted_out};
 use isle_outside::{MemDir, MemSink};
 use isle_top::run_words;
-use std::alloc::Global;
+use std::alloc::{AllocError, Global};
 
 /// The most bytes that the directory gives at once, where a case says nothing.
 const DIR_PIECE: usize = 1 << 20;
@@ -26,6 +26,15 @@ pub struct Left {
     pub dir: MemDir,
     pub out: MemSink,
     pub err: MemSink,
+}
+
+impl Left {
+    /// The status and the text on `err`, in words.
+    pub fn told(&self, alloc: Global) -> Result<String, AllocError> {
+        let status = self.status;
+        let err = String::from_utf8_lossy(alloc, self.err.bytes())?;
+        format!(in alloc; " (status {status}, err {err:?})")
+    }
 }
 
 /// The lines of the head and of the case that have this key and name.
@@ -81,25 +90,18 @@ fn fails(alloc: Global, case: &Case, head: &Case, object: &str) -> Result<Vec<us
 }
 
 /// A limit of an object, the case's own before the head's.
-fn limit(
-    alloc: Global,
-    case: &Case,
-    head: &Case,
-    key: Key,
-    object: &str,
-    usual: usize,
-) -> Result<usize, Slip> {
-    match entries(alloc, case, head, key, object)?.first() {
+fn limit(case: &Case, head: &Case, key: Key, object: &str, usual: usize) -> Result<usize, Slip> {
+    match entry(case, head, key, object)? {
         Some(entry) => number(entry.text.as_str()),
         None => Ok(usual),
     }
 }
 
 /// A piece of an object: at least one byte.
-fn piece(alloc: Global, case: &Case, head: &Case, object: &str, usual: usize) -> Result<usize, Slip>
+fn piece(case: &Case, head: &Case, object: &str, usual: usize) -> Result<usize, Slip>
     ensures { IfOk result (λ piece. 0 < piece) }
 {
-    let piece = limit(alloc, case, head, Key::Piece, object, usual)?;
+    let piece = limit(case, head, Key::Piece, object, usual)?;
     if piece == 0 {
         Err(Slip::Number)
     } else {
@@ -109,9 +111,9 @@ fn piece(alloc: Global, case: &Case, head: &Case, object: &str, usual: usize) ->
 
 /// An empty sink of a case.
 fn sink(alloc: Global, case: &Case, head: &Case, object: &str) -> Result<MemSink, Slip> {
-    let room = limit(alloc, case, head, Key::Room, object, ROOM)?;
+    let room = limit(case, head, Key::Room, object, ROOM)?;
     let fails = fails(alloc, case, head, object)?;
-    let piece = piece(alloc, case, head, object, SINK_PIECE)?;
+    let piece = piece(case, head, object, SINK_PIECE)?;
     match MemSink::new(alloc, room, fails, piece) {
         Ok(sink) => Ok(sink),
         Err(_) => Err(Slip::Memory),
@@ -122,13 +124,13 @@ fn sink(alloc: Global, case: &Case, head: &Case, object: &str) -> Result<MemSink
 fn dir(alloc: Global, case: &Case, head: &Case) -> Result<MemDir, Slip> {
     let files = files_before(alloc, case, head)?;
     let fails = fails(alloc, case, head, "dir")?;
-    let piece = piece(alloc, case, head, "dir", DIR_PIECE)?;
+    let piece = piece(case, head, "dir", DIR_PIECE)?;
     Ok(MemDir::new(alloc, files, fails, piece))
 }
 
 /// The words of a case.
 pub fn words(alloc: Global, case: &Case, head: &Case) -> Result<Vec<String>, Slip> {
-    match entry(case, head, Key::Words)? {
+    match entry(case, head, Key::Words, "")? {
         Some(entry) => words_of(alloc, entry.text.as_str()),
         None => Err(Slip::NoWords),
     }
@@ -153,7 +155,7 @@ pub fn run(alloc: Global, case: &Case, head: &Case, words: &[String]) -> Result<
 
 /// The status that a case wants.
 fn status(case: &Case, head: &Case) -> Result<usize, Slip> {
-    match entry(case, head, Key::Status)? {
+    match entry(case, head, Key::Status, "")? {
         Some(entry) => number(entry.text.as_str()),
         None => Ok(0),
     }
@@ -177,7 +179,7 @@ fn has_out(
 
 /// Whether `err` has what the case wants: nothing, if nothing is said.
 fn has_err(alloc: Global, case: &Case, head: &Case, left: &Left) -> Result<bool, Slip> {
-    match entry(case, head, Key::Err)? {
+    match entry(case, head, Key::Err, "")? {
         Some(entry) => Ok(spelt(alloc, entry.text.as_str())?.as_slice() == left.err.bytes()),
         None => Ok(left.err.bytes().is_empty()),
     }

@@ -68,14 +68,28 @@ fn push_often(alloc: Global, bytes: &mut Vec<u8>, piece: &str) -> Result<(), Sli
         Some((from, to)) => (number(from)?, number(to)?),
         None => (0, number(count)?),
     };
-    for turn in from..to {
-        if inner.contains('#') {
-            push_turn(alloc, bytes, inner, turn)?;
-        } else {
-            bytes.extend_from_slice(inner.as_bytes())?;
+    match inner.as_bytes() {
+        [byte] if *byte != b'#' => {
+            let run = vec![in alloc; *byte; to.saturating_sub(from)]?;
+            bytes.extend_from_slice(run.as_slice())?;
         }
+        _ => push_turns(alloc, bytes, inner, from, to)?,
     }
     bytes.extend_from_slice(rest.as_bytes())?;
+    Ok(())
+}
+
+/// Appends the turns from one number up to another.
+fn push_turns(
+    alloc: Global,
+    bytes: &mut Vec<u8>,
+    inner: &str,
+    from: usize,
+    to: usize,
+) -> Result<(), Slip> {
+    for turn in from..to {
+        push_turn(alloc, bytes, inner, turn)?;
+    }
     Ok(())
 }
 
