@@ -4,7 +4,7 @@ use crate::slip::Slip;
 use std::alloc::{AllocError, Global};
 
 /// What a line of a case is about.
-#[derive(Clone, Copy, Debug, PartialEq, Eq)]
+#[derive(Clone, Copy, PartialEq, Eq)]
 pub enum Key {
     Words,
     File,
@@ -62,7 +62,7 @@ impl Key {
 }
 
 /// A line with a key: the name behind it, and the text, with that of the block below.
-#[derive(Debug, Drop)]
+#[derive(Drop)]
 pub struct Entry {
     pub key: Key,
     pub name: String,
@@ -70,7 +70,7 @@ pub struct Entry {
 }
 
 /// A case: its name, its lines, and the first fault of how it is written.
-#[derive(Debug, Drop)]
+#[derive(Drop)]
 pub struct Case {
     pub name: String,
     pub entries: Vec<Entry>,

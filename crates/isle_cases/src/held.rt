@@ -20,7 +20,7 @@ const SINK_PIECE: usize = 10;
 const ROOM: usize = 1 << 20;
 
 /// What a run left.
-#[derive(Debug, Drop)]
+#[derive(Drop)]
 pub struct Left {
     pub status: u8,
     pub dir: MemDir,
@@ -37,7 +37,7 @@ impl Left {
     }
 }
 
-/// The lines of the head and of the case that have this key and name.
+/// The lines of the case and of the head that have this key and name; an empty name is any.
 fn entries<'c>(
     alloc: Global,
     case: &'c Case,
@@ -46,12 +46,24 @@ fn entries<'c>(
     name: &str,
 ) -> Result<Vec<&'c Entry>, Slip> {
     let mut found = Vec::new(alloc);
-    for entry in case.entries.iter().chain(head.entries.iter()) {
+    push_entries(&mut found, case, key, name)?;
+    push_entries(&mut found, head, key, name)?;
+    Ok(found)
+}
+
+/// Appends the lines of one case that have this key and name.
+fn push_entries<'c>(
+    found: &mut Vec<&'c Entry>,
+    case: &'c Case,
+    key: Key,
+    name: &str,
+) -> Result<(), Slip> {
+    for entry in &case.entries {
         if entry.key == key && (name.is_empty() || entry.name.as_str() == name) {
             found.push(entry)?;
         }
     }
-    Ok(found)
+    Ok(())
 }
 
 /// The files of these lines.
@@ -136,21 +148,32 @@ pub fn words(alloc: Global, case: &Case, head: &Case) -> Result<Vec<String>, Sli
     }
 }
 
+/// Runs the words over a directory and two sinks.
+fn run_over(
+    alloc: Global,
+    words: &[String],
+    mut dir: MemDir,
+    mut out: MemSink,
+    mut err: MemSink,
+) -> Left {
+    let exit = run_words(alloc, words, &mut dir, &mut out, &mut err);
+    Left {
+        status: exit.0,
+        dir,
+        out,
+        err,
+    }
+}
+
 /// Runs the words of a case.
 pub fn run(alloc: Global, case: &Case, head: &Case, words: &[String]) -> Result<Left, Slip> {
     if let Some(slip) = head.slip.or(case.slip) {
         return Err(slip);
     }
-    let mut dir = dir(alloc, case, head)?;
-    let mut out = sink(alloc, case, head, "out")?;
-    let mut err = sink(alloc, case, head, "err")?;
-    let exit = run_words(alloc, words, &mut dir, &mut out, &mut err);
-    Ok(Left {
-        status: exit.0,
-        dir,
-        out,
-        err,
-    })
+    let dir = dir(alloc, case, head)?;
+    let out = sink(alloc, case, head, "out")?;
+    let err = sink(alloc, case, head, "err")?;
+    Ok(run_over(alloc, words, dir, out, err))
 }
 
 /// The status that a case wants.

@@ -18,7 +18,7 @@ use std::process::ExitCode;
 use wanted::Shelf;
 
 /// How many cases there are and how many hold, with a line for each other one.
-#[derive(Debug, Drop)]
+#[derive(Drop)]
 struct Report {
     cases: usize,
     held: usize,

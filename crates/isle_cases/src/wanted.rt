@@ -10,7 +10,7 @@ use std::alloc::{AllocError, Global};
 const FRAME: &str = "@frame.rs";
 
 /// The files that lie beside the cases, with their names.
-#[derive(Debug, Drop)]
+#[derive(Drop)]
 pub struct Shelf {
     pub files: Vec<(String, String)>,
 }
@@ -28,7 +28,7 @@ impl Shelf {
 }
 
 /// What is wanted on `out`.
-#[derive(Debug, Drop)]
+#[derive(Drop)]
 pub enum Wanted {
     /// These bytes.
     Bytes(Vec<u8>),
@@ -74,7 +74,7 @@ fn way(case: &Case) -> Result<Option<&Entry>, Slip> {
 }
 
 /// The texts that a line `@NAME` stands for.
-#[derive(Debug, Drop)]
+#[derive(Drop)]
 struct Parts<'c> {
     names: String,
     members: String,
