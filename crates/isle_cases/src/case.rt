@@ -4,7 +4,7 @@ use crate::slip::Slip;
 use std::alloc::{AllocError, Global};
 
 /// What a line of a case is about.
-#[derive(Clone, Copy, Debug, PartialEq, Eq)]
+#[derive(Clone, Copy, PartialEq, Eq)]
 pub enum Key {
     Words,
     File,
@@ -62,7 +62,7 @@ impl Key {
 }
 
 /// A line with a key: the name behind it, and the text, with that of the block below.
-#[derive(Debug, Drop)]
+#[derive(Drop)]
 pub struct Entry {
     pub key: Key,
     pub name: String,
@@ -70,7 +70,7 @@ pub struct Entry {
 }
 
 /// A case: its name, its lines, and the first fault of how it is written.
-#[derive(Debug, Drop)]
+#[derive(Drop)]
 pub struct Case {
     pub name: String,
     pub entries: Vec<Entry>,
@@ -135,11 +135,11 @@ impl Case {
         Ok(())
     }
 
-    /// The one line with this key, if there is one.
-    pub fn only(&self, key: Key) -> Result<Option<&Entry>, Slip> {
+    /// The one line with this key and this name, if there is one. A key without names has the empty one.
+    pub fn only(&self, key: Key, name: &str) -> Result<Option<&Entry>, Slip> {
         let mut found = None;
         for entry in &self.entries {
-            if entry.key == key {
+            if entry.key == key && entry.name.as_str() == name {
                 if found.is_some() {
                     return Err(Slip::Twice);
                 }

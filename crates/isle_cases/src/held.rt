@@ -8,7 +8,7 @@ use crate::spelling::{number, spelt, text_spelt, words_of};
 use crate::wanted::{Shelf, entry, wanted_out};
 use isle_outside::{MemDir, MemSink};
 use isle_top::run_words;
-use std::alloc::Global;
+use std::alloc::{AllocError, Global};
 
 /// The most bytes that the directory gives at once, where a case says nothing.
 const DIR_PIECE: usize = 1 << 20;
@@ -20,7 +20,7 @@ const SINK_PIECE: usize = 10;
 const ROOM: usize = 1 << 20;
 
 /// What a run left.
-#[derive(Debug, Drop)]
+#[derive(Drop)]
 pub struct Left {
     pub status: u8,
     pub dir: MemDir,
@@ -28,7 +28,16 @@ pub struct Left {
     pub err: MemSink,
 }
 
-/// The lines of the head and of the case that have this key and name.
+impl Left {
+    /// The status and the text on `err`, in words.
+    pub fn told(&self, alloc: Global) -> Result<String, AllocError> {
+        let status = self.status;
+        let err = String::from_utf8_lossy(alloc, self.err.bytes())?;
+        format!(in alloc; " (status {status}, err {err:?})")
+    }
+}
+
+/// The lines of the case and of the head that have this key and name; an empty name is any.
 fn entries<'c>(
     alloc: Global,
     case: &'c Case,
@@ -37,12 +46,24 @@ fn entries<'c>(
     name: &str,
 ) -> Result<Vec<&'c Entry>, Slip> {
     let mut found = Vec::new(alloc);
-    for entry in case.entries.iter().chain(head.entries.iter()) {
+    push_entries(&mut found, case, key, name)?;
+    push_entries(&mut found, head, key, name)?;
+    Ok(found)
+}
+
+/// Appends the lines of one case that have this key and name.
+fn push_entries<'c>(
+    found: &mut Vec<&'c Entry>,
+    case: &'c Case,
+    key: Key,
+    name: &str,
+) -> Result<(), Slip> {
+    for entry in &case.entries {
         if entry.key == key && (name.is_empty() || entry.name.as_str() == name) {
             found.push(entry)?;
         }
     }
-    Ok(found)
+    Ok(())
 }
 
 /// The files of these lines.
@@ -81,25 +102,18 @@ fn fails(alloc: Global, case: &Case, head: &Case, object: &str) -> Result<Vec<us
 }
 
 /// A limit of an object, the case's own before the head's.
-fn limit(
-    alloc: Global,
-    case: &Case,
-    head: &Case,
-    key: Key,
-    object: &str,
-    usual: usize,
-) -> Result<usize, Slip> {
-    match entries(alloc, case, head, key, object)?.first() {
+fn limit(case: &Case, head: &Case, key: Key, object: &str, usual: usize) -> Result<usize, Slip> {
+    match entry(case, head, key, object)? {
         Some(entry) => number(entry.text.as_str()),
         None => Ok(usual),
     }
 }
 
 /// A piece of an object: at least one byte.
-fn piece(alloc: Global, case: &Case, head: &Case, object: &str, usual: usize) -> Result<usize, Slip>
+fn piece(case: &Case, head: &Case, object: &str, usual: usize) -> Result<usize, Slip>
     ensures { IfOk result (λ piece. 0 < piece) }
 {
-    let piece = limit(alloc, case, head, Key::Piece, object, usual)?;
+    let piece = limit(case, head, Key::Piece, object, usual)?;
     if piece == 0 {
         Err(Slip::Number)
     } else {
@@ -109,9 +123,9 @@ fn piece(alloc: Global, case: &Case, head: &Case, object: &str, usual: usize) ->
 
 /// An empty sink of a case.
 fn sink(alloc: Global, case: &Case, head: &Case, object: &str) -> Result<MemSink, Slip> {
-    let room = limit(alloc, case, head, Key::Room, object, ROOM)?;
+    let room = limit(case, head, Key::Room, object, ROOM)?;
     let fails = fails(alloc, case, head, object)?;
-    let piece = piece(alloc, case, head, object, SINK_PIECE)?;
+    let piece = piece(case, head, object, SINK_PIECE)?;
     match MemSink::new(alloc, room, fails, piece) {
         Ok(sink) => Ok(sink),
         Err(_) => Err(Slip::Memory),
@@ -122,15 +136,32 @@ fn sink(alloc: Global, case: &Case, head: &Case, object: &str) -> Result<MemSink
 fn dir(alloc: Global, case: &Case, head: &Case) -> Result<MemDir, Slip> {
     let files = files_before(alloc, case, head)?;
     let fails = fails(alloc, case, head, "dir")?;
-    let piece = piece(alloc, case, head, "dir", DIR_PIECE)?;
+    let piece = piece(case, head, "dir", DIR_PIECE)?;
     Ok(MemDir::new(alloc, files, fails, piece))
 }
 
 /// The words of a case.
 pub fn words(alloc: Global, case: &Case, head: &Case) -> Result<Vec<String>, Slip> {
-    match entry(case, head, Key::Words)? {
+    match entry(case, head, Key::Words, "")? {
         Some(entry) => words_of(alloc, entry.text.as_str()),
         None => Err(Slip::NoWords),
+    }
+}
+
+/// Runs the words over a directory and two sinks.
+fn run_over(
+    alloc: Global,
+    words: &[String],
+    mut dir: MemDir,
+    mut out: MemSink,
+    mut err: MemSink,
+) -> Left {
+    let exit = run_words(alloc, words, &mut dir, &mut out, &mut err);
+    Left {
+        status: exit.0,
+        dir,
+        out,
+        err,
     }
 }
 
@@ -139,21 +170,15 @@ pub fn run(alloc: Global, case: &Case, head: &Case, words: &[String]) -> Result<
     if let Some(slip) = head.slip.or(case.slip) {
         return Err(slip);
     }
-    let mut dir = dir(alloc, case, head)?;
-    let mut out = sink(alloc, case, head, "out")?;
-    let mut err = sink(alloc, case, head, "err")?;
-    let exit = run_words(alloc, words, &mut dir, &mut out, &mut err);
-    Ok(Left {
-        status: exit.0,
-        dir,
-        out,
-        err,
-    })
+    let dir = dir(alloc, case, head)?;
+    let out = sink(alloc, case, head, "out")?;
+    let err = sink(alloc, case, head, "err")?;
+    Ok(run_over(alloc, words, dir, out, err))
 }
 
 /// The status that a case wants.
 fn status(case: &Case, head: &Case) -> Result<usize, Slip> {
-    match entry(case, head, Key::Status)? {
+    match entry(case, head, Key::Status, "")? {
         Some(entry) => number(entry.text.as_str()),
         None => Ok(0),
     }
@@ -177,7 +202,7 @@ fn has_out(
 
 /// Whether `err` has what the case wants: nothing, if nothing is said.
 fn has_err(alloc: Global, case: &Case, head: &Case, left: &Left) -> Result<bool, Slip> {
-    match entry(case, head, Key::Err)? {
+    match entry(case, head, Key::Err, "")? {
         Some(entry) => Ok(spelt(alloc, entry.text.as_str())?.as_slice() == left.err.bytes()),
         None => Ok(left.err.bytes().is_empty()),
     }

@@ -12,13 +12,13 @@ use case::{Case, cases_of};
 use held::{hold, run, words};
 use isle_outside::{Dir, Found, StdDir, read_text};
 use slip::Slip;
-use std::alloc::Global;
+use std::alloc::{AllocError, Global};
 use std::io;
 use std::process::ExitCode;
 use wanted::Shelf;
 
 /// How many cases there are and how many hold, with a line for each other one.
-#[derive(Debug, Drop)]
+#[derive(Drop)]
 struct Report {
     cases: usize,
     held: usize,
@@ -26,27 +26,25 @@ struct Report {
 }
 
 impl Report {
-    /// Counts a case.
-    fn count(
+    /// Counts a case that holds.
+    fn count_held(&mut self) {
+        self.cases = self.cases.saturating_add(1);
+        self.held = self.held.saturating_add(1);
+    }
+
+    /// Counts a case that doesn't hold, and says why and what its run left.
+    fn count_slip(
         &mut self,
         alloc: Global,
         topic: &str,
         name: &str,
-        held: Result<(), Slip>,
-    ) -> Result<(), Slip> {
+        slip: Slip,
+        left: &str,
+    ) -> Result<(), AllocError> {
         self.cases = self.cases.saturating_add(1);
-        match held {
-            Ok(()) => {
-                self.held = self.held.saturating_add(1);
-                Ok(())
-            }
-            Err(slip) => {
-                let why = slip.told();
-                let line = format!(in alloc; "{topic}: {name}: {why}\n")?;
-                self.lines.push_str(line.as_str())?;
-                Ok(())
-            }
-        }
+        let why = slip.told();
+        let line = format!(in alloc; "{topic}: {name}: {why}{left}\n")?;
+        self.lines.push_str(line.as_str())
     }
 }
 
@@ -76,38 +74,49 @@ fn shelf<D: Dir>(alloc: Global, dir: &mut D, report: &mut Report) -> Result<Shel
         if is_data(name.as_str()) {
             match read_text(alloc, dir, name.as_str()) {
                 Ok(text) => files.push((name, text))?,
-                Err(_) => report.count(alloc, name.as_str(), "", Err(Slip::Unread))?,
+                Err(_) => report.count_slip(alloc, name.as_str(), "", Slip::Unread, "")?,
             }
         }
     }
     Ok(Shelf { files })
 }
 
-/// Runs a case, and holds what it leaves against what it wants.
-fn judge(alloc: Global, case: &Case, head: &Case, shelf: &Shelf) -> Result<(), Slip> {
+/// Runs a case, holds what it leaves against what it wants, and tells what it left.
+fn judge(
+    alloc: Global,
+    case: &Case,
+    head: &Case,
+    shelf: &Shelf,
+    told: &mut String,
+) -> Result<(), Slip> {
     let words = words(alloc, case, head)?;
     let left = run(alloc, case, head, words.as_slice())?;
+    told.push_str(left.told(alloc)?.as_str())?;
     hold(alloc, case, head, words.as_slice(), shelf, &left)
 }
 
 /// Counts the cases of a topic. One without cases is counted as one that doesn't hold.
 fn count_topic(
     alloc: Global,
-    name: &str,
-    text: &str,
+    topic: &str,
+    cases: &[Case],
     shelf: &Shelf,
     report: &mut Report,
 ) -> Result<(), Slip> {
-    let cases = cases_of(alloc, text)?;
-    let [head, cases @ ..] = cases.as_slice() else {
+    let [head, cases @ ..] = cases else {
         return Err(Slip::Memory);
     };
     if cases.is_empty() {
-        return report.count(alloc, name, "", Err(Slip::NoCases));
+        report.count_slip(alloc, topic, "", Slip::NoCases, "")?;
     }
     for case in cases {
-        let held = judge(alloc, case, head, shelf);
-        report.count(alloc, name, case.name.as_str(), held)?;
+        let mut told = String::new(alloc);
+        match judge(alloc, case, head, shelf, &mut told) {
+            Ok(()) => report.count_held(),
+            Err(slip) => {
+                report.count_slip(alloc, topic, case.name.as_str(), slip, told.as_str())?;
+            }
+        }
     }
     Ok(())
 }
@@ -117,7 +126,8 @@ fn count_all<D: Dir>(alloc: Global, dir: &mut D, report: &mut Report) -> Result<
     let shelf = shelf(alloc, dir, report)?;
     for (name, text) in &shelf.files {
         if let Some(topic) = name.as_str().strip_suffix(".cases") {
-            count_topic(alloc, topic, text.as_str(), &shelf, report)?;
+            let cases = cases_of(alloc, text.as_str())?;
+            count_topic(alloc, topic, cases.as_slice(), &shelf, report)?;
         }
     }
     Ok(())

@@ -1,7 +1,5 @@
 //! Texts as they are spelled in cases, and words in quotes.
 
-ghost use Rattle.std.specs.Prelude.{◌<◌, IfOk};
-
 use crate::slip::Slip;
 use std::alloc::Global;
 
@@ -32,7 +30,11 @@ fn push_spelt(alloc: Global, bytes: &mut Vec<u8>, piece: &str) -> Result<(), Sli
         [b'n', rest @ ..] => push_two(bytes, b'\n', rest),
         [b't', rest @ ..] => push_two(bytes, b'\t', rest),
         [b'r', rest @ ..] => push_two(bytes, b'\r', rest),
-        [b'x', high, low, rest @ ..] => push_two(bytes, hex(*high)? << 4 | hex(*low)?, rest),
+        [b'x', high, low, rest @ ..] => push_two(
+            bytes,
+            hex(*high)?.wrapping_mul(16) | hex(*low)?,
+            rest,
+        ),
         [b'0'..=b'9', ..] => push_often(alloc, bytes, piece),
         _ => Err(Slip::Escape),
     }
@@ -46,12 +48,10 @@ fn push_two(bytes: &mut Vec<u8>, byte: u8, rest: &[u8]) -> Result<(), Slip> {
 }
 
 /// The number of a hexadecimal digit.
-fn hex(digit: u8) -> Result<u8, Slip>
-    ensures { IfOk result (λ number. number < 16) }
-{
+fn hex(digit: u8) -> Result<u8, Slip> {
     match digit {
-        b'0'..=b'9' => Ok(digit - b'0'),
-        b'a'..=b'f' => Ok(digit - b'a' + 10),
+        b'0'..=b'9' => Ok(digit.wrapping_sub(b'0')),
+        b'a'..=b'f' => Ok(digit.wrapping_sub(b'a' - 10)),
         _ => Err(Slip::Escape),
     }
 }
@@ -68,14 +68,28 @@ fn push_often(alloc: Global, bytes: &mut Vec<u8>, piece: &str) -> Result<(), Sli
         Some((from, to)) => (number(from)?, number(to)?),
         None => (0, number(count)?),
     };
-    for turn in from..to {
-        if inner.contains('#') {
-            push_turn(alloc, bytes, inner, turn)?;
-        } else {
-            bytes.extend_from_slice(inner.as_bytes())?;
+    match inner.as_bytes() {
+        [byte] if *byte != b'#' => {
+            let run = vec![in alloc; *byte; to.saturating_sub(from)]?;
+            bytes.extend_from_slice(run.as_slice())?;
         }
+        _ => push_turns(alloc, bytes, inner, from, to)?,
     }
     bytes.extend_from_slice(rest.as_bytes())?;
+    Ok(())
+}
+
+/// Appends the turns from one number up to another.
+fn push_turns(
+    alloc: Global,
+    bytes: &mut Vec<u8>,
+    inner: &str,
+    from: usize,
+    to: usize,
+) -> Result<(), Slip> {
+    for turn in from..to {
+        push_turn(alloc, bytes, inner, turn)?;
+    }
     Ok(())
 }
 
@@ -107,7 +121,7 @@ pub fn number(digits: &str) -> Result<usize, Slip> {
 }
 
 /// Words as they are read, letter by letter.
-#[derive(Debug, Drop)]
+#[derive(Drop)]
 struct Words {
     alloc: Global,
     all: Vec<String>,

@@ -3,7 +3,7 @@
 use std::alloc::{AllocError, Global};
 
 /// What is open behind a byte.
-#[derive(Clone, Copy, Debug, PartialEq, Eq)]
+#[derive(Clone, Copy)]
 enum State {
     /// No token that goes on.
     Gap,

@@ -10,7 +10,7 @@ use std::alloc::{AllocError, Global};
 const FRAME: &str = "@frame.rs";
 
 /// The files that lie beside the cases, with their names.
-#[derive(Debug, Drop)]
+#[derive(Drop)]
 pub struct Shelf {
     pub files: Vec<(String, String)>,
 }
@@ -28,7 +28,7 @@ impl Shelf {
 }
 
 /// What is wanted on `out`.
-#[derive(Debug, Drop)]
+#[derive(Drop)]
 pub enum Wanted {
     /// These bytes.
     Bytes(Vec<u8>),
@@ -46,11 +46,16 @@ impl Wanted {
     }
 }
 
-/// The line of a case with this key, or that of the head.
-pub fn entry<'c>(case: &'c Case, head: &'c Case, key: Key) -> Result<Option<&'c Entry>, Slip> {
-    match case.only(key) {
-        Ok(None) => head.only(key),
-        other => other,
+/// The line of a case with this key and name, or that of the head.
+pub fn entry<'c>(
+    case: &'c Case,
+    head: &'c Case,
+    key: Key,
+    name: &str,
+) -> Result<Option<&'c Entry>, Slip> {
+    match case.only(key, name)? {
+        Some(entry) => Ok(Some(entry)),
+        None => head.only(key, name),
     }
 }
 
@@ -58,7 +63,7 @@ pub fn entry<'c>(case: &'c Case, head: &'c Case, key: Key) -> Result<Option<&'c 
 fn way(case: &Case) -> Result<Option<&Entry>, Slip> {
     let mut found = None;
     for key in [Key::Out, Key::Tokens, Key::Functions] {
-        if let Some(entry) = case.only(key)? {
+        if let Some(entry) = case.only(key, "")? {
             if found.is_some() {
                 return Err(Slip::Twice);
             }
@@ -69,7 +74,7 @@ fn way(case: &Case) -> Result<Option<&Entry>, Slip> {
 }
 
 /// The texts that a line `@NAME` stands for.
-#[derive(Debug, Drop)]
+#[derive(Drop)]
 struct Parts<'c> {
     names: String,
     members: String,
@@ -135,6 +140,11 @@ fn spelt_of(alloc: Global, entry: Option<&Entry>) -> Result<String, Slip> {
     }
 }
 
+/// Whether a case has a line that serves its functions alone.
+fn is_idle(case: &Case) -> Result<bool, Slip> {
+    Ok(case.only(Key::Trait, "")?.is_some() || case.only(Key::Names, "")?.is_some())
+}
+
 /// What the case wants on `out`, if it says so.
 pub fn wanted_out(
     alloc: Global,
@@ -152,7 +162,7 @@ pub fn wanted_out(
             let text = filled(alloc, case, head, way, words, shelf)?;
             Ok(Some(Wanted::Tokens(tokens(alloc, text.as_bytes())?)))
         }
-        _ if case.only(Key::Trait)?.is_some() => Err(Slip::Unused),
+        _ if is_idle(case)? => Err(Slip::Unused),
         Some(way) => Ok(Some(Wanted::Bytes(spelt(alloc, way.text.as_str())?))),
         None => Ok(None),
     }
@@ -174,8 +184,8 @@ fn filled(
         (own, String::new(alloc))
     };
     let parts = Parts {
-        names: name_lines(alloc, entry(case, head, Key::Names)?, words)?,
-        members: spelt_of(alloc, entry(case, head, Key::Trait)?)?,
+        names: name_lines(alloc, entry(case, head, Key::Names, "")?, words)?,
+        members: spelt_of(alloc, entry(case, head, Key::Trait, "")?)?,
         functions,
         shelf,
     };
