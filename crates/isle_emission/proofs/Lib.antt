@@ -19,6 +19,4 @@ pub mod WellFormedFunctions
 pub mod Tails
 pub mod Roots
 pub mod EmittedLaws
-pub mod SampleEmission
 pub mod TraitFnForms
-pub mod CallEmission
