@@ -3,6 +3,7 @@ pub mod PathAt
 pub mod BoundTests
 pub mod Onto
 pub mod StatementSteps
+pub mod LineFeeds
 pub mod Lines
 pub mod PathValues
 pub mod HeldStays
