@@ -55,7 +55,7 @@ pub fn are_file_names(names: &[Text]) -> bool
 fn is_word_byte(byte: u8) -> bool
     ensures { result ≡ is_word_byte byte }
 {
-    byte.is_ascii_lowercase() || byte == b'_' || byte.is_ascii_digit() || byte.is_ascii_uppercase()
+    byte.is_ascii_alphanumeric() || byte == b'_'
 }
 
 /// Whether the name of a term may stand behind `constructor_`.
