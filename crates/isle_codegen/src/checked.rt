@@ -4,6 +4,7 @@ ghost use Rattle.isle_core.specs.RuleViews.{environment};
 ghost use Rattle.isle_syntax.specs.Views.{defs as seen};
 ghost use Rattle.isle_sema.specs.Typing.{TypedOnly};
 ghost use Rattle.isle_rulesets.specs.Grouping.{AreRuleSets};
+ghost use Rattle.isle_emission.specs.TraitFns.{trait_fns_of};
 ghost use Rattle.isle_codegen.specs.Emission.{IsGiven};
 ghost use Rattle.isle_codegen.specs.Source.{IsCompilable};
 ghost use Rattle.isle_codegen.specs.Checked.{IsChecked};
@@ -17,6 +18,7 @@ use isle_emission::trait_fns;
 use isle_rulesets::rule_sets;
 use isle_sema::{EnvError, term_env_from_ast, type_env_from_ast};
 use isle_syntax::{Def, ParseFail};
+use isle_target::TraitFn;
 use std::alloc::Global;
 
 /// The environment of definitions that may be compiled.
@@ -30,11 +32,24 @@ pub struct Checked {
 
 /// The environment of the definitions that the files' texts spell, in order. There are as many names as texts. `NotYet`
 /// comes exactly where the texts are not of the language that is built, or a file's name may not be emitted.
-#[tactic(auto, using(crate::proofs::Placed::source_terms_placed))]
 pub fn check_files(alloc: Global, files: &Files) -> Result<Checked, FileError>
     requires count { length files.now.file_texts ≡ length files.now.file_names }
     ensures ok { IfOk result (λ c. IsChecked files.now (environment c.typeenv c.termenv)) }
     ensures terms { IfOk result (λ c. AreRuleSets (environment c.typeenv c.termenv) c.terms.items) }
+    ensures err { IfErr result (λ e. IsRefusal e files.now.file_names files.now.file_texts) }
+{
+    match check_all(alloc, files) {
+        Ok((checked, _)) => Ok(checked),
+        Err(fail) => Err(fail),
+    }
+}
+
+/// What `check_files` gives, with the functions of the trait.
+pub fn check_all(alloc: Global, files: &Files) -> Result<(Checked, Vec<TraitFn>), FileError>
+    requires count { length files.now.file_texts ≡ length files.now.file_names }
+    ensures ok { IfOk result (λ c. IsChecked files.now (environment c.0.typeenv c.0.termenv)) }
+    ensures terms { IfOk result (λ c. AreRuleSets (environment c.0.typeenv c.0.termenv) c.0.terms.items) }
+    ensures fns { IfOk result (λ c. c.1.items ≡ trait_fns_of (environment c.0.typeenv c.0.termenv)) }
     ensures err { IfErr result (λ e. IsRefusal e files.now.file_names files.now.file_texts) }
 {
     if !are_file_names(files.file_names.as_slice()) {
@@ -52,12 +67,13 @@ pub fn check_files(alloc: Global, files: &Files) -> Result<Checked, FileError>
     }
 }
 
-/// The environment of the definitions. `NotYet` comes exactly where they are not of the language that is built, or the
-/// name of a term or of an external function may not be emitted.
-fn check_defs(alloc: Global, defs: &[Def]) -> Result<Checked, EnvError>
-    ensures typed { IfOk result (λ c. TypedOnly (seen defs.now) (environment c.typeenv c.termenv)) }
-    ensures given { IfOk result (λ c. IsGiven (environment c.typeenv c.termenv)) }
-    ensures terms { IfOk result (λ c. AreRuleSets (environment c.typeenv c.termenv) c.terms.items) }
+/// The environment of the definitions, with the functions of the trait. `NotYet` comes exactly where they are not of the
+/// language that is built, or the name of a term or of an external function may not be emitted.
+fn check_defs(alloc: Global, defs: &[Def]) -> Result<(Checked, Vec<TraitFn>), EnvError>
+    ensures typed { IfOk result (λ c. TypedOnly (seen defs.now) (environment c.0.typeenv c.0.termenv)) }
+    ensures given { IfOk result (λ c. IsGiven (environment c.0.typeenv c.0.termenv)) }
+    ensures terms { IfOk result (λ c. AreRuleSets (environment c.0.typeenv c.0.termenv) c.0.terms.items) }
+    ensures fns { IfOk result (λ c. c.1.items ≡ trait_fns_of (environment c.0.typeenv c.0.termenv)) }
     ensures not_yet { result ≡ Err EnvError.NotYet → (env : Environment) → IsCompilable (seen defs.now) env → ⊥ }
 {
     let typeenv = match type_env_from_ast(alloc, defs) {
@@ -78,9 +94,10 @@ fn check_defs(alloc: Global, defs: &[Def]) -> Result<Checked, EnvError>
     if !are_term_names(&typeenv, &termenv, terms.as_slice()) {
         return Err(EnvError::NotYet);
     }
-    Ok(Checked {
+    let checked = Checked {
         typeenv,
         termenv,
         terms,
-    })
+    };
+    Ok((checked, fns))
 }

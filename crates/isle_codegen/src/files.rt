@@ -7,9 +7,9 @@ ghost use Rattle.isle_codegen.specs.Header.{HasHeader};
 ghost use Rattle.isle_codegen.specs.Headline.{SpellsOne};
 ghost use Rattle.isle_codegen.specs.Causes.{CompilesTo, IsRefusal, IsCompiled, HasCause, printed};
 
-use crate::checked::check_files;
+use crate::checked::check_all;
 use crate::file_error::FileError;
-use crate::text::codegen;
+use crate::text::text_of;
 use isle_core::{CodegenOptions, Dir, Files, ReadError};
 use std::alloc::Global;
 
@@ -46,13 +46,14 @@ fn compiled(alloc: Global, files: &Files, options: &CodegenOptions) -> Result<St
     ensures ok { IfOk result (λ text. CompilesTo options.now files.now (string_bytes text)) }
     ensures err { IfErr result (λ e. IsRefusal e files.now.file_names files.now.file_texts) }
 {
-    let checked = check_files(alloc, files)?;
-    match codegen(
+    let (checked, fns) = check_all(alloc, files)?;
+    match text_of(
         alloc,
         files,
         &checked.typeenv,
         &checked.termenv,
         checked.terms.as_slice(),
+        fns,
         options,
     ) {
         Ok(text) => Ok(text),

@@ -6,8 +6,6 @@ mod file_error;
 mod files;
 mod names;
 mod source;
-#[cfg(test)]
-mod tests;
 mod text;
 mod tree;
 

@@ -6,6 +6,7 @@ ghost use Rattle.isle_target.specs.Views.{function, program};
 ghost use Rattle.isle_target.specs.WellFormed.{IsWellFormed};
 ghost use Rattle.isle_codegen.specs.Emission.{IsGiven, IsFrame, ArePlaced};
 ghost use Rattle.isle_emission.specs.Built.{IsBuilt};
+ghost use Rattle.isle_emission.specs.TraitFns.{trait_fns_of};
 ghost use Rattle.isle_codegen.specs.Emits.{CanEmit, IsEmitted, AreEmitted};
 ghost use Rattle.isle_codegen.specs.Headline.{FunctionsMean};
 ghost use Rattle.isle_emission.specs.LineStarts.{starts_of};
@@ -13,7 +14,7 @@ ghost use Rattle.isle_emission.specs.LineStarts.{starts_of};
 use isle_blocks::serialize;
 use isle_core::{CodegenOptions, Files, List, OutOfMemory, RuleSet, TermEnv, TermId, TypeEnv};
 use isle_emission::{Context, LineStarts, is_partial, term_function, trait_fns};
-use isle_target::{Function, Program};
+use isle_target::{Function, Program, TraitFn};
 use std::alloc::Global;
 
 /// The function of the term of this number, from the block of its rule set. The table is that of the files.
@@ -79,7 +80,29 @@ pub fn codegen_tree(
     ensures frame { IfOk result (λ p. IsFrame options.now (environment typeenv.now termenv.now) (program p)) }
     ensures functions { IfOk result (λ p. FunctionsMean files.now (environment typeenv.now termenv.now) (program p)) }
 {
-    let trait_fns = trait_fns(alloc, typeenv, termenv)?;
+    let fns = trait_fns(alloc, typeenv, termenv)?;
+    tree_of(alloc, files, typeenv, termenv, terms, fns, options)
+}
+
+/// What `codegen_tree` gives, from the functions of the trait.
+pub fn tree_of(
+    alloc: Global,
+    files: &Files,
+    typeenv: &TypeEnv,
+    termenv: &TermEnv,
+    terms: &[(TermId, RuleSet)],
+    trait_fns: Vec<TraitFn>,
+    options: &CodegenOptions,
+) -> Result<Program, OutOfMemory>
+    requires given { IsGiven (environment typeenv.now termenv.now) }
+    requires terms { AreRuleSets (environment typeenv.now termenv.now) terms.now }
+    requires places { ArePlaced files.now (environment typeenv.now termenv.now) }
+    requires fns { trait_fns.items ≡ trait_fns_of (environment typeenv.now termenv.now) }
+    requires options { IsBuilt options.now }
+    ensures well_formed { IfOk result (λ p. IsWellFormed (program p)) }
+    ensures frame { IfOk result (λ p. IsFrame options.now (environment typeenv.now termenv.now) (program p)) }
+    ensures functions { IfOk result (λ p. FunctionsMean files.now (environment typeenv.now termenv.now) (program p)) }
+{
     let fns = emit_all(alloc, files, typeenv, termenv, terms)?;
     Ok(Program {
         allow: !options.exclude_global_allow_pragmas,

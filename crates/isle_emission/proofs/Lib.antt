@@ -3,6 +3,7 @@ pub mod PathAt
 pub mod BoundTests
 pub mod Onto
 pub mod StatementSteps
+pub mod LineFeeds
 pub mod Lines
 pub mod PathValues
 pub mod HeldStays
@@ -19,6 +20,4 @@ pub mod WellFormedFunctions
 pub mod Tails
 pub mod Roots
 pub mod EmittedLaws
-pub mod SampleEmission
 pub mod TraitFnForms
-pub mod CallEmission

@@ -12,5 +12,3 @@ pub mod Contexts
 pub mod BodyOnto
 pub mod LineStarts
 pub mod MayEmit
-pub mod Samples
-pub mod CallSamples

@@ -2,13 +2,9 @@
 #![tactic(auto)]
 
 mod bound;
-#[cfg(test)]
-mod call_emit_tests;
 mod calls;
 mod context;
 mod emit;
-#[cfg(test)]
-mod emit_tests;
 mod externals;
 mod line_starts;
 mod operands;

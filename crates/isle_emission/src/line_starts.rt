@@ -25,14 +25,14 @@ impl Model for LineStarts {
 }
 
 /// The places where the lines of a text begin, but the first.
-fn starts_of(alloc: Global, text: &[u8]) -> Result<Vec<usize>, AllocError>
+fn starts_of(alloc: Global, text: &str) -> Result<Vec<usize>, AllocError>
     ensures { IfOk result (λ starts. starts.items ≡ starts_of text.now) }
 {
     let mut starts = Vec::new(alloc);
-    for (place, byte) in text.iter().enumerate() {
-        if *byte == b'\n' {
-            starts.push(place + 1)?;
-        }
+    let mut rest = text;
+    while let Some((_, behind)) = rest.split_once('\n') {
+        starts.push(text.len() - behind.len())?;
+        rest = behind;
     }
     Ok(starts)
 }
@@ -51,7 +51,7 @@ impl LineStarts {
     {
         let mut starts = Vec::new(alloc);
         for text in files.file_texts.as_slice() {
-            let of_text = starts_of(alloc, text.as_str().as_bytes())?;
+            let of_text = starts_of(alloc, text.as_str())?;
             starts.push(List::new(of_text))?;
         }
         Ok(LineStarts { files: starts })

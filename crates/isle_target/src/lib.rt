@@ -20,6 +20,8 @@ mod operand;
 mod print;
 mod shapes;
 mod statement;
+#[cfg(test)]
+mod tests;
 mod there;
 mod trait_fns;
 mod tree;

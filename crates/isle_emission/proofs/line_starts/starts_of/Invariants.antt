@@ -1,6 +1,12 @@
-use Rattle.std.proofs.Common.{◌≡◌, ◌++◌, drop}
+use Rattle.std.proofs.Common.{◌≡◌, ◌≤◌, ◌-◌, ◌++◌, length}
+use denote.Shadow.{shadow}
+use denote.Text.{Utf8}
 use Rattle.isle_emission.specs.LineStarts.{starts_from, starts_of}
 use Rattle.isle_emission.proofs.line_starts.starts_of.Given as goal
 
-abbrev pub invariant-loop-place : goal.invariant-loop-place
-invariant-loop-place l = l.starts.items ++ starts_from l.place (drop l.place l.text) ≡ starts_of l.text
+abbrev pub invariant-loop-behind : goal.invariant-loop-behind
+invariant-loop-behind l =
+    (length l.rest ≤ length l.text) × (l.starts.items ++ starts_from (length l.text - length l.rest) l.rest ≡ starts_of l.text) × shadow (Utf8 l.rest)
+
+abbrev pub decreases-loop-behind : goal.decreases-loop-behind
+decreases-loop-behind l = length l.rest

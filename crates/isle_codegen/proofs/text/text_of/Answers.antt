@@ -2,7 +2,7 @@ use Rattle.std.proofs.Common.{◌∙◌}
 use Rattle.std.specs.String.{string_bytes}
 use Rattle.isle_target.specs.Views.{program}
 use Rattle.isle_codegen.proofs.Headers.{spells_behind}
-use Rattle.isle_codegen.proofs.text.codegen.Goals as goal
+use Rattle.isle_codegen.proofs.text.text_of.Goals as goal
 
 pub returns-clause-program : goal.returns-clause-program
 returns-clause-program c = record {

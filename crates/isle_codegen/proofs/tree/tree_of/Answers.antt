@@ -3,7 +3,7 @@ use Rattle.isle_core.specs.RuleViews.{environment}
 use Rattle.isle_target.specs.Views.{function}
 use Rattle.isle_codegen.proofs.Emitting.{can_emit}
 use Rattle.isle_codegen.proofs.EmittedProgram.{program_well_formed, program_means}
-use Rattle.isle_codegen.proofs.tree.codegen_tree.Goals as goal
+use Rattle.isle_codegen.proofs.tree.tree_of.Goals as goal
 
 pub emit_all-requires : goal.emit_all-requires
 emit_all-requires c =
@@ -14,7 +14,7 @@ pub returns-clause-well_formed : goal.returns-clause-well_formed
 returns-clause-well_formed c =
     let env = environment c.args.typeenv.now c.args.termenv.now in
     program_well_formed c.requires.given.defs c.args.files.now env c.requires.given.compilable.typed c.args.terms.now c.requires.terms (map function c.in_ok-fns.fns.items) c.in_ok-fns.ensures
-    _ c.requires.given.compilable.fns (c.new.ensures ∙ c.in_ok-trait_fns.ensures) (c.new-3.ensures ∙ c.new-2.ensures.items) (ap (map function) c.new-4.ensures)
+    _ c.requires.given.compilable.fns (c.new.ensures ∙ c.requires.fns) (c.new-3.ensures ∙ c.new-2.ensures.items) (ap (map function) c.new-4.ensures)
     (can_emit c.requires.given.defs c.args.files.now env c.requires.given.compilable.typed c.requires.places c.requires.given.compilable.fns c.args.terms.now c.requires.given.compilable.names c.requires.terms)
 
 pub returns-clause-functions : goal.returns-clause-functions
