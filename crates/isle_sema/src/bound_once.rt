@@ -19,20 +19,15 @@ fn meets_again<'d>(before: &mut Symbols<'d>, p: &'d AstPattern) -> Result<bool, 
     ensures { IfOk result (λ found. (rest : List (List ℕ)) → repeats_after before.old (pattern_names (pattern p.now) ++ rest) ≡ (if found then true else repeats_after before.new rest)) }
 {
     match p {
-        AstPattern::Var(name) => meet(before, name.as_str()),
+        AstPattern::Var(name) => {
+            if before.find(name.as_str()).is_some() {
+                return Ok(true);
+            }
+            before.intern(name.as_str())?;
+            Ok(false)
+        }
         _ => Ok(false),
     }
-}
-
-/// Whether a name was met before; it is met now.
-fn meet<'d>(before: &mut Symbols<'d>, name: &'d str) -> Result<bool, AllocError>
-    ensures { IfOk result (λ found. (rest : List (List ℕ)) → repeats_after before.old (name.now ∷ rest) ≡ (if found then true else repeats_after before.new rest)) }
-{
-    if before.find(name).is_some() {
-        return Ok(true);
-    }
-    before.intern(name)?;
-    Ok(false)
 }
 
 /// Whether a variable stands in two of the patterns.

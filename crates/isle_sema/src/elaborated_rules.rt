@@ -78,7 +78,7 @@ fn rule_at(
     requires { index_of known.now.syms given.now.term.now ≡ Some given.now.number }
     ensures { IfOk result (λ rule. option_map elaborated_rule rule ≡ rule_in known.now number (seen given.now)) }
 {
-    let Some(own) = known.head(given) else {
+    let Some(own) = known.at(given.number) else {
         return Ok(None);
     };
     if is_unfit(given, &own) {

@@ -5,7 +5,7 @@ ghost use Rattle.isle_sema.specs.Symbols.{index_of};
 ghost use Rattle.isle_sema.specs.Resolved.{called};
 ghost use Rattle.isle_sema.specs.Known.{seen_called};
 
-use crate::collected::{Extern, RuleDef, Signature};
+use crate::collected::{Extern, Signature};
 use crate::first_places::place_in;
 use crate::symbols::Symbols;
 use isle_core::{Term, TermId, Text, TypeId};
@@ -56,7 +56,7 @@ impl<'s, 'd> Known<'s, 'd> {
     }
 
     /// The term of the name of this number.
-    fn at(&self, number: usize) -> Option<Called<'s>>
+    pub fn at(&self, number: usize) -> Option<Called<'s>>
         ensures { (name : List ℕ) → index_of self.now.syms name ≡ Some number → option_map seen_called result ≡ called self.now name }
     {
         let place = place_in(self.declared, number)?;
@@ -80,13 +80,5 @@ impl<'s, 'd> Known<'s, 'd> {
             Some(number) => self.at(number),
             None => None,
         }
-    }
-
-    /// The term of a rule.
-    pub fn head(&self, rule: &RuleDef) -> Option<Called<'s>>
-        requires { index_of self.now.syms rule.now.term.now ≡ Some rule.now.number }
-        ensures { option_map seen_called result ≡ called self.now rule.now.term.now }
-    {
-        self.at(rule.number)
     }
 }

@@ -4,7 +4,6 @@ ghost use Rattle.std.specs.Prelude.{◌≡◌, ℕ, List, map, is_some};
 ghost use Rattle.std.specs.List.{list_all, list_any};
 ghost use Rattle.isle_sema.specs.Builtins.{type_named};
 ghost use Rattle.isle_sema.specs.Collected.{signature as seen};
-ghost use Rattle.isle_sema.specs.Faults.{names_no_type, has_too_many};
 ghost use Rattle.isle_sema.specs.Sound.{is_misdeclared};
 
 use crate::builtins::type_named;
@@ -23,25 +22,11 @@ fn are_types(names: &[Text]) -> bool
     true
 }
 
-/// Whether a declaration names a type that is not declared.
-fn names_no_type(given: &Signature) -> bool
-    ensures { result ≡ names_no_type (seen given.now) }
-{
-    type_named(given.ret.as_str()).is_none() || !are_types(given.args)
-}
-
-/// Whether a declaration has more than 256 arguments.
-fn has_too_many(given: &Signature) -> bool
-    ensures { result ≡ has_too_many (seen given.now) }
-{
-    given.args.len() > 256
-}
-
 /// Whether a declaration has more than 256 arguments, or names a type that is not declared.
 fn is_misdeclared(given: &Signature) -> bool
     ensures { result ≡ is_misdeclared (seen given.now) }
 {
-    has_too_many(given) || names_no_type(given)
+    given.args.len() > 256 || type_named(given.ret.as_str()).is_none() || !are_types(given.args)
 }
 
 /// Whether one of the declarations is wrong so.

@@ -34,34 +34,27 @@ impl From<AllocError> for EnvError {
     }
 }
 
-/// The types that are there before any definition.
-fn builtin_types(alloc: Global) -> Result<Vec<TypeDef>, AllocError>
-    ensures { IfOk result (λ types. types.items ≡ builtins) }
-{
-    Ok(vec![in alloc;
-        TypeDef::Builtin(BuiltinType::Bool),
-        TypeDef::Builtin(BuiltinType::Int(IntType::U8)),
-        TypeDef::Builtin(BuiltinType::Int(IntType::U16)),
-        TypeDef::Builtin(BuiltinType::Int(IntType::U32)),
-        TypeDef::Builtin(BuiltinType::Int(IntType::U64)),
-        TypeDef::Builtin(BuiltinType::Int(IntType::U128)),
-        TypeDef::Builtin(BuiltinType::Int(IntType::USize)),
-        TypeDef::Builtin(BuiltinType::Int(IntType::I8)),
-        TypeDef::Builtin(BuiltinType::Int(IntType::I16)),
-        TypeDef::Builtin(BuiltinType::Int(IntType::I32)),
-        TypeDef::Builtin(BuiltinType::Int(IntType::I64)),
-        TypeDef::Builtin(BuiltinType::Int(IntType::I128)),
-        TypeDef::Builtin(BuiltinType::Int(IntType::ISize)),
-    ]?)
-}
-
 /// The types over these symbols, without constants.
 fn types_over(alloc: Global, symbols: &Symbols) -> Result<TypeEnv, AllocError>
     ensures { IfOk result (λ env. env ≡ record { syms = symbols.now; types = builtins; consts = [] }) }
 {
     Ok(TypeEnv {
         syms: List::new(symbols.texts(alloc)?),
-        types: List::new(builtin_types(alloc)?),
+        types: List::new(vec![in alloc;
+            TypeDef::Builtin(BuiltinType::Bool),
+            TypeDef::Builtin(BuiltinType::Int(IntType::U8)),
+            TypeDef::Builtin(BuiltinType::Int(IntType::U16)),
+            TypeDef::Builtin(BuiltinType::Int(IntType::U32)),
+            TypeDef::Builtin(BuiltinType::Int(IntType::U64)),
+            TypeDef::Builtin(BuiltinType::Int(IntType::U128)),
+            TypeDef::Builtin(BuiltinType::Int(IntType::USize)),
+            TypeDef::Builtin(BuiltinType::Int(IntType::I8)),
+            TypeDef::Builtin(BuiltinType::Int(IntType::I16)),
+            TypeDef::Builtin(BuiltinType::Int(IntType::I32)),
+            TypeDef::Builtin(BuiltinType::Int(IntType::I64)),
+            TypeDef::Builtin(BuiltinType::Int(IntType::I128)),
+            TypeDef::Builtin(BuiltinType::Int(IntType::ISize)),
+        ]?),
         consts: List::new(Vec::new(alloc)),
     })
 }
