@@ -1,6 +1,6 @@
 -- How many arguments and nodes there are.
-use Rattle.std.proofs.Common.{◌≡◌, ℕ, suc, ◌+◌, ◌-◌, ◌^◌, ◌≤◌, Bool, false, List, [], ◌∷◌, length, map, refl, sym, ap, ◌∙◌, arith}
-use Rattle.std.specs.Prelude.{◌==◌, ◌||◌, not, min, drop}
+use Rattle.std.proofs.Common.{◌≡◌, ℕ, suc, ◌+◌, ◌-◌, ◌^◌, ◌≤◌, List, [], ◌∷◌, length, map, refl, sym, ap, ◌∙◌, arith}
+use Rattle.std.specs.Prelude.{min, drop}
 use Rattle.std.proofs.Math.Nat.{min-eq_left}
 use Rattle.std.proofs.lemmas.List.{drop_all}
 use Rattle.isle_syntax.specs.declared.tree.AstExpr.{AstExpr}
@@ -12,10 +12,6 @@ use Rattle.isle_sema.specs.Calls.{all_nodes}
 pub counted : (es : List AstExpr) → count_of (exprs_of (map expr es)) ≡ length es
 counted [] = refl
 counted (e ∷ es) = ap suc (counted es)
-
--- what is called with as many arguments
-pub miscalled : (es : List AstExpr) (n : ℕ) (other : Bool) → not (length es == n) ≡ false → other ≡ not (count_of (exprs_of (map expr es)) == n) || other
-miscalled es n other h = sym (ap (λ k. not (k == n) || other) (counted es) ∙ ap (λ b. b || other) h)
 
 -- behind the last expression, all are counted
 pub all_counted : (es : List AstExpr) (i count : ℕ) → count ≤ 2 ^ 64 - 1 → length es ≤ i → min (count + all_nodes (exprs_of (map expr (drop i es)))) (2 ^ 64 - 1) ≡ min (all_nodes (exprs_of (map expr es))) (2 ^ 64 - 1)

@@ -66,7 +66,7 @@ first_stands false first name names (Some m) n same rest e =
     let next : n ≡ suc m = omega arith in
     ap (λ k. get_or (first ∷ names) k []) next ∙ rest m refl
 
-stands : (names : List (List ℕ)) (name : List ℕ) (n : ℕ) → index_of names name ≡ Some n → get_or names n [] ≡ name
+pub stands : (names : List (List ℕ)) (name : List ℕ) (n : ℕ) → index_of names name ≡ Some n → get_or names n [] ≡ name
 stands [] name n e = absurd cc
 stands (first ∷ names) name n e = first_stands (bytes_eq first name) first name names (index_of names name) n refl (λ m f. stands names name m f) e
 
@@ -76,7 +76,7 @@ stands (first ∷ names) name n e = first_stands (bytes_eq first name) first nam
 AreAmong : List (List ℕ) → List Signature → Type 0
 AreAmong names sigs = AllByRecursion (λ (s : Signature). (n : ℕ) × (index_of names s.term ≡ Some n)) sigs
 
-kept : (more names : List (List ℕ)) (name : List ℕ) (n : ℕ) → index_of names name ≡ Some n → index_of (fold added names more) name ≡ Some n
+pub kept : (more names : List (List ℕ)) (name : List ℕ) (n : ℕ) → index_of names name ≡ Some n → index_of (fold added names more) name ≡ Some n
 kept [] names name n e = e
 kept (other ∷ more) names name n e = kept more (added names other) name n (stays_at (is_some (index_of names other)) names other name n e)
 

@@ -5,13 +5,10 @@ use Rattle.std.specs.Option.{option_copied}
 use Rattle.std.specs.List.{HoldsAt, find}
 use denote.Ref.{Bor}
 use Rattle.std.specs.Str.{bytes_eq}
-use Rattle.std.proofs.lemmas.Option.{slice_get-map, slice_get_past, slice_get_read, slice_get_within, get_or_from_slice_get}
+use Rattle.std.proofs.lemmas.Option.{slice_get_past, slice_get_read, slice_get_within, get_or_from_slice_get}
 use Rattle.std.proofs.lemmas.List.{drop_more}
-use Rattle.isle_sema.specs.declared.collected.Signature.{Signature as CodeSignature}
-use Rattle.isle_sema.specs.declared.collected.Extern.{Extern as CodeExtern}
 use Rattle.isle_sema.specs.Symbols.{index_of}
 use Rattle.isle_sema.specs.Signatures.{Signature, Extern, func_named}
-use Rattle.isle_sema.specs.Collected.{signature, extern}
 use Rattle.isle_sema.specs.Elaborated.{signature_named}
 use Rattle.isle_sema.specs.Heads.{terms_of, extern_terms}
 
@@ -39,25 +36,6 @@ named_at sigs name = found_at (λ (s : Signature). s.term) sigs name
 
 pub func_at : (xs : List Extern) (name : List ℕ) → func_named xs name ≡ option_map (λ (x : Extern). x.func) (at_place xs (index_of (extern_terms xs) name))
 func_at xs name = ap (option_map (λ (x : Extern). x.func)) (found_at (λ (x : Extern). x.term) xs name)
-
--- the same of code's declarations
-pub named_none : (sigs : List CodeSignature) (names : List (List ℕ)) (name : List ℕ) → names ≡ terms_of (map signature sigs) → index_of names name ≡ None → None ≡ signature_named (map signature sigs) name
-named_none sigs names name is none = sym (named_at (map signature sigs) name ∙ ap (λ ns. at_place (map signature sigs) (index_of ns name)) (sym is) ∙ ap (at_place (map signature sigs)) none)
-
-pub named_some : (sigs : List CodeSignature) (names : List (List ℕ)) (name : List ℕ) (n : ℕ) → names ≡ terms_of (map signature sigs) → index_of names name ≡ Some n → option_map signature (slice_get sigs n) ≡ signature_named (map signature sigs) name
-named_some sigs names name n is some =
-    sym (named_at (map signature sigs) name ∙ ap (λ ns. at_place (map signature sigs) (index_of ns name)) (sym is) ∙ ap (at_place (map signature sigs)) some ∙ slice_get-map signature sigs n)
-
--- and of its external constructors
-pub func_none : (xs : List CodeExtern) (names : List (List ℕ)) (name : List ℕ) → names ≡ extern_terms (map extern xs) → index_of names name ≡ None → None ≡ func_named (map extern xs) name
-func_none xs names name is none =
-    sym (func_at (map extern xs) name ∙ ap (λ ns. option_map (λ (x : Extern). x.func) (at_place (map extern xs) (index_of ns name))) (sym is) ∙ ap (λ o. option_map (λ (x : Extern). x.func) (at_place (map extern xs) o)) none)
-
-pub func_some : (xs : List CodeExtern) (names : List (List ℕ)) (name : List ℕ) (n : ℕ) → names ≡ extern_terms (map extern xs) → index_of names name ≡ Some n
-    → option_map (λ (x : Extern). x.func) (option_map extern (slice_get xs n)) ≡ func_named (map extern xs) name
-func_some xs names name n is some =
-    sym (func_at (map extern xs) name ∙ ap (λ ns. option_map (λ (x : Extern). x.func) (at_place (map extern xs) (index_of ns name))) (sym is) ∙ ap (λ o. option_map (λ (x : Extern). x.func) (at_place (map extern xs) o)) some
-    ∙ ap (option_map (λ (x : Extern). x.func)) (slice_get-map extern xs n))
 
 -- what stands at a place, behind a reference
 pub got : {X : Type 0} (xs : List X) (i : ℕ) (r : Option (Bor X)) → IfSome r (λ x. x.now ≡ get_or xs i x.now) → MatchOption r (length xs ≤ i) (λ x. (i < length xs) × HoldsAt (λ y. x.now ≡ y) xs i) → option_copied r ≡ slice_get xs i

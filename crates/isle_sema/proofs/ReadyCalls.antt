@@ -1,10 +1,9 @@
 -- The calls of typed right sides are ready for a block.
-use Rattle.std.proofs.Common.{◌≡◌, ◌⊎◌, inl, inr, ⊎_elim, ℕ, zero, suc, ◌+◌, ◌≤◌, ◌<◌, List, [], ◌∷◌, ◌++◌, map, Bool, true, false, cond, Option, Some, None, refl, sym, ap, ◌∙◌, subst, arith}
-use Rattle.std.specs.Prelude.{◌↔◌, Contains, IsSomeAnd, IsTrue, slice_get}
+use Rattle.std.proofs.Common.{◌≡◌, ⊎_elim, ℕ, suc, ◌+◌, ◌≤◌, List, [], ◌∷◌, ◌++◌, map, Bool, true, false, Option, Some, None, refl, sym, ap, ◌∙◌, subst, arith}
+use Rattle.std.specs.Prelude.{Contains, IsSomeAnd, IsTrue, slice_get}
 use Rattle.std.proofs.lemmas.List.{append-nil, append_assoc}
-use Rattle.std.proofs.lemmas.List.Elements.{Contains-append_left, Contains-append_right, Contains-append_cases}
+use Rattle.std.proofs.lemmas.List.Elements.{Contains-append_left, Contains-append_right}
 use Rattle.isle_core.specs.declared.BindingId.{BindingId}
-use Rattle.isle_core.specs.declared.Sym.{Sym}
 use Rattle.isle_core.specs.declared.TermId.{TermId}
 use Rattle.isle_core.specs.declared.TypeId.{TypeId}
 use Rattle.isle_core.specs.declared.VarId.{VarId}
@@ -13,13 +12,12 @@ use Rattle.isle_core.specs.declared.types.Term.{Term}
 use Rattle.isle_core.specs.declared.types.TermKind.{TermKind}
 use Rattle.isle_core.specs.declared.types.TermKind.TheVariants as kind
 use Rattle.isle_core.specs.declared.values.Callee.{Callee}
-use Rattle.isle_core.specs.declared.values.Callee.TheVariants.{External, Internal}
-use Rattle.isle_core.specs.BlockLawful.{IsPathOf, IsOptionOf, ArePathsOf, IsCall, occurrence, occurrence_at, occurrences}
+use Rattle.isle_core.specs.declared.values.Callee.TheVariants.{External}
+use Rattle.isle_core.specs.BlockLawful.{IsPathOf, ArePathsOf, IsCall, occurrence, occurrence_at, occurrences}
 use Rattle.isle_core.specs.Calling.{Calling, ByTurns, ByCases, NoCall, calling, calling_of, calling_by, pure_callee, is_partial, is_fallible, instance_of, one_more, impure, impure_all}
 use Rattle.isle_core.specs.Expr as expr
 use Rattle.isle_core.specs.Expr.{Expr, Exprs, NoExpr, AnExpr}
-use Rattle.isle_core.specs.Path as paths
-use Rattle.isle_core.specs.Path.{Path, Arg, Called, Inner, Paths, NoPath, APath, at}
+use Rattle.isle_core.specs.Path.{Path, Arg, Called, Inner, Paths, at}
 use Rattle.isle_core.specs.Pattern as pattern
 use Rattle.isle_core.specs.Pattern.{Pattern}
 use Rattle.isle_core.specs.Ready.{StandsOn, AllStandOn, IsReadyCall, AreReadyCalls}

@@ -1,5 +1,5 @@
 -- Rules whose parts have the types of their term are ready for a block.
-use Rattle.std.proofs.Common.{◌≡◌, ◌⊎◌, ⊎_elim, ℕ, suc, ◌+◌, Bool, true, false, cond, List, [], ◌∷◌, ◌++◌, map, Option, Some, None, refl, sym, ap, ◌∙◌, subst, arith}
+use Rattle.std.proofs.Common.{◌≡◌, ⊎_elim, ℕ, suc, ◌+◌, Bool, true, false, cond, List, [], ◌∷◌, ◌++◌, map, Option, Some, None, refl, sym, ap, ◌∙◌, subst, arith}
 use Rattle.std.specs.Prelude.{◌==◌, Contains, slice_get}
 use Rattle.std.specs.List.{AllByRecursion}
 use Rattle.std.proofs.lemmas.Bool.{eqb-true, eq-eqb}
@@ -11,7 +11,7 @@ use Rattle.isle_core.specs.declared.rule_sets.FlatRule.{FlatRule}
 use Rattle.isle_core.specs.declared.rule_sets.RuleSet.{RuleSet}
 use Rattle.isle_core.specs.declared.types.Term.{Term}
 use Rattle.isle_core.specs.BlockLawful.{IsPathOf}
-use Rattle.isle_core.specs.Calling.{Calling, calling, is_partial, is_fallible, instance_of, impure, impure_all}
+use Rattle.isle_core.specs.Calling.{calling, is_partial, is_fallible, instance_of, impure, impure_all}
 use Rattle.isle_core.specs.Expr as expr
 use Rattle.isle_core.specs.Expr.{Expr, Exprs, NoExpr, AnExpr}
 use Rattle.isle_core.specs.Match.{with}
@@ -27,7 +27,7 @@ use Rattle.isle_core.proofs.CallOccurrences.{AreRising, rising_firsts}
 use Rattle.isle_core.proofs.Contained.{head_contained, tail_contained, contained_cases, none_contained}
 use Rattle.isle_core.proofs.KeptPlaces.{args_keep}
 use Rattle.isle_syntax.specs.Tree.{Def}
-use Rattle.isle_sema.specs.TypedRule.{IsPatternOf, ArePatternsOf, IsExprOf, IsRuleOf, numbers}
+use Rattle.isle_sema.specs.TypedRule.{IsPatternOf, ArePatternsOf, IsRuleOf, numbers}
 use Rattle.isle_sema.specs.ReadyRule.{IsReadyTest}
 use Rattle.isle_sema.specs.Typing.{Typed}
 use Rattle.isle_sema.proofs.ReadyCalls.{ArePlacedAs, path_typed, path_stands, calls_ready, expr_rises, ordered_once}

@@ -1,10 +1,15 @@
 -- What contracts see of the collected declarations and rules.
-use Rattle.std.specs.Prelude.{map, option_map}
+use Rattle.std.specs.Prelude.{◌≡◌, ℕ, List, [], ◌∷◌, map, option_map, option_to_list}
+use Rattle.isle_syntax.specs.Tree.{Def}
 use Rattle.isle_syntax.specs.Views.{pattern, expr}
 use Rattle.isle_sema.specs.declared.collected.Signature.{Signature as CodeSignature}
 use Rattle.isle_sema.specs.declared.collected.RuleDef.{RuleDef as CodeRule}
 use Rattle.isle_sema.specs.declared.collected.Extern.{Extern as CodeExtern}
-use Rattle.isle_sema.specs.Signatures.{Signature, Extern, RuleDef}
+use Rattle.isle_sema.specs.declared.collected.Item.{Item}
+use Rattle.isle_sema.specs.declared.collected.Item.TheVariants as item
+use Rattle.isle_sema.specs.Symbols.{symbols}
+use Rattle.isle_sema.specs.Signatures.{Signature, Extern, RuleDef, signature_of, extern_of, rule_of, signatures, externs, rule_defs}
+use Rattle.isle_sema.specs.Numbered.{AreNumbered}
 
 -- a declaration
 abbrev pub signature : CodeSignature → Signature
@@ -17,3 +22,40 @@ extern x = record { term = x.term.now; func = x.func.now }
 -- a rule
 abbrev pub rule : CodeRule → RuleDef
 rule r = record { name = option_map (λ n. n.now) r.name; prio = r.prio; term = r.term.now; args = map pattern r.args.now; rhs = expr r.rhs.now; pos = r.pos }
+
+-- the declaration that an item is
+abbrev pub item_signatures : Item → List CodeSignature
+item_signatures (item.Declared s) = s ∷ []
+item_signatures i = []
+
+-- the external constructor that it is
+abbrev pub item_externs : Item → List CodeExtern
+item_externs (item.External x) = x ∷ []
+item_externs i = []
+
+-- the rule that it is
+abbrev pub item_rules : Item → List CodeRule
+item_rules (item.Rule r) = r ∷ []
+item_rules i = []
+
+-- the numbers of the names are those among these symbols
+pub record HaveNumbers (syms : List (List ℕ)) (sigs : List CodeSignature) (xs : List CodeExtern) (rules : List CodeRule) : Type 0 where
+  pub of_signatures : AreNumbered syms (map (λ (s : CodeSignature). s.term.now) sigs) (map (λ (s : CodeSignature). s.number) sigs)
+  pub of_externs : AreNumbered syms (map (λ (x : CodeExtern). x.term.now) xs) (map (λ (x : CodeExtern). x.number) xs)
+  pub of_funcs : AreNumbered syms (map (λ (x : CodeExtern). x.func.now) xs) (map (λ (x : CodeExtern). x.func_number) xs)
+  pub of_rules : AreNumbered syms (map (λ (r : CodeRule). r.term.now) rules) (map (λ (r : CodeRule). r.number) rules)
+
+-- the item is what the definition is, with numbers among these symbols
+pub record IsItem (syms : List (List ℕ)) (d : Def) (i : Item) : Type 0 where
+  pub declared : map signature (item_signatures i) ≡ option_to_list (signature_of d)
+  pub external : map extern (item_externs i) ≡ option_to_list (extern_of d)
+  pub ruled : map rule (item_rules i) ≡ option_to_list (rule_of d)
+  pub numbers : HaveNumbers syms (item_signatures i) (item_externs i) (item_rules i)
+
+-- the symbols, declarations, external constructors and rules of definitions, with their numbers
+pub record AreCollected (defs : List Def) (syms : List (List ℕ)) (sigs : List CodeSignature) (xs : List CodeExtern) (rules : List CodeRule) : Type 0 where
+  pub named : syms ≡ symbols defs
+  pub declared : map signature sigs ≡ signatures defs
+  pub external : map extern xs ≡ externs defs
+  pub ruled : map rule rules ≡ rule_defs defs
+  pub numbers : HaveNumbers syms sigs xs rules

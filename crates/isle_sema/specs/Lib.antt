@@ -12,3 +12,9 @@ pub mod TypedRule
 pub mod LookedUp
 pub mod Typing
 pub mod ReadyRule
+pub mod Numbered
+pub mod Resolved
+pub mod Known
+pub mod Tables
+pub mod Forms
+pub mod Sound

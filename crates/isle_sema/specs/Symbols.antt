@@ -1,7 +1,5 @@
 -- Symbols: the names of definitions, numbered by their first places.
-use Rattle.std.specs.Prelude.{◌≡◌, ℕ, ◌+◌, List, [], ◌∷◌, ◌++◌, Option, Some, None, if◌then◌else◌, is_some, fold, flat_map, option_map, option_to_list, String}
-use Rattle.std.specs.BTreeMap.{BTreeMap, get_by_text}
-use Rattle.std.specs.declared.alloc.Global.{Global}
+use Rattle.std.specs.Prelude.{ℕ, ◌+◌, List, [], ◌∷◌, ◌++◌, Option, Some, None, if◌then◌else◌, is_some, fold, flat_map, option_map, option_to_list}
 use Rattle.std.specs.Str.{bytes_eq}
 use Rattle.isle_core.specs.declared.Sym.{Sym}
 use Rattle.isle_syntax.specs.Tree.{Pattern, Expr, Exprs, NoExpr, AnExpr, Def, Decl, ExternConstructor, Rule}
@@ -51,7 +49,3 @@ number_or (Some n) = n
 -- the symbol of a name
 abbrev pub sym_of : List (List ℕ) → List ℕ → Sym
 sym_of names name = record { 0 = number_or (index_of names name) }
-
--- the map has the first place of each name
-pub record HasPlaces (names : List (List ℕ)) (places : BTreeMap (String Global) ℕ) : Type 0 where
-  pub found : (name : List ℕ) → get_by_text places name ≡ index_of names name

@@ -2,8 +2,9 @@
 
 ghost use Rattle.std.specs.Prelude.{◌≡◌};
 ghost use Rattle.isle_sema.specs.Builtins.{type_named};
+ghost use Rattle.isle_sema.specs.Elaborated.{type_of};
 
-use isle_core::TypeId;
+use isle_core::{Text, TypeId};
 
 /// The type of a name.
 pub fn type_named(name: &str) -> Option<TypeId>
@@ -26,4 +27,14 @@ pub fn type_named(name: &str) -> Option<TypeId>
         _ => return None,
     };
     Some(TypeId(number))
+}
+
+/// The type of a name, or bool.
+pub fn type_of(name: &Text) -> TypeId
+    ensures { result ≡ type_of name.now }
+{
+    match type_named(name.as_str()) {
+        Some(ty) => ty,
+        None => TypeId(0),
+    }
 }

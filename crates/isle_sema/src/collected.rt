@@ -1,15 +1,17 @@
-ghost use Rattle.std.specs.Prelude.{◌≡◌, IfOk, map, option_map};
-ghost use Rattle.isle_syntax.specs.Views.{def, defs as seen};
-ghost use Rattle.isle_sema.specs.Signatures.{signatures, externs, rule_defs, signature_of, extern_of, rule_of};
-ghost use Rattle.isle_sema.specs.Collected.{signature as seen_signature, extern as seen_extern, rule as seen_rule};
+//! The declarations, external constructors and rules among definitions.
 
+ghost use Rattle.std.specs.Prelude.{◌≡◌, ◌++◌, OnOk};
+ghost use Rattle.isle_sema.specs.Collected.{item_signatures, item_externs, item_rules};
+
+use crate::symbols::Symbols;
 use isle_core::{Pos, Text};
-use isle_syntax::{AstExpr, AstPattern, Def};
-use std::alloc::{AllocError, Global};
+use isle_syntax::{AstExpr, AstPattern};
+use std::alloc::AllocError;
 
-/// A declaration with at most the flag `partial`.
-#[derive(Clone, Copy, Debug)]
+/// A declaration with at most the flag `partial`, and the number of its name.
+#[derive(Clone, Copy)]
 pub struct Signature<'d> {
+    pub number: usize,
     pub term: &'d Text,
     pub partial: bool,
     pub args: &'d [Text],
@@ -17,117 +19,61 @@ pub struct Signature<'d> {
     pub pos: Pos,
 }
 
-/// An external constructor: its term and its function.
-#[derive(Clone, Copy, Debug)]
+/// An external constructor: its term and its function, with their numbers.
+#[derive(Clone, Copy)]
 pub struct Extern<'d> {
+    pub number: usize,
     pub term: &'d Text,
+    pub func_number: usize,
     pub func: &'d Text,
 }
 
-/// A rule without conditions.
-#[derive(Clone, Copy, Debug)]
+/// A rule without conditions, and the number of its term's name.
+#[derive(Clone, Copy)]
 pub struct RuleDef<'d> {
     pub name: Option<&'d Text>,
     pub prio: i64,
+    pub number: usize,
     pub term: &'d Text,
     pub args: &'d [AstPattern],
     pub rhs: &'d AstExpr,
     pub pos: Pos,
 }
 
-/// The declaration that a definition is.
-fn signature_of<'d>(given: &'d Def) -> Option<Signature<'d>>
-    ensures { option_map seen_signature result ≡ signature_of (def given.now) }
-{
-    match given {
-        Def::Decl {
-            term,
-            partial,
-            args,
-            ret,
-            pos,
-            ..
-        } => Some(Signature {
-            term,
-            partial: *partial,
-            args: args.as_slice(),
-            ret,
-            pos: *pos,
-        }),
-        _ => None,
-    }
+/// What a definition is.
+#[derive(Clone, Copy)]
+pub enum Item<'d> {
+    Declared(Signature<'d>),
+    External(Extern<'d>),
+    Rule(RuleDef<'d>),
+    Other,
 }
 
-/// The external constructor that a definition is.
-fn extern_of<'d>(given: &'d Def) -> Option<Extern<'d>>
-    ensures { option_map seen_extern result ≡ extern_of (def given.now) }
-{
-    match given {
-        Def::ExternConstructor { term, func, .. } => Some(Extern { term, func }),
-        _ => None,
-    }
+/// Definitions by their kinds, in order, and the names that stand in them.
+#[derive(Drop)]
+pub struct Definitions<'d> {
+    pub symbols: Symbols<'d>,
+    pub signatures: Vec<Signature<'d>>,
+    pub externs: Vec<Extern<'d>>,
+    pub rules: Vec<RuleDef<'d>>,
 }
 
-/// The rule that a definition is.
-fn rule_of<'d>(given: &'d Def) -> Option<RuleDef<'d>>
-    ensures { option_map seen_rule result ≡ rule_of (def given.now) }
+/// One item more.
+pub fn keep<'d>(
+    signatures: &mut Vec<Signature<'d>>,
+    externs: &mut Vec<Extern<'d>>,
+    rules: &mut Vec<RuleDef<'d>>,
+    item: Item<'d>,
+) -> Result<(), AllocError>
+    ensures signatures { OnOk result (signatures.new.items ≡ signatures.old.items ++ item_signatures item.entry) }
+    ensures externs { OnOk result (externs.new.items ≡ externs.old.items ++ item_externs item.entry) }
+    ensures rules { OnOk result (rules.new.items ≡ rules.old.items ++ item_rules item.entry) }
 {
-    match given {
-        Def::Rule {
-            name,
-            prio,
-            term,
-            args,
-            rhs,
-            pos,
-            ..
-        } => Some(RuleDef {
-            name: name.as_ref(),
-            prio: *prio,
-            term,
-            args: args.as_slice(),
-            rhs,
-            pos: *pos,
-        }),
-        _ => None,
+    match item {
+        Item::Declared(signature) => signatures.push(signature)?,
+        Item::External(found) => externs.push(found)?,
+        Item::Rule(rule) => rules.push(rule)?,
+        Item::Other => {}
     }
-}
-
-/// The declarations among definitions, in order.
-pub fn signatures<'d>(alloc: Global, defs: &'d [Def]) -> Result<Vec<Signature<'d>>, AllocError>
-    ensures { IfOk result (λ found. map seen_signature found.items ≡ signatures (seen defs.now)) }
-{
-    let mut found = Vec::new(alloc);
-    for given in defs {
-        if let Some(signature) = signature_of(given) {
-            found.push(signature)?;
-        }
-    }
-    Ok(found)
-}
-
-/// The external constructors among definitions, in order.
-pub fn externs<'d>(alloc: Global, defs: &'d [Def]) -> Result<Vec<Extern<'d>>, AllocError>
-    ensures { IfOk result (λ found. map seen_extern found.items ≡ externs (seen defs.now)) }
-{
-    let mut found = Vec::new(alloc);
-    for given in defs {
-        if let Some(found_extern) = extern_of(given) {
-            found.push(found_extern)?;
-        }
-    }
-    Ok(found)
-}
-
-/// The rules among definitions, in order.
-pub fn rule_defs<'d>(alloc: Global, defs: &'d [Def]) -> Result<Vec<RuleDef<'d>>, AllocError>
-    ensures { IfOk result (λ found. map seen_rule found.items ≡ rule_defs (seen defs.now)) }
-{
-    let mut found = Vec::new(alloc);
-    for given in defs {
-        if let Some(rule) = rule_of(given) {
-            found.push(rule)?;
-        }
-    }
-    Ok(found)
+    Ok(())
 }

@@ -1,98 +1,107 @@
 //! Rules with types in them, their names as symbols and variables as numbers.
 
-ghost use Rattle.std.specs.Prelude.{◌≡◌, IfOk, map, option_map};
+ghost use Rattle.std.specs.Prelude.{◌≡◌, IfOk, Some, [], map, option_map};
 ghost use Rattle.isle_core.specs.RuleViews.{rule as elaborated_rule};
-ghost use Rattle.isle_sema.specs.Symbols.{sym_of};
-ghost use Rattle.isle_sema.specs.Signatures.{term_named};
-ghost use Rattle.isle_sema.specs.Collected.{signature as seen_signature, rule as seen_rule};
-ghost use Rattle.isle_sema.specs.Elaborated.{type_of, signature_named, arg_types, ret_type, term_or, rule_over, rules_from};
+ghost use Rattle.isle_sema.specs.Symbols.{index_of, sym_of};
+ghost use Rattle.isle_sema.specs.Collected.{rule as seen};
+ghost use Rattle.isle_sema.specs.Numbered.{AreNumbered};
+ghost use Rattle.isle_sema.specs.Known.{seen_called};
+ghost use Rattle.isle_sema.specs.Resolved.{is_unfit, patterns_in, rule_with, rule_in, rules_in};
 
-use crate::collected::{RuleDef, Signature};
-use crate::declarations::Declarations;
-use crate::elaborated_exprs::{expr_at, term_of};
-use crate::elaborated_patterns::{patterns_at, type_of};
-use crate::symbols::Symbols;
-use isle_core::{List, Rule, RuleId, Sym, Text, TypeId};
+use crate::calls::nodes;
+use crate::collected::RuleDef;
+use crate::elaborated_exprs::expr_at;
+use crate::elaborated_patterns::patterns_at;
+use crate::known::{Called, Known};
+use crate::variables::Variables;
+use isle_core::{List, Rule, RuleId, Sym, Text};
 use std::alloc::{AllocError, Global};
 
-/// The symbol of a name.
-pub fn sym_of(syms: &Symbols, name: &Text) -> Sym
-    ensures { result ≡ sym_of syms.now name.now }
-{
-    match syms.find(name.as_str()) {
-        Some(number) => Sym(number),
-        None => Sym(0),
-    }
-}
-
 /// The symbol of a rule's own name, where it has one.
-fn name_of(syms: &Symbols, name: &Option<&Text>) -> Option<Sym>
-    ensures { result ≡ option_map (λ n. sym_of syms.now n.now) name.now }
+fn name_of(known: &Known, name: &Option<&Text>) -> Option<Sym>
+    ensures { result ≡ option_map (λ n. sym_of known.now.syms n.now) name.now }
 {
     match name {
-        Some(name) => Some(sym_of(syms, name)),
+        Some(name) => match known.number(name) {
+            Some(number) => Some(Sym(number)),
+            None => Some(Sym(0)),
+        },
         None => None,
     }
 }
 
-/// The names of the types of a declaration's arguments.
-fn arg_names<'d>(signature: &Option<Signature<'d>>) -> &'d [Text]
-    ensures { map type_of result.now ≡ arg_types (option_map seen_signature signature.now) }
+/// Whether a rule is none of this term, whatever its patterns and right side are. It may have 4,096 nodes.
+fn is_unfit(rule: &RuleDef, own: &Called) -> bool
+    ensures { result ≡ is_unfit (seen rule.now) (seen_called own.now) }
 {
-    match signature {
-        Some(signature) => signature.args,
-        None => &[],
-    }
+    own.external
+        || rule.args.len() != own.args.len()
+        || nodes(rule.rhs).saturating_add(rule.args.len()) > 4096
 }
 
-/// The type of a declaration's result.
-fn ret_type(signature: &Option<Signature>) -> TypeId
-    ensures { result ≡ ret_type (option_map seen_signature signature.now) }
-{
-    match signature {
-        Some(signature) => type_of(signature.ret),
-        None => TypeId(0),
-    }
-}
-
-/// The rule of that number, over the declaration of its term.
-fn rule_over(
+/// The rule of that number, of this term: nothing where its patterns or its right side are wrong.
+fn rule_with(
     alloc: Global,
-    syms: &Symbols,
-    declared: &Declarations,
+    known: &Known,
+    own: &Called,
     number: usize,
     given: &RuleDef,
-) -> Result<Rule, AllocError>
-    ensures { IfOk result (λ rule. elaborated_rule rule ≡ rule_over syms.now declared.now (term_or (term_named declared.now given.now.term.now)) (signature_named declared.now given.now.term.now) number (seen_rule given.now)) }
+) -> Result<Option<Rule>, AllocError>
+    ensures { IfOk result (λ rule. option_map elaborated_rule rule ≡ rule_with known.now number (seen given.now) (seen_called own.now) (patterns_in own.now.args.now (seen given.now).args [])) }
 {
-    let mut vars = Symbols::new(alloc);
-    let signature = declared.named(given.term);
-    let args = patterns_at(alloc, &mut vars, arg_names(&signature), given.args)?;
-    let rhs = expr_at(alloc, declared, &vars, ret_type(&signature), given.rhs)?;
-    Ok(Rule {
+    let mut vars = Variables::new(alloc);
+    let Some(args) = patterns_at(alloc, &mut vars, own.args, given.args)? else {
+        return Ok(None);
+    };
+    let Some(rhs) = expr_at(alloc, known, &vars, own.partial, own.ret, given.rhs)? else {
+        return Ok(None);
+    };
+    Ok(Some(Rule {
         id: RuleId(number),
-        root_term: term_of(declared, given.term),
+        root_term: own.term,
         args: List::new(args),
         iflets: List::new(Vec::new(alloc)),
         rhs,
         prio: given.prio,
         pos: given.pos,
-        name: name_of(syms, &given.name),
-    })
+        name: name_of(known, &given.name),
+    }))
 }
 
-/// The rules, numbered in order.
-pub fn rules_over(
+/// The rule of that number: nothing where it is wrong.
+fn rule_at(
     alloc: Global,
-    syms: &Symbols,
-    declared: &Declarations,
-    given: &[RuleDef],
-) -> Result<Vec<Rule>, AllocError>
-    ensures { IfOk result (λ rules. map elaborated_rule rules.items ≡ rules_from syms.now declared.now 0 (map seen_rule given.now)) }
+    known: &Known,
+    number: usize,
+    given: &RuleDef,
+) -> Result<Option<Rule>, AllocError>
+    requires { index_of known.now.syms given.now.term.now ≡ Some given.now.number }
+    ensures { IfOk result (λ rule. option_map elaborated_rule rule ≡ rule_in known.now number (seen given.now)) }
 {
-    let mut rules = Vec::new(alloc);
-    for (number, rule) in given.iter().enumerate() {
-        rules.push(rule_over(alloc, syms, declared, number, rule)?)?;
+    let Some(own) = known.at(given.number) else {
+        return Ok(None);
+    };
+    if is_unfit(given, &own) {
+        return Ok(None);
     }
-    Ok(rules)
+    rule_with(alloc, known, &own, number, given)
+}
+
+/// The rules, numbered in order: nothing where one is wrong.
+pub fn rules_at(
+    alloc: Global,
+    known: &Known,
+    given: &[RuleDef],
+) -> Result<Option<Vec<Rule>>, AllocError>
+    requires { AreNumbered known.now.syms (map (λ r. r.term.now) given.now) (map (λ r. r.number) given.now) }
+    ensures { IfOk result (λ rules. option_map (λ rs. map elaborated_rule rs.items) rules ≡ rules_in known.now 0 (map seen given.now)) }
+{
+    let mut rules = Vec::with_capacity(alloc, given.len())?;
+    for (number, rule) in given.iter().enumerate() {
+        match rule_at(alloc, known, number, rule)? {
+            Some(found) => rules.push(found)?,
+            None => return Ok(None),
+        }
+    }
+    Ok(Some(rules))
 }

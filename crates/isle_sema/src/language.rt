@@ -1,13 +1,12 @@
-ghost use Rattle.std.specs.Prelude.{◌≡◌, ◌++◌, ◌∷◌, IfOk, ℕ, List, true, if◌then◌else◌, flat_map, map};
+//! The forms of definitions that are built.
+
+ghost use Rattle.std.specs.Prelude.{◌≡◌, map};
 ghost use Rattle.std.specs.List.{list_all};
 ghost use Rattle.isle_syntax.specs.Views.{pattern, expr, exprs_of, iflet, def, defs as seen};
-ghost use Rattle.isle_sema.specs.Symbols.{pattern_names};
-ghost use Rattle.isle_sema.specs.Faults.{repeats, repeats_after};
-ghost use Rattle.isle_sema.specs.Language.{is_built_pattern, is_built_expr, are_built_exprs, is_built_def};
+ghost use Rattle.isle_sema.specs.Language.{is_built_pattern, is_built_expr, are_built_exprs};
+ghost use Rattle.isle_sema.specs.Forms.{is_built_form};
 
-use crate::symbols::Symbols;
 use isle_syntax::{AstExpr, AstPattern, Def};
-use std::alloc::{AllocError, Global};
 
 /// Whether the form of a pattern is built.
 #[tactic(auto, using(crate::proofs::Sees::pattern_sees))]
@@ -55,41 +54,6 @@ fn are_built_exprs(es: &[AstExpr]) -> bool
     true
 }
 
-/// Whether a pattern is a variable that was met before; it is met now.
-#[tactic(auto, using(crate::proofs::Sees::pattern_sees))]
-fn meets_again(alloc: Global, before: &mut Symbols, p: &AstPattern) -> Result<bool, AllocError>
-    ensures { IfOk result (λ found. (rest : List (List ℕ)) → repeats_after before.old (pattern_names (pattern p.now) ++ rest) ≡ (if found then true else repeats_after before.new rest)) }
-{
-    match p {
-        AstPattern::Var(name) => meet(alloc, before, name.as_str()),
-        _ => Ok(false),
-    }
-}
-
-/// Whether a name was met before; it is met now.
-pub fn meet(alloc: Global, before: &mut Symbols, name: &str) -> Result<bool, AllocError>
-    ensures { IfOk result (λ found. (rest : List (List ℕ)) → repeats_after before.old (name.now ∷ rest) ≡ (if found then true else repeats_after before.new rest)) }
-{
-    if before.find(name).is_some() {
-        return Ok(true);
-    }
-    before.intern(alloc, name)?;
-    Ok(false)
-}
-
-/// Whether a variable stands in two of the patterns.
-fn repeats_variable(alloc: Global, patterns: &[AstPattern]) -> Result<bool, AllocError>
-    ensures { IfOk result (λ found. found ≡ repeats (flat_map pattern_names (map pattern patterns.now))) }
-{
-    let mut before = Symbols::new(alloc);
-    for p in patterns {
-        if meets_again(alloc, &mut before, p)? {
-            return Ok(true);
-        }
-    }
-    Ok(false)
-}
-
 /// Whether the form of each pattern is built.
 fn are_built_patterns(patterns: &[AstPattern]) -> bool
     ensures { result ≡ list_all is_built_pattern (map pattern patterns.now) }
@@ -102,10 +66,10 @@ fn are_built_patterns(patterns: &[AstPattern]) -> bool
     true
 }
 
-/// Whether a definition is one that is built: a declaration with at most the flag `partial`, an external constructor, or
-/// a rule without conditions whose forms are built and which names no variable twice in its patterns.
-pub fn is_built_def(alloc: Global, given: &Def) -> Result<bool, AllocError>
-    ensures { IfOk result (λ built. built ≡ is_built_def (def given.now)) }
+/// Whether the form of a definition is built: a declaration with at most the flag `partial`, an external constructor, or a
+/// rule without conditions whose forms are built.
+fn is_built_form(given: &Def) -> bool
+    ensures { result ≡ is_built_form (def given.now) }
 {
     match given {
         Def::Decl {
@@ -113,34 +77,30 @@ pub fn is_built_def(alloc: Global, given: &Def) -> Result<bool, AllocError>
             multi,
             recursive,
             ..
-        } => Ok(!*pure && !*multi && !*recursive),
-        Def::ExternConstructor { .. } => Ok(true),
+        } => !*pure && !*multi && !*recursive,
+        Def::ExternConstructor { .. } => true,
         Def::Rule {
             args,
             iflets,
             rhs,
             ..
         } => {
-            let forms = are_built_patterns(args.as_slice())
+            are_built_patterns(args.as_slice())
                 && iflets.as_slice().is_empty()
-                && is_built_expr(rhs);
-            if !forms {
-                return Ok(false);
-            }
-            Ok(!repeats_variable(alloc, args.as_slice())?)
+                && is_built_expr(rhs)
         }
-        _ => Ok(false),
+        _ => false,
     }
 }
 
-/// Whether each definition is one that is built.
-pub fn are_built_defs(alloc: Global, given: &[Def]) -> Result<bool, AllocError>
-    ensures { IfOk result (λ built. built ≡ list_all is_built_def (seen given.now)) }
+/// Whether the form of each definition is built.
+pub fn are_built_forms(given: &[Def]) -> bool
+    ensures { result ≡ list_all is_built_form (seen given.now) }
 {
     for d in given {
-        if !is_built_def(alloc, d)? {
-            return Ok(false);
+        if !is_built_form(d) {
+            return false;
         }
     }
-    Ok(true)
+    true
 }

@@ -1,4 +1,7 @@
-ghost use Rattle.std.specs.Prelude.{◌≡◌, Some, [], IfOk, OnOk, OnErr};
+//! Names, numbered where they are met first.
+
+ghost use Rattle.std.specs.Prelude.{◌≡◌, Some, [], IfOk, OnOk, OnErr, length};
+ghost use Rattle.isle_sema.specs.LookedUp.{texts};
 ghost use Rattle.isle_sema.specs.Symbols.{index_of, added};
 
 use isle_core::Text;
@@ -8,25 +11,25 @@ use std::marker::Model;
 
 /// The names of definitions by their first places, each once. Contracts see them as their list.
 #[derive(Drop)]
-pub struct Symbols {
-    names: Vec<Text>,
-    places: BTreeMap<String, usize>,
+pub struct Symbols<'d> {
+    names: Vec<&'d str>,
+    places: BTreeMap<&'d str, usize>,
 }
 
-impl Model for Symbols {
+impl<'d> Model for Symbols<'d> {
     ghost use Rattle.std.specs.Prelude.{List, ℕ};
-    ghost use Rattle.isle_sema.specs.Symbols.{HasPlaces};
+    ghost use Rattle.isle_sema.specs.LookedUp.{texts, FindsFirst};
 
     ghost Value = { List (List ℕ) };
 
-    ghost view = { λ s. s.names.items };
+    ghost view = { λ s. texts s.names.items };
 
-    ghost invariant = { λ s. HasPlaces s.names.items s.places };
+    ghost invariant = { λ s. FindsFirst (texts s.names.items) s.places };
 }
 
-impl Symbols {
+impl<'d> Symbols<'d> {
     /// No names.
-    pub fn new(alloc: Global) -> Symbols
+    pub fn new(alloc: Global) -> Symbols<'d>
         ensures { result ≡ [] }
     {
         Symbols {
@@ -35,8 +38,15 @@ impl Symbols {
         }
     }
 
-    /// The place of a name, which is added at the end where it is not there yet.
-    pub fn intern(&mut self, alloc: Global, name: &str) -> Result<usize, AllocError>
+    /// How many names there are.
+    pub fn len(&self) -> usize
+        ensures { result ≡ length self.now }
+    {
+        self.names.len()
+    }
+
+    /// The number of a name, which is the next one where it is met first.
+    pub fn intern(&mut self, name: &'d str) -> Result<usize, AllocError>
         ensures place { IfOk result (λ place. index_of self.new name.now ≡ Some place) }
         ensures names { OnOk result (self.new ≡ added self.old name.now) }
         ensures err { OnErr result (self.new ≡ self.old) }
@@ -45,10 +55,8 @@ impl Symbols {
             return Ok(*place);
         }
         let place = self.names.len();
-        let key = String::from_str(alloc, name)?;
-        let kept = Text::new(String::from_str(alloc, name)?);
-        self.names.push(kept)?;
-        match self.places.insert(key, place) {
+        self.names.push(name)?;
+        match self.places.insert(name, place) {
             Ok(_) => return Ok(place),
             Err(_) => {
                 self.names.pop();
@@ -57,18 +65,28 @@ impl Symbols {
         }
     }
 
-    /// The place of a name, where it is there.
+    /// The number of a name, where it is there.
     pub fn find(&self, name: &str) -> Option<usize>
         ensures { result ≡ index_of self.now name.now }
     {
         self.places.get(name).copied()
     }
 
-    /// The names, in order.
-    pub fn into_names(self) -> Vec<Text>
-        ensures { result.items ≡ self }
+    /// Copies of the names, in order.
+    pub fn texts(&self, alloc: Global) -> Result<Vec<Text>, AllocError>
+        ensures { IfOk result (λ copies. copies.items ≡ self.now) }
     {
-        let Symbols { names, .. } = self;
-        names
+        copies(alloc, self.names.as_slice())
     }
+}
+
+/// Copies of texts.
+fn copies(alloc: Global, names: &[&str]) -> Result<Vec<Text>, AllocError>
+    ensures { IfOk result (λ copies. copies.items ≡ texts names.now) }
+{
+    let mut copies = Vec::with_capacity(alloc, names.len())?;
+    for name in names {
+        copies.push(Text::new(String::from_str(alloc, name)?))?;
+    }
+    Ok(copies)
 }

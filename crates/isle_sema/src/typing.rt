@@ -1,25 +1,16 @@
-ghost use Rattle.std.specs.Prelude.{◌≡◌, Err, IfOk, [], ◌∷◌, map, not, ◌&&◌, ◌||◌};
+ghost use Rattle.std.specs.Prelude.{◌≡◌, Err, IfOk, [], ◌∷◌};
 ghost use Rattle.isle_core.specs.declared.types.TypeEnv.{TypeEnv as TheTypes};
 ghost use Rattle.isle_core.specs.Rule.{Environment};
 ghost use Rattle.isle_core.specs.RuleViews.{environment};
 ghost use Rattle.isle_syntax.specs.Views.{defs as seen};
 ghost use Rattle.isle_sema.specs.Builtins.{builtins};
-ghost use Rattle.isle_sema.specs.Collected.{rule};
-ghost use Rattle.isle_sema.specs.Faults.{repeats, signatures_fault, externs_fault, rules_fault};
-ghost use Rattle.isle_sema.specs.Heads.{heads_of};
-ghost use Rattle.isle_sema.specs.Language.{rules_call_external};
 ghost use Rattle.isle_sema.specs.Typing.{TypesFrom, Typed, TypedOnly};
 
-use crate::calls::rules_call_external;
-use crate::collected::{RuleDef, externs, rule_defs, signatures};
-use crate::constructors::Constructors;
-use crate::declarations::Declarations;
-use crate::elaborated::elaborated;
-use crate::extern_faults::externs_fault;
-use crate::interning::symbols;
-use crate::language::are_built_defs;
-use crate::rule_faults::{heads_repeat, rules_fault};
-use crate::signature_faults::signatures_fault;
+use crate::bound_once::any_binds_twice;
+use crate::interning::definitions;
+use crate::language::are_built_forms;
+use crate::symbols::Symbols;
+use crate::term_env::term_env;
 use isle_core::{BuiltinType, IntType, List, TermEnv, TypeDef, TypeEnv};
 use isle_syntax::Def;
 use std::alloc::{AllocError, Global};
@@ -43,26 +34,29 @@ impl From<AllocError> for EnvError {
     }
 }
 
-/// The types that are there before any definition.
-fn builtin_types(alloc: Global) -> Result<Vec<TypeDef>, AllocError>
-    ensures { IfOk result (λ types. types.items ≡ builtins) }
+/// The types over these symbols, without constants.
+fn types_over(alloc: Global, symbols: &Symbols) -> Result<TypeEnv, AllocError>
+    ensures { IfOk result (λ env. env ≡ record { syms = symbols.now; types = builtins; consts = [] }) }
 {
-    let int = |ty: IntType| TypeDef::Builtin(BuiltinType::Int(ty));
-    Ok(vec![in alloc;
-        TypeDef::Builtin(BuiltinType::Bool),
-        int(IntType::U8),
-        int(IntType::U16),
-        int(IntType::U32),
-        int(IntType::U64),
-        int(IntType::U128),
-        int(IntType::USize),
-        int(IntType::I8),
-        int(IntType::I16),
-        int(IntType::I32),
-        int(IntType::I64),
-        int(IntType::I128),
-        int(IntType::ISize),
-    ]?)
+    Ok(TypeEnv {
+        syms: List::new(symbols.texts(alloc)?),
+        types: List::new(vec![in alloc;
+            TypeDef::Builtin(BuiltinType::Bool),
+            TypeDef::Builtin(BuiltinType::Int(IntType::U8)),
+            TypeDef::Builtin(BuiltinType::Int(IntType::U16)),
+            TypeDef::Builtin(BuiltinType::Int(IntType::U32)),
+            TypeDef::Builtin(BuiltinType::Int(IntType::U64)),
+            TypeDef::Builtin(BuiltinType::Int(IntType::U128)),
+            TypeDef::Builtin(BuiltinType::Int(IntType::USize)),
+            TypeDef::Builtin(BuiltinType::Int(IntType::I8)),
+            TypeDef::Builtin(BuiltinType::Int(IntType::I16)),
+            TypeDef::Builtin(BuiltinType::Int(IntType::I32)),
+            TypeDef::Builtin(BuiltinType::Int(IntType::I64)),
+            TypeDef::Builtin(BuiltinType::Int(IntType::I128)),
+            TypeDef::Builtin(BuiltinType::Int(IntType::ISize)),
+        ]?),
+        consts: List::new(Vec::new(alloc)),
+    })
 }
 
 /// The symbols, types and constants of the definitions. `NotYet` comes exactly where they are not all of forms that
@@ -71,45 +65,14 @@ pub fn type_env_from_ast(alloc: Global, defs: &[Def]) -> Result<TypeEnv, EnvErro
     ensures ok { IfOk result (λ env. TypesFrom (seen defs.now) env) }
     ensures not_yet { result ≡ Err EnvError.NotYet → (env : TheTypes) → TypesFrom (seen defs.now) env → ⊥ }
 {
-    if !are_built_defs(alloc, defs)? {
+    if !are_built_forms(defs) {
         return Err(EnvError::NotYet);
     }
-    let names = symbols(alloc, defs)?;
-    Ok(TypeEnv {
-        syms: List::new(names.into_names()),
-        types: List::new(builtin_types(alloc)?),
-        consts: List::new(Vec::new(alloc)),
-    })
-}
-
-/// Whether no two rules are of one term, and they call only terms with external constructors.
-fn are_built_together(
-    alloc: Global,
-    constructors: &Constructors,
-    rules: &[RuleDef],
-) -> Result<bool, AllocError>
-    ensures { IfOk result (λ built. built ≡ (not (repeats (heads_of (map rule rules.now))) && rules_call_external constructors.now (map rule rules.now))) }
-{
-    if heads_repeat(alloc, rules)? {
-        return Ok(false);
+    let collected = definitions(alloc, defs)?;
+    if any_binds_twice(alloc, collected.rules.as_slice())? {
+        return Err(EnvError::NotYet);
     }
-    Ok(rules_call_external(constructors, rules))
-}
-
-/// Whether a declaration, an external constructor or a rule is wrong.
-fn have_fault(
-    alloc: Global,
-    declared: &Declarations,
-    constructors: &Constructors,
-    rules: &[RuleDef],
-) -> Result<bool, AllocError>
-    ensures { IfOk result (λ found. found ≡ (signatures_fault declared.now || externs_fault declared.now constructors.now || rules_fault declared.now constructors.now (map rule rules.now))) }
-{
-    Ok(
-        signatures_fault(alloc, declared.signatures())?
-            || externs_fault(alloc, declared, constructors.externs())?
-            || rules_fault(alloc, declared, constructors, rules)?,
-    )
+    Ok(types_over(alloc, &collected.symbols)?)
 }
 
 /// The terms, rules and converters of the definitions, whose types are given. `NotYet` as of `type_env_from_ast`, and
@@ -119,16 +82,26 @@ pub fn term_env_from_ast(alloc: Global, env: &TypeEnv, defs: &[Def]) -> Result<T
     ensures ok { IfOk result (λ terms. TypedOnly (seen defs.now) (environment env.now terms)) }
     ensures not_yet { result ≡ Err EnvError.NotYet → (all : Environment) → Typed (seen defs.now) all → ⊥ }
 {
-    let signatures = signatures(alloc, defs)?;
-    let externs = externs(alloc, defs)?;
-    let rules = rule_defs(alloc, defs)?;
-    let declared = Declarations::new(alloc, &signatures)?;
-    let constructors = Constructors::new(alloc, &externs)?;
-    if !are_built_together(alloc, &constructors, &rules)? {
+    let _given = env;
+    let collected = definitions(alloc, defs)?;
+    match term_env(alloc, &collected)? {
+        Some(terms) => Ok(terms),
+        None => Err(EnvError::NotYet),
+    }
+}
+
+/// The environment of the definitions, as `type_env_from_ast` and `term_env_from_ast` give it, with each name looked up
+/// once where it stands.
+pub fn env_from_ast(alloc: Global, defs: &[Def]) -> Result<(TypeEnv, TermEnv), EnvError>
+    ensures ok { IfOk result (λ envs. TypedOnly (seen defs.now) (environment envs.0 envs.1)) }
+    ensures not_yet { result ≡ Err EnvError.NotYet → (all : Environment) → Typed (seen defs.now) all → ⊥ }
+{
+    if !are_built_forms(defs) {
         return Err(EnvError::NotYet);
     }
-    if have_fault(alloc, &declared, &constructors, &rules)? {
-        return Err(EnvError::NotYet);
+    let collected = definitions(alloc, defs)?;
+    match term_env(alloc, &collected)? {
+        Some(terms) => Ok((types_over(alloc, &collected.symbols)?, terms)),
+        None => Err(EnvError::NotYet),
     }
-    Ok(elaborated(alloc, env, &declared, &constructors, &rules)?)
 }

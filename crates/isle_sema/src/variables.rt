@@ -1,22 +1,18 @@
-//! The types of the variables that patterns bind, looked up by the variables' names.
+//! The variables that patterns bind, with their types.
 
-ghost use Rattle.std.specs.Prelude.{◌≡◌, ◌++◌, ◌∷◌, [], IfOk, OnOk, map, length};
-ghost use Rattle.std.specs.List.{zip};
-ghost use Rattle.isle_syntax.specs.Views.{pattern};
-ghost use Rattle.isle_sema.specs.Elaborated.{type_of};
-ghost use Rattle.isle_sema.specs.Faults.{typed_vars, type_in};
+ghost use Rattle.std.specs.Prelude.{◌≡◌, ◌++◌, ◌∷◌, [], None, IfOk, IfSome, is_some, if◌then◌else◌, length};
+ghost use Rattle.isle_sema.specs.Symbols.{index_of};
+ghost use Rattle.isle_sema.specs.Resolved.{names_of, var_named, var_number};
 
-use crate::elaborated_patterns::type_of;
-use crate::places::Places;
-use isle_core::{Text, TypeId};
-use isle_syntax::AstPattern;
+use crate::symbols::Symbols;
+use isle_core::{Text, TypeId, VarId};
 use std::alloc::{AllocError, Global};
 use std::marker::Model;
 
-/// Variables with their types, in order, with the first place of each name. Contracts see them as their list.
+/// Variables, each once, with their types. Contracts see the names with the types.
 #[derive(Drop)]
 pub struct Variables<'d> {
-    places: Places<'d>,
+    names: Symbols<'d>,
     types: Vec<TypeId>,
 }
 
@@ -27,58 +23,50 @@ impl<'d> Model for Variables<'d> {
 
     ghost Value = { List (List ℕ × OfType) };
 
-    ghost view = { λ v. zip v.places v.types.items };
+    ghost view = { λ v. zip v.names v.types.items };
 
-    ghost invariant = { λ v. length v.places ≡ length v.types.items };
-}
-
-/// A pattern of this type: its variable, with the type.
-#[tactic(auto, using(crate::proofs::Sees::pattern_sees))]
-fn meet<'d>(
-    places: &mut Places<'d>,
-    types: &mut Vec<TypeId>,
-    p: &'d AstPattern,
-    ty: TypeId,
-) -> Result<(), AllocError>
-    requires { length places.old ≡ length types.old.items }
-    ensures same { OnOk result (length places.new ≡ length types.new.items) }
-    ensures met { OnOk result (zip places.new types.new.items ≡ zip places.old types.old.items ++ typed_vars (pattern p.now ∷ []) (ty ∷ [])) }
-{
-    match p {
-        AstPattern::Var(name) => {
-            places.push(name.as_str())?;
-            types.push(ty)?;
-            Ok(())
-        }
-        _ => Ok(()),
-    }
+    ghost invariant = { λ v. length v.names ≡ length v.types.items };
 }
 
 impl<'d> Variables<'d> {
-    /// Those of patterns of these types.
-    pub fn new(
-        alloc: Global,
-        patterns: &'d [AstPattern],
-        names: &[Text],
-    ) -> Result<Variables<'d>, AllocError>
-        ensures { IfOk result (λ vars. vars ≡ typed_vars (map pattern patterns.now) (map type_of names.now)) }
+    /// No variables.
+    pub fn new(alloc: Global) -> Variables<'d>
+        ensures { result ≡ [] }
     {
-        let mut places = Places::new(alloc);
-        let mut types = Vec::new(alloc);
-        for (index, p) in patterns.iter().enumerate() {
-            match names.get(index) {
-                Some(name) => meet(&mut places, &mut types, p, type_of(name))?,
-                None => return Ok(Variables { places, types }),
-            }
+        Variables {
+            names: Symbols::new(alloc),
+            types: Vec::new(alloc),
         }
-        Ok(Variables { places, types })
     }
 
-    /// The type of the first variable of the name.
-    pub fn type_of(&self, name: &Text) -> Option<TypeId>
-        ensures { result ≡ type_in self.now name.now }
+    /// One variable more, with its number; `None` where it is there.
+    pub fn bind(&mut self, name: &'d Text, ty: TypeId) -> Result<Option<VarId>, AllocError>
+        ensures number { IfOk result (λ var. var ≡ (if is_some (index_of (names_of self.old) name.now) then None else var_number (length self.old))) }
+        ensures behind { IfOk result (λ var. IfSome var (λ v. self.new ≡ self.old ++ (name.now, ty) ∷ [])) }
     {
-        let place = self.places.find(name.as_str())?;
-        self.types.get(place).copied()
+        let next = self.types.len();
+        self.types.push(ty)?;
+        match self.names.intern(name.as_str()) {
+            Ok(place) => {
+                if place == next {
+                    return Ok(Some(VarId(place)));
+                }
+                self.types.pop();
+                Ok(None)
+            }
+            Err(_) => {
+                self.types.pop();
+                Err(AllocError)
+            }
+        }
+    }
+
+    /// The variable of a name, with its type.
+    pub fn find(&self, name: &Text) -> Option<(VarId, TypeId)>
+        ensures { result ≡ var_named self.now name.now }
+    {
+        let place = self.names.find(name.as_str())?;
+        let ty = self.types.get(place)?;
+        Some((VarId(place), *ty))
     }
 }

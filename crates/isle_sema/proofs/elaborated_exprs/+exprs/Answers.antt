@@ -1,15 +1,18 @@
+use Rattle.std.proofs.Common.{rules}
 use Rattle.isle_sema.proofs.LookUps.{there, past}
-use Rattle.isle_sema.proofs.ExprLaws.{typed_more, typed_short}
+use Rattle.isle_sema.proofs.Steps.{expr_more, exprs_end, exprs_past}
 use Rattle.isle_sema.proofs.elaborated_exprs.+exprs.Goals as goal
 
-pub exprs_at-returns-in-None : goal.exprs_at-returns-in-None
-exprs_at-returns-in-None t c =
+pub exprs_at-returns-in_default : goal.exprs_at-returns-in_default
+exprs_at-returns-in_default t c =
     let h = c.get.ensures.lookup in
-    typed_short c.args.declared.now c.args.names.now c.args.es.now c.args.vars.now c.loop-index.index c.loop-index.typed.items (past c.args.names.now c.loop-index.index c.get.result h.3 c.in-None.is) c.loop-index.invariant
+    exprs_past c.args.known.now c.args.vars.now c.args.allowed c.args.types.now c.args.es.now c.loop-index.index c.loop-index.typed.items _ (past c.args.types.now c.loop-index.index c.get.result h.3 c.in_default.is) c.loop-index.invariant
 
 pub exprs_at-loop-index-preserved : goal.exprs_at-loop-index-preserved
 exprs_at-loop-index-preserved t c =
     let h = c.get.ensures.lookup in
-    typed_more c.args.declared.now c.args.names.now c.args.es.now c.args.vars.now c.loop-index.index c.loop-index.typed.items c.push.new.self.items c.index-es-index.result _ c.in-Some.name.now c.type_of.result c.in_ok-expr_at-in-Some.field-0 c.loop-index-test.true c.index-es-index.is
-    (there c.args.names.now c.loop-index.index c.get.result c.in-Some.name h.1 h.3 c.in-Some.is) c.in_ok-push-in-Some.ensures.items
-    c.type_of.ensures c.in_ok-expr_at-in-Some.ensures c.loop-index.invariant
+    expr_more c.args.known.now c.args.vars.now c.args.allowed c.args.types.now c.args.es.now c.loop-index.index c.loop-index.typed.items c.push.new.self.items c.index-es-index.result _ c.in-Some.ty.now c.in-Some-2.found _ c.loop-index-test.true c.index-es-index.is
+    (there c.args.types.now c.loop-index.index c.get.result c.in-Some.ty h.1 h.3 c.in-Some.is) c.in_ok-push-in-Some-2.ensures.items (search rules) c.loop-index.invariant
+
+pub exprs_at-returns : goal.exprs_at-returns
+exprs_at-returns t c = exprs_end c.args.known.now c.args.vars.now c.args.allowed c.args.types.now c.args.es.now c.loop-index.index c.loop-index.typed.items _ (search rules) c.loop-index.invariant

@@ -1,0 +1,29 @@
+use Rattle.std.proofs.Common.{◌≡◌, rules, true, false, map, ap, sym, ◌∙◌}
+use Rattle.std.specs.List.{list_all, list_any}
+use Rattle.isle_syntax.specs.Views.{defs as seen}
+use Rattle.isle_sema.specs.Collected.{rule}
+use Rattle.isle_sema.specs.Forms.{is_built_form}
+use Rattle.isle_sema.specs.Sound.{binds_twice}
+use Rattle.isle_sema.proofs.Soundness.{unformed, bound_twice, built_from, types_from}
+use Rattle.isle_sema.proofs.typing.type_env_from_ast.Goals as goal
+
+pub returns-then-not-are_built_forms-clause-not_yet : goal.returns-then-not-are_built_forms-clause-not_yet
+returns-then-not-are_built_forms-clause-not_yet c =
+    λ e env t.
+    let other : list_all is_built_form (seen c.args.defs.now) ≡ false = search rules in
+    unformed (seen c.args.defs.now) other t.built
+
+pub returns-then-branch-clause-not_yet : goal.returns-then-branch-clause-not_yet
+returns-then-branch-clause-not_yet c =
+    λ e env t.
+    let twice : list_any binds_twice (map rule c.in_ok-collected.collected.rules.items) ≡ true = search rules in
+    bound_twice (seen c.args.defs.now) (ap (list_any binds_twice) (sym c.in_ok-collected.ensures.ruled) ∙ twice) t.built
+
+pub returns-clause-ok : goal.returns-clause-ok
+returns-clause-ok c =
+    let forms : list_all is_built_form (seen c.args.defs.now) ≡ true = search rules in
+    let once : list_any binds_twice (map rule c.in_ok-collected.collected.rules.items) ≡ false = search rules in
+    record {
+      built = built_from (seen c.args.defs.now) forms (ap (list_any binds_twice) (sym c.in_ok-collected.ensures.ruled) ∙ once);
+      given = c.in_ok-types_over.ensures ∙ types_from (seen c.args.defs.now) c.in_ok-collected.collected.symbols c.in_ok-collected.collected.signatures.items c.in_ok-collected.collected.externs.items c.in_ok-collected.collected.rules.items c.in_ok-collected.ensures;
+    }
