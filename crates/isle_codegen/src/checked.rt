@@ -16,7 +16,7 @@ use crate::source::parse_all;
 use isle_core::{Files, RuleSet, TermEnv, TermId, TypeEnv};
 use isle_emission::trait_fns;
 use isle_rulesets::rule_sets;
-use isle_sema::{EnvError, term_env_from_ast, type_env_from_ast};
+use isle_sema::{EnvError, env_from_ast};
 use isle_syntax::{Def, ParseFail};
 use isle_target::TraitFn;
 use std::alloc::Global;
@@ -76,12 +76,8 @@ fn check_defs(alloc: Global, defs: &[Def]) -> Result<(Checked, Vec<TraitFn>), En
     ensures fns { IfOk result (λ c. c.1.items ≡ trait_fns_of (environment c.0.typeenv c.0.termenv)) }
     ensures not_yet { result ≡ Err EnvError.NotYet → (env : Environment) → IsCompilable (seen defs.now) env → ⊥ }
 {
-    let typeenv = match type_env_from_ast(alloc, defs) {
-        Ok(typeenv) => typeenv,
-        Err(fail) => return Err(fail),
-    };
-    let termenv = match term_env_from_ast(alloc, &typeenv, defs) {
-        Ok(termenv) => termenv,
+    let (typeenv, termenv) = match env_from_ast(alloc, defs) {
+        Ok(envs) => envs,
         Err(fail) => return Err(fail),
     };
     let fns = trait_fns(alloc, &typeenv, &termenv)?;
