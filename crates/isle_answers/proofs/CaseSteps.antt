@@ -2,7 +2,7 @@
 use Rattle.std.proofs.Common.{◌≡◌, ℕ, zero, suc, ◌+◌, ◌-◌, ◌<◌, ◌≤◌, List, [], ◌∷◌, ◌++◌, length, map, append-nil, append_assoc, refl, ap, sym, ◌∙◌, subst, arith, Some}
 use Rattle.std.proofs.lemmas.List.{map-append}
 use Rattle.isle_syntax.specs.declared.reading.Fail.{Fail}
-use Rattle.isle_syntax.specs.Lexeme.{Lexeme}
+use Rattle.isle_lexer.specs.Lexeme.{Lexeme}
 use Rattle.isle_syntax.specs.Reader.{Reading, Got, Stuck, Deep, Reader, Ret, after, run, bind, read_open, read_close}
 use Rattle.isle_syntax.specs.Reading.{no_call}
 use Rattle.isle_syntax.specs.ReadingViews.{stops, Refuses}

@@ -4,7 +4,7 @@ use Rattle.std.specs.Prelude.{if◌then◌else◌, fold}
 use Rattle.std.specs.Char.{digit_value}
 use Rattle.std.specs.List.{list_all}
 use Rattle.std.proofs.Math.Nat.{pow-le-pow_right}
-use Rattle.isle_syntax.specs.Integer.{is_decimal}
+use Rattle.isle_lexer.specs.Integer.{is_decimal}
 
 -- behind a number, digits that are left
 abbrev pub counted : ℕ → List ℕ → Option ℕ

@@ -1,6 +1,6 @@
 -- A text goes wrong at one place at most, and a text that spells an answers file at none.
 use Rattle.std.proofs.Common.{◌≡◌, ℕ, List, [], ◌∷◌, ◌++◌, append_assoc, ◌⊎◌, inl, inr, ap, sym, ◌∙◌, subst, Some, None}
-use Rattle.isle_syntax.specs.Lexeme.{Lexeme, lexemes}
+use Rattle.isle_lexer.specs.Lexeme.{Lexeme, lexemes}
 use Rattle.isle_syntax.specs.Reader.{place}
 use Rattle.isle_answers.specs.Form.{Form}
 use Rattle.isle_answers.specs.Spelling.{SpellsTokens, SpellsForms}

@@ -3,12 +3,12 @@ use Rattle.std.proofs.Common.{◌≡◌, ℕ, zero, suc, ◌+◌, ◌-◌, List,
 use Rattle.std.specs.Prelude.{slice_get, Result, Ok, Err, IsErrAnd}
 use Rattle.std.proofs.lemmas.List.{drop_all}
 use Rattle.isle_syntax.specs.Depth.{most_open}
-use Rattle.isle_syntax.specs.Lexeme.{Lexeme}
+use Rattle.isle_lexer.specs.Lexeme.{Lexeme}
 use Rattle.isle_syntax.specs.Reader.{Got, run, place}
 use Rattle.isle_syntax.specs.Reading.{no_call}
 use Rattle.isle_syntax.specs.ReadingViews.{stops}
-use Rattle.isle_syntax.specs.TokenViews.{token_seen, tokens_seen}
-use Rattle.isle_syntax.specs.declared.token.Token.{Token}
+use Rattle.isle_lexer.specs.TokenViews.{token_seen, tokens_seen}
+use Rattle.isle_lexer.specs.declared.token.Token.{Token}
 use Rattle.isle_answers.specs.Form.{Form}
 use Rattle.isle_answers.specs.Spelling.{SpellsTokens}
 use Rattle.isle_answers.specs.Places.{first_place, IsTokenFault, wrong, missing}

@@ -3,7 +3,7 @@ use Rattle.std.proofs.Common.{◌≡◌, ℕ, suc, ◌+◌, ◌-◌, ◌≤◌, 
 use Rattle.std.specs.Prelude.{if◌then◌else◌, ◌&&◌, bytes_eq, codes}
 use Rattle.std.proofs.lemmas.Slice.Eq.{bytes_eq-Decides}
 use Rattle.isle_core.specs.declared.values.Callee.TheVariants.{External}
-use Rattle.isle_syntax.specs.Lexeme.{Lexeme, Open, Close, Word}
+use Rattle.isle_lexer.specs.Lexeme.{Lexeme, Open, Close, Word}
 use Rattle.isle_syntax.specs.Grammar.{NameS, symbol}
 use Rattle.isle_syntax.specs.Reader.{Reader, Ret, bind, read_open, read_close}
 use Rattle.isle_syntax.specs.Reading.{read_name}

@@ -1,7 +1,7 @@
 -- What comes of reading a form, part by part.
 use Rattle.std.proofs.Common.{◌≡◌, ℕ, List, refl, sym, ◌∙◌, subst}
 use Rattle.isle_syntax.specs.declared.reading.Fail.{Fail}
-use Rattle.isle_syntax.specs.Lexeme.{Lexeme}
+use Rattle.isle_lexer.specs.Lexeme.{Lexeme}
 use Rattle.isle_syntax.specs.Reader.{Got, Reader, Ret, run, bind, read_close}
 use Rattle.isle_syntax.specs.Reading.{no_call, read_name}
 use Rattle.isle_syntax.specs.ReadingViews.{Refuses}

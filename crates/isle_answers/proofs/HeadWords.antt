@@ -2,7 +2,7 @@
 use Rattle.std.proofs.Common.{◌≡◌, ℕ, List, Bool, true, false, refl, ap, ◌∙◌, subst, Option, Some, None}
 use Rattle.std.specs.Prelude.{if◌then◌else◌, ◌||◌, option_map, bytes_eq, codes}
 use Rattle.std.proofs.lemmas.Slice.Eq.{bytes_eq-Decides}
-use Rattle.isle_syntax.specs.Word.{kind, names, IsName}
+use Rattle.isle_lexer.specs.Word.{kind, names, IsName}
 use Rattle.isle_syntax.specs.Reading.{name_of}
 use Rattle.isle_syntax.proofs.WordForms.{name_some}
 use Rattle.isle_answers.specs.Words.{is_reserved}

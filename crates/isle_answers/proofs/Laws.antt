@@ -1,7 +1,7 @@
 -- What a reader is to have: it reads what a relation says, what it took can be completed no deeper than may be, and it is too
 -- deep only where more would be open.
 use Rattle.std.proofs.Common.{◌≡◌, ℕ, suc, ◌≤◌, ◌<◌, List, [], ◌∷◌, ◌++◌, length, Bool, true, false, ◌⊎◌, inl, inr, cond, refl, sym, ◌∙◌, subst, arith, Option}
-use Rattle.isle_syntax.specs.Lexeme.{Lexeme, Open, Close, At, Less, Greater, Word}
+use Rattle.isle_lexer.specs.Lexeme.{Lexeme, Open, Close, At, Less, Greater, Word}
 use Rattle.isle_syntax.specs.Grammar.{Many, none, more, NameS, symbol}
 use Rattle.isle_syntax.specs.Reader.{Got, Stuck, Deep, Reader, Ret, Peek, Halt, run, bind, is_open, is_close, read_open, read_close, many}
 use Rattle.isle_syntax.specs.Reading.{no_call, read_word, name_of, read_name}

@@ -1,7 +1,7 @@
 -- What comes of reading one word.
 use Rattle.std.proofs.Common.{◌≡◌, ℕ, List, length, drop, Bool, Some, None}
 use Rattle.isle_core.specs.declared.values.Callee.{Callee}
-use Rattle.isle_syntax.specs.Lexeme.{Lexeme}
+use Rattle.isle_lexer.specs.Lexeme.{Lexeme}
 use Rattle.isle_syntax.specs.Reader.{Got, run}
 use Rattle.isle_syntax.specs.Reading.{no_call, next_word}
 use Rattle.isle_syntax.specs.ReadingViews.{stops}

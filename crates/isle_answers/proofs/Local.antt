@@ -1,6 +1,6 @@
 -- Where a reader is refused at a token, it is refused there whatever stands behind that token.
 use Rattle.std.proofs.Common.{◌≡◌, suc, ◌+◌, ◌≤◌, List, [], ◌∷◌, ◌++◌, length, length-append, Bool, true, false, cond, refl, ap, arith}
-use Rattle.isle_syntax.specs.Lexeme.{Lexeme}
+use Rattle.isle_lexer.specs.Lexeme.{Lexeme}
 use Rattle.isle_syntax.specs.Reader.{Stuck, Deep, Reader, Ret, Ask, Peek, End, Halt, Call, run}
 use Rattle.isle_syntax.specs.Reading.{no_call}
 use Rattle.isle_syntax.proofs.Running.{left, shrinks, stuck_not_got, stuck_not_deep, got_not_deep, stuck_is, deep_is}

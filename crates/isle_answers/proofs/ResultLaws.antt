@@ -1,7 +1,7 @@
 -- The readers of results have the laws of readers.
 use Rattle.std.proofs.Common.{◌≡◌, ℕ, zero, suc, ◌+◌, List, ◌∷◌, true, false, inl, inr, refl, ap, sym, ◌∙◌, subst, arith, Some}
 use Rattle.std.specs.Prelude.{codes}
-use Rattle.isle_syntax.specs.Lexeme.{Lexeme, Open, Word}
+use Rattle.isle_lexer.specs.Lexeme.{Lexeme, Open, Word}
 use Rattle.isle_syntax.specs.Grammar.{Many}
 use Rattle.isle_syntax.specs.Reader.{Ret, bind, is_open, is_close, read_open, many}
 use Rattle.isle_syntax.proofs.Exact.{Heads, Nothing, Then, Either}

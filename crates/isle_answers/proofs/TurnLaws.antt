@@ -1,7 +1,7 @@
 -- The reader of turns has the laws of readers.
 use Rattle.std.proofs.Common.{◌≡◌, ℕ, zero, suc, ◌+◌, ◌≤◌, ◌<◌, List, [], ◌∷◌, ◌++◌, length, true, false, inl, inr, cond, refl, ap, sym, subst, arith, Option, Some, None}
 use Rattle.std.specs.Prelude.{codes, reverse}
-use Rattle.isle_syntax.specs.Lexeme.{Lexeme, Open, Close, At, Less, Greater, Word}
+use Rattle.isle_lexer.specs.Lexeme.{Lexeme, Open, Close, At, Less, Greater, Word}
 use Rattle.isle_syntax.specs.Grammar.{Many, none, more}
 use Rattle.isle_syntax.specs.Reader.{Got, Stuck, Deep, Reader, Peek, run, bind, is_close, read_close}
 use Rattle.isle_syntax.specs.Reading.{no_call}

@@ -3,7 +3,7 @@ use Rattle.std.proofs.Common.{◌≡◌, ℕ, zero, suc, ◌+◌, ◌-◌, ◌<�
 use Rattle.std.specs.Prelude.{is_some, option_map, reverse}
 use Rattle.std.proofs.lemmas.List.{map-append, reverse-append, reverse-reverse}
 use Rattle.isle_syntax.specs.declared.reading.Fail.{Fail}
-use Rattle.isle_syntax.specs.Lexeme.{Lexeme, Open, Close, At, Less, Greater, Word}
+use Rattle.isle_lexer.specs.Lexeme.{Lexeme, Open, Close, At, Less, Greater, Word}
 use Rattle.isle_syntax.specs.Reader.{Reading, Got, Stuck, Deep, Reader, after, run, bind}
 use Rattle.isle_syntax.specs.Reading.{no_call}
 use Rattle.isle_syntax.specs.ReadingViews.{closes, stops, Refuses}

@@ -1,6 +1,6 @@
 -- The readers of values have the laws of readers.
 use Rattle.std.proofs.Common.{◌≡◌, ℕ, zero, suc, ◌+◌, ◌≤◌, List, ◌∷◌, true, false, inl, inr, refl, ap, sym, ◌∙◌, subst, arith}
-use Rattle.isle_syntax.specs.Lexeme.{Lexeme, Open, Word}
+use Rattle.isle_lexer.specs.Lexeme.{Lexeme, Open, Word}
 use Rattle.isle_syntax.specs.Grammar.{Many, symbol}
 use Rattle.isle_syntax.specs.Reader.{Reader, Ret, bind, is_open, read_open, many}
 use Rattle.isle_syntax.specs.Reading.{read_name}

@@ -1,8 +1,8 @@
 -- Where a text that spells no answers file goes wrong.
 use Rattle.std.specs.Prelude.{◌≡◌, ℕ, List, [], ◌∷◌, ◌++◌, length, Some}
-use Rattle.isle_syntax.specs.Lexeme.{Lexeme, lexemes}
+use Rattle.isle_lexer.specs.Lexeme.{Lexeme, lexemes}
 use Rattle.isle_syntax.specs.Reader.{place}
-use Rattle.isle_syntax.specs.Token.{IsClosed, unclosed}
+use Rattle.isle_lexer.specs.Token.{IsClosed, unclosed}
 use Rattle.isle_answers.specs.Form.{Form}
 use Rattle.isle_answers.specs.Spelling.{SpellsTokens}
 

@@ -2,7 +2,7 @@
 use Rattle.std.specs.Prelude.{ℕ, zero, suc, ◌-◌, length, List, [], ◌∷◌, reverse, Bool, true, false, ◌&&◌, if◌then◌else◌, Option, Some, None, option_map, bytes_eq, codes}
 use Rattle.isle_core.specs.declared.values.Callee.{Callee}
 use Rattle.isle_syntax.specs.Depth.{most_open}
-use Rattle.isle_syntax.specs.Lexeme.{Lexeme}
+use Rattle.isle_lexer.specs.Lexeme.{Lexeme}
 use Rattle.isle_syntax.specs.Reader.{Reading, Reader, Ret, Peek, End, Halt, run, bind, is_open, is_close, read_open, read_close, many}
 use Rattle.isle_syntax.specs.Reading.{no_call, read_word, read_name, name_of, refuse}
 use Rattle.isle_values.specs.Written.{Written, Writtens, Truth, Number, Made, NoValue, AValue}

@@ -4,7 +4,7 @@ use Rattle.std.specs.List.{list_all}
 use Rattle.isle_core.specs.Printed.{after_prefix}
 use Rattle.isle_core.specs.declared.values.Callee.{Callee}
 use Rattle.isle_core.specs.declared.values.Callee.TheVariants.{External, Internal}
-use Rattle.isle_syntax.specs.Integer.{is_decimal, spelt_number}
+use Rattle.isle_lexer.specs.Integer.{is_decimal, spelt_number}
 
 -- N: the number that 1 to 18 decimal digits spell
 unfoldable pub count_of : List ℕ → Option ℕ

@@ -1,6 +1,6 @@
 ghost use Rattle.std.specs.Prelude.{◌≡◌, ◌-◌, ℕ, List, drop, length, Err, IfOk};
 ghost use Rattle.isle_syntax.specs.Reader.{place};
-ghost use Rattle.isle_syntax.specs.TokenViews.{token_seen, tokens_seen};
+ghost use Rattle.isle_lexer.specs.TokenViews.{token_seen, tokens_seen};
 ghost use Rattle.isle_answers.specs.Form.{Form as PureForm};
 ghost use Rattle.isle_answers.specs.Places.{first_place, IsTokenFault, IsFault};
 ghost use Rattle.isle_answers.specs.Spelling.{SpellsTokens, SpellsForms};

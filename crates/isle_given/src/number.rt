@@ -4,7 +4,7 @@ ghost use Rattle.std.specs.Prelude.{◌≡◌, ◌+◌, ◌^◌, if◌then◌els
 ghost use mir.Val.{hbits};
 ghost use Rattle.isle_core.specs.Int.{width, is_signed, wrapped};
 ghost use Rattle.isle_core.specs.declared.types.IntType.TheVariants.{I128};
-ghost use Rattle.isle_syntax.specs.SignedViews.{signed};
+ghost use Rattle.isle_lexer.specs.SignedViews.{signed};
 ghost use Rattle.isle_given.specs.Given.{count_up, is_of};
 
 use isle_core::IntType;

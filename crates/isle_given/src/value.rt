@@ -4,7 +4,7 @@ ghost use Rattle.std.specs.Prelude.{◌≡◌, [], Option, Some, None};
 ghost use Rattle.std.specs.Option.{option_copied};
 ghost use Rattle.isle_core.specs.Rule.{Environment};
 ghost use Rattle.isle_core.specs.ValueViews.{value};
-ghost use Rattle.isle_syntax.specs.SignedViews.{signed};
+ghost use Rattle.isle_lexer.specs.SignedViews.{signed};
 ghost use Rattle.isle_values.specs.Views.{written};
 ghost use Rattle.isle_given.specs.Given.{misfit, number_at, value_of_def, value_at, value_at_any};
 

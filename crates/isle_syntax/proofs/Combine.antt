@@ -1,6 +1,6 @@
 -- The laws of a reader that is made of readers.
 use Rattle.std.proofs.Common.{◌≡◌, ℕ, zero, suc, List, [], ◌∷◌, ◌++◌, Bool, true, false, IsTrue, ◌⊎◌, inl, inr, cond, refl, ap, sym, ◌∙◌, subst, append_assoc}
-use Rattle.isle_syntax.specs.Lexeme.{Lexeme, Open, Close, At, Less, Greater, Word}
+use Rattle.isle_lexer.specs.Lexeme.{Lexeme, Open, Close, At, Less, Greater, Word}
 use Rattle.isle_syntax.specs.Reader.{Reading, Got, Stuck, Deep, Reader, Ret, Ask, Peek, Halt, after, run, bind, is_open, is_close, place, read_open, read_close, many}
 use Rattle.isle_syntax.specs.Grammar.{Many, none, more}
 use Rattle.isle_syntax.proofs.Exact.{Whole, Begins, Taken, Begun, Hits, hit, too_deep, Reads, Anything, Heads, Nothing, Token_then, Then, Either}

@@ -1,7 +1,7 @@
 -- What comes of reading a definition, part by part.
 use Rattle.std.proofs.Common.{◌≡◌, ◌-◌, ℕ, ℤ, List, [], Bool, false, refl, ap, sym, ◌∙◌, subst, Option}
 use Rattle.isle_syntax.specs.declared.reading.Fail.{Fail}
-use Rattle.isle_syntax.specs.Lexeme.{Lexeme}
+use Rattle.isle_lexer.specs.Lexeme.{Lexeme}
 use Rattle.isle_syntax.specs.Depth.{most_open}
 use Rattle.isle_syntax.specs.Reader.{Got, Reader, Ret, after, run, bind, read_open, read_close, many}
 use Rattle.isle_syntax.specs.Reading.{no_call, read_name, read_pattern, read_expr, read_rule_name, read_prio, read_decl_name, read_partial, read_declared, read_decl, read_constructor, read_extern, read_parts, read_rule, Head, read_head, read_behind, read_def}

@@ -3,9 +3,9 @@ use Rattle.std.proofs.Common.{◌≡◌, ℕ, List, [], ◌∷◌, Bool, true, f
 use Rattle.isle_syntax.specs.Depth.{most_open}
 use Rattle.std.specs.Prelude.{◌-◌, codes, bytes_eq, ◌||◌, if◌then◌else◌, is_some, option_map}
 use Rattle.std.proofs.lemmas.Slice.Eq.{bytes_eq-Decides}
-use Rattle.isle_syntax.specs.Lexeme.{Lexeme, Open, Close, Word}
+use Rattle.isle_lexer.specs.Lexeme.{Lexeme, Open, Close, Word}
 use Rattle.isle_syntax.specs.Reader.{Reading, Reader, Ret, run, bind, read_open, read_close, many}
-use Rattle.isle_syntax.specs.Word.{kind, names, IsName, is_flag}
+use Rattle.isle_lexer.specs.Word.{kind, names, IsName, is_flag}
 use Rattle.isle_syntax.specs.Tree.{Pattern, Expr, Def}
 use Rattle.isle_syntax.specs.Tree as tree
 use Rattle.isle_syntax.specs.Grammar.{Many, none, NameS, symbol, PatternS, ExprS, variable, RuleNameS, unnamed, PrioS, unwritten, written, PartialS, unflagged, DefS, decl, extern, rule}

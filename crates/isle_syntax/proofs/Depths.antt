@@ -2,7 +2,7 @@
 use native.Mathlib.Nat.{le_trans, le-max_left, le-max_right, max-le}
 use Rattle.std.proofs.Common.{◌≡◌, ℕ, zero, suc, ◌+◌, ◌≤◌, ◌<◌, List, [], ◌∷◌, ◌++◌, length, length-append, append-nil, Bool, true, false, ◌⊎◌, inl, inr, cond, refl, ap, sym, ◌∙◌, subst, arith}
 use Rattle.std.specs.Prelude.{pred, max, fold}
-use Rattle.isle_syntax.specs.Lexeme.{Lexeme, Open, Close, At, Less, Greater, Word}
+use Rattle.isle_lexer.specs.Lexeme.{Lexeme, Open, Close, At, Less, Greater, Word}
 use Rattle.isle_syntax.specs.Depth.{nest, depth}
 use Rattle.isle_syntax.specs.Reader.{Reading, Got, Deep, Reader, Ret, Peek, run, bind, many, is_close, read_close}
 use Rattle.isle_syntax.specs.Grammar.{Many, none, more}

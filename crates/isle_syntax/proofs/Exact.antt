@@ -1,6 +1,6 @@
 -- What a reader is to have: it reads what a relation says, and where it is stuck, what was taken begins something.
 use Rattle.std.proofs.Common.{◌≡◌, List, ◌∷◌, ◌++◌, Bool, IsTrue, ◌⊎◌}
-use Rattle.isle_syntax.specs.Lexeme.{Lexeme}
+use Rattle.isle_lexer.specs.Lexeme.{Lexeme}
 use Rattle.isle_syntax.specs.Reader.{Reading, Got, Stuck, Deep}
 
 -- which value some tokens begin with, and which tokens are behind it

@@ -1,7 +1,7 @@
 -- What comes of reading an expression, part by part.
 use Rattle.std.proofs.Common.{◌≡◌, ℕ, zero, suc, ◌-◌, ◌<◌, List, [], ◌∷◌, length, refl, ap, sym, ◌∙◌, subst, arith, Some, None}
 use Rattle.isle_syntax.specs.declared.reading.Fail.{Fail}
-use Rattle.isle_syntax.specs.Lexeme.{Lexeme, Open, Close, At, Less, Greater, Word}
+use Rattle.isle_lexer.specs.Lexeme.{Lexeme, Open, Close, At, Less, Greater, Word}
 use Rattle.isle_syntax.specs.Reader.{Reading, Got, Stuck, Reader, Ret, after, run, bind, read_open, many}
 use Rattle.isle_syntax.specs.Reading.{no_call, read_leaf, read_callee, read_called, read_call, read_expr}
 use Rattle.isle_syntax.specs.ReadingViews.{opens, stops, Refuses}

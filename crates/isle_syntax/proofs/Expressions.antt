@@ -1,9 +1,9 @@
 -- The readers of expressions read the grammar's forms.
 use Rattle.std.proofs.Common.{◌≡◌, ℕ, zero, suc, List, [], ◌∷◌, Bool, true, false, inl, inr, refl, ap, sym, ◌∙◌, subst, Option, Some, None}
 use Rattle.std.specs.Prelude.{if◌then◌else◌, codes}
-use Rattle.isle_syntax.specs.Lexeme.{Lexeme, Open, Close, Word}
+use Rattle.isle_lexer.specs.Lexeme.{Lexeme, Open, Close, Word}
 use Rattle.isle_syntax.specs.Reader.{Reading, Reader, Ret, Peek, Halt, run, bind, is_open, is_close, read_open, many}
-use Rattle.isle_syntax.specs.Word.{WordKind, Number, Malformed, Truth, Dollar, Underscore, Plain, kind, names, is_let}
+use Rattle.isle_lexer.specs.Word.{WordKind, Number, Malformed, Truth, Dollar, Underscore, Plain, kind, names, is_let}
 use Rattle.isle_syntax.specs.Tree.{Expr, Exprs, NoExpr, AnExpr}
 use Rattle.isle_syntax.specs.Tree as tree
 use Rattle.isle_syntax.specs.Views.{exprs_of}

@@ -1,10 +1,10 @@
 -- No form that is built is too deep for its reader where its parentheses nest no deeper than they may.
 use Rattle.std.proofs.Common.{◌≡◌, ℕ, zero, suc, ◌+◌, ◌-◌, ◌≤◌, ◌<◌, List, [], ◌∷◌, length, Bool, false, refl, sym, subst, arith, Option, Some, None, ℤ, pos}
 use Rattle.std.specs.Prelude.{option_map, codes}
-use Rattle.isle_syntax.specs.Lexeme.{Lexeme, Open, Close, At, Less, Greater, Word}
+use Rattle.isle_lexer.specs.Lexeme.{Lexeme, Open, Close, At, Less, Greater, Word}
 use Rattle.isle_syntax.specs.Depth.{most_open}
 use Rattle.isle_syntax.specs.Reader.{Reading, Got, Deep, Reader, Ret, Peek, Halt, run, bind, is_open, read_open, read_close, many}
-use Rattle.isle_syntax.specs.Word.{kind}
+use Rattle.isle_lexer.specs.Word.{kind}
 use Rattle.isle_syntax.specs.Tree.{Pattern, Expr, Def}
 use Rattle.isle_syntax.specs.Tree as tree
 use Rattle.isle_syntax.specs.Views.{exprs_of}

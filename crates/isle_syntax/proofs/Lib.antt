@@ -1,4 +1,3 @@
-pub mod Scans
 pub mod SpeltOnce
 pub mod Exact
 pub mod Running
@@ -10,11 +9,6 @@ pub mod Depths
 pub mod Definitions
 pub mod FormDepths
 pub mod Files
-pub mod Begun
-pub mod Taking
-pub mod Boundaries
-pub mod Digits
-pub mod Wrapped
 pub mod Steps
 pub mod Sees
 pub mod ListSteps

@@ -1,6 +1,6 @@
 -- Readers that are never too deep.
 use Rattle.std.proofs.Common.{◌≡◌, ℕ, List, [], ◌∷◌, Bool, true, false, IsTrue, cond, refl}
-use Rattle.isle_syntax.specs.Lexeme.{Lexeme}
+use Rattle.isle_lexer.specs.Lexeme.{Lexeme}
 use Rattle.isle_syntax.specs.Reader.{Reading, Stuck, Deep, Reader, Ret, Ask, Peek, Halt, run, bind, is_open, is_close, on_word, bytes, place, read_open, read_close}
 use Rattle.std.specs.Prelude.{Option, Some, None, is_some}
 use Rattle.isle_syntax.specs.Reading.{refuse, given, read_word, read_optional}

@@ -1,6 +1,6 @@
 -- What holds of every reader.
 use Rattle.std.proofs.Common.{◌≡◌, ℕ, ◌≤◌, List, [], ◌∷◌, length, Bool, true, false, cond, refl, arith}
-use Rattle.isle_syntax.specs.Lexeme.{Lexeme}
+use Rattle.isle_lexer.specs.Lexeme.{Lexeme}
 use Rattle.isle_syntax.specs.Reader.{Reading, Got, Stuck, Deep, Reader, Ret, Ask, Peek, End, Halt, Call, after, run, bind}
 
 ask-after : {A B : Type 0} (b : Bool) (x : Reading B) (y : Reading A) (ts : List Lexeme) (k : A → List Lexeme → Reading B) → x ≡ after y k → cond b x (Stuck ts) ≡ after (cond b y (Stuck ts)) k

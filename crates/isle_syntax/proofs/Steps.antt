@@ -1,10 +1,10 @@
 -- One step of a reader, by what comes next.
 use Rattle.std.proofs.Common.{◌≡◌, ℕ, zero, suc, ◌<◌, List, [], ◌∷◌, length, drop, cond, refl, ap, sym, ◌∙◌, arith, Bool, false, Option, Some, None, ℤ, pos}
 use Rattle.std.specs.Prelude.{is_some, option_map, slice_get}
-use Rattle.isle_syntax.specs.Lexeme.{Lexeme, Open, Close, At, Less, Greater, Word}
+use Rattle.isle_lexer.specs.Lexeme.{Lexeme, Open, Close, At, Less, Greater, Word}
 use Rattle.isle_syntax.specs.Reader.{Got, Stuck, run, read_open, read_close}
 use Rattle.isle_syntax.specs.Reading.{given, read_word, next_word, name_of, read_name, pattern_of, read_pattern, expr_of, read_leaf, callee_of, read_callee, read_optional, read_rule_name, prio_of, read_prio, decl_name_of, read_decl_name, partial_of, read_partial, constructor_of, read_constructor, Head, head_of, read_head, no_call}
-use Rattle.isle_syntax.specs.Word.{kind}
+use Rattle.isle_lexer.specs.Word.{kind}
 use Rattle.isle_syntax.specs.Tree.{Pattern, Expr}
 use Rattle.isle_syntax.specs.ReadingViews.{opens, closes, stops}
 

@@ -5,10 +5,10 @@ use Rattle.std.specs.Int.{w64}
 use Rattle.std.proofs.lemmas.Bool.Decides.{nat_tests}
 use Rattle.std.proofs.lemmas.Slice.Eq.{bytes_eq-Decides}
 use Rattle.isle_core.specs.Int.{wrapped}
-use Rattle.isle_syntax.specs.Lexeme.{Lexeme, Open, Close, At, Less, Greater, Word}
+use Rattle.isle_lexer.specs.Lexeme.{Lexeme, Open, Close, At, Less, Greater, Word}
 use Rattle.isle_syntax.specs.Reader.{Reading, Ret, run, is_close, on_word, bytes, place}
-use Rattle.isle_syntax.specs.Integer.{int_of, signed_of, magnitude}
-use Rattle.isle_syntax.specs.Word.{WordKind, Number, Malformed, Truth, Dollar, Underscore, Plain, kind, names, IsName}
+use Rattle.isle_lexer.specs.Integer.{int_of, signed_of, magnitude}
+use Rattle.isle_lexer.specs.Word.{WordKind, Number, Malformed, Truth, Dollar, Underscore, Plain, kind, names, IsName}
 use Rattle.isle_syntax.specs.Tree.{Pattern}
 use Rattle.isle_syntax.specs.Tree as tree
 use Rattle.isle_syntax.specs.Grammar.{NameS, symbol, PatternS, int, truth, wildcard, var, RuleNameS, unnamed, named, PrioS, unwritten, written, PartialS, unflagged, flagged}

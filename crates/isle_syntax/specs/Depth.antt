@@ -1,6 +1,6 @@
 -- How deep the parentheses of tokens nest.
 use Rattle.std.specs.Prelude.{ℕ, suc, pred, max, List, fold}
-use Rattle.isle_syntax.specs.Lexeme.{Lexeme, Open, Close, At, Less, Greater, Word}
+use Rattle.isle_lexer.specs.Lexeme.{Lexeme, Open, Close, At, Less, Greater, Word}
 
 -- how many parentheses are open, and how many were at most
 pub record Nest : Type 0 where

@@ -1,9 +1,9 @@
 -- The grammar: what the tokens begin with, and which tokens stand behind it. A constructor for each form.
 use Rattle.std.specs.Prelude.{◌≡◌, ℕ, ℤ, pos, List, [], ◌∷◌, Bool, true, false, Option, Some, None, FitsSigned, codes}
 use Rattle.std.specs.Int.{w64}
-use Rattle.isle_syntax.specs.Lexeme.{Lexeme, Open, Close, Word}
-use Rattle.isle_syntax.specs.Word.{kind, IsName, is_flag, is_let}
-use Rattle.isle_syntax.specs.Word as word
+use Rattle.isle_lexer.specs.Lexeme.{Lexeme, Open, Close, Word}
+use Rattle.isle_lexer.specs.Word.{kind, IsName, is_flag, is_let}
+use Rattle.isle_lexer.specs.Word as word
 use Rattle.isle_syntax.specs.Tree.{Pattern, Expr, Exprs, NoExpr, AnExpr, Def}
 use Rattle.isle_syntax.specs.Tree as tree
 

@@ -1,6 +1,6 @@
 -- Readers of tokens, as trees of questions: what a reader takes next hangs on what it took, and on nothing behind it.
 use Rattle.std.specs.Prelude.{ℕ, zero, suc, List, [], ◌∷◌, Bool, true, false, if◌then◌else◌}
-use Rattle.isle_syntax.specs.Lexeme.{Lexeme, Open, Close, At, Less, Greater, Word}
+use Rattle.isle_lexer.specs.Lexeme.{Lexeme, Open, Close, At, Less, Greater, Word}
 
 -- what comes of reading: a value and the tokens behind it; or what is left from the token on that fits nothing, or nests too deep
 pub data Reading (A : Type 0) : Type 0 where

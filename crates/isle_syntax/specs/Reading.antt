@@ -1,9 +1,9 @@
 -- Readers of the grammar's forms.
 use Rattle.std.specs.Prelude.{ℕ, zero, suc, ◌-◌, length, ℤ, pos, negsuc, ◌^◌, List, [], ◌∷◌, Bool, true, false, nat_lt, if◌then◌else◌, Option, Some, None, is_some, option_map, bytes_eq, codes}
-use Rattle.isle_syntax.specs.Lexeme.{Lexeme, Open, Close, At, Less, Greater, Word}
+use Rattle.isle_lexer.specs.Lexeme.{Lexeme, Open, Close, At, Less, Greater, Word}
 use Rattle.isle_syntax.specs.Reader.{Reading, Deep, run, Reader, Ret, Ask, Peek, Halt, bind, is_open, read_open, read_close, many, all, on_word, bytes}
 use Rattle.isle_syntax.specs.Depth.{most_open}
-use Rattle.isle_syntax.specs.Word.{WordKind, Number, Malformed, Truth, Dollar, Underscore, Plain, kind, names, is_flag, is_let}
+use Rattle.isle_lexer.specs.Word.{WordKind, Number, Malformed, Truth, Dollar, Underscore, Plain, kind, names, is_flag, is_let}
 use Rattle.isle_syntax.specs.Tree.{Pattern, Expr, Def}
 use Rattle.isle_syntax.specs.Tree as tree
 use Rattle.isle_syntax.specs.Views.{exprs_of}

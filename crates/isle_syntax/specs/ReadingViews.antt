@@ -3,9 +3,9 @@ use Rattle.std.specs.Prelude.{◌≡◌, ℕ, List, [], ◌∷◌, length, drop,
 use Rattle.isle_syntax.specs.declared.reading.Fail.{Fail}
 use Rattle.isle_syntax.specs.declared.reading.Fail.TheVariants as code
 use Rattle.isle_syntax.specs.declared.reading.Tokens.{Tokens}
-use Rattle.isle_syntax.specs.Lexeme.{Lexeme, Open, Close, At, Less, Greater, Word}
+use Rattle.isle_lexer.specs.Lexeme.{Lexeme, Open, Close, At, Less, Greater, Word}
 use Rattle.isle_syntax.specs.Reader.{Reading, Got, Stuck, Deep}
-use Rattle.isle_syntax.specs.TokenViews.{tokens_seen}
+use Rattle.isle_lexer.specs.TokenViews.{tokens_seen}
 use Rattle.isle_syntax.specs.declared.definition.Head.{Head as CodeHead}
 use Rattle.isle_syntax.specs.declared.definition.Head.TheVariants as code_head
 use Rattle.isle_syntax.specs.Reading.{Head, DeclHead, RuleHead, ExternHead}

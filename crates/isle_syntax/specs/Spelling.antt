@@ -1,8 +1,8 @@
 -- When a text spells definitions.
 use Rattle.std.specs.Prelude.{ℕ, ◌≤◌, List}
 use Rattle.std.specs.Str.{IsUtf8}
-use Rattle.isle_syntax.specs.Token.{IsClosed}
-use Rattle.isle_syntax.specs.Lexeme.{lexemes}
+use Rattle.isle_lexer.specs.Token.{IsClosed}
+use Rattle.isle_lexer.specs.Lexeme.{lexemes}
 use Rattle.isle_syntax.specs.Depth.{depth, most_open}
 use Rattle.isle_syntax.specs.Grammar.{FileS}
 use Rattle.isle_syntax.specs.Tree.{Def}

@@ -5,11 +5,10 @@ ghost use Rattle.isle_syntax.specs.ReadingViews.{left, head_seen, Refuses};
 ghost use Rattle.isle_syntax.specs.Views.{def, defs, pattern};
 
 use crate::expression::{expression, most_inside};
-use crate::forms::{is_name, text_of};
 use crate::reading::{Fail, Tokens};
 use crate::tree::{AstPattern, Def};
-use crate::word::is_flag;
 use isle_core::{List, Pos, Text};
+use isle_lexer::{is_flag, is_name, text_of};
 use std::alloc::Global;
 
 /// What a definition is, by the word that it begins with.

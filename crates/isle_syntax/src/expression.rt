@@ -4,13 +4,12 @@ ghost use Rattle.isle_syntax.specs.Reader.{run, Got, many};
 ghost use Rattle.isle_syntax.specs.Reading.{no_call, next_word, expr_of, read_leaf, callee_of, read_callee, read_called, read_expr};
 ghost use Rattle.isle_syntax.specs.ReadingViews.{left, Refuses};
 ghost use Rattle.isle_syntax.specs.Views.{expr};
-ghost use Rattle.isle_syntax.specs.Word.{kind};
+ghost use Rattle.isle_lexer.specs.Word.{kind};
 
-use crate::forms::{is_name, text_of};
 use crate::reading::{Fail, Tokens};
 use crate::tree::AstExpr;
-use crate::word::{Kind, is_let, kind_of};
 use isle_core::{List, Text};
+use isle_lexer::{Kind, is_let, is_name, kind_of, text_of};
 use std::alloc::{AllocError, Global};
 
 /// How many parentheses may be open at once.

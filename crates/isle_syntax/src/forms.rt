@@ -3,30 +3,13 @@ ghost use Rattle.isle_syntax.specs.Reader.{run, Got};
 ghost use Rattle.isle_syntax.specs.Reading.{no_call, next_word, name_of, read_name, read_rule_name, prio_of, read_prio, pattern_of, read_pattern};
 ghost use Rattle.isle_syntax.specs.Views.{pattern};
 ghost use Rattle.isle_syntax.specs.ReadingViews.{left, Refuses};
-ghost use Rattle.isle_syntax.specs.Word.{kind, names};
+ghost use Rattle.isle_lexer.specs.Word.{kind, names};
 
 use crate::reading::{Fail, Tokens};
 use crate::tree::AstPattern;
-use crate::word::{Kind, kind_of};
 use isle_core::Text;
+use isle_lexer::{Kind, is_name, kind_of, text_of};
 use std::alloc::{AllocError, Global};
-
-/// Whether a word may stand where the grammar has a name.
-pub fn is_name(word: &str) -> bool
-    ensures { result ≡ names (kind word.now) }
-{
-    match kind_of(word) {
-        Kind::Truth(_) | Kind::Underscore | Kind::Plain => true,
-        Kind::Number(_) | Kind::Malformed | Kind::Dollar => false,
-    }
-}
-
-/// The text of a word.
-pub fn text_of(alloc: Global, word: &str) -> Result<Text, AllocError>
-    ensures { IfOk result (λ text. text ≡ word.now) }
-{
-    Ok(Text::new(String::from_str(alloc, word)?))
-}
 
 /// The priority that a word is.
 fn prio_of(word: &str) -> Option<i64>

@@ -1,18 +1,18 @@
 ghost use Rattle.std.specs.Prelude.{◌≡◌, ◌≤◌, List, Err, IfOk, IfErr};
 ghost use Rattle.isle_syntax.specs.Tree.{Def as PureDef};
 ghost use Rattle.isle_syntax.specs.Views.{defs};
-ghost use Rattle.isle_syntax.specs.Lexer.{lexer_file, lexer_text, IsUntaken};
-ghost use Rattle.isle_syntax.specs.Lexeme.{lexemes};
+ghost use Rattle.isle_lexer.specs.Lexer.{lexer_file, lexer_text, IsUntaken};
+ghost use Rattle.isle_lexer.specs.Lexeme.{lexemes};
 ghost use Rattle.isle_syntax.specs.Depth.{depth, most_open};
 ghost use Rattle.isle_syntax.specs.Grammar.{FileS};
 ghost use Rattle.isle_syntax.specs.Reading.{file_of};
 ghost use Rattle.isle_syntax.specs.ReadingViews.{Refuses};
 ghost use Rattle.isle_syntax.specs.Spelling.{Spells};
-ghost use Rattle.isle_syntax.specs.Token.{IsClosed};
+ghost use Rattle.isle_lexer.specs.Token.{IsClosed};
 
-use crate::lexer::Lexer;
 use crate::reading::{Fail, Tokens};
 use crate::tree::Def;
+use isle_lexer::Lexer;
 use std::alloc::Global;
 
 /// Why a text gives no definitions.

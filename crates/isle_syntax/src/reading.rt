@@ -2,9 +2,9 @@ ghost use Rattle.std.specs.Prelude.{◌≡◌, ◌<◌, Some, IfOk, IfErr, lengt
 ghost use Rattle.isle_syntax.specs.Reader.{run, Got, read_open, read_close};
 ghost use Rattle.isle_syntax.specs.Reading.{no_call, next_word};
 ghost use Rattle.isle_syntax.specs.ReadingViews.{left, opens, closes, Refuses};
-ghost use Rattle.isle_syntax.specs.TokenViews.{token_seen, tokens_seen};
+ghost use Rattle.isle_lexer.specs.TokenViews.{token_seen, tokens_seen};
 
-use crate::token::Token;
+use isle_lexer::Token;
 use std::alloc::{AllocError, AllocFailed};
 
 /// Why nothing was read.

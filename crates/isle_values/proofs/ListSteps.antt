@@ -1,7 +1,7 @@
 -- What comes of reading a list and the end behind it, part by part.
 use Rattle.std.proofs.Common.{◌≡◌, ℕ, ◌<◌, List, [], ◌∷◌, length, refl, ap, sym, ◌∙◌, subst, arith, Some}
 use Rattle.isle_syntax.specs.declared.reading.Fail.{Fail}
-use Rattle.isle_syntax.specs.Lexeme.{Lexeme}
+use Rattle.isle_lexer.specs.Lexeme.{Lexeme}
 use Rattle.isle_syntax.specs.Reader.{Got, after, run, read_open, many}
 use Rattle.isle_syntax.specs.Reading.{no_call}
 use Rattle.isle_syntax.specs.ReadingViews.{stops, Refuses}

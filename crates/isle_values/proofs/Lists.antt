@@ -1,7 +1,7 @@
 -- A list is read exactly.
 use Rattle.std.proofs.Common.{◌≡◌, ℕ, ◌+◌, ◌-◌, ◌≤◌, ◌<◌, List, [], ◌∷◌, length, refl, ap, sym, ◌∙◌, subst, arith, Some, None}
 use Rattle.isle_syntax.specs.Depth.{depth, most_open}
-use Rattle.isle_syntax.specs.Lexeme.{Lexeme, Open, Close}
+use Rattle.isle_lexer.specs.Lexeme.{Lexeme, Open, Close}
 use Rattle.isle_syntax.specs.Grammar.{Many, none}
 use Rattle.isle_syntax.specs.Reader.{Got, after, run, read_open, many}
 use Rattle.isle_syntax.specs.Reading.{no_call}

@@ -1,7 +1,7 @@
 -- What contracts see of the code's values, form by form.
 use Rattle.std.proofs.Common.{◌≡◌, ℕ, List, map, Bool, ap, sym, ◌∙◌}
-use Rattle.isle_syntax.specs.SignedViews.{signed}
-use Rattle.isle_syntax.specs.declared.integer.Signed.{Signed}
+use Rattle.isle_lexer.specs.SignedViews.{signed}
+use Rattle.isle_lexer.specs.declared.integer.Signed.{Signed}
 use Rattle.isle_values.specs.declared.written.Written.{Written as CodeWritten}
 use Rattle.isle_values.specs.declared.written.Written.TheVariants as code
 use Rattle.isle_values.specs.declared.written.Written.TheFolds.{fold-roll-Written}

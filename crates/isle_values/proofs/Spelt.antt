@@ -3,9 +3,9 @@ use Rattle.std.proofs.Common.{◌≡◌, ℕ, List, Bool, true, false, ◌&&◌,
 use Rattle.std.specs.Prelude.{codes, is_none, if◌then◌else◌}
 use Rattle.std.specs.Str.{IsUtf8, is_utf8, chars}
 use Rattle.std.proofs.lemmas.Str.{IsUtf8-from_is_utf8, is_utf8-from_IsUtf8}
-use Rattle.isle_syntax.specs.Lexeme.{lexemes}
+use Rattle.isle_lexer.specs.Lexeme.{lexemes}
 use Rattle.isle_syntax.specs.Reader.{Reading, Got, Stuck, Deep, read_open, read_close, many}
-use Rattle.isle_syntax.specs.Token.{step, unclosed}
+use Rattle.isle_lexer.specs.Token.{step, unclosed}
 use Rattle.isle_values.specs.Written.{Written, Writtens, NoValue}
 use Rattle.isle_values.specs.Views.{in_order}
 use Rattle.isle_values.specs.Spelling.{SpellsValues}

@@ -1,6 +1,6 @@
 -- No value is too deep for its reader where its parentheses nest no deeper than they may.
 use Rattle.std.proofs.Common.{◌≡◌, ℕ, zero, suc, ◌+◌, ◌≤◌, ◌<◌, List, [], ◌∷◌, length, refl, arith}
-use Rattle.isle_syntax.specs.Lexeme.{Lexeme, Open, Close, At, Less, Greater, Word}
+use Rattle.isle_lexer.specs.Lexeme.{Lexeme, Open, Close, At, Less, Greater, Word}
 use Rattle.isle_syntax.specs.Reader.{Reading, Got, Deep, Reader, Ret, Peek, Halt, run, bind, is_open, read_open, many}
 use Rattle.isle_syntax.specs.Reading.{read_name}
 use Rattle.isle_syntax.proofs.Running.{Shrinks, stuck_not_got, stuck_not_deep, got_not_deep}

@@ -1,7 +1,7 @@
 -- The readers of values read the grammar's forms.
 use Rattle.std.proofs.Common.{◌≡◌, ℕ, zero, suc, List, [], ◌∷◌, false, inl, inr, refl, ap, sym, ◌∙◌, subst}
 use Rattle.std.specs.Prelude.{codes}
-use Rattle.isle_syntax.specs.Lexeme.{Lexeme, Open, Close, Word}
+use Rattle.isle_lexer.specs.Lexeme.{Lexeme, Open, Close, Word}
 use Rattle.isle_syntax.specs.Reader.{Reading, Reader, Ret, Peek, Halt, run, bind, is_open, is_close, read_open, many}
 use Rattle.isle_syntax.specs.Reading.{read_name}
 use Rattle.isle_syntax.specs.Grammar.{Many, none, more, NameS, symbol}

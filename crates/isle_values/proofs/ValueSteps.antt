@@ -1,7 +1,7 @@
 -- What comes of reading a value, part by part.
 use Rattle.std.proofs.Common.{◌≡◌, ℕ, zero, suc, ◌-◌, ◌<◌, List, [], ◌∷◌, length, drop, refl, ap, sym, ◌∙◌, subst, arith, Some, None}
 use Rattle.isle_syntax.specs.declared.reading.Fail.{Fail}
-use Rattle.isle_syntax.specs.Lexeme.{Lexeme, Open, Close, At, Less, Greater, Word}
+use Rattle.isle_lexer.specs.Lexeme.{Lexeme, Open, Close, At, Less, Greater, Word}
 use Rattle.isle_syntax.specs.Reader.{Reading, Got, Stuck, Reader, Ret, after, run, bind, read_open, many}
 use Rattle.isle_syntax.specs.Reading.{no_call, next_word, read_name}
 use Rattle.isle_syntax.specs.ReadingViews.{opens, stops, Refuses}

@@ -2,8 +2,8 @@
 use Rattle.std.proofs.Common.{◌≡◌, ℕ, ℤ, List, ◌∷◌, Bool, true, false, refl, ap, sym, ◌∙◌, subst, Option, Some, None}
 use Rattle.std.specs.Prelude.{if◌then◌else◌, option_map, bytes_eq, codes}
 use Rattle.std.proofs.lemmas.Slice.Eq.{bytes_eq-Decides}
-use Rattle.isle_syntax.specs.Integer.{signed_of, magnitude}
-use Rattle.isle_syntax.specs.Lexeme.{Lexeme, Word}
+use Rattle.isle_lexer.specs.Integer.{signed_of, magnitude}
+use Rattle.isle_lexer.specs.Lexeme.{Lexeme, Word}
 use Rattle.isle_syntax.specs.Reader.{Reading, run}
 use Rattle.isle_syntax.proofs.Exact.{Reads}
 use Rattle.isle_syntax.proofs.WordForms.{WordS, word_reads, Gives}

@@ -2,9 +2,9 @@
 use Rattle.std.specs.Prelude.{ℕ, zero, suc, ◌-◌, ◌&&◌, length, List, true, false, if◌then◌else◌, Option, Some, None, is_none, option_map, bytes_eq, codes}
 use Rattle.std.specs.Str.{is_utf8}
 use Rattle.isle_syntax.specs.Depth.{most_open}
-use Rattle.isle_syntax.specs.Integer.{signed_of}
-use Rattle.isle_syntax.specs.Lexeme.{Lexeme, lexemes}
-use Rattle.isle_syntax.specs.Token.{unclosed}
+use Rattle.isle_lexer.specs.Integer.{signed_of}
+use Rattle.isle_lexer.specs.Lexeme.{Lexeme, lexemes}
+use Rattle.isle_lexer.specs.Token.{unclosed}
 use Rattle.isle_syntax.specs.Reader.{Reading, Got, Stuck, Deep, Reader, Ret, Peek, End, Halt, run, bind, is_open, read_open, many}
 use Rattle.isle_syntax.specs.Reading.{no_call, read_word, read_name, refuse}
 use Rattle.isle_values.specs.Views.{in_order}

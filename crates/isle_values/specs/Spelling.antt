@@ -2,10 +2,10 @@
 use Rattle.std.specs.Prelude.{◌≡◌, ◌≤◌, ℕ, ℤ, List, [], ◌∷◌, true, false, Some, codes}
 use Rattle.std.specs.Str.{IsUtf8}
 use Rattle.isle_syntax.specs.Depth.{depth, most_open}
-use Rattle.isle_syntax.specs.Integer.{signed_of}
-use Rattle.isle_syntax.specs.Lexeme.{Lexeme, Open, Close, Word, lexemes}
-use Rattle.isle_syntax.specs.Token.{IsClosed}
-use Rattle.isle_syntax.specs.Word.{IsName}
+use Rattle.isle_lexer.specs.Integer.{signed_of}
+use Rattle.isle_lexer.specs.Lexeme.{Lexeme, Open, Close, Word, lexemes}
+use Rattle.isle_lexer.specs.Token.{IsClosed}
+use Rattle.isle_lexer.specs.Word.{IsName}
 use Rattle.isle_values.specs.Written.{Written, Writtens, Truth, Number, Made, NoValue, AValue}
 
 mutual

@@ -1,6 +1,6 @@
 -- What contracts see of the code's values.
 use Rattle.std.specs.Prelude.{List, [], ◌∷◌, map}
-use Rattle.isle_syntax.specs.SignedViews.{signed}
+use Rattle.isle_lexer.specs.SignedViews.{signed}
 use Rattle.isle_values.specs.declared.written.Written.{Written as CodeWritten}
 use Rattle.isle_values.specs.declared.written.Written.TheOpen.{Written-F}
 use Rattle.isle_values.specs.declared.written.Written.TheOpen as code

@@ -1,7 +1,7 @@
 ghost use Rattle.std.specs.Prelude.{◌≡◌, ◌≤◌, Ok, None, IfOk, IfErr, IfSome};
 ghost use Rattle.isle_syntax.specs.Depth.{depth, most_open};
-ghost use Rattle.isle_syntax.specs.Lexeme.{lexemes};
-ghost use Rattle.isle_syntax.specs.Lexer.{lexer_text, IsUntaken};
+ghost use Rattle.isle_lexer.specs.Lexeme.{lexemes};
+ghost use Rattle.isle_lexer.specs.Lexer.{lexer_text, IsUntaken};
 ghost use Rattle.isle_syntax.specs.ReadingViews.{Refuses};
 ghost use Rattle.isle_values.specs.Reading.{values_of};
 ghost use Rattle.isle_values.specs.Spelling.{ListS, SpellsValues};

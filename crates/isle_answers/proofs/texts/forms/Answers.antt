@@ -1,6 +1,6 @@
 use Rattle.std.proofs.Common.{◌≡◌, ◌∙◌, ap, sym, subst, length}
-use Rattle.isle_syntax.specs.Lexeme.{lexemes}
-use Rattle.isle_syntax.specs.TokenViews.{tokens_seen}
+use Rattle.isle_lexer.specs.Lexeme.{lexemes}
+use Rattle.isle_lexer.specs.TokenViews.{tokens_seen}
 use Rattle.isle_answers.specs.Places.{IsTokenFault, tokens}
 use Rattle.isle_answers.specs.Spelling.{SpellsTokens}
 use Rattle.isle_answers.specs.Views.{forms_seen}

@@ -4,7 +4,7 @@ use Rattle.std.proofs.lemmas.List.{length-map}
 use Rattle.isle_syntax.specs.Reader.{run}
 use Rattle.isle_syntax.specs.Reading.{no_call}
 use Rattle.isle_syntax.specs.ReadingViews.{left, stops, Refuses}
-use Rattle.isle_syntax.specs.TokenViews.{token_seen, tokens_seen}
+use Rattle.isle_lexer.specs.TokenViews.{token_seen, tokens_seen}
 use Rattle.isle_answers.specs.Places.{first_place, IsTokenFault}
 use Rattle.isle_answers.specs.Reading.{read_forms}
 use Rattle.isle_answers.specs.Views.{forms_seen}

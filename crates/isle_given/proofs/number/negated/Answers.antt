@@ -1,5 +1,5 @@
 use Rattle.std.proofs.Common.{rules, ◌<◌, ◌^◌}
-use Rattle.isle_syntax.proofs.Wrapped.{wrapped_down}
+use Rattle.isle_lexer.proofs.Wrapped.{wrapped_down}
 use Rattle.isle_given.proofs.number.negated.Goals as goal
 
 pub returns : goal.returns

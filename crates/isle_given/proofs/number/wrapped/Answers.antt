@@ -1,4 +1,4 @@
-use Rattle.isle_syntax.proofs.Wrapped.{wrapped_up}
+use Rattle.isle_lexer.proofs.Wrapped.{wrapped_up}
 use Rattle.isle_given.proofs.number.wrapped.Goals as goal
 
 pub returns : goal.returns

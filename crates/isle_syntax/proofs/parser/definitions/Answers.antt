@@ -2,8 +2,8 @@ use Rattle.std.proofs.Common.{◌≡◌, length, rules}
 use Rattle.std.specs.Prelude.{List}
 use Rattle.std.proofs.lemmas.List.{length-map}
 use Rattle.std.proofs.lemmas.Result.{IfOk-weaker}
-use Rattle.isle_syntax.specs.Lexer.{lexer_file, lexer_text}
-use Rattle.isle_syntax.specs.Lexeme.{Lexeme, lexemes}
+use Rattle.isle_lexer.specs.Lexer.{lexer_file, lexer_text}
+use Rattle.isle_lexer.specs.Lexeme.{Lexeme, lexemes}
 use Rattle.isle_syntax.specs.ReadingViews.{left}
 use Rattle.isle_syntax.specs.Views.{defs}
 use Rattle.isle_syntax.proofs.Files.{file_read}

@@ -1,6 +1,6 @@
 use Rattle.std.proofs.Common.{◌≡◌, subst, Some}
-use Rattle.isle_syntax.specs.Lexer.{lexer_file, lexer_text}
-use Rattle.isle_syntax.specs.Lexeme.{lexemes}
+use Rattle.isle_lexer.specs.Lexer.{lexer_file, lexer_text}
+use Rattle.isle_lexer.specs.Lexeme.{lexemes}
 use Rattle.isle_syntax.specs.Reading.{file_of}
 use Rattle.isle_syntax.specs.ReadingViews.{Refuses, stops}
 use Rattle.isle_syntax.proofs.Files.{file_once, file_refused}

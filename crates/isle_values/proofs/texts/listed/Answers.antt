@@ -2,8 +2,8 @@ use Rattle.std.proofs.Common.{◌≡◌, length, rules, map}
 use Rattle.std.specs.Prelude.{List}
 use Rattle.std.proofs.lemmas.List.{length-map}
 use Rattle.std.proofs.lemmas.Result.{IfOk-weaker}
-use Rattle.isle_syntax.specs.Lexer.{lexer_text}
-use Rattle.isle_syntax.specs.Lexeme.{Lexeme, lexemes}
+use Rattle.isle_lexer.specs.Lexer.{lexer_text}
+use Rattle.isle_lexer.specs.Lexeme.{Lexeme, lexemes}
 use Rattle.isle_syntax.specs.ReadingViews.{left}
 use Rattle.isle_values.specs.Views.{written}
 use Rattle.isle_values.proofs.Lists.{values_got}

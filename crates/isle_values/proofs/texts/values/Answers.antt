@@ -1,6 +1,6 @@
 use Rattle.std.proofs.Common.{◌≡◌, ◌∙◌, ap, sym, subst, Some}
-use Rattle.isle_syntax.specs.Lexer.{lexer_text}
-use Rattle.isle_syntax.specs.Lexeme.{lexemes}
+use Rattle.isle_lexer.specs.Lexer.{lexer_text}
+use Rattle.isle_lexer.specs.Lexeme.{lexemes}
 use Rattle.isle_syntax.specs.ReadingViews.{Refuses, stops}
 use Rattle.isle_values.specs.Reading.{values_of}
 use Rattle.isle_values.specs.Spelling.{ListS}

@@ -2,7 +2,7 @@ use Rattle.std.proofs.Common.{◌≡◌, arith, sym, ap, ◌∙◌}
 use Rattle.std.specs.Prelude.{option_map, slice_get}
 use Rattle.std.proofs.lemmas.Option.{gets, slice_get-map}
 use Rattle.std.proofs.lemmas.Grind.{common_steps}
-use Rattle.isle_syntax.specs.TokenViews.{token_seen, tokens_seen}
+use Rattle.isle_lexer.specs.TokenViews.{token_seen, tokens_seen}
 use Rattle.isle_syntax.proofs.Steps.{first_left}
 use Rattle.isle_syntax.proofs.reading.Tokens.first.Goals as goal
 

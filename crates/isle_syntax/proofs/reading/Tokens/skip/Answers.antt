@@ -1,6 +1,6 @@
 use Rattle.std.proofs.Common.{sym}
 use Rattle.std.proofs.lemmas.List.{drop-drop}
-use Rattle.isle_syntax.specs.TokenViews.{tokens_seen}
+use Rattle.isle_lexer.specs.TokenViews.{tokens_seen}
 use Rattle.isle_syntax.proofs.reading.Tokens.skip.Goals as goal
 
 pub returns : goal.returns

@@ -1,0 +1,10 @@
+pub mod Token
+pub mod Lexeme
+pub mod Integer
+pub mod Word
+pub mod Cuts
+pub mod TokenViews
+pub mod WordViews
+pub mod SignedViews
+pub mod LexerViews
+pub mod Lexer

@@ -1,0 +1,86 @@
+ghost use Rattle.std.specs.Prelude.{◌≡◌, [], ◌∷◌, IfOk, IfErr, IfSome, Some, None};
+ghost use Rattle.std.specs.Str.{IsUtf8};
+ghost use Rattle.isle_lexer.specs.Token.{unclosed, IsClosed};
+ghost use Rattle.isle_lexer.specs.Lexeme.{lexemes};
+ghost use Rattle.isle_lexer.specs.Lexer.{lexer_file, lexer_text, lexer_left, IsUntaken};
+ghost use Rattle.isle_lexer.specs.TokenViews.{tokens_seen};
+
+use crate::finding::{Found, find};
+use crate::gathering::gathered;
+use crate::token::{Tok, Token};
+use isle_core::Pos;
+use std::alloc::{AllocError, Global};
+
+/// Where a comment begins that never ends, the outermost one.
+fn unclosed(text: &[u8]) -> Option<usize>
+    ensures { result ≡ unclosed text.now }
+{
+    let mut at = 0;
+    loop {
+        match find(text, at) {
+            Found::Token(tok) => at = tok.to,
+            Found::Unclosed(from) => return Some(from),
+            Found::End => return None,
+        }
+    }
+}
+
+/// The tokens of a text, one by one.
+#[derive(Clone, Debug, Drop)]
+pub struct Lexer<'a> {
+    file: usize,
+    text: &'a str,
+    /// The place behind the tokens that were taken.
+    at: usize,
+}
+
+impl<'a> Lexer<'a> {
+    /// The tokens of the text of the file of that number. Err gives the start of a nested comment that never ends,
+    /// the outermost one's.
+    pub fn new(file: usize, src: &'a str) -> Result<Lexer<'a>, Pos>
+        ensures ok { IfOk result (λ lexer. IsClosed src.now × IsUntaken lexer × (lexer_file lexer ≡ file) × (lexer_text lexer ≡ src.now)) }
+        ensures err { IfErr result (λ pos. (unclosed src.now ≡ Some pos.offset) × (pos.file ≡ file)) }
+    {
+        match unclosed(src.as_bytes()) {
+            Some(offset) => Err(Pos { file, offset }),
+            None => Ok(Lexer {
+                file,
+                text: src,
+                at: 0,
+            }),
+        }
+    }
+
+    /// The next token, by the bytes that it takes. None comes exactly where no token is left. It takes no memory.
+    pub fn next_token(&mut self) -> Option<Tok>
+        ensures some { IfSome result (λ tok. lexer_left self.old ≡ tok ∷ lexer_left self.new) }
+        ensures none { result ≡ None → (lexer_left self.old ≡ []) × (lexer_left self.new ≡ []) }
+        ensures file { lexer_file self.new ≡ lexer_file self.old }
+        ensures text { lexer_text self.new ≡ lexer_text self.old }
+    {
+        match find(self.text.as_bytes(), self.at) {
+            Found::Token(tok) => {
+                self.at = tok.to;
+                Some(tok)
+            }
+            Found::Unclosed(_) | Found::End => None,
+        }
+    }
+
+    /// The number of the file.
+    pub fn file(&self) -> usize
+        ensures { result ≡ lexer_file self.now }
+    {
+        self.file
+    }
+
+    /// The tokens that are left, in order, as the grammar sees them.
+    pub fn tokens(self, alloc: Global) -> Result<Vec<Token<'a>>, AllocError>
+        requires { IsUntaken self }
+        ensures tokens { IfOk result (λ tokens. tokens_seen tokens.items ≡ lexemes (lexer_text self.entry)) }
+        ensures utf8 { IsUtf8 (lexer_text self.entry) }
+    {
+        let (tokens, _) = gathered(alloc, self.text)?;
+        Ok(tokens)
+    }
+}

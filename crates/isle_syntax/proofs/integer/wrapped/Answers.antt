@@ -1,5 +1,0 @@
-use Rattle.isle_syntax.proofs.Wrapped.{wrapped_up}
-use Rattle.isle_syntax.proofs.integer.wrapped.Goals as goal
-
-pub returns : goal.returns
-returns c = wrapped_up c.args.magnitude c.cast_signed.result c.ranges.magnitude.fits c.cast_signed.ensures
