@@ -1,0 +1,6 @@
+pub mod Reader
+pub mod Combinators
+pub mod Nesting
+pub mod Relations
+pub mod Places
+pub mod Views

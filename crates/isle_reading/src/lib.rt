@@ -1,0 +1,6 @@
+//! Readers of tokens: the cursor that code reads with.
+#![tactic(auto)]
+
+mod cursor;
+
+pub use cursor::{Fail, Tokens, most_inside, place_of};
