@@ -5,3 +5,4 @@ pub mod TokenLaws
 pub mod ListLaws
 pub mod Faults
 pub mod States
+pub mod Steps

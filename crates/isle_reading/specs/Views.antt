@@ -37,8 +37,16 @@ stops (Got a ts) = None
 stops (Stuck ts) = Some (length ts)
 stops (Deep ts) = Some (length ts)
 
--- a result says what comes of a reader at these tokens, seen so, and which are left; want of memory says nothing
+-- reading stops where the failure says; want of memory says nothing of it
+abbrev pub Refuses : {A : Type 0} → Fail → Reading A → Type 0
+Refuses (code.At tokens) o = stops o ≡ Some tokens
+Refuses code.Memory o = Unit {0}
+
+-- a result says what came of reading, seen so, and which tokens are left
+abbrev pub Comes : {T A : Type 0} → (T → A) → Result T Fail → Reading A → List Lexeme → Type 0
+Comes view (Ok value) o rest = o ≡ Got (view value) rest
+Comes view (Err fail) o rest = Refuses fail o
+
+-- a result says what comes of a reader at these tokens
 abbrev pub Reads : {T A : Type 0} → (T → A) → Result T Fail → Reader A → List Lexeme → List Lexeme → Type 0
-Reads view (Ok value) reader ts rest = run reader ts ≡ Got (view value) rest
-Reads view (Err (code.At tokens)) reader ts rest = stops (run reader ts) ≡ Some tokens
-Reads view (Err code.Memory) reader ts rest = Unit {0}
+Reads view result reader ts rest = Comes view result (run reader ts) rest

@@ -114,6 +114,7 @@ impl<'t> Tokens<'t> {
     }
 
     /// The place of an opening parenthesis, which is taken.
+    #[tactic(auto, using(crate::proofs::Steps::round))]
     pub fn open(&mut self) -> Result<usize, Fail>
         ensures { Reads (λ at. at) result read_open (left self.old) (left self.new) }
     {
@@ -127,6 +128,7 @@ impl<'t> Tokens<'t> {
     }
 
     /// The place of a closing parenthesis, which is taken.
+    #[tactic(auto, using(crate::proofs::Steps::round))]
     pub fn close(&mut self) -> Result<usize, Fail>
         ensures { Reads (λ at. at) result read_close (left self.old) (left self.new) }
     {
