@@ -6,3 +6,4 @@ pub mod ListLaws
 pub mod Faults
 pub mod States
 pub mod Steps
+pub mod ListSteps
