@@ -2,6 +2,7 @@ pub mod Running
 pub mod Passes
 pub mod Law
 pub mod TokenLaws
+pub mod NameLaws
 pub mod ListLaws
 pub mod Faults
 pub mod States

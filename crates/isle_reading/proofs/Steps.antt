@@ -164,6 +164,9 @@ pub optional_stops : {A : Type 0} (f : List ℕ → Option A) (other : A) (ts : 
 optional_stops f other [] e = refl
 optional_stops f other (t ∷ ts) e = absurd (omega (arith, e))
 
+-- what closes the function that tells what the next word gives
+pub ruleset next = (next_some, next_none)
+
 -- what closes the function that takes a word, or none
 pub ruleset words = (word_got, word_stops)
 pub ruleset optionals = (optional_got, optional_other, optional_stops)

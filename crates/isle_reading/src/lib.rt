@@ -2,5 +2,6 @@
 #![tactic(auto)]
 
 mod cursor;
+mod name;
 
 pub use cursor::{Fail, Tokens, most_inside, place_of};
