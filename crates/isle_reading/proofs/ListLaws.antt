@@ -58,6 +58,7 @@ module _ {A : Type 0} {P : Nest → Type 0} {C : List Lexeme → Type 0} (E : Ne
   many_follows _ _ _ (more a others ts mid rest s m) = follows a ts mid s
 
   no_more : Law P (λ as'. E) Anything 0 (Many S) (End refuse Halt)
+  unfolding run
   no_more = record {
     sound = λ ts rest a e. absurd (never_got ts rest a e);
     complete = complete;
@@ -133,6 +134,7 @@ module _ {St A : Type 0} {C : List Lexeme → Type 0} (P : Nest → Type 0) (n :
   all_from_is _ _ _ _ (an_item s a others ts mid x m) = inr (a, mid, x, (others, [], m, (refl, refl)))
 
   no_item_more : (s : St) → Law P (λ as'. P) Ended 0 (AllFrom S next s) (End (Ret []) Halt)
+  unfolding run
   no_item_more s = record { sound = sound; complete = complete; closes = closes; deepens = deepens; leads = leads; ends = ended }
     where
       ended : Begins Ended (AllFrom S next s) []

@@ -46,6 +46,7 @@ in_front-stops xs (Stuck us) = refl
 in_front-stops xs (Deep us) = refl
 
 more-by : {A : Type 0} (r : Reader A) (k : A → Reader (List A)) (ts : List Lexeme) → run (bind r (λ a. bind (k a) (λ others. Ret (a ∷ others)))) ts ≡ after (run r ts) (λ a us. with_others a (run (k a) us))
+unfolding run
 more-by {A = A} r k ts = run-bind r (λ a. bind (k a) (λ others. Ret (a ∷ others))) ts ∙ inner (run r ts)
   where
     inner : (o : Reading A) → after o (λ a us. run (bind (k a) (λ others. Ret (a ∷ others))) us) ≡ after o (λ a us. with_others a (run (k a) us))
@@ -57,7 +58,7 @@ more-by {A = A} r k ts = run-bind r (λ a. bind (k a) (λ others. Ret (a ∷ oth
 
 -- no parenthesis is next
 next-by : {A : Type 0} (r : Reader A) (m : ℕ) (ts : List Lexeme) → run r [] ≡ Stuck [] → None ≡ closes ts → run (many (suc m) r) ts ≡ after (run r ts) (λ a us. with_others a (run (many m r) us))
-unfolding many
+unfolding many run bind
 next-by r m [] none e = sym (ap (λ o. after o (λ a us. with_others a (run (many m r) us))) none)
 next-by r m (Open n ∷ ts) none e = more-by r (λ a. many m r) (Open n ∷ ts)
 next-by r m (Close n ∷ ts) none e = cc
@@ -67,7 +68,7 @@ next-by r m (Greater n ∷ ts) none e = more-by r (λ a. many m r) (Greater n �
 next-by r m (Word n w ∷ ts) none e = more-by r (λ a. many m r) (Word n w ∷ ts)
 
 closed-by : {A : Type 0} (r : Reader A) (m at : ℕ) (ts : List Lexeme) → Some at ≡ closes ts → run (many (suc m) r) ts ≡ Got [] (drop 1 ts)
-unfolding many read_close
+unfolding many read_close run bind
 closed-by r m at [] e = cc
 closed-by r m at (Open n ∷ ts) e = cc
 closed-by r m at (Close n ∷ ts) e = refl
@@ -77,7 +78,7 @@ closed-by r m at (Greater n ∷ ts) e = cc
 closed-by r m at (Word n w ∷ ts) e = cc
 
 full-by : {A : Type 0} (r : Reader A) (ts : List Lexeme) → stops (run (many zero r) ts) ≡ Some (length ts)
-unfolding many
+unfolding many run
 full-by r [] = refl
 full-by r (t ∷ ts) = refl
 
@@ -117,18 +118,18 @@ pub ruleset lists = (in_front-nil, list-more, list-end, list-refuses, list-full,
 
 all-by : {St A : Type 0} (r : St → Reader A) (next : St → A → St) (s : St) (m : ℕ) (ts : List Lexeme) → 0 < length ts
     → run (all_from (suc m) r next s) ts ≡ after (run (r s) ts) (λ a us. with_others a (run (all_from m r next (next s a)) us))
-unfolding all_from
+unfolding all_from run
 all-by r next s m [] l = absurd (omega (arith, l))
 all-by r next s m (t ∷ ts) l = more-by (r s) (λ a. all_from m r next (next s a)) (t ∷ ts)
 
 ended-by : {St A : Type 0} (r : St → Reader A) (next : St → A → St) (s : St) (m : ℕ) (ts : List Lexeme) → length ts ≡ 0 → run (all_from m r next s) ts ≡ Got [] ts
-unfolding all_from
+unfolding all_from run
 ended-by r next s zero [] e = refl
 ended-by r next s (suc m) [] e = refl
 ended-by r next s m (t ∷ ts) e = absurd (omega (arith, e))
 
 all-full-by : {St A : Type 0} (r : St → Reader A) (next : St → A → St) (s : St) (ts : List Lexeme) → 0 < length ts → stops (run (all_from zero r next s) ts) ≡ Some (length ts)
-unfolding all_from
+unfolding all_from run
 all-full-by r next s [] l = absurd (omega (arith, l))
 all-full-by r next s (t ∷ ts) l = refl
 

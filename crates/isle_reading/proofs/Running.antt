@@ -34,6 +34,7 @@ peek-after true x x' y y' k e e' = e
 peek-after false x x' y y' k e e' = e'
 
 pub run-bind : {A B : Type 0} (r : Reader A) (k : A → Reader B) (ts : List Lexeme) → run (bind r k) ts ≡ after (run r ts) (λ a rest. run (k a) rest)
+unfolding run bind
 run-bind (Ret a) k ts = refl
 run-bind (Ask fits f) k [] = refl
 run-bind (Ask fits f) k (t ∷ ts) = ask-after (fits t) _ _ (t ∷ ts) _ (run-bind (f t) k ts)
@@ -75,6 +76,7 @@ peek-shrinks true o p n h k = h
 peek-shrinks false o p n h k = k
 
 pub shrinks : {A : Type 0} (r : Reader A) (ts : List Lexeme) → length (remains (run r ts)) ≤ length ts
+unfolding run
 shrinks (Ret a) ts = omega arith
 shrinks (Ask fits f) [] = omega arith
 shrinks (Ask fits f) (t ∷ ts) = ask-shrinks (fits t) _ t ts (shrinks (f t) ts)
@@ -121,6 +123,7 @@ peek_here true us vs o p o' p' h k e = h e
 peek_here false us vs o p o' p' h k e = k e
 
 pub stuck_here : {A : Type 0} (r : Reader A) (front behind others : List Lexeme) (t : Lexeme) → run r (front ++ t ∷ behind) ≡ Stuck (t ∷ behind) → run r (front ++ t ∷ others) ≡ Stuck (t ∷ others)
+unfolding run
 stuck_here (Ret a) front behind others t e = absurd (stuck_not_got _ (t ∷ behind) (front ++ t ∷ behind) a e refl)
 stuck_here (Ask fits f) [] behind others t e = ask_here (fits t) t behind others _ _ (λ h. not_back (f t) t behind (ap remains h)) e
 stuck_here (Ask fits f) (x ∷ front) behind others t e = ask_front (fits x) x t front behind others _ _ (λ h. stuck_here (f x) front behind others t h) e

@@ -4,7 +4,7 @@ use Rattle.std.specs.Prelude.{is_some, slice_get, Result, Ok, Err, IsErrAnd}
 use Rattle.isle_lexer.specs.Lexeme.{Lexeme, Open, Close, At, Less, Greater, Word}
 use Rattle.isle_reading.specs.declared.cursor.Fail.{Fail}
 use Rattle.isle_reading.specs.declared.cursor.Fail.TheVariants as code
-use Rattle.isle_reading.specs.Reader.{Reading, Got, Stuck, Deep, Reader, after, run, bind}
+use Rattle.isle_reading.specs.Reader.{Reading, Got, Stuck, Deep, Reader, Ret, after, run, bind}
 use Rattle.isle_reading.specs.Combinators.{read_open, read_close, given, read_word, next_word, read_optional}
 use Rattle.isle_reading.specs.Views.{opens, closes, stops, Refuses, Comes}
 use Rattle.isle_reading.proofs.Running.{run-bind}
@@ -40,13 +40,24 @@ refuses_after code.Memory o f h = tt
 pub bind_refuses : {A B : Type 0} (fail : Fail) (r : Reader A) (k : A → Reader B) (ts : List Lexeme) → Refuses fail (run r ts) → Refuses fail (run (bind r k) ts)
 bind_refuses fail r k ts h = subst (Refuses fail) (sym (run-bind r k ts)) (refuses_after fail (run r ts) (λ a us. run (k a) us) h)
 
+-- behind what was got, the rest as there
+pub then_got : {A B : Type 0} (r : Reader A) (k : A → Reader B) (ts us : List Lexeme) (a : A) (o : Reading B) → run r ts ≡ Got a us → run (k a) us ≡ o → run (bind r k) ts ≡ o
+then_got r k ts us a o e h = bind_got r k ts us a e ∙ h
+
+pub then_refuses : {A B : Type 0} (fail : Fail) (r : Reader A) (k : A → Reader B) (ts us : List Lexeme) (a : A) → run r ts ≡ Got a us → Refuses fail (run (k a) us) → Refuses fail (run (bind r k) ts)
+then_refuses fail r k ts us a e h = subst (Refuses fail) (sym (bind_got r k ts us a e)) h
+
+pub done_got : {A : Type 0} (a : A) (ts : List Lexeme) → run (Ret a) ts ≡ Got a ts
+unfolding run
+done_got a ts = refl
+
 -- what closes a chain of `?` over readers that are bound
 pub ruleset chain = (passed, bind_got, bind_refuses)
 
 -- ---- parentheses
 
 pub open_got : (ts us : List Lexeme) (at : ℕ) → Some at ≡ opens ts → us ≡ drop 1 ts → run read_open ts ≡ Got at us
-unfolding read_open
+unfolding read_open run
 open_got [] us at e f = cc
 open_got (Open n ∷ ts) us at e f = let x : n ≡ at = cc in let y : us ≡ ts = f in ap (λ m. Got m ts) x ∙ ap (Got at) (sym y)
 open_got (Close n ∷ ts) us at e f = cc
@@ -56,7 +67,7 @@ open_got (Greater n ∷ ts) us at e f = cc
 open_got (Word n w ∷ ts) us at e f = cc
 
 pub open_stops : (ts : List Lexeme) → None ≡ opens ts → stops (run read_open ts) ≡ Some (length ts)
-unfolding read_open
+unfolding read_open run
 open_stops [] e = refl
 open_stops (Open n ∷ ts) e = cc
 open_stops (Close n ∷ ts) e = refl
@@ -66,7 +77,7 @@ open_stops (Greater n ∷ ts) e = refl
 open_stops (Word n w ∷ ts) e = refl
 
 pub close_got : (ts us : List Lexeme) (at : ℕ) → Some at ≡ closes ts → us ≡ drop 1 ts → run read_close ts ≡ Got at us
-unfolding read_close
+unfolding read_close run
 close_got [] us at e f = cc
 close_got (Open n ∷ ts) us at e f = cc
 close_got (Close n ∷ ts) us at e f = let x : n ≡ at = cc in let y : us ≡ ts = f in ap (λ m. Got m ts) x ∙ ap (Got at) (sym y)
@@ -76,7 +87,7 @@ close_got (Greater n ∷ ts) us at e f = cc
 close_got (Word n w ∷ ts) us at e f = cc
 
 pub close_stops : (ts : List Lexeme) → None ≡ closes ts → stops (run read_close ts) ≡ Some (length ts)
-unfolding read_close
+unfolding read_close run
 close_stops [] e = refl
 close_stops (Open n ∷ ts) e = refl
 close_stops (Close n ∷ ts) e = cc
@@ -109,14 +120,17 @@ next_none f (Greater n ∷ ts) e = refl
 next_none f (Word n v ∷ ts) e = cc
 
 given_got : {A : Type 0} (o : Option A) (ts : List Lexeme) (t : Lexeme) (a : A) → o ≡ Some a → cond (is_some o) (run (given o) ts) (Stuck (t ∷ ts)) ≡ Got a ts
+unfolding run
 given_got None ts t a e = cc
 given_got (Some b) ts t a e = let x : b ≡ a = cc in ap (λ c. Got c ts) x
 
 given_stops : {A : Type 0} (o : Option A) (ts : List Lexeme) (t : Lexeme) → o ≡ None → cond (is_some o) (run (given o) ts) (Stuck (t ∷ ts)) ≡ Stuck (t ∷ ts)
+unfolding run
 given_stops None ts t e = refl
 given_stops (Some b) ts t e = cc
 
 pub word_got : {A : Type 0} (f : List ℕ → Option A) (ts us : List Lexeme) (a : A) → next_word f ts ≡ Some a → us ≡ drop 1 ts → run (read_word f) ts ≡ Got a us
+unfolding run read_word
 word_got f [] us a e h = cc
 word_got f (Open n ∷ ts) us a e h = cc
 word_got f (Close n ∷ ts) us a e h = cc
@@ -126,6 +140,7 @@ word_got f (Greater n ∷ ts) us a e h = cc
 word_got f (Word n w ∷ ts) us a e h = given_got (f w) ts (Word n w) a e ∙ ap (Got a) (sym h)
 
 pub word_stops : {A : Type 0} (f : List ℕ → Option A) (ts : List Lexeme) → next_word f ts ≡ None → stops (run (read_word f) ts) ≡ Some (length ts)
+unfolding run read_word
 word_stops f [] e = refl
 word_stops f (Open n ∷ ts) e = refl
 word_stops f (Close n ∷ ts) e = refl
@@ -134,15 +149,23 @@ word_stops f (Less n ∷ ts) e = refl
 word_stops f (Greater n ∷ ts) e = refl
 word_stops f (Word n w ∷ ts) e = ap stops (given_stops (f w) ts (Word n w) e)
 
+-- at the end of the text
+pub word_none : {A : Type 0} (f : List ℕ → Option A) → run (read_word f) [] ≡ Stuck []
+unfolding run read_word
+word_none f = refl
+
 -- ---- a word, or none
 
 some_word : {A : Type 0} (f : List ℕ → Option A) (other a : A) (n : ℕ) (w : List ℕ) (ts : List Lexeme) → f w ≡ Some a → run (read_optional f other) (Word n w ∷ ts) ≡ Got a ts
+unfolding run read_optional read_word
 some_word f other a n w ts e = ap (λ b. cond b (run (read_word f) (Word n w ∷ ts)) (Got other (Word n w ∷ ts))) (ap is_some e) ∙ given_got (f w) ts (Word n w) a e
 
 no_word : {A : Type 0} (f : List ℕ → Option A) (other : A) (n : ℕ) (w : List ℕ) (ts : List Lexeme) → f w ≡ None → run (read_optional f other) (Word n w ∷ ts) ≡ Got other (Word n w ∷ ts)
+unfolding run read_optional read_word
 no_word f other n w ts e = ap (λ b. cond b (run (read_word f) (Word n w ∷ ts)) (Got other (Word n w ∷ ts))) (ap is_some e)
 
 pub optional_got : {A : Type 0} (f : List ℕ → Option A) (other a : A) (ts us : List Lexeme) → next_word f ts ≡ Some a → us ≡ drop 1 ts → run (read_optional f other) ts ≡ Got a us
+unfolding run read_optional read_word
 optional_got f other a [] us e h = cc
 optional_got f other a (Open n ∷ ts) us e h = cc
 optional_got f other a (Close n ∷ ts) us e h = cc
@@ -152,6 +175,7 @@ optional_got f other a (Greater n ∷ ts) us e h = cc
 optional_got f other a (Word n w ∷ ts) us e h = some_word f other a n w ts e ∙ ap (Got a) (sym h)
 
 pub optional_other : {A : Type 0} (f : List ℕ → Option A) (other : A) (ts : List Lexeme) → next_word f ts ≡ None → 0 < length ts → run (read_optional f other) ts ≡ Got other ts
+unfolding run read_optional read_word
 optional_other f other [] e l = absurd (omega (arith, l))
 optional_other f other (Open n ∷ ts) e l = refl
 optional_other f other (Close n ∷ ts) e l = refl
@@ -161,6 +185,7 @@ optional_other f other (Greater n ∷ ts) e l = refl
 optional_other f other (Word n w ∷ ts) e l = no_word f other n w ts e
 
 pub optional_stops : {A : Type 0} (f : List ℕ → Option A) (other : A) (ts : List Lexeme) → length ts ≡ 0 → stops (run (read_optional f other) ts) ≡ Some (length ts)
+unfolding run read_optional read_word
 optional_stops f other [] e = refl
 optional_stops f other (t ∷ ts) e = absurd (omega (arith, e))
 

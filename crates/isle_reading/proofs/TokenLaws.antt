@@ -13,6 +13,7 @@ use Rattle.isle_reading.proofs.Law.{Hits, hit, too_deep, Law, Heads, Some_token,
 -- ---- nothing
 
 pub law_ret : {A : Type 0} {P : Nest → Type 0} {E : A → Nest → Type 0} {C : List Lexeme → Type 0} {n : ℕ} (a : A) → ((q : Nest) → P q → E a q) → Law P E C n (Nothing a) (Ret a)
+unfolding run
 law_ret a h = record {
   sound = λ ts rest b e. let x = got_is ts rest a b _ refl e in ((sym x.1, x.0), ([], x.0, λ tail c. (sym x.1, refl)));
   complete = λ ts rest b s c. hit (ap (Got a) s.1 ∙ ap (λ z. Got z rest) (sym s.0));
@@ -59,6 +60,7 @@ ask_leads E n false q t us o h = (q, none q (t ∷ us))
 pub law_ask : {A : Type 0} {P : Nest → Type 0} {E : A → Nest → Type 0} {C : List Lexeme → Type 0} {n : ℕ} (Q : Lexeme → Nest → Type 0) (S : Lexeme → A → List Lexeme → List Lexeme → Type 0)
     (test : Lexeme → Bool) (f : Lexeme → Reader A) → ((t : Lexeme) → IsTrue (test t) → Steps P (Q t) t) → ((t : Lexeme) → IsTrue (test t) → Law (Q t) E C n (S t) (f t)) → Begins C (Token_then test S) []
     → Law P E C n (Token_then test S) (Ask test f)
+unfolding run
 law_ask {A = A} {P = P} {E = E} {C = C} {n = n} Q S test f steps h b = record { sound = sound; complete = complete; closes = closes; deepens = deepens; leads = leads; ends = b }
   where
     sound : (ts rest : List Lexeme) (a : A) → run (Ask test f) ts ≡ Got a rest → Token_then test S a ts rest × Taken C (Token_then test S) a ts rest
@@ -165,6 +167,7 @@ law_given {A = A} (Some a) is = law_map (λ b ts rest s. (ap Some (sym s.0), s.1
 
 law_words : {A : Type 0} {P : Nest → Type 0} {E : A → Nest → Type 0} {C : List Lexeme → Type 0} {n : ℕ} (f : List ℕ → Option A) → Gives f
     → ((at : ℕ) (w : List ℕ) → IsTrue (is_some (f w)) → Steps P (Given_state E (f w)) (Word at w)) → Law P E C n (WordS f) (read_word f)
+unfolding read_word
 law_words {A = A} {P = P} {E = E} f x steps = law_map to from (law_ask (λ t. Given_state E (f (bytes t))) (λ t. Given (f (bytes t))) (on_word (λ w. is_some (f w))) (λ t. given (f (bytes t)))
     (λ t is. let y = word_is (λ w. is_some (f w)) t is in subst (Steps P (Given_state E (f (bytes t)))) (sym y.0) (steps (place t) (bytes t) y.1))
     (λ t is. law_given (f (bytes t)) (word_is (λ w. is_some (f w)) t is).1)
@@ -218,6 +221,7 @@ cond_leads E n q ts false o p h k = k
 pub law_peek : {A : Type 0} {P : Nest → Type 0} {E : A → Nest → Type 0} {C : List Lexeme → Type 0} {n : ℕ} {S T : A → List Lexeme → List Lexeme → Type 0} (test : Lexeme → Bool) (y r : Reader A)
     → ((a : A) (ts rest : List Lexeme) → S a ts rest → C rest → Heads test true ts) → ((a : A) (ts rest : List Lexeme) → T a ts rest → C rest → Heads test false ts)
     → Law P E C n S y → Law P E C n T r → Law P E C n (Either S T) (Peek test y r)
+unfolding run
 law_peek {A = A} {P = P} {E = E} {C = C} {n = n} {S = S} {T = T} test y r sy sr hy hr = record { sound = sound; complete = complete; closes = closes; deepens = deepens; leads = leads; ends = right_ends S T hr.ends }
   where
     sound : (ts rest : List Lexeme) (a : A) → run (Peek test y r) ts ≡ Got a rest → Either S T a ts rest × Taken C (Either S T) a ts rest
@@ -250,6 +254,7 @@ law_peek {A = A} {P = P} {E = E} {C = C} {n = n} {S = S} {T = T} test y r sy sr 
 pub law_barred : {A : Type 0} {P : Nest → Type 0} {E : A → Nest → Type 0} {C : List Lexeme → Type 0} {n : ℕ} {S T : A → List Lexeme → List Lexeme → Type 0} (test : Lexeme → Bool) (r : Reader A)
     → ((a : A) (ts rest : List Lexeme) → S a ts rest → C rest → Heads test true ts) → ((a : A) (ts rest : List Lexeme) → T a ts rest → C rest → Heads test false ts)
     → ((q : Nest) (t : Lexeme) → P q → IsTrue (test t) → most_open < length (nest q t).marks) → Law P E C n T r → Law P E C n (Either S T) (Peek test Halt r)
+unfolding run
 law_barred {A = A} {P = P} {E = E} {C = C} {n = n} {S = S} {T = T} test r sy sr over hr = record { sound = sound; complete = complete; closes = closes; deepens = deepens; leads = leads; ends = some }
   where
     some : Begins C (Either S T) []
@@ -291,6 +296,7 @@ NoWord f = Heads (on_word (λ w. is_some (f w))) false
 
 pub law_optional : {A : Type 0} {P : Nest → Type 0} {E : A → Nest → Type 0} {n : ℕ} (f : List ℕ → Option A) (other : A) → Gives f → WordSteps P E f → ((q : Nest) → P q → E other q)
     → Law P E (NoWord f) n (Either (WordS f) (Nothing other)) (read_optional f other)
+unfolding read_optional
 law_optional f other x steps same = law_peek (on_word (λ w. is_some (f w))) (read_word f) (Ret other)
     (λ a ts rest s c. word_heads f a ts rest s) (λ a ts rest s c. subst (NoWord f) (sym s.1) c) (law_word f x steps) (law_ret other same)
 
@@ -301,6 +307,7 @@ done_ends a T = ([], a, λ tail c. inl (refl, c, c))
 
 pub law_done : {A : Type 0} {P : Nest → Type 0} {E : A → Nest → Type 0} {n : ℕ} {T : A → List Lexeme → List Lexeme → Type 0} (a : A) (r : Reader A) → ((q : Nest) → P q → E a q)
     → ((b : A) (ts rest : List Lexeme) → T b ts rest → Some_token ts) → Law P E Ended n T r → Law P E Ended n (Either (NothingLeft a) T) (End (Ret a) r)
+unfolding run
 law_done {A = A} {P = P} {E = E} {n = n} {T = T} a r same some h = record { sound = sound; complete = complete; closes = closes; deepens = deepens; leads = leads; ends = done_ends a T }
   where
     sound : (ts rest : List Lexeme) (b : A) → run (End (Ret a) r) ts ≡ Got b rest → Either (NothingLeft a) T b ts rest × Taken Ended (Either (NothingLeft a) T) b ts rest
@@ -325,6 +332,7 @@ law_done {A = A} {P = P} {E = E} {n = n} {T = T} a r same some h = record { soun
 
 -- a value, and the end of the text
 pub law_at_end : {A : Type 0} {P : Nest → Type 0} {E : A → Nest → Type 0} {n : ℕ} (a : A) → ((q : Nest) → P q → E a q) → Law P E Ended n (NothingLeft a) (at_end a)
+unfolding run
 law_at_end {A = A} {P = P} {E = E} {n = n} a h = record { sound = sound; complete = complete; closes = closes; deepens = deepens; leads = leads; ends = ([], a, λ tail c. (refl, c, c)) }
   where
     sound : (ts rest : List Lexeme) (b : A) → run (at_end a) ts ≡ Got b rest → NothingLeft a b ts rest × Taken Ended (NothingLeft a) b ts rest

@@ -79,7 +79,7 @@ given None = refuse
 given (Some a) = Ret a
 
 -- takes a word that gives something
-abbrev pub read_word : {A : Type 0} → (List ℕ → Option A) → Reader A
+unfoldable pub read_word : {A : Type 0} → (List ℕ → Option A) → Reader A
 read_word f = Ask (on_word (λ w. is_some (f w))) (λ t. given (f (bytes t)))
 
 -- what the next word gives, if anything
@@ -93,7 +93,7 @@ next_word f (Greater at ∷ ts) = None
 next_word f (Word at w ∷ ts) = f w
 
 -- what a word gives, or else this where there is no such word
-abbrev pub read_optional : {A : Type 0} → (List ℕ → Option A) → A → Reader A
+unfoldable pub read_optional : {A : Type 0} → (List ℕ → Option A) → A → Reader A
 read_optional f other = Peek (on_word (λ w. is_some (f w))) (read_word f) (Ret other)
 
 -- ---- lists

@@ -28,7 +28,7 @@ after (Stuck ts) next = Stuck ts
 after (Deep ts) next = Deep ts
 
 -- what comes of a reader at these tokens
-abbrev pub run : {A : Type 0} → Reader A → List Lexeme → Reading A
+unfoldable pub run : {A : Type 0} → Reader A → List Lexeme → Reading A
 run (Ret a) ts = Got a ts
 run (Ask fits next) [] = Stuck []
 run (Ask fits next) (t ∷ ts) = if fits t then run (next t) ts else Stuck (t ∷ ts)
@@ -39,7 +39,7 @@ run (End done more) (t ∷ ts) = run more (t ∷ ts)
 run Halt ts = Deep ts
 
 -- one reader, and behind it the next, which hangs on what was got
-abbrev pub bind : {A B : Type 0} → Reader A → (A → Reader B) → Reader B
+unfoldable pub bind : {A B : Type 0} → Reader A → (A → Reader B) → Reader B
 bind (Ret a) next = next a
 bind (Ask fits more) next = Ask fits (λ t. bind (more t) next)
 bind (Peek fits then_so else_so) next = Peek fits (bind then_so next) (bind else_so next)
