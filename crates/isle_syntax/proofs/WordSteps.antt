@@ -1,10 +1,8 @@
 -- The steps of a rule's name.
-use Rattle.std.proofs.Common.{◌≡◌, ℕ, ◌<◌, List, [], ◌∷◌, length, drop, refl, ap, Option, Some, None}
+use Rattle.std.proofs.Common.{◌≡◌, ℕ, List, [], ◌∷◌, refl, Option}
 use Rattle.std.specs.Prelude.{option_map}
 use Rattle.isle_lexer.specs.Lexeme.{Lexeme, Open, Close, At, Less, Greater, Word}
-use Rattle.isle_reading.specs.Reader.{Got, run}
-use Rattle.isle_reading.specs.Combinators.{next_word, read_optional}
-use Rattle.isle_reading.specs.Names.{name_of}
+use Rattle.isle_reading.specs.Combinators.{next_word}
 use Rattle.isle_reading.proofs.Steps.{optional_got, optional_other, optional_stops}
 
 -- what a word that gives something mapped gives

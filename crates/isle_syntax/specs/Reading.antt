@@ -1,7 +1,6 @@
 -- Readers of the grammar's forms.
-use Rattle.std.specs.Prelude.{ℕ, zero, suc, ◌-◌, ℤ, pos, negsuc, ◌^◌, List, [], ◌∷◌, Bool, true, false, nat_lt, if◌then◌else◌, Option, Some, None, option_map, bytes_eq, codes}
-use Rattle.isle_lexer.specs.Lexeme.{Lexeme}
-use Rattle.isle_lexer.specs.Word.{WordKind, Number, Malformed, Truth, Dollar, Underscore, Plain, kind, names, is_flag, is_let}
+use Rattle.std.specs.Prelude.{ℕ, zero, suc, ◌-◌, ℤ, pos, negsuc, ◌^◌, List, [], Bool, true, false, nat_lt, if◌then◌else◌, Option, Some, None, option_map, bytes_eq, codes}
+use Rattle.isle_lexer.specs.Word.{WordKind, Number, Malformed, Truth, Dollar, Underscore, Plain, kind, is_flag, is_let}
 use Rattle.isle_reading.specs.Reader.{Reader, Ret, Peek, Halt, bind}
 use Rattle.isle_reading.specs.Combinators.{is_open, read_open, read_close, read_word, read_optional, many, all}
 use Rattle.isle_reading.specs.Names.{name_of, read_name}

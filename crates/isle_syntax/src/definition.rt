@@ -129,7 +129,13 @@ fn partial(tokens: &mut Tokens<'_>) -> Result<bool, Fail>
 
 /// What stands behind the flag of `( decl`, for the definition at that place.
 #[tactic(auto, using(isle_reading::proofs::Steps::chain), unfolding(crate::specs::Reading::read_declared))]
-fn declared(tokens: &mut Tokens<'_>, alloc: Global, most: usize, pos: Pos, partial: bool) -> Result<Def, Fail>
+fn declared(
+    tokens: &mut Tokens<'_>,
+    alloc: Global,
+    most: usize,
+    pos: Pos,
+    partial: bool,
+) -> Result<Def, Fail>
     ensures { Reads def result (read_declared most pos.file pos.offset partial) (left tokens.old) (left tokens.new) }
 {
     let term = decl_name(tokens, alloc)?;
@@ -194,7 +200,11 @@ fn extern_constructor(tokens: &mut Tokens<'_>, alloc: Global, pos: Pos) -> Resul
 
 /// A rule's head: a term, and the patterns of its arguments.
 #[tactic(auto, using(isle_reading::proofs::Steps::chain), unfolding(crate::specs::Reading::read_parts))]
-fn parts(tokens: &mut Tokens<'_>, alloc: Global, most: usize) -> Result<(Text, Vec<AstPattern>), Fail>
+fn parts(
+    tokens: &mut Tokens<'_>,
+    alloc: Global,
+    most: usize,
+) -> Result<(Text, Vec<AstPattern>), Fail>
     ensures { Reads (λ parts. (parts.0, map pattern parts.1.items)) result (read_parts most) (left tokens.old) (left tokens.new) }
 {
     tokens.open()?;
@@ -225,7 +235,13 @@ fn rule(tokens: &mut Tokens<'_>, alloc: Global, most: usize, pos: Pos) -> Result
 }
 
 /// What stands behind the head of the definition at that place.
-fn behind(tokens: &mut Tokens<'_>, alloc: Global, most: usize, pos: Pos, head: Head) -> Result<Def, Fail>
+fn behind(
+    tokens: &mut Tokens<'_>,
+    alloc: Global,
+    most: usize,
+    pos: Pos,
+    head: Head,
+) -> Result<Def, Fail>
     ensures { Reads def result (read_behind most pos.file pos.offset (head_seen head)) (left tokens.old) (left tokens.new) }
 {
     match head {
@@ -237,7 +253,12 @@ fn behind(tokens: &mut Tokens<'_>, alloc: Global, most: usize, pos: Pos, head: H
 
 /// A definition of the file of that number, its lists of fewer than `most` parts.
 #[tactic(auto, using(isle_reading::proofs::Steps::chain), unfolding(crate::specs::Reading::read_def))]
-pub fn definition(tokens: &mut Tokens<'_>, alloc: Global, most: usize, file: usize) -> Result<Def, Fail>
+pub fn definition(
+    tokens: &mut Tokens<'_>,
+    alloc: Global,
+    most: usize,
+    file: usize,
+) -> Result<Def, Fail>
     ensures { Reads def result (read_def most file) (left tokens.old) (left tokens.new) }
 {
     let offset = tokens.open()?;
@@ -247,7 +268,12 @@ pub fn definition(tokens: &mut Tokens<'_>, alloc: Global, most: usize, file: usi
 
 /// The definitions of a file of at most `most` tokens, up to its end.
 #[tactic(auto, using(isle_reading::proofs::ListSteps::alls))]
-pub fn file_of(tokens: &mut Tokens<'_>, alloc: Global, most: usize, file: usize) -> Result<Vec<Def>, Fail>
+pub fn file_of(
+    tokens: &mut Tokens<'_>,
+    alloc: Global,
+    most: usize,
+    file: usize,
+) -> Result<Vec<Def>, Fail>
     ensures { Reads (λ read. defs read.items) result (read_file most file) (left tokens.old) (left tokens.new) }
 {
     let mut definitions = Vec::new(alloc);

@@ -31,7 +31,11 @@ pub fn names(tokens: &mut Tokens<'_>, alloc: Global, most: usize) -> Result<Vec<
 
 /// Patterns up to a closing parenthesis, which is taken, of at most `most` tokens.
 #[tactic(auto, using(isle_reading::proofs::ListSteps::lists))]
-pub fn patterns(tokens: &mut Tokens<'_>, alloc: Global, most: usize) -> Result<Vec<AstPattern>, Fail>
+pub fn patterns(
+    tokens: &mut Tokens<'_>,
+    alloc: Global,
+    most: usize,
+) -> Result<Vec<AstPattern>, Fail>
     ensures { Reads (λ patterns. map pattern patterns.items) result (many most read_pattern) (left tokens.old) (left tokens.new) }
 {
     let mut patterns = Vec::new(alloc);

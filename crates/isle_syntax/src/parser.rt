@@ -33,7 +33,12 @@ fn definitions(alloc: Global, lexer: Lexer<'_>) -> Result<Vec<Def>, Fail>
 {
     let file = lexer.file();
     let tokens = lexer.tokens(alloc)?;
-    file_of(&mut Tokens::new(tokens.as_slice()), alloc, tokens.len(), file)
+    file_of(
+        &mut Tokens::new(tokens.as_slice()),
+        alloc,
+        tokens.len(),
+        file,
+    )
 }
 
 /// The definitions that the reader's text spells, in order. `NotYet` comes exactly where no definitions of the forms

@@ -1,5 +1,4 @@
-use Rattle.std.proofs.Common.{◌≡◌, rules}
-use Rattle.isle_reading.proofs.Steps.{then_comes, then_refuses, bind_refuses, passed}
+use Rattle.isle_reading.proofs.Steps.{then_comes}
 use Rattle.isle_syntax.specs.Reading.{read_decl}
 use Rattle.isle_syntax.proofs.definition.decl.Goals as goal
 

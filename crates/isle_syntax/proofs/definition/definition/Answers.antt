@@ -1,4 +1,3 @@
-use Rattle.std.proofs.Common.{◌≡◌, rules}
 use Rattle.isle_reading.proofs.Steps.{then_comes, then_refuses, bind_refuses, passed}
 use Rattle.isle_syntax.specs.Reading.{read_def}
 use Rattle.isle_syntax.proofs.definition.definition.Goals as goal

@@ -1,4 +1,4 @@
-use Rattle.std.proofs.Common.{◌≡◌, rules}
+use Rattle.std.proofs.Common.{rules}
 use Rattle.isle_reading.proofs.Steps.{then_got, done_got, then_refuses, bind_refuses, passed}
 use Rattle.isle_syntax.specs.Reading.{read_extern}
 use Rattle.isle_syntax.proofs.definition.extern_constructor.Goals as goal

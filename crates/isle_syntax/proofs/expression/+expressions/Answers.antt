@@ -1,5 +1,4 @@
-use Rattle.std.proofs.Common.{◌≡◌, ◌∙◌, rules, arith, subst, sym, ◌<◌}
-use Rattle.isle_reading.specs.Reader.{Reading}
+use Rattle.std.proofs.Common.{◌∙◌, rules, subst, sym}
 use Rattle.isle_reading.specs.Views.{left, Refuses}
 use Rattle.isle_reading.proofs.Steps.{passed, then_got, done_got, then_refuses, bind_refuses}
 use Rattle.isle_reading.proofs.ListSteps.{list-more, list-end, list-refuses}

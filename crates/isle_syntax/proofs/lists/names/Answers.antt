@@ -1,4 +1,4 @@
-use Rattle.std.proofs.Common.{◌≡◌, rules, List, []}
+use Rattle.std.proofs.Common.{◌≡◌, rules, []}
 use Rattle.isle_reading.specs.Reader.{run, Stuck}
 use Rattle.isle_reading.specs.Names.{read_name}
 use Rattle.isle_reading.proofs.Steps.{passed, word_none}

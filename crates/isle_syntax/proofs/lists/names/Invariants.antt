@@ -1,4 +1,4 @@
-use Rattle.std.proofs.Common.{◌≡◌, ◌-◌, List, ℕ, map}
+use Rattle.std.proofs.Common.{◌≡◌, ◌-◌}
 use Rattle.isle_reading.specs.Reader.{run}
 use Rattle.isle_reading.specs.Combinators.{many}
 use Rattle.isle_reading.specs.Names.{read_name}

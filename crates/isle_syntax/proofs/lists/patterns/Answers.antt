@@ -1,10 +1,8 @@
-use Rattle.std.proofs.Common.{◌≡◌, rules, List, []}
+use Rattle.std.proofs.Common.{◌≡◌, rules, []}
 use Rattle.isle_reading.specs.Reader.{run, Stuck}
-use Rattle.isle_reading.specs.Views.{left, closes}
 use Rattle.isle_reading.proofs.Steps.{passed, word_none}
 use Rattle.isle_reading.proofs.ListSteps.{list-more, list-end, list-refuses}
 use Rattle.isle_syntax.specs.Reading.{read_pattern}
-use Rattle.isle_syntax.specs.Views.{pattern}
 use Rattle.isle_syntax.proofs.lists.patterns.Goals as goal
 
 pattern_none : run read_pattern [] ≡ Stuck []
