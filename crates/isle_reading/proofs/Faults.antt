@@ -7,19 +7,10 @@ use Rattle.isle_reading.specs.Nesting.{Nest, nest, nothing_open, depth, most_ope
 use Rattle.isle_reading.specs.Relations.{Begun, Ended}
 use Rattle.isle_reading.specs.Places.{Accepted, Starts, GoesWrong, wrong, too_deep, missing, IsFault}
 use Rattle.isle_reading.specs.Views.{stops}
-use Rattle.isle_reading.proofs.Running.{stuck_not_got, stuck_not_deep, got_is, not_more, stuck_here}
+use Rattle.isle_reading.proofs.Running.{stuck_not_got, stuck_not_deep, got_is, same_front, stuck_here}
 use Rattle.isle_reading.proofs.Passes.{Over, Nests, passed_front, front_shallow, last_shallow, shallow_not_over}
 use Rattle.isle_reading.proofs.Law as law
 use Rattle.isle_reading.proofs.Law.{Hits, hit, Law}
-
-same_front : (front other rest : List Lexeme) → front ++ rest ≡ other ++ rest → front ≡ other
-same_front [] [] rest e = refl
-same_front [] (u ∷ other) rest e = absurd (not_more u other rest (sym e))
-same_front (t ∷ front) [] rest e = absurd (not_more t front rest e)
-same_front (t ∷ front) (u ∷ other) rest e =
-    let same : t ≡ u = cc in
-    let behind : front ++ rest ≡ other ++ rest = cc in
-    ap (λ z. z ∷ front) same ∙ ap (λ z. u ∷ z) (same_front front other rest behind)
 
 -- ---- a reader up to the end of the text
 

@@ -102,7 +102,7 @@ law_less m le h = law_states m le (λ q p. p) (λ a q e. e) h
 
 -- ---- one after another
 
-then_whole : {A B : Type 0} {C D : List Lexeme → Type 0} (S : A → List Lexeme → List Lexeme → Type 0) (T : A → B → List Lexeme → List Lexeme → Type 0) (a : A) (b : B) (f1 f2 : List Lexeme)
+pub then_whole : {A B : Type 0} {C D : List Lexeme → Type 0} (S : A → List Lexeme → List Lexeme → Type 0) (T : A → B → List Lexeme → List Lexeme → Type 0) (a : A) (b : B) (f1 f2 : List Lexeme)
     → ((ts rest : List Lexeme) → T a b ts rest → D rest → C ts) → Whole C S a f1 → Whole D (T a) b f2 → Whole D (Then S T) b (f1 ++ f2)
 then_whole S T a b f1 f2 follows v w tail d = (a, f2 ++ tail, subst (λ z. S a z (f2 ++ tail)) (sym (append_assoc f1 f2 tail)) (v (f2 ++ tail) (follows (f2 ++ tail) tail (w tail d) d)), w tail d)
 
@@ -111,7 +111,7 @@ module _ {A B : Type 0} {C D : List Lexeme → Type 0} (S : A → List Lexeme �
   then_taken : (a : A) (b : B) (ts mid rest : List Lexeme) → Taken C S a ts mid → Taken D (T a) b mid rest → Taken D (Then S T) b ts rest
   then_taken a b ts mid rest x y = (x.0 ++ y.0, x.1 ∙ ap (λ z. x.0 ++ z) y.1 ∙ sym (append_assoc x.0 y.0 rest), then_whole S T a b x.0 y.0 (follows a b) x.2 y.2)
 
-  then_begun : (a : A) (ts mid rest : List Lexeme) → Taken C S a ts mid → Begun D (T a) mid rest → Begun D (Then S T) ts rest
+  pub then_begun : (a : A) (ts mid rest : List Lexeme) → Taken C S a ts mid → Begun D (T a) mid rest → Begun D (Then S T) ts rest
   then_begun a ts mid rest x y = (
     x.0 ++ y.0,
     x.1 ∙ ap (λ z. x.0 ++ z) y.1 ∙ sym (append_assoc x.0 y.0 rest),
@@ -127,7 +127,7 @@ module _ {A B : Type 0} {C D : List Lexeme → Type 0} (S : A → List Lexeme �
   pub then_ends : Begins C S [] → ((a : A) → Begins D (T a) []) → Begins D (Then S T) []
   then_ends s h = let z = h s.1 in (s.0 ++ z.0, z.1, then_whole S T s.1 z.1 s.0 z.0 (follows s.1 z.1) s.2 z.2)
 
-then_hits : {A B : Type 0} (o : Reading A) (k : A → List Lexeme → Reading B) (w : Reading B) (a : A) (b : B) (mid rest : List Lexeme)
+pub then_hits : {A B : Type 0} (o : Reading A) (k : A → List Lexeme → Reading B) (w : Reading B) (a : A) (b : B) (mid rest : List Lexeme)
     → w ≡ after o k → Hits o a mid → Hits (k a mid) b rest → Hits w b rest
 then_hits o k w a b mid rest is (hit e) (hit u) = hit (is ∙ ap (λ z. after z k) e ∙ u)
 then_hits o k w a b mid rest is (hit e) (too_deep q u) = too_deep q (is ∙ ap (λ z. after z k) e ∙ u)
@@ -139,7 +139,7 @@ leads_behind E n m q p ts mid (Got a rest) x short (p2, y, e) = (p2, passes_more
 leads_behind E n m q p ts mid (Stuck rest) x short (p2, y) = (p2, passes_more x y)
 leads_behind E n m q p ts mid (Deep rest) x short (p2, y, o) = (p2, passes_more x y, λ l. o (short l))
 
-then_leads : {A B : Type 0} (M : A → Nest → Type 0) (E : B → Nest → Type 0) (n m : ℕ) (q : Nest) (ts : List Lexeme) (o : Reading A) (k : A → List Lexeme → Reading B) → ((a : A) (mid : List Lexeme) → o ≡ Got a mid → length ts ≤ n → length mid ≤ m)
+pub then_leads : {A B : Type 0} (M : A → Nest → Type 0) (E : B → Nest → Type 0) (n m : ℕ) (q : Nest) (ts : List Lexeme) (o : Reading A) (k : A → List Lexeme → Reading B) → ((a : A) (mid : List Lexeme) → o ≡ Got a mid → length ts ≤ n → length mid ≤ m)
     → Nests M n q ts o → ((a : A) (p : Nest) (mid : List Lexeme) → M a p → Nests E m p mid (k a mid)) → Nests E n q ts (after o k)
 then_leads M E n m q ts (Got a mid) k short (p, x, e) h = leads_behind E n m q p ts mid (k a mid) x (short a mid refl) (h a p mid e)
 then_leads M E n m q ts (Stuck rest) k short x h = x

@@ -8,3 +8,5 @@ pub mod Faults
 pub mod States
 pub mod Steps
 pub mod ListSteps
+pub mod Merging
+pub mod BothLaw

@@ -1,5 +1,5 @@
 -- What holds of every reader.
-use Rattle.std.proofs.Common.{◌≡◌, ℕ, suc, ◌+◌, ◌≤◌, List, [], ◌∷◌, ◌++◌, length, length-append, Bool, true, false, cond, ◌⊎◌, inl, inr, refl, ap, arith}
+use Rattle.std.proofs.Common.{◌≡◌, ℕ, suc, ◌+◌, ◌≤◌, List, [], ◌∷◌, ◌++◌, length, length-append, Bool, true, false, cond, ◌⊎◌, inl, inr, refl, ap, sym, ◌∙◌, arith}
 use Rattle.isle_lexer.specs.Lexeme.{Lexeme}
 use Rattle.isle_reading.specs.Reader.{Reading, Got, Stuck, Deep, Reader, Ret, Ask, Peek, End, Halt, after, run, bind}
 
@@ -100,6 +100,16 @@ not_more t front us e =
     let a : length (t ∷ (front ++ us)) ≡ length us = ap length e in
     let b : length (front ++ us) ≡ length front + length us = length-append front us in
     omega (arith, a, b)
+
+-- the same tokens stand in front of the same
+pub same_front : (front other rest : List Lexeme) → front ++ rest ≡ other ++ rest → front ≡ other
+same_front [] [] rest e = refl
+same_front [] (u ∷ other) rest e = absurd (not_more u other rest (sym e))
+same_front (t ∷ front) [] rest e = absurd (not_more t front rest e)
+same_front (t ∷ front) (u ∷ other) rest e =
+    let same : t ≡ u = cc in
+    let behind : front ++ rest ≡ other ++ rest = cc in
+    ap (λ z. z ∷ front) same ∙ ap (λ z. u ∷ z) (same_front front other rest behind)
 
 -- a reader leaves no token more than there were
 pub not_back : {A : Type 0} (r : Reader A) (t : Lexeme) (behind : List Lexeme) → remains (run r behind) ≡ t ∷ behind → ⊥
