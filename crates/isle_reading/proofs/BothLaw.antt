@@ -5,7 +5,7 @@ use Rattle.isle_reading.specs.Reader.{Reading, Got, Stuck, Deep, Reader, after, 
 use Rattle.isle_reading.specs.Combinators.{Both, OnlyFirst, OnlySecond, BothGot, both}
 use Rattle.isle_reading.specs.Nesting.{Nest}
 use Rattle.isle_reading.specs.Relations.{Whole, Begins, Taken, Begun, Anything}
-use Rattle.isle_reading.proofs.Running.{run-bind, got_shrinks, same_front, stuck_not_got, stuck_not_deep, got_not_deep, got_is, deep_is, after_got, after_stuck, after_deep}
+use Rattle.isle_reading.proofs.Running.{run-bind, same_front, stuck_not_got, stuck_not_deep, got_not_deep, got_is, deep_is, after_got, after_stuck, after_deep}
 use Rattle.isle_reading.proofs.Passes.{Nests}
 use Rattle.isle_reading.proofs.Law.{Hits, hit, too_deep, Law, Then, Either, then_whole, then_begun, first_begun, then_ends, then_leads, then_hits}
 use Rattle.isle_reading.proofs.Merging.{Below, Merged, both_got, first_got, second_got, first_stuck, second_stuck, first_deep, second_deep, both_merged}
@@ -35,12 +35,23 @@ too_far S T same b ts rest us (front, e, w) (other, f, (others, a, v)) l = by (s
         let x : [] ≡ t ∷ (more ++ others) = same a b (front ++ ((t ∷ more) ++ others)) [] ((t ∷ more) ++ others) whole (w ((t ∷ more) ++ others) tt) in
         cc
 
-module _ {A B X : Type 0} {P M : Nest → Type 0} {E : X → Nest → Type 0} {D : List Lexeme → Type 0} {n : ℕ}
+-- what both readers leave, where each takes a token
+pub both_less : {A B : Type 0} (n : ℕ) (r : Reader A) (q : Reader B) → ((a : A) (ts rest : List Lexeme) → run r ts ≡ Got a rest → length rest < length ts) → ((b : B) (ts rest : List Lexeme) → run q ts ≡ Got b rest → length rest < length ts)
+    → (z : Both A B) (ts mid : List Lexeme) → run (both r q) ts ≡ Got z mid → length ts ≤ suc n → length mid ≤ n
+both_less {A = A} {B = B} n r q hr hq z ts mid e l = let x : length mid < length ts = by z mid (subst (Merged (run r ts) (run q ts)) e (both_merged r q ts)) in omega (arith, l, x)
+  where
+    by : (z : Both A B) (mid : List Lexeme) → Merged (run r ts) (run q ts) (Got z mid) → length mid < length ts
+    by _ _ (both_got a b mid e f) = hr a ts mid e
+    by _ _ (first_got a mid e l) = hr a ts mid e
+    by _ _ (second_got b mid f l) = hq b ts mid f
+
+module _ {A B X : Type 0} {P M : Nest → Type 0} {E : X → Nest → Type 0} {D : List Lexeme → Type 0} {n : ℕ} (m : ℕ)
     {S : A → List Lexeme → List Lexeme → Type 0} {T : B → List Lexeme → List Lexeme → Type 0} {U : A → X → List Lexeme → List Lexeme → Type 0} {V : B → X → List Lexeme → List Lexeme → Type 0}
     (r : Reader A) (q : Reader B) (k : Both A B → Reader X) (hr : Law P (λ a. M) Anything n S r) (hq : Law P (λ b. M) Anything n T q)
-    (first : (a : A) → Law M E D n (U a) (k (OnlyFirst a))) (second : (b : B) → Law M E D n (V b) (k (OnlySecond b)))
-    (together : (a : A) (b : B) → Law M E D n (Either (U a) (V b)) (k (BothGot a b)))
-    (same_end : (a : A) (b : B) (ts rest behind : List Lexeme) → S a ts rest → T b ts behind → rest ≡ behind) where
+    (first : (a : A) → Law M E D m (U a) (k (OnlyFirst a))) (second : (b : B) → Law M E D m (V b) (k (OnlySecond b)))
+    (together : (a : A) (b : B) → Law M E D m (Either (U a) (V b)) (k (BothGot a b)))
+    (same_end : (a : A) (b : B) (ts rest behind : List Lexeme) → S a ts rest → T b ts behind → rest ≡ behind)
+    (short : (z : Both A B) (ts mid : List Lexeme) → run (both r q) ts ≡ Got z mid → length ts ≤ n → length mid ≤ m) where
   abbrev Fork : X → List Lexeme → List Lexeme → Type 0
   Fork = Either (Then S U) (Then T V)
 
@@ -68,7 +79,7 @@ module _ {A B X : Type 0} {P M : Nest → Type 0} {E : X → Nest → Type 0} {D
   Behind (OnlySecond b) = V b
   Behind (BothGot a b) = Either (U a) (V b)
 
-  law_behind : (z : Both A B) → Law M E D n (Behind z) (k z)
+  law_behind : (z : Both A B) → Law M E D m (Behind z) (k z)
   law_behind (OnlyFirst a) = first a
   law_behind (OnlySecond b) = second b
   law_behind (BothGot a b) = together a b
@@ -208,7 +219,7 @@ module _ {A B X : Type 0} {P M : Nest → Type 0} {E : X → Nest → Type 0} {D
 
   leads : (s : Nest) (ts : List Lexeme) → P s → Nests E n s ts (run (bind (both r q) k) ts)
   leads s ts p = subst (Nests E n s ts) (sym (run-bind (both r q) k ts))
-      (then_leads (λ z. M) E n n s ts (run (both r q) ts) (λ z us. run (k z) us) (λ z mid e l. let x : length mid ≤ length ts = got_shrinks (both r q) ts mid z e in omega (arith, l, x))
+      (then_leads (λ z. M) E n m s ts (run (both r q) ts) (λ z us. run (k z) us) (λ z mid. short z ts mid)
       (merged_leads s ts (run r ts) (run q ts) (run (both r q) ts) (both_merged r q ts) (hr.leads s ts p) (hq.leads s ts p)) (λ z p2 mid. (law_behind z).leads p2 mid))
 
   pub law_both : Law P E D n Fork (bind (both r q) k)

@@ -9,7 +9,7 @@ use Rattle.isle_reading.proofs.Running.{stuck_not_got, stuck_not_deep, got_not_d
 use Rattle.isle_reading.proofs.Passes.{Nests, Steps}
 use Rattle.isle_reading.proofs.Passes as passes
 use Rattle.isle_reading.proofs.Law.{Hits, hit, too_deep, Law, Heads, Some_token, Nothing, NothingLeft, Then, Either, law_map, law_less, law_next, law_then, law_less_then}
-use Rattle.isle_reading.proofs.TokenLaws.{law_ret, CloseS, law_close, law_peek, law_done}
+use Rattle.isle_reading.proofs.TokenLaws.{law_ret, CloseS, law_close, law_peek, law_done, law_spent}
 
 -- ---- values up to a parenthesis, or to the end, each of which takes a token
 
@@ -21,7 +21,7 @@ longer (t ∷ front) ts rest some e =
     omega (arith, a, b)
 
 -- what is read takes a token, where nothing spells it in front of some tokens
-takes : {A : Type 0} {P : Nest → Type 0} {E : A → Nest → Type 0} {C : List Lexeme → Type 0} {n : ℕ} {S : A → List Lexeme → List Lexeme → Type 0} (r : Reader A) → Law P E C n S r
+pub takes : {A : Type 0} {P : Nest → Type 0} {E : A → Nest → Type 0} {C : List Lexeme → Type 0} {n : ℕ} {S : A → List Lexeme → List Lexeme → Type 0} (r : Reader A) → Law P E C n S r
     → (some : List Lexeme) → C some → ((a : A) → S a some some → ⊥) → (a : A) (ts rest : List Lexeme) → run r ts ≡ Got a rest → length rest < length ts
 takes {S = S} r h some c not a ts rest e =
     let x = (h.sound ts rest a e).1 in
@@ -57,45 +57,14 @@ module _ {A : Type 0} {P : Nest → Type 0} {C : List Lexeme → Type 0} (E : Ne
   many_follows _ _ _ (none at ts) = close_follows at ts
   many_follows _ _ _ (more a others ts mid rest s m) = follows a ts mid s
 
-  no_more : Law P (λ as'. E) Anything 0 (Many S) (End refuse Halt)
-  unfolding run
-  no_more = record {
-    sound = λ ts rest a e. absurd (never_got ts rest a e);
-    complete = complete;
-    closes = closes;
-    deepens = deepens;
-    leads = leads;
-    ends = (Close 0 ∷ [], [], λ tail c. none 0 tail);
-  }
-    where
-      never_got : (ts rest : List Lexeme) (as' : List A) → run (End refuse Halt) ts ≡ Got as' rest → ⊥
-      never_got [] rest as' e = stuck_not_got _ [] rest as' refl e
-      never_got (t ∷ ts) rest as' e = got_not_deep _ rest (t ∷ ts) as' e refl
-
-      complete : (ts rest : List Lexeme) (as' : List A) → Many S as' ts rest → Anything rest → Hits (run (End refuse Halt) ts) as' rest
-      complete [] rest as' m c = absurd (has_token as' [] rest m refl)
-        where
-          has_token : (as' : List A) (ts rest : List Lexeme) → Many S as' ts rest → ts ≡ [] → ⊥
-          has_token _ _ _ (none at us) e = cc
-          has_token _ _ _ (more a others us mid rest s m) e = let x = no_close a us mid s in let y : [] ≡ x.0 ∷ x.1 = sym e ∙ x.2 in cc
-      complete (t ∷ ts) rest as' m c = too_deep (t ∷ ts) refl
-
-      closes : (ts rest : List Lexeme) → run {A = List A} (End refuse Halt) ts ≡ Stuck rest → Begun Anything (Many S) ts rest
-      closes [] rest e = ([], stuck_is [] rest _ refl e, (Close 0 ∷ [], [], λ tail c. none 0 tail))
-      closes (t ∷ ts) rest e = absurd (stuck_not_deep _ rest (t ∷ ts) e refl)
-
-      deepens : (ts rest : List Lexeme) → run {A = List A} (End refuse Halt) ts ≡ Deep rest → Begun Anything (Many S) ts rest
-      deepens [] rest e = absurd (stuck_not_deep _ [] rest refl e)
-      deepens (t ∷ ts) rest e = ([], deep_is (t ∷ ts) rest _ refl e, (Close 0 ∷ [], [], λ tail c. none 0 tail))
-
-      leads : (q : Nest) (ts : List Lexeme) → P q → Nests (λ (as' : List A). E) 0 q ts (run (End refuse Halt) ts)
-      leads q [] p = (q, passes.none q [])
-      leads q (t ∷ ts) p = (q, passes.none q (t ∷ ts), λ l. absurd (omega (arith, l)))
+  many_some : (as' : List A) (ts rest : List Lexeme) → Many S as' ts rest → Some_token ts
+  many_some _ _ _ (none at ts) = (Close at, ts, refl)
+  many_some _ _ _ (more a others ts mid rest s m) = let x = no_close a ts mid s in (x.0, x.1, x.2)
 
   -- values up to a closing parenthesis, at k tokens or fewer
   pub law_many : (k : ℕ) → k ≤ n → Law P (λ as'. E) Anything k (Many S) (many k r)
   unfolding many
-  law_many zero le = no_more
+  law_many zero le = law_spent many_some (Close 0 ∷ [], [], λ tail c. none 0 tail)
   law_many (suc k) le = law_map to from (law_peek is_close (bind read_close (λ c. Ret [])) (bind r (λ a. bind (many k r) (λ others. Ret (a ∷ others))))
       (λ as' ts rest s c. (Close s.0, s.1, s.2, refl)) (λ as' ts rest s c. no_close s.0 ts s.1 s.2)
       (law_next read_close (λ c. Ret []) (law_close closing) (λ c. law_ret [] (λ q p. p)))

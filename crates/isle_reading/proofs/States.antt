@@ -5,7 +5,7 @@ use Rattle.isle_lexer.specs.Lexeme.{Lexeme, Open, Close, At, Less, Greater, Word
 use Rattle.isle_reading.specs.Combinators.{is_open, is_at, place}
 use Rattle.isle_reading.specs.Nesting.{Mark, Round, Passed, Sign, Last, Headless, Awaiting, Other, Nest, nothing_open, is_passed, settled, here_by, here, opened, closed, signed, passed_over, worded, nest, most_open}
 use Rattle.isle_reading.proofs.Passes.{Steps}
-use Rattle.isle_reading.proofs.TokenLaws.{WordSteps, open_is}
+use Rattle.isle_reading.proofs.TokenLaws.{WordSteps, open_is, at_is}
 
 -- ---- so many are open, and none of them is an `@`
 
@@ -169,14 +169,6 @@ pub inside_over : (ms : List Mark) → InList ms → most_open ≡ length ms →
 inside_over ms h e q t p is =
     let x : length (nest q (Open (place t))).marks ≡ suc (length ms) = ap (λ (z : Nest). length z.marks) (ap opened p.stands ∙ more_inside ms h) in
     subst (λ z. most_open < length (nest q z).marks) (sym (open_is t is)) (omega (arith, e, x))
-
-at_is : (t : Lexeme) → IsTrue (is_at t) → t ≡ At (place t)
-at_is (Open at) h = cc
-at_is (Close at) h = cc
-at_is (At at) h = refl
-at_is (Less at) h = cc
-at_is (Greater at) h = cc
-at_is (Word at w) h = cc
 
 pub behind_over : (ms : List Mark) → InList ms → most_open ≡ length ms → (q : Nest) (t : Lexeme) → Behind ms q → IsTrue (is_at t) → most_open < length (nest q t).marks
 behind_over ms h e q t p is =

@@ -3,7 +3,7 @@ use Rattle.std.proofs.Common.{◌≡◌, ℕ, ◌<◌, List, [], ◌∷◌, ◌+
 use Rattle.std.specs.Prelude.{is_some}
 use Rattle.isle_lexer.specs.Lexeme.{Lexeme, Open, Close, At, Less, Greater, Word}
 use Rattle.isle_reading.specs.Reader.{Reading, Got, Stuck, Deep, Reader, Ret, Ask, Peek, End, Halt, run}
-use Rattle.isle_reading.specs.Combinators.{is_open, is_close, on_word, bytes, place, read_open, read_close, given, read_word, read_optional, at_end}
+use Rattle.isle_reading.specs.Combinators.{is_open, is_close, is_at, on_word, bytes, place, refuse, read_open, read_close, read_at, given, read_word, read_optional, at_end}
 use Rattle.isle_reading.specs.Nesting.{Nest, nest, most_open}
 use Rattle.isle_reading.specs.Relations.{Begins, Taken, Begun, Ended}
 use Rattle.isle_reading.proofs.Running.{stuck_not_got, stuck_not_deep, got_not_deep, got_is, stuck_is, deep_is}
@@ -131,6 +131,30 @@ law_close {P = P} {E = E} steps = law_map to from (law_ask (λ t. E (place t)) (
 
     from : (at : ℕ) (ts rest : List Lexeme) → CloseS at ts rest → Token_then is_close (λ t. Nothing (place t)) at ts rest
     from at ts rest e = (Close at, rest, e, refl, (refl, refl))
+
+-- ---- an `@`, by its place
+
+abbrev pub AtS : ℕ → List Lexeme → List Lexeme → Type 0
+AtS at ts rest = ts ≡ At at ∷ rest
+
+pub at_is : (t : Lexeme) → IsTrue (is_at t) → t ≡ At (place t)
+at_is (Open at) h = cc
+at_is (Close at) h = cc
+at_is (At at) h = refl
+at_is (Less at) h = cc
+at_is (Greater at) h = cc
+at_is (Word at w) h = cc
+
+pub law_at : {P : Nest → Type 0} {E : ℕ → Nest → Type 0} {C : List Lexeme → Type 0} {n : ℕ} → ((at : ℕ) → Steps P (E at) (At at)) → Law P E C n AtS read_at
+unfolding read_at
+law_at {P = P} {E = E} steps = law_map to from (law_ask (λ t. E (place t)) (λ t. Nothing (place t)) is_at (λ t. Ret (place t)) (λ t is. subst (Steps P (E (place t))) (sym (at_is t is)) (steps (place t))) (λ t is. law_ret (place t) (λ q p. p))
+    (At 0 ∷ [], 0, λ tail c. (At 0, tail, refl, refl, (refl, refl))))
+  where
+    to : (at : ℕ) (ts rest : List Lexeme) → Token_then is_at (λ t. Nothing (place t)) at ts rest → AtS at ts rest
+    to at ts rest (t, us, e, is, (p, r)) = e ∙ ap (λ z. z ∷ us) (at_is t is) ∙ ap (λ z. At z ∷ us) (sym p) ∙ ap (λ z. At at ∷ z) r
+
+    from : (at : ℕ) (ts rest : List Lexeme) → AtS at ts rest → Token_then is_at (λ t. Nothing (place t)) at ts rest
+    from at ts rest e = (At at, rest, e, refl, (refl, refl))
 
 -- ---- a word that gives something
 
@@ -287,6 +311,74 @@ law_barred {A = A} {P = P} {E = E} {C = C} {n = n} {S = S} {T = T} test r sy sr 
     leads : (q : Nest) (ts : List Lexeme) → P q → Nests E n q ts (run (Peek test Halt r) ts)
     leads q [] p = (q, none q [])
     leads q (t ∷ us) p = barred (test t) q t us (run r (t ∷ us)) (λ is. over q t p is) (hr.leads q (t ∷ us) p)
+
+-- the same where nothing else may stand
+pub law_walled : {A : Type 0} {P : Nest → Type 0} {E : A → Nest → Type 0} {C : List Lexeme → Type 0} {n : ℕ} {S : A → List Lexeme → List Lexeme → Type 0} (test : Lexeme → Bool)
+    → ((a : A) (ts rest : List Lexeme) → S a ts rest → C rest → Heads test true ts) → ((q : Nest) (t : Lexeme) → P q → IsTrue (test t) → most_open < length (nest q t).marks) → Begins C S []
+    → Law P E C n S (Peek test Halt refuse)
+unfolding run
+law_walled {A = A} {P = P} {E = E} {C = C} {n = n} {S = S} test heads over some = record { sound = sound; complete = complete; closes = closes; deepens = deepens; leads = leads; ends = some }
+  where
+    not_got : (b : Bool) (ts rest : List Lexeme) (a : A) → cond b (Deep ts) (Stuck ts) ≡ Got a rest → ⊥
+    not_got true ts rest a e = got_not_deep _ rest ts a e refl
+    not_got false ts rest a e = stuck_not_got _ ts rest a refl e
+
+    is_stuck : (b : Bool) (ts rest : List Lexeme) → cond {A = Reading A} b (Deep ts) (Stuck ts) ≡ Stuck rest → ts ≡ rest
+    is_stuck true ts rest e = absurd (stuck_not_deep _ rest ts e refl)
+    is_stuck false ts rest e = stuck_is ts rest _ refl e
+
+    is_deep : (b : Bool) (ts rest : List Lexeme) → cond {A = Reading A} b (Deep ts) (Stuck ts) ≡ Deep rest → ts ≡ rest
+    is_deep true ts rest e = deep_is ts rest _ refl e
+    is_deep false ts rest e = absurd (stuck_not_deep _ ts rest refl e)
+
+    sound : (ts rest : List Lexeme) (a : A) → run (Peek test Halt refuse) ts ≡ Got a rest → S a ts rest × Taken C S a ts rest
+    sound [] rest a e = absurd (stuck_not_got _ [] rest a refl e)
+    sound (t ∷ us) rest a e = absurd (not_got (test t) (t ∷ us) rest a e)
+
+    complete : (ts rest : List Lexeme) (a : A) → S a ts rest → C rest → Hits (run (Peek test Halt refuse) ts) a rest
+    complete ts rest a s c = let x = heads a ts rest s c in subst (λ z. Hits (run (Peek test Halt refuse) z) a rest) (sym x.2) (too_deep (x.0 ∷ x.1) (ap (λ b. cond b (Deep (x.0 ∷ x.1)) (Stuck (x.0 ∷ x.1))) x.3))
+
+    closes : (ts rest : List Lexeme) → run {A = A} (Peek test Halt refuse) ts ≡ Stuck rest → Begun C S ts rest
+    closes [] rest e = ([], stuck_is [] rest _ refl e, some)
+    closes (t ∷ us) rest e = ([], is_stuck (test t) (t ∷ us) rest e, some)
+
+    deepens : (ts rest : List Lexeme) → run {A = A} (Peek test Halt refuse) ts ≡ Deep rest → Begun C S ts rest
+    deepens [] rest e = absurd (stuck_not_deep _ [] rest refl e)
+    deepens (t ∷ us) rest e = ([], is_deep (test t) (t ∷ us) rest e, some)
+
+    walled : (b : Bool) (q : Nest) (t : Lexeme) (us : List Lexeme) → (IsTrue b → most_open < length (nest q t).marks) → Nests E n q (t ∷ us) (cond b (Deep (t ∷ us)) (Stuck (t ∷ us)))
+    walled true q t us h = (q, none q (t ∷ us), λ l. (t, us, refl, h refl))
+    walled false q t us h = (q, none q (t ∷ us))
+
+    leads : (q : Nest) (ts : List Lexeme) → P q → Nests E n q ts (run (Peek test Halt refuse) ts)
+    leads q [] p = (q, none q [])
+    leads q (t ∷ us) p = walled (test t) q t us (λ is. over q t p is)
+
+-- no tokens may be left to read
+pub law_spent : {A : Type 0} {P : Nest → Type 0} {E : A → Nest → Type 0} {C : List Lexeme → Type 0} {S : A → List Lexeme → List Lexeme → Type 0} → ((a : A) (ts rest : List Lexeme) → S a ts rest → Some_token ts) → Begins C S []
+    → Law P E C 0 S (End refuse Halt)
+unfolding run
+law_spent {A = A} {P = P} {E = E} {C = C} {S = S} heads some = record { sound = λ ts rest a e. absurd (not_got ts rest a e); complete = complete; closes = closes; deepens = deepens; leads = leads; ends = some }
+  where
+    not_got : (ts rest : List Lexeme) (a : A) → run (End refuse Halt) ts ≡ Got a rest → ⊥
+    not_got [] rest a e = stuck_not_got _ [] rest a refl e
+    not_got (t ∷ ts) rest a e = got_not_deep _ rest (t ∷ ts) a e refl
+
+    complete : (ts rest : List Lexeme) (a : A) → S a ts rest → C rest → Hits (run (End refuse Halt) ts) a rest
+    complete [] rest a s c = let x = heads a [] rest s in absurd (let y : [] ≡ x.0 ∷ x.1 = x.2 in cc)
+    complete (t ∷ ts) rest a s c = too_deep (t ∷ ts) refl
+
+    closes : (ts rest : List Lexeme) → run {A = A} (End refuse Halt) ts ≡ Stuck rest → Begun C S ts rest
+    closes [] rest e = ([], stuck_is [] rest _ refl e, some)
+    closes (t ∷ ts) rest e = absurd (stuck_not_deep _ rest (t ∷ ts) e refl)
+
+    deepens : (ts rest : List Lexeme) → run {A = A} (End refuse Halt) ts ≡ Deep rest → Begun C S ts rest
+    deepens [] rest e = absurd (stuck_not_deep _ [] rest refl e)
+    deepens (t ∷ ts) rest e = ([], deep_is (t ∷ ts) rest _ refl e, some)
+
+    leads : (q : Nest) (ts : List Lexeme) → P q → Nests E 0 q ts (run (End refuse Halt) ts)
+    leads q [] p = (q, none q [])
+    leads q (t ∷ ts) p = (q, none q (t ∷ ts), λ l. absurd (omega (arith, l)))
 
 -- ---- a word that gives something, or else nothing
 

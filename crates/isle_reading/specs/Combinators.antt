@@ -71,6 +71,10 @@ read_open = Ask is_open (λ t. Ret (place t))
 unfoldable pub read_close : Reader ℕ
 read_close = Ask is_close (λ t. Ret (place t))
 
+-- an `@`, by its place
+unfoldable pub read_at : Reader ℕ
+read_at = Ask is_at (λ t. Ret (place t))
+
 -- ---- words
 
 -- what a word gives, if anything
