@@ -1,109 +1,82 @@
--- The readers of definitions read the grammar's forms.
-use Rattle.std.proofs.Common.{◌≡◌, ℕ, List, [], ◌∷◌, Bool, true, false, ◌⊎◌, inl, inr, refl, ap, sym, ◌∙◌, subst, Option, Some, None, ℤ, pos}
-use Rattle.isle_syntax.specs.Depth.{most_open}
+-- The laws of the readers of definitions.
+use Rattle.std.proofs.Common.{◌≡◌, ℕ, ◌+◌, ◌≤◌, List, [], ◌∷◌, Bool, true, false, ◌⊎◌, inl, inr, refl, ap, sym, ◌∙◌, subst, arith, Option, Some, None, ℤ}
 use Rattle.std.specs.Prelude.{◌-◌, codes, bytes_eq, ◌||◌, if◌then◌else◌, is_some, option_map}
 use Rattle.std.proofs.lemmas.Slice.Eq.{bytes_eq-Decides}
 use Rattle.isle_lexer.specs.Lexeme.{Lexeme, Open, Close, Word}
-use Rattle.isle_syntax.specs.Reader.{Reading, Reader, Ret, run, bind, read_open, read_close, many}
 use Rattle.isle_lexer.specs.Word.{kind, names, IsName, is_flag}
+use Rattle.isle_reading.specs.Reader.{Ret, bind}
+use Rattle.isle_reading.specs.Combinators.{read_close, many}
+use Rattle.isle_reading.specs.Names.{NameS, symbol, name_of, read_name}
+use Rattle.isle_reading.specs.Nesting.{Nest, Round, is_passed, most_open}
+use Rattle.isle_reading.specs.Relations.{Anything, Many}
+use Rattle.isle_reading.proofs.Law.{Law, Some_token, Nothing, Then, law_map, law_then, law_next}
+use Rattle.isle_reading.proofs.TokenLaws.{OpenS, CloseS, WordS, Gives, NoWord, law_ret, law_open, law_close, law_word}
+use Rattle.isle_reading.proofs.ListLaws.{law_many}
+use Rattle.isle_reading.proofs.NameLaws.{if_some, name_some, law_name, name_heads}
+use Rattle.isle_reading.proofs.States.{Inside, top_open, head_word, inside_open, inside_close, inside_word}
 use Rattle.isle_syntax.specs.Tree.{Pattern, Expr, Def}
 use Rattle.isle_syntax.specs.Tree as tree
-use Rattle.isle_syntax.specs.Grammar.{Many, none, NameS, symbol, PatternS, ExprS, variable, RuleNameS, unnamed, PrioS, unwritten, written, PartialS, unflagged, DefS, decl, extern, rule}
-use Rattle.isle_syntax.specs.Reading.{name_of, read_name, read_pattern, read_expr, read_rule_name, read_prio, decl_name_of, read_decl_name, read_partial, read_declared, read_decl, constructor_of, read_constructor, read_extern, read_parts, read_rule, Head, DeclHead, RuleHead, ExternHead, head_of, read_head, read_behind, read_def}
-use Rattle.isle_syntax.proofs.Exact.{Whole, Begins, Reads, Anything, Nothing, Then}
-use Rattle.isle_syntax.proofs.Combine.{mapped, nothing_reads, next_reads, then_reads, then_ends, OpenS, CloseS, open_reads, close_then, close_ends, many_reads}
-use Rattle.isle_syntax.proofs.Expressions.{expr_reads}
-use Rattle.isle_syntax.proofs.WordForms.{WordS, word_reads, NoWord, a_named, a_plain, name_some, name_is, name_starts, name_reads, pattern_starts, pattern_reads, NoName, rule_name_of, rule_name_reads, prio_word, prio_reads, NoPartial, partial_reads, if_some}
+use Rattle.isle_syntax.specs.Grammar.{PatternS, ExprS, RuleNameS, PrioS, unwritten, written, PartialS, DefS, decl, extern, rule}
+use Rattle.isle_syntax.specs.Reading.{read_pattern, read_right, decl_name_of, read_decl_name, read_declared, read_decl, constructor_of, read_constructor, read_extern, read_parts, read_rule, Head, DeclHead, RuleHead, ExternHead, head_of, read_head, read_behind, read_def}
+use Rattle.isle_syntax.proofs.Expressions.{law_expr}
+use Rattle.isle_syntax.proofs.WordForms.{pattern_word, pattern_heads, law_pattern, rule_name_of, law_rule_name, prio_word, law_prio, law_partial}
+use Rattle.isle_syntax.specs.Reading.{partial_of}
 
--- ---- lists
+-- ---- the states: inside the definition's list, and inside a list in it
 
-names_read : {F : Type 0} (g : List Lexeme → Reading F) (n : ℕ) → Reads Anything (Many NameS) (run g (many n read_name))
-names_read g n = many_reads g NameS read_name (name_reads {C = Anything} g) (λ w ts rest s. tt) (λ at ts. tt) name_starts n
+abbrev InDef : Nest → Type 0
+InDef = Inside (Round ∷ [])
 
-patterns_read : {F : Type 0} (g : List Lexeme → Reading F) (n : ℕ) → Reads Anything (Many PatternS) (run g (many n read_pattern))
-patterns_read g n = many_reads g PatternS read_pattern (pattern_reads {C = Anything} g) (λ p ts rest s. tt) (λ at ts. tt) pattern_starts n
+abbrev InList : Nest → Type 0
+InList = Inside (Round ∷ Round ∷ [])
 
--- ---- the shortest ends
+few_open : (n : ℕ) → n ≤ 3 → n ≤ most_open
+unfolding most_open
+few_open n l = omega (arith, l)
 
-open_whole : Whole OpenS 0 (Open 0 ∷ [])
-open_whole tail = refl
+most_is : 1 + (most_open - 1) ≡ most_open
+unfolding most_open
+most_is = refl
 
-none_whole : {A : Type 0} (S : A → List Lexeme → List Lexeme → Type 0) → Whole (Many S) [] (Close 0 ∷ [])
-none_whole S tail = none 0 tail
+-- a closing parenthesis ends the definition
+law_closed : {n : ℕ} (d : Def) → Law InDef (λ d. Inside []) Anything n (Then CloseS (λ c. Nothing d)) (bind read_close (λ c. Ret d))
+law_closed d = law_next _ _ (law_close (inside_close Round [] (few_open 0 (omega arith)))) (λ c. law_ret d (λ q p. p))
 
-name_whole : Whole NameS (codes "a") (Word 0 (codes "a") ∷ [])
-name_whole tail = symbol 0 (codes "a") tail a_named
+law_names : (n : ℕ) → Law InList (λ names. InDef) Anything n (Many NameS) (many n read_name)
+law_names n = law_many {C = Anything} InDef n NameS read_name (law_name (inside_word (Round ∷ Round ∷ []) name_of (few_open 2 (omega arith)))) (λ w ts rest s. tt) (λ at ts. tt) name_heads (inside_close Round (Round ∷ []) (few_open 1 (omega arith))) n (omega arith)
 
-expr_whole : Whole ExprS (tree.Name (codes "a")) (Word 0 (codes "a") ∷ [])
-expr_whole tail = variable 0 (codes "a") tail a_plain
+law_patterns : (n : ℕ) → Law InList (λ ps. InDef) Anything n (Many PatternS) (many n read_pattern)
+law_patterns n = law_many {C = Anything} InDef n PatternS read_pattern (law_pattern (inside_word (Round ∷ Round ∷ []) pattern_word (few_open 2 (omega arith)))) (λ p ts rest s. tt) (λ at ts. tt) pattern_heads (inside_close Round (Round ∷ []) (few_open 1 (omega arith))) n (omega arith)
 
--- ---- behind the flag of ( decl
+law_a_name : {n : ℕ} → Law InDef (λ w. InDef) Anything n NameS read_name
+law_a_name = law_name (inside_word (Round ∷ []) name_of (few_open 1 (omega arith)))
+
+-- ---- behind ( decl
 
 abbrev the_decl : ℕ → ℕ → Bool → List ℕ → List (List ℕ) → List ℕ → Def
 the_decl file at partial term args ret = tree.Decl term false false partial false args ret (record { file = file; offset = at })
 
-abbrev Decl_ret : ℕ → ℕ → Bool → List ℕ → List (List ℕ) → Def → List Lexeme → List Lexeme → Type 0
-Decl_ret file at partial term args = Then NameS (λ ret. Then CloseS (λ c. Nothing (the_decl file at partial term args ret)))
-
-abbrev Decl_args : ℕ → ℕ → Bool → List ℕ → Def → List Lexeme → List Lexeme → Type 0
-Decl_args file at partial term = Then (Many NameS) (Decl_ret file at partial term)
-
-abbrev Decl_open : ℕ → ℕ → Bool → List ℕ → Def → List Lexeme → List Lexeme → Type 0
-Decl_open file at partial term = Then OpenS (λ o. Decl_args file at partial term)
-
 abbrev Declared : ℕ → ℕ → Bool → Def → List Lexeme → List Lexeme → Type 0
-Declared file at partial = Then (WordS decl_name_of) (Decl_open file at partial)
+Declared file at partial = Then (WordS decl_name_of) (λ term. Then OpenS (λ o. Then (Many NameS) (λ args. Then NameS (λ ret. Then CloseS (λ c. Nothing (the_decl file at partial term args ret))))))
 
-ret_ends : (file at : ℕ) (partial : Bool) (term : List ℕ) (args : List (List ℕ)) → Begins (Decl_ret file at partial term args) []
-ret_ends file at partial term args = then_ends NameS (λ ret. Then CloseS (λ c. Nothing (the_decl file at partial term args ret))) (codes "a") (Word 0 (codes "a") ∷ []) name_whole (close_ends (the_decl file at partial term args (codes "a")))
+abbrev Decl : ℕ → ℕ → Def → List Lexeme → List Lexeme → Type 0
+Decl file at = Then PartialS (Declared file at)
 
-args_end : (file at : ℕ) (partial : Bool) (term : List ℕ) → Begins (Decl_args file at partial term) []
-args_end file at partial term = then_ends (Many NameS) (Decl_ret file at partial term) [] (Close 0 ∷ []) (none_whole NameS) (ret_ends file at partial term [])
-
-open_ends : (file at : ℕ) (partial : Bool) (term : List ℕ) → Begins (Decl_open file at partial term) []
-open_ends file at partial term = then_ends OpenS (λ o. Decl_args file at partial term) 0 (Open 0 ∷ []) open_whole (args_end file at partial term)
-
-pub a_decl_name : decl_name_of (codes "a") ≡ Some (codes "a")
+a_decl_name : Gives decl_name_of
 unfolding kind
-a_decl_name = refl
+a_decl_name = (codes "a", codes "a", refl)
 
-declared_reads : {F : Type 0} (g : List Lexeme → Reading F) (n file at : ℕ) (partial : Bool) → Reads Anything (Declared file at partial) (run g (read_declared n file at partial))
+law_declared : (n file at : ℕ) (partial : Bool) → Law InDef (λ d. Inside []) Anything n (Declared file at partial) (read_declared n file at partial)
 unfolding read_declared read_decl_name
-declared_reads {F = F} g n file at partial =
-    next_reads g (WordS decl_name_of) (Decl_open file at partial) read_decl_name opened (word_reads g decl_name_of (codes "a", codes "a", a_decl_name)) (λ term.
-    next_reads g OpenS (λ o. Decl_args file at partial term) read_open (λ o. parts term) (open_reads g) (λ o.
-    next_reads g (Many NameS) (Decl_ret file at partial term) (many n read_name) (last term) (names_read g n) (λ args.
-    next_reads g NameS (λ ret. Then CloseS (λ c. Nothing (the_decl file at partial term args ret))) read_name (ends term args) (name_reads g) (λ ret. close_then g (the_decl file at partial term args ret))
-    (λ ret. close_ends (the_decl file at partial term args ret)))
-    (λ args. ret_ends file at partial term args))
-    (λ o. args_end file at partial term))
-    (λ term. open_ends file at partial term)
-  where
-    ends : List ℕ → List (List ℕ) → List ℕ → Reader F Def
-    ends term args ret = bind read_close (λ c. Ret (the_decl file at partial term args ret))
-
-    last : List ℕ → List (List ℕ) → Reader F Def
-    last term args = bind read_name (ends term args)
-
-    parts : List ℕ → Reader F Def
-    parts term = bind (many n read_name) (last term)
-
-    opened : List ℕ → Reader F Def
-    opened term = bind read_open (λ o. parts term)
-
-declared_ends : (file at : ℕ) (partial : Bool) → Begins (Declared file at partial) []
-declared_ends file at partial = then_ends (WordS decl_name_of) (Decl_open file at partial) (codes "a") (Word 0 (codes "a") ∷ []) (λ tail. (0, codes "a", refl, a_decl_name)) (open_ends file at partial (codes "a"))
+law_declared n file at partial =
+    law_next _ _ (law_word decl_name_of a_decl_name (inside_word (Round ∷ []) decl_name_of (few_open 1 (omega arith)))) (λ term.
+    law_next _ _ (law_open (inside_open (Round ∷ []) tt (few_open 2 (omega arith)))) (λ o. law_next _ _ (law_names n) (λ args. law_next _ _ law_a_name (λ ret. law_closed (the_decl file at partial term args ret)))))
 
 -- a word that is no flag, and may be a name
 decl_name_by : (f n : Bool) (w term : List ℕ) → (if f then None else (if n then Some w else None)) ≡ Some term → (f ≡ false) × (n ≡ true) × (term ≡ w)
 decl_name_by true n w term e = cc
 decl_name_by false true w term e = (refl, refl, let x : term ≡ w = cc in x)
 decl_name_by false false w term e = cc
-
--- ---- behind ( decl
-
-abbrev Decl : ℕ → ℕ → Def → List Lexeme → List Lexeme → Type 0
-Decl file at = Then PartialS (Declared file at)
 
 third : (a b c d : Bool) → (a || b || c || d) ≡ false → c ≡ false
 third a b false d e = refl
@@ -112,149 +85,64 @@ third false true true d e = cc
 third false false true d e = cc
 
 -- a name that is no flag is not `partial`
-no_partial : (file at : ℕ) (partial : Bool) (d : Def) (ts rest : List Lexeme) → Declared file at partial d ts rest → NoPartial ts
+no_partial : (file at : ℕ) (partial : Bool) (d : Def) (ts rest : List Lexeme) → Declared file at partial d ts rest → NoWord partial_of ts
 no_partial file at partial d ts rest (term, us, (n, w, e, h), s) =
     let x = decl_name_by (is_flag w) (names (kind w)) w term h in
     let f = third (bytes_eq w (codes "pure")) (bytes_eq w (codes "multi")) (bytes_eq w (codes "partial")) (bytes_eq w (codes "rec")) x.0 in
     (Word n w, us, e, ap (λ b. is_some (if b then Some true else None)) f)
 
-decl_reads : {F : Type 0} (g : List Lexeme → Reading F) (n file at : ℕ) → Reads Anything (Decl file at) (run g (read_decl n file at))
+law_decl : (n file at : ℕ) → Law InDef (λ d. Inside []) Anything n (Decl file at) (read_decl n file at)
 unfolding read_decl
-decl_reads g n file at = then_reads g PartialS (Declared file at) read_partial (read_declared n file at) (partial_reads g) (λ partial. declared_reads g n file at partial)
-    (λ partial d ts rest s c. no_partial file at partial d ts rest s) (λ partial. declared_ends file at partial)
+law_decl n file at = law_then _ _ (λ partial d ts rest s c. no_partial file at partial d ts rest s) (law_partial (inside_word (Round ∷ []) partial_of (few_open 1 (omega arith)))) (law_declared n file at)
 
 -- ---- behind ( extern
 
 abbrev the_extern : ℕ → ℕ → List ℕ → List ℕ → Def
 the_extern file at term func = tree.ExternConstructor term func (record { file = file; offset = at })
 
-abbrev Extern_func : ℕ → ℕ → List ℕ → Def → List Lexeme → List Lexeme → Type 0
-Extern_func file at term = Then NameS (λ func. Then CloseS (λ c. Nothing (the_extern file at term func)))
-
-abbrev Extern_term : ℕ → ℕ → Def → List Lexeme → List Lexeme → Type 0
-Extern_term file at = Then NameS (Extern_func file at)
-
 abbrev Extern : ℕ → ℕ → Def → List Lexeme → List Lexeme → Type 0
-Extern file at = Then (WordS constructor_of) (λ w. Extern_term file at)
+Extern file at = Then (WordS constructor_of) (λ w. Then NameS (λ term. Then NameS (λ func. Then CloseS (λ c. Nothing (the_extern file at term func)))))
 
-func_ends : (file at : ℕ) (term : List ℕ) → Begins (Extern_func file at term) []
-func_ends file at term = then_ends NameS (λ func. Then CloseS (λ c. Nothing (the_extern file at term func))) (codes "a") (Word 0 (codes "a") ∷ []) name_whole (close_ends (the_extern file at term (codes "a")))
-
-term_ends : (file at : ℕ) → Begins (Extern_term file at) []
-term_ends file at = then_ends NameS (Extern_func file at) (codes "a") (Word 0 (codes "a") ∷ []) name_whole (func_ends file at (codes "a"))
-
-extern_ends : (file at : ℕ) → Begins (Extern file at) []
-extern_ends file at = then_ends (WordS constructor_of) (λ w. Extern_term file at) (codes "constructor") (Word 0 (codes "constructor") ∷ []) (λ tail. (0, codes "constructor", refl, refl)) (term_ends file at)
-
-extern_reads : {F : Type 0} (g : List Lexeme → Reading F) (file at : ℕ) → Reads Anything (Extern file at) (run g (read_extern file at))
+law_extern : (n file at : ℕ) → Law InDef (λ d. Inside []) Anything n (Extern file at) (read_extern file at)
 unfolding read_extern read_constructor
-extern_reads {F = F} g file at =
-    next_reads g (WordS constructor_of) (λ w. Extern_term file at) read_constructor (λ w. named) (word_reads g constructor_of (codes "constructor", codes "constructor", refl)) (λ w.
-    next_reads g NameS (Extern_func file at) read_name with_func (name_reads g) (λ term.
-    next_reads g NameS (λ func. Then CloseS (λ c. Nothing (the_extern file at term func))) read_name (ends term) (name_reads g) (λ func. close_then g (the_extern file at term func))
-    (λ func. close_ends (the_extern file at term func)))
-    (λ term. func_ends file at term))
-    (λ w. term_ends file at)
-  where
-    ends : List ℕ → List ℕ → Reader F Def
-    ends term func = bind read_close (λ c. Ret (the_extern file at term func))
-
-    with_func : List ℕ → Reader F Def
-    with_func term = bind read_name (ends term)
-
-    named : Reader F Def
-    named = bind read_name with_func
-
--- ---- ( N P* )
-
-abbrev Call_args : List ℕ → List ℕ × List Pattern → List Lexeme → List Lexeme → Type 0
-Call_args term = Then (Many PatternS) (λ args. Nothing (term, args))
-
-abbrev Call_term : List ℕ × List Pattern → List Lexeme → List Lexeme → Type 0
-Call_term = Then NameS Call_args
-
-abbrev pub CallS : List ℕ × List Pattern → List Lexeme → List Lexeme → Type 0
-CallS = Then OpenS (λ o. Call_term)
-
-call_args_end : (term : List ℕ) → Begins (Call_args term) []
-call_args_end term = then_ends (Many PatternS) (λ args. Nothing (term, args)) [] (Close 0 ∷ []) (none_whole PatternS) ([], (term, []), λ tail. (refl, refl))
-
-call_term_ends : Begins Call_term []
-call_term_ends = then_ends NameS Call_args (codes "a") (Word 0 (codes "a") ∷ []) name_whole (call_args_end (codes "a"))
-
-call_whole : Whole CallS (codes "a", []) (Open 0 ∷ Word 0 (codes "a") ∷ Close 0 ∷ [])
-call_whole tail = (0, Word 0 (codes "a") ∷ Close 0 ∷ tail, refl, (codes "a", Close 0 ∷ tail, name_whole (Close 0 ∷ tail), ([], tail, none 0 tail, (refl, refl))))
-
-pub parts_read : {F : Type 0} (g : List Lexeme → Reading F) (n : ℕ) → Reads Anything CallS (run g (read_parts n))
-unfolding read_parts
-parts_read {F = F} g n =
-    next_reads g OpenS (λ o. Call_term) read_open (λ o. bind read_name with_args) (open_reads g) (λ o.
-    next_reads g NameS Call_args read_name with_args (name_reads g) (λ term.
-    next_reads g (Many PatternS) (λ args. Nothing (term, args)) (many n read_pattern) (λ args. Ret (term, args)) (patterns_read g n) (λ args. nothing_reads g (term, args)) (λ args. ([], (term, args), λ tail. (refl, refl))))
-    call_args_end)
-    (λ o. call_term_ends)
-  where
-    with_args : List ℕ → Reader F (List ℕ × List Pattern)
-    with_args term = bind (many n read_pattern) (λ args. Ret (term, args))
+law_extern n file at =
+    law_next _ _ (law_word constructor_of (codes "constructor", codes "constructor", refl) (inside_word (Round ∷ []) constructor_of (few_open 1 (omega arith)))) (λ w.
+    law_next _ _ law_a_name (λ term. law_next _ _ law_a_name (λ func. law_closed (the_extern file at term func))))
 
 -- ---- behind ( rule
+
+abbrev PartsS : List ℕ × List Pattern → List Lexeme → List Lexeme → Type 0
+PartsS = Then OpenS (λ o. Then NameS (λ term. Then (Many PatternS) (λ args. Nothing (term, args))))
+
+law_parts : (n : ℕ) → Law InDef (λ x. InDef) Anything n PartsS (read_parts n)
+unfolding read_parts
+law_parts n = law_next _ _ (law_open (inside_open (Round ∷ []) tt (few_open 2 (omega arith)))) (λ o. law_next _ _ (law_name (inside_word (Round ∷ Round ∷ []) name_of (few_open 2 (omega arith)))) (λ term.
+    law_next _ _ (law_patterns n) (λ args. law_ret (term, args) (λ q p. p))))
 
 abbrev the_rule : ℕ → ℕ → Option (List ℕ) → ℤ → List ℕ × List Pattern → Expr → Def
 the_rule file at name prio x rhs = tree.Rule name prio x.0 x.1 [] rhs (record { file = file; offset = at })
 
-abbrev Rule_rhs : ℕ → ℕ → Option (List ℕ) → ℤ → List ℕ × List Pattern → Def → List Lexeme → List Lexeme → Type 0
-Rule_rhs file at name prio x = Then ExprS (λ rhs. Then CloseS (λ c. Nothing (the_rule file at name prio x rhs)))
-
-abbrev Rule_call : ℕ → ℕ → Option (List ℕ) → ℤ → Def → List Lexeme → List Lexeme → Type 0
-Rule_call file at name prio = Then CallS (Rule_rhs file at name prio)
-
-abbrev Rule_prio : ℕ → ℕ → Option (List ℕ) → Def → List Lexeme → List Lexeme → Type 0
-Rule_prio file at name = Then PrioS (Rule_call file at name)
-
 abbrev Rule : ℕ → ℕ → Def → List Lexeme → List Lexeme → Type 0
-Rule file at = Then RuleNameS (Rule_prio file at)
-
-rhs_ends : (file at : ℕ) (name : Option (List ℕ)) (prio : ℤ) (x : List ℕ × List Pattern) → Begins (Rule_rhs file at name prio x) []
-rhs_ends file at name prio x =
-    then_ends ExprS (λ rhs. Then CloseS (λ c. Nothing (the_rule file at name prio x rhs))) (tree.Name (codes "a")) (Word 0 (codes "a") ∷ []) expr_whole (close_ends (the_rule file at name prio x (tree.Name (codes "a"))))
-
-call_ends : (file at : ℕ) (name : Option (List ℕ)) (prio : ℤ) → Begins (Rule_call file at name prio) []
-call_ends file at name prio = then_ends CallS (Rule_rhs file at name prio) (codes "a", []) (Open 0 ∷ Word 0 (codes "a") ∷ Close 0 ∷ []) call_whole (rhs_ends file at name prio (codes "a", []))
-
-prio_ends : (file at : ℕ) (name : Option (List ℕ)) → Begins (Rule_prio file at name) []
-prio_ends file at name = then_ends PrioS (Rule_call file at name) (pos 0) [] (λ tail. unwritten tail) (call_ends file at name (pos 0))
+Rule file at = Then RuleNameS (λ name. Then PrioS (λ prio. Then PartsS (λ x. Then ExprS (λ rhs. Then CloseS (λ c. Nothing (the_rule file at name prio x rhs))))))
 
 -- what begins with a parenthesis has no word in front
 open_no_word : {A : Type 0} (f : List ℕ → Option A) (ts rest : List Lexeme) (at : ℕ) → OpenS at ts rest → NoWord f ts
 open_no_word f ts rest at e = (Open at, rest, e, refl)
 
-prio_no_name : (z : ℤ) (ts mid : List Lexeme) → PrioS z ts mid → NoName mid → NoName ts
+prio_no_name : (z : ℤ) (ts mid : List Lexeme) → PrioS z ts mid → NoWord rule_name_of mid → NoWord rule_name_of ts
 prio_no_name _ _ _ (unwritten ts) h = h
 prio_no_name _ _ _ (written at w n ts e f) h = (Word at w, ts, refl, ap (λ k. is_some (option_map (λ name. Some name) (if names k then Some w else None))) e)
 
-rule_reads : {F : Type 0} (g : List Lexeme → Reading F) (n file at : ℕ) → Reads Anything (Rule file at) (run g (read_rule n file at))
+law_right : (n : ℕ) → Law InDef (λ e. InDef) Anything n ExprS (read_right n)
+unfolding read_right
+law_right n = law_expr n (most_open - 1) [] most_is
+
+law_rule : (n file at : ℕ) → Law InDef (λ d. Inside []) Anything n (Rule file at) (read_rule n file at)
 unfolding read_rule
-rule_reads {F = F} g n file at =
-    then_reads g RuleNameS (Rule_prio file at) read_rule_name with_prio (rule_name_reads g) (λ name.
-    then_reads g PrioS (Rule_call file at name) read_prio (with_call name) (prio_reads g) (λ prio.
-    next_reads g CallS (Rule_rhs file at name prio) (read_parts n) (with_rhs name prio) (parts_read g n) (λ x.
-    next_reads g ExprS (λ rhs. Then CloseS (λ c. Nothing (the_rule file at name prio x rhs))) (read_expr n (most_open - 1)) (ends name prio x) (expr_reads g n (most_open - 1)) (λ rhs. close_then g (the_rule file at name prio x rhs))
-    (λ rhs. close_ends (the_rule file at name prio x rhs)))
-    (λ x. rhs_ends file at name prio x))
-    (λ prio d ts rest s c. open_no_word prio_word ts s.2.1 s.2.0 s.2.2) (λ prio. call_ends file at name prio))
-    (λ name d ts rest s c. prio_no_name s.0 ts s.1 s.2 (open_no_word rule_name_of s.1 s.3.2.1 s.3.2.0 s.3.2.2)) (λ name. prio_ends file at name)
-  where
-    ends : Option (List ℕ) → ℤ → List ℕ × List Pattern → Expr → Reader F Def
-    ends name prio x rhs = bind read_close (λ c. Ret (the_rule file at name prio x rhs))
-
-    with_rhs : Option (List ℕ) → ℤ → List ℕ × List Pattern → Reader F Def
-    with_rhs name prio x = bind (read_expr n (most_open - 1)) (ends name prio x)
-
-    with_call : Option (List ℕ) → ℤ → Reader F Def
-    with_call name prio = bind (read_parts n) (with_rhs name prio)
-
-    with_prio : Option (List ℕ) → Reader F Def
-    with_prio name = bind read_prio (with_call name)
+law_rule n file at =
+    law_then _ _ (λ name d ts rest s c. prio_no_name s.0 ts s.1 s.2 (open_no_word rule_name_of s.1 s.3.2.1 s.3.2.0 s.3.2.2)) (law_rule_name (inside_word (Round ∷ []) rule_name_of (few_open 1 (omega arith)))) (λ name.
+    law_then _ _ (λ prio d ts rest s c. open_no_word prio_word ts s.2.1 s.2.0 s.2.2) (law_prio (inside_word (Round ∷ []) prio_word (few_open 1 (omega arith)))) (λ prio.
+    law_next _ _ (law_parts n) (λ x. law_next _ _ (law_right n) (λ rhs. law_closed (the_rule file at name prio x rhs)))))
 
 -- ---- definitions
 
@@ -263,11 +151,8 @@ Behind file at DeclHead = Decl file at
 Behind file at RuleHead = Rule file at
 Behind file at ExternHead = Extern file at
 
-abbrev Headed : ℕ → ℕ → Def → List Lexeme → List Lexeme → Type 0
-Headed file at = Then (WordS head_of) (Behind file at)
-
 abbrev Definition : ℕ → Def → List Lexeme → List Lexeme → Type 0
-Definition file = Then OpenS (Headed file)
+Definition file = Then OpenS (λ at. Then (WordS head_of) (Behind file at))
 
 head_by : (b c d : Bool) (h : Head) → (if b then Some DeclHead else (if c then Some RuleHead else (if d then Some ExternHead else None))) ≡ Some h
     → ((b ≡ true) × (h ≡ DeclHead)) ⊎ (((c ≡ true) × (h ≡ RuleHead)) ⊎ ((d ≡ true) × (h ≡ ExternHead)))
@@ -275,6 +160,25 @@ head_by true c d h e = inl (refl, let x : h ≡ DeclHead = cc in x)
 head_by false true d h e = inr (inl (refl, let x : h ≡ RuleHead = cc in x))
 head_by false false true h e = inr (inr (refl, let x : h ≡ ExternHead = cc in x))
 head_by false false false h e = cc
+
+-- a definition's head, by its word
+head_is : (w : List ℕ) (h : Head) → head_of w ≡ Some h → ((w ≡ codes "decl") × (h ≡ DeclHead)) ⊎ (((w ≡ codes "rule") × (h ≡ RuleHead)) ⊎ ((w ≡ codes "extern") × (h ≡ ExternHead)))
+head_is w h e = by (head_by (bytes_eq w (codes "decl")) (bytes_eq w (codes "rule")) (bytes_eq w (codes "extern")) h e)
+  where
+    by : ((bytes_eq w (codes "decl") ≡ true) × (h ≡ DeclHead)) ⊎ (((bytes_eq w (codes "rule") ≡ true) × (h ≡ RuleHead)) ⊎ ((bytes_eq w (codes "extern") ≡ true) × (h ≡ ExternHead)))
+        → ((w ≡ codes "decl") × (h ≡ DeclHead)) ⊎ (((w ≡ codes "rule") × (h ≡ RuleHead)) ⊎ ((w ≡ codes "extern") × (h ≡ ExternHead)))
+    by (inl y) = inl ((bytes_eq-Decides w (codes "decl")).0 y.0, y.1)
+    by (inr (inl y)) = inr (inl ((bytes_eq-Decides w (codes "rule")).0 y.0, y.1))
+    by (inr (inr y)) = inr (inr ((bytes_eq-Decides w (codes "extern")).0 y.0, y.1))
+
+-- it is not passed over
+head_not_passed : (w : List ℕ) (h : Head) → head_of w ≡ Some h → is_passed w ≡ false
+head_not_passed w h e = by (head_is w h e)
+  where
+    by : ((w ≡ codes "decl") × (h ≡ DeclHead)) ⊎ (((w ≡ codes "rule") × (h ≡ RuleHead)) ⊎ ((w ≡ codes "extern") × (h ≡ ExternHead))) → is_passed w ≡ false
+    by (inl y) = ap is_passed y.0
+    by (inr (inl y)) = ap is_passed y.0
+    by (inr (inr y)) = ap is_passed y.0
 
 decl_to : (file at h : ℕ) (head : List ℕ) (d : Def) (us rest : List Lexeme) → head ≡ codes "decl" → Decl file at d us rest → DefS file d (Open at ∷ Word h head ∷ us) rest
 decl_to file at h head d us rest eh (partial, ps, sp, (term, vs, (n, w, ew, hw), (o, xs, eo, (args, mid, ms, (ret, end, rs, (c, last, ec, (p, q))))))) =
@@ -294,6 +198,9 @@ extern_to file at h head d us rest eh (second, ts, (k, w, ew, hw), (term, mid, s
     (subst (λ y. DefS file (the_extern file at term func) (Open at ∷ Word h head ∷ y) rest) (sym ew)
     (extern at h k c head w term func ts mid rest eh word st (subst (λ y. NameS func mid y) closed sf)))
 
+name_is : (w : List ℕ) (ts rest : List Lexeme) → NameS w ts rest → (at : ℕ) × (ts ≡ Word at w ∷ rest) × IsName w
+name_is _ _ _ (symbol at w ts h) = (at, refl, h)
+
 rule_to : (file at h : ℕ) (head : List ℕ) (d : Def) (us rest : List Lexeme) → head ≡ codes "rule" → Rule file at d us rest → DefS file d (Open at ∷ Word h head ∷ us) rest
 rule_to file at h head d us rest eh (name, us1, sn, (prio, us2, sp, (x, us3, (o, xs, eo, (term, ys, st, (args, mid, ms, (px, qx)))), (rhs, end, re, (c, last, ec, (p, q)))))) =
     let n = name_is term xs ys st in
@@ -304,13 +211,12 @@ rule_to file at h head d us rest eh (name, us1, sn, (prio, us2, sp, (x, us3, (o,
     (rule at h o n.0 c head term name prio args rhs us us1 ys mid rest eh sn (subst (λ y. PrioS prio us1 y) opened sp) n.2 ms (subst (λ y. ExprS rhs y (Close c ∷ rest)) (sym qx) (subst (λ y. ExprS rhs us3 y) closed re)))
 
 behind_to : (file at h : ℕ) (head : List ℕ) (x : Head) (d : Def) (us rest : List Lexeme) → head_of head ≡ Some x → Behind file at x d us rest → DefS file d (Open at ∷ Word h head ∷ us) rest
-behind_to file at h head x d us rest e s = by (head_by (bytes_eq head (codes "decl")) (bytes_eq head (codes "rule")) (bytes_eq head (codes "extern")) x e)
+behind_to file at h head x d us rest e s = by (head_is head x e)
   where
-    by : ((bytes_eq head (codes "decl") ≡ true) × (x ≡ DeclHead)) ⊎ (((bytes_eq head (codes "rule") ≡ true) × (x ≡ RuleHead)) ⊎ ((bytes_eq head (codes "extern") ≡ true) × (x ≡ ExternHead)))
-        → DefS file d (Open at ∷ Word h head ∷ us) rest
-    by (inl y) = decl_to file at h head d us rest ((bytes_eq-Decides head (codes "decl")).0 y.0) (subst (λ z. Behind file at z d us rest) y.1 s)
-    by (inr (inl y)) = rule_to file at h head d us rest ((bytes_eq-Decides head (codes "rule")).0 y.0) (subst (λ z. Behind file at z d us rest) y.1 s)
-    by (inr (inr y)) = extern_to file at h head d us rest ((bytes_eq-Decides head (codes "extern")).0 y.0) (subst (λ z. Behind file at z d us rest) y.1 s)
+    by : ((head ≡ codes "decl") × (x ≡ DeclHead)) ⊎ (((head ≡ codes "rule") × (x ≡ RuleHead)) ⊎ ((head ≡ codes "extern") × (x ≡ ExternHead))) → DefS file d (Open at ∷ Word h head ∷ us) rest
+    by (inl y) = decl_to file at h head d us rest y.0 (subst (λ z. Behind file at z d us rest) y.1 s)
+    by (inr (inl y)) = rule_to file at h head d us rest y.0 (subst (λ z. Behind file at z d us rest) y.1 s)
+    by (inr (inr y)) = extern_to file at h head d us rest y.0 (subst (λ z. Behind file at z d us rest) y.1 s)
 
 definition_to : (file : ℕ) (d : Def) (ts rest : List Lexeme) → Definition file d ts rest → DefS file d ts rest
 definition_to file d ts rest (at, us, e, (x, vs, (h, w, f, hw), s)) = subst (λ y. DefS file d y rest) (sym (e ∙ ap (λ y. Open at ∷ y) f)) (behind_to file at h w x d vs rest hw s)
@@ -355,31 +261,17 @@ definition_from file _ _ _ (rule at h o n c head term name prio args rhs ts us1 
   ),
 )
 
-decl_ends : (file at : ℕ) → Begins (Decl file at) []
-decl_ends file at = then_ends PartialS (Declared file at) false [] (λ tail. unflagged tail) (declared_ends file at false)
+law_behind : (n file at : ℕ) (x : Head) → Law InDef (λ d. Inside []) Anything n (Behind file at x) (read_behind n file at x)
+law_behind n file at DeclHead = law_decl n file at
+law_behind n file at RuleHead = law_rule n file at
+law_behind n file at ExternHead = law_extern n file at
 
-behind_ends : (file at : ℕ) (x : Head) → Begins (Behind file at x) []
-behind_ends file at DeclHead = decl_ends file at
-behind_ends file at RuleHead = then_ends RuleNameS (Rule_prio file at) None [] (λ tail. unnamed tail) (prio_ends file at None)
-behind_ends file at ExternHead = extern_ends file at
-
-headed_ends : (file at : ℕ) → Begins (Headed file at) []
-headed_ends file at = then_ends (WordS head_of) (Behind file at) DeclHead (Word 0 (codes "decl") ∷ []) (λ tail. (0, codes "decl", refl, refl)) (decl_ends file at)
-
-behind_reads : {F : Type 0} (g : List Lexeme → Reading F) (n file at : ℕ) (x : Head) → Reads Anything (Behind file at x) (run g (read_behind n file at x))
-behind_reads g n file at DeclHead = decl_reads g n file at
-behind_reads g n file at RuleHead = rule_reads g n file at
-behind_reads g n file at ExternHead = extern_reads g file at
-
--- a definition is read exactly
-pub def_reads : {F : Type 0} (g : List Lexeme → Reading F) (n file : ℕ) → Reads Anything (DefS file) (run g (read_def n file))
+pub law_def : (n file : ℕ) → Law (Inside []) (λ d. Inside []) Anything n (DefS file) (read_def n file)
 unfolding read_def read_head
-def_reads g n file = mapped (definition_to file) (definition_from file) (λ ts d. d)
-    (next_reads g OpenS (Headed file) read_open (λ at. bind read_head (read_behind n file at)) (open_reads g) (λ at.
-    next_reads g (WordS head_of) (Behind file at) read_head (read_behind n file at) (word_reads g head_of (codes "decl", DeclHead, refl)) (λ x. behind_reads g n file at x) (λ x. behind_ends file at x))
-    (λ at. headed_ends file at))
+law_def n file = law_map (definition_to file) (definition_from file) (law_next _ _ (law_open (top_open (few_open 1 (omega arith)))) (λ at.
+    law_next _ _ (law_word head_of (codes "decl", DeclHead, refl) (head_word head_of (few_open 1 (omega arith)) head_not_passed)) (law_behind n file at)))
 
-pub def_starts : (file : ℕ) (d : Def) (ts rest : List Lexeme) → DefS file d ts rest → (t : Lexeme) × (us : List Lexeme) × (ts ≡ t ∷ us)
-def_starts file _ _ _ (decl at h n o c head term ret partial args ts us mid rest eh sp nm fl ms rs) = (Open at, Word h head ∷ ts, refl)
-def_starts file _ _ _ (extern at h k c head second term func ts mid rest eh es st sf) = (Open at, Word h head ∷ Word k second ∷ ts, refl)
-def_starts file _ _ _ (rule at h o n c head term name prio args rhs ts us1 us mid rest eh sn sp nm ms re) = (Open at, Word h head ∷ ts, refl)
+pub def_some : (file : ℕ) (d : Def) (ts rest : List Lexeme) → DefS file d ts rest → Some_token ts
+def_some file _ _ _ (decl at h n o c head term ret partial args ts us mid rest eh sp nm fl ms rs) = (Open at, Word h head ∷ ts, refl)
+def_some file _ _ _ (extern at h k c head second term func ts mid rest eh es st sf) = (Open at, Word h head ∷ Word k second ∷ ts, refl)
+def_some file _ _ _ (rule at h o n c head term name prio args rhs ts us1 us mid rest eh sn sp nm ms re) = (Open at, Word h head ∷ ts, refl)

@@ -1,29 +1,30 @@
--- The readers of expressions read the grammar's forms.
-use Rattle.std.proofs.Common.{◌≡◌, ℕ, zero, suc, List, [], ◌∷◌, Bool, true, false, inl, inr, refl, ap, sym, ◌∙◌, subst, Option, Some, None}
+-- The laws of the readers of expressions.
+use Rattle.std.proofs.Common.{◌≡◌, ℕ, zero, suc, ◌+◌, List, [], ◌∷◌, length, Bool, true, false, inl, inr, refl, ap, sym, ◌∙◌, subst, arith, Option, Some, None}
 use Rattle.std.specs.Prelude.{if◌then◌else◌, codes}
-use Rattle.isle_lexer.specs.Lexeme.{Lexeme, Open, Close, Word}
-use Rattle.isle_syntax.specs.Reader.{Reading, Reader, Ret, Peek, Halt, run, bind, is_open, is_close, read_open, many}
+use Rattle.isle_lexer.specs.Lexeme.{Lexeme, Open, Word}
 use Rattle.isle_lexer.specs.Word.{WordKind, Number, Malformed, Truth, Dollar, Underscore, Plain, kind, names, is_let}
-use Rattle.isle_syntax.specs.Tree.{Expr, Exprs, NoExpr, AnExpr}
+use Rattle.isle_reading.specs.Combinators.{is_open, is_close}
+use Rattle.isle_reading.specs.Names.{name_of}
+use Rattle.isle_reading.specs.Nesting.{Mark, Round, most_open}
+use Rattle.isle_reading.specs.Relations.{Anything, Many, none, more}
+use Rattle.isle_reading.proofs.Law.{Law, Heads, Nothing, Then, Either, law_map, law_next}
+use Rattle.isle_reading.proofs.TokenLaws.{OpenS, WordS, Gives, law_ret, law_open, law_word, law_peek, law_barred}
+use Rattle.isle_reading.proofs.ListLaws.{law_many}
+use Rattle.isle_reading.proofs.NameLaws.{a_plain, name_some}
+use Rattle.isle_reading.proofs.States.{Inside, inside_open, inside_close, inside_word, inside_over}
+use Rattle.isle_syntax.specs.Tree.{Expr, Exprs, AnExpr}
 use Rattle.isle_syntax.specs.Tree as tree
 use Rattle.isle_syntax.specs.Views.{exprs_of}
-use Rattle.isle_syntax.specs.Grammar.{Many, none, more, ExprS, number, fact, underscore, variable, call, ExprsS, no_expr, an_expr}
-use Rattle.isle_syntax.specs.Reading.{name_of, expr_of, read_leaf, callee_of, read_callee, read_called, read_call, read_expr}
-use Rattle.isle_syntax.proofs.Exact.{Whole, Begins, Reads, Anything, Heads, Nothing, Then, Either}
-use Rattle.isle_syntax.proofs.Combine.{mapped, nothing_reads, next_reads, then_ends, peek_reads, halt_reads, OpenS, open_reads, many_reads}
-use Rattle.isle_syntax.proofs.WordForms.{WordS, word_reads, word_ends, Gives, a_plain, name_some}
+use Rattle.isle_syntax.specs.Grammar.{ExprS, number, fact, underscore, variable, call, ExprsS, no_expr, an_expr}
+use Rattle.isle_syntax.specs.Reading.{expr_of, read_leaf, callee_of, read_callee, read_call, read_expr}
 
--- ---- a word
+-- ---- words
 
-abbrev pub leaf_of : List ℕ → Option Expr
+abbrev leaf_of : List ℕ → Option Expr
 leaf_of w = expr_of w (kind w)
 
 a_leaf : Gives leaf_of
 a_leaf = (codes "a", tree.Name (codes "a"), ap (expr_of (codes "a")) a_plain)
-
-pub leaf_reads : {F : Type 0} {C : List Lexeme → Type 0} (g : List Lexeme → Reading F) → Reads C (WordS leaf_of) (run g read_leaf)
-unfolding read_leaf
-leaf_reads g = word_reads g leaf_of a_leaf
 
 leaf_by : (k : WordKind) (at : ℕ) (w : List ℕ) (x : Expr) (rest : List Lexeme) → kind w ≡ k → expr_of w k ≡ Some x → ExprS x (Word at w ∷ rest) rest
 leaf_by (Number n) at w x rest e h = subst (λ z. ExprS z (Word at w ∷ rest) rest) (let y : tree.Number n ≡ x = cc in y) (number at w n rest e)
@@ -33,27 +34,15 @@ leaf_by (Dollar name) at w x rest e h = cc
 leaf_by Underscore at w x rest e h = subst (λ z. ExprS z (Word at w ∷ rest) rest) (let y : tree.Name w ≡ x = cc in y) (underscore at w rest e)
 leaf_by Plain at w x rest e h = subst (λ z. ExprS z (Word at w ∷ rest) rest) (let y : tree.Name w ≡ x = cc in y) (variable at w rest e)
 
--- ---- ( N of a call
-
-pub a_callee : callee_of (codes "a") ≡ Some (codes "a")
+a_callee : Gives callee_of
 unfolding kind
-a_callee = refl
+a_callee = (codes "a", codes "a", refl)
 
 -- a word that is not `let`, and may be a name
 callee_by : (l n : Bool) (w f : List ℕ) → (if l then None else (if n then Some w else None)) ≡ Some f → (l ≡ false) × (n ≡ true) × (f ≡ w)
 callee_by true n w f e = cc
 callee_by false true w f e = (refl, refl, let x : f ≡ w = cc in x)
 callee_by false false w f e = cc
-
-abbrev pub CalledS : List ℕ → List Lexeme → List Lexeme → Type 0
-CalledS = Then OpenS (λ o. WordS callee_of)
-
-pub called_reads : {F : Type 0} (g : List Lexeme → Reading F) → Reads Anything CalledS (run g read_called)
-unfolding read_called read_callee
-called_reads g = next_reads g OpenS (λ o. WordS callee_of) read_open (λ o. read_callee) (open_reads g) (λ o. word_reads g callee_of (codes "a", codes "a", a_callee)) (λ o. word_ends callee_of (codes "a", codes "a", a_callee))
-
-called_whole : Whole CalledS (codes "a") (Open 0 ∷ Word 0 (codes "a") ∷ [])
-called_whole tail = (0, Word 0 (codes "a") ∷ tail, refl, (0, codes "a", refl, a_callee))
 
 -- ---- lists
 
@@ -67,17 +56,14 @@ exprs_from _ _ _ (an_expr e others ts mid rest s m) = let x = exprs_from others 
 
 -- ---- an expression
 
-abbrev Call_args : List ℕ → Expr → List Lexeme → List Lexeme → Type 0
-Call_args w = Then (Many ExprS) (λ args. Nothing (tree.Call w (exprs_of args)))
-
 abbrev CallS : Expr → List Lexeme → List Lexeme → Type 0
-CallS = Then CalledS Call_args
+CallS = Then OpenS (λ o. Then (WordS callee_of) (λ w. Then (Many ExprS) (λ args. Nothing (tree.Call w (exprs_of args)))))
 
 abbrev Shape : Expr → List Lexeme → List Lexeme → Type 0
 Shape = Either CallS (WordS leaf_of)
 
 shape_to : (x : Expr) (ts rest : List Lexeme) → Shape x ts rest → ExprS x ts rest
-shape_to x ts rest (inl (f, us, (o, vs, eo, (n, w, ew, hw)), (args, mid, m, (p, q)))) =
+shape_to x ts rest (inl (o, vs, eo, (f, us, (n, w, ew, hw), (args, mid, m, (p, q))))) =
     let c = callee_by (is_let w) (names (kind w)) w f hw in
     subst (λ y. ExprS y ts rest) (sym (p ∙ ap (λ y. tree.Call y (exprs_of args)) c.2))
     (subst (λ y. ExprS (tree.Call w (exprs_of args)) y rest) (sym (eo ∙ ap (λ y. Open o ∷ y) ew))
@@ -91,44 +77,23 @@ shape_from _ _ _ (underscore at w ts e) = inr (at, w, refl, ap (expr_of w) e)
 shape_from _ _ _ (variable at w ts e) = inr (at, w, refl, ap (expr_of w) e)
 shape_from _ _ _ (call at n w args ts rest nm l m) =
     let x = exprs_from args ts rest m in
-    inl (w, ts, (at, Word n w ∷ ts, refl, (n, w, refl, ap (λ (b : Bool). if b then None else name_of w) l ∙ name_some w nm)), (x.0, rest, x.2, (ap (λ z. tree.Call w z) (sym x.1), refl)))
+    inl (at, Word n w ∷ ts, refl, (w, ts, (n, w, refl, ap (λ (b : Bool). if b then None else name_of w) l ∙ name_some w nm), (x.0, rest, x.2, (ap (λ z. tree.Call w z) (sym x.1), refl))))
 
-pub expr_starts : (x : Expr) (ts rest : List Lexeme) → ExprS x ts rest → Heads is_close false ts
-expr_starts _ _ _ (number at w n ts e) = (Word at w, ts, refl, refl)
-expr_starts _ _ _ (fact at w b ts e) = (Word at w, ts, refl, refl)
-expr_starts _ _ _ (underscore at w ts e) = (Word at w, ts, refl, refl)
-expr_starts _ _ _ (variable at w ts e) = (Word at w, ts, refl, refl)
-expr_starts _ _ _ (call at n w args ts rest nm l m) = (Open at, Word n w ∷ ts, refl, refl)
+pub expr_heads : (x : Expr) (ts rest : List Lexeme) → ExprS x ts rest → Heads is_close false ts
+expr_heads _ _ _ (number at w n ts e) = (Word at w, ts, refl, refl)
+expr_heads _ _ _ (fact at w b ts e) = (Word at w, ts, refl, refl)
+expr_heads _ _ _ (underscore at w ts e) = (Word at w, ts, refl, refl)
+expr_heads _ _ _ (variable at w ts e) = (Word at w, ts, refl, refl)
+expr_heads _ _ _ (call at n w args ts rest nm l m) = (Open at, Word n w ∷ ts, refl, refl)
 
-args_end : (w : List ℕ) → Begins (Call_args w) []
-args_end w = then_ends (Many ExprS) (λ args. Nothing (tree.Call w (exprs_of args))) [] (Close 0 ∷ []) (λ tail. none 0 tail) ([], tree.Call w NoExpr, λ tail. (refl, refl))
-
-call_ends : Begins CallS []
-call_ends = then_ends CalledS Call_args (codes "a") (Open 0 ∷ Word 0 (codes "a") ∷ []) called_whole (args_end (codes "a"))
-
-pub exprs_read : {F : Type 0} (g : List Lexeme → Reading F) (n : ℕ) (r : Reader F Expr) → Reads Anything ExprS (run g r) → Reads Anything (Many ExprS) (run g (many n r))
-exprs_read g n r h = many_reads g ExprS r h (λ x ts rest s. tt) (λ at ts. tt) expr_starts n
-
-call_reads : {F : Type 0} (g : List Lexeme → Reading F) (n : ℕ) (r : Reader F Expr) → Reads Anything ExprS (run g r) → Reads Anything CallS (run g (read_call n r))
-unfolding read_call
-call_reads {F = F} g n r h =
-    next_reads g CalledS Call_args read_called with_args (called_reads g) (λ w.
-    next_reads g (Many ExprS) (λ args. Nothing (tree.Call w (exprs_of args))) (many n r) (λ args. Ret (tree.Call w (exprs_of args))) (exprs_read g n r h) (λ args. nothing_reads g (tree.Call w (exprs_of args)))
-    (λ args. ([], tree.Call w (exprs_of args), λ tail. (refl, refl))))
-    args_end
+-- in a list of these marks, where so many more may be open
+pub law_expr : (n d : ℕ) (ms : List Mark) → suc (length ms) + d ≡ most_open → Law (Inside (Round ∷ ms)) (λ e. Inside (Round ∷ ms)) Anything n ExprS (read_expr n d)
+unfolding read_expr read_leaf read_call read_callee
+law_expr n zero ms e = law_map shape_to shape_from (law_barred is_open _ (λ x ts rest s c. (Open s.0, s.1, s.2, refl)) (λ x ts rest s c. (Word s.0 s.1, rest, s.2, refl))
+    (inside_over (Round ∷ ms) tt (omega (arith, e))) (law_word leaf_of a_leaf (inside_word (Round ∷ ms) leaf_of (omega (arith, e)))))
+law_expr n (suc d) ms e = law_map shape_to shape_from (law_peek is_open _ _ (λ x ts rest s c. (Open s.0, s.1, s.2, refl)) (λ x ts rest s c. (Word s.0 s.1, rest, s.2, refl))
+    (law_call (law_expr n d (Round ∷ ms) (omega (arith, e)))) (law_word leaf_of a_leaf (inside_word (Round ∷ ms) leaf_of (omega (arith, e)))))
   where
-    with_args : List ℕ → Reader F Expr
-    with_args w = bind (many n r) (λ args. Ret (tree.Call w (exprs_of args)))
-
-shape_reads : {F : Type 0} (g : List Lexeme → Reading F) (nested : Reader F Expr) → Reads Anything CallS (run g nested) → Reads Anything ExprS (run g (Peek is_open nested read_leaf))
-shape_reads g nested h = mapped shape_to shape_from (λ ts d. d)
-    (peek_reads g is_open CallS (WordS leaf_of) nested read_leaf h (leaf_reads g)
-    (λ x ts rest s c. (Open s.2.0, s.2.1, s.2.2, refl))
-    (λ x ts rest s c. (Word s.0 s.1, rest, s.2, refl))
-    (let x = word_ends leaf_of a_leaf in (x.0, x.1, λ tail. inr (x.2 tail))))
-
--- an expression is read exactly
-pub expr_reads : {F : Type 0} (g : List Lexeme → Reading F) (n d : ℕ) → Reads Anything ExprS (run g (read_expr n d))
-unfolding read_expr
-expr_reads g n zero = shape_reads g Halt (halt_reads g CallS call_ends)
-expr_reads g n (suc d) = shape_reads g (read_call n (read_expr n d)) (call_reads g n (read_expr n d) (expr_reads g n d))
+    law_call : Law (Inside (Round ∷ Round ∷ ms)) (λ e. Inside (Round ∷ Round ∷ ms)) Anything n ExprS (read_expr n d) → Law (Inside (Round ∷ ms)) (λ e. Inside (Round ∷ ms)) Anything n CallS (read_call n (read_expr n d))
+    law_call h = law_next _ _ (law_open (inside_open (Round ∷ ms) tt (omega (arith, e)))) (λ o. law_next _ _ (law_word callee_of a_callee (inside_word (Round ∷ Round ∷ ms) callee_of (omega (arith, e)))) (λ w.
+        law_next _ _ (law_many (Inside (Round ∷ ms)) n ExprS (read_expr n d) h (λ x ts rest s. tt) (λ at ts. tt) expr_heads (inside_close Round (Round ∷ ms) (omega (arith, e))) n (omega arith)) (λ args. law_ret (tree.Call w (exprs_of args)) (λ q p. p))))

@@ -4,17 +4,10 @@ use Rattle.std.specs.Int.{w64}
 use Rattle.isle_lexer.specs.Lexeme.{Lexeme, Open, Close, Word}
 use Rattle.isle_lexer.specs.Word.{kind, IsName, is_flag, is_let}
 use Rattle.isle_lexer.specs.Word as word
+use Rattle.isle_reading.specs.Names.{NameS}
+use Rattle.isle_reading.specs.Relations.{Many}
 use Rattle.isle_syntax.specs.Tree.{Pattern, Expr, Exprs, NoExpr, AnExpr, Def}
 use Rattle.isle_syntax.specs.Tree as tree
-
--- things of a kind, and the parenthesis behind them
-pub data Many {A : Type 0} (S : A → List Lexeme → List Lexeme → Type 0) : List A → List Lexeme → List Lexeme → Type 0 where
-  none : (at : ℕ) (ts : List Lexeme) → Many S [] (Close at ∷ ts) ts
-  more : (a : A) (others : List A) (ts mid rest : List Lexeme) → S a ts mid → Many S others mid rest → Many S (a ∷ others) ts rest
-
--- N, T, F
-pub data NameS : List ℕ → List Lexeme → List Lexeme → Type 0 where
-  symbol : (at : ℕ) (w : List ℕ) (ts : List Lexeme) → IsName w → NameS w (Word at w ∷ ts) ts
 
 -- P
 pub data PatternS : Pattern → List Lexeme → List Lexeme → Type 0 where

@@ -1,8 +1,6 @@
 pub mod Tree
 pub mod Views
 pub mod Grammar
-pub mod Depth
-pub mod Reader
 pub mod Reading
 pub mod Spelling
 pub mod ReadingViews

@@ -1,43 +1,13 @@
 -- Readers of the grammar's forms.
-use Rattle.std.specs.Prelude.{ℕ, zero, suc, ◌-◌, length, ℤ, pos, negsuc, ◌^◌, List, [], ◌∷◌, Bool, true, false, nat_lt, if◌then◌else◌, Option, Some, None, is_some, option_map, bytes_eq, codes}
-use Rattle.isle_lexer.specs.Lexeme.{Lexeme, Open, Close, At, Less, Greater, Word}
-use Rattle.isle_syntax.specs.Reader.{Reading, Deep, run, Reader, Ret, Ask, Peek, Halt, bind, is_open, read_open, read_close, many, all, on_word, bytes}
-use Rattle.isle_syntax.specs.Depth.{most_open}
-use Rattle.isle_lexer.specs.Word.{WordKind, Number, Malformed, Truth, Dollar, Underscore, Plain, kind, names, is_flag, is_let}
+use Rattle.std.specs.Prelude.{ℕ, zero, suc, ◌-◌, ℤ, pos, negsuc, ◌^◌, List, [], Bool, true, false, nat_lt, if◌then◌else◌, Option, Some, None, option_map, bytes_eq, codes}
+use Rattle.isle_lexer.specs.Word.{WordKind, Number, Malformed, Truth, Dollar, Underscore, Plain, kind, is_flag, is_let}
+use Rattle.isle_reading.specs.Reader.{Reader, Ret, Peek, Halt, bind}
+use Rattle.isle_reading.specs.Combinators.{is_open, read_open, read_close, read_word, read_optional, many, all}
+use Rattle.isle_reading.specs.Names.{name_of, read_name}
+use Rattle.isle_reading.specs.Nesting.{most_open}
 use Rattle.isle_syntax.specs.Tree.{Pattern, Expr, Def}
 use Rattle.isle_syntax.specs.Tree as tree
 use Rattle.isle_syntax.specs.Views.{exprs_of}
-
--- fits no token
-abbrev pub refuse : {F A : Type 0} → Reader F A
-refuse = Ask (λ t. false) (λ t. Halt)
-
--- what a word gives, if anything
-abbrev pub given : {F A : Type 0} → Option A → Reader F A
-given None = refuse
-given (Some a) = Ret a
-
--- takes a word that gives something
-abbrev pub read_word : {F A : Type 0} → (List ℕ → Option A) → Reader F A
-read_word f = Ask (on_word (λ w. is_some (f w))) (λ t. given (f (bytes t)))
-
--- what the next word gives, if anything
-abbrev pub next_word : {A : Type 0} → (List ℕ → Option A) → List Lexeme → Option A
-next_word f [] = None
-next_word f (Open at ∷ ts) = None
-next_word f (Close at ∷ ts) = None
-next_word f (At at ∷ ts) = None
-next_word f (Less at ∷ ts) = None
-next_word f (Greater at ∷ ts) = None
-next_word f (Word at w ∷ ts) = f w
-
--- a word that may stand as a name
-abbrev pub name_of : List ℕ → Option (List ℕ)
-name_of w = if names (kind w) then Some w else None
-
--- a name
-unfoldable pub read_name : {F : Type 0} → Reader F (List ℕ)
-read_name = read_word name_of
 
 -- the pattern that a word of this kind is
 abbrev pub pattern_of : List ℕ → WordKind → Option Pattern
@@ -49,7 +19,7 @@ pattern_of w Underscore = Some tree.Wildcard
 pattern_of w Plain = Some (tree.Var w)
 
 -- a pattern
-unfoldable pub read_pattern : {F : Type 0} → Reader F Pattern
+unfoldable pub read_pattern : Reader Pattern
 read_pattern = read_word (λ w. pattern_of w (kind w))
 
 -- the expression that a word of this kind is
@@ -62,35 +32,27 @@ expr_of w Underscore = Some (tree.Name w)
 expr_of w Plain = Some (tree.Name w)
 
 -- an expression of one word
-unfoldable pub read_leaf : {F : Type 0} → Reader F Expr
+unfoldable pub read_leaf : Reader Expr
 read_leaf = read_word (λ w. expr_of w (kind w))
 
 -- a name that is not `let`
 abbrev pub callee_of : List ℕ → Option (List ℕ)
 callee_of w = if is_let w then None else name_of w
 
-unfoldable pub read_callee : {F : Type 0} → Reader F (List ℕ)
+unfoldable pub read_callee : Reader (List ℕ)
 read_callee = read_word callee_of
 
--- ( N of a call
-unfoldable pub read_called : {F : Type 0} → Reader F (List ℕ)
-read_called = bind read_open (λ o. read_callee)
-
 -- ( N E* ), of fewer than n arguments, each of which is read so
-unfoldable pub read_call : {F : Type 0} → ℕ → Reader F Expr → Reader F Expr
-read_call n r = bind read_called (λ w. bind (many n r) (λ args. Ret (tree.Call w (exprs_of args))))
+unfoldable pub read_call : ℕ → Reader Expr → Reader Expr
+read_call n r = bind read_open (λ o. bind read_callee (λ w. bind (many n r) (λ args. Ret (tree.Call w (exprs_of args)))))
 
 -- an expression whose parentheses nest at most d deep, its lists of fewer than n parts
-unfoldable pub read_expr : {F : Type 0} → ℕ → ℕ → Reader F Expr
+unfoldable pub read_expr : ℕ → ℕ → Reader Expr
 read_expr n zero = Peek is_open Halt read_leaf
 read_expr n (suc d) = Peek is_open (read_call n (read_expr n d)) read_leaf
 
--- what a word gives, or else this where there is no such word
-abbrev pub read_optional : {F A : Type 0} → (List ℕ → Option A) → A → Reader F A
-read_optional f other = Peek (on_word (λ w. is_some (f w))) (read_word f) (Ret other)
-
 -- the name of a rule, or none
-unfoldable pub read_rule_name : {F : Type 0} → Reader F (Option (List ℕ))
+unfoldable pub read_rule_name : Reader (Option (List ℕ))
 read_rule_name = read_optional (λ w. option_map (λ name. Some name) (name_of w)) None
 
 -- a number of 64 signed bits
@@ -108,14 +70,14 @@ prio_of Underscore = None
 prio_of Plain = None
 
 -- a priority, or none, which is 0
-unfoldable pub read_prio : {F : Type 0} → Reader F ℤ
+unfoldable pub read_prio : Reader ℤ
 read_prio = read_optional (λ w. prio_of (kind w)) (pos 0)
 
 -- a name that is no flag
 abbrev pub decl_name_of : List ℕ → Option (List ℕ)
 decl_name_of w = if is_flag w then None else name_of w
 
-unfoldable pub read_decl_name : {F : Type 0} → Reader F (List ℕ)
+unfoldable pub read_decl_name : Reader (List ℕ)
 read_decl_name = read_word decl_name_of
 
 -- that a word is the flag `partial`
@@ -123,37 +85,41 @@ abbrev pub partial_of : List ℕ → Option Bool
 partial_of w = if bytes_eq w (codes "partial") then Some true else None
 
 -- whether the flag `partial` stands here
-unfoldable pub read_partial : {F : Type 0} → Reader F Bool
+unfoldable pub read_partial : Reader Bool
 read_partial = read_optional partial_of false
 
 -- behind the flag of ( decl
-unfoldable pub read_declared : {F : Type 0} → ℕ → ℕ → ℕ → Bool → Reader F Def
+unfoldable pub read_declared : ℕ → ℕ → ℕ → Bool → Reader Def
 read_declared n file at partial = bind read_decl_name (λ term. bind read_open (λ o. bind (many n read_name) (λ args. bind read_name (λ ret. bind read_close (λ c.
     Ret (tree.Decl term false false partial false args ret (record { file = file; offset = at })))))))
 
 -- behind ( decl
-unfoldable pub read_decl : {F : Type 0} → ℕ → ℕ → ℕ → Reader F Def
+unfoldable pub read_decl : ℕ → ℕ → ℕ → Reader Def
 read_decl n file at = bind read_partial (read_declared n file at)
 
 -- the word `constructor`
 abbrev pub constructor_of : List ℕ → Option (List ℕ)
 constructor_of w = if bytes_eq w (codes "constructor") then Some w else None
 
-unfoldable pub read_constructor : {F : Type 0} → Reader F (List ℕ)
+unfoldable pub read_constructor : Reader (List ℕ)
 read_constructor = read_word constructor_of
 
 -- behind ( extern
-unfoldable pub read_extern : {F : Type 0} → ℕ → ℕ → Reader F Def
+unfoldable pub read_extern : ℕ → ℕ → Reader Def
 read_extern file at = bind read_constructor (λ w. bind read_name (λ term. bind read_name (λ func. bind read_close (λ c.
     Ret (tree.ExternConstructor term func (record { file = file; offset = at }))))))
 
 -- ( N P* )
-unfoldable pub read_parts : {F : Type 0} → ℕ → Reader F (List ℕ × List Pattern)
+unfoldable pub read_parts : ℕ → Reader (List ℕ × List Pattern)
 read_parts n = bind read_open (λ o. bind read_name (λ term. bind (many n read_pattern) (λ args. Ret (term, args))))
 
+-- a rule's right side, inside its parenthesis
+unfoldable pub read_right : ℕ → Reader Expr
+read_right n = read_expr n (most_open - 1)
+
 -- behind ( rule, whose parenthesis is open
-unfoldable pub read_rule : {F : Type 0} → ℕ → ℕ → ℕ → Reader F Def
-read_rule n file at = bind read_rule_name (λ name. bind read_prio (λ prio. bind (read_parts n) (λ parts. bind (read_expr n (most_open - 1)) (λ rhs. bind read_close (λ c.
+unfoldable pub read_rule : ℕ → ℕ → ℕ → Reader Def
+read_rule n file at = bind read_rule_name (λ name. bind read_prio (λ prio. bind (read_parts n) (λ parts. bind (read_right n) (λ rhs. bind read_close (λ c.
     Ret (tree.Rule name prio parts.0 parts.1 [] rhs (record { file = file; offset = at })))))))
 
 -- what a definition is, by the word that it begins with
@@ -169,27 +135,19 @@ head_of w =
     else (if bytes_eq w (codes "extern") then Some ExternHead
     else None))
 
-unfoldable pub read_head : {F : Type 0} → Reader F Head
+unfoldable pub read_head : Reader Head
 read_head = read_word head_of
 
 -- behind a head
-abbrev pub read_behind : {F : Type 0} → ℕ → ℕ → ℕ → Head → Reader F Def
+abbrev pub read_behind : ℕ → ℕ → ℕ → Head → Reader Def
 read_behind n file at DeclHead = read_decl n file at
 read_behind n file at RuleHead = read_rule n file at
 read_behind n file at ExternHead = read_extern file at
 
 -- a definition of the file of that number, its lists of fewer than n parts
-unfoldable pub read_def : {F : Type 0} → ℕ → ℕ → Reader F Def
+unfoldable pub read_def : ℕ → ℕ → Reader Def
 read_def n file = bind read_open (λ at. bind read_head (λ head. read_behind n file at head))
 
 -- a file of at most n tokens
-abbrev pub read_file : {F : Type 0} → ℕ → ℕ → Reader F (List Def)
+abbrev pub read_file : ℕ → ℕ → Reader (List Def)
 read_file n file = all n (read_def n file)
-
--- there is nothing that is read another way
-abbrev pub no_call : List Lexeme → Reading ⊥
-no_call ts = Deep ts
-
--- what comes of tokens as a file of that number
-abbrev pub file_of : ℕ → List Lexeme → Reading (List Def)
-file_of file ts = run no_call (read_file (length ts) file) ts

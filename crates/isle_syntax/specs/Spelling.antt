@@ -2,10 +2,14 @@
 use Rattle.std.specs.Prelude.{ℕ, ◌≤◌, List}
 use Rattle.std.specs.Str.{IsUtf8}
 use Rattle.isle_lexer.specs.Token.{IsClosed}
-use Rattle.isle_lexer.specs.Lexeme.{lexemes}
-use Rattle.isle_syntax.specs.Depth.{depth, most_open}
+use Rattle.isle_lexer.specs.Lexeme.{Lexeme, lexemes}
+use Rattle.isle_reading.specs.Nesting.{depth, most_open}
 use Rattle.isle_syntax.specs.Grammar.{FileS}
 use Rattle.isle_syntax.specs.Tree.{Def}
+
+-- the tokens spell some definitions
+abbrev pub IsFile : ℕ → List Lexeme → Type 0
+IsFile file ts = (defs : List Def) × FileS file ts defs
 
 -- the text, read as the file of that number, spells the definitions
 pub record Spells (file : ℕ) (text : List ℕ) (defs : List Def) : Type 0 where

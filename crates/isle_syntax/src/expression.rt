@@ -1,27 +1,15 @@
-ghost use Rattle.std.specs.Prelude.{◌≡◌, ◌-◌, IfOk, IfErr, map, option_map};
-ghost use Rattle.isle_syntax.specs.Depth.{most_open};
-ghost use Rattle.isle_syntax.specs.Reader.{run, Got, many};
-ghost use Rattle.isle_syntax.specs.Reading.{no_call, next_word, expr_of, read_leaf, callee_of, read_callee, read_called, read_expr};
-ghost use Rattle.isle_syntax.specs.ReadingViews.{left, Refuses};
-ghost use Rattle.isle_syntax.specs.Views.{expr};
+ghost use Rattle.std.specs.Prelude.{◌≡◌, IfOk, map, option_map};
 ghost use Rattle.isle_lexer.specs.Word.{kind};
+ghost use Rattle.isle_reading.specs.Combinators.{next_word, many};
+ghost use Rattle.isle_reading.specs.Views.{left, Reads};
+ghost use Rattle.isle_syntax.specs.Reading.{expr_of, read_leaf, callee_of, read_callee, read_expr, read_right};
+ghost use Rattle.isle_syntax.specs.Views.{expr};
 
-use crate::reading::{Fail, Tokens};
 use crate::tree::AstExpr;
 use isle_core::{List, Text};
 use isle_lexer::{Kind, is_let, is_name, kind_of, text_of};
+use isle_reading::{Fail, Tokens, most_inside};
 use std::alloc::{AllocError, Global};
-
-/// How many parentheses may be open at once.
-const MOST_OPEN: usize = 256;
-
-/// How many of them may be open inside the outermost parentheses.
-#[tactic(auto, unfolding(crate::specs::Depth::most_open))]
-pub fn most_inside() -> usize
-    ensures { result ≡ most_open - 1 }
-{
-    MOST_OPEN - 1
-}
 
 /// The expression that a word is.
 #[tactic(auto, using(crate::proofs::Sees::sees))]
@@ -36,106 +24,92 @@ fn expr_of(alloc: Global, word: &str) -> Result<Option<AstExpr>, AllocError>
     }
 }
 
-impl<'t> Tokens<'t> {
-    /// An expression of one word that is next.
-    #[tactic(auto, using(crate::proofs::Steps::next_some, crate::proofs::Steps::next_none))]
-    fn next_leaf(&self, alloc: Global) -> Result<Option<AstExpr>, AllocError>
-        ensures { IfOk result (λ next. option_map expr next ≡ next_word (λ w. expr_of w (kind w)) (left self.now)) }
-    {
-        match self.word() {
-            Some(word) => expr_of(alloc, word),
-            None => Ok(None),
-        }
-    }
-
-    /// An expression of one word.
-    #[tactic(auto, using(crate::proofs::Steps::steps))]
-    fn leaf(&mut self, alloc: Global) -> Result<AstExpr, Fail>
-        ensures got { IfOk result (λ read. run no_call read_leaf (left self.old) ≡ Got (expr read) (left self.new)) }
-        ensures refused { IfErr result (λ fail. Refuses fail (run no_call read_leaf (left self.old))) }
-    {
-        match self.next_leaf(alloc)? {
-            Some(expr) => {
-                self.skip();
-                Ok(expr)
-            }
-            None => Err(Fail::At(self.len())),
-        }
-    }
-
-    /// A name that is next and not `let`.
-    #[tactic(auto, using(crate::proofs::Steps::next_some, crate::proofs::Steps::next_none))]
-    fn next_callee(&self) -> Option<&'t str>
-        ensures { option_map (λ word. word.now) result ≡ next_word callee_of (left self.now) }
-    {
-        let word = self.word()?;
-        if is_let(word) || !is_name(word) {
-            return None;
-        }
-        Some(word)
-    }
-
-    /// A name that is not `let`.
-    #[tactic(auto, using(crate::proofs::Steps::steps))]
-    fn callee(&mut self, alloc: Global) -> Result<Text, Fail>
-        ensures got { IfOk result (λ name. run no_call read_callee (left self.old) ≡ Got name (left self.new)) }
-        ensures refused { IfErr result (λ fail. Refuses fail (run no_call read_callee (left self.old))) }
-    {
-        match self.next_callee() {
-            Some(word) => {
-                self.skip();
-                Ok(text_of(alloc, word)?)
-            }
-            None => Err(Fail::At(self.len())),
-        }
-    }
-
-    /// The parenthesis and the name that a call begins with.
-    #[tactic(auto, using(crate::proofs::ExpressionSteps::called_steps))]
-    fn called(&mut self, alloc: Global) -> Result<Text, Fail>
-        ensures got { IfOk result (λ name. run no_call read_called (left self.old) ≡ Got name (left self.new)) }
-        ensures refused { IfErr result (λ fail. Refuses fail (run no_call read_called (left self.old))) }
-    {
-        self.open()?;
-        self.callee(alloc)
+/// An expression of one word that is next.
+#[tactic(auto, using(isle_reading::proofs::Steps::next))]
+fn next_leaf(tokens: &Tokens<'_>, alloc: Global) -> Result<Option<AstExpr>, AllocError>
+    ensures { IfOk result (λ next. option_map expr next ≡ next_word (λ w. expr_of w (kind w)) (left tokens.now)) }
+{
+    match tokens.word() {
+        Some(word) => expr_of(alloc, word),
+        None => Ok(None),
     }
 }
 
-/// An expression whose parentheses nest at most `depth` deep, its lists of fewer than `most` parts.
+/// An expression of one word.
+#[tactic(auto, using(isle_reading::proofs::Steps::words), unfolding(crate::specs::Reading::read_leaf))]
+fn leaf(tokens: &mut Tokens<'_>, alloc: Global) -> Result<AstExpr, Fail>
+    ensures { Reads expr result read_leaf (left tokens.old) (left tokens.new) }
+{
+    match next_leaf(tokens, alloc)? {
+        Some(expr) => {
+            tokens.skip();
+            Ok(expr)
+        }
+        None => Err(Fail::At(tokens.len())),
+    }
+}
+
+/// A name that is next and not `let`.
+#[tactic(auto, using(isle_reading::proofs::Steps::next))]
+fn next_callee<'t>(tokens: &Tokens<'t>) -> Option<&'t str>
+    ensures { option_map (λ word. word.now) result ≡ next_word callee_of (left tokens.now) }
+{
+    let word = tokens.word()?;
+    if is_let(word) || !is_name(word) {
+        return None;
+    }
+    Some(word)
+}
+
+/// A name that is not `let`.
+#[tactic(auto, using(isle_reading::proofs::Steps::words), unfolding(crate::specs::Reading::read_callee))]
+fn callee(tokens: &mut Tokens<'_>, alloc: Global) -> Result<Text, Fail>
+    ensures { Reads (λ name. name) result read_callee (left tokens.old) (left tokens.new) }
+{
+    match next_callee(tokens) {
+        Some(word) => {
+            tokens.skip();
+            Ok(text_of(alloc, word)?)
+        }
+        None => Err(Fail::At(tokens.len())),
+    }
+}
+
+/// An expression whose parentheses nest at most `depth` deep, its lists of at most `most` tokens.
 #[cycle(expressions)]
 #[tactic(auto, using(crate::proofs::ExpressionSteps::expr_steps, crate::proofs::Sees::sees))]
-pub fn expression(
+fn expression(
     tokens: &mut Tokens<'_>,
     alloc: Global,
     most: usize,
     depth: usize,
 ) -> Result<AstExpr, Fail>
-    ensures got { IfOk result (λ read. run no_call (read_expr most depth) (left tokens.old) ≡ Got (expr read) (left tokens.new)) }
-    ensures refused { IfErr result (λ fail. Refuses fail (run no_call (read_expr most depth) (left tokens.old))) }
+    ensures { Reads expr result (read_expr most depth) (left tokens.old) (left tokens.new) }
 {
     match tokens.opens() {
-        None => tokens.leaf(alloc),
+        None => leaf(tokens, alloc),
         Some(_) => {
             if depth == 0 {
                 return Err(Fail::At(tokens.len()));
             }
-            let name = tokens.called(alloc)?;
+            tokens.open()?;
+            let name = callee(tokens, alloc)?;
             let args = arguments(tokens, alloc, most, depth - 1)?;
             Ok(AstExpr::Term(name, List::new(args)))
         }
     }
 }
 
-/// Fewer than `most` expressions up to a closing parenthesis, which is taken.
+/// Expressions up to a closing parenthesis, which is taken, of at most `most` tokens.
 #[cycle(expressions)]
+#[tactic(auto, using(crate::proofs::ExpressionSteps::lists))]
 fn arguments(
     tokens: &mut Tokens<'_>,
     alloc: Global,
     most: usize,
     depth: usize,
 ) -> Result<Vec<AstExpr>, Fail>
-    ensures got { IfOk result (λ read. run no_call (many most (read_expr most depth)) (left tokens.old) ≡ Got (map expr read.items) (left tokens.new)) }
-    ensures refused { IfErr result (λ fail. Refuses fail (run no_call (many most (read_expr most depth)) (left tokens.old))) }
+    ensures { Reads (λ args. map expr args.items) result (many most (read_expr most depth)) (left tokens.old) (left tokens.new) }
 {
     let mut args = Vec::new(alloc);
     for _ in 0..most {
@@ -148,4 +122,12 @@ fn arguments(
         }
     }
     Err(Fail::At(tokens.len()))
+}
+
+/// A rule's right side, its lists of at most `most` tokens.
+#[tactic(auto, unfolding(crate::specs::Reading::read_right))]
+pub fn right_side(tokens: &mut Tokens<'_>, alloc: Global, most: usize) -> Result<AstExpr, Fail>
+    ensures { Reads expr result (read_right most) (left tokens.old) (left tokens.new) }
+{
+    expression(tokens, alloc, most, most_inside())
 }

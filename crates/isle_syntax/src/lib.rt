@@ -6,13 +6,11 @@ mod expression;
 mod forms;
 mod lists;
 mod parser;
-mod reading;
 mod tree;
 
-pub use expression::most_inside;
 pub use isle_lexer::{Lexer, Signed, Tok, Token, is_name, signed_of, text_of};
+pub use isle_reading::{Fail, Tokens, most_inside};
 pub use parser::{ParseFail, parse};
-pub use reading::{Fail, Tokens};
 pub use tree::{
     AstAny, AstBody, AstExpr, AstFields, AstIfLet, AstLet, AstPattern, AstVariant, Def,
 };

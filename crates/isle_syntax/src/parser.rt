@@ -1,18 +1,19 @@
-ghost use Rattle.std.specs.Prelude.{◌≡◌, ◌≤◌, List, Err, IfOk, IfErr};
+ghost use Rattle.std.specs.Prelude.{◌≡◌, ◌≤◌, ℕ, List, Err, IfOk};
+ghost use Rattle.isle_lexer.specs.Lexeme.{lexemes};
+ghost use Rattle.isle_lexer.specs.Lexer.{lexer_file, lexer_text, IsUntaken};
+ghost use Rattle.isle_lexer.specs.Token.{IsClosed};
+ghost use Rattle.isle_reading.specs.Nesting.{depth, most_open};
+ghost use Rattle.isle_reading.specs.Places.{IsFault};
+ghost use Rattle.isle_reading.specs.declared.cursor.Fail.TheVariants.{At};
+ghost use Rattle.isle_syntax.specs.Grammar.{FileS};
+ghost use Rattle.isle_syntax.specs.Spelling.{IsFile, Spells};
 ghost use Rattle.isle_syntax.specs.Tree.{Def as PureDef};
 ghost use Rattle.isle_syntax.specs.Views.{defs};
-ghost use Rattle.isle_lexer.specs.Lexer.{lexer_file, lexer_text, IsUntaken};
-ghost use Rattle.isle_lexer.specs.Lexeme.{lexemes};
-ghost use Rattle.isle_syntax.specs.Depth.{depth, most_open};
-ghost use Rattle.isle_syntax.specs.Grammar.{FileS};
-ghost use Rattle.isle_syntax.specs.Reading.{file_of};
-ghost use Rattle.isle_syntax.specs.ReadingViews.{Refuses};
-ghost use Rattle.isle_syntax.specs.Spelling.{Spells};
-ghost use Rattle.isle_lexer.specs.Token.{IsClosed};
 
-use crate::reading::{Fail, Tokens};
+use crate::definition::file_of;
 use crate::tree::Def;
 use isle_lexer::Lexer;
+use isle_reading::{Fail, Tokens};
 use std::alloc::Global;
 
 /// Why a text gives no definitions.
@@ -23,15 +24,21 @@ pub enum ParseFail {
     Memory,
 }
 
-/// The definitions that the reader's tokens spell.
+/// The definitions that the reader's tokens spell. `At` comes exactly where they spell none, or nest too deep, and says
+/// how many tokens are left where they go wrong.
 fn definitions(alloc: Global, lexer: Lexer<'_>) -> Result<Vec<Def>, Fail>
     requires { IsUntaken lexer }
-    ensures got { IfOk result (λ read. FileS (lexer_file lexer.entry) (lexemes (lexer_text lexer.entry)) (defs read.items) × (depth (lexemes (lexer_text lexer.entry)) ≤ most_open)) }
-    ensures refused { IfErr result (λ fail. Refuses fail (file_of (lexer_file lexer.entry) (lexemes (lexer_text lexer.entry)))) }
+    ensures spelt { IfOk result (λ read. FileS (lexer_file lexer.entry) (lexemes (lexer_text lexer.entry)) (defs read.items) × (depth (lexemes (lexer_text lexer.entry)) ≤ most_open)) }
+    ensures fault { (left : ℕ) → result ≡ Err (At left) → IsFault (IsFile (lexer_file lexer.entry)) (lexemes (lexer_text lexer.entry)) left }
 {
     let file = lexer.file();
     let tokens = lexer.tokens(alloc)?;
-    Tokens::new(tokens.as_slice()).definitions(alloc, tokens.len(), file)
+    file_of(
+        &mut Tokens::new(tokens.as_slice()),
+        alloc,
+        tokens.len(),
+        file,
+    )
 }
 
 /// The definitions that the reader's text spells, in order. `NotYet` comes exactly where no definitions of the forms

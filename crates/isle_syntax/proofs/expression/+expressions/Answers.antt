@@ -1,37 +1,34 @@
-use Rattle.std.proofs.Common.{◌≡◌, ◌∙◌, ◌-◌, ◌+◌, map, rules, sym, ap, Some, None}
-use Rattle.isle_syntax.specs.Reader.{run, many}
-use Rattle.isle_syntax.specs.Reading.{no_call, read_expr}
-use Rattle.isle_syntax.specs.ReadingViews.{left, closes}
-use Rattle.isle_syntax.specs.Views.{expr}
-use Rattle.isle_syntax.proofs.ExpressionSteps.{expr_none}
-use Rattle.isle_syntax.proofs.ListSteps.{list-more, list-pushed, list-end, list-refuses, list-full, passed}
+use Rattle.std.proofs.Common.{◌∙◌, rules, subst, sym}
+use Rattle.isle_reading.specs.Views.{left, Refuses}
+use Rattle.isle_reading.proofs.Steps.{passed, then_got, done_got, then_refuses, bind_refuses}
+use Rattle.isle_reading.proofs.ListSteps.{list-more, list-end, list-refuses}
+use Rattle.isle_syntax.proofs.Sees.{sees}
+use Rattle.isle_syntax.proofs.ExpressionSteps.{expr_none, expr_call}
 use Rattle.isle_syntax.proofs.expression.+expressions.Goals as goal
 
-pub arguments-returns-in-Some-clause-got : goal.arguments-returns-in-Some-clause-got
-arguments-returns-in-Some-clause-got t c =
-    let e : Some c.in-Some.field-0 ≡ closes (left c.loop.tokens) = search rules in
-    let r = read_expr c.args.most c.args.depth in
-    list-end r c.args.most c.loop.counter c.in-Some.field-0 (left c.loop.tokens) (left c.skip.new.self) (map expr c.loop.args.items) (run no_call (many c.args.most r) (left c.args.tokens.now)) c.loop-test.true e c.skip.ensures c.loop.invariant
+pub arguments-returns-in-Some : goal.arguments-returns-in-Some
+arguments-returns-in-Some t c = list-end _ _ _ c.in-Some.field-0 _ _ _ _ c.loop-test.true (search rules) c.skip.ensures c.loop.invariant
 
-pub arguments-returns-in_err-expression-in-None-clause-refused : goal.arguments-returns-in_err-expression-in-None-clause-refused
-arguments-returns-in_err-expression-in-None-clause-refused t c =
-    let e : None ≡ closes (left c.loop.tokens) = search rules in
-    let r = read_expr c.args.most c.args.depth in
-    let fail = c.in_err-expression-in-None.field-0.0 in
-    let whole = run no_call (many c.args.most r) (left c.args.tokens.now) in
-    passed c.from_residual.result fail whole c.from_residual.ensures.1
-    (list-refuses r fail c.args.most c.loop.counter (left c.loop.tokens) (map expr c.loop.args.items) whole c.loop-test.true (expr_none c.args.most c.args.depth) e c.in_err-expression-in-None.ensures.refused c.loop.invariant)
+pub arguments-returns-in_err-expression-in-None : goal.arguments-returns-in_err-expression-in-None
+arguments-returns-in_err-expression-in-None t c =
+    passed _ _ _ _ _ c.from_residual.ensures.1 (list-refuses _ _ _ _ _ _ _ c.loop-test.true (expr_none _ _) (search rules) c.in_err-expression-in-None.ensures c.loop.invariant)
 
 pub arguments-loop-preserved : goal.arguments-loop-preserved
-arguments-loop-preserved t c =
-    let e : None ≡ closes (left c.loop.tokens) = search rules in
-    let r = read_expr c.args.most c.args.depth in
-    let now = list-more r c.args.most c.loop.counter (left c.loop.tokens) (left c.expression.new.tokens) (map expr c.loop.args.items) (expr c.in_ok-expression-in-None.field-0) (run no_call (many c.args.most r) (left c.args.tokens.now))
-    c.loop-test.true (expr_none c.args.most c.args.depth) e c.in_ok-expression-in-None.ensures.got c.loop.invariant in
-    list-pushed expr c.loop.args.items c.push.new.self.items c.in_ok-expression-in-None.field-0 (run no_call (many (c.args.most - (c.loop.counter + 1)) r) (left c.expression.new.tokens))
-    (run no_call (many c.args.most r) (left c.args.tokens.now)) c.in_ok-push-in-None.ensures.items now
+arguments-loop-preserved t c = list-more _ _ _ _ _ _ _ _ _ _ c.loop-test.true (expr_none _ _) (search rules) c.in_ok-expression-in-None.ensures c.in_ok-push-in-None.ensures.items c.loop.invariant
 
-pub arguments-returns-clause-refused : goal.arguments-returns-clause-refused
-arguments-returns-clause-refused t c =
-    let r = read_expr c.args.most c.args.depth in
-    list-full r c.args.most c.loop.counter (left c.loop.tokens) (map expr c.loop.args.items) (run no_call (many c.args.most r) (left c.args.tokens.now)) c.loop-test.false c.loop.invariant ∙ ap Some (sym c.len.ensures)
+pub expression-returns-in_err-name-in-Some : goal.expression-returns-in_err-name-in-Some
+expression-returns-in_err-name-in-Some t c =
+    let called = expr_call c.args.most c.args.depth c.in-Some.field-0 (left c.args.tokens.now) (search rules) (search rules) in
+    passed _ _ _ _ _ c.from_residual-in_err-name-in-Some.ensures.1
+    (subst (Refuses c.in_err-name-in-Some.field-0.0) (sym called) (then_refuses _ _ _ _ _ _ c.in_ok-open-in-Some.ensures (bind_refuses _ _ _ _ c.in_err-name-in-Some.ensures)))
+
+pub expression-returns-in_err-args-in-Some : goal.expression-returns-in_err-args-in-Some
+expression-returns-in_err-args-in-Some t c =
+    let called = expr_call c.args.most c.args.depth c.in-Some.field-0 (left c.args.tokens.now) (search rules) (search rules) in
+    passed _ _ _ _ _ c.from_residual-in_err-args-in-Some.ensures.1
+    (subst (Refuses c.in_err-args-in-Some.field-0.0) (sym called) (then_refuses _ _ _ _ _ _ c.in_ok-open-in-Some.ensures (then_refuses _ _ _ _ _ _ c.in_ok-name-in-Some.ensures (bind_refuses _ _ _ _ c.in_err-args-in-Some.ensures))))
+
+pub expression-returns-in_ok-args-in-Some : goal.expression-returns-in_ok-args-in-Some
+expression-returns-in_ok-args-in-Some t c =
+    expr_call c.args.most c.args.depth c.in-Some.field-0 (left c.args.tokens.now) (search rules) (search rules)
+    ∙ then_got _ _ _ _ _ _ c.in_ok-open-in-Some.ensures (then_got _ _ _ _ _ _ c.in_ok-name-in-Some.ensures (then_got _ _ _ _ _ _ c.in_ok-args-in-Some.ensures (search (rules, done_got, sees))))

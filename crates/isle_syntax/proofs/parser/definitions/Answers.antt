@@ -1,17 +1,33 @@
-use Rattle.std.proofs.Common.{◌≡◌, length, rules}
-use Rattle.std.specs.Prelude.{List}
+use Rattle.std.proofs.Common.{◌≡◌, length, rules, List, subst, arith}
 use Rattle.std.proofs.lemmas.List.{length-map}
 use Rattle.std.proofs.lemmas.Result.{IfOk-weaker}
-use Rattle.isle_lexer.specs.Lexer.{lexer_file, lexer_text}
 use Rattle.isle_lexer.specs.Lexeme.{Lexeme, lexemes}
-use Rattle.isle_syntax.specs.ReadingViews.{left}
+use Rattle.isle_lexer.specs.Lexer.{lexer_file, lexer_text}
+use Rattle.isle_reading.specs.Reader.{run}
+use Rattle.isle_reading.specs.Views.{left, Comes}
+use Rattle.isle_reading.proofs.Steps.{comes_got, comes_stops}
+use Rattle.isle_syntax.specs.Reading.{read_file}
 use Rattle.isle_syntax.specs.Views.{defs}
-use Rattle.isle_syntax.proofs.Files.{file_read}
+use Rattle.isle_syntax.proofs.Files.{file_got, file_stops}
 use Rattle.isle_syntax.proofs.parser.definitions.Goals as goal
 
-pub returns-clause-got : goal.returns-clause-got
-returns-clause-got c =
+pub returns-clause-spelt : goal.returns-clause-spelt
+returns-clause-spelt c =
     let ts : List Lexeme = lexemes (lexer_text c.args.lexer) in
+    let file = lexer_file c.args.lexer in
     let all : left c.new.result ≡ ts = search rules in
+    let named : c.file-file.result ≡ file = search rules in
+    let comes = subst (λ us. Comes (λ read. defs read.items) c.file_of.result (run (read_file c.len.result file) us) (left c.file_of.new.tokens)) all
+    (subst (λ f. Comes (λ read. defs read.items) c.file_of.result (run (read_file c.len.result f) (left c.new.result)) (left c.file_of.new.tokens)) named c.file_of.ensures) in
+    IfOk-weaker c.file_of.result _ _ (λ read e. file_got c.len.result file ts (left c.file_of.new.tokens) (defs read.items) e) (comes_got _ _ _ _ comes)
+
+pub returns-clause-fault : goal.returns-clause-fault
+returns-clause-fault c = λ k e.
+    let ts : List Lexeme = lexemes (lexer_text c.args.lexer) in
+    let file = lexer_file c.args.lexer in
+    let all : left c.new.result ≡ ts = search rules in
+    let named : c.file-file.result ≡ file = search rules in
     let most : c.len.result ≡ length ts = search (rules, length-map) in
-    IfOk-weaker c.definitions.result _ _ (λ read p. file_read (lexer_file c.args.lexer) c.file-file.result c.len.result (left c.new.result) ts (left c.definitions.new.self) (defs read.items) c.file-file.ensures most all p) c.definitions.ensures.got
+    let comes = subst (λ us. Comes (λ read. defs read.items) c.file_of.result (run (read_file c.len.result file) us) (left c.file_of.new.tokens)) all
+    (subst (λ f. Comes (λ read. defs read.items) c.file_of.result (run (read_file c.len.result f) (left c.new.result)) (left c.file_of.new.tokens)) named c.file_of.ensures) in
+    file_stops c.len.result file k ts (omega (arith, most)) (comes_stops _ _ _ _ k comes e)

@@ -1,0 +1,16 @@
+pub mod Running
+pub mod Passes
+pub mod Law
+pub mod TokenLaws
+pub mod NameLaws
+pub mod ListLaws
+pub mod Faults
+pub mod States
+pub mod Steps
+pub mod ListSteps
+pub mod Merging
+pub mod BothLaw
+pub mod TrialGrammar
+pub mod TrialLaws
+pub mod TrialForms
+pub mod TrialTexts

@@ -1,0 +1,7 @@
+//! Readers of tokens: the cursor that code reads with.
+#![tactic(auto)]
+
+mod cursor;
+mod name;
+
+pub use cursor::{Fail, Tokens, most_inside, place_of};

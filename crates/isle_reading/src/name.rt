@@ -1,0 +1,34 @@
+ghost use Rattle.std.specs.Prelude.{◌≡◌, option_map};
+ghost use Rattle.isle_reading.specs.Combinators.{next_word};
+ghost use Rattle.isle_reading.specs.Names.{name_of, read_name};
+ghost use Rattle.isle_reading.specs.Views.{left, Reads};
+
+use crate::cursor::{Fail, Tokens};
+use isle_core::Text;
+use isle_lexer::{is_name, text_of};
+use std::alloc::Global;
+
+impl<'t> Tokens<'t> {
+    /// A name that is next.
+    #[tactic(auto, using(crate::proofs::Steps::next))]
+    pub fn next_name(&self) -> Option<&'t str>
+        ensures { option_map (λ word. word.now) result ≡ next_word name_of (left self.now) }
+    {
+        let word = self.word()?;
+        if is_name(word) { Some(word) } else { None }
+    }
+
+    /// A name.
+    #[tactic(auto, using(crate::proofs::Steps::words), unfolding(crate::specs::Names::read_name))]
+    pub fn name(&mut self, alloc: Global) -> Result<Text, Fail>
+        ensures { Reads (λ name. name) result read_name (left self.old) (left self.new) }
+    {
+        match self.next_name() {
+            Some(word) => {
+                self.skip();
+                Ok(text_of(alloc, word)?)
+            }
+            None => Err(Fail::At(self.len())),
+        }
+    }
+}

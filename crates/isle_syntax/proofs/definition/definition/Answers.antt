@@ -1,0 +1,11 @@
+use Rattle.isle_reading.proofs.Steps.{then_comes, then_refuses, bind_refuses, passed}
+use Rattle.isle_syntax.specs.Reading.{read_def}
+use Rattle.isle_syntax.proofs.definition.definition.Goals as goal
+
+pub returns-in_err-head : goal.returns-in_err-head
+unfolding read_def
+returns-in_err-head c = passed _ _ _ _ _ c.from_residual-in_err-head.ensures.1 (then_refuses _ _ _ _ _ _ c.in_ok-offset.ensures (bind_refuses _ _ _ _ c.in_err-head.ensures))
+
+pub returns : goal.returns
+unfolding read_def
+returns c = then_comes _ _ _ _ _ _ _ _ c.in_ok-offset.ensures (then_comes _ _ _ _ _ _ _ _ c.in_ok-head.ensures (c.behind.ensures))
