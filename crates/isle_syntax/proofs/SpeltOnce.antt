@@ -7,4 +7,4 @@ use Rattle.isle_syntax.proofs.Files.{file_once}
 
 -- two lists that one text spells are one
 pub spelt_once : {file : ℕ} {text : List ℕ} {ds es : List Def} → Spells file text ds → Spells file text es → ds ≡ es
-spelt_once {file = file} {text = text} {ds = ds} {es = es} h k = file_once file (lexemes text) ds es h.shallow h.definitions k.definitions
+spelt_once {file = file} {text = text} {ds = ds} {es = es} h k = file_once file (lexemes text) ds es h.tokens.shallow h.tokens.definitions k.tokens.definitions

@@ -104,4 +104,4 @@ file_within text (a_def d others ts rest s behind) w = let one = def_keeps text 
 
 -- the definitions that a text spells stand in it
 pub spelt_within : (file : ℕ) (text : List ℕ) (defs : List Def) → Spells file text defs → AreWithin file text defs
-spelt_within file text defs h = file_within text h.definitions (lexemes_within text)
+spelt_within file text defs h = file_within text h.tokens.definitions (lexemes_within text)

@@ -11,9 +11,13 @@ use Rattle.isle_syntax.specs.Tree.{Def}
 abbrev pub IsFile : ℕ → List Lexeme → Type 0
 IsFile file ts = (defs : List Def) × FileS file ts defs
 
+-- the tokens, read as those of the file of that number, spell the definitions
+pub record SpellsTokens (file : ℕ) (ts : List Lexeme) (defs : List Def) : Type 0 where
+  pub shallow : depth ts ≤ most_open
+  pub definitions : FileS file ts defs
+
 -- the text, read as the file of that number, spells the definitions
 pub record Spells (file : ℕ) (text : List ℕ) (defs : List Def) : Type 0 where
   pub utf8 : IsUtf8 text
   pub closed : IsClosed text
-  pub shallow : depth (lexemes text) ≤ most_open
-  pub definitions : FileS file (lexemes text) defs
+  pub tokens : SpellsTokens file (lexemes text) defs

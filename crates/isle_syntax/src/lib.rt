@@ -10,7 +10,7 @@ mod tree;
 
 pub use isle_lexer::{Lexer, Signed, Tok, Token, is_name, signed_of, text_of};
 pub use isle_reading::{Fail, Tokens, most_inside};
-pub use parser::{ParseFail, parse};
+pub use parser::{ParseFail, parse, parse_text};
 pub use tree::{
     AstAny, AstBody, AstExpr, AstFields, AstIfLet, AstLet, AstPattern, AstVariant, Def,
 };

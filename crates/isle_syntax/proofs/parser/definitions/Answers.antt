@@ -1,8 +1,8 @@
 use Rattle.std.proofs.Common.{◌≡◌, length, rules, List, subst, arith}
 use Rattle.std.proofs.lemmas.List.{length-map}
 use Rattle.std.proofs.lemmas.Result.{IfOk-weaker}
-use Rattle.isle_lexer.specs.Lexeme.{Lexeme, lexemes}
-use Rattle.isle_lexer.specs.Lexer.{lexer_file, lexer_text}
+use Rattle.isle_lexer.specs.Lexeme.{Lexeme}
+use Rattle.isle_lexer.specs.TokenViews.{tokens_seen}
 use Rattle.isle_reading.specs.Reader.{run}
 use Rattle.isle_reading.specs.Views.{left, Comes}
 use Rattle.isle_reading.proofs.Steps.{comes_got, comes_stops}
@@ -13,21 +13,15 @@ use Rattle.isle_syntax.proofs.parser.definitions.Goals as goal
 
 pub returns-clause-spelt : goal.returns-clause-spelt
 returns-clause-spelt c =
-    let ts : List Lexeme = lexemes (lexer_text c.args.lexer) in
-    let file = lexer_file c.args.lexer in
+    let ts : List Lexeme = tokens_seen c.args.tokens.now in
     let all : left c.new.result ≡ ts = search rules in
-    let named : c.file-file.result ≡ file = search rules in
-    let comes = subst (λ us. Comes (λ read. defs read.items) c.file_of.result (run (read_file c.len.result file) us) (left c.file_of.new.tokens)) all
-    (subst (λ f. Comes (λ read. defs read.items) c.file_of.result (run (read_file c.len.result f) (left c.new.result)) (left c.file_of.new.tokens)) named c.file_of.ensures) in
-    IfOk-weaker c.file_of.result _ _ (λ read e. file_got c.len.result file ts (left c.file_of.new.tokens) (defs read.items) e) (comes_got _ _ _ _ comes)
+    let comes = subst (λ us. Comes (λ read. defs read.items) c.file_of.result (run (read_file (length c.args.tokens.now) c.args.file) us) (left c.file_of.new.tokens)) all c.file_of.ensures in
+    IfOk-weaker c.file_of.result _ _ (λ read e. file_got (length c.args.tokens.now) c.args.file ts (left c.file_of.new.tokens) (defs read.items) e) (comes_got _ _ _ _ comes)
 
 pub returns-clause-fault : goal.returns-clause-fault
 returns-clause-fault c = λ k e.
-    let ts : List Lexeme = lexemes (lexer_text c.args.lexer) in
-    let file = lexer_file c.args.lexer in
+    let ts : List Lexeme = tokens_seen c.args.tokens.now in
     let all : left c.new.result ≡ ts = search rules in
-    let named : c.file-file.result ≡ file = search rules in
-    let most : c.len.result ≡ length ts = search (rules, length-map) in
-    let comes = subst (λ us. Comes (λ read. defs read.items) c.file_of.result (run (read_file c.len.result file) us) (left c.file_of.new.tokens)) all
-    (subst (λ f. Comes (λ read. defs read.items) c.file_of.result (run (read_file c.len.result f) (left c.new.result)) (left c.file_of.new.tokens)) named c.file_of.ensures) in
-    file_stops c.len.result file k ts (omega (arith, most)) (comes_stops _ _ _ _ k comes e)
+    let most : length c.args.tokens.now ≡ length ts = search (rules, length-map) in
+    let comes = subst (λ us. Comes (λ read. defs read.items) c.file_of.result (run (read_file (length c.args.tokens.now) c.args.file) us) (left c.file_of.new.tokens)) all c.file_of.ensures in
+    file_stops (length c.args.tokens.now) c.args.file k ts (omega (arith, most)) (comes_stops _ _ _ _ k comes e)
