@@ -1,6 +1,7 @@
 pub mod Scans
 pub mod Begun
-pub mod Taking
+pub mod Coming
+pub mod Lines
 pub mod Boundaries
 pub mod Digits
 pub mod Wrapped

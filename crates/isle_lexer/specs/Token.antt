@@ -115,14 +115,6 @@ scan = fold step (record { tokens = []; state = Between; at = 0 })
 abbrev pub tokens_of : List ℕ → List Tok
 tokens_of text = (scan text).tokens ++ pending (scan text).state (scan text).at
 
--- what follows a place at which no token was begun, byte by byte
-abbrev pub scan_from : List ℕ → ℕ → Scan
-scan_from text at = fold step (record { tokens = []; state = Between; at = at }) (drop at text)
-
--- the tokens of a text behind such a place
-abbrev pub tokens_from : List ℕ → ℕ → List Tok
-tokens_from text at = (scan_from text at).tokens ++ pending (scan_from text at).state (scan_from text at).at
-
 -- where the comment began that is open
 abbrev pub open_at : State → Option ℕ
 open_at Between = None
@@ -139,3 +131,24 @@ unclosed text = open_at (scan text).state
 -- every comment of the text ends
 abbrev pub IsClosed : List ℕ → Type 0
 IsClosed text = unclosed text ≡ None
+
+-- what comes of a text, or of a part: its tokens, and where the comment begins that never ends
+pub record Coming : Type 0 where
+  pub tokens : List Tok
+  pub unclosed : Option ℕ
+
+-- where a text ends
+abbrev pub finished : Scan → Coming
+finished s = record { tokens = s.tokens ++ pending s.state s.at; unclosed = open_at s.state }
+
+-- what comes of a text from a place on, where this was begun in front of it
+unfoldable pub coming : List ℕ → State → ℕ → Coming
+coming text begun at = finished (fold step (record { tokens = []; state = begun; at = at }) (drop at text))
+
+-- a token, and what comes behind it
+abbrev pub in_front : Tok → Coming → Coming
+in_front tok c = record { tokens = tok ∷ c.tokens; unclosed = c.unclosed }
+
+-- the tokens of a text behind a place at which no token was begun
+abbrev pub tokens_from : List ℕ → ℕ → List Tok
+tokens_from text at = (coming text Between at).tokens

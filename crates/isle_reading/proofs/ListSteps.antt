@@ -91,6 +91,16 @@ list-more view r m i ts us xs ys x whole l none e f p h =
     ∙ sym (in_front-more (map view xs) (view x) (run (many (m - (i + 1)) r) us)) ∙ ap (λ o. in_front (map view xs) (after o (λ a us. with_others a (run (many (m - (i + 1)) r) us)))) (sym f)
     ∙ ap (in_front (map view xs)) (sym (next-by r (m - (i + 1)) ts none e)) ∙ ap (λ n. in_front (map view xs) (run (many n r) ts)) (sym k) ∙ h
 
+map_same : {A : Type 0} (xs : List A) → map (λ x. x) xs ≡ xs
+map_same [] = refl
+map_same (x ∷ xs) = ap (λ zs. x ∷ zs) (map_same xs)
+
+-- a value more, which is seen as it is
+pub list-next : {A : Type 0} (r : Reader A) (m i : ℕ) (ts us : List Lexeme) (xs ys : List A) (x : A) (whole : Reading (List A)) → i < m → run r [] ≡ Stuck [] → None ≡ closes ts
+    → run r ts ≡ Got x us → ys ≡ xs ++ x ∷ [] → in_front xs (run (many (m - i) r) ts) ≡ whole → in_front ys (run (many (m - (i + 1)) r) us) ≡ whole
+list-next r m i ts us xs ys x whole l none e f p h =
+    ap (λ zs. in_front zs (run (many (m - (i + 1)) r) us)) (sym (map_same ys)) ∙ list-more (λ z. z) r m i ts us xs ys x whole l none e f p (ap (λ zs. in_front zs (run (many (m - i) r) ts)) (map_same xs) ∙ h)
+
 -- the end of the list
 pub list-end : {A : Type 0} (r : Reader A) (m i at : ℕ) (ts us : List Lexeme) (xs : List A) (whole : Reading (List A)) → i < m → Some at ≡ closes ts → us ≡ drop 1 ts
     → in_front xs (run (many (m - i) r) ts) ≡ whole → whole ≡ Got xs us

@@ -4,8 +4,8 @@ use Rattle.std.specs.Prelude.{is_some, slice_get, Result, Ok, Err, IsErrAnd}
 use Rattle.isle_lexer.specs.Lexeme.{Lexeme, Open, Close, At, Less, Greater, Word}
 use Rattle.isle_reading.specs.declared.cursor.Fail.{Fail}
 use Rattle.isle_reading.specs.declared.cursor.Fail.TheVariants as code
-use Rattle.isle_reading.specs.Reader.{Reading, Got, Stuck, Deep, Reader, Ret, after, run, bind}
-use Rattle.isle_reading.specs.Combinators.{read_open, read_close, given, read_word, next_word, read_optional}
+use Rattle.isle_reading.specs.Reader.{Reading, Got, Stuck, Deep, Reader, Ret, Peek, Halt, after, run, bind}
+use Rattle.isle_reading.specs.Combinators.{is_open, read_open, read_close, given, read_word, next_word, read_optional}
 use Rattle.isle_reading.specs.Views.{opens, closes, stops, Refuses, Comes}
 use Rattle.isle_reading.proofs.Running.{run-bind}
 
@@ -46,6 +46,11 @@ then_got r k ts us a o e h = bind_got r k ts us a e ∙ h
 
 pub then_refuses : {A B : Type 0} (fail : Fail) (r : Reader A) (k : A → Reader B) (ts us : List Lexeme) (a : A) → run r ts ≡ Got a us → Refuses fail (run (k a) us) → Refuses fail (run (bind r k) ts)
 then_refuses fail r k ts us a e h = subst (Refuses fail) (sym (bind_got r k ts us a e)) h
+
+-- behind what was got, the last result says what comes of both
+pub then_comes : {T A B : Type 0} (view : T → B) (result : Result T Fail) (rest : List Lexeme) (r : Reader A) (k : A → Reader B) (ts us : List Lexeme) (a : A) → run r ts ≡ Got a us → Comes view result (run (k a) us) rest
+    → Comes view result (run (bind r k) ts) rest
+then_comes view result rest r k ts us a e h = subst (λ o. Comes view result o rest) (sym (bind_got r k ts us a e)) h
 
 pub done_got : {A : Type 0} (a : A) (ts : List Lexeme) → run (Ret a) ts ≡ Got a ts
 unfolding run
@@ -95,6 +100,33 @@ close_stops (At n ∷ ts) e = refl
 close_stops (Less n ∷ ts) e = refl
 close_stops (Greater n ∷ ts) e = refl
 close_stops (Word n w ∷ ts) e = refl
+
+-- a list where a parenthesis opens
+pub open_peek : {A : Type 0} (y n : Reader A) (at : ℕ) (ts : List Lexeme) → Some at ≡ opens ts → run (Peek is_open y n) ts ≡ run y ts
+unfolding run
+open_peek y n at [] e = cc
+open_peek y n at (Open m ∷ ts) e = refl
+open_peek y n at (Close m ∷ ts) e = cc
+open_peek y n at (At m ∷ ts) e = cc
+open_peek y n at (Less m ∷ ts) e = cc
+open_peek y n at (Greater m ∷ ts) e = cc
+open_peek y n at (Word m w ∷ ts) e = cc
+
+-- something else where none opens
+pub other_peek : {A : Type 0} (y n : Reader A) (ts : List Lexeme) → run n [] ≡ Stuck [] → None ≡ opens ts → run (Peek is_open y n) ts ≡ run n ts
+unfolding run
+other_peek y n [] none e = sym none
+other_peek y n (Open m ∷ ts) none e = cc
+other_peek y n (Close m ∷ ts) none e = refl
+other_peek y n (At m ∷ ts) none e = refl
+other_peek y n (Less m ∷ ts) none e = refl
+other_peek y n (Greater m ∷ ts) none e = refl
+other_peek y n (Word m w ∷ ts) none e = refl
+
+-- too deep where one opens
+pub barred_stops : {A : Type 0} (n : Reader A) (at : ℕ) (ts : List Lexeme) → Some at ≡ opens ts → stops (run (Peek is_open Halt n) ts) ≡ Some (length ts)
+unfolding run
+barred_stops n at ts e = ap stops (open_peek Halt n at ts e)
 
 pub ruleset round = (open_got, open_stops, close_got, close_stops)
 
