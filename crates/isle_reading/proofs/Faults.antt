@@ -1,14 +1,14 @@
 -- Tokens spell one value at most; and where reading stops is the place where they go wrong, the only one.
-use Rattle.std.proofs.Common.{◌≡◌, ℕ, suc, ◌≤◌, ◌<◌, List, [], ◌∷◌, ◌++◌, length, append-nil, append_assoc, ◌⊎◌, inl, inr, refl, ap, sym, ◌∙◌, subst, arith, Some}
+use Rattle.std.proofs.Common.{◌≡◌, ℕ, ◌≤◌, List, [], ◌∷◌, ◌++◌, length, append-nil, append_assoc, ◌⊎◌, inl, inr, refl, ap, sym, ◌∙◌, subst, arith, Some}
 use Rattle.std.specs.Prelude.{fold}
 use Rattle.isle_lexer.specs.Lexeme.{Lexeme}
 use Rattle.isle_reading.specs.Reader.{Reading, Got, Stuck, Deep, Reader, run}
-use Rattle.isle_reading.specs.Nesting.{Nest, nest, nothing_open, deepest, depth, most_open}
+use Rattle.isle_reading.specs.Nesting.{Nest, nest, nothing_open, depth, most_open}
 use Rattle.isle_reading.specs.Relations.{Begun, Ended}
 use Rattle.isle_reading.specs.Places.{Accepted, Starts, GoesWrong, wrong, too_deep, missing, IsFault}
 use Rattle.isle_reading.specs.Views.{stops}
-use Rattle.isle_reading.proofs.Running.{stuck_not_got, stuck_not_deep, got_not_deep, got_is, not_more, stuck_here}
-use Rattle.isle_reading.proofs.Passes.{Passes, Over, Nests, passed_front, front_shallow, last_shallow, shallow_not_over}
+use Rattle.isle_reading.proofs.Running.{stuck_not_got, stuck_not_deep, got_is, not_more, stuck_here}
+use Rattle.isle_reading.proofs.Passes.{Over, Nests, passed_front, front_shallow, last_shallow, shallow_not_over}
 use Rattle.isle_reading.proofs.Law as law
 use Rattle.isle_reading.proofs.Law.{Hits, hit, Law}
 
@@ -154,3 +154,20 @@ fault_unspelt accepted ts m f s d = by f.rest f.goes_wrong f.split
     by [] (too_deep t behind e l) k = let x : [] ≡ t ∷ behind = e in cc
     by [] (missing e w) k = w (subst accepted (k ∙ append-nil f.front) s)
     by (t ∷ us) g k = not_earlier accepted f.front (t ∷ us) ts us t us g refl (k ∙ sym (append_assoc f.front (t ∷ []) us)) ([], subst accepted (sym (append-nil ts)) s) d
+
+-- what is accepted, said otherwise
+pub fault_map : (accepted taken : List Lexeme → Type 0) (ts : List Lexeme) (m : ℕ) → ((us : List Lexeme) → accepted us → taken us) → ((us : List Lexeme) → taken us → accepted us) → IsFault accepted ts m → IsFault taken ts m
+fault_map accepted taken ts m to from f = record {
+  front = f.front;
+  rest = f.rest;
+  split = f.split;
+  counted = f.counted;
+  starts = (f.starts.0, to (f.front ++ f.starts.0) f.starts.1);
+  shallow = f.shallow;
+  goes_wrong = by f.goes_wrong;
+}
+  where
+    by : GoesWrong accepted f.front f.rest → GoesWrong taken f.front f.rest
+    by (wrong t behind e w) = wrong t behind e (λ s. w (s.0, from ((f.front ++ t ∷ []) ++ s.0) s.1))
+    by (too_deep t behind e l) = too_deep t behind e l
+    by (missing e w) = missing e (λ s. w (from f.front s))

@@ -1,11 +1,11 @@
 -- What a reader is to have: it reads what a relation says, what it took begins something, and it is too deep only where more would be open than may be.
-use Rattle.std.proofs.Common.{◌≡◌, ℕ, suc, ◌≤◌, ◌<◌, List, [], ◌∷◌, ◌++◌, length, append-nil, append_assoc, Bool, true, false, IsTrue, ◌⊎◌, inl, inr, cond, refl, ap, sym, ◌∙◌, subst, arith}
+use Rattle.std.proofs.Common.{◌≡◌, ℕ, ◌≤◌, List, [], ◌∷◌, ◌++◌, length, append_assoc, Bool, ◌⊎◌, inl, inr, refl, ap, sym, ◌∙◌, subst, arith}
 use Rattle.isle_lexer.specs.Lexeme.{Lexeme}
 use Rattle.isle_reading.specs.Reader.{Reading, Got, Stuck, Deep, Reader, after, run, bind}
 use Rattle.isle_reading.specs.Nesting.{Nest}
 use Rattle.isle_reading.specs.Relations.{Whole, Begins, Taken, Begun, Anything}
-use Rattle.isle_reading.proofs.Running.{run-bind, got_shrinks, stuck_not_got, stuck_not_deep, got_not_deep, got_is, stuck_is, deep_is, after_got, after_stuck, after_deep}
-use Rattle.isle_reading.proofs.Passes.{Passes, none, one, passes_more, passes_shrinks, Over, Nests}
+use Rattle.isle_reading.proofs.Running.{run-bind, got_shrinks, after_got, after_stuck, after_deep}
+use Rattle.isle_reading.proofs.Passes.{Passes, passes_more, Nests}
 
 -- the value was got, or something nests too deep
 pub data Hits {A : Type 0} (o : Reading A) (a : A) (rest : List Lexeme) : Type 0 where

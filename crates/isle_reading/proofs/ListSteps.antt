@@ -1,12 +1,11 @@
 -- The steps of a loop that reads a list.
 use Rattle.std.proofs.Common.{◌≡◌, ℕ, zero, suc, ◌+◌, ◌-◌, ◌<◌, ◌≤◌, List, [], ◌∷◌, ◌++◌, length, drop, map, append-nil, append_assoc, refl, ap, sym, ◌∙◌, subst, arith, Some, None}
 use Rattle.std.proofs.lemmas.List.{map-append}
-use Rattle.std.specs.Prelude.{Result, IsErrAnd}
 use Rattle.isle_lexer.specs.Lexeme.{Lexeme, Open, Close, At, Less, Greater, Word}
 use Rattle.isle_reading.specs.declared.cursor.Fail.{Fail}
 use Rattle.isle_reading.specs.Reader.{Reading, Got, Stuck, Deep, Reader, Ret, after, run, bind}
 use Rattle.isle_reading.specs.Combinators.{read_close, many, all_from}
-use Rattle.isle_reading.specs.Views.{closes, stops, Refuses, Comes}
+use Rattle.isle_reading.specs.Views.{closes, stops, Refuses}
 use Rattle.isle_reading.proofs.Running.{run-bind}
 use Rattle.isle_reading.proofs.Steps.{passed, refuses_after}
 

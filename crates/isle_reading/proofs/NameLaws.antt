@@ -1,5 +1,5 @@
 -- The law of the reader of names.
-use Rattle.std.proofs.Common.{◌≡◌, ℕ, List, ◌∷◌, Bool, true, false, refl, ap, sym, subst, Option, Some, None}
+use Rattle.std.proofs.Common.{◌≡◌, ℕ, List, Bool, true, false, refl, ap, sym, subst, Some, None}
 use Rattle.std.specs.Prelude.{if◌then◌else◌, codes}
 use Rattle.isle_lexer.specs.Lexeme.{Lexeme, Word}
 use Rattle.isle_lexer.specs.Word.{Plain, kind, names, IsName}
@@ -42,4 +42,3 @@ law_name steps = law_map name_to name_from (law_word name_of a_name steps)
 -- a name is no parenthesis
 pub name_heads : (w : List ℕ) (ts rest : List Lexeme) → NameS w ts rest → Heads is_close false ts
 name_heads _ _ _ (symbol at w ts h) = (Word at w, ts, refl, refl)
-

@@ -1,10 +1,10 @@
 -- Tokens that nest no deeper than may be, and the states that they lead through.
 use native.Mathlib.Nat.{le_trans, le-max_left, le-max_right, max-le}
-use Rattle.std.proofs.Common.{◌≡◌, ℕ, suc, ◌≤◌, ◌<◌, List, [], ◌∷◌, ◌++◌, length, length-append, refl, ap, sym, ◌∙◌, subst, arith}
-use Rattle.std.specs.Prelude.{max, fold}
+use Rattle.std.proofs.Common.{◌≡◌, ℕ, ◌≤◌, ◌<◌, List, [], ◌∷◌, ◌++◌, length, refl, ap, subst, arith}
+use Rattle.std.specs.Prelude.{fold}
 use Rattle.isle_lexer.specs.Lexeme.{Lexeme}
 use Rattle.isle_reading.specs.Reader.{Reading, Got, Stuck, Deep}
-use Rattle.isle_reading.specs.Nesting.{Nest, nest, nothing_open, deepest, depth, most_open}
+use Rattle.isle_reading.specs.Nesting.{Nest, nest, deepest, most_open}
 
 -- no more are open behind the token than may be
 abbrev pub Within : Nest → Lexeme → Type 0

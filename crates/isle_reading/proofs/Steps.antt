@@ -1,6 +1,6 @@
 -- One step of a reader, by what comes next.
 use Rattle.std.proofs.Common.{◌≡◌, ℕ, zero, suc, ◌<◌, List, [], ◌∷◌, length, drop, cond, refl, ap, sym, ◌∙◌, subst, arith, Option, Some, None}
-use Rattle.std.specs.Prelude.{is_some, slice_get, Result, Ok, Err, IsErrAnd}
+use Rattle.std.specs.Prelude.{is_some, slice_get, Result, Ok, Err, IfOk, IsErrAnd}
 use Rattle.isle_lexer.specs.Lexeme.{Lexeme, Open, Close, At, Less, Greater, Word}
 use Rattle.isle_reading.specs.declared.cursor.Fail.{Fail}
 use Rattle.isle_reading.specs.declared.cursor.Fail.TheVariants as code
@@ -51,6 +51,15 @@ then_refuses fail r k ts us a e h = subst (Refuses fail) (sym (bind_got r k ts u
 pub then_comes : {T A B : Type 0} (view : T → B) (result : Result T Fail) (rest : List Lexeme) (r : Reader A) (k : A → Reader B) (ts us : List Lexeme) (a : A) → run r ts ≡ Got a us → Comes view result (run (k a) us) rest
     → Comes view result (run (bind r k) ts) rest
 then_comes view result rest r k ts us a e h = subst (λ o. Comes view result o rest) (sym (bind_got r k ts us a e)) h
+
+-- a value that came was got
+pub comes_got : {T A : Type 0} (view : T → A) (result : Result T Fail) (o : Reading A) (rest : List Lexeme) → Comes view result o rest → IfOk result (λ value. o ≡ Got (view value) rest)
+comes_got view (Ok value) o rest h = h
+comes_got view (Err fail) o rest h = tt
+
+-- a place that came is where reading stops
+pub comes_stops : {T A : Type 0} (view : T → A) (result : Result T Fail) (o : Reading A) (rest : List Lexeme) (k : ℕ) → Comes view result o rest → result ≡ Err (code.At k) → stops o ≡ Some k
+comes_stops view result o rest k h e = subst (λ r. Comes view r o rest) e h
 
 pub done_got : {A : Type 0} (a : A) (ts : List Lexeme) → run (Ret a) ts ≡ Got a ts
 unfolding run
@@ -226,4 +235,5 @@ pub ruleset next = (next_some, next_none)
 
 -- what closes the function that takes a word, or none
 pub ruleset words = (word_got, word_stops)
+
 pub ruleset optionals = (optional_got, optional_other, optional_stops)

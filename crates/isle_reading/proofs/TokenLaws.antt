@@ -1,13 +1,13 @@
 -- The laws of readers of one token, of a word, and of a look at the next token.
-use Rattle.std.proofs.Common.{◌≡◌, ℕ, suc, ◌+◌, ◌≤◌, ◌<◌, List, [], ◌∷◌, ◌++◌, length, Bool, true, false, IsTrue, ◌⊎◌, inl, inr, cond, refl, ap, sym, ◌∙◌, subst, arith, Option, Some, None}
+use Rattle.std.proofs.Common.{◌≡◌, ℕ, ◌<◌, List, [], ◌∷◌, ◌++◌, length, Bool, true, false, IsTrue, ◌⊎◌, inl, inr, cond, refl, ap, sym, ◌∙◌, subst, arith, Option, Some, None}
 use Rattle.std.specs.Prelude.{is_some}
 use Rattle.isle_lexer.specs.Lexeme.{Lexeme, Open, Close, At, Less, Greater, Word}
 use Rattle.isle_reading.specs.Reader.{Reading, Got, Stuck, Deep, Reader, Ret, Ask, Peek, End, Halt, run}
-use Rattle.isle_reading.specs.Combinators.{is_open, is_close, is_at, on_word, bytes, place, refuse, read_open, read_close, given, read_word, read_optional, at_end}
+use Rattle.isle_reading.specs.Combinators.{is_open, is_close, on_word, bytes, place, read_open, read_close, given, read_word, read_optional, at_end}
 use Rattle.isle_reading.specs.Nesting.{Nest, nest, most_open}
 use Rattle.isle_reading.specs.Relations.{Begins, Taken, Begun, Ended}
 use Rattle.isle_reading.proofs.Running.{stuck_not_got, stuck_not_deep, got_not_deep, got_is, stuck_is, deep_is}
-use Rattle.isle_reading.proofs.Passes.{Passes, none, one, Over, Nests, Within, Steps}
+use Rattle.isle_reading.proofs.Passes.{none, one, Nests, Within, Steps}
 use Rattle.isle_reading.proofs.Law.{Hits, hit, too_deep, Law, Heads, Some_token, Nothing, NothingLeft, Either, law_map, leads_behind}
 
 -- ---- nothing

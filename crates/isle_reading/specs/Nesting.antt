@@ -1,5 +1,5 @@
 -- How deep a token nests: the parentheses and `@` that are open behind it.
-use Rattle.std.specs.Prelude.{ℕ, max, List, [], ◌∷◌, Bool, ◌||◌, if◌then◌else◌, length, fold, bytes_eq, codes}
+use Rattle.std.specs.Prelude.{ℕ, max, List, [], ◌∷◌, Bool, ◌||◌, if◌then◌else◌, length, bytes_eq, codes}
 use Rattle.isle_lexer.specs.Lexeme.{Lexeme, Open, Close, At, Less, Greater, Word}
 
 -- what is open
