@@ -5,17 +5,16 @@ use Rattle.std.proofs.lemmas.Slice.Eq.{bytes_eq-Decides}
 use Rattle.isle_lexer.specs.Lexeme.{Lexeme, Open, Close, Word}
 use Rattle.isle_reading.specs.Combinators.{read_open}
 use Rattle.isle_reading.specs.Nesting.{most_open}
-use Rattle.isle_reading.specs.Relations.{Begins, Anything, Many}
+use Rattle.isle_reading.specs.Relations.{Begins, Anything}
 use Rattle.isle_reading.proofs.Law.{Law, Some_token, Nothing, Then, law_map, law_less, law_less_then, law_next}
 use Rattle.isle_reading.proofs.TokenLaws.{OpenS, CloseS, WordS, law_ret, law_open, law_close, law_word}
 use Rattle.isle_reading.proofs.States.{Opened, opened_open, opened_close, opened_word}
-use Rattle.isle_values.specs.Written.{Written, Truth}
-use Rattle.isle_values.specs.Spelling.{ValueS, truth}
-use Rattle.isle_values.specs.Reading.{read_list}
+use Rattle.isle_values.specs.Written.{Truth}
+use Rattle.isle_values.specs.Spelling.{truth}
 use Rattle.isle_values.proofs.ValueLaws.{PlainS, law_list}
 use Rattle.isle_answers.specs.Form.{One, AnswerForm, Plain, CaseForm}
 use Rattle.isle_answers.specs.Spelling.{one, AnswerS, plain, RestS, rest_of, CasesS, no_case, a_case}
-use Rattle.isle_answers.specs.Reading.{PartHead, CaseHead, RestHead, Cases, part_head_of, read_part_head, read_answer, read_case, read_rest, read_part, read_cases}
+use Rattle.isle_answers.specs.Reading.{PartHead, CaseHead, RestHead, Cases, part_head_of, read_part_head, read_case, read_rest, read_part, read_cases}
 use Rattle.isle_answers.proofs.AnswerLaws.{law_answer}
 use Rattle.isle_answers.proofs.Fuel.{law_out, takes}
 

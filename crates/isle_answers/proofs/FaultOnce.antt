@@ -1,8 +1,8 @@
 -- A text goes wrong at one place at most, and nowhere if it spells an answers file.
 use Rattle.std.proofs.Common.{◌≡◌, ℕ, List, ap, sym, ◌∙◌, length, Some, None}
-use Rattle.isle_lexer.specs.Lexeme.{Lexeme, lexemes}
+use Rattle.isle_lexer.specs.Lexeme.{lexemes}
 use Rattle.isle_lexer.specs.Token.{IsClosed, unclosed}
-use Rattle.isle_reading.specs.Places.{IsFaultAt, place_left}
+use Rattle.isle_reading.specs.Places.{place_left}
 use Rattle.isle_reading.proofs.Faults as faults
 use Rattle.isle_answers.specs.Form.{Form}
 use Rattle.isle_answers.specs.Places.{AreForms, IsFault, comment, tokens}

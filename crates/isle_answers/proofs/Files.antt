@@ -1,5 +1,5 @@
 -- A whole answers file is read exactly, and where it goes wrong is told exactly.
-use Rattle.std.proofs.Common.{◌≡◌, ℕ, ◌+◌, ◌-◌, ◌≤◌, List, [], ◌∷◌, length, Bool, true, false, refl, sym, subst, arith, Some}
+use Rattle.std.proofs.Common.{◌≡◌, ℕ, ◌+◌, ◌-◌, ◌≤◌, List, [], length, Bool, true, false, refl, sym, subst, arith, Some}
 use Rattle.isle_lexer.specs.Lexeme.{Lexeme}
 use Rattle.isle_reading.specs.Nesting.{most_open}
 use Rattle.isle_reading.specs.Places.{IsFault}

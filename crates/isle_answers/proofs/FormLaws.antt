@@ -1,5 +1,5 @@
 -- The reader of a form keeps the law.
-use Rattle.std.proofs.Common.{◌≡◌, ℕ, suc, ◌+◌, ◌-◌, ◌≤◌, List, [], ◌∷◌, Bool, true, false, refl, ap, sym, ◌∙◌, subst, arith, Some, None}
+use Rattle.std.proofs.Common.{◌≡◌, ℕ, ◌+◌, ◌-◌, ◌≤◌, List, [], ◌∷◌, Bool, true, false, refl, ap, sym, ◌∙◌, subst, arith, Some, None}
 use Rattle.std.specs.Prelude.{if◌then◌else◌, ◌&&◌, bytes_eq, codes}
 use Rattle.std.proofs.lemmas.Slice.Eq.{bytes_eq-Decides}
 use Rattle.isle_core.specs.declared.values.Callee.TheVariants.{External}
@@ -9,7 +9,7 @@ use Rattle.isle_reading.specs.Nesting.{most_open}
 use Rattle.isle_reading.specs.Combinators.{read_close}
 use Rattle.isle_reading.specs.Reader.{Ret, bind}
 use Rattle.isle_reading.specs.Relations.{Anything}
-use Rattle.isle_reading.proofs.Law.{Law, Some_token, Nothing, Then, law_map, law_next}
+use Rattle.isle_reading.proofs.Law.{Law, Some_token, Nothing, Then, law_next}
 use Rattle.isle_reading.proofs.TokenLaws.{OpenS, CloseS, WordS, law_ret, law_open, law_close, law_word}
 use Rattle.isle_reading.proofs.NameLaws.{law_name}
 use Rattle.isle_reading.proofs.States.{Opened, opened_open, opened_close, opened_word}
@@ -18,8 +18,8 @@ use Rattle.isle_values.proofs.ValueLaws.{law_value}
 use Rattle.isle_answers.specs.Form.{Form}
 use Rattle.isle_answers.specs.Form as form
 use Rattle.isle_answers.specs.Words.{count_of, callee_of}
-use Rattle.isle_answers.specs.Spelling.{CasesS, TurnsS, FormS, const, answers, turns, FormsS, no_form, a_form, held_form, max_form}
-use Rattle.isle_answers.specs.Reading.{FormHead, HeldHead, MaxHead, ConstHead, AnswersHead, TurnsHead, Still, form_head_of, held_behind, max_behind, still_behind, read_form_head, read_count, read_callee, read_held, read_max, read_const, read_answers, read_turned, read_behind, read_form}
+use Rattle.isle_answers.specs.Spelling.{CasesS, TurnsS, FormS, const, answers, turns, FormsS, a_form, held_form, max_form}
+use Rattle.isle_answers.specs.Reading.{FormHead, HeldHead, MaxHead, ConstHead, AnswersHead, TurnsHead, Still, form_head_of, held_behind, max_behind, read_form_head, read_count, read_callee, read_held, read_max, read_const, read_answers, read_turned, read_behind, read_form}
 use Rattle.isle_answers.proofs.CaseLaws.{OntoS, law_cases}
 use Rattle.isle_answers.proofs.TurnLaws.{TurnsPS, law_turns}
 

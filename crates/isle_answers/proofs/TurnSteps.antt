@@ -4,7 +4,7 @@ use Rattle.std.specs.Prelude.{is_some, option_map, reverse}
 use Rattle.std.proofs.lemmas.List.{map-append, reverse-append, reverse-reverse}
 use Rattle.isle_lexer.specs.Lexeme.{Lexeme, Open, Close, At, Less, Greater, Word}
 use Rattle.isle_reading.specs.declared.cursor.Fail.{Fail}
-use Rattle.isle_reading.specs.Reader.{Reading, Got, Stuck, Reader, Ret, after, run, bind}
+use Rattle.isle_reading.specs.Reader.{Reading, Got, Stuck, Reader, after, run, bind}
 use Rattle.isle_reading.specs.Combinators.{read_close}
 use Rattle.isle_reading.specs.Views.{closes, stops, Refuses}
 use Rattle.isle_reading.proofs.Running.{run-bind}

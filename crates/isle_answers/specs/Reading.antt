@@ -1,11 +1,10 @@
 -- Readers of answers files.
-use Rattle.std.specs.Prelude.{ℕ, zero, suc, ◌-◌, length, List, [], ◌∷◌, ◌++◌, reverse, Bool, true, false, ◌&&◌, if◌then◌else◌, Option, Some, None, option_map, bytes_eq, codes}
+use Rattle.std.specs.Prelude.{ℕ, zero, suc, ◌-◌, List, [], ◌∷◌, ◌++◌, reverse, Bool, true, false, ◌&&◌, if◌then◌else◌, Option, Some, None, option_map, bytes_eq, codes}
 use Rattle.isle_core.specs.declared.values.Callee.{Callee}
-use Rattle.isle_lexer.specs.Lexeme.{Lexeme}
 use Rattle.isle_reading.specs.Combinators.{is_open, is_close, refuse, read_open, read_close, read_word, many, all_from}
 use Rattle.isle_reading.specs.Names.{name_of, read_name}
 use Rattle.isle_reading.specs.Nesting.{most_open}
-use Rattle.isle_reading.specs.Reader.{Reading, Reader, Ret, Peek, End, Halt, run, bind}
+use Rattle.isle_reading.specs.Reader.{Reader, Ret, Peek, End, Halt, bind}
 use Rattle.isle_values.specs.Written.{Written, Writtens, Truth, Number, Made, NoValue, AValue}
 use Rattle.isle_values.specs.Views.{in_order}
 use Rattle.isle_values.specs.Reading.{read_simple, read_value, read_list}

@@ -1,4 +1,4 @@
-use Rattle.std.proofs.Common.{◌≡◌, ◌-◌, ◌∙◌, rules, ap, sym}
+use Rattle.std.proofs.Common.{◌≡◌, ◌-◌, ◌∙◌, rules, ap}
 use Rattle.isle_reading.specs.Reader.{run}
 use Rattle.isle_reading.specs.Views.{left}
 use Rattle.isle_reading.proofs.Steps.{passed, then_got, done_got, then_refuses, bind_refuses}

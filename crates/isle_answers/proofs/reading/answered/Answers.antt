@@ -1,4 +1,4 @@
-use Rattle.std.proofs.Common.{◌≡◌, ◌-◌, ◌∙◌, [], rules, ap, sym, subst}
+use Rattle.std.proofs.Common.{◌≡◌, ◌-◌, ◌∙◌, [], rules, ap, subst}
 use Rattle.isle_reading.specs.Reader.{run}
 use Rattle.isle_reading.specs.Views.{left, Refuses}
 use Rattle.isle_reading.proofs.Steps.{passed, then_got, done_got, then_refuses, bind_refuses}
