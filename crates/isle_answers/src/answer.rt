@@ -12,7 +12,7 @@ use isle_reading::{Fail, Tokens};
 use std::alloc::{AllocError, Global};
 
 /// What a list is that is an answer.
-#[derive(Debug, Drop)]
+#[derive(Drop)]
 pub enum AnswerHead {
     Some,
     Nothing,

@@ -13,7 +13,7 @@ use isle_values::{Written, list};
 use std::alloc::Global;
 
 /// What a list in `answers` is.
-#[derive(Clone, Copy, Debug, PartialEq, Eq)]
+#[derive(Clone, Copy)]
 enum PartHead {
     Case,
     Rest,

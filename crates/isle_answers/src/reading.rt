@@ -17,7 +17,7 @@ use isle_values::value;
 use std::alloc::{AllocError, Global};
 
 /// What a form is.
-#[derive(Clone, Copy, Debug, PartialEq, Eq)]
+#[derive(Clone, Copy)]
 enum FormHead {
     Held,
     Max,

@@ -14,7 +14,7 @@ use isle_values::{Written, parts, simple};
 use std::alloc::{AllocError, Global};
 
 /// What a list is that is a result.
-#[derive(Debug, Drop)]
+#[derive(Drop)]
 pub enum ResultHead {
     Tuple,
     Made(Text),
