@@ -41,9 +41,11 @@ answer_head_of w =
     else (if bytes_eq w (codes "list") then Some ListHead
     else option_map (λ h. ResultIs h) (result_head_of w)))
 
+-- the first word of a result's list, as it is read
 unfoldable pub read_result_head : Reader ResultHead
 read_result_head = read_word result_head_of
 
+-- the first word of an answer's list, as it is read
 unfoldable pub read_answer_head : Reader AnswerHead
 read_answer_head = read_word answer_head_of
 
@@ -56,7 +58,7 @@ unfoldable pub read_result_behind : ℕ → ℕ → ResultHead → Reader Result
 read_result_behind n d TupleHead = bind (many n (read_value n d)) (λ vs. Ret (Tuple vs))
 read_result_behind n d (MadeHead w) = bind (many n (read_value n d)) (λ vs. Ret (One (Made w (in_order vs))))
 
--- behind the parenthesis of a result's list
+-- a result's list, with its parenthesis
 unfoldable pub read_result_list : ℕ → ℕ → Reader ResultForm
 read_result_list n d = bind read_open (λ o. bind read_result_head (λ h. read_result_behind n d h))
 
@@ -72,9 +74,11 @@ read_answer_behind n d NoneHead = bind read_close (λ c. Ret Nothing)
 read_answer_behind n d ListHead = bind (many n (read_result n d)) (λ rs. Ret (Several rs))
 read_answer_behind n d (ResultIs h) = bind (read_result_behind n d h) (λ r. Ret (Plain r))
 
+-- an answer's list, with its parenthesis
 unfoldable pub read_answer_list : ℕ → ℕ → Reader AnswerForm
 read_answer_list n d = bind read_open (λ o. bind read_answer_head (λ h. read_answer_behind n d h))
 
+-- an answer of one word
 unfoldable pub read_simple_answer : Reader AnswerForm
 read_simple_answer = bind read_simple_result (λ r. Ret (Plain r))
 
@@ -90,12 +94,14 @@ pub data PartHead : Type 0 where
   CaseHead : PartHead
   RestHead : PartHead
 
+-- the first word of a list in `answers`
 abbrev pub part_head_of : List ℕ → Option PartHead
 part_head_of w =
     if bytes_eq w (codes "case") then Some CaseHead
     else (if bytes_eq w (codes "rest") then Some RestHead
     else None)
 
+-- the first word of a list in `answers`, as it is read
 unfoldable pub read_part_head : Reader PartHead
 read_part_head = read_word part_head_of
 
@@ -134,6 +140,7 @@ result_is (Truth b) = Some (One (Truth b))
 result_is (Number n) = Some (One (Number n))
 result_is (Made w parts) = if bytes_eq w (codes "tuple") then Some (Tuple (listed parts)) else (if is_reserved w then None else Some (One (Made w parts)))
 
+-- one result more, where there is one
 abbrev pub with_result : Option ResultForm → Option (List ResultForm) → Option (List ResultForm)
 with_result None rs = None
 with_result (Some r) rs = option_map (λ others. r ∷ others) rs
@@ -229,12 +236,15 @@ form_head_of held max w =
     else (if bytes_eq w (codes "turns") then Some TurnsHead
     else None))))
 
+-- the first word of a form, as it is read
 unfoldable pub read_form_head : (held max : Bool) → Reader FormHead
 read_form_head held max = read_word (form_head_of held max)
 
+-- N
 unfoldable pub read_count : Reader ℕ
 read_count = read_word count_of
 
+-- CALLEE
 unfoldable pub read_callee : Reader Callee
 read_callee = read_word callee_of
 
