@@ -1,20 +1,21 @@
--- The readers of answers have the laws of readers.
-use Rattle.std.proofs.Common.{◌≡◌, ℕ, zero, suc, ◌+◌, List, ◌∷◌, true, false, inl, inr, refl, ap, sym, ◌∙◌, subst, arith, Some}
+-- The readers of answers keep the law.
+use Rattle.std.proofs.Common.{◌≡◌, ℕ, zero, suc, ◌+◌, ◌≤◌, List, ◌∷◌, true, false, inl, inr, refl, ap, sym, ◌∙◌, subst, arith, Some}
 use Rattle.std.specs.Prelude.{codes}
 use Rattle.isle_lexer.specs.Lexeme.{Lexeme, Open, Close, Word}
-use Rattle.isle_syntax.specs.Grammar.{Many}
-use Rattle.isle_syntax.specs.Reader.{Ret, bind, is_open, is_close, read_open, read_close, many}
-use Rattle.isle_syntax.proofs.Exact.{Heads, Nothing, Then, Either}
-use Rattle.isle_syntax.proofs.Combine.{OpenS, CloseS}
-use Rattle.isle_syntax.proofs.WordForms.{WordS}
+use Rattle.isle_reading.specs.Combinators.{is_open, is_close, read_close}
+use Rattle.isle_reading.specs.Nesting.{most_open}
+use Rattle.isle_reading.specs.Reader.{Ret, bind}
+use Rattle.isle_reading.specs.Relations.{Anything, Many}
+use Rattle.isle_reading.proofs.Law.{Law, Heads, Some_token, Nothing, Then, Either, law_map, law_next}
+use Rattle.isle_reading.proofs.TokenLaws.{OpenS, CloseS, WordS, law_ret, law_open, law_close, law_word, law_peek, law_barred}
+use Rattle.isle_reading.proofs.ListLaws.{law_many}
+use Rattle.isle_reading.proofs.States.{Opened, opened_open, opened_close, opened_word, opened_over}
 use Rattle.isle_answers.specs.Form.{ResultForm, One, Tuple, AnswerForm, Plain, Found, Several}
 use Rattle.isle_answers.specs.Form as form
 use Rattle.isle_answers.specs.Spelling.{ResultS, AnswerS, plain, found, nothing, several}
-use Rattle.isle_answers.specs.Reading.{ResultHead, TupleHead, MadeHead, AnswerHead, SomeHead, NoneHead, ListHead, ResultIs, result_head_of, answer_head_of, read_answer_head, read_result, read_result_behind, read_simple_result, read_answer_behind, read_answer_list, read_simple_answer, read_answer}
-use Rattle.isle_answers.proofs.Laws.{Law, law_word, law_open, law_close, law_ret, law_map, law_next, law_peek, law_top, law_many}
-use Rattle.isle_answers.proofs.ValueLaws.{simple_starts}
+use Rattle.isle_answers.specs.Reading.{ResultHead, TupleHead, MadeHead, AnswerHead, SomeHead, NoneHead, ListHead, ResultIs, result_head_of, answer_head_of, read_answer_head, read_result, read_answer_behind, read_answer_list, read_simple_answer, read_answer}
 use Rattle.isle_answers.proofs.HeadWords.{result_head_is, answer_head_is, some_head, none_head, list_head, own_head, plain_tuple_head}
-use Rattle.isle_answers.proofs.ResultLaws.{BehindS, ResultListS, SimpleResultS, result_list_to, simple_result_to, result_from, result_starts, simple_result_law, behind_law, result_law}
+use Rattle.isle_answers.proofs.ResultLaws.{BehindS, ResultListS, SimpleResultS, result_list_to, simple_result_to, result_from, result_starts, simple_result_heads, law_simple_result, law_result_behind, law_result}
 
 -- ---- the same said by parts
 
@@ -80,46 +81,43 @@ answer_starts _ _ _ (found at h c w r ts rest e s) = (Open at, Word h w ∷ ts, 
 answer_starts _ _ _ (nothing at h c w rest e) = (Open at, Word h w ∷ Close c ∷ rest, refl, refl)
 answer_starts _ _ _ (several at h w rs ts rest e m) = (Open at, Word h w ∷ ts, refl, refl)
 
-list_starts : (a : AnswerForm) (ts rest : List Lexeme) → AnswerListS a ts rest → Heads is_open true ts
-list_starts a ts rest s = (Open s.0, s.1, s.2, refl)
+list_heads : (a : AnswerForm) (ts rest : List Lexeme) → AnswerListS a ts rest → Anything rest → Heads is_open true ts
+list_heads a ts rest s c = (Open s.0, s.1, s.2, refl)
 
-word_starts : (a : AnswerForm) (ts rest : List Lexeme) → SimpleAnswerS a ts rest → Heads is_open false ts
-word_starts a ts rest s = simple_starts s.2.0 ts s.2.1 s.2.2
+word_heads : (a : AnswerForm) (ts rest : List Lexeme) → SimpleAnswerS a ts rest → Anything rest → Heads is_open false ts
+word_heads a ts rest s c = simple_result_heads s.0 ts s.1 s.2 tt
 
 a_none : answer_head_of (codes "none") ≡ Some NoneHead
 a_none = refl
 
-module _ (most n : ℕ) where
-  simple_law : (opened : ℕ) → Law most opened opened n SimpleAnswerS read_simple_answer
-  unfolding read_simple_answer
-  simple_law opened = law_next most opened opened opened n read_simple_result (λ r. Ret (Plain r)) (simple_result_law most n opened) (λ r. law_ret most opened n (Plain r))
+law_simple_answer : (n k : ℕ) → k ≤ most_open → Law (Opened k) (λ a. Opened k) Anything n SimpleAnswerS read_simple_answer
+unfolding read_simple_answer
+law_simple_answer n k l = law_next _ _ (law_simple_result n k l) (λ r. law_ret _ (λ q p. p))
 
-  -- a closing parenthesis, and the answer
-  closed_law : (opened : ℕ) (a : AnswerForm) → Law most (suc opened) opened n (Then CloseS (λ c. Nothing a)) (bind read_close (λ c. Ret a))
-  closed_law opened a = law_next most (suc opened) opened opened n read_close (λ c. Ret a) (law_close most opened n) (λ c. law_ret most opened n a)
+-- a closing parenthesis, and the answer
+law_closed : (n k : ℕ) (a : AnswerForm) → suc k ≤ most_open → Law (Opened (suc k)) (λ a. Opened k) Anything n (Then CloseS (λ c. Nothing a)) (bind read_close (λ c. Ret a))
+law_closed n k a l = law_next _ _ (law_close (opened_close k l)) (λ c. law_ret _ (λ q p. p))
 
-  answer_behind_law : (d opened : ℕ) → most ≡ suc opened + d → (h : AnswerHead) → Law most (suc opened) opened n (AnswerBehindS h) (read_answer_behind n d h)
-  unfolding read_answer_behind
-  answer_behind_law d opened e SomeHead =
-      law_next most (suc opened) (suc opened) opened n (read_result n d) (λ r. bind read_close (λ c. Ret (Found r))) (result_law most n d (suc opened) e) (λ r. closed_law opened (Found r))
-  answer_behind_law d opened e NoneHead = closed_law opened form.Nothing
-  answer_behind_law d opened e ListHead =
-      law_next most (suc opened) opened opened n (many n (read_result n d)) (λ rs. Ret (Several rs)) (law_many most opened n (read_result n d) result_starts (result_law most n d (suc opened) e)) (λ rs. law_ret most opened n (Several rs))
-  answer_behind_law d opened e (ResultIs h) =
-      law_next most (suc opened) opened opened n (read_result_behind n d h) (λ r. Ret (Plain r)) (behind_law most n d opened e h) (λ r. law_ret most opened n (Plain r))
+law_answer_behind : (n k d : ℕ) → suc k + d ≡ most_open → (h : AnswerHead) → Law (Opened (suc k)) (λ a. Opened k) Anything n (AnswerBehindS h) (read_answer_behind n d h)
+unfolding read_answer_behind
+law_answer_behind n k d e SomeHead = law_next _ _ (law_result n k d e) (λ r. law_closed n k (Found r) (omega (arith, e)))
+law_answer_behind n k d e NoneHead = law_closed n k form.Nothing (omega (arith, e))
+law_answer_behind n k d e ListHead =
+    law_next _ _ (law_many (Opened k) n ResultS (read_result n d) (law_result n k d e) (λ r ts rest s. tt) (λ at ts. tt) result_starts (opened_close k (omega (arith, e))) n (omega arith)) (λ rs. law_ret _ (λ q p. p))
+law_answer_behind n k d e (ResultIs h) = law_next _ _ (law_result_behind n k d e h) (λ r. law_ret _ (λ q p. p))
 
-  head_law : (opened : ℕ) → Law most opened opened n (WordS answer_head_of) read_answer_head
-  unfolding read_answer_head
-  head_law opened = law_word most opened n answer_head_of (codes "none", NoneHead, a_none)
+law_list : (n k d : ℕ) → suc k + d ≡ most_open → Law (Opened k) (λ a. Opened k) Anything n AnswerListS (read_answer_list n d)
+unfolding read_answer_list read_answer_head
+law_list n k d e =
+    law_next _ _ (law_open (opened_open k (omega (arith, e)))) (λ o.
+    law_next _ _ (law_word answer_head_of (codes "none", NoneHead, a_none) (opened_word (suc k) answer_head_of (omega (arith, e)))) (λ h. law_answer_behind n k d e h))
 
-  list_law : (d opened : ℕ) → most ≡ suc opened + d → Law most opened opened n AnswerListS (read_answer_list n d)
-  unfolding read_answer_list
-  list_law d opened e = law_next most opened (suc opened) opened n read_open (λ o. bind read_answer_head (λ h. read_answer_behind n d h)) (law_open most opened n (omega (arith, e))) (λ o.
-      law_next most (suc opened) (suc opened) opened n read_answer_head (λ h. read_answer_behind n d h) (head_law (suc opened)) (λ h. answer_behind_law d opened e h))
+pub law_answer : (n k d : ℕ) → suc k + d ≡ most_open → Law (Opened (suc k)) (λ a. Opened (suc k)) Anything n AnswerS (read_answer n d)
+unfolding read_answer
+law_answer n k zero e = law_map shape_to shape_from (law_barred is_open read_simple_answer list_heads word_heads (opened_over (suc k) (omega (arith, e))) (law_simple_answer n (suc k) (omega (arith, e))))
+law_answer n k (suc d) e =
+    law_map shape_to shape_from (law_peek is_open (read_answer_list n d) read_simple_answer list_heads word_heads (law_list n (suc k) d (omega (arith, e))) (law_simple_answer n (suc k) (omega (arith, e))))
 
-  pub answer_law : (d opened : ℕ) → most ≡ opened + d → Law most opened opened n AnswerS (read_answer n d)
-  unfolding read_answer
-  answer_law zero opened e = law_map most opened opened n shape_to shape_from
-      (law_top {S = AnswerListS} {T = SimpleAnswerS} most opened n read_simple_answer (omega (arith, e)) list_starts word_starts (simple_law opened))
-  answer_law (suc d) opened e = law_map most opened opened n shape_to shape_from
-      (law_peek most opened opened n is_open (read_answer_list n d) read_simple_answer list_starts word_starts (list_law d opened (omega (arith, e))) (simple_law opened))
+-- an answer begins with a token
+pub answer_some : (a : AnswerForm) (ts rest : List Lexeme) → AnswerS a ts rest → Some_token ts
+answer_some a ts rest s = let x = answer_starts a ts rest s in (x.0, x.1, x.2)

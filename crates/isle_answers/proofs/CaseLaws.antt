@@ -1,24 +1,22 @@
--- The reader of cases has the laws of readers.
-use Rattle.std.proofs.Common.{◌≡◌, ℕ, zero, suc, ◌+◌, ◌-◌, ◌≤◌, List, [], ◌∷◌, Bool, true, false, refl, ap, sym, ◌∙◌, subst, arith, Some, None}
+-- The reader of cases keeps the law.
+use Rattle.std.proofs.Common.{◌≡◌, ℕ, zero, suc, ◌+◌, ◌-◌, ◌≤◌, List, [], ◌∷◌, ◌++◌, append-nil, append_assoc, Bool, true, false, refl, ap, sym, ◌∙◌, subst, arith, Some, None}
 use Rattle.std.specs.Prelude.{if◌then◌else◌, bytes_eq, codes}
 use Rattle.std.proofs.lemmas.Slice.Eq.{bytes_eq-Decides}
 use Rattle.isle_lexer.specs.Lexeme.{Lexeme, Open, Close, Word}
-use Rattle.isle_syntax.specs.Grammar.{Many}
-use Rattle.isle_syntax.specs.Reader.{Reader, Ret, bind, read_open, read_close, many}
-use Rattle.isle_syntax.specs.Reading.{no_call}
-use Rattle.isle_syntax.proofs.Exact.{Nothing, Then, Begins}
-use Rattle.isle_syntax.proofs.Combine.{OpenS, CloseS, halt_reads}
-use Rattle.isle_syntax.proofs.WordForms.{WordS}
-use Rattle.isle_syntax.proofs.Depths.{Nests}
-use Rattle.isle_values.specs.Written.{Written, Truth}
-use Rattle.isle_values.specs.Spelling.{ValueS, truth}
-use Rattle.isle_values.specs.Reading.{read_value, read_list}
+use Rattle.isle_reading.specs.Combinators.{read_open}
+use Rattle.isle_reading.specs.Nesting.{most_open}
+use Rattle.isle_reading.specs.Relations.{Begins, Anything}
+use Rattle.isle_reading.proofs.Law.{Law, Some_token, Nothing, Then, law_map, law_less, law_less_then, law_next}
+use Rattle.isle_reading.proofs.TokenLaws.{OpenS, CloseS, WordS, law_ret, law_open, law_close, law_word}
+use Rattle.isle_reading.proofs.States.{Opened, opened_open, opened_close, opened_word}
+use Rattle.isle_values.specs.Written.{Truth}
+use Rattle.isle_values.specs.Spelling.{truth}
+use Rattle.isle_values.proofs.ValueLaws.{PlainS, law_list}
 use Rattle.isle_answers.specs.Form.{One, AnswerForm, Plain, CaseForm}
 use Rattle.isle_answers.specs.Spelling.{one, AnswerS, plain, RestS, rest_of, CasesS, no_case, a_case}
-use Rattle.isle_answers.specs.Reading.{PartHead, CaseHead, RestHead, part_head_of, read_part_head, read_answer, read_case, read_rest, read_part, read_cases}
-use Rattle.isle_answers.proofs.Laws.{Fit, Law, open_leaves, law_word, law_open, law_close, law_ret, law_map, law_then, law_next, law_less}
-use Rattle.isle_answers.proofs.ValueLaws.{values_law}
-use Rattle.isle_answers.proofs.AnswerLaws.{answer_law}
+use Rattle.isle_answers.specs.Reading.{PartHead, CaseHead, RestHead, Cases, part_head_of, read_part_head, read_case, read_rest, read_part, read_cases}
+use Rattle.isle_answers.proofs.AnswerLaws.{law_answer}
+use Rattle.isle_answers.proofs.Fuel.{law_out, takes}
 
 -- ---- the first word
 
@@ -42,115 +40,109 @@ rest_head w e = ap part_head_of e
 
 -- ---- the same said by parts
 
-abbrev pub CasesPS : List CaseForm × AnswerForm → List Lexeme → List Lexeme → Type 0
-CasesPS x ts rest = CasesS x.0 x.1 ts rest
-
-abbrev ArgsS : List Written → List Lexeme → List Lexeme → Type 0
-ArgsS = Then OpenS (λ o. Many ValueS)
-
 abbrev CaseS : CaseForm → List Lexeme → List Lexeme → Type 0
-CaseS = Then ArgsS (λ args. Then AnswerS (λ a. Then CloseS (λ c. Nothing (record { args = args; answer = a }))))
+CaseS = Then PlainS (λ args. Then AnswerS (λ a. Then CloseS (λ c. Nothing (record { args = args; answer = a }))))
 
 abbrev RestBehindS : AnswerForm → List Lexeme → List Lexeme → Type 0
 RestBehindS = Then AnswerS (λ a. Then CloseS (λ c. Then CloseS (λ e. Nothing a)))
 
-abbrev PartS : PartHead → List CaseForm × AnswerForm → List Lexeme → List Lexeme → Type 0
-PartS CaseHead = Then CaseS (λ c. Then CasesPS (λ others. Nothing (c ∷ others.0, others.1)))
-PartS RestHead = Then RestBehindS (λ a. Nothing ([], a))
+-- cases behind those that were read, and the rest
+abbrev pub OntoS : List CaseForm → Cases → List Lexeme → List Lexeme → Type 0
+OntoS done x ts rest = (others : List CaseForm) × CasesS others x.1 ts rest × (x.0 ≡ done ++ others)
 
-abbrev Shape : List CaseForm × AnswerForm → List Lexeme → List Lexeme → Type 0
-Shape = Then OpenS (λ o. Then (WordS part_head_of) PartS)
+abbrev PartS : List CaseForm → PartHead → Cases → List Lexeme → List Lexeme → Type 0
+PartS done CaseHead = Then CaseS (λ c. OntoS (done ++ c ∷ []))
+PartS done RestHead = Then RestBehindS (λ a. Nothing (done, a))
 
-part_to : (h : PartHead) (at m : ℕ) (w : List ℕ) (x : List CaseForm × AnswerForm) (ts rest : List Lexeme) → part_head_of w ≡ Some h → PartS h x ts rest → CasesPS x (Open at ∷ Word m w ∷ ts) rest
-part_to CaseHead at m w x ts rest e (f, more, ((args, mid, (o, us, eo, ma), (a, mid2, sa, (c, mid3, ec, (p, q))))), (others, mid4, so, (p2, q2))) =
-    subst (λ z. CasesPS z (Open at ∷ Word m w ∷ ts) rest) (sym (p2 ∙ ap (λ z. (z ∷ others.0, others.1)) p))
-    (subst (λ z. CasesPS (record { args = args; answer = a } ∷ others.0, others.1) (Open at ∷ Word m w ∷ z) rest) (sym eo)
-    (a_case at m o c w args a others.0 others.1 us mid more rest (part_head_is w CaseHead e) ma (subst (λ z. AnswerS a mid z) (ec ∙ ap (λ z. Close c ∷ z) q) sa) (subst (λ z. CasesPS others more z) q2 so)))
-part_to RestHead at m w x ts rest e (b, us, (a, mid, sa, (c, mid2, ec, (d, mid3, ed, (p, q)))), (p2, q2)) =
-    subst (λ z. CasesPS z (Open at ∷ Word m w ∷ ts) rest) (sym (p2 ∙ ap (λ z. ([], z)) p))
-    (no_case a (Open at ∷ Word m w ∷ ts) rest (rest_of at m c d w a ts rest (part_head_is w RestHead e)
-    (subst (λ z. AnswerS a ts z) (ec ∙ ap (λ z. Close c ∷ z) (ed ∙ ap (λ z. Close d ∷ z) (q ∙ q2))) sa)))
+abbrev Shape : List CaseForm → Cases → List Lexeme → List Lexeme → Type 0
+Shape done = Then OpenS (λ o. Then (WordS part_head_of) (PartS done))
 
-shape_to : (x : List CaseForm × AnswerForm) (ts rest : List Lexeme) → Shape x ts rest → CasesPS x ts rest
-shape_to x ts rest (o, us, eo, (h, vs, (at, w, ew, eh), b)) =
-    subst (λ z. CasesPS x z rest) (sym (eo ∙ ap (λ z. Open o ∷ z) ew)) (part_to h o at w x vs rest eh b)
+case_is : (c : CaseForm) (at o m : ℕ) (w : List ℕ) (others : List CaseForm) (a : AnswerForm) (ts mid rest : List Lexeme) → w ≡ codes "case" → CaseS c ts mid → CasesS others a mid rest → CasesS (c ∷ others) a (Open at ∷ Word m w ∷ ts) rest
+case_is c at o m w others a ts mid rest ew (args, us, (k, vs, eo, ma), (answer, ws, sa, (e, xs, ec, (p, q)))) s =
+    subst (λ z. CasesS (z ∷ others) a (Open at ∷ Word m w ∷ ts) rest) (sym p)
+    (subst (λ z. CasesS (record { args = args; answer = answer } ∷ others) a (Open at ∷ Word m w ∷ z) rest) (sym eo)
+    (a_case at m k e w args answer others a vs us mid rest ew ma (subst (λ z. AnswerS answer us z) (ec ∙ ap (λ z. Close e ∷ z) q) sa) s))
 
-rest_from : (a : AnswerForm) (ts rest : List Lexeme) → RestS a ts rest → Shape ([], a) ts rest
-rest_from _ _ _ (rest_of at h c e w a ts rest ew s) =
-    (at, Word h w ∷ ts, refl, (RestHead, ts, (h, w, refl, rest_head w ew), (a, rest, (a, Close c ∷ Close e ∷ rest, s, (c, Close e ∷ rest, refl, (e, rest, refl, (refl, refl)))), (refl, refl))))
+rest_is : (at m : ℕ) (w : List ℕ) (a : AnswerForm) (ts rest : List Lexeme) → w ≡ codes "rest" → RestBehindS a ts rest → RestS a (Open at ∷ Word m w ∷ ts) rest
+rest_is at m w a ts rest ew (b, mid, sa, (c, us, ec, (e, vs, ee, (p, q)))) =
+    subst (λ z. RestS z (Open at ∷ Word m w ∷ ts) rest) (sym p) (rest_of at m c e w b ts rest ew (subst (λ z. AnswerS b ts z) (ec ∙ ap (λ z. Close c ∷ z) (ee ∙ ap (λ z. Close e ∷ z) q)) sa))
 
-cases_from : (cases : List CaseForm) (a : AnswerForm) (ts rest : List Lexeme) → CasesS cases a ts rest → Shape (cases, a) ts rest
-cases_from _ _ _ _ (no_case a ts rest s) = rest_from a ts rest s
-cases_from _ _ _ _ (a_case at h o c w args answer others a ts mid more rest ew m s k) = (
-  at,
-  Word h w ∷ Open o ∷ ts,
-  refl,
-  (
-    CaseHead,
-    Open o ∷ ts,
-    (h, w, refl, case_head w ew),
-    (record { args = args; answer = answer }, more, (args, mid, (o, ts, refl, m), (answer, Close c ∷ more, s, (c, more, refl, (refl, refl)))), ((others, a), rest, k, (refl, refl))),
-  ),
-)
+part_to : (done : List CaseForm) (h : PartHead) (at m : ℕ) (w : List ℕ) (x : Cases) (ts rest : List Lexeme) → part_head_of w ≡ Some h → PartS done h x ts rest → OntoS done x (Open at ∷ Word m w ∷ ts) rest
+part_to done CaseHead at m w x ts rest e (c, mid, sc, (others, s, f)) =
+    (c ∷ others, case_is c at m m w others x.1 ts mid rest (part_head_is w CaseHead e) sc s, f ∙ append_assoc done (c ∷ []) others)
+part_to done RestHead at m w x ts rest e (a, mid, sa, (p, q)) =
+    let s = rest_is at m w a ts rest (part_head_is w RestHead e) (subst (λ z. RestBehindS a ts z) q sa) in
+    ([], no_case x.1 (Open at ∷ Word m w ∷ ts) rest (subst (λ z. RestS z (Open at ∷ Word m w ∷ ts) rest) (sym (ap (λ z. z.1) p)) s), ap (λ z. z.0) p ∙ sym (append-nil done))
+
+shape_to : (done : List CaseForm) (x : Cases) (ts rest : List Lexeme) → Shape done x ts rest → OntoS done x ts rest
+shape_to done x ts rest (o, us, eo, (h, vs, (at, w, ew, eh), b)) =
+    subst (λ z. OntoS done x z rest) (sym (eo ∙ ap (λ z. Open o ∷ z) ew)) (part_to done h o at w x vs rest eh b)
+
+rest_from : (done : List CaseForm) (x : Cases) (a : AnswerForm) (ts rest : List Lexeme) → RestS a ts rest → x ≡ (done, a) → Shape done x ts rest
+rest_from done x _ _ _ (rest_of at h c e w a ts rest ew s) f =
+    (at, Word h w ∷ ts, refl, (RestHead, ts, (h, w, refl, rest_head w ew), (a, rest, (a, Close c ∷ Close e ∷ rest, s, (c, Close e ∷ rest, refl, (e, rest, refl, (refl, refl)))), (f, refl))))
+
+cases_from : (done : List CaseForm) (x : Cases) (others : List CaseForm) (a : AnswerForm) (ts rest : List Lexeme) → CasesS others a ts rest → x ≡ (done ++ others, a) → Shape done x ts rest
+cases_from done x _ _ _ _ (no_case a ts rest s) f = rest_from done x a ts rest s (f ∙ ap (λ z. (z, a)) (append-nil done))
+cases_from done x _ _ _ _ (a_case at h o c w args answer others a ts mid more rest ew m s k) f =
+    let one : CaseForm = record { args = args; answer = answer } in
+    let same : x.0 ≡ (done ++ one ∷ []) ++ others = ap (λ z. z.0) f ∙ sym (append_assoc done (one ∷ []) others) in
+    let behind : CasesS others x.1 more rest = subst (λ z. CasesS others z more rest) (sym (ap (λ z. z.1) f)) k in (
+      at,
+      Word h w ∷ Open o ∷ ts,
+      refl,
+      (CaseHead, Open o ∷ ts, (h, w, refl, case_head w ew), (one, more, (args, mid, (o, ts, refl, m), (answer, Close c ∷ more, s, (c, more, refl, (refl, refl)))), (others, behind, same))),
+    )
+
+shape_from : (done : List CaseForm) (x : Cases) (ts rest : List Lexeme) → OntoS done x ts rest → Shape done x ts rest
+shape_from done x ts rest (others, s, f) = cases_from done x others x.1 ts rest s (ap (λ z. (z, x.1)) f)
+
+-- ---- the shortest cases
 
 a_part : part_head_of (codes "rest") ≡ Some RestHead
 a_part = refl
 
--- a rest that is true
+-- ( rest true ) )
 pub true_rest : (tail : List Lexeme) → RestS (Plain (One (Truth true))) (Open 0 ∷ Word 0 (codes "rest") ∷ Word 0 (codes "true") ∷ Close 0 ∷ Close 0 ∷ tail) tail
-true_rest tail =
-    rest_of 0 0 0 0 (codes "rest") (Plain (One (Truth true))) (Word 0 (codes "true") ∷ Close 0 ∷ Close 0 ∷ tail) tail refl
-    (plain (One (Truth true)) (Word 0 (codes "true") ∷ Close 0 ∷ Close 0 ∷ tail) (Close 0 ∷ Close 0 ∷ tail)
-    (one (Truth true) (Word 0 (codes "true") ∷ Close 0 ∷ Close 0 ∷ tail) (Close 0 ∷ Close 0 ∷ tail) (truth 0 (codes "true") (Close 0 ∷ Close 0 ∷ tail) refl) tt))
+true_rest tail = rest_of 0 0 0 0 (codes "rest") (Plain (One (Truth true))) (Word 0 (codes "true") ∷ Close 0 ∷ Close 0 ∷ tail) tail refl
+    (plain (One (Truth true)) (Word 0 (codes "true") ∷ Close 0 ∷ Close 0 ∷ tail) (Close 0 ∷ Close 0 ∷ tail) (one (Truth true) (Word 0 (codes "true") ∷ Close 0 ∷ Close 0 ∷ tail) (Close 0 ∷ Close 0 ∷ tail) (truth 0 (codes "true") (Close 0 ∷ Close 0 ∷ tail) refl) tt))
 
--- lists in a case, which stands in a form
-module _ (most n d : ℕ) (fits : most ≡ 2 + d) (some : 1 ≤ d) where
-  rest_leads : (a : AnswerForm) (ts rest : List Lexeme) → RestS a ts rest → Nests most 1 ts → Nests most 0 rest
-  rest_leads _ _ _ (rest_of at h c e w a ts rest ew s) p = (answer_law most n d 2 fits).leads a ts (Close c ∷ Close e ∷ rest) s p.1
+none_begins : (done : List CaseForm) → Begins Anything (OntoS done) []
+none_begins done = (Open 0 ∷ Word 0 (codes "rest") ∷ Word 0 (codes "true") ∷ Close 0 ∷ Close 0 ∷ [], (done, Plain (One (Truth true))), λ tail c. ([], no_case _ _ _ (true_rest tail), sym (append-nil done)))
 
-  args_law : Law most 2 2 n ArgsS (read_list n (d - 1))
-  unfolding read_list
-  args_law = law_next most 2 3 2 n read_open (λ o. many n (read_value n (d - 1))) (law_open most 2 n (omega (arith, fits, some))) (λ o. values_law most n (d - 1) 2 (omega (arith, fits, some)))
+cases_some : (done : List CaseForm) (x : Cases) (ts rest : List Lexeme) → OntoS done x ts rest → Some_token ts
+cases_some done x ts rest s = let y = shape_from done x ts rest s in (Open y.0, y.1, y.2)
 
-  case_law : Law most 2 1 n CaseS (read_case n d)
+-- ---- cases
+
+module _ (n d : ℕ) (fits : 2 + d ≡ most_open) (some : 1 ≤ d) where
+  law_case : Law (Opened 2) (λ c. Opened 1) Anything n CaseS (read_case n d)
   unfolding read_case
-  case_law = law_next most 2 2 1 n (read_list n (d - 1)) (λ args. bind (read_answer n d) (λ a. bind read_close (λ c. Ret (record { args = args; answer = a })))) args_law (λ args.
-      law_next most 2 2 1 n (read_answer n d) (λ a. bind read_close (λ c. Ret (record { args = args; answer = a }))) (answer_law most n d 2 fits) (λ a.
-      law_next most 2 1 1 n read_close (λ c. Ret (record { args = args; answer = a })) (law_close most 1 n) (λ c. law_ret most 1 n (record { args = args; answer = a }))))
+  law_case =
+      law_next _ _ (law_list n 2 (d - 1) (omega (arith, fits, some))) (λ args.
+      law_next _ _ (law_answer n 1 d fits) (λ a.
+      law_next _ _ (law_close (opened_close 1 (omega (arith, fits)))) (λ c. law_ret _ (λ q p. p))))
 
-  rest_law : Law most 2 0 n RestBehindS (read_rest n d)
+  law_rest : Law (Opened 2) (λ a. Opened 0) Anything n RestBehindS (read_rest n d)
   unfolding read_rest
-  rest_law = law_next most 2 2 0 n (read_answer n d) (λ a. bind read_close (λ c. bind read_close (λ e. Ret a))) (answer_law most n d 2 fits) (λ a.
-      law_next most 2 1 0 n read_close (λ c. bind read_close (λ e. Ret a)) (law_close most 1 n) (λ c.
-      law_next most 1 0 0 n read_close (λ e. Ret a) (law_close most 0 n) (λ e. law_ret most 0 n a)))
+  law_rest =
+      law_next _ _ (law_answer n 1 d fits) (λ a.
+      law_next _ _ (law_close (opened_close 1 (omega (arith, fits)))) (λ c.
+      law_next _ _ (law_close (opened_close 0 (omega (arith, fits)))) (λ e. law_ret _ (λ q p. p))))
 
-  head_law : Law most 2 2 n (WordS part_head_of) read_part_head
-  unfolding read_part_head
-  head_law = law_word most 2 n part_head_of (codes "rest", RestHead, a_part)
-
-  part_law : (m : ℕ) (more : Reader ⊥ (List CaseForm × AnswerForm)) → m ≤ n → Law most 1 0 m CasesPS more → (h : PartHead) → Law most 2 0 m (PartS h) (read_part n d more h)
+  law_part : (m : ℕ) → m ≤ n → (done : List CaseForm) → ((done : List CaseForm) → Law (Opened 1) (λ x. Opened 0) Anything m (OntoS done) (read_cases n d m done))
+      → (h : PartHead) → Law (Opened 2) (λ x. Opened 0) Anything m (PartS done h) (read_part n d (read_cases n d m) done h)
   unfolding read_part
-  part_law m more le k CaseHead = law_next most 2 1 0 m (read_case n d) (λ c. bind more (λ others. Ret (c ∷ others.0, others.1))) (law_less most 2 1 m n le case_law) (λ c.
-      law_next most 1 0 0 m more (λ others. Ret (c ∷ others.0, others.1)) k (λ others. law_ret most 0 m (c ∷ others.0, others.1)))
-  part_law m more le k RestHead = law_next most 2 0 0 m (read_rest n d) (λ a. Ret ([], a)) (law_less most 2 0 m n le rest_law) (λ a. law_ret most 0 m ([], a))
+  law_part m le done more CaseHead = law_next _ _ (law_less m le law_case) (λ c. more (done ++ c ∷ []))
+  law_part m le done more RestHead = law_next _ _ (law_less m le law_rest) (λ a. law_ret _ (λ q p. p))
 
-  none_begins : Begins (Fit most 1 0 CasesPS) []
-  none_begins = (Open 0 ∷ Word 0 (codes "rest") ∷ Word 0 (codes "true") ∷ Close 0 ∷ Close 0 ∷ [], ([], Plain (One (Truth true))), λ tail. (no_case _ _ _ (true_rest tail), λ x. (omega (arith, fits), x)))
+  law_opened : (m : ℕ) → Law (Opened 1) (λ o. Opened 2) Anything m OpenS read_open
+  law_opened m = law_open (opened_open 1 (omega (arith, fits)))
 
-  pub cases_lead : (cases : List CaseForm) (a : AnswerForm) (ts rest : List Lexeme) → CasesS cases a ts rest → Nests most 1 ts → Nests most 0 rest
-  cases_lead _ _ _ _ (no_case a ts rest s) p = rest_leads a ts rest s p
-  cases_lead _ _ _ _ (a_case at h o c w args answer others a ts mid more rest ew m s k) p =
-      cases_lead others a more rest k ((answer_law most n d 2 fits).leads answer mid (Close c ∷ more) s ((values_law most n (d - 1) 2 (omega (arith, fits, some))).leads args ts mid m p.1.1))
-
-  pub cases_law : (m : ℕ) → m ≤ n → Law most 1 0 m CasesPS (read_cases n d m)
-  unfolding read_cases
-  cases_law zero le = record {
-    reads = halt_reads no_call (Fit most 1 0 CasesPS) none_begins;
-    leads = λ x ts rest s p. cases_lead x.0 x.1 ts rest s p;
-    ends = none_begins;
-    never = λ ts rest l p e. absurd (omega (arith, l));
-  }
-  cases_law (suc m) le = law_map most 1 0 (suc m) shape_to (λ x ts rest s. cases_from x.0 x.1 ts rest s)
-      (law_then most 1 2 0 (suc m) m read_open (λ o. bind read_part_head (λ h. read_part n d (read_cases n d m) h)) (open_leaves m) (law_open most 1 (suc m) (omega (arith, fits))) (λ o.
-      law_next most 2 2 0 m read_part_head (λ h. read_part n d (read_cases n d m) h) (law_less most 2 2 m n (omega (arith, le)) head_law) (λ h.
-      part_law m (read_cases n d m) (omega (arith, le)) (cases_law m (omega (arith, le))) h)))
+  pub law_cases : (m : ℕ) → m ≤ n → (done : List CaseForm) → Law (Opened 1) (λ x. Opened 0) Anything m (OntoS done) (read_cases n d m done)
+  unfolding read_cases read_part_head
+  law_cases zero le done = law_out (OntoS done) (none_begins done) (cases_some done)
+  law_cases (suc m) le done = law_map (shape_to done) (shape_from done)
+      (law_less_then m _ _ (takes read_open (law_opened (suc m)) (λ o ts rest s. (Open o, rest, s)) m) (λ a b ts rest s c. tt) (law_opened (suc m)) (λ o.
+      law_next _ _ (law_word part_head_of (codes "rest", RestHead, a_part) (opened_word 2 part_head_of (omega (arith, fits)))) (λ h.
+      law_part m (omega (arith, le)) done (law_cases m (omega (arith, le))) h)))

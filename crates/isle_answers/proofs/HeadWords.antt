@@ -3,8 +3,8 @@ use Rattle.std.proofs.Common.{◌≡◌, ℕ, List, Bool, true, false, refl, ap,
 use Rattle.std.specs.Prelude.{if◌then◌else◌, ◌||◌, option_map, bytes_eq, codes}
 use Rattle.std.proofs.lemmas.Slice.Eq.{bytes_eq-Decides}
 use Rattle.isle_lexer.specs.Word.{kind, names, IsName}
-use Rattle.isle_syntax.specs.Reading.{name_of}
-use Rattle.isle_syntax.proofs.WordForms.{name_some}
+use Rattle.isle_reading.specs.Names.{name_of}
+use Rattle.isle_reading.proofs.NameLaws.{name_some}
 use Rattle.isle_answers.specs.Words.{is_reserved}
 use Rattle.isle_answers.specs.Reading.{ResultHead, TupleHead, MadeHead, AnswerHead, SomeHead, NoneHead, ListHead, ResultIs, result_head_of, answer_head_of}
 

@@ -1,23 +1,21 @@
--- The readers of results have the laws of readers.
-use Rattle.std.proofs.Common.{◌≡◌, ℕ, zero, suc, ◌+◌, List, ◌∷◌, true, false, inl, inr, refl, ap, sym, ◌∙◌, subst, arith, Some}
+-- The readers of results keep the law.
+use Rattle.std.proofs.Common.{◌≡◌, ℕ, zero, suc, ◌+◌, ◌≤◌, List, ◌∷◌, true, false, inl, inr, refl, ap, sym, ◌∙◌, subst, arith, Some}
 use Rattle.std.specs.Prelude.{codes}
 use Rattle.isle_lexer.specs.Lexeme.{Lexeme, Open, Word}
-use Rattle.isle_syntax.specs.Grammar.{Many}
-use Rattle.isle_syntax.specs.Reader.{Ret, bind, is_open, is_close, read_open, many}
-use Rattle.isle_syntax.proofs.Exact.{Heads, Nothing, Then, Either}
-use Rattle.isle_syntax.proofs.Combine.{OpenS}
-use Rattle.isle_syntax.proofs.WordForms.{WordS}
+use Rattle.isle_reading.specs.Combinators.{is_open, is_close}
+use Rattle.isle_reading.specs.Nesting.{most_open}
+use Rattle.isle_reading.specs.Relations.{Anything, Many}
+use Rattle.isle_reading.proofs.Law.{Law, Heads, Nothing, Then, Either, law_map, law_next}
+use Rattle.isle_reading.proofs.TokenLaws.{OpenS, WordS, law_ret, law_open, law_word, law_peek, law_barred}
+use Rattle.isle_reading.proofs.States.{Opened, opened_open, opened_word, opened_over}
 use Rattle.isle_values.specs.Written.{Written, Truth, Number, Made}
 use Rattle.isle_values.specs.Views.{in_order}
 use Rattle.isle_values.specs.Spelling.{ValueS, truth, untruth, number, made}
 use Rattle.isle_values.specs.Reading.{word_value, read_simple, read_value}
-use Rattle.isle_values.proofs.WordValues.{simple_to, integer_value}
-use Rattle.isle_values.proofs.ValueForms.{values_to, values_from, value_starts}
+use Rattle.isle_values.proofs.ValueLaws.{simple_to, integer_value, values_to, values_from, value_starts, a_simple, law_value, law_values}
 use Rattle.isle_answers.specs.Form.{ResultForm, One, Tuple}
 use Rattle.isle_answers.specs.Spelling.{IsOwn, ResultS, one, tuple}
 use Rattle.isle_answers.specs.Reading.{ResultHead, TupleHead, MadeHead, result_head_of, read_result_head, read_simple_result, read_result_behind, read_result_list, read_result}
-use Rattle.isle_answers.proofs.Laws.{Law, law_word, law_open, law_ret, law_map, law_next, law_peek, law_top}
-use Rattle.isle_answers.proofs.ValueLaws.{SimpleS, simple_starts, simple_law, values_law}
 use Rattle.isle_answers.proofs.HeadWords.{result_head_is, made_head, tuple_head}
 
 -- ---- the same said by parts
@@ -32,7 +30,7 @@ ResultListS = Then OpenS (λ o. Then (WordS result_head_of) BehindS)
 
 -- a result of one word
 abbrev pub SimpleResultS : ResultForm → List Lexeme → List Lexeme → Type 0
-SimpleResultS = Then SimpleS (λ v. Nothing (One v))
+SimpleResultS = Then (WordS word_value) (λ v. Nothing (One v))
 
 behind_to : (h : ResultHead) (at m : ℕ) (w : List ℕ) (r : ResultForm) (ts rest : List Lexeme) → result_head_of w ≡ Some h → BehindS h r ts rest → ResultS r (Open at ∷ Word m w ∷ ts) rest
 behind_to TupleHead at m w r ts rest e (vs, mid, s, (p, q)) =
@@ -46,14 +44,14 @@ pub result_list_to : (r : ResultForm) (ts rest : List Lexeme) → ResultListS r 
 result_list_to r ts rest (o, us, eo, (h, vs, (at, w, ew, eh), b)) =
     subst (λ z. ResultS r z rest) (sym (eo ∙ ap (λ z. Open o ∷ z) ew)) (behind_to h o at w r vs rest eh b)
 
-own_simple : (v : Written) (ts rest : List Lexeme) → SimpleS v ts rest → ValueS v ts rest → IsOwn v
+own_simple : (v : Written) (ts rest : List Lexeme) → WordS word_value v ts rest → ValueS v ts rest → IsOwn v
 own_simple (Truth b) ts rest s h = tt
 own_simple (Number n) ts rest s h = tt
 own_simple (Made w parts) ts rest s (made at n v ps us re nm m) = absurd (let x : Open at ∷ Word n v ∷ us ≡ Word s.0 s.1 ∷ rest = s.2 in cc)
 
 pub simple_result_to : (r : ResultForm) (ts rest : List Lexeme) → SimpleResultS r ts rest → ResultS r ts rest
 simple_result_to r ts rest (v, mid, s, (p, q)) =
-    let t = subst (λ z. SimpleS v ts z) q s in
+    let t = subst (λ z. WordS word_value v ts z) q s in
     let u = simple_to v ts rest t in
     subst (λ z. ResultS z ts rest) (sym p) (one v ts rest u (own_simple v ts rest t u))
 
@@ -77,39 +75,33 @@ pub result_starts : (r : ResultForm) (ts rest : List Lexeme) → ResultS r ts re
 result_starts _ _ _ (one v ts rest s o) = value_starts v ts rest s
 result_starts _ _ _ (tuple at h w vs ts rest e m) = (Open at, Word h w ∷ ts, refl, refl)
 
-list_starts : (r : ResultForm) (ts rest : List Lexeme) → ResultListS r ts rest → Heads is_open true ts
-list_starts r ts rest s = (Open s.0, s.1, s.2, refl)
+list_heads : (r : ResultForm) (ts rest : List Lexeme) → ResultListS r ts rest → Anything rest → Heads is_open true ts
+list_heads r ts rest s c = (Open s.0, s.1, s.2, refl)
 
-word_starts : (r : ResultForm) (ts rest : List Lexeme) → SimpleResultS r ts rest → Heads is_open false ts
-word_starts r ts rest s = simple_starts s.0 ts s.1 s.2
+pub simple_result_heads : (r : ResultForm) (ts rest : List Lexeme) → SimpleResultS r ts rest → Anything rest → Heads is_open false ts
+simple_result_heads r ts rest (v, mid, (at, w, e, h), x) c = (Word at w, mid, e, refl)
 
 a_tuple : result_head_of (codes "tuple") ≡ Some TupleHead
 a_tuple = refl
 
-module _ (most n : ℕ) where
-  pub simple_result_law : (opened : ℕ) → Law most opened opened n SimpleResultS read_simple_result
-  unfolding read_simple_result
-  simple_result_law opened = law_next most opened opened opened n read_simple (λ v. Ret (One v)) (simple_law most n opened) (λ v. law_ret most opened n (One v))
+pub law_simple_result : (n k : ℕ) → k ≤ most_open → Law (Opened k) (λ r. Opened k) Anything n SimpleResultS read_simple_result
+unfolding read_simple_result read_simple
+law_simple_result n k l = law_next _ _ (law_word word_value a_simple (opened_word k word_value l)) (λ v. law_ret _ (λ q p. p))
 
-  -- behind the first word, where the parenthesis is open
-  pub behind_law : (d opened : ℕ) → most ≡ suc opened + d → (h : ResultHead) → Law most (suc opened) opened n (BehindS h) (read_result_behind n d h)
-  unfolding read_result_behind
-  behind_law d opened e TupleHead = law_next most (suc opened) opened opened n (many n (read_value n d)) (λ vs. Ret (Tuple vs)) (values_law most n d opened e) (λ vs. law_ret most opened n (Tuple vs))
-  behind_law d opened e (MadeHead w) =
-      law_next most (suc opened) opened opened n (many n (read_value n d)) (λ vs. Ret (One (Made w (in_order vs)))) (values_law most n d opened e) (λ vs. law_ret most opened n (One (Made w (in_order vs))))
+-- behind the first word, where the parenthesis is open
+pub law_result_behind : (n k d : ℕ) → suc k + d ≡ most_open → (h : ResultHead) → Law (Opened (suc k)) (λ r. Opened k) Anything n (BehindS h) (read_result_behind n d h)
+unfolding read_result_behind
+law_result_behind n k d e TupleHead = law_next _ _ (law_values n k (read_value n d) (omega (arith, e)) (law_value n k d e)) (λ vs. law_ret _ (λ q p. p))
+law_result_behind n k d e (MadeHead w) = law_next _ _ (law_values n k (read_value n d) (omega (arith, e)) (law_value n k d e)) (λ vs. law_ret _ (λ q p. p))
 
-  head_law : (opened : ℕ) → Law most opened opened n (WordS result_head_of) read_result_head
-  unfolding read_result_head
-  head_law opened = law_word most opened n result_head_of (codes "tuple", TupleHead, a_tuple)
+law_list : (n k d : ℕ) → suc k + d ≡ most_open → Law (Opened k) (λ r. Opened k) Anything n ResultListS (read_result_list n d)
+unfolding read_result_list read_result_head
+law_list n k d e =
+    law_next _ _ (law_open (opened_open k (omega (arith, e)))) (λ o.
+    law_next _ _ (law_word result_head_of (codes "tuple", TupleHead, a_tuple) (opened_word (suc k) result_head_of (omega (arith, e)))) (λ h. law_result_behind n k d e h))
 
-  list_law : (d opened : ℕ) → most ≡ suc opened + d → Law most opened opened n ResultListS (read_result_list n d)
-  unfolding read_result_list
-  list_law d opened e = law_next most opened (suc opened) opened n read_open (λ o. bind read_result_head (λ h. read_result_behind n d h)) (law_open most opened n (omega (arith, e))) (λ o.
-      law_next most (suc opened) (suc opened) opened n read_result_head (λ h. read_result_behind n d h) (head_law (suc opened)) (λ h. behind_law d opened e h))
-
-  pub result_law : (d opened : ℕ) → most ≡ opened + d → Law most opened opened n ResultS (read_result n d)
-  unfolding read_result
-  result_law zero opened e = law_map most opened opened n shape_to result_from
-      (law_top {S = ResultListS} {T = SimpleResultS} most opened n read_simple_result (omega (arith, e)) list_starts word_starts (simple_result_law opened))
-  result_law (suc d) opened e = law_map most opened opened n shape_to result_from
-      (law_peek most opened opened n is_open (read_result_list n d) read_simple_result list_starts word_starts (list_law d opened (omega (arith, e))) (simple_result_law opened))
+pub law_result : (n k d : ℕ) → suc k + d ≡ most_open → Law (Opened (suc k)) (λ r. Opened (suc k)) Anything n ResultS (read_result n d)
+unfolding read_result
+law_result n k zero e = law_map shape_to result_from (law_barred is_open read_simple_result list_heads simple_result_heads (opened_over (suc k) (omega (arith, e))) (law_simple_result n (suc k) (omega (arith, e))))
+law_result n k (suc d) e =
+    law_map shape_to result_from (law_peek is_open (read_result_list n d) read_simple_result list_heads simple_result_heads (law_list n (suc k) d (omega (arith, e))) (law_simple_result n (suc k) (omega (arith, e))))

@@ -4,8 +4,8 @@ use Rattle.std.specs.Prelude.{if◌then◌else◌, option_map, bytes_eq, codes, 
 use Rattle.std.proofs.lemmas.List.{reverse-append}
 use Rattle.std.proofs.lemmas.Slice.Eq.{bytes_eq-Decides}
 use Rattle.isle_lexer.specs.Lexeme.{Lexeme, Open, Close, Word}
-use Rattle.isle_syntax.specs.Grammar.{Many, none, more}
 use Rattle.isle_lexer.specs.Word.{kind, IsName}
+use Rattle.isle_reading.specs.Relations.{Many, none, more}
 use Rattle.isle_values.specs.Written.{Written, Writtens, Truth, Number, Made, NoValue, AValue}
 use Rattle.isle_values.specs.Spelling.{ValueS, truth, untruth, number, made, ValuesS, no_value, a_value}
 use Rattle.isle_answers.specs.Form.{ResultForm, One, Tuple, AnswerForm, Plain, Found, Several}

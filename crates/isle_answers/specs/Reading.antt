@@ -1,10 +1,10 @@
 -- Readers of answers files.
-use Rattle.std.specs.Prelude.{ℕ, zero, suc, ◌-◌, length, List, [], ◌∷◌, reverse, Bool, true, false, ◌&&◌, if◌then◌else◌, Option, Some, None, option_map, bytes_eq, codes}
+use Rattle.std.specs.Prelude.{ℕ, zero, suc, ◌-◌, List, [], ◌∷◌, ◌++◌, reverse, Bool, true, false, ◌&&◌, if◌then◌else◌, Option, Some, None, option_map, bytes_eq, codes}
 use Rattle.isle_core.specs.declared.values.Callee.{Callee}
-use Rattle.isle_syntax.specs.Depth.{most_open}
-use Rattle.isle_lexer.specs.Lexeme.{Lexeme}
-use Rattle.isle_syntax.specs.Reader.{Reading, Reader, Ret, Peek, End, Halt, run, bind, is_open, is_close, read_open, read_close, many}
-use Rattle.isle_syntax.specs.Reading.{no_call, read_word, read_name, name_of, refuse}
+use Rattle.isle_reading.specs.Combinators.{is_open, is_close, refuse, read_open, read_close, read_word, many, all_from}
+use Rattle.isle_reading.specs.Names.{name_of, read_name}
+use Rattle.isle_reading.specs.Nesting.{most_open}
+use Rattle.isle_reading.specs.Reader.{Reader, Ret, Peek, End, Halt, bind}
 use Rattle.isle_values.specs.Written.{Written, Writtens, Truth, Number, Made, NoValue, AValue}
 use Rattle.isle_values.specs.Views.{in_order}
 use Rattle.isle_values.specs.Reading.{read_simple, read_value, read_list}
@@ -41,45 +41,49 @@ answer_head_of w =
     else (if bytes_eq w (codes "list") then Some ListHead
     else option_map (λ h. ResultIs h) (result_head_of w)))
 
-unfoldable pub read_result_head : {F : Type 0} → Reader F ResultHead
+-- the first word of a result's list, as it is read
+unfoldable pub read_result_head : Reader ResultHead
 read_result_head = read_word result_head_of
 
-unfoldable pub read_answer_head : {F : Type 0} → Reader F AnswerHead
+-- the first word of an answer's list, as it is read
+unfoldable pub read_answer_head : Reader AnswerHead
 read_answer_head = read_word answer_head_of
 
 -- a result of one word
-unfoldable pub read_simple_result : {F : Type 0} → Reader F ResultForm
+unfoldable pub read_simple_result : Reader ResultForm
 read_simple_result = bind read_simple (λ v. Ret (One v))
 
 -- behind the first word of a result's list, its values' parentheses nesting at most d deep
-unfoldable pub read_result_behind : {F : Type 0} → ℕ → ℕ → ResultHead → Reader F ResultForm
+unfoldable pub read_result_behind : ℕ → ℕ → ResultHead → Reader ResultForm
 read_result_behind n d TupleHead = bind (many n (read_value n d)) (λ vs. Ret (Tuple vs))
 read_result_behind n d (MadeHead w) = bind (many n (read_value n d)) (λ vs. Ret (One (Made w (in_order vs))))
 
--- behind the parenthesis of a result's list
-unfoldable pub read_result_list : {F : Type 0} → ℕ → ℕ → Reader F ResultForm
+-- a result's list, with its parenthesis
+unfoldable pub read_result_list : ℕ → ℕ → Reader ResultForm
 read_result_list n d = bind read_open (λ o. bind read_result_head (λ h. read_result_behind n d h))
 
 -- R, whose parentheses nest at most d deep
-unfoldable pub read_result : {F : Type 0} → ℕ → ℕ → Reader F ResultForm
+unfoldable pub read_result : ℕ → ℕ → Reader ResultForm
 read_result n zero = Peek is_open Halt read_simple_result
 read_result n (suc d) = Peek is_open (read_result_list n d) read_simple_result
 
 -- behind the first word of an answer's list
-unfoldable pub read_answer_behind : {F : Type 0} → ℕ → ℕ → AnswerHead → Reader F AnswerForm
+unfoldable pub read_answer_behind : ℕ → ℕ → AnswerHead → Reader AnswerForm
 read_answer_behind n d SomeHead = bind (read_result n d) (λ r. bind read_close (λ c. Ret (Found r)))
 read_answer_behind n d NoneHead = bind read_close (λ c. Ret Nothing)
 read_answer_behind n d ListHead = bind (many n (read_result n d)) (λ rs. Ret (Several rs))
 read_answer_behind n d (ResultIs h) = bind (read_result_behind n d h) (λ r. Ret (Plain r))
 
-unfoldable pub read_answer_list : {F : Type 0} → ℕ → ℕ → Reader F AnswerForm
+-- an answer's list, with its parenthesis
+unfoldable pub read_answer_list : ℕ → ℕ → Reader AnswerForm
 read_answer_list n d = bind read_open (λ o. bind read_answer_head (λ h. read_answer_behind n d h))
 
-unfoldable pub read_simple_answer : {F : Type 0} → Reader F AnswerForm
+-- an answer of one word
+unfoldable pub read_simple_answer : Reader AnswerForm
 read_simple_answer = bind read_simple_result (λ r. Ret (Plain r))
 
 -- A, whose parentheses nest at most d deep
-unfoldable pub read_answer : {F : Type 0} → ℕ → ℕ → Reader F AnswerForm
+unfoldable pub read_answer : ℕ → ℕ → Reader AnswerForm
 read_answer n zero = Peek is_open Halt read_simple_answer
 read_answer n (suc d) = Peek is_open (read_answer_list n d) read_simple_answer
 
@@ -90,32 +94,38 @@ pub data PartHead : Type 0 where
   CaseHead : PartHead
   RestHead : PartHead
 
+-- the first word of a list in `answers`
 abbrev pub part_head_of : List ℕ → Option PartHead
 part_head_of w =
     if bytes_eq w (codes "case") then Some CaseHead
     else (if bytes_eq w (codes "rest") then Some RestHead
     else None)
 
-unfoldable pub read_part_head : {F : Type 0} → Reader F PartHead
+-- the first word of a list in `answers`, as it is read
+unfoldable pub read_part_head : Reader PartHead
 read_part_head = read_word part_head_of
 
 -- ( V* ) A ) of a case
-unfoldable pub read_case : {F : Type 0} → ℕ → ℕ → Reader F CaseForm
+unfoldable pub read_case : ℕ → ℕ → Reader CaseForm
 read_case n d = bind (read_list n (d - 1)) (λ args. bind (read_answer n d) (λ a. bind read_close (λ c. Ret (record { args = args; answer = a }))))
 
 -- A ) ) of the rest
-unfoldable pub read_rest : {F : Type 0} → ℕ → ℕ → Reader F AnswerForm
+unfoldable pub read_rest : ℕ → ℕ → Reader AnswerForm
 read_rest n d = bind (read_answer n d) (λ a. bind read_close (λ c. bind read_close (λ e. Ret a)))
 
--- a case and what stands behind it, or the rest
-unfoldable pub read_part : {F : Type 0} → ℕ → ℕ → Reader F (List CaseForm × AnswerForm) → PartHead → Reader F (List CaseForm × AnswerForm)
-read_part n d more CaseHead = bind (read_case n d) (λ c. bind more (λ others. Ret (c ∷ others.0, others.1)))
-read_part n d more RestHead = bind (read_rest n d) (λ a. Ret ([], a))
+-- cases and the rest
+abbrev pub Cases : Type 0
+Cases = List CaseForm × AnswerForm
 
--- fewer than m cases, the rest, and the parenthesis behind it
-unfoldable pub read_cases : {F : Type 0} → ℕ → ℕ → ℕ → Reader F (List CaseForm × AnswerForm)
-read_cases n d zero = Halt
-read_cases n d (suc m) = bind read_open (λ o. bind read_part_head (λ h. read_part n d (read_cases n d m) h))
+-- a case behind those that were read and what stands behind it, or the rest
+unfoldable pub read_part : ℕ → ℕ → (List CaseForm → Reader Cases) → List CaseForm → PartHead → Reader Cases
+read_part n d more done CaseHead = bind (read_case n d) (λ c. more (done ++ c ∷ []))
+read_part n d more done RestHead = bind (read_rest n d) (λ a. Ret (done, a))
+
+-- cases behind those that were read, the rest, and the parenthesis behind it, of at most m tokens
+unfoldable pub read_cases : ℕ → ℕ → ℕ → List CaseForm → Reader Cases
+read_cases n d zero done = End refuse Halt
+read_cases n d (suc m) done = bind read_open (λ o. bind read_part_head (λ h. read_part n d (read_cases n d m) done h))
 
 -- ---- turns
 
@@ -130,6 +140,7 @@ result_is (Truth b) = Some (One (Truth b))
 result_is (Number n) = Some (One (Number n))
 result_is (Made w parts) = if bytes_eq w (codes "tuple") then Some (Tuple (listed parts)) else (if is_reserved w then None else Some (One (Made w parts)))
 
+-- one result more, where there is one
 abbrev pub with_result : Option ResultForm → Option (List ResultForm) → Option (List ResultForm)
 with_result None rs = None
 with_result (Some r) rs = option_map (λ others. r ∷ others) rs
@@ -186,20 +197,24 @@ rest_is (Found r) = None
 rest_is Nothing = None
 rest_is (Several rs) = None
 
+-- turns and the rest
+abbrev pub Turned : Type 0
+Turned = List AnswerForm × AnswerForm
+
 -- the turns and the rest, where what was read stands in reverse
-abbrev pub ended : List AnswerForm → Option (List AnswerForm × AnswerForm)
+abbrev pub ended : List AnswerForm → Option Turned
 ended [] = None
 ended (last ∷ before) = option_map (λ a. (reverse before, a)) (rest_is last)
 
--- the parenthesis behind the turns
-abbrev pub read_ended : {F : Type 0} → Option (List AnswerForm × AnswerForm) → Reader F (List AnswerForm × AnswerForm)
-read_ended None = refuse
-read_ended (Some turns) = bind read_close (λ c. Ret turns)
+-- the parenthesis behind the turns, where the last one is a rest, or more of them
+abbrev pub read_ended : Option Turned → Reader Turned → Reader Turned
+read_ended None more = more
+read_ended (Some turns) more = Peek is_close (bind read_close (λ c. Ret turns)) more
 
--- fewer than m turns behind those that were read, the rest, and the parenthesis behind it
-unfoldable pub read_turns : {F : Type 0} → ℕ → ℕ → ℕ → List AnswerForm → Reader F (List AnswerForm × AnswerForm)
-read_turns n d zero done = Halt
-read_turns n d (suc m) done = Peek is_close (read_ended (ended done)) (bind (read_answer n d) (λ a. read_turns n d m (a ∷ done)))
+-- turns behind those that were read, the rest, and the parenthesis behind it, of at most m tokens
+unfoldable pub read_turns : ℕ → ℕ → ℕ → List AnswerForm → Reader Turned
+read_turns n d zero done = End refuse Halt
+read_turns n d (suc m) done = read_ended (ended done) (bind (read_answer n d) (λ a. read_turns n d m (a ∷ done)))
 
 -- ---- forms
 
@@ -221,51 +236,74 @@ form_head_of held max w =
     else (if bytes_eq w (codes "turns") then Some TurnsHead
     else None))))
 
-unfoldable pub read_form_head : {F : Type 0} → (held max : Bool) → Reader F FormHead
+-- the first word of a form, as it is read
+unfoldable pub read_form_head : (held max : Bool) → Reader FormHead
 read_form_head held max = read_word (form_head_of held max)
 
-unfoldable pub read_count : {F : Type 0} → Reader F ℕ
+-- N
+unfoldable pub read_count : Reader ℕ
 read_count = read_word count_of
 
-unfoldable pub read_callee : {F : Type 0} → Reader F Callee
+-- CALLEE
+unfoldable pub read_callee : Reader Callee
 read_callee = read_word callee_of
 
--- N ) of `held` and `max`
-unfoldable pub read_counted : {F : Type 0} → Reader F ℕ
-read_counted = bind read_count (λ n. bind read_close (λ c. Ret n))
+-- N ) of `held` at that place
+unfoldable pub read_held : ℕ → Reader Form
+read_held at = bind read_count (λ count. bind read_close (λ c. Ret (form.Held count at)))
+
+-- N ) of `max` at that place
+unfoldable pub read_max : ℕ → Reader Form
+read_max at = bind read_count (λ count. bind read_close (λ c. Ret (form.Max count at)))
 
 -- NAME V ) of the constant at that place
-unfoldable pub read_const : {F : Type 0} → ℕ → ℕ → ℕ → Reader F Form
+unfoldable pub read_const : ℕ → ℕ → ℕ → Reader Form
 read_const n d at = bind read_name (λ name. bind (read_value n d) (λ v. bind read_close (λ c. Ret (form.Const name v at))))
 
+-- CALLEE, the cases and the rest of `answers` at that place
+unfoldable pub read_answers : ℕ → ℕ → ℕ → Reader Form
+read_answers n d at = bind read_callee (λ callee. bind (read_cases n (d - 1) n []) (λ x. Ret (form.Answers callee x.0 x.1 at)))
+
+-- CALLEE, the turns and the rest of `turns` at that place
+unfoldable pub read_turned : ℕ → ℕ → ℕ → Reader Form
+read_turned n d at = bind read_callee (λ callee. bind (read_turns n d n []) (λ x. Ret (form.Turns callee x.0 x.1 at)))
+
 -- behind the first word of the form at that place
-unfoldable pub read_behind : {F : Type 0} → ℕ → ℕ → ℕ → FormHead → Reader F Form
-read_behind n d at HeldHead = bind read_counted (λ count. Ret (form.Held count at))
-read_behind n d at MaxHead = bind read_counted (λ count. Ret (form.Max count at))
+abbrev pub read_behind : ℕ → ℕ → ℕ → FormHead → Reader Form
+read_behind n d at HeldHead = read_held at
+read_behind n d at MaxHead = read_max at
 read_behind n d at ConstHead = read_const n d at
-read_behind n d at AnswersHead = bind read_callee (λ callee. bind (read_cases n (d - 1) n) (λ x. Ret (form.Answers callee x.0 x.1 at)))
-read_behind n d at TurnsHead = bind read_callee (λ callee. bind (read_turns n d n []) (λ x. Ret (form.Turns callee x.0 x.1 at)))
+read_behind n d at AnswersHead = read_answers n d at
+read_behind n d at TurnsHead = read_turned n d at
 
--- that the form may still stand behind this one
-abbrev pub held_behind : Bool → FormHead → Bool
-held_behind held HeldHead = false
-held_behind held MaxHead = held
-held_behind held ConstHead = held
-held_behind held AnswersHead = held
-held_behind held TurnsHead = held
+-- whether `held` and `max` may still stand
+abbrev pub Still : Type 0
+Still = Bool × Bool
 
-abbrev pub max_behind : Bool → FormHead → Bool
-max_behind max HeldHead = max
-max_behind max MaxHead = false
-max_behind max ConstHead = max
-max_behind max AnswersHead = max
-max_behind max TurnsHead = max
+-- a form
+unfoldable pub read_form : ℕ → ℕ → Still → Reader Form
+read_form n d still = bind read_open (λ at. bind (read_form_head still.0 still.1) (λ h. read_behind n d at h))
 
--- at most m forms up to the end
-unfoldable pub read_forms : {F : Type 0} → ℕ → ℕ → ℕ → (held max : Bool) → Reader F (List Form)
-read_forms n d zero held max = End (Ret []) Halt
-read_forms n d (suc m) held max = End (Ret []) (bind read_open (λ at. bind (read_form_head held max) (λ h. bind (read_behind n d at h) (λ f. bind (read_forms n d m (held_behind held h) (max_behind max h)) (λ others. Ret (f ∷ others))))))
+-- whether `held` may still stand behind the form
+abbrev pub held_behind : Bool → Form → Bool
+held_behind held (form.Held count at) = false
+held_behind held (form.Max count at) = held
+held_behind held (form.Const name v at) = held
+held_behind held (form.Answers callee cases rest at) = held
+held_behind held (form.Turns callee turns rest at) = held
 
--- what comes of tokens as an answers file
-abbrev pub forms_of : List Lexeme → Reading (List Form)
-forms_of ts = run no_call (read_forms (length ts) (most_open - 1) (length ts) true true) ts
+-- whether `max` may still stand behind the form
+abbrev pub max_behind : Bool → Form → Bool
+max_behind max (form.Held count at) = max
+max_behind max (form.Max count at) = false
+max_behind max (form.Const name v at) = max
+max_behind max (form.Answers callee cases rest at) = max
+max_behind max (form.Turns callee turns rest at) = max
+
+-- what may still stand behind the form
+abbrev pub still_behind : Still → Form → Still
+still_behind still f = (held_behind still.0 f, max_behind still.1 f)
+
+-- forms up to the end, of at most n tokens
+unfoldable pub read_forms : ℕ → Reader (List Form)
+read_forms n = all_from n (read_form n (most_open - 1)) still_behind (true, true)

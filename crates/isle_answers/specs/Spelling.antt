@@ -2,11 +2,11 @@
 use Rattle.std.specs.Prelude.{◌≡◌, ◌≤◌, ℕ, List, [], ◌∷◌, Bool, true, false, Some, codes}
 use Rattle.std.specs.Str.{IsUtf8}
 use Rattle.isle_core.specs.declared.values.Callee.{Callee}
-use Rattle.isle_syntax.specs.Depth.{depth, most_open}
-use Rattle.isle_syntax.specs.Grammar.{Many}
 use Rattle.isle_lexer.specs.Lexeme.{Lexeme, Open, Close, Word, lexemes}
 use Rattle.isle_lexer.specs.Token.{IsClosed}
 use Rattle.isle_lexer.specs.Word.{IsName}
+use Rattle.isle_reading.specs.Nesting.{depth, most_open}
+use Rattle.isle_reading.specs.Relations.{Many}
 use Rattle.isle_values.specs.Written.{Written, Truth, Number, Made}
 use Rattle.isle_values.specs.Spelling.{ValueS}
 use Rattle.isle_answers.specs.Form.{ResultForm, One, Tuple, AnswerForm, Plain, Found, Nothing, Several, CaseForm, Form}

@@ -19,10 +19,12 @@ some_name (Some name) = if length name == 0 then None else Some name
 abbrev pub name_behind : List ℕ → List ℕ → Option (List ℕ)
 name_behind prefix w = some_name (after_prefix prefix w)
 
+-- the internal callee of that name, if there is one
 abbrev pub internal_of : Option (List ℕ) → Option Callee
 internal_of None = None
 internal_of (Some name) = Some (Internal name)
 
+-- the external callee of that name, or else this
 abbrev pub external_or : Option (List ℕ) → Option Callee → Option Callee
 external_or None other = other
 external_or (Some name) other = Some (External name)

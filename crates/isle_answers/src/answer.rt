@@ -1,19 +1,18 @@
-ghost use Rattle.std.specs.Prelude.{◌≡◌, IfOk, IfErr, option_map};
-ghost use Rattle.isle_syntax.specs.Reader.{run, Got};
-ghost use Rattle.isle_syntax.specs.Reading.{no_call, next_word};
-ghost use Rattle.isle_syntax.specs.ReadingViews.{left, Refuses};
-ghost use Rattle.isle_answers.specs.Reading.{answer_head_of, read_answer_head, read_answer_behind, read_answer_list, read_answer};
+ghost use Rattle.std.specs.Prelude.{◌≡◌, IfOk, option_map};
+ghost use Rattle.isle_reading.specs.Combinators.{next_word};
+ghost use Rattle.isle_reading.specs.Views.{left, Reads};
+ghost use Rattle.isle_answers.specs.Reading.{answer_head_of, read_answer_head, read_answer_behind, read_answer_list, read_simple_answer, read_answer};
 ghost use Rattle.isle_answers.specs.Views.{answer_seen};
 ghost use Rattle.isle_answers.specs.HeadViews.{answer_head_seen};
 
 use crate::form::AnswerForm;
 use crate::result::{ResultHead, result, result_behind, result_head_of, results, simple_result};
 use isle_core::List;
-use isle_syntax::{Fail, Tokens};
+use isle_reading::{Fail, Tokens};
 use std::alloc::{AllocError, Global};
 
 /// What a list is that is an answer.
-#[derive(Debug, Drop)]
+#[derive(Drop)]
 pub enum AnswerHead {
     Some,
     Nothing,
@@ -37,7 +36,7 @@ fn answer_head_of(alloc: Global, word: &str) -> Result<Option<AnswerHead>, Alloc
 }
 
 /// What an answer's list is, by the word that is next.
-#[tactic(auto, using(isle_syntax::proofs::Steps::next_some, isle_syntax::proofs::Steps::next_none))]
+#[tactic(auto, using(isle_reading::proofs::Steps::next))]
 fn next_head(tokens: &Tokens<'_>, alloc: Global) -> Result<Option<AnswerHead>, AllocError>
     ensures { IfOk result (λ next. option_map answer_head_seen next ≡ next_word answer_head_of (left tokens.now)) }
 {
@@ -48,10 +47,9 @@ fn next_head(tokens: &Tokens<'_>, alloc: Global) -> Result<Option<AnswerHead>, A
 }
 
 /// What an answer's list is, by its first word.
-#[tactic(auto, using(crate::proofs::Leaves::leaves))]
+#[tactic(auto, using(isle_reading::proofs::Steps::words), unfolding(crate::specs::Reading::read_answer_head))]
 fn answer_head(tokens: &mut Tokens<'_>, alloc: Global) -> Result<AnswerHead, Fail>
-    ensures got { IfOk result (λ head. run no_call read_answer_head (left tokens.old) ≡ Got (answer_head_seen head) (left tokens.new)) }
-    ensures refused { IfErr result (λ fail. Refuses fail (run no_call read_answer_head (left tokens.old))) }
+    ensures { Reads answer_head_seen result read_answer_head (left tokens.old) (left tokens.new) }
 {
     match next_head(tokens, alloc)? {
         Some(head) => {
@@ -63,7 +61,7 @@ fn answer_head(tokens: &mut Tokens<'_>, alloc: Global) -> Result<AnswerHead, Fai
 }
 
 /// What stands behind the first word of an answer's list.
-#[tactic(auto, using(crate::proofs::AnswerSteps::behind_steps))]
+#[tactic(auto, using(isle_reading::proofs::Steps::chain), unfolding(crate::specs::Reading::read_answer_behind))]
 fn answer_behind(
     tokens: &mut Tokens<'_>,
     alloc: Global,
@@ -71,8 +69,7 @@ fn answer_behind(
     depth: usize,
     head: AnswerHead,
 ) -> Result<AnswerForm, Fail>
-    ensures got { IfOk result (λ read. run no_call (read_answer_behind most depth (answer_head_seen head)) (left tokens.old) ≡ Got (answer_seen read) (left tokens.new)) }
-    ensures refused { IfErr result (λ fail. Refuses fail (run no_call (read_answer_behind most depth (answer_head_seen head)) (left tokens.old))) }
+    ensures { Reads answer_seen result (read_answer_behind most depth (answer_head_seen head)) (left tokens.old) (left tokens.new) }
 {
     match head {
         AnswerHead::Some => {
@@ -95,22 +92,29 @@ fn answer_behind(
 }
 
 /// An answer's list.
-#[tactic(auto, using(crate::proofs::AnswerSteps::list_steps))]
+#[tactic(auto, using(isle_reading::proofs::Steps::chain), unfolding(crate::specs::Reading::read_answer_list))]
 fn answer_list(
     tokens: &mut Tokens<'_>,
     alloc: Global,
     most: usize,
     depth: usize,
 ) -> Result<AnswerForm, Fail>
-    ensures got { IfOk result (λ read. run no_call (read_answer_list most depth) (left tokens.old) ≡ Got (answer_seen read) (left tokens.new)) }
-    ensures refused { IfErr result (λ fail. Refuses fail (run no_call (read_answer_list most depth) (left tokens.old))) }
+    ensures { Reads answer_seen result (read_answer_list most depth) (left tokens.old) (left tokens.new) }
 {
     tokens.open()?;
     let head = answer_head(tokens, alloc)?;
     answer_behind(tokens, alloc, most, depth, head)
 }
 
-/// An answer whose parentheses nest at most `depth` deep, its lists of fewer than `most` parts.
+/// An answer of one word.
+#[tactic(auto, using(isle_reading::proofs::Steps::chain), unfolding(crate::specs::Reading::read_simple_answer))]
+fn simple_answer(tokens: &mut Tokens<'_>) -> Result<AnswerForm, Fail>
+    ensures { Reads answer_seen result read_simple_answer (left tokens.old) (left tokens.new) }
+{
+    Ok(AnswerForm::Plain(simple_result(tokens)?))
+}
+
+/// An answer whose parentheses nest at most `depth` deep, its lists of at most `most` tokens.
 #[tactic(auto, using(crate::proofs::Choices::answer_choice))]
 pub fn answer(
     tokens: &mut Tokens<'_>,
@@ -118,11 +122,10 @@ pub fn answer(
     most: usize,
     depth: usize,
 ) -> Result<AnswerForm, Fail>
-    ensures got { IfOk result (λ read. run no_call (read_answer most depth) (left tokens.old) ≡ Got (answer_seen read) (left tokens.new)) }
-    ensures refused { IfErr result (λ fail. Refuses fail (run no_call (read_answer most depth) (left tokens.old))) }
+    ensures { Reads answer_seen result (read_answer most depth) (left tokens.old) (left tokens.new) }
 {
     match tokens.opens() {
-        None => Ok(AnswerForm::Plain(simple_result(tokens)?)),
+        None => simple_answer(tokens),
         Some(_) => {
             if depth == 0 {
                 return Err(Fail::At(tokens.len()));

@@ -1,7 +1,6 @@
-ghost use Rattle.std.specs.Prelude.{◌≡◌, ◌-◌, IfOk, IfErr, map, option_map};
-ghost use Rattle.isle_syntax.specs.Reader.{run, Got};
-ghost use Rattle.isle_syntax.specs.Reading.{no_call, next_word};
-ghost use Rattle.isle_syntax.specs.ReadingViews.{left, Refuses};
+ghost use Rattle.std.specs.Prelude.{◌≡◌, [], map, option_map};
+ghost use Rattle.isle_reading.specs.Combinators.{next_word};
+ghost use Rattle.isle_reading.specs.Views.{left, Reads};
 ghost use Rattle.isle_answers.specs.Reading.{part_head_of, read_part_head, read_case, read_rest, read_cases};
 ghost use Rattle.isle_answers.specs.Views.{answer_seen, case_seen};
 ghost use Rattle.isle_answers.specs.HeadViews.{part_head_seen};
@@ -9,12 +8,12 @@ ghost use Rattle.isle_answers.specs.HeadViews.{part_head_seen};
 use crate::answer::answer;
 use crate::form::AnswerForm;
 use isle_core::List;
-use isle_syntax::{Fail, Tokens};
+use isle_reading::{Fail, Tokens};
 use isle_values::{Written, list};
 use std::alloc::Global;
 
 /// What a list in `answers` is.
-#[derive(Clone, Copy, Debug, PartialEq, Eq)]
+#[derive(Clone, Copy)]
 enum PartHead {
     Case,
     Rest,
@@ -32,7 +31,7 @@ fn part_head_of(word: &str) -> Option<PartHead>
 }
 
 /// What the list is, by the word that is next.
-#[tactic(auto, using(isle_syntax::proofs::Steps::next_some, isle_syntax::proofs::Steps::next_none))]
+#[tactic(auto, using(isle_reading::proofs::Steps::next))]
 fn next_head(tokens: &Tokens<'_>) -> Option<PartHead>
     ensures { option_map part_head_seen result ≡ next_word part_head_of (left tokens.now) }
 {
@@ -40,10 +39,9 @@ fn next_head(tokens: &Tokens<'_>) -> Option<PartHead>
 }
 
 /// What the list is, by its first word.
-#[tactic(auto, using(crate::proofs::Leaves::leaves))]
+#[tactic(auto, using(isle_reading::proofs::Steps::words), unfolding(crate::specs::Reading::read_part_head))]
 fn part_head(tokens: &mut Tokens<'_>) -> Result<PartHead, Fail>
-    ensures got { IfOk result (λ head. run no_call read_part_head (left tokens.old) ≡ Got (part_head_seen head) (left tokens.new)) }
-    ensures refused { IfErr result (λ fail. Refuses fail (run no_call read_part_head (left tokens.old))) }
+    ensures { Reads part_head_seen result read_part_head (left tokens.old) (left tokens.new) }
 {
     match next_head(tokens) {
         Some(head) => {
@@ -55,15 +53,14 @@ fn part_head(tokens: &mut Tokens<'_>) -> Result<PartHead, Fail>
 }
 
 /// The arguments and the answer of a case, whose closing parenthesis is taken.
-#[tactic(auto, using(crate::proofs::CaseSteps::case_steps))]
+#[tactic(auto, using(isle_reading::proofs::Steps::chain), unfolding(crate::specs::Reading::read_case))]
 fn case(
     tokens: &mut Tokens<'_>,
     alloc: Global,
     most: usize,
     depth: usize,
 ) -> Result<(List<Written>, AnswerForm), Fail>
-    ensures got { IfOk result (λ read. run no_call (read_case most depth) (left tokens.old) ≡ Got (case_seen read) (left tokens.new)) }
-    ensures refused { IfErr result (λ fail. Refuses fail (run no_call (read_case most depth) (left tokens.old))) }
+    ensures { Reads case_seen result (read_case most depth) (left tokens.old) (left tokens.new) }
 {
     let args = list(tokens, alloc, most, depth.saturating_sub(1))?;
     let found = answer(tokens, alloc, most, depth)?;
@@ -72,15 +69,14 @@ fn case(
 }
 
 /// The answer of the rest, whose closing parenthesis is taken, and the one behind it.
-#[tactic(auto, using(crate::proofs::CaseSteps::rest_steps))]
+#[tactic(auto, using(isle_reading::proofs::Steps::chain), unfolding(crate::specs::Reading::read_rest))]
 fn rest(
     tokens: &mut Tokens<'_>,
     alloc: Global,
     most: usize,
     depth: usize,
 ) -> Result<AnswerForm, Fail>
-    ensures got { IfOk result (λ read. run no_call (read_rest most depth) (left tokens.old) ≡ Got (answer_seen read) (left tokens.new)) }
-    ensures refused { IfErr result (λ fail. Refuses fail (run no_call (read_rest most depth) (left tokens.old))) }
+    ensures { Reads answer_seen result (read_rest most depth) (left tokens.old) (left tokens.new) }
 {
     let found = answer(tokens, alloc, most, depth)?;
     tokens.close()?;
@@ -88,15 +84,15 @@ fn rest(
     Ok(found)
 }
 
-/// Fewer than `most` cases, the rest, and the closing parenthesis behind it.
+/// Cases, the rest, and the closing parenthesis behind it, of at most `most` tokens.
+#[tactic(auto, using(crate::proofs::CaseSteps::cases_steps))]
 pub fn cases(
     tokens: &mut Tokens<'_>,
     alloc: Global,
     most: usize,
     depth: usize,
 ) -> Result<(Vec<(List<Written>, AnswerForm)>, AnswerForm), Fail>
-    ensures got { IfOk result (λ read. run no_call (read_cases most depth most) (left tokens.old) ≡ Got (map case_seen read.0.items, answer_seen read.1) (left tokens.new)) }
-    ensures refused { IfErr result (λ fail. Refuses fail (run no_call (read_cases most depth most) (left tokens.old))) }
+    ensures { Reads (λ read. (map case_seen read.0.items, answer_seen read.1)) result (read_cases most depth most []) (left tokens.old) (left tokens.new) }
 {
     let mut cases = Vec::new(alloc);
     for _ in 0..most {

@@ -6,8 +6,6 @@ mod cases;
 mod form;
 mod reading;
 mod result;
-#[cfg(test)]
-mod tests;
 mod texts;
 mod turns;
 mod words;

@@ -1,9 +1,9 @@
-ghost use Rattle.std.specs.Prelude.{◌≡◌, ◌-◌, true, IfOk, IfErr, map, option_map};
-ghost use Rattle.isle_syntax.specs.Reader.{run, Got};
-ghost use Rattle.isle_syntax.specs.Reading.{no_call, next_word};
-ghost use Rattle.isle_syntax.specs.ReadingViews.{left, Refuses};
+ghost use Rattle.std.specs.Prelude.{◌≡◌, ◌-◌, IfOk, option_map};
+ghost use Rattle.isle_reading.specs.Combinators.{next_word};
+ghost use Rattle.isle_reading.specs.Nesting.{most_open};
+ghost use Rattle.isle_reading.specs.Views.{left, Reads};
 ghost use Rattle.isle_answers.specs.Words.{count_of, callee_of};
-ghost use Rattle.isle_answers.specs.Reading.{form_head_of, read_form_head, read_count, read_callee, read_counted, read_const, read_behind, read_forms};
+ghost use Rattle.isle_answers.specs.Reading.{form_head_of, read_form_head, read_count, read_callee, read_held, read_max, read_const, read_answers, read_turned, read_behind, held_behind, max_behind, read_form, read_forms};
 ghost use Rattle.isle_answers.specs.Views.{form_seen, forms_seen};
 ghost use Rattle.isle_answers.specs.HeadViews.{form_head_seen};
 
@@ -12,12 +12,12 @@ use crate::form::Form;
 use crate::turns::turns;
 use crate::words::{callee_of, count_of};
 use isle_core::{Callee, List};
-use isle_syntax::{Fail, Tokens};
+use isle_reading::{Fail, Tokens, most_inside};
 use isle_values::value;
 use std::alloc::{AllocError, Global};
 
 /// What a form is.
-#[derive(Clone, Copy, Debug, PartialEq, Eq)]
+#[derive(Clone, Copy)]
 enum FormHead {
     Held,
     Max,
@@ -41,7 +41,7 @@ fn head_of(word: &str, held: bool, max: bool) -> Option<FormHead>
 }
 
 /// What the form is that is next.
-#[tactic(auto, using(isle_syntax::proofs::Steps::next_some, isle_syntax::proofs::Steps::next_none))]
+#[tactic(auto, using(isle_reading::proofs::Steps::next))]
 fn next_head(tokens: &Tokens<'_>, held: bool, max: bool) -> Option<FormHead>
     ensures { option_map form_head_seen result ≡ next_word (form_head_of held max) (left tokens.now) }
 {
@@ -49,10 +49,9 @@ fn next_head(tokens: &Tokens<'_>, held: bool, max: bool) -> Option<FormHead>
 }
 
 /// What a form is.
-#[tactic(auto, using(crate::proofs::Leaves::leaves))]
+#[tactic(auto, using(isle_reading::proofs::Steps::words), unfolding(crate::specs::Reading::read_form_head))]
 fn head(tokens: &mut Tokens<'_>, held: bool, max: bool) -> Result<FormHead, Fail>
-    ensures got { IfOk result (λ head. run no_call (read_form_head held max) (left tokens.old) ≡ Got (form_head_seen head) (left tokens.new)) }
-    ensures refused { IfErr result (λ fail. Refuses fail (run no_call (read_form_head held max) (left tokens.old))) }
+    ensures { Reads form_head_seen result (read_form_head held max) (left tokens.old) (left tokens.new) }
 {
     match next_head(tokens, held, max) {
         Some(head) => {
@@ -64,7 +63,7 @@ fn head(tokens: &mut Tokens<'_>, held: bool, max: bool) -> Result<FormHead, Fail
 }
 
 /// A count that is next.
-#[tactic(auto, using(isle_syntax::proofs::Steps::next_some, isle_syntax::proofs::Steps::next_none))]
+#[tactic(auto, using(isle_reading::proofs::Steps::next))]
 fn next_count(tokens: &Tokens<'_>) -> Option<usize>
     ensures { result ≡ next_word count_of (left tokens.now) }
 {
@@ -72,10 +71,9 @@ fn next_count(tokens: &Tokens<'_>) -> Option<usize>
 }
 
 /// A count.
-#[tactic(auto, using(crate::proofs::Leaves::leaves))]
+#[tactic(auto, using(isle_reading::proofs::Steps::words), unfolding(crate::specs::Reading::read_count))]
 fn count(tokens: &mut Tokens<'_>) -> Result<usize, Fail>
-    ensures got { IfOk result (λ count. run no_call read_count (left tokens.old) ≡ Got count (left tokens.new)) }
-    ensures refused { IfErr result (λ fail. Refuses fail (run no_call read_count (left tokens.old))) }
+    ensures { Reads (λ count. count) result read_count (left tokens.old) (left tokens.new) }
 {
     match next_count(tokens) {
         Some(count) => {
@@ -86,19 +84,28 @@ fn count(tokens: &mut Tokens<'_>) -> Result<usize, Fail>
     }
 }
 
-/// A count and the closing parenthesis behind it.
-#[tactic(auto, using(crate::proofs::FormSteps::counted_steps))]
-fn counted(tokens: &mut Tokens<'_>) -> Result<usize, Fail>
-    ensures got { IfOk result (λ count. run no_call read_counted (left tokens.old) ≡ Got count (left tokens.new)) }
-    ensures refused { IfErr result (λ fail. Refuses fail (run no_call read_counted (left tokens.old))) }
+/// The count of `held` at that place, and the closing parenthesis behind it.
+#[tactic(auto, using(isle_reading::proofs::Steps::chain), unfolding(crate::specs::Reading::read_held))]
+fn held_form(tokens: &mut Tokens<'_>, at: usize) -> Result<Form, Fail>
+    ensures { Reads form_seen result (read_held at) (left tokens.old) (left tokens.new) }
 {
     let count = count(tokens)?;
     tokens.close()?;
-    Ok(count)
+    Ok(Form::Held { count, at })
+}
+
+/// The count of `max` at that place, and the closing parenthesis behind it.
+#[tactic(auto, using(isle_reading::proofs::Steps::chain), unfolding(crate::specs::Reading::read_max))]
+fn max_form(tokens: &mut Tokens<'_>, at: usize) -> Result<Form, Fail>
+    ensures { Reads form_seen result (read_max at) (left tokens.old) (left tokens.new) }
+{
+    let count = count(tokens)?;
+    tokens.close()?;
+    Ok(Form::Max { count, at })
 }
 
 /// What is called, by the word that is next.
-#[tactic(auto, using(isle_syntax::proofs::Steps::next_some, isle_syntax::proofs::Steps::next_none))]
+#[tactic(auto, using(isle_reading::proofs::Steps::next))]
 fn next_callee(tokens: &Tokens<'_>, alloc: Global) -> Result<Option<Callee>, AllocError>
     ensures { IfOk result (λ next. next ≡ next_word callee_of (left tokens.now)) }
 {
@@ -109,10 +116,9 @@ fn next_callee(tokens: &Tokens<'_>, alloc: Global) -> Result<Option<Callee>, All
 }
 
 /// What is called.
-#[tactic(auto, using(crate::proofs::Leaves::leaves))]
+#[tactic(auto, using(isle_reading::proofs::Steps::words), unfolding(crate::specs::Reading::read_callee))]
 fn callee(tokens: &mut Tokens<'_>, alloc: Global) -> Result<Callee, Fail>
-    ensures got { IfOk result (λ callee. run no_call read_callee (left tokens.old) ≡ Got callee (left tokens.new)) }
-    ensures refused { IfErr result (λ fail. Refuses fail (run no_call read_callee (left tokens.old))) }
+    ensures { Reads (λ callee. callee) result read_callee (left tokens.old) (left tokens.new) }
 {
     match next_callee(tokens, alloc)? {
         Some(callee) => {
@@ -124,7 +130,7 @@ fn callee(tokens: &mut Tokens<'_>, alloc: Global) -> Result<Callee, Fail>
 }
 
 /// What stands behind the word of the constant at that place.
-#[tactic(auto, using(crate::proofs::FormSteps::const_steps))]
+#[tactic(auto, using(isle_reading::proofs::Steps::chain), unfolding(crate::specs::Reading::read_const))]
 fn constant(
     tokens: &mut Tokens<'_>,
     alloc: Global,
@@ -132,8 +138,7 @@ fn constant(
     depth: usize,
     at: usize,
 ) -> Result<Form, Fail>
-    ensures got { IfOk result (λ read. run no_call (read_const most depth at) (left tokens.old) ≡ Got (form_seen read) (left tokens.new)) }
-    ensures refused { IfErr result (λ fail. Refuses fail (run no_call (read_const most depth at) (left tokens.old))) }
+    ensures { Reads form_seen result (read_const most depth at) (left tokens.old) (left tokens.new) }
 {
     let name = tokens.name(alloc)?;
     let value = value(tokens, alloc, most, depth)?;
@@ -141,8 +146,49 @@ fn constant(
     Ok(Form::Const { name, value, at })
 }
 
+/// What is called, the cases and the rest of `answers` at that place.
+#[tactic(auto, using(isle_reading::proofs::Steps::chain), unfolding(crate::specs::Reading::read_answers))]
+fn answered(
+    tokens: &mut Tokens<'_>,
+    alloc: Global,
+    most: usize,
+    depth: usize,
+    at: usize,
+) -> Result<Form, Fail>
+    ensures { Reads form_seen result (read_answers most depth at) (left tokens.old) (left tokens.new) }
+{
+    let callee = callee(tokens, alloc)?;
+    let (cases, rest) = cases(tokens, alloc, most, depth.saturating_sub(1))?;
+    Ok(Form::Answers {
+        callee,
+        cases: List::new(cases),
+        rest,
+        at,
+    })
+}
+
+/// What is called, the turns and the rest of `turns` at that place.
+#[tactic(auto, using(isle_reading::proofs::Steps::chain), unfolding(crate::specs::Reading::read_turned))]
+fn turned(
+    tokens: &mut Tokens<'_>,
+    alloc: Global,
+    most: usize,
+    depth: usize,
+    at: usize,
+) -> Result<Form, Fail>
+    ensures { Reads form_seen result (read_turned most depth at) (left tokens.old) (left tokens.new) }
+{
+    let callee = callee(tokens, alloc)?;
+    let (turns, rest) = turns(tokens, alloc, most, depth)?;
+    Ok(Form::Turns {
+        callee,
+        turns: List::new(turns),
+        rest,
+        at,
+    })
+}
+
 /// What stands behind the first word of the form at that place.
-#[tactic(auto, using(crate::proofs::FileSteps::behind_steps))]
 fn behind(
     tokens: &mut Tokens<'_>,
     alloc: Global,
@@ -151,51 +197,57 @@ fn behind(
     at: usize,
     head: FormHead,
 ) -> Result<Form, Fail>
-    ensures got { IfOk result (λ read. run no_call (read_behind most depth at (form_head_seen head)) (left tokens.old) ≡ Got (form_seen read) (left tokens.new)) }
-    ensures refused { IfErr result (λ fail. Refuses fail (run no_call (read_behind most depth at (form_head_seen head)) (left tokens.old))) }
+    ensures { Reads form_seen result (read_behind most depth at (form_head_seen head)) (left tokens.old) (left tokens.new) }
 {
     match head {
-        FormHead::Held => Ok(Form::Held {
-            count: counted(tokens)?,
-            at,
-        }),
-        FormHead::Max => Ok(Form::Max {
-            count: counted(tokens)?,
-            at,
-        }),
+        FormHead::Held => held_form(tokens, at),
+        FormHead::Max => max_form(tokens, at),
         FormHead::Const => constant(tokens, alloc, most, depth, at),
-        FormHead::Answers => {
-            let callee = callee(tokens, alloc)?;
-            let (cases, rest) = cases(tokens, alloc, most, depth.saturating_sub(1))?;
-            Ok(Form::Answers {
-                callee,
-                cases: List::new(cases),
-                rest,
-                at,
-            })
-        }
-        FormHead::Turns => {
-            let callee = callee(tokens, alloc)?;
-            let (turns, rest) = turns(tokens, alloc, most, depth)?;
-            Ok(Form::Turns {
-                callee,
-                turns: List::new(turns),
-                rest,
-                at,
-            })
-        }
+        FormHead::Answers => answered(tokens, alloc, most, depth, at),
+        FormHead::Turns => turned(tokens, alloc, most, depth, at),
+    }
+}
+
+/// A form, where `held` and `max` may still stand or may not.
+#[tactic(auto, using(isle_reading::proofs::Steps::chain), unfolding(crate::specs::Reading::read_form))]
+fn form(
+    tokens: &mut Tokens<'_>,
+    alloc: Global,
+    most: usize,
+    held: bool,
+    max: bool,
+) -> Result<Form, Fail>
+    ensures { Reads form_seen result (read_form most (most_open - 1) (held, max)) (left tokens.old) (left tokens.new) }
+{
+    let at = tokens.open()?;
+    let head = head(tokens, held, max)?;
+    behind(tokens, alloc, most, most_inside(), at, head)
+}
+
+/// Whether `held` may still stand behind the form.
+fn held_behind(held: bool, form: &Form) -> bool
+    ensures { result ≡ held_behind held (form_seen form.now) }
+{
+    match form {
+        Form::Held { .. } => false,
+        _ => held,
+    }
+}
+
+/// Whether `max` may still stand behind the form.
+fn max_behind(max: bool, form: &Form) -> bool
+    ensures { result ≡ max_behind max (form_seen form.now) }
+{
+    match form {
+        Form::Max { .. } => false,
+        _ => max,
     }
 }
 
 /// The forms of a file of at most `most` tokens, up to its end.
-pub fn all_forms(
-    tokens: &mut Tokens<'_>,
-    alloc: Global,
-    most: usize,
-    depth: usize,
-) -> Result<Vec<Form>, Fail>
-    ensures got { IfOk result (λ read. run no_call (read_forms most depth most true true) (left tokens.old) ≡ Got (forms_seen read.items) (left tokens.new)) }
-    ensures refused { IfErr result (λ fail. Refuses fail (run no_call (read_forms most depth most true true) (left tokens.old))) }
+#[tactic(auto, using(isle_reading::proofs::ListSteps::alls), unfolding(crate::specs::Reading::read_forms))]
+pub fn all_forms(tokens: &mut Tokens<'_>, alloc: Global, most: usize) -> Result<Vec<Form>, Fail>
+    ensures { Reads (λ read. forms_seen read.items) result (read_forms most) (left tokens.old) (left tokens.new) }
 {
     let mut forms = Vec::new(alloc);
     let mut held = true;
@@ -204,14 +256,10 @@ pub fn all_forms(
         if tokens.len() == 0 {
             return Ok(forms);
         }
-        let at = tokens.open()?;
-        let head = head(tokens, held, max)?;
-        forms.push(behind(tokens, alloc, most, depth, at, head)?)?;
-        match head {
-            FormHead::Held => held = false,
-            FormHead::Max => max = false,
-            FormHead::Const | FormHead::Answers | FormHead::Turns => {}
-        }
+        let form = form(tokens, alloc, most, held, max)?;
+        held = held_behind(held, &form);
+        max = max_behind(max, &form);
+        forms.push(form)?;
     }
     if tokens.len() == 0 {
         return Ok(forms);

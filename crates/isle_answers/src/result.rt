@@ -1,7 +1,6 @@
-ghost use Rattle.std.specs.Prelude.{◌≡◌, IfOk, IfErr, map, option_map};
-ghost use Rattle.isle_syntax.specs.Reader.{run, Got, many};
-ghost use Rattle.isle_syntax.specs.Reading.{no_call, next_word};
-ghost use Rattle.isle_syntax.specs.ReadingViews.{left, Refuses};
+ghost use Rattle.std.specs.Prelude.{◌≡◌, IfOk, map, option_map};
+ghost use Rattle.isle_reading.specs.Combinators.{next_word, many};
+ghost use Rattle.isle_reading.specs.Views.{left, Reads};
 ghost use Rattle.isle_answers.specs.Reading.{result_head_of, read_result_head, read_simple_result, read_result_behind, read_result_list, read_result};
 ghost use Rattle.isle_answers.specs.Views.{result_seen};
 ghost use Rattle.isle_answers.specs.HeadViews.{result_head_seen};
@@ -9,12 +8,13 @@ ghost use Rattle.isle_answers.specs.HeadViews.{result_head_seen};
 use crate::form::ResultForm;
 use crate::words::is_reserved;
 use isle_core::{List, Text};
-use isle_syntax::{Fail, Tokens, is_name, text_of};
+use isle_lexer::{is_name, text_of};
+use isle_reading::{Fail, Tokens};
 use isle_values::{Written, parts, simple};
 use std::alloc::{AllocError, Global};
 
 /// What a list is that is a result.
-#[derive(Debug, Drop)]
+#[derive(Drop)]
 pub enum ResultHead {
     Tuple,
     Made(Text),
@@ -34,7 +34,7 @@ pub fn result_head_of(alloc: Global, word: &str) -> Result<Option<ResultHead>, A
 }
 
 /// What a result's list is, by the word that is next.
-#[tactic(auto, using(isle_syntax::proofs::Steps::next_some, isle_syntax::proofs::Steps::next_none))]
+#[tactic(auto, using(isle_reading::proofs::Steps::next))]
 fn next_head(tokens: &Tokens<'_>, alloc: Global) -> Result<Option<ResultHead>, AllocError>
     ensures { IfOk result (λ next. option_map result_head_seen next ≡ next_word result_head_of (left tokens.now)) }
 {
@@ -45,10 +45,9 @@ fn next_head(tokens: &Tokens<'_>, alloc: Global) -> Result<Option<ResultHead>, A
 }
 
 /// What a result's list is, by its first word.
-#[tactic(auto, using(crate::proofs::Leaves::leaves))]
+#[tactic(auto, using(isle_reading::proofs::Steps::words), unfolding(crate::specs::Reading::read_result_head))]
 fn result_head(tokens: &mut Tokens<'_>, alloc: Global) -> Result<ResultHead, Fail>
-    ensures got { IfOk result (λ head. run no_call read_result_head (left tokens.old) ≡ Got (result_head_seen head) (left tokens.new)) }
-    ensures refused { IfErr result (λ fail. Refuses fail (run no_call read_result_head (left tokens.old))) }
+    ensures { Reads result_head_seen result read_result_head (left tokens.old) (left tokens.new) }
 {
     match next_head(tokens, alloc)? {
         Some(head) => {
@@ -60,16 +59,15 @@ fn result_head(tokens: &mut Tokens<'_>, alloc: Global) -> Result<ResultHead, Fai
 }
 
 /// A result of one word.
-#[tactic(auto, using(crate::proofs::ResultSteps::simple_result_steps))]
+#[tactic(auto, using(isle_reading::proofs::Steps::chain), unfolding(crate::specs::Reading::read_simple_result))]
 pub fn simple_result(tokens: &mut Tokens<'_>) -> Result<ResultForm, Fail>
-    ensures got { IfOk result (λ read. run no_call read_simple_result (left tokens.old) ≡ Got (result_seen read) (left tokens.new)) }
-    ensures refused { IfErr result (λ fail. Refuses fail (run no_call read_simple_result (left tokens.old))) }
+    ensures { Reads result_seen result read_simple_result (left tokens.old) (left tokens.new) }
 {
     Ok(ResultForm::One(simple(tokens)?))
 }
 
 /// What stands behind the first word of a result's list.
-#[tactic(auto, using(crate::proofs::ResultSteps::behind_steps, isle_values::proofs::Sees::sees))]
+#[tactic(auto, using(isle_reading::proofs::Steps::chain, isle_values::proofs::Sees::sees), unfolding(crate::specs::Reading::read_result_behind))]
 pub fn result_behind(
     tokens: &mut Tokens<'_>,
     alloc: Global,
@@ -77,8 +75,7 @@ pub fn result_behind(
     depth: usize,
     head: ResultHead,
 ) -> Result<ResultForm, Fail>
-    ensures got { IfOk result (λ read. run no_call (read_result_behind most depth (result_head_seen head)) (left tokens.old) ≡ Got (result_seen read) (left tokens.new)) }
-    ensures refused { IfErr result (λ fail. Refuses fail (run no_call (read_result_behind most depth (result_head_seen head)) (left tokens.old))) }
+    ensures { Reads result_seen result (read_result_behind most depth (result_head_seen head)) (left tokens.old) (left tokens.new) }
 {
     let values = List::new(parts(tokens, alloc, most, depth)?);
     match head {
@@ -88,22 +85,21 @@ pub fn result_behind(
 }
 
 /// A result's list.
-#[tactic(auto, using(crate::proofs::ResultSteps::list_steps))]
+#[tactic(auto, using(isle_reading::proofs::Steps::chain), unfolding(crate::specs::Reading::read_result_list))]
 fn result_list(
     tokens: &mut Tokens<'_>,
     alloc: Global,
     most: usize,
     depth: usize,
 ) -> Result<ResultForm, Fail>
-    ensures got { IfOk result (λ read. run no_call (read_result_list most depth) (left tokens.old) ≡ Got (result_seen read) (left tokens.new)) }
-    ensures refused { IfErr result (λ fail. Refuses fail (run no_call (read_result_list most depth) (left tokens.old))) }
+    ensures { Reads result_seen result (read_result_list most depth) (left tokens.old) (left tokens.new) }
 {
     tokens.open()?;
     let head = result_head(tokens, alloc)?;
     result_behind(tokens, alloc, most, depth, head)
 }
 
-/// A result whose parentheses nest at most `depth` deep, its lists of fewer than `most` parts.
+/// A result whose parentheses nest at most `depth` deep, its lists of at most `most` tokens.
 #[tactic(auto, using(crate::proofs::Choices::result_choice))]
 pub fn result(
     tokens: &mut Tokens<'_>,
@@ -111,8 +107,7 @@ pub fn result(
     most: usize,
     depth: usize,
 ) -> Result<ResultForm, Fail>
-    ensures got { IfOk result (λ read. run no_call (read_result most depth) (left tokens.old) ≡ Got (result_seen read) (left tokens.new)) }
-    ensures refused { IfErr result (λ fail. Refuses fail (run no_call (read_result most depth) (left tokens.old))) }
+    ensures { Reads result_seen result (read_result most depth) (left tokens.old) (left tokens.new) }
 {
     match tokens.opens() {
         None => simple_result(tokens),
@@ -125,15 +120,15 @@ pub fn result(
     }
 }
 
-/// Fewer than `most` results up to a closing parenthesis, which is taken.
+/// Results up to a closing parenthesis, which is taken, of at most `most` tokens.
+#[tactic(auto, using(isle_reading::proofs::ListSteps::lists))]
 pub fn results(
     tokens: &mut Tokens<'_>,
     alloc: Global,
     most: usize,
     depth: usize,
 ) -> Result<Vec<ResultForm>, Fail>
-    ensures got { IfOk result (λ read. run no_call (many most (read_result most depth)) (left tokens.old) ≡ Got (map result_seen read.items) (left tokens.new)) }
-    ensures refused { IfErr result (λ fail. Refuses fail (run no_call (many most (read_result most depth)) (left tokens.old))) }
+    ensures { Reads (λ read. map result_seen read.items) result (many most (read_result most depth)) (left tokens.old) (left tokens.new) }
 {
     let mut results = Vec::new(alloc);
     for _ in 0..most {

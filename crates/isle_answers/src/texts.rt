@@ -1,8 +1,8 @@
-ghost use Rattle.std.specs.Prelude.{◌≡◌, ◌-◌, ℕ, List, drop, length, Err, IfOk};
-ghost use Rattle.isle_syntax.specs.Reader.{place};
-ghost use Rattle.isle_lexer.specs.TokenViews.{token_seen, tokens_seen};
+ghost use Rattle.std.specs.Prelude.{◌≡◌, ℕ, List, Err, IfOk};
+ghost use Rattle.isle_lexer.specs.TokenViews.{tokens_seen};
+ghost use Rattle.isle_reading.specs.Places.{IsFaultAt};
 ghost use Rattle.isle_answers.specs.Form.{Form as PureForm};
-ghost use Rattle.isle_answers.specs.Places.{first_place, IsTokenFault, IsFault};
+ghost use Rattle.isle_answers.specs.Places.{AreForms, IsFault};
 ghost use Rattle.isle_answers.specs.Spelling.{SpellsTokens, SpellsForms};
 ghost use Rattle.isle_answers.specs.Views.{forms_seen};
 ghost use Rattle.isle_answers.specs.declared.texts.AnswersFail.TheVariants.{At};
@@ -10,7 +10,8 @@ ghost use Rattle.isle_answers.specs.declared.texts.AnswersFail.TheVariants.{At};
 use crate::form::Form;
 use crate::reading::all_forms;
 use isle_core::List;
-use isle_syntax::{Fail, Lexer, Token, Tokens, most_inside};
+use isle_lexer::{LexFail, Token, tokens};
+use isle_reading::{Fail, Tokens, place_of};
 use std::alloc::Global;
 
 /// Why a text gives no forms.
@@ -22,37 +23,13 @@ pub enum AnswersFail {
     Memory,
 }
 
-/// Where a token begins.
-fn place(token: Token<'_>) -> usize
-    ensures { result ≡ place (token_seen token.entry) }
-{
-    match token {
-        Token::Open(at)
-        | Token::Close(at)
-        | Token::At(at)
-        | Token::Less(at)
-        | Token::Greater(at)
-        | Token::Word(at, _) => at,
-    }
-}
-
-/// The place of the token from which on so many are left, or the end.
-fn place_of(tokens: &[Token<'_>], left: usize, end: usize) -> usize
-    ensures { result ≡ first_place (drop (length tokens.now - left) (tokens_seen tokens.now)) end }
-{
-    match tokens.get(tokens.len().saturating_sub(left)) {
-        Some(token) => place(*token),
-        None => end,
-    }
-}
-
 /// The forms that these tokens of a text of that length spell.
 fn of_tokens(alloc: Global, tokens: &[Token<'_>], end: usize) -> Result<Vec<Form>, AnswersFail>
     ensures spelt { IfOk result (λ read. SpellsTokens (tokens_seen tokens.now) (forms_seen read.items)) }
-    ensures fault { (at : ℕ) → result ≡ Err (At at) → IsTokenFault (tokens_seen tokens.now) end at }
+    ensures fault { (at : ℕ) → result ≡ Err (At at) → IsFaultAt AreForms (tokens_seen tokens.now) end at }
 {
     let mut cursor = Tokens::new(tokens);
-    match all_forms(&mut cursor, alloc, tokens.len(), most_inside()) {
+    match all_forms(&mut cursor, alloc, tokens.len()) {
         Ok(read) => Ok(read),
         Err(Fail::At(left)) => Err(AnswersFail::At(place_of(tokens, left, end))),
         Err(Fail::Memory) => Err(AnswersFail::Memory),
@@ -66,12 +43,9 @@ pub fn forms(alloc: Global, text: &str) -> Result<List<Form>, AnswersFail>
     ensures only { IfOk result (λ read. (others : List PureForm) → SpellsForms text.now others → others ≡ forms_seen read) }
     ensures fault { (at : ℕ) → result ≡ Err (At at) → IsFault text.now at }
 {
-    let lexer = match Lexer::new(0, text) {
-        Ok(lexer) => lexer,
-        Err(pos) => return Err(AnswersFail::At(pos.offset)),
-    };
-    match lexer.tokens(alloc) {
+    match tokens(alloc, text) {
         Ok(tokens) => Ok(List::new(of_tokens(alloc, tokens.as_slice(), text.len())?)),
-        Err(_) => Err(AnswersFail::Memory),
+        Err(LexFail::Unclosed(at)) => Err(AnswersFail::At(at)),
+        Err(LexFail::Memory) => Err(AnswersFail::Memory),
     }
 }

@@ -1,7 +1,5 @@
-ghost use Rattle.std.specs.Prelude.{◌≡◌, [], IfOk, IfErr, map, option_map, reverse};
-ghost use Rattle.isle_syntax.specs.Reader.{run, Got};
-ghost use Rattle.isle_syntax.specs.Reading.{no_call};
-ghost use Rattle.isle_syntax.specs.ReadingViews.{left, Refuses};
+ghost use Rattle.std.specs.Prelude.{◌≡◌, [], IfOk, map, option_map, reverse};
+ghost use Rattle.isle_reading.specs.Views.{left, Reads};
 ghost use Rattle.isle_values.specs.Views.{written, seen};
 ghost use Rattle.isle_values.specs.Written.{Made};
 ghost use Rattle.isle_answers.specs.Reading.{result_is, results_are, only_of, answer_is, rest_is, ended, read_turns};
@@ -11,7 +9,7 @@ use crate::answer::answer;
 use crate::form::{AnswerForm, ResultForm};
 use crate::words::is_reserved;
 use isle_core::{List, Text};
-use isle_syntax::{Fail, Tokens};
+use isle_reading::{Fail, Tokens};
 use isle_values::Written;
 use std::alloc::{AllocError, Global};
 
@@ -130,15 +128,15 @@ fn ended(alloc: Global, turns: &mut Vec<AnswerForm>) -> Result<Option<AnswerForm
     }
 }
 
-/// Fewer than `most` turns, the rest, and the closing parenthesis behind it.
+/// Turns, the rest, and the closing parenthesis behind it, of at most `most` tokens.
+#[tactic(auto, using(crate::proofs::TurnSteps::turns_steps))]
 pub fn turns(
     tokens: &mut Tokens<'_>,
     alloc: Global,
     most: usize,
     depth: usize,
 ) -> Result<(Vec<AnswerForm>, AnswerForm), Fail>
-    ensures got { IfOk result (λ read. run no_call (read_turns most depth most []) (left tokens.old) ≡ Got (map answer_seen read.0.items, answer_seen read.1) (left tokens.new)) }
-    ensures refused { IfErr result (λ fail. Refuses fail (run no_call (read_turns most depth most []) (left tokens.old))) }
+    ensures { Reads (λ read. (map answer_seen read.0.items, answer_seen read.1)) result (read_turns most depth most []) (left tokens.old) (left tokens.new) }
 {
     let mut turns = Vec::new(alloc);
     for _ in 0..most {

@@ -1,8 +1,5 @@
-pub mod Sees
-pub mod WordValues
-pub mod ValueForms
-pub mod ValueDepths
+pub mod ValueLaws
 pub mod Lists
-pub mod ValueSteps
-pub mod ListSteps
 pub mod Spelt
+pub mod Sees
+pub mod ValueSteps

@@ -1,16 +1,16 @@
 -- What a text spells is decided.
-use Rattle.std.proofs.Common.{◌≡◌, ℕ, List, Bool, true, false, ◌&&◌, Option, Some, None, refl, ap, sym, ◌∙◌, subst}
+use Rattle.std.proofs.Common.{◌≡◌, ℕ, List, Bool, true, false, ◌&&◌, Option, Some, None, refl, ap, ◌∙◌}
 use Rattle.std.specs.Prelude.{codes, is_none, if◌then◌else◌}
-use Rattle.std.specs.Str.{IsUtf8, is_utf8, chars}
+use Rattle.std.specs.Str.{is_utf8, chars}
 use Rattle.std.proofs.lemmas.Str.{IsUtf8-from_is_utf8, is_utf8-from_IsUtf8}
 use Rattle.isle_lexer.specs.Lexeme.{lexemes}
-use Rattle.isle_syntax.specs.Reader.{Reading, Got, Stuck, Deep, read_open, read_close, many}
+use Rattle.isle_reading.specs.Reader.{Reading, Got, Stuck, Deep, run, bind}
+use Rattle.isle_reading.specs.Combinators.{read_open, read_close, many}
 use Rattle.isle_lexer.specs.Token.{step, unclosed}
 use Rattle.isle_values.specs.Written.{Written, Writtens, NoValue}
-use Rattle.isle_values.specs.Views.{in_order}
 use Rattle.isle_values.specs.Spelling.{SpellsValues}
 use Rattle.isle_values.specs.Reading.{values_of, read_value, read_list, read_whole, got, spelt}
-use Rattle.isle_values.proofs.Lists.{values_sound, values_shallow, values_complete}
+use Rattle.isle_values.proofs.Lists.{values_sound, values_complete}
 
 none_open : (o : Option ℕ) → is_none o ≡ true → o ≡ None
 none_open None e = refl
@@ -29,8 +29,8 @@ spelt_is text = by (is_utf8 text) (is_none (unclosed text)) (values_of (lexemes 
     by true true (Got vs rest) e f g = record {
       utf8 = IsUtf8-from_is_utf8 text e;
       closed = none_open (unclosed text) f;
-      shallow = values_shallow (lexemes text) rest vs g;
-      values = values_sound (lexemes text) rest vs g;
+      shallow = (values_sound (lexemes text) rest vs g).1;
+      values = (values_sound (lexemes text) rest vs g).0;
     }
     by true true (Stuck rest) e f g = tt
     by true true (Deep rest) e f g = tt
@@ -55,5 +55,5 @@ spelt_none text h = by (spelt text) (spelt_is text)
 
 -- the shortest text that spells values
 pub empty_list : spelt (codes "()") ≡ Some NoValue
-unfolding spelt is_utf8 chars lib.Utf8.encode step read_open read_close many read_value read_list read_whole
+unfolding spelt is_utf8 chars lib.Utf8.encode step run bind read_open read_close many read_value read_list read_whole
 empty_list = refl

@@ -1,12 +1,13 @@
 -- Readers of values.
 use Rattle.std.specs.Prelude.{ℕ, zero, suc, ◌-◌, ◌&&◌, length, List, true, false, if◌then◌else◌, Option, Some, None, is_none, option_map, bytes_eq, codes}
 use Rattle.std.specs.Str.{is_utf8}
-use Rattle.isle_syntax.specs.Depth.{most_open}
 use Rattle.isle_lexer.specs.Integer.{signed_of}
 use Rattle.isle_lexer.specs.Lexeme.{Lexeme, lexemes}
 use Rattle.isle_lexer.specs.Token.{unclosed}
-use Rattle.isle_syntax.specs.Reader.{Reading, Got, Stuck, Deep, Reader, Ret, Peek, End, Halt, run, bind, is_open, read_open, many}
-use Rattle.isle_syntax.specs.Reading.{no_call, read_word, read_name, refuse}
+use Rattle.isle_reading.specs.Combinators.{is_open, read_open, read_word, many, at_end}
+use Rattle.isle_reading.specs.Names.{read_name}
+use Rattle.isle_reading.specs.Nesting.{most_open}
+use Rattle.isle_reading.specs.Reader.{Reading, Got, Stuck, Deep, Reader, Ret, Peek, Halt, run, bind}
 use Rattle.isle_values.specs.Views.{in_order}
 use Rattle.isle_values.specs.Written.{Written, Writtens, Truth, Number, Made}
 
@@ -18,37 +19,29 @@ word_value w =
     else option_map (λ n. Number n) (signed_of w))
 
 -- a value of one word
-unfoldable pub read_simple : {F : Type 0} → Reader F Written
+unfoldable pub read_simple : Reader Written
 read_simple = read_word word_value
 
--- ( N of a made value
-unfoldable pub read_begun : {F : Type 0} → Reader F (List ℕ)
-read_begun = bind read_open (λ o. read_name)
+-- ( N V* ), of at most n tokens, each part of which is read so
+unfoldable pub read_made : ℕ → Reader Written → Reader Written
+read_made n r = bind read_open (λ o. bind read_name (λ w. bind (many n r) (λ parts. Ret (Made w (in_order parts)))))
 
--- ( N V* ), of fewer than n parts, each of which is read so
-unfoldable pub read_made : {F : Type 0} → ℕ → Reader F Written → Reader F Written
-read_made n r = bind read_begun (λ w. bind (many n r) (λ parts. Ret (Made w (in_order parts))))
-
--- a value whose parentheses nest at most d deep, its lists of fewer than n parts
-unfoldable pub read_value : {F : Type 0} → ℕ → ℕ → Reader F Written
+-- a value whose parentheses nest at most d deep, its lists of at most n tokens
+unfoldable pub read_value : ℕ → ℕ → Reader Written
 read_value n zero = Peek is_open Halt read_simple
 read_value n (suc d) = Peek is_open (read_made n (read_value n d)) read_simple
 
 -- ( V* )
-unfoldable pub read_list : {F : Type 0} → ℕ → ℕ → Reader F (List Written)
+unfoldable pub read_list : ℕ → ℕ → Reader (List Written)
 read_list n d = bind read_open (λ o. many n (read_value n d))
 
--- the end of the text
-abbrev pub read_end : {F : Type 0} → List Written → Reader F (List Written)
-read_end vs = End (Ret vs) refuse
-
 -- ( V* ) and nothing behind it
-unfoldable pub read_whole : {F : Type 0} → ℕ → ℕ → Reader F (List Written)
-read_whole n d = bind (read_list n d) read_end
+unfoldable pub read_whole : ℕ → Reader (List Written)
+read_whole n = bind (read_list n (most_open - 1)) at_end
 
 -- what comes of tokens as a list of values
 abbrev pub values_of : List Lexeme → Reading (List Written)
-values_of ts = run no_call (read_whole (length ts) (most_open - 1)) ts
+values_of ts = run (read_whole (length ts)) ts
 
 -- the values that are got
 abbrev pub got : Reading (List Written) → Option Writtens

@@ -1,7 +1,7 @@
 -- When a text spells a list of values: what the tokens begin with, and which tokens stand behind it.
 use Rattle.std.specs.Prelude.{◌≡◌, ◌≤◌, ℕ, ℤ, List, [], ◌∷◌, true, false, Some, codes}
 use Rattle.std.specs.Str.{IsUtf8}
-use Rattle.isle_syntax.specs.Depth.{depth, most_open}
+use Rattle.isle_reading.specs.Nesting.{depth, most_open}
 use Rattle.isle_lexer.specs.Integer.{signed_of}
 use Rattle.isle_lexer.specs.Lexeme.{Lexeme, Open, Close, Word, lexemes}
 use Rattle.isle_lexer.specs.Token.{IsClosed}

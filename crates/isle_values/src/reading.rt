@@ -1,13 +1,13 @@
-ghost use Rattle.std.specs.Prelude.{◌≡◌, IfOk, IfErr, map, option_map};
-ghost use Rattle.isle_syntax.specs.Reader.{run, Got, many};
-ghost use Rattle.isle_syntax.specs.Reading.{no_call, next_word};
-ghost use Rattle.isle_syntax.specs.ReadingViews.{left, Refuses};
-ghost use Rattle.isle_values.specs.Reading.{word_value, read_simple, read_begun, read_value, read_list, read_whole};
+ghost use Rattle.std.specs.Prelude.{◌≡◌, map, option_map};
+ghost use Rattle.isle_reading.specs.Combinators.{next_word, many};
+ghost use Rattle.isle_reading.specs.Views.{left, Reads};
+ghost use Rattle.isle_values.specs.Reading.{word_value, read_simple, read_value, read_list, read_whole};
 ghost use Rattle.isle_values.specs.Views.{written};
 
 use crate::written::Written;
-use isle_core::{List, Text};
-use isle_syntax::{Fail, Tokens, signed_of};
+use isle_core::List;
+use isle_lexer::signed_of;
+use isle_reading::{Fail, Tokens, most_inside};
 use std::alloc::Global;
 
 /// The value that a word is.
@@ -23,7 +23,7 @@ fn word_value(word: &str) -> Option<Written>
 }
 
 /// A value of one word that is next.
-#[tactic(auto, using(isle_syntax::proofs::Steps::next_some, isle_syntax::proofs::Steps::next_none))]
+#[tactic(auto, using(isle_reading::proofs::Steps::next))]
 fn next_simple(tokens: &Tokens<'_>) -> Option<Written>
     ensures { option_map written result ≡ next_word word_value (left tokens.now) }
 {
@@ -31,10 +31,9 @@ fn next_simple(tokens: &Tokens<'_>) -> Option<Written>
 }
 
 /// A value of one word.
-#[tactic(auto, using(crate::proofs::ValueSteps::simple_steps))]
+#[tactic(auto, using(isle_reading::proofs::Steps::words), unfolding(crate::specs::Reading::read_simple))]
 pub fn simple(tokens: &mut Tokens<'_>) -> Result<Written, Fail>
-    ensures got { IfOk result (λ read. run no_call read_simple (left tokens.old) ≡ Got (written read) (left tokens.new)) }
-    ensures refused { IfErr result (λ fail. Refuses fail (run no_call read_simple (left tokens.old))) }
+    ensures { Reads written result read_simple (left tokens.old) (left tokens.new) }
 {
     match next_simple(tokens) {
         Some(value) => {
@@ -45,17 +44,7 @@ pub fn simple(tokens: &mut Tokens<'_>) -> Result<Written, Fail>
     }
 }
 
-/// The parenthesis and the name that a made value begins with.
-#[tactic(auto, using(crate::proofs::ValueSteps::begun_steps))]
-fn begun(tokens: &mut Tokens<'_>, alloc: Global) -> Result<Text, Fail>
-    ensures got { IfOk result (λ name. run no_call read_begun (left tokens.old) ≡ Got name (left tokens.new)) }
-    ensures refused { IfErr result (λ fail. Refuses fail (run no_call read_begun (left tokens.old))) }
-{
-    tokens.open()?;
-    tokens.name(alloc)
-}
-
-/// A value whose parentheses nest at most `depth` deep, its lists of fewer than `most` parts.
+/// A value whose parentheses nest at most `depth` deep, its lists of at most `most` tokens.
 #[cycle(values)]
 #[tactic(auto, using(crate::proofs::ValueSteps::value_steps, crate::proofs::Sees::sees))]
 pub fn value(
@@ -64,8 +53,7 @@ pub fn value(
     most: usize,
     depth: usize,
 ) -> Result<Written, Fail>
-    ensures got { IfOk result (λ read. run no_call (read_value most depth) (left tokens.old) ≡ Got (written read) (left tokens.new)) }
-    ensures refused { IfErr result (λ fail. Refuses fail (run no_call (read_value most depth) (left tokens.old))) }
+    ensures { Reads written result (read_value most depth) (left tokens.old) (left tokens.new) }
 {
     match tokens.opens() {
         None => simple(tokens),
@@ -73,23 +61,24 @@ pub fn value(
             if depth == 0 {
                 return Err(Fail::At(tokens.len()));
             }
-            let name = begun(tokens, alloc)?;
+            tokens.open()?;
+            let name = tokens.name(alloc)?;
             let inner = parts(tokens, alloc, most, depth - 1)?;
             Ok(Written::Made(name, List::new(inner)))
         }
     }
 }
 
-/// Fewer than `most` values up to a closing parenthesis, which is taken.
+/// Values up to a closing parenthesis, which is taken, of at most `most` tokens.
 #[cycle(values)]
+#[tactic(auto, using(crate::proofs::ValueSteps::lists))]
 pub fn parts(
     tokens: &mut Tokens<'_>,
     alloc: Global,
     most: usize,
     depth: usize,
 ) -> Result<Vec<Written>, Fail>
-    ensures got { IfOk result (λ read. run no_call (many most (read_value most depth)) (left tokens.old) ≡ Got (map written read.items) (left tokens.new)) }
-    ensures refused { IfErr result (λ fail. Refuses fail (run no_call (many most (read_value most depth)) (left tokens.old))) }
+    ensures { Reads (λ parts. map written parts.items) result (many most (read_value most depth)) (left tokens.old) (left tokens.new) }
 {
     let mut values = Vec::new(alloc);
     for _ in 0..most {
@@ -105,32 +94,25 @@ pub fn parts(
 }
 
 /// A list of values, with its parentheses.
-#[tactic(auto, using(crate::proofs::ListSteps::list_steps))]
+#[tactic(auto, using(isle_reading::proofs::Steps::chain), unfolding(crate::specs::Reading::read_list))]
 pub fn list(
     tokens: &mut Tokens<'_>,
     alloc: Global,
     most: usize,
     depth: usize,
 ) -> Result<Vec<Written>, Fail>
-    ensures got { IfOk result (λ read. run no_call (read_list most depth) (left tokens.old) ≡ Got (map written read.items) (left tokens.new)) }
-    ensures refused { IfErr result (λ fail. Refuses fail (run no_call (read_list most depth) (left tokens.old))) }
+    ensures { Reads (λ values. map written values.items) result (read_list most depth) (left tokens.old) (left tokens.new) }
 {
     tokens.open()?;
     parts(tokens, alloc, most, depth)
 }
 
-/// A list of values and nothing behind it.
-#[tactic(auto, using(crate::proofs::ListSteps::whole_steps))]
-pub fn whole(
-    tokens: &mut Tokens<'_>,
-    alloc: Global,
-    most: usize,
-    depth: usize,
-) -> Result<Vec<Written>, Fail>
-    ensures got { IfOk result (λ read. run no_call (read_whole most depth) (left tokens.old) ≡ Got (map written read.items) (left tokens.new)) }
-    ensures refused { IfErr result (λ fail. Refuses fail (run no_call (read_whole most depth) (left tokens.old))) }
+/// A list of values, of at most `most` tokens, and nothing behind it.
+#[tactic(auto, using(isle_reading::proofs::Steps::chain), unfolding(crate::specs::Reading::read_whole))]
+pub fn whole(tokens: &mut Tokens<'_>, alloc: Global, most: usize) -> Result<Vec<Written>, Fail>
+    ensures { Reads (λ values. map written values.items) result (read_whole most) (left tokens.old) (left tokens.new) }
 {
-    let values = list(tokens, alloc, most, depth)?;
+    let values = list(tokens, alloc, most, most_inside())?;
     if tokens.len() == 0 {
         return Ok(values);
     }

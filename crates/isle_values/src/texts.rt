@@ -1,8 +1,7 @@
 ghost use Rattle.std.specs.Prelude.{◌≡◌, ◌≤◌, Ok, None, IfOk, IfErr, IfSome};
-ghost use Rattle.isle_syntax.specs.Depth.{depth, most_open};
-ghost use Rattle.isle_lexer.specs.Lexeme.{lexemes};
-ghost use Rattle.isle_lexer.specs.Lexer.{lexer_text, IsUntaken};
-ghost use Rattle.isle_syntax.specs.ReadingViews.{Refuses};
+ghost use Rattle.isle_lexer.specs.TokenViews.{tokens_seen};
+ghost use Rattle.isle_reading.specs.Nesting.{depth, most_open};
+ghost use Rattle.isle_reading.specs.Views.{Refuses};
 ghost use Rattle.isle_values.specs.Reading.{values_of};
 ghost use Rattle.isle_values.specs.Spelling.{ListS, SpellsValues};
 ghost use Rattle.isle_values.specs.Views.{seen};
@@ -11,18 +10,17 @@ ghost use Rattle.isle_values.specs.Written.{Writtens};
 use crate::reading::whole;
 use crate::written::Written;
 use isle_core::{List, OutOfMemory};
-use isle_syntax::{Fail, Lexer, Tokens, most_inside};
+use isle_lexer::{LexFail, Token, tokens};
+use isle_reading::{Fail, Tokens};
 use std::alloc::Global;
 
-/// The list that the lexer's tokens spell.
-fn listed(alloc: Global, lexer: Lexer<'_>) -> Result<Vec<Written>, Fail>
-    requires { IsUntaken lexer }
-    ensures got { IfOk result (λ read. ListS (seen read.items) (lexemes (lexer_text lexer.entry)) × (depth (lexemes (lexer_text lexer.entry)) ≤ most_open)) }
-    ensures refused { IfErr result (λ fail. Refuses fail (values_of (lexemes (lexer_text lexer.entry)))) }
+/// The list that tokens spell.
+fn listed(alloc: Global, tokens: &[Token<'_>]) -> Result<Vec<Written>, Fail>
+    ensures got { IfOk result (λ read. ListS (seen read.items) (tokens_seen tokens.now) × (depth (tokens_seen tokens.now) ≤ most_open)) }
+    ensures refused { IfErr result (λ fail. Refuses fail (values_of (tokens_seen tokens.now))) }
 {
-    let tokens = lexer.tokens(alloc)?;
-    let mut cursor = Tokens::new(tokens.as_slice());
-    whole(&mut cursor, alloc, tokens.len(), most_inside())
+    let mut cursor = Tokens::new(tokens);
+    whole(&mut cursor, alloc, tokens.len())
 }
 
 /// The list of values that a text spells, `( V* )` and nothing behind it. A V is `true`, `false`, an integer, or `( N V* )`
@@ -32,12 +30,13 @@ pub fn values(alloc: Global, text: &str) -> Result<Option<List<Written>>, OutOfM
     ensures only { IfOk result (λ read. IfSome read (λ vs. (others : Writtens) → SpellsValues text.now others → others ≡ seen vs)) }
     ensures none { result ≡ Ok None → (others : Writtens) → SpellsValues text.now others → ⊥ }
 {
-    match Lexer::new(0, text) {
-        Ok(lexer) => match listed(alloc, lexer) {
+    match tokens(alloc, text) {
+        Ok(tokens) => match listed(alloc, tokens.as_slice()) {
             Ok(read) => Ok(Some(List::new(read))),
             Err(Fail::At(_)) => Ok(None),
             Err(Fail::Memory) => Err(OutOfMemory),
         },
-        Err(_) => Ok(None),
+        Err(LexFail::Unclosed(_)) => Ok(None),
+        Err(LexFail::Memory) => Err(OutOfMemory),
     }
 }

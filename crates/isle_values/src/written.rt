@@ -1,5 +1,5 @@
 use isle_core::{List, Text};
-use isle_syntax::Signed;
+use isle_lexer::Signed;
 
 /// A value as it is written. Nothing is said of its type.
 #[derive(Debug, Drop)]

@@ -1,38 +1,34 @@
-use Rattle.std.proofs.Common.{◌≡◌, ◌∙◌, ◌-◌, ◌+◌, map, rules, sym, ap, Some, None}
-use Rattle.isle_syntax.specs.Reader.{run, many}
-use Rattle.isle_syntax.specs.Reading.{no_call}
-use Rattle.isle_values.specs.Reading.{read_value}
-use Rattle.isle_syntax.specs.ReadingViews.{left, closes}
-use Rattle.isle_values.specs.Views.{written}
-use Rattle.isle_values.proofs.ValueSteps.{value_none}
-use Rattle.isle_syntax.proofs.ListSteps.{list-more, list-pushed, list-end, list-refuses, list-full, passed}
+use Rattle.std.proofs.Common.{◌∙◌, rules, subst, sym}
+use Rattle.isle_reading.specs.Views.{left, Refuses}
+use Rattle.isle_reading.proofs.Steps.{passed, then_got, done_got, then_refuses, bind_refuses}
+use Rattle.isle_reading.proofs.ListSteps.{list-more, list-end, list-refuses}
+use Rattle.isle_values.proofs.Sees.{sees}
+use Rattle.isle_values.proofs.ValueSteps.{value_none, value_made}
 use Rattle.isle_values.proofs.reading.+values.Goals as goal
 
-pub parts-returns-in-Some-clause-got : goal.parts-returns-in-Some-clause-got
-parts-returns-in-Some-clause-got t c =
-    let e : Some c.in-Some.field-0 ≡ closes (left c.loop.tokens) = search rules in
-    let r = read_value c.args.most c.args.depth in
-    list-end r c.args.most c.loop.counter c.in-Some.field-0 (left c.loop.tokens) (left c.skip.new.self) (map written c.loop.values.items) (run no_call (many c.args.most r) (left c.args.tokens.now)) c.loop-test.true e c.skip.ensures c.loop.invariant
+pub parts-returns-in-Some : goal.parts-returns-in-Some
+parts-returns-in-Some t c = list-end _ _ _ c.in-Some.field-0 _ _ _ _ c.loop-test.true (search rules) c.skip.ensures c.loop.invariant
 
-pub parts-returns-in_err-value-in-None-clause-refused : goal.parts-returns-in_err-value-in-None-clause-refused
-parts-returns-in_err-value-in-None-clause-refused t c =
-    let e : None ≡ closes (left c.loop.tokens) = search rules in
-    let r = read_value c.args.most c.args.depth in
-    let fail = c.in_err-value-in-None.field-0.0 in
-    let whole = run no_call (many c.args.most r) (left c.args.tokens.now) in
-    passed c.from_residual.result fail whole c.from_residual.ensures.1
-    (list-refuses r fail c.args.most c.loop.counter (left c.loop.tokens) (map written c.loop.values.items) whole c.loop-test.true (value_none c.args.most c.args.depth) e c.in_err-value-in-None.ensures.refused c.loop.invariant)
+pub parts-returns-in_err-value-in-None : goal.parts-returns-in_err-value-in-None
+parts-returns-in_err-value-in-None t c =
+    passed _ _ _ _ _ c.from_residual.ensures.1 (list-refuses _ _ _ _ _ _ _ c.loop-test.true (value_none _ _) (search rules) c.in_err-value-in-None.ensures c.loop.invariant)
 
 pub parts-loop-preserved : goal.parts-loop-preserved
-parts-loop-preserved t c =
-    let e : None ≡ closes (left c.loop.tokens) = search rules in
-    let r = read_value c.args.most c.args.depth in
-    let now = list-more r c.args.most c.loop.counter (left c.loop.tokens) (left c.value.new.tokens) (map written c.loop.values.items) (written c.in_ok-value-in-None.field-0) (run no_call (many c.args.most r) (left c.args.tokens.now))
-    c.loop-test.true (value_none c.args.most c.args.depth) e c.in_ok-value-in-None.ensures.got c.loop.invariant in
-    list-pushed written c.loop.values.items c.push.new.self.items c.in_ok-value-in-None.field-0 (run no_call (many (c.args.most - (c.loop.counter + 1)) r) (left c.value.new.tokens))
-    (run no_call (many c.args.most r) (left c.args.tokens.now)) c.in_ok-push-in-None.ensures.items now
+parts-loop-preserved t c = list-more _ _ _ _ _ _ _ _ _ _ c.loop-test.true (value_none _ _) (search rules) c.in_ok-value-in-None.ensures c.in_ok-push-in-None.ensures.items c.loop.invariant
 
-pub parts-returns-clause-refused : goal.parts-returns-clause-refused
-parts-returns-clause-refused t c =
-    let r = read_value c.args.most c.args.depth in
-    list-full r c.args.most c.loop.counter (left c.loop.tokens) (map written c.loop.values.items) (run no_call (many c.args.most r) (left c.args.tokens.now)) c.loop-test.false c.loop.invariant ∙ ap Some (sym c.len.ensures)
+pub value-returns-in_err-name-in-Some : goal.value-returns-in_err-name-in-Some
+value-returns-in_err-name-in-Some t c =
+    let begun = value_made c.args.most c.args.depth c.in-Some.field-0 (left c.args.tokens.now) (search rules) (search rules) in
+    passed _ _ _ _ _ c.from_residual-in_err-name-in-Some.ensures.1
+    (subst (Refuses c.in_err-name-in-Some.field-0.0) (sym begun) (then_refuses _ _ _ _ _ _ c.in_ok-open-in-Some.ensures (bind_refuses _ _ _ _ c.in_err-name-in-Some.ensures)))
+
+pub value-returns-in_err-inner-in-Some : goal.value-returns-in_err-inner-in-Some
+value-returns-in_err-inner-in-Some t c =
+    let begun = value_made c.args.most c.args.depth c.in-Some.field-0 (left c.args.tokens.now) (search rules) (search rules) in
+    passed _ _ _ _ _ c.from_residual-in_err-inner-in-Some.ensures.1
+    (subst (Refuses c.in_err-inner-in-Some.field-0.0) (sym begun) (then_refuses _ _ _ _ _ _ c.in_ok-open-in-Some.ensures (then_refuses _ _ _ _ _ _ c.in_ok-name-in-Some.ensures (bind_refuses _ _ _ _ c.in_err-inner-in-Some.ensures))))
+
+pub value-returns-in_ok-inner-in-Some : goal.value-returns-in_ok-inner-in-Some
+value-returns-in_ok-inner-in-Some t c =
+    value_made c.args.most c.args.depth c.in-Some.field-0 (left c.args.tokens.now) (search rules) (search rules)
+    ∙ then_got _ _ _ _ _ _ c.in_ok-open-in-Some.ensures (then_got _ _ _ _ _ _ c.in_ok-name-in-Some.ensures (then_got _ _ _ _ _ _ c.in_ok-inner-in-Some.ensures (search (rules, done_got, sees))))

@@ -1,17 +1,12 @@
-use Rattle.std.proofs.Common.{◌≡◌, length, rules, map}
-use Rattle.std.specs.Prelude.{List}
+use Rattle.std.proofs.Common.{◌≡◌, rules, map, length}
 use Rattle.std.proofs.lemmas.List.{length-map}
-use Rattle.std.proofs.lemmas.Result.{IfOk-weaker}
-use Rattle.isle_lexer.specs.Lexer.{lexer_text}
-use Rattle.isle_lexer.specs.Lexeme.{Lexeme, lexemes}
-use Rattle.isle_syntax.specs.ReadingViews.{left}
+use Rattle.isle_lexer.specs.TokenViews.{tokens_seen}
+use Rattle.isle_reading.specs.Views.{left}
 use Rattle.isle_values.specs.Views.{written}
-use Rattle.isle_values.proofs.Lists.{values_got}
+use Rattle.isle_values.proofs.Lists.{comes_ok, values_got}
 use Rattle.isle_values.proofs.texts.listed.Goals as goal
 
 pub returns-clause-got : goal.returns-clause-got
 returns-clause-got c =
-    let ts : List Lexeme = lexemes (lexer_text c.args.lexer) in
-    let all : left c.new-cursor.result ≡ ts = search rules in
-    let most : c.len.result ≡ length ts = search (rules, length-map) in
-    IfOk-weaker c.whole.result _ _ (λ read p. values_got c.len.result c.most_inside.result (left c.new-cursor.result) ts (left c.whole.new.tokens) (map written read.items) most c.most_inside.ensures all p) c.whole.ensures.got
+    let most : length c.args.tokens.now ≡ length (tokens_seen c.args.tokens.now) = search (rules, length-map) in
+    comes_ok _ c.whole.result _ _ _ c.whole.ensures (λ read p. values_got (length c.args.tokens.now) (left c.new-cursor.result) (tokens_seen c.args.tokens.now) (left c.whole.new.tokens) (map written read.items) most c.new-cursor.ensures p)
