@@ -5,7 +5,7 @@ use Rattle.isle_lexer.specs.Lexeme.{Lexeme}
 use Rattle.isle_reading.specs.Reader.{Reading, Got, Stuck, Deep, Reader, run}
 use Rattle.isle_reading.specs.Nesting.{Nest, nest, nothing_open, depth, most_open}
 use Rattle.isle_reading.specs.Relations.{Begun, Ended}
-use Rattle.isle_reading.specs.Places.{Accepted, Starts, GoesWrong, wrong, too_deep, missing, IsFault}
+use Rattle.isle_reading.specs.Places.{Accepted, Starts, GoesWrong, wrong, too_deep, missing, IsFault, place_left, IsFaultAt}
 use Rattle.isle_reading.specs.Views.{stops}
 use Rattle.isle_reading.proofs.Running.{stuck_not_got, stuck_not_deep, got_is, same_front, stuck_here}
 use Rattle.isle_reading.proofs.Passes.{Over, Nests, passed_front, front_shallow, last_shallow, shallow_not_over}
@@ -162,3 +162,7 @@ fault_map accepted taken ts m to from f = record {
     by (wrong t behind e w) = wrong t behind e (λ s. w (s.0, from ((f.front ++ t ∷ []) ++ s.0) s.1))
     by (too_deep t behind e l) = too_deep t behind e l
     by (missing e w) = missing e (λ s. w (from f.front s))
+
+-- the same of places in a text
+pub fault_at_once : (accepted : List Lexeme → Type 0) (ts : List Lexeme) (end m n : ℕ) → IsFaultAt accepted ts end m → IsFaultAt accepted ts end n → m ≡ n
+fault_at_once accepted ts end m n f g = f.stands ∙ ap (λ k. place_left ts k end) (fault_once accepted ts f.left g.left f.fault g.fault) ∙ sym g.stands

@@ -14,3 +14,4 @@ pub mod TrialGrammar
 pub mod TrialLaws
 pub mod TrialForms
 pub mod TrialTexts
+pub mod TrialNesting
