@@ -1,11 +1,11 @@
 -- The law of two readers over the same tokens, and what hangs on what they got.
-use Rattle.std.proofs.Common.{◌≡◌, ℕ, suc, ◌+◌, ◌≤◌, ◌<◌, List, [], ◌∷◌, ◌++◌, length, length-append, append-nil, append_assoc, ◌⊎◌, inl, inr, refl, ap, sym, ◌∙◌, subst, arith}
+use Rattle.std.proofs.Common.{◌≡◌, ℕ, suc, ◌+◌, ◌≤◌, ◌<◌, List, [], ◌∷◌, ◌++◌, length, length-append, append-nil, append_assoc, inl, inr, refl, ap, sym, ◌∙◌, subst, arith}
 use Rattle.isle_lexer.specs.Lexeme.{Lexeme}
 use Rattle.isle_reading.specs.Reader.{Reading, Got, Stuck, Deep, Reader, after, run, bind}
 use Rattle.isle_reading.specs.Combinators.{Both, OnlyFirst, OnlySecond, BothGot, both}
 use Rattle.isle_reading.specs.Nesting.{Nest}
-use Rattle.isle_reading.specs.Relations.{Whole, Begins, Taken, Begun, Anything}
-use Rattle.isle_reading.proofs.Running.{run-bind, same_front, stuck_not_got, stuck_not_deep, got_not_deep, got_is, deep_is, after_got, after_stuck, after_deep}
+use Rattle.isle_reading.specs.Relations.{Whole, Taken, Begun, Anything}
+use Rattle.isle_reading.proofs.Running.{run-bind, same_front, stuck_not_got, stuck_not_deep, got_not_deep, got_is, after_got, after_stuck, after_deep}
 use Rattle.isle_reading.proofs.Passes.{Nests}
 use Rattle.isle_reading.proofs.Law.{Hits, hit, too_deep, Law, Then, Either, then_whole, then_begun, first_begun, then_ends, then_leads, then_hits}
 use Rattle.isle_reading.proofs.Merging.{Below, Merged, both_got, first_got, second_got, first_stuck, second_stuck, first_deep, second_deep, both_merged}

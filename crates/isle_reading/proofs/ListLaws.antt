@@ -2,10 +2,10 @@
 use Rattle.std.proofs.Common.{◌≡◌, ℕ, zero, suc, ◌+◌, ◌≤◌, ◌<◌, List, [], ◌∷◌, ◌++◌, length, length-append, true, false, inl, inr, refl, ap, sym, ◌∙◌, subst, arith}
 use Rattle.isle_lexer.specs.Lexeme.{Lexeme, Close}
 use Rattle.isle_reading.specs.Reader.{Got, Stuck, Deep, Reader, Ret, End, Halt, run, bind}
-use Rattle.isle_reading.specs.Combinators.{is_close, refuse, read_close, many, all_from}
+use Rattle.isle_reading.specs.Combinators.{is_close, read_close, many, all_from}
 use Rattle.isle_reading.specs.Nesting.{Nest}
 use Rattle.isle_reading.specs.Relations.{Taken, Begins, Begun, Anything, Ended, Many, none, more, AllFrom, no_item, an_item}
-use Rattle.isle_reading.proofs.Running.{stuck_not_got, stuck_not_deep, got_not_deep, got_is, stuck_is, deep_is}
+use Rattle.isle_reading.proofs.Running.{stuck_not_got, stuck_not_deep, got_not_deep, got_is, deep_is}
 use Rattle.isle_reading.proofs.Passes.{Nests, Steps}
 use Rattle.isle_reading.proofs.Passes as passes
 use Rattle.isle_reading.proofs.Law.{Hits, hit, too_deep, Law, Heads, Some_token, Nothing, NothingLeft, Then, Either, law_map, law_less, law_next, law_then, law_less_then}

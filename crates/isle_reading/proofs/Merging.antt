@@ -2,7 +2,7 @@
 use Rattle.std.proofs.Common.{◌≡◌, ℕ, suc, ◌≤◌, ◌<◌, List, [], ◌∷◌, length, Bool, true, false, cond, refl, subst, sym, arith}
 use Rattle.std.specs.Prelude.{◌||◌}
 use Rattle.isle_lexer.specs.Lexeme.{Lexeme}
-use Rattle.isle_reading.specs.Reader.{Reading, Got, Stuck, Deep, Reader, Ret, Ask, Peek, End, Halt, after, run, bind}
+use Rattle.isle_reading.specs.Reader.{Reading, Got, Stuck, Deep, Reader, Ret, Ask, Peek, End, Halt, after, run}
 use Rattle.isle_reading.specs.Combinators.{Both, OnlyFirst, OnlySecond, BothGot, first_alone, second_alone, first_done, go_on, first_asks, both}
 use Rattle.isle_reading.proofs.Running.{run-bind, remains, shrinks}
 

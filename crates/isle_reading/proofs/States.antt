@@ -1,7 +1,7 @@
 -- How tokens lead from state to state.
 use Rattle.std.proofs.Common.{◌≡◌, ℕ, suc, ◌≤◌, ◌<◌, List, [], ◌∷◌, length, Bool, true, false, IsTrue, refl, ap, sym, ◌∙◌, subst, arith, Option, Some}
 use Rattle.std.specs.Prelude.{if◌then◌else◌}
-use Rattle.isle_lexer.specs.Lexeme.{Lexeme, Open, Close, At, Less, Greater, Word}
+use Rattle.isle_lexer.specs.Lexeme.{Lexeme, Open, Close, At, Word}
 use Rattle.isle_reading.specs.Combinators.{is_open, is_at, place}
 use Rattle.isle_reading.specs.Nesting.{Mark, Round, Passed, Sign, Last, Headless, Awaiting, Other, Nest, nothing_open, is_passed, settled, here_by, here, opened, closed, signed, passed_over, worded, nest, most_open}
 use Rattle.isle_reading.proofs.Passes.{Steps}

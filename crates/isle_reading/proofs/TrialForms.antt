@@ -1,17 +1,16 @@
 -- The laws of the trial's expressions, conditions and rule tails.
-use Rattle.std.proofs.Common.{◌≡◌, ℕ, zero, suc, ◌+◌, ◌-◌, ◌≤◌, ◌<◌, List, [], ◌∷◌, ◌++◌, length, Bool, true, false, ◌⊎◌, inl, inr, refl, ap, sym, ◌∙◌, subst, arith, Option, Some, None}
-use Rattle.std.specs.Prelude.{codes, if◌then◌else◌}
+use Rattle.std.proofs.Common.{◌≡◌, ℕ, zero, suc, ◌+◌, ◌≤◌, List, [], ◌∷◌, length, true, false, inl, inr, refl, ap, sym, ◌∙◌, subst, arith, Option, Some, None}
+use Rattle.std.specs.Prelude.{codes}
 use Rattle.isle_lexer.specs.Lexeme.{Lexeme, Open, Close, At, Less, Greater, Word}
-use Rattle.isle_lexer.specs.Word.{kind}
-use Rattle.isle_reading.specs.Reader.{Reader, Ret, Peek, Halt, bind}
-use Rattle.isle_reading.specs.Combinators.{is_open, is_close, refuse, read_open, read_close, read_word, many, Both, OnlyFirst, OnlySecond, BothGot, both}
-use Rattle.isle_reading.specs.Names.{NameS, symbol, name_of, read_name}
+use Rattle.isle_reading.specs.Reader.{Ret, bind}
+use Rattle.isle_reading.specs.Combinators.{is_open, is_close, read_open, read_close, read_word, both}
+use Rattle.isle_reading.specs.Names.{NameS, symbol, name_of}
 use Rattle.isle_reading.specs.Nesting.{Mark, Round, most_open}
 use Rattle.isle_reading.specs.Relations.{Begins, Anything, Many, none, more}
-use Rattle.isle_reading.proofs.Law.{Law, Heads, Some_token, Nothing, Then, Either, law_map, law_then, law_next, law_follow, law_less}
+use Rattle.isle_reading.proofs.Law.{Law, Heads, Nothing, Then, Either, law_map, law_then, law_next, law_less}
 use Rattle.isle_reading.proofs.TokenLaws.{OpenS, CloseS, WordS, Gives, law_ret, law_open, law_close, law_word, law_peek, law_barred, law_walled, law_spent}
 use Rattle.isle_reading.proofs.ListLaws.{law_many, takes}
-use Rattle.isle_reading.proofs.NameLaws.{law_name, a_named, name_heads}
+use Rattle.isle_reading.proofs.NameLaws.{law_name, a_named}
 use Rattle.isle_reading.proofs.States.{Inside, inside_open, inside_close, inside_word, inside_over}
 use Rattle.isle_reading.proofs.BothLaw.{law_both, both_less}
 use Rattle.isle_reading.proofs.TrialGrammar.{Pat, Wild, Exp, Leaf, Let, Call, Exps, NoExp, AnExp, Lets, NoLet, ALet, exps_of, Bound, lets_of, Condition, exp_word, ExpHead, IsLet, IsCall, exp_head, IfHead, IsIfLet, IsIf, if_head, PatS}
@@ -108,7 +107,7 @@ binding_ends = (
   Open 0 ∷ Word 0 (codes "a") ∷ Word 0 (codes "a") ∷ Word 0 (codes "a") ∷ Close 0 ∷ [],
   record { var = codes "a"; ty = codes "a"; value = Leaf (codes "a") },
   λ tail c.
-    (0, _, refl, (codes "a", _, symbol 0 (codes "a") _ a_named, (codes "a", _, symbol 0 (codes "a") _ a_named, (Leaf (codes "a"), _, a_whole (Close 0 ∷ tail), (0, tail, refl, (refl, refl)))))),
+      (0, _, refl, (codes "a", _, symbol 0 (codes "a") _ a_named, (codes "a", _, symbol 0 (codes "a") _ a_named, (Leaf (codes "a"), _, a_whole (Close 0 ∷ tail), (0, tail, refl, (refl, refl)))))),
 )
 
 bindings_end : Begins Anything BindingsS []

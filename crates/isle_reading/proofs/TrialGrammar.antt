@@ -1,5 +1,5 @@
 -- A trial: the patterns, expressions and conditions of rule texts, by which the laws of readers are tried.
-use Rattle.std.proofs.Common.{◌≡◌, ℕ, zero, suc, List, [], ◌∷◌, Bool, true, false, Option, Some, None}
+use Rattle.std.proofs.Common.{◌≡◌, ℕ, zero, suc, List, [], ◌∷◌, Option, Some, None}
 use Rattle.std.specs.Prelude.{if◌then◌else◌, bytes_eq, codes, option_map}
 use Rattle.isle_lexer.specs.Lexeme.{Lexeme, Open, Close, At, Word}
 use Rattle.isle_reading.specs.Reader.{Reader, Ret, Peek, End, Halt, bind}

@@ -1,19 +1,17 @@
 -- The laws of the trial's readers.
-use Rattle.std.proofs.Common.{◌≡◌, ℕ, zero, suc, ◌+◌, ◌≤◌, ◌<◌, List, [], ◌∷◌, length, Bool, true, false, inl, inr, refl, ap, sym, ◌∙◌, subst, arith, Option, Some, None}
-use Rattle.std.specs.Prelude.{codes, if◌then◌else◌}
+use Rattle.std.proofs.Common.{◌≡◌, ℕ, zero, suc, ◌+◌, List, [], ◌∷◌, length, true, false, inl, inr, refl, ap, sym, ◌∙◌, subst, arith, Some}
+use Rattle.std.specs.Prelude.{codes}
 use Rattle.isle_lexer.specs.Lexeme.{Lexeme, Open, Close, At, Word}
 use Rattle.isle_lexer.specs.Word.{kind}
 use Rattle.isle_reading.specs.Reader.{Reader, Ret, Peek, Halt, bind}
-use Rattle.isle_reading.specs.Combinators.{is_open, is_close, is_at, read_open, read_close, read_at, read_word, many}
-use Rattle.isle_reading.specs.Names.{NameS, symbol, name_of, read_name}
+use Rattle.isle_reading.specs.Combinators.{is_open, is_close, is_at, read_open, read_at, read_word, many}
 use Rattle.isle_reading.specs.Nesting.{Mark, Round, Sign, settled, most_open}
-use Rattle.isle_reading.specs.Relations.{Begins, Anything, Many, none, more}
-use Rattle.isle_reading.proofs.Law.{Law, Heads, Nothing, Then, Either, law_map, law_then, law_next, law_follow}
-use Rattle.isle_reading.proofs.TokenLaws.{OpenS, CloseS, AtS, WordS, Gives, law_ret, law_open, law_close, law_at, law_word, law_peek, law_barred, law_walled}
+use Rattle.isle_reading.specs.Relations.{Many, none, more}
+use Rattle.isle_reading.proofs.Law.{Law, Heads, Nothing, Then, Either, law_map, law_then, law_next}
+use Rattle.isle_reading.proofs.TokenLaws.{OpenS, AtS, WordS, Gives, law_ret, law_open, law_at, law_word, law_peek, law_barred}
 use Rattle.isle_reading.proofs.ListLaws.{law_many}
-use Rattle.isle_reading.proofs.NameLaws.{law_name, a_named, name_some}
 use Rattle.isle_reading.proofs.States.{Inside, Behind, InList, inside_open, inside_close, inside_word, inside_over, behind_word, behind_inside, behind_at, behind_over}
-use Rattle.isle_reading.proofs.TrialGrammar.{Pat, Wild, Var, Bind, And, Term, Pats, NoPat, APat, pats_of, PatHead, IsTerm, pat_word, pat_head, made, PatS, leaf, bound, list, PatsS, no_pat, a_pat, suffix, pat}
+use Rattle.isle_reading.proofs.TrialGrammar.{Pat, Wild, Var, Bind, And, Term, Pats, APat, pats_of, IsTerm, pat_word, pat_head, made, PatS, leaf, bound, list, PatsS, no_pat, a_pat, suffix, pat}
 
 -- no `@` may follow
 abbrev pub NoAt : List Lexeme → Type 0

@@ -1,17 +1,17 @@
 -- The trial's texts: spelt once, and with a place where they go wrong.
-use Rattle.std.proofs.Common.{◌≡◌, ℕ, suc, ◌+◌, ◌-◌, ◌≤◌, List, [], ◌∷◌, length, Bool, true, false, ◌⊎◌, inl, inr, refl, ap, sym, ◌∙◌, subst, arith, Option, Some, None}
-use Rattle.std.specs.Prelude.{codes, if◌then◌else◌, bytes_eq}
+use Rattle.std.proofs.Common.{◌≡◌, ℕ, suc, ◌+◌, ◌-◌, ◌≤◌, List, [], ◌∷◌, length, false, refl, ap, sym, ◌∙◌, subst, arith, Some}
+use Rattle.std.specs.Prelude.{codes, bytes_eq}
 use Rattle.std.proofs.lemmas.Slice.Eq.{bytes_eq-Decides}
 use Rattle.isle_lexer.specs.Lexeme.{Lexeme, Open, Close, At, Word}
 use Rattle.isle_lexer.specs.Word.{kind}
 use Rattle.isle_reading.specs.Reader.{Reading, Got, Stuck, run, bind}
 use Rattle.isle_reading.specs.Combinators.{read_open, read_close, read_at, read_word, many, OnlyFirst, OnlySecond, both}
 use Rattle.isle_reading.specs.Names.{read_name}
-use Rattle.isle_reading.specs.Nesting.{Round, is_passed, depth, most_open}
+use Rattle.isle_reading.specs.Nesting.{is_passed, depth, most_open}
 use Rattle.isle_reading.specs.Relations.{Ended}
 use Rattle.isle_reading.specs.Places.{Accepted, IsFault}
 use Rattle.isle_reading.specs.Views.{stops}
-use Rattle.isle_reading.proofs.Law.{Law, NothingLeft, Then, law_map, law_next, law_then}
+use Rattle.isle_reading.proofs.Law.{Law, NothingLeft, Then, law_map, law_next}
 use Rattle.isle_reading.proofs.TokenLaws.{OpenS, WordS, law_open, law_word, law_at_end}
 use Rattle.isle_reading.proofs.NameLaws.{if_some}
 use Rattle.isle_reading.proofs.States.{Inside, inside_start, top_open, head_word}
