@@ -10,6 +10,7 @@ pub mod Steps
 pub mod ListSteps
 pub mod Merging
 pub mod BothLaw
+pub mod BothSteps
 pub mod TrialGrammar
 pub mod TrialLaws
 pub mod TrialForms

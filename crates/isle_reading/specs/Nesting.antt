@@ -41,6 +41,7 @@ settled (Round ∷ ms) = Round ∷ ms
 settled (Passed ∷ ms) = Passed ∷ ms
 settled (Sign ∷ ms) = settled ms
 
+-- the marks where a token stands that is no `@`, by what the last token was
 abbrev pub here_by : Last → List Mark → List Mark
 here_by Headless ms = ms
 here_by Awaiting ms = ms

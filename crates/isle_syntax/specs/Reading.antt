@@ -39,14 +39,15 @@ read_leaf = read_word (λ w. expr_of w (kind w))
 abbrev pub callee_of : List ℕ → Option (List ℕ)
 callee_of w = if is_let w then None else name_of w
 
+-- the name that a call begins with
 unfoldable pub read_callee : Reader (List ℕ)
 read_callee = read_word callee_of
 
--- ( N E* ), of fewer than n arguments, each of which is read so
+-- ( N E* ), of at most n tokens behind N, where each argument is read so
 unfoldable pub read_call : ℕ → Reader Expr → Reader Expr
 read_call n r = bind read_open (λ o. bind read_callee (λ w. bind (many n r) (λ args. Ret (tree.Call w (exprs_of args)))))
 
--- an expression whose parentheses nest at most d deep, its lists of fewer than n parts
+-- an expression whose parentheses nest at most d deep, its lists of at most n tokens
 unfoldable pub read_expr : ℕ → ℕ → Reader Expr
 read_expr n zero = Peek is_open Halt read_leaf
 read_expr n (suc d) = Peek is_open (read_call n (read_expr n d)) read_leaf
@@ -77,6 +78,7 @@ read_prio = read_optional (λ w. prio_of (kind w)) (pos 0)
 abbrev pub decl_name_of : List ℕ → Option (List ℕ)
 decl_name_of w = if is_flag w then None else name_of w
 
+-- the name that a `decl` declares
 unfoldable pub read_decl_name : Reader (List ℕ)
 read_decl_name = read_word decl_name_of
 
@@ -101,6 +103,7 @@ read_decl n file at = bind read_partial (read_declared n file at)
 abbrev pub constructor_of : List ℕ → Option (List ℕ)
 constructor_of w = if bytes_eq w (codes "constructor") then Some w else None
 
+-- the second word of an `extern`
 unfoldable pub read_constructor : Reader (List ℕ)
 read_constructor = read_word constructor_of
 
@@ -128,6 +131,7 @@ pub data Head : Type 0 where
   RuleHead : Head
   ExternHead : Head
 
+-- what a definition is that begins with the word
 abbrev pub head_of : List ℕ → Option Head
 head_of w =
     if bytes_eq w (codes "decl") then Some DeclHead
@@ -135,6 +139,7 @@ head_of w =
     else (if bytes_eq w (codes "extern") then Some ExternHead
     else None))
 
+-- what a definition is
 unfoldable pub read_head : Reader Head
 read_head = read_word head_of
 
@@ -144,7 +149,7 @@ read_behind n file at DeclHead = read_decl n file at
 read_behind n file at RuleHead = read_rule n file at
 read_behind n file at ExternHead = read_extern file at
 
--- a definition of the file of that number, its lists of fewer than n parts
+-- a definition of the file of that number, its lists of at most n tokens
 unfoldable pub read_def : ℕ → ℕ → Reader Def
 read_def n file = bind read_open (λ at. bind read_head (λ head. read_behind n file at head))
 

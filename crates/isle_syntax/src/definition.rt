@@ -251,7 +251,7 @@ fn behind(
     }
 }
 
-/// A definition of the file of that number, its lists of fewer than `most` parts.
+/// A definition of the file of that number, its lists of at most `most` tokens.
 #[tactic(auto, using(isle_reading::proofs::Steps::chain), unfolding(crate::specs::Reading::read_def))]
 pub fn definition(
     tokens: &mut Tokens<'_>,
