@@ -1,11 +1,13 @@
 -- What comes of reading by what opens next, part by part.
-use Rattle.std.proofs.Common.{◌≡◌, ℕ, zero, suc, ◌-◌, ◌<◌, List, [], ◌∷◌, length, refl, ap, ◌∙◌, arith, Some, None}
+use Rattle.std.proofs.Common.{◌≡◌, ℕ, zero, suc, ◌-◌, ◌<◌, List, [], ◌∷◌, length, refl, ap, ◌∙◌, arith, Some, None, sym, subst}
 use Rattle.isle_lexer.specs.Lexeme.{Lexeme, Open, Close, At, Less, Greater, Word}
 use Rattle.isle_reading.specs.Combinators.{read_word}
-use Rattle.isle_reading.specs.Reader.{Stuck, Halt, run, bind}
-use Rattle.isle_reading.specs.Views.{opens, closes, stops}
-use Rattle.isle_reading.proofs.Steps.{passed, open_peek, other_peek, barred_stops}
+use Rattle.isle_reading.specs.Reader.{Got, Stuck, Halt, run, bind}
+use Rattle.isle_reading.specs.Views.{opens, closes, stops, Refuses}
+use Rattle.isle_reading.proofs.Steps.{passed, bind_refuses, then_got, done_got, open_peek, other_peek, barred_stops}
 use Rattle.isle_values.specs.Reading.{read_simple}
+use Rattle.isle_reading.specs.declared.cursor.Fail.{Fail}
+use Rattle.isle_answers.specs.Form.{ResultForm, Plain}
 use Rattle.isle_answers.specs.Reading.{read_simple_result, read_result_list, read_result, read_simple_answer, read_answer_list, read_answer}
 
 -- ---- a result
@@ -41,10 +43,18 @@ answer_word_none : run read_simple_answer [] ≡ Stuck []
 unfolding read_simple_answer read_simple_result read_simple run bind read_word
 answer_word_none = refl
 
-pub answer_simple : (n d : ℕ) (ts : List Lexeme) → None ≡ opens ts → run (read_answer n d) ts ≡ run read_simple_answer ts
+answer_simple : (n d : ℕ) (ts : List Lexeme) → None ≡ opens ts → run (read_answer n d) ts ≡ run read_simple_answer ts
 unfolding read_answer
 answer_simple n zero ts e = other_peek Halt read_simple_answer ts answer_word_none e
 answer_simple n (suc d) ts e = other_peek (read_answer_list n d) read_simple_answer ts answer_word_none e
+
+pub answer_simple_got : (n d : ℕ) (ts us : List Lexeme) (r : ResultForm) → None ≡ opens ts → run read_simple_result ts ≡ Got r us → run (read_answer n d) ts ≡ Got (Plain r) us
+unfolding read_simple_answer
+answer_simple_got n d ts us r e f = answer_simple n d ts e ∙ then_got _ _ _ _ _ _ f (done_got _ _)
+
+pub answer_simple_refuses : (n d : ℕ) (ts : List Lexeme) (fail : Fail) → None ≡ opens ts → Refuses fail (run read_simple_result ts) → Refuses fail (run (read_answer n d) ts)
+unfolding read_simple_answer
+answer_simple_refuses n d ts fail e h = subst (Refuses fail) (sym (answer_simple n d ts e)) (bind_refuses _ _ _ _ h)
 
 pub answer_deep : (n d at : ℕ) (ts : List Lexeme) → Some at ≡ opens ts → d ≡ 0 → stops (run (read_answer n d) ts) ≡ Some (length ts)
 unfolding read_answer
@@ -74,4 +84,4 @@ answer_closed n d at (Less m ∷ ts) e = cc
 answer_closed n d at (Greater m ∷ ts) e = cc
 answer_closed n d at (Word m w ∷ ts) e = cc
 
-pub ruleset answer_choice = (passed, answer_simple, answer_deep, answer_opened)
+pub ruleset answer_choice = (passed, answer_simple_got, answer_simple_refuses, answer_deep, answer_opened)

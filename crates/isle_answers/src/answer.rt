@@ -1,7 +1,7 @@
 ghost use Rattle.std.specs.Prelude.{◌≡◌, IfOk, option_map};
 ghost use Rattle.isle_reading.specs.Combinators.{next_word};
 ghost use Rattle.isle_reading.specs.Views.{left, Reads};
-ghost use Rattle.isle_answers.specs.Reading.{answer_head_of, read_answer_head, read_answer_behind, read_answer_list, read_simple_answer, read_answer};
+ghost use Rattle.isle_answers.specs.Reading.{answer_head_of, read_answer_head, read_answer_behind, read_answer_list, read_answer};
 ghost use Rattle.isle_answers.specs.Views.{answer_seen};
 ghost use Rattle.isle_answers.specs.HeadViews.{answer_head_seen};
 
@@ -106,14 +106,6 @@ fn answer_list(
     answer_behind(tokens, alloc, most, depth, head)
 }
 
-/// An answer of one word.
-#[tactic(auto, using(isle_reading::proofs::Steps::chain), unfolding(crate::specs::Reading::read_simple_answer))]
-fn simple_answer(tokens: &mut Tokens<'_>) -> Result<AnswerForm, Fail>
-    ensures { Reads answer_seen result read_simple_answer (left tokens.old) (left tokens.new) }
-{
-    Ok(AnswerForm::Plain(simple_result(tokens)?))
-}
-
 /// An answer whose parentheses nest at most `depth` deep, its lists of at most `most` tokens.
 #[tactic(auto, using(crate::proofs::Choices::answer_choice))]
 pub fn answer(
@@ -125,7 +117,7 @@ pub fn answer(
     ensures { Reads answer_seen result (read_answer most depth) (left tokens.old) (left tokens.new) }
 {
     match tokens.opens() {
-        None => simple_answer(tokens),
+        None => Ok(AnswerForm::Plain(simple_result(tokens)?)),
         Some(_) => {
             if depth == 0 {
                 return Err(Fail::At(tokens.len()));

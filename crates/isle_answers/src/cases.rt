@@ -19,23 +19,16 @@ enum PartHead {
     Rest,
 }
 
-/// What a list is that begins with the word.
-fn part_head_of(word: &str) -> Option<PartHead>
-    ensures { option_map part_head_seen result ≡ part_head_of word.now }
-{
-    match word {
-        "case" => Some(PartHead::Case),
-        "rest" => Some(PartHead::Rest),
-        _ => None,
-    }
-}
-
 /// What the list is, by the word that is next.
 #[tactic(auto, using(isle_reading::proofs::Steps::next))]
 fn next_head(tokens: &Tokens<'_>) -> Option<PartHead>
     ensures { option_map part_head_seen result ≡ next_word part_head_of (left tokens.now) }
 {
-    part_head_of(tokens.word()?)
+    match tokens.word()? {
+        "case" => Some(PartHead::Case),
+        "rest" => Some(PartHead::Rest),
+        _ => None,
+    }
 }
 
 /// What the list is, by its first word.

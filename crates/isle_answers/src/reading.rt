@@ -26,11 +26,12 @@ enum FormHead {
     Turns,
 }
 
-/// What a form is by its first word, where `held` and `max` may still stand or may not.
-fn head_of(word: &str, held: bool, max: bool) -> Option<FormHead>
-    ensures { option_map form_head_seen result ≡ form_head_of held max word.now }
+/// What the form is that is next, where `held` and `max` may still stand or may not.
+#[tactic(auto, using(isle_reading::proofs::Steps::next))]
+fn next_head(tokens: &Tokens<'_>, held: bool, max: bool) -> Option<FormHead>
+    ensures { option_map form_head_seen result ≡ next_word (form_head_of held max) (left tokens.now) }
 {
-    match word {
+    match tokens.word()? {
         "held" if held => Some(FormHead::Held),
         "max" if max => Some(FormHead::Max),
         "const" => Some(FormHead::Const),
@@ -38,14 +39,6 @@ fn head_of(word: &str, held: bool, max: bool) -> Option<FormHead>
         "turns" => Some(FormHead::Turns),
         _ => None,
     }
-}
-
-/// What the form is that is next.
-#[tactic(auto, using(isle_reading::proofs::Steps::next))]
-fn next_head(tokens: &Tokens<'_>, held: bool, max: bool) -> Option<FormHead>
-    ensures { option_map form_head_seen result ≡ next_word (form_head_of held max) (left tokens.now) }
-{
-    head_of(tokens.word()?, held, max)
 }
 
 /// What a form is.
