@@ -20,10 +20,14 @@ pub enum AnswerHead {
     Result(ResultHead),
 }
 
-/// What an answer's list is that begins with the word.
-fn answer_head_of(alloc: Global, word: &str) -> Result<Option<AnswerHead>, AllocError>
-    ensures { IfOk result (λ read. option_map answer_head_seen read ≡ answer_head_of word.now) }
+/// What an answer's list is, by the word that is next.
+#[tactic(auto, using(isle_reading::proofs::Steps::next))]
+fn next_head(tokens: &Tokens<'_>, alloc: Global) -> Result<Option<AnswerHead>, AllocError>
+    ensures { IfOk result (λ next. option_map answer_head_seen next ≡ next_word answer_head_of (left tokens.now)) }
 {
+    let Some(word) = tokens.word() else {
+        return Ok(None);
+    };
     match word {
         "some" => Ok(Some(AnswerHead::Some)),
         "none" => Ok(Some(AnswerHead::Nothing)),
@@ -32,17 +36,6 @@ fn answer_head_of(alloc: Global, word: &str) -> Result<Option<AnswerHead>, Alloc
             Some(head) => Ok(Some(AnswerHead::Result(head))),
             None => Ok(None),
         },
-    }
-}
-
-/// What an answer's list is, by the word that is next.
-#[tactic(auto, using(isle_reading::proofs::Steps::next))]
-fn next_head(tokens: &Tokens<'_>, alloc: Global) -> Result<Option<AnswerHead>, AllocError>
-    ensures { IfOk result (λ next. option_map answer_head_seen next ≡ next_word answer_head_of (left tokens.now)) }
-{
-    match tokens.word() {
-        Some(word) => answer_head_of(alloc, word),
-        None => Ok(None),
     }
 }
 
