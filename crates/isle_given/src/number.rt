@@ -8,7 +8,7 @@ ghost use Rattle.isle_lexer.specs.SignedViews.{signed};
 ghost use Rattle.isle_given.specs.Given.{count_up, is_of};
 
 use isle_core::IntType;
-use isle_syntax::Signed;
+use isle_lexer::Signed;
 
 // The highest number of a type.
 fn highest(ty: IntType) -> u128

@@ -10,7 +10,7 @@ ghost use Rattle.isle_given.specs.Given.{misfit, number_at, value_of_def, value_
 
 use crate::number::{bits, is_of};
 use isle_core::{BuiltinType, IntType, Text, TypeDef, TypeEnv, TypeId, Value};
-use isle_syntax::Signed;
+use isle_lexer::Signed;
 use isle_values::Written;
 use std::alloc::Global;
 
