@@ -2,9 +2,9 @@
 use Rattle.std.proofs.Common.{◌≡◌, ℕ, ◌+◌, ◌<◌, List, [], ◌∷◌, ◌++◌, length, take, map, get_or, refl, sym, ap, ◌∙◌, append_assoc, subst, true}
 use Rattle.std.proofs.lemmas.List.{take_more, map-append}
 use Rattle.std.proofs.lemmas.Bool.{and_parts, and_from, ne_eqb}
-use Rattle.isle_ink.specs.Comment.{comment_lines, is_line, are_lines}
-use Rattle.isle_ink.specs.Token.{tokens_of}
-use Rattle.isle_ink.proofs.Comments.{comment_lines-append, are_lines-append, tokens-comment_lines}
+use Rattle.isle_printer.specs.Comment.{comment_lines, is_line, are_lines}
+use Rattle.isle_printer.specs.Token.{tokens_of}
+use Rattle.isle_printer.proofs.Comments.{comment_lines-append, are_lines-append, tokens-comment_lines}
 use Rattle.isle_target.specs.Program.{Program}
 use Rattle.isle_target.specs.Reading.{program_of, read_program, SpellsOnly}
 use Rattle.isle_codegen.specs.Names.{is_name_byte, is_file_name, are_file_names}

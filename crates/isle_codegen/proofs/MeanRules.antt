@@ -27,8 +27,8 @@ use Rattle.isle_core.proofs.OutcomeOf.{outcome_of_one}
 use Rattle.isle_core.proofs.OutcomeOnce.{prescribed_once}
 use Rattle.isle_core.proofs.ImpureCalls.{AreImpure, outcome_impure, all_kept}
 use Rattle.isle_core.proofs.SetMeans.{set_means}
-use Rattle.isle_ink.specs.Bytes.{same_bytes}
-use Rattle.isle_ink.proofs.Bytes.{same_bytes_refl, same_bytes_sound}
+use Rattle.isle_printer.specs.Bytes.{same_bytes}
+use Rattle.isle_printer.proofs.Bytes.{same_bytes_refl, same_bytes_sound}
 use Rattle.isle_syntax.specs.Tree.{Def}
 use Rattle.isle_sema.specs.Typing.{Typed}
 use Rattle.isle_sema.proofs.TypedRules.{typed_built, typed_bound, typed_impure, typed_args}

@@ -1,6 +1,6 @@
 -- The comment that an emitted text begins with.
 use Rattle.std.specs.Prelude.{◌≡◌, ℕ, List, [], ◌∷◌, ◌++◌, map, codes}
-use Rattle.isle_ink.specs.Comment.{comment_lines}
+use Rattle.isle_printer.specs.Comment.{comment_lines}
 
 -- the line of a file
 abbrev pub file_line : List ℕ → List ℕ

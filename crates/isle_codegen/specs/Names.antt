@@ -1,7 +1,7 @@
 -- Which names may stand in an emitted text.
 use Rattle.std.specs.Prelude.{ℕ, List, Bool, ◌==◌, ◌&&◌, not, nat_le}
 use Rattle.std.specs.List.{list_all}
-use Rattle.isle_ink.specs.Token.{is_word_byte}
+use Rattle.isle_printer.specs.Token.{is_word_byte}
 use Rattle.isle_core.specs.declared.TermId.{TermId}
 use Rattle.isle_core.specs.Rule.{Environment}
 use Rattle.isle_core.specs.Terms.{with_rules, term_name}

@@ -3,7 +3,7 @@ ghost use Rattle.std.specs.List.{AllByRecursion, list_all};
 ghost use Rattle.isle_target.specs.declared.tree.TraitFn.{TraitFn as TheFn};
 ghost use Rattle.isle_target.specs.Identifier.{IsIdentifier};
 ghost use Rattle.isle_emission.specs.TraitFns.{AreFnNames};
-ghost use Rattle.isle_ink.specs.Token.{is_word_byte};
+ghost use Rattle.isle_printer.specs.Token.{is_word_byte};
 ghost use Rattle.isle_core.specs.RuleViews.{environment};
 ghost use Rattle.isle_core.specs.Terms.{with_rules, term_name};
 ghost use Rattle.isle_codegen.specs.Names.{is_name_byte, is_file_name, are_file_names, is_term_name, are_term_names};

@@ -1,6 +1,6 @@
 ghost use Rattle.std.specs.Prelude.{◌≡◌, true, OnOk, IfOk};
 ghost use Rattle.std.specs.String.{string_bytes};
-ghost use Rattle.isle_ink.specs.Comment.{comment_lines};
+ghost use Rattle.isle_printer.specs.Comment.{comment_lines};
 ghost use Rattle.isle_core.specs.RuleViews.{environment};
 ghost use Rattle.isle_rulesets.specs.Grouping.{AreRuleSets};
 ghost use Rattle.isle_codegen.specs.Emission.{IsGiven, ArePlaced};
@@ -13,7 +13,7 @@ ghost use Rattle.isle_codegen.specs.Headline.{IsText};
 use crate::tree::tree_of;
 use isle_core::{CodegenOptions, Files, OutOfMemory, RuleSet, TermEnv, TermId, Text, TypeEnv};
 use isle_emission::trait_fns;
-use isle_ink::push_comment;
+use isle_printer::push_comment;
 use isle_target::{TraitFn, print_program};
 use std::alloc::Global;
 

@@ -1,7 +1,7 @@
 -- What an emitted function is to its term and its block.
 use Rattle.std.specs.Prelude.{◌≡◌, List, [], ◌∷◌, IsTrue, Some}
 use Rattle.std.specs.List.{AllByRecursion, list_all}
-use Rattle.isle_ink.specs.Token.{is_word_byte}
+use Rattle.isle_printer.specs.Token.{is_word_byte}
 use Rattle.isle_core.specs.declared.types.Term.{Term}
 use Rattle.isle_core.specs.Value.{Value, Ran}
 use Rattle.isle_core.specs.Meaning.{Meaning}

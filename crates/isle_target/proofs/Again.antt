@@ -3,14 +3,14 @@ use Rattle.std.proofs.Common.{◌≡◌, ℕ, zero, suc, ◌+◌, ◌<◌, ◌�
 use Rattle.std.specs.Prelude.{codes}
 use Rattle.std.specs.List.{AllByRecursion, list_all}
 use Rattle.std.proofs.lemmas.Bool.{and_parts}
-use Rattle.isle_ink.specs.Token.{Token, Word, Mark, Quoted, Stray, step, begun, tokens_of}
-use Rattle.isle_ink.proofs.Bytes.{same_bytes_refl, same_bytes_sound}
+use Rattle.isle_printer.specs.Token.{Token, Word, Mark, Quoted, Stray, step, begun, tokens_of}
+use Rattle.isle_printer.proofs.Bytes.{same_bytes_refl, same_bytes_sound}
 use Rattle.isle_target.specs.Fixed.{allow_tokens, uses_tokens, fixed_tokens}
-use Rattle.isle_ink.specs.Number.{numeral}
-use Rattle.isle_ink.specs.Bytes.{same_bytes}
+use Rattle.isle_printer.specs.Number.{numeral}
+use Rattle.isle_printer.specs.Bytes.{same_bytes}
 use Rattle.isle_core.specs.Int.{wrapped}
 use Rattle.isle_target.proofs.Words.{literal_apart, literal_calls_none}
-use Rattle.isle_ink.proofs.Readback.{numeral_again}
+use Rattle.isle_printer.proofs.Readback.{numeral_again}
 use Rattle.isle_core.specs.declared.values.Callee.{Callee}
 use Rattle.isle_core.specs.declared.values.Callee.TheVariants as callee
 use Rattle.isle_core.specs.declared.types.ReturnKind.{ReturnKind}

@@ -4,10 +4,10 @@ use Rattle.std.specs.Prelude.{codes, is_some, ◌||◌, ◌&&◌, eqb}
 use Rattle.std.specs.Str.{bytes_eq}
 use Rattle.isle_core.specs.declared.types.IntType.{IntType}
 use Rattle.isle_core.specs.declared.types.IntType.TheVariants.{U8, U16, U32, U64, U128, USize, I8, I16, I32, I64, I128, ISize}
-use Rattle.isle_ink.specs.Token.{is_word}
-use Rattle.isle_ink.specs.Bytes.{same_bytes}
-use Rattle.isle_ink.proofs.Bytes.{same_bytes_sound}
-use Rattle.isle_ink.proofs.Numerals.{list_all-join}
+use Rattle.isle_printer.specs.Token.{is_word}
+use Rattle.isle_printer.specs.Bytes.{same_bytes}
+use Rattle.isle_printer.proofs.Bytes.{same_bytes_sound}
+use Rattle.isle_printer.proofs.Numerals.{list_all-join}
 use Rattle.isle_target.specs.Identifier.{IsIdentifier}
 use Rattle.isle_target.specs.Literal.{type_named}
 use Rattle.isle_target.specs.Spelling.{constructor_word}

@@ -7,16 +7,16 @@ use Rattle.std.specs.Int.Digits.{digits_of, AllBelowBase}
 use Rattle.std.proofs.lemmas.Int.Digits.{all_below_base_digits_of, first_digits_of}
 use Rattle.std.proofs.lemmas.Bool.Decides.{nat_tests, Decides-int_eq}
 use Rattle.std.proofs.lemmas.Bool.{ne_eqb}
-use Rattle.isle_ink.specs.Bytes.{same_bytes}
+use Rattle.isle_printer.specs.Bytes.{same_bytes}
 use borrow.Author.Differences.{same_in, same_out, sum_is_lem, product_is, neg_is}
 use lib.IntN.{neg_ℤ}
 use Rattle.isle_core.specs.declared.types.IntType.{IntType}
 use Rattle.isle_core.specs.declared.types.IntType.TheVariants.{U8, U16, U32, U64, U128, USize, I8, I16, I32, I64, I128, ISize}
 use Rattle.isle_core.specs.Int.{IsOf, wrapped}
 use Rattle.isle_core.specs.HasType.{IsHeld}
-use Rattle.isle_ink.specs.Token.{Token, Word}
-use Rattle.isle_ink.specs.Number.{numeral, glyph}
-use Rattle.isle_ink.proofs.Readback.{numeral_again}
+use Rattle.isle_printer.specs.Token.{Token, Word}
+use Rattle.isle_printer.specs.Number.{numeral, glyph}
+use Rattle.isle_printer.proofs.Readback.{numeral_again}
 use Rattle.isle_target.specs.declared.tree.Operand.{Operand}
 use Rattle.isle_target.specs.declared.tree.Operand.TheVariants as operand
 use Rattle.isle_target.specs.Literal.{literal_word, literal_tokens, held}

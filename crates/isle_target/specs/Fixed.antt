@@ -1,6 +1,6 @@
 -- The parts of a program's text that are the same for all programs, line by line.
 use Rattle.std.specs.Prelude.{ℕ, List, [], ◌∷◌, ◌++◌, codes}
-use Rattle.isle_ink.specs.Token.{Token, tokens_of}
+use Rattle.isle_printer.specs.Token.{Token, tokens_of}
 
 -- each line, and its end
 abbrev pub text_of : List (List ℕ) → List ℕ

@@ -2,7 +2,7 @@
 use Rattle.std.specs.Prelude.{◌≡◌, ℕ, List, [], ◌∷◌, Bool, false, ◌==◌, ◌&&◌, ◌||◌, nat_le, IsTrue, codes}
 use Rattle.std.specs.List.{list_all, list_any}
 use Rattle.std.specs.Str.{bytes_eq}
-use Rattle.isle_ink.specs.Token.{is_word_byte}
+use Rattle.isle_printer.specs.Token.{is_word_byte}
 
 -- the words that Rust uses
 abbrev pub used_words : List (List ℕ)

@@ -4,9 +4,9 @@ use Rattle.std.specs.Int.{cast_signed}
 use Rattle.isle_core.specs.Int.{is_signed, width, wrapped}
 use Rattle.isle_core.specs.declared.types.IntType.{IntType}
 use Rattle.isle_core.specs.declared.types.IntType.TheVariants.{U8, U16, U32, U64, U128, USize, I8, I16, I32, I64, I128, ISize}
-use Rattle.isle_ink.specs.Token.{Token, Word, Mark}
-use Rattle.isle_ink.specs.Number.{numeral, numeral_of}
-use Rattle.isle_ink.specs.Bytes.{same_bytes}
+use Rattle.isle_printer.specs.Token.{Token, Word, Mark}
+use Rattle.isle_printer.specs.Number.{numeral, numeral_of}
+use Rattle.isle_printer.specs.Bytes.{same_bytes}
 
 -- the type's name in Rust
 abbrev pub type_name : IntType → List ℕ

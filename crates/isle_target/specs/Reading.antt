@@ -6,9 +6,9 @@ use Rattle.isle_core.specs.declared.types.IntType.{IntType}
 use Rattle.isle_core.specs.declared.values.Callee.TheVariants as callee
 use Rattle.isle_core.specs.declared.types.ReturnKind.{ReturnKind}
 use Rattle.isle_core.specs.declared.types.ReturnKind.TheVariants as kind
-use Rattle.isle_ink.specs.Token.{Token, Word, Mark, Quoted, tokens_of}
-use Rattle.isle_ink.specs.Bytes.{same_bytes}
-use Rattle.isle_ink.specs.Number.{numeral_of}
+use Rattle.isle_printer.specs.Token.{Token, Word, Mark, Quoted, tokens_of}
+use Rattle.isle_printer.specs.Bytes.{same_bytes}
+use Rattle.isle_printer.specs.Number.{numeral_of}
 use Rattle.isle_target.specs.declared.tree.Ty.{Ty}
 use Rattle.isle_target.specs.declared.tree.TraitFn.{TraitFn}
 use Rattle.isle_target.specs.declared.tree.Operand.{Operand}

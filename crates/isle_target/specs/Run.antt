@@ -6,7 +6,7 @@ use Rattle.isle_core.specs.Meaning.{Meaning}
 use Rattle.isle_core.specs.Answered.{Held, Absent, One, Optional, answer_held, answer}
 use Rattle.isle_core.specs.Held.{held, value_before}
 use Rattle.isle_core.specs.declared.values.Callee.{Callee}
-use Rattle.isle_ink.specs.Bytes.{same_bytes}
+use Rattle.isle_printer.specs.Bytes.{same_bytes}
 use Rattle.isle_target.specs.declared.tree.Operand.{Operand}
 use Rattle.isle_target.specs.declared.tree.Operand.TheVariants as operand
 use Rattle.isle_target.specs.declared.tree.Read.{Read}

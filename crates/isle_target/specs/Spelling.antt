@@ -5,8 +5,8 @@ use Rattle.isle_core.specs.declared.values.Callee.{Callee}
 use Rattle.isle_core.specs.declared.values.Callee.TheVariants as callee
 use Rattle.isle_core.specs.declared.types.ReturnKind.{ReturnKind}
 use Rattle.isle_core.specs.declared.types.ReturnKind.TheVariants as kind
-use Rattle.isle_ink.specs.Token.{Token, Word, Mark, Quoted}
-use Rattle.isle_ink.specs.Number.{numeral}
+use Rattle.isle_printer.specs.Token.{Token, Word, Mark, Quoted}
+use Rattle.isle_printer.specs.Number.{numeral}
 use Rattle.isle_target.specs.declared.tree.Ty.{Ty}
 use Rattle.isle_target.specs.declared.tree.TraitFn.{TraitFn}
 use Rattle.isle_target.specs.declared.tree.Operand.{Operand}

@@ -7,8 +7,8 @@ use Rattle.isle_core.specs.declared.values.Callee.{Callee}
 use Rattle.isle_core.specs.declared.values.Callee.TheVariants as callee
 use Rattle.isle_core.specs.declared.types.ReturnKind.{ReturnKind}
 use Rattle.isle_core.specs.declared.types.ReturnKind.TheVariants as kind
-use Rattle.isle_ink.specs.Token.{is_word_byte}
-use Rattle.isle_ink.specs.Bytes.{same_bytes}
+use Rattle.isle_printer.specs.Token.{is_word_byte}
+use Rattle.isle_printer.specs.Bytes.{same_bytes}
 use Rattle.isle_target.specs.declared.holds.Holds.{Holds}
 use Rattle.isle_target.specs.declared.holds.Holds.TheVariants as holds
 use Rattle.isle_target.specs.declared.tree.Ty.{Ty}

@@ -8,7 +8,7 @@ ghost use Rattle.isle_target.specs.WellFormed.{IsCall};
 use crate::operand::print_read;
 use crate::tree::{Read, TCall};
 use isle_core::Callee;
-use isle_ink::Printer;
+use isle_printer::Printer;
 use std::alloc::{AllocError, Global};
 
 // Prints `C::F(ctx`.

@@ -9,11 +9,11 @@ ghost use Rattle.isle_target.specs.Spelling.{trait_head, self_param, trait_fn_he
 use crate::function::{print_gives, print_result, print_typed};
 use crate::tree::{TraitFn, Ty};
 use isle_core::{ReturnKind, Text};
-use isle_ink::Printer;
+use isle_printer::Printer;
 use std::alloc::{AllocError, Global};
 
 // Prints `(&mut self,`.
-#[tactic(auto, unfolding(isle_ink::specs::Token::step, isle_ink::specs::Token::begun))]
+#[tactic(auto, unfolding(isle_printer::specs::Token::step, isle_printer::specs::Token::begun))]
 fn print_self(out: &mut Printer) -> Result<(), AllocError>
     ensures { OnOk result (out.new ≡ out.old ++ self_param) }
 {
@@ -97,7 +97,7 @@ fn print_trait_fns(out: &mut Printer, alloc: Global, fns: &[TraitFn]) -> Result<
 }
 
 // Prints what the trait begins with.
-#[tactic(auto, unfolding(isle_ink::specs::Token::step, isle_ink::specs::Token::begun))]
+#[tactic(auto, unfolding(isle_printer::specs::Token::step, isle_printer::specs::Token::begun))]
 fn print_trait_head(out: &mut Printer) -> Result<(), AllocError>
     ensures { OnOk result (out.new ≡ out.old ++ trait_head) }
 {

@@ -3,7 +3,7 @@
 ghost use Rattle.std.specs.Prelude.{◌≡◌, ◌++◌, OnOk};
 ghost use Rattle.isle_target.specs.Fixed.{allow_tokens, uses_tokens, fixed_tokens};
 
-use isle_ink::Printer;
+use isle_printer::Printer;
 use std::alloc::AllocError;
 
 /// The lines that keep rustc from warning.

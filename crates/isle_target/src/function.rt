@@ -2,7 +2,7 @@
 
 ghost use Rattle.std.specs.Prelude.{◌≡◌, ◌++◌, [], ◌∷◌, OnOk, codes};
 ghost use Rattle.std.specs.List.{AllByRecursion};
-ghost use Rattle.isle_ink.specs.Token.{Word, Mark};
+ghost use Rattle.isle_printer.specs.Token.{Word, Mark};
 ghost use Rattle.isle_target.specs.Views.{function, body};
 ghost use Rattle.isle_target.specs.WellFormed.{IsTermName, IsBuiltin, IsTy, IsBody, HasNames};
 ghost use Rattle.isle_target.specs.Spelling.{constructor_word, generics, context_param, function_head, typed_tokens, param_tokens, params_tokens, result_tokens, result_part, function_tokens};
@@ -10,11 +10,11 @@ ghost use Rattle.isle_target.specs.Spelling.{constructor_word, generics, context
 use crate::statement::print_body;
 use crate::tree::{Function, Ty};
 use isle_core::ReturnKind;
-use isle_ink::Printer;
+use isle_printer::Printer;
 use std::alloc::{AllocError, Global};
 
 // Prints `pub fn`.
-#[tactic(auto, unfolding(isle_ink::specs::Token::step, isle_ink::specs::Token::begun))]
+#[tactic(auto, unfolding(isle_printer::specs::Token::step, isle_printer::specs::Token::begun))]
 fn print_pub(out: &mut Printer) -> Result<(), AllocError>
     ensures { OnOk result (out.new ≡ out.old ++ Word (codes "pub") ∷ Word (codes "fn") ∷ []) }
 {
@@ -31,7 +31,7 @@ fn print_constructor(out: &mut Printer, term: &str) -> Result<(), AllocError>
 }
 
 // Prints `<C: Context>(ctx: &mut C,`.
-#[tactic(auto, unfolding(isle_ink::specs::Token::step, isle_ink::specs::Token::begun))]
+#[tactic(auto, unfolding(isle_printer::specs::Token::step, isle_printer::specs::Token::begun))]
 fn print_generics(out: &mut Printer) -> Result<(), AllocError>
     ensures { OnOk result (out.new ≡ out.old ++ (generics ++ context_param)) }
 {
@@ -49,7 +49,7 @@ fn print_head(out: &mut Printer, term: &str) -> Result<(), AllocError>
 }
 
 // Prints `: `.
-#[tactic(auto, unfolding(isle_ink::specs::Token::step, isle_ink::specs::Token::begun))]
+#[tactic(auto, unfolding(isle_printer::specs::Token::step, isle_printer::specs::Token::begun))]
 fn print_colon(out: &mut Printer) -> Result<(), AllocError>
     ensures { OnOk result (out.new ≡ out.old ++ Mark (codes ":") ∷ []) }
 {
@@ -107,7 +107,7 @@ pub fn print_result(out: &mut Printer, kind: ReturnKind, ty: &str) -> Result<(),
 }
 
 /// Prints `->`, with a blank before it and behind it. What is printed after an error is left open.
-#[tactic(auto, unfolding(isle_ink::specs::Token::step, isle_ink::specs::Token::begun))]
+#[tactic(auto, unfolding(isle_printer::specs::Token::step, isle_printer::specs::Token::begun))]
 pub fn print_gives(out: &mut Printer) -> Result<(), AllocError>
     ensures { OnOk result (out.new ≡ out.old ++ Mark (codes "->") ∷ []) }
 {

@@ -1,13 +1,13 @@
 //! Numbers of the builtin integer types, as Rust spells them.
 
 ghost use Rattle.std.specs.Prelude.{◌≡◌, ℤ, ◌++◌, ◌^◌, ◌%◌, ◌<◌, [], ◌∷◌, OnOk, IfOk, string_bytes, codes};
-ghost use Rattle.isle_ink.specs.Token.{Word};
+ghost use Rattle.isle_printer.specs.Token.{Word};
 ghost use mir.Val.{bits, hbits};
 ghost use Rattle.isle_core.specs.Int.{width, is_signed, WrapsTo, wrapped};
 ghost use Rattle.isle_target.specs.Literal.{type_name, literal_word, literal_text, literal_tokens, of_bits};
 
 use isle_core::{IntType, OutOfMemory};
-use isle_ink::{Printer, push_numeral};
+use isle_printer::{Printer, push_numeral};
 use std::alloc::{AllocError, Global};
 
 // Whether the type's numbers may lie below 0.

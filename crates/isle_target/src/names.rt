@@ -2,8 +2,8 @@
 
 ghost use Rattle.std.specs.Prelude.{◌≡◌, ◌↔◌, IsTrue, is_some};
 ghost use Rattle.std.specs.List.{AllByRecursion, list_all};
-ghost use Rattle.isle_ink.specs.Token.{is_word_byte};
-ghost use Rattle.isle_ink.specs.Bytes.{same_bytes};
+ghost use Rattle.isle_printer.specs.Token.{is_word_byte};
+ghost use Rattle.isle_printer.specs.Bytes.{same_bytes};
 ghost use Rattle.isle_target.specs.Literal.{type_named};
 ghost use Rattle.isle_target.specs.Views.{function};
 ghost use Rattle.isle_target.specs.WellFormed.{IsTermName, IsBuiltin, IsTy, IsKind, HasNames};

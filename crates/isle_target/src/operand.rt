@@ -7,7 +7,7 @@ ghost use Rattle.isle_target.specs.WellFormed.{IsExpr};
 use crate::call::print_call;
 use crate::literal::print_literal;
 use crate::tree::{Operand, Read, TExpr};
-use isle_ink::Printer;
+use isle_printer::Printer;
 use std::alloc::{AllocError, Global};
 
 /// Prints an operand. What is printed after an error is left open.

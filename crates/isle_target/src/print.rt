@@ -1,7 +1,7 @@
 //! The text of a program.
 
 ghost use Rattle.std.specs.Prelude.{◌≡◌, ◌++◌, OnOk, IfOk, string_bytes};
-ghost use Rattle.isle_ink.specs.Token.{tokens_of};
+ghost use Rattle.isle_printer.specs.Token.{tokens_of};
 ghost use Rattle.isle_target.specs.Views.{program};
 ghost use Rattle.isle_target.specs.WellFormed.{IsWellFormed};
 ghost use Rattle.isle_target.specs.Fixed.{uses_tokens, fixed_tokens};
@@ -13,7 +13,7 @@ use crate::fixed::{print_allow, print_fixed, print_uses};
 use crate::function::print_function;
 use crate::tree::Program;
 use isle_core::OutOfMemory;
-use isle_ink::Printer;
+use isle_printer::Printer;
 use std::alloc::{AllocError, Global};
 
 // The allow lines, where they are wanted, and the uses.

@@ -1,7 +1,7 @@
 //! The text of statements. A form that isn't built has none.
 
 ghost use Rattle.std.specs.Prelude.{◌≡◌, ◌++◌, [], ◌∷◌, OnOk, codes};
-ghost use Rattle.isle_ink.specs.Token.{Mark, Quoted};
+ghost use Rattle.isle_printer.specs.Token.{Mark, Quoted};
 ghost use Rattle.isle_target.specs.Views.{stmt, body};
 ghost use Rattle.isle_target.specs.WellFormed.{IsExpr, IsStmt, IsBody};
 ghost use Rattle.isle_target.specs.Spelling.{let_tokens, return_tokens, if_eq_head, no_rule, unreachable_head, tail_tokens, stmt_tokens, body_tokens};
@@ -9,14 +9,14 @@ ghost use Rattle.isle_target.specs.Spelling.{let_tokens, return_tokens, if_eq_he
 use crate::operand::{print_expr, print_operand};
 use crate::tree::{Operand, Stmt, TExpr};
 use isle_core::Text;
-use isle_ink::Printer;
+use isle_printer::Printer;
 use std::alloc::{AllocError, Global};
 
 /// What a run says that no rule matched in.
 const NO_RULE: &str = "unreachable!(\"no rule matched for term {} at {}; should it be partial?\", ";
 
 // Prints `let vN = EXPR;`.
-#[tactic(auto, unfolding(isle_ink::specs::Token::step, isle_ink::specs::Token::begun))]
+#[tactic(auto, unfolding(isle_printer::specs::Token::step, isle_printer::specs::Token::begun))]
 fn print_let(out: &mut Printer, alloc: Global, n: usize, e: &TExpr) -> Result<(), AllocError>
     requires { IsExpr e.now }
     ensures { OnOk result (out.new ≡ out.old ++ let_tokens n e.now) }
@@ -29,7 +29,7 @@ fn print_let(out: &mut Printer, alloc: Global, n: usize, e: &TExpr) -> Result<()
 }
 
 // Prints `return EXPR;`.
-#[tactic(auto, unfolding(isle_ink::specs::Token::step, isle_ink::specs::Token::begun))]
+#[tactic(auto, unfolding(isle_printer::specs::Token::step, isle_printer::specs::Token::begun))]
 fn print_return(out: &mut Printer, alloc: Global, e: &TExpr) -> Result<(), AllocError>
     requires { IsExpr e.now }
     ensures { OnOk result (out.new ≡ out.old ++ return_tokens e.now) }
@@ -40,7 +40,7 @@ fn print_return(out: &mut Printer, alloc: Global, e: &TExpr) -> Result<(), Alloc
 }
 
 // Prints `if OP == OP {`.
-#[tactic(auto, unfolding(isle_ink::specs::Token::step, isle_ink::specs::Token::begun))]
+#[tactic(auto, unfolding(isle_printer::specs::Token::step, isle_printer::specs::Token::begun))]
 fn print_if_eq(out: &mut Printer, alloc: Global, a: &Operand, b: &Operand) -> Result<(), AllocError>
     ensures { OnOk result (out.new ≡ out.old ++ if_eq_head a.now b.now) }
 {
@@ -52,7 +52,7 @@ fn print_if_eq(out: &mut Printer, alloc: Global, a: &Operand, b: &Operand) -> Re
 }
 
 // Prints what is said where no rule matches, up to the term.
-#[tactic(auto, unfolding(crate::specs::Spelling::no_rule, isle_ink::specs::Token::step, isle_ink::specs::Token::begun))]
+#[tactic(auto, unfolding(crate::specs::Spelling::no_rule, isle_printer::specs::Token::step, isle_printer::specs::Token::begun))]
 fn print_no_rule(out: &mut Printer) -> Result<(), AllocError>
     ensures { OnOk result (out.new ≡ out.old ++ (unreachable_head ++ Quoted no_rule ∷ Mark (codes ",") ∷ [])) }
 {
@@ -60,7 +60,7 @@ fn print_no_rule(out: &mut Printer) -> Result<(), AllocError>
 }
 
 // Prints `, `.
-#[tactic(auto, unfolding(isle_ink::specs::Token::step, isle_ink::specs::Token::begun))]
+#[tactic(auto, unfolding(isle_printer::specs::Token::step, isle_printer::specs::Token::begun))]
 fn print_comma(out: &mut Printer) -> Result<(), AllocError>
     ensures { OnOk result (out.new ≡ out.old ++ Mark (codes ",") ∷ []) }
 {

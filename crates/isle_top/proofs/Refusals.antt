@@ -5,8 +5,8 @@ use Rattle.std.proofs.lemmas.List.{take-append-drop}
 use Rattle.isle_outside.specs.Directory.{Files, Rose}
 use Rattle.isle_outside.specs.Sinks.{Took, TookPart}
 use Rattle.isle_outside.specs.declared.errors.IoCause.{IoCause}
-use Rattle.isle_words.specs.Asked.{Asked}
-use Rattle.isle_words.specs.Lines.{LineS, IsBad}
+use Rattle.isle_command_line.specs.Asked.{Asked}
+use Rattle.isle_command_line.specs.Lines.{LineS, IsBad}
 use Rattle.isle_top.specs.declared.refusal.Refusal.TheVariants as refusal
 use Rattle.isle_top.specs.Asking.{inputs_of}
 use Rattle.isle_top.specs.Causes.{HasCause}

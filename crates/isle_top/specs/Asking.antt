@@ -1,10 +1,10 @@
 -- What words ask for, and which lines are built.
 use Rattle.std.specs.Prelude.{◌≡◌, ℕ, List, [], ◌∷◌, Bool, true, false, Option, Some, None}
 use Rattle.isle_values.specs.Written.{Written, Writtens, Truth, Number, Made, NoValue, AValue}
-use Rattle.isle_words.specs.Asked.{Asked, Help, Version, Compile, Build, Prelude, Units, Isa, Run}
-use Rattle.isle_words.specs.Lines.{LineS, no_options}
-use Rattle.isle_words.specs.declared.commands.Source.{Source}
-use Rattle.isle_words.specs.declared.commands.Source.TheVariants as source
+use Rattle.isle_command_line.specs.Asked.{Asked, Help, Version, Compile, Build, Prelude, Units, Isa, Run}
+use Rattle.isle_command_line.specs.Lines.{LineS, no_options}
+use Rattle.isle_command_line.specs.declared.commands.Source.{Source}
+use Rattle.isle_command_line.specs.declared.commands.Source.TheVariants as source
 
 -- the words ask for this, and for nothing else
 pub record Asks (words : List (List ℕ)) (asked : Asked) : Type 0 where

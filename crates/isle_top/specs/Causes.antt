@@ -5,11 +5,11 @@ use Rattle.isle_core.specs.Inputs.{AreRead, Fails}
 use Rattle.isle_core.specs.declared.read_error.ReadError.TheVariants as read
 use Rattle.isle_values.specs.Written.{Writtens}
 use Rattle.isle_codegen.specs.Causes.{IsNotBuilt}
-use Rattle.isle_words.specs.Asked.{Asked, Compile, Run}
-use Rattle.isle_words.specs.Lines.{no_options}
-use Rattle.isle_trial.specs.Stopped.{HasNoLines}
-use Rattle.isle_trial.specs.declared.trial_error.TrialError.{TrialError}
-use Rattle.isle_trial.specs.declared.trial_error.TrialError.TheVariants as trial
+use Rattle.isle_command_line.specs.Asked.{Asked, Compile, Run}
+use Rattle.isle_command_line.specs.Lines.{no_options}
+use Rattle.isle_run.specs.Stopped.{HasNoLines}
+use Rattle.isle_run.specs.declared.trial_error.TrialError.{TrialError}
+use Rattle.isle_run.specs.declared.trial_error.TrialError.TheVariants as trial
 use Rattle.isle_top.specs.declared.refusal.Refusal.{Refusal}
 use Rattle.isle_top.specs.declared.refusal.Refusal.TheVariants as refusal
 use Rattle.isle_top.specs.Asking.{IsBuilt, inputs_of, source_name}

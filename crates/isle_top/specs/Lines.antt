@@ -1,8 +1,8 @@
 -- The lines that refusals write.
 use Rattle.std.specs.Prelude.{ℕ, List, [], ◌∷◌, ◌++◌, map, codes, nat_lt, if◌then◌else◌, ◌⊎◌, Option}
-use Rattle.isle_ink.specs.Number.{numeral}
-use Rattle.isle_trial.specs.declared.halt.Halt.{Halt}
-use Rattle.isle_trial.specs.declared.halt.Halt.TheVariants as halt
+use Rattle.isle_printer.specs.Number.{numeral}
+use Rattle.isle_run.specs.declared.halt.Halt.{Halt}
+use Rattle.isle_run.specs.declared.halt.Halt.TheVariants as halt
 use Rattle.isle_outside.specs.Directory.{Rose}
 use Rattle.isle_outside.specs.Sinks.{Took, TookPart}
 use Rattle.isle_outside.specs.declared.errors.IoCause.{IoCause}

@@ -2,9 +2,9 @@
 use Rattle.std.specs.Prelude.{◌≡◌, ℕ, ◌⊎◌, List, Option, IsSomeAnd, slice_get}
 use Rattle.isle_outside.specs.Directory.{Files}
 use Rattle.isle_outside.specs.declared.errors.IoCause.{IoCause}
-use Rattle.isle_trial.specs.declared.halt.Halt.{Halt}
-use Rattle.isle_words.specs.Asked.{Asked}
-use Rattle.isle_words.specs.Lines.{IsBad, IsMissing}
+use Rattle.isle_run.specs.declared.halt.Halt.{Halt}
+use Rattle.isle_command_line.specs.Asked.{Asked}
+use Rattle.isle_command_line.specs.Lines.{IsBad, IsMissing}
 use Rattle.isle_top.specs.declared.refusal.Refusal.TheVariants as refusal
 use Rattle.isle_top.specs.Asking.{inputs_of, term_of}
 use Rattle.isle_top.specs.Lines.{bad_word_line, missing_word_line, unread_line, halt_line}

@@ -10,9 +10,9 @@ use Rattle.isle_codegen.specs.Source.{InLanguage}
 use Rattle.isle_codegen.specs.Header.{HasHeader}
 use Rattle.isle_codegen.specs.Headline.{SpellsOne}
 use Rattle.isle_codegen.specs.Causes.{IsCompiled, printed}
-use Rattle.isle_words.specs.Asked.{Asked, Help, Version, Compile, Run}
-use Rattle.isle_words.specs.Lines.{no_options}
-use Rattle.isle_trial.specs.Trial.{IsTrial}
+use Rattle.isle_command_line.specs.Asked.{Asked, Help, Version, Compile, Run}
+use Rattle.isle_command_line.specs.Lines.{no_options}
+use Rattle.isle_run.specs.Trial.{IsTrial}
 use Rattle.isle_top.specs.About.{help_text, version_text}
 use Rattle.isle_top.specs.Asking.{source_name, IsBuilt}
 

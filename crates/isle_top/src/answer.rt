@@ -4,9 +4,9 @@ ghost use Rattle.std.specs.Prelude.{◌≡◌, ◌≤◌, [], ◌∷◌, ℕ, Li
 ghost use Rattle.std.specs.Option.{option_copied};
 ghost use Rattle.std.specs.String.{string_bytes};
 ghost use Rattle.isle_outside.specs.Directory.{Rose};
-ghost use Rattle.isle_words.specs.Asked.{Compile};
-ghost use Rattle.isle_words.specs.Lines.{no_options};
-ghost use Rattle.isle_words.specs.Views.{seen_command};
+ghost use Rattle.isle_command_line.specs.Asked.{Compile};
+ghost use Rattle.isle_command_line.specs.Lines.{no_options};
+ghost use Rattle.isle_command_line.specs.Views.{seen_command};
 ghost use Rattle.isle_top.specs.Asking.{IsBuilt};
 ghost use Rattle.isle_top.specs.Valid.{IsValid, Answers, IsAnswer};
 ghost use Rattle.isle_top.specs.Causes.{HasCause};
@@ -17,7 +17,7 @@ use crate::compiled::compiled;
 use crate::ran::ran;
 use crate::refusal::Refusal;
 use isle_core::{Dir, Text};
-use isle_words::{Command, Source};
+use isle_command_line::{Command, Source};
 use std::alloc::Global;
 
 /// The text that a line asks for.

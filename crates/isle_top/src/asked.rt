@@ -1,11 +1,11 @@
 //! The inputs and the term of a line.
 
 ghost use Rattle.std.specs.Prelude.{◌≡◌, ◌∷◌, ℕ, List, Some, slice_get};
-ghost use Rattle.isle_words.specs.Views.{seen_command};
+ghost use Rattle.isle_command_line.specs.Views.{seen_command};
 ghost use Rattle.isle_top.specs.Asking.{answers_names, inputs_of, source_name, term_of};
 
 use isle_core::Text;
-use isle_words::{Command, Source};
+use isle_command_line::{Command, Source};
 
 // The name of a source.
 fn source_name(source: &Source) -> &str

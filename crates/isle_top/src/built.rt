@@ -2,13 +2,13 @@
 
 ghost use Rattle.std.specs.Prelude.{◌≡◌, ◌↔◌, IsTrue};
 ghost use Rattle.isle_values.specs.Views.{written, seen};
-ghost use Rattle.isle_words.specs.Lines.{no_options};
-ghost use Rattle.isle_words.specs.Views.{seen_command};
+ghost use Rattle.isle_command_line.specs.Lines.{no_options};
+ghost use Rattle.isle_command_line.specs.Views.{seen_command};
 ghost use Rattle.isle_top.specs.Asking.{is_plain, ArePlain, IsBuilt};
 
 use isle_core::CodegenOptions;
 use isle_values::Written;
-use isle_words::{Command, Source};
+use isle_command_line::{Command, Source};
 
 // Whether no option is given.
 fn are_none(options: &CodegenOptions) -> bool

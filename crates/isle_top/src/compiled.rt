@@ -3,8 +3,8 @@
 ghost use Rattle.std.specs.Prelude.{◌≡◌, ◌≤◌, [], ◌∷◌, IfOk, IfErr, IsOkUnless, IsSomeAnd};
 ghost use Rattle.std.specs.String.{string_bytes};
 ghost use Rattle.isle_outside.specs.Directory.{Rose};
-ghost use Rattle.isle_words.specs.Asked.{Compile};
-ghost use Rattle.isle_words.specs.Lines.{no_options};
+ghost use Rattle.isle_command_line.specs.Asked.{Compile};
+ghost use Rattle.isle_command_line.specs.Lines.{no_options};
 ghost use Rattle.isle_top.specs.Valid.{IsValid, IsProgramOf};
 ghost use Rattle.isle_top.specs.Causes.{HasCause};
 

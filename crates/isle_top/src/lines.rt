@@ -1,5 +1,5 @@
 ghost use Rattle.std.specs.Prelude.{◌≡◌, ◌≤◌, ◌<◌, [], ◌∷◌, ◌++◌, OnOk, OnErr, map};
-ghost use Rattle.isle_ink.specs.Number.{glyph, numeral};
+ghost use Rattle.isle_printer.specs.Number.{glyph, numeral};
 ghost use Rattle.isle_outside.specs.Directory.{Rose};
 ghost use Rattle.isle_outside.specs.Sinks.{Took, TookPart};
 ghost use Rattle.isle_top.specs.Lines.{
@@ -18,7 +18,7 @@ ghost use Rattle.isle_top.specs.Lines.{
 };
 
 use isle_core::{Failed, IoCause, Sink, write_all};
-use isle_trial::Halt;
+use isle_run::Halt;
 
 /// What is asked for is not built.
 pub const NOT_YET: &str = "isle: not yet\n";

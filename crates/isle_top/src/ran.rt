@@ -4,16 +4,16 @@ ghost use Rattle.std.specs.Prelude.{◌≡◌, ◌≤◌, false, IfOk, IfErr};
 ghost use Rattle.std.specs.Option.{option_copied};
 ghost use Rattle.std.specs.String.{string_bytes};
 ghost use Rattle.isle_values.specs.Views.{seen};
-ghost use Rattle.isle_words.specs.Asked.{Run};
-ghost use Rattle.isle_words.specs.Lines.{no_options};
-ghost use Rattle.isle_words.specs.declared.commands.Source.TheVariants.{File};
+ghost use Rattle.isle_command_line.specs.Asked.{Run};
+ghost use Rattle.isle_command_line.specs.Lines.{no_options};
+ghost use Rattle.isle_command_line.specs.declared.commands.Source.TheVariants.{File};
 ghost use Rattle.isle_top.specs.Valid.{IsRunOf};
 ghost use Rattle.isle_top.specs.Causes.{HasCause};
 
 use crate::inputs::read_inputs;
 use crate::refusal::Refusal;
 use isle_core::{CodegenOptions, Dir, ReadError};
-use isle_trial::{TrialError, trial};
+use isle_run::{TrialError, trial};
 use isle_values::Written;
 use std::alloc::Global;
 

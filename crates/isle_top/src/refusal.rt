@@ -1,5 +1,5 @@
 use isle_core::IoCause;
-use isle_trial::Halt;
+use isle_run::Halt;
 use std::alloc::{AllocError, AllocFailed};
 
 /// Why no text is written.

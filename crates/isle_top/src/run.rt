@@ -2,9 +2,9 @@ ghost use Rattle.std.specs.Prelude.{◌≡◌, ◌≢◌, ◌⊎◌, [], ◌∷�
 ghost use Rattle.isle_outside.specs.Directory.{Rose};
 ghost use Rattle.isle_outside.specs.Sinks.{Took, TookPart};
 ghost use Rattle.isle_core.specs.Inputs.{bytes_each};
-ghost use Rattle.isle_words.specs.Asked.{Asked, Compile};
-ghost use Rattle.isle_words.specs.Lines.{LineS, no_options};
-ghost use Rattle.isle_words.specs.Views.{seen_command};
+ghost use Rattle.isle_command_line.specs.Asked.{Asked, Compile};
+ghost use Rattle.isle_command_line.specs.Lines.{LineS, no_options};
+ghost use Rattle.isle_command_line.specs.Views.{seen_command};
 ghost use Rattle.isle_top.specs.Asking.{Asks};
 ghost use Rattle.isle_top.specs.Causes.{HasCause};
 ghost use Rattle.isle_top.specs.Lines.{not_yet_line, write_fault_line, memory_line, Wrote};
@@ -18,7 +18,7 @@ use crate::lines::{
 };
 use crate::refusal::Refusal;
 use isle_core::{Dir, Sink, write_all};
-use isle_words::{Command, LineFail, command};
+use isle_command_line::{Command, LineFail, command};
 use std::alloc::Global;
 
 /// The status of a run: 0 done, 2 the words are no line, 5 an input was not read, 11 the output failed, 12 memory ran out,

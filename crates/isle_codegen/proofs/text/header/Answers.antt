@@ -1,7 +1,7 @@
 use Rattle.std.proofs.Common.{◌++◌, ◌∷◌, [], ap, ◌∙◌}
 use Rattle.std.specs.Prelude.{codes}
 use Rattle.std.specs.String.{string_bytes}
-use Rattle.isle_ink.specs.Comment.{comment_lines}
+use Rattle.isle_printer.specs.Comment.{comment_lines}
 use Rattle.isle_codegen.proofs.Headers.{header_more}
 use Rattle.isle_codegen.proofs.text.header.Goals as goal
 

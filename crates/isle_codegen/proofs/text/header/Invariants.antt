@@ -1,6 +1,6 @@
 use Rattle.std.proofs.Common.{◌≡◌, ◌++◌, take, map}
 use Rattle.std.specs.String.{string_bytes}
-use Rattle.isle_ink.specs.Comment.{comment_lines}
+use Rattle.isle_printer.specs.Comment.{comment_lines}
 use Rattle.isle_codegen.specs.Header.{first_lines, file_line}
 use Rattle.isle_codegen.proofs.text.header.Given as goal
 

@@ -1,5 +1,5 @@
 use Rattle.std.proofs.Common.{refl}
-use Rattle.isle_ink.specs.Token.{step, begun}
+use Rattle.isle_printer.specs.Token.{step, begun}
 use Rattle.isle_target.specs.Fixed.{fixed_tokens}
 use Rattle.isle_target.proofs.fixed.print_fixed.Goals as goal
 

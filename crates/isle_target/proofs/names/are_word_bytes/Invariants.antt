@@ -1,6 +1,6 @@
 use Rattle.std.proofs.Common.{◌≡◌, drop}
 use Rattle.std.specs.List.{list_all}
-use Rattle.isle_ink.specs.Token.{is_word_byte}
+use Rattle.isle_printer.specs.Token.{is_word_byte}
 use Rattle.isle_target.proofs.names.are_word_bytes.Given as goal
 
 abbrev pub invariant-loop-byte : goal.invariant-loop-byte

@@ -1,6 +1,6 @@
 use Rattle.std.proofs.Common.{◌≡◌, ◌%◌, ◌/◌, ◌∷◌, [], arith}
-use Rattle.isle_ink.specs.Number.{glyph, numeral}
-use Rattle.isle_ink.proofs.Numerals.{numeral-longer, numeral-single}
+use Rattle.isle_printer.specs.Number.{glyph, numeral}
+use Rattle.isle_printer.proofs.Numerals.{numeral-longer, numeral-single}
 use Rattle.isle_top.proofs.Pieces.{both_ok, both_part, took_less}
 use Rattle.isle_top.proofs.lines.+write_number.Goals as goal
 

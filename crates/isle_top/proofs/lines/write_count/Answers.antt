@@ -1,4 +1,4 @@
-use Rattle.isle_ink.specs.Number.{numeral}
+use Rattle.isle_printer.specs.Number.{numeral}
 use Rattle.isle_top.proofs.Pieces.{both_part}
 use Rattle.isle_top.proofs.lines.write_count.Goals as goal
 

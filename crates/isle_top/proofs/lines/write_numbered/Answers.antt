@@ -1,5 +1,5 @@
 use Rattle.std.proofs.Common.{◌++◌}
-use Rattle.isle_ink.specs.Number.{numeral}
+use Rattle.isle_printer.specs.Number.{numeral}
 use Rattle.isle_top.proofs.Pieces.{both_part}
 use Rattle.isle_top.proofs.lines.write_numbered.Goals as goal
 

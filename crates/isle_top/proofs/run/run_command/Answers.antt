@@ -1,5 +1,5 @@
 use Rattle.std.proofs.Common.{sym}
-use Rattle.isle_words.specs.Views.{seen_command}
+use Rattle.isle_command_line.specs.Views.{seen_command}
 use Rattle.isle_top.proofs.Refusals.{unread, wrote}
 use Rattle.isle_top.proofs.run.run_command.Goals as goal
 

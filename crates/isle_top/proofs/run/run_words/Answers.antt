@@ -1,8 +1,8 @@
 use Rattle.std.proofs.Common.{sym, ap, ◌∷◌, [], Err}
 use Rattle.isle_core.specs.Inputs.{bytes_each}
-use Rattle.isle_words.specs.Asked.{Compile}
-use Rattle.isle_words.specs.Lines.{no_options}
-use Rattle.isle_words.specs.Views.{seen_command}
+use Rattle.isle_command_line.specs.Asked.{Compile}
+use Rattle.isle_command_line.specs.Lines.{no_options}
+use Rattle.isle_command_line.specs.Views.{seen_command}
 use Rattle.isle_top.proofs.Refusals.{bad_word, no_bad_word, wrote}
 use Rattle.isle_top.proofs.run.run_words.Goals as goal
 

@@ -1,0 +1,115 @@
+-- Each line is read as what it asks for.
+use Rattle.std.proofs.Common.{◌≡◌, ℕ, List, [], ◌∷◌, ◌++◌, append_assoc, append-nil, Bool, true, false, not, Option, Some, None, refl, ap, sym, ◌∙◌, fold}
+use Rattle.std.specs.Prelude.{if◌then◌else◌}
+use Rattle.std.specs.Prelude.{is_some}
+use Rattle.std.specs.List.{list_all}
+use Rattle.isle_core.specs.declared.options.CodegenOptions.{CodegenOptions}
+use Rattle.isle_values.specs.Written.{Writtens}
+use Rattle.isle_values.specs.Reading.{spelt}
+use Rattle.isle_values.proofs.Spelt.{spelt_again}
+use Rattle.isle_command_line.specs.Words.{is_name}
+use Rattle.isle_command_line.specs.Lines as choice
+use Rattle.isle_command_line.specs.Lines.{Choice, ChoiceS, no_allow, log, split, threshold, prefixed, ChoicesS, no_choice, a_choice, AreOnce, no_options, with_choice, options_of, kind_word, LineS, AnswersS, traced}
+use Rattle.isle_command_line.specs.Reading as reading
+use Rattle.isle_command_line.specs.Reading.{named, sourced, valued, optional, is_trace, is_answers, chosen, counted, asked, next, onward, read, asks, first, mark, kind_of, count, parts}
+use Rattle.isle_command_line.specs.Asked.{Asked}
+use Rattle.isle_command_line.specs.declared.commands.Source.{Source}
+use Rattle.isle_command_line.specs.declared.state.Verb.{Verb}
+use Rattle.isle_command_line.specs.declared.state.Verb.TheVariants as verb
+use Rattle.isle_command_line.specs.Asked as command
+use Rattle.isle_command_line.specs.Known.{Known}
+use Rattle.isle_command_line.specs.Known as state
+use Rattle.isle_command_line.proofs.WordLaws.{both, kind_again, count_again, parts_again}
+use Rattle.isle_command_line.proofs.RunWords.{name_no_trace, source_again, source_named}
+use Rattle.isle_command_line.proofs.ChoiceLaws.{free, all_kept, all_free}
+
+-- what the words ask for where something is known behind them
+abbrev pub asked_of : Option Known → Option Asked
+asked_of (Some s) = asks s
+asked_of None = None
+
+unless : (b : Bool) (s : Known) (f : Known → Option Known) → not b ≡ true → onward (if b then None else Some s) f ≡ f s
+unless false s f h = refl
+unless true s f h = cc
+
+read_choice : {c : Choice} {us : List (List ℕ)} → ChoiceS c us → (v : Verb) (o : CodegenOptions) (more : List (List ℕ)) → free o c ≡ true → read (state.Options v o) (us ++ more) ≡ read (state.Options v (with_choice o c)) more
+unfolding mark
+read_choice no_allow v o more h = unless o.exclude_global_allow_pragmas (state.Options v (with_choice o choice.NoAllow)) (λ t. read t more) h
+read_choice log v o more h = unless o.emit_logging (state.Options v (with_choice o choice.Log)) (λ t. read t more) h
+read_choice split v o more h = unless o.split_match_arms (state.Options v (with_choice o choice.Split)) (λ t. read t more) h
+read_choice (threshold n word is) v o more h =
+    unless (is_some o.match_arm_split_threshold) (state.Threshold v o) (λ t. read t (word ∷ more)) h
+    ∙ ap (λ r. onward (counted v o r) (λ t. read t more)) (count_again word n is)
+read_choice (prefixed p n word is) v o more h =
+    ap (λ r. onward (reading.prefixed v o r) (λ t. read t more)) (parts_again word p n is)
+    ∙ ap (λ b. onward (if b then Some (state.Options v (with_choice o (choice.Prefixed p n))) else None) (λ t. read t more)) is.named
+
+read_choices : {cs : List Choice} {us : List (List ℕ)} → ChoicesS cs us → (v : Verb) (o : CodegenOptions) (more : List (List ℕ)) → list_all (free o) cs ≡ true → AreOnce cs
+    → read (state.Options v o) (us ++ more) ≡ read (state.Options v (fold with_choice o cs)) more
+read_choices no_choice v o more h once = refl
+read_choices (a_choice c cs us others s ss) v o more h once =
+    let f : (free o c ≡ true) × (list_all (free o) cs ≡ true) = both _ _ h in
+    ap (read (state.Options v o)) (append_assoc us others more) ∙ read_choice s v o (others ++ more) f.0
+    ∙ read_choices ss v (with_choice o c) more (all_kept o c cs f.1 once.0) once.1
+
+read_names : (o : CodegenOptions) (ns ms : List (List ℕ)) → list_all is_name ms ≡ true → read (state.Names o ns) ms ≡ Some (state.Names o (ns ++ ms))
+read_names o ns [] h = ap (λ z. Some (state.Names o z)) (sym (append-nil ns))
+read_names o ns (m ∷ ms) h =
+    let f : (is_name m ≡ true) × (list_all is_name ms ≡ true) = both _ _ h in
+    ap (λ b. onward (if b then Some (state.Names o (ns ++ m ∷ [])) else None) (λ t. read t ms)) f.0
+    ∙ read_names o (ns ++ m ∷ []) ms f.1 ∙ ap (λ z. Some (state.Names o z)) (append_assoc ns (m ∷ []) ms)
+
+read_named : (v : Verb) (o : CodegenOptions) (w : List ℕ) (more : List (List ℕ)) → is_name w ≡ true → read (state.Options v o) (w ∷ more) ≡ onward (named v o w) (λ t. read t more)
+read_named v o w more h = ap (λ b. onward (if b then named v o w else chosen v o (mark w)) (λ t. read t more)) h
+
+-- a run that is not traced goes on with its options
+read_untraced : {cs : List Choice} {us : List (List ℕ)} → ChoicesS cs us → (w : List ℕ) (more : List (List ℕ)) → is_name w ≡ true
+    → read state.Run (us ++ w ∷ more) ≡ read (state.Options (verb.Run false) no_options) (us ++ w ∷ more)
+unfolding is_trace
+read_untraced no_choice w more h = ap (λ b. onward (if b then Some (state.Options (verb.Run true) no_options) else optional (verb.Run false) no_options w) (λ t. read t more)) (name_no_trace w h)
+read_untraced (a_choice c cs us others no_allow ss) w more h = refl
+read_untraced (a_choice c cs us others log ss) w more h = refl
+read_untraced (a_choice c cs us others split ss) w more h = refl
+read_untraced (a_choice c cs us others (threshold n word is) ss) w more h = refl
+read_untraced (a_choice c cs us others (prefixed p n word is) ss) w more h = refl
+
+read_run : (t : Bool) {cs : List Choice} {us : List (List ℕ)} → ChoicesS cs us → (w : List ℕ) (more : List (List ℕ)) → is_name w ≡ true
+    → read state.Run (traced t ++ us ++ w ∷ more) ≡ read (state.Options (verb.Run t) no_options) (us ++ w ∷ more)
+unfolding is_trace
+read_run true ss w more h = refl
+read_run false ss w more h = read_untraced ss w more h
+
+read_last : (t : Bool) (o : CodegenOptions) (s : Source) (m : List ℕ) (vs : Writtens) {a : Option (List ℕ)} {last : List (List ℕ)} → AnswersS a last
+    → asked_of (read (state.Behind t o s m vs) last) ≡ Some (command.Run t o s m vs a)
+unfolding is_answers
+read_last t o s m vs choice.no_answers = refl
+read_last t o s m vs (choice.answers f h) = ap (λ b. asked_of (onward (if b then Some (state.Whole (command.Run t o s m vs (Some f))) else None) (λ k. Some k))) h
+
+read_term : (t : Bool) (o : CodegenOptions) (s : Source) (m x : List ℕ) (vs : Writtens) (last : List (List ℕ)) → is_name m ≡ true → spelt x ≡ Some vs
+    → read (state.Term t o s) (m ∷ x ∷ last) ≡ read (state.Behind t o s m vs) last
+read_term t o s m x vs last h e =
+    ap (λ b. onward (if b then Some (state.Values t o s m) else None) (λ k. read k (x ∷ last))) h
+    ∙ ap (λ r. onward (valued t o s m r) (λ k. read k last)) e
+
+-- each line is read as what it asks for
+pub complete : {ws : List (List ℕ)} {c : Asked} → LineS ws c → asked_of (read state.Begin ws) ≡ Some c
+unfolding first
+complete choice.stored = refl
+complete choice.help = refl
+complete choice.version = refl
+complete (choice.compile cs us name names ss once good) =
+    let f : (is_name name ≡ true) × (list_all is_name names ≡ true) = both _ _ good in
+    ap asked_of (read_choices ss verb.Compile no_options (name ∷ names) (all_free cs) once ∙ read_named verb.Compile (options_of cs) name names f.0
+    ∙ read_names (options_of cs) (name ∷ []) names f.1)
+complete (choice.build cs us unit ss once good) =
+    ap asked_of (read_choices ss verb.Build no_options (unit ∷ []) (all_free cs) once ∙ read_named verb.Build (options_of cs) unit [] good)
+complete (choice.prelude k) = ap (λ r. asked_of (onward (asked r) (λ t. Some t))) (kind_again k)
+complete choice.units = refl
+complete (choice.isa target) = refl
+complete (choice.run t cs us s from m x vs a last ss once is good spells la) =
+    ap asked_of (read_run t ss from (m ∷ x ∷ last) (source_named is)
+    ∙ read_choices ss (verb.Run t) no_options (from ∷ m ∷ x ∷ last) (all_free cs) once
+    ∙ read_named (verb.Run t) (options_of cs) from (m ∷ x ∷ last) (source_named is)
+    ∙ ap (λ r. onward (sourced t (options_of cs) r) (λ k. read k (m ∷ x ∷ last))) (source_again is)
+    ∙ read_term t (options_of cs) s m x vs last good (spelt_again x vs spells))
+    ∙ read_last t (options_of cs) s m vs la

@@ -1,0 +1,22 @@
+-- What is known behind the first words of a line, as a pure tree.
+use Rattle.std.specs.Prelude.{ℕ, List, Bool}
+use Rattle.isle_core.specs.declared.options.CodegenOptions.{CodegenOptions}
+use Rattle.isle_values.specs.Written.{Writtens}
+use Rattle.isle_command_line.specs.Asked.{Asked}
+use Rattle.isle_command_line.specs.declared.commands.Source.{Source}
+use Rattle.isle_command_line.specs.declared.state.Verb.{Verb}
+
+pub data Known : Type 0 where
+  Begin : Known
+  Whole : Asked → Known
+  Options : Verb → CodegenOptions → Known
+  Threshold : Verb → CodegenOptions → Known
+  Prefix : Verb → CodegenOptions → Known
+  Names : CodegenOptions → List (List ℕ) → Known
+  Kind : Known
+  Target : Known
+  Run : Known
+  Term : Bool → CodegenOptions → Source → Known
+  Values : Bool → CodegenOptions → Source → (term : List ℕ) → Known
+  Behind : Bool → CodegenOptions → Source → (term : List ℕ) → Writtens → Known
+  Answers : Bool → CodegenOptions → Source → (term : List ℕ) → Writtens → Known

@@ -1,0 +1,179 @@
+-- What is known behind the first words of a line, and how each word more changes it.
+use Rattle.std.specs.Prelude.{◌≡◌, ℕ, ◌+◌, ◌<◌, List, [], ◌∷◌, ◌++◌, length, take, Bool, true, false, ◌&&◌, ◌==◌, nat_le, Option, Some, None, codes, if◌then◌else◌, is_some, IsSome}
+use Rattle.std.specs.List.{list_all, position_or_len, before_first, after_first}
+use Rattle.std.specs.Str.{bytes_eq}
+use Rattle.isle_core.specs.declared.options.CodegenOptions.{CodegenOptions}
+use Rattle.isle_core.specs.Printed.{after_prefix}
+use Rattle.isle_values.specs.Reading.{spelt}
+use Rattle.isle_values.specs.Written.{Writtens}
+use Rattle.isle_command_line.specs.Words.{is_name, is_digit, decimal_value}
+use Rattle.isle_command_line.specs.Lines as choice
+use Rattle.isle_command_line.specs.Lines.{no_options, with_choice}
+use Rattle.isle_command_line.specs.declared.commands.Kind.{Kind}
+use Rattle.isle_command_line.specs.declared.commands.Source.{Source}
+use Rattle.isle_command_line.specs.declared.commands.Source.TheVariants as source
+use Rattle.isle_command_line.specs.declared.commands.Kind.TheVariants as kind
+use Rattle.isle_command_line.specs.Asked.{Asked}
+use Rattle.isle_command_line.specs.Asked as command
+use Rattle.isle_command_line.specs.declared.word.FirstWord.{FirstWord}
+use Rattle.isle_command_line.specs.declared.word.FirstWord.TheVariants as first_word
+use Rattle.isle_command_line.specs.declared.word.OptionWord.{OptionWord}
+use Rattle.isle_command_line.specs.declared.word.OptionWord.TheVariants as marked
+use Rattle.isle_command_line.specs.declared.state.Verb.{Verb}
+use Rattle.isle_command_line.specs.declared.state.Verb.TheVariants as verb
+use Rattle.isle_command_line.specs.Known.{Known}
+use Rattle.isle_command_line.specs.Known as state
+
+-- what the first word of a line is
+unfoldable pub first : List ℕ → FirstWord
+first w =
+    if bytes_eq w (codes "--help") then first_word.Help else
+    if bytes_eq w (codes "--version") then first_word.Version else
+    if bytes_eq w (codes "compile") then first_word.Compile else
+    if bytes_eq w (codes "build") then first_word.Build else
+    if bytes_eq w (codes "prelude") then first_word.Prelude else
+    if bytes_eq w (codes "units") then first_word.Units else
+    if bytes_eq w (codes "isa") then first_word.Isa else
+    if bytes_eq w (codes "run") then first_word.Run else first_word.Other
+
+-- the option that a word names
+unfoldable pub mark : List ℕ → OptionWord
+mark w =
+    if bytes_eq w (codes "--no-allow") then marked.NoAllow else
+    if bytes_eq w (codes "--log") then marked.Log else
+    if bytes_eq w (codes "--split") then marked.Split else
+    if bytes_eq w (codes "--threshold") then marked.Threshold else
+    if bytes_eq w (codes "--prefix") then marked.Prefix else marked.Other
+
+-- the kind that a word names
+unfoldable pub kind_of : List ℕ → Option Kind
+kind_of w =
+    if bytes_eq w (codes "numerics") then Some kind.Numerics else
+    if bytes_eq w (codes "numerics-rust") then Some kind.NumericsRust else
+    if bytes_eq w (codes "clif-opt") then Some kind.ClifOpt else
+    if bytes_eq w (codes "clif-lower") then Some kind.ClifLower else
+    if bytes_eq w (codes "assembler") then Some kind.Assembler else
+    if bytes_eq w (codes "assembler-rust") then Some kind.AssemblerRust else
+    if bytes_eq w (codes "pulley") then Some kind.Pulley else
+    if bytes_eq w (codes "pulley-rust") then Some kind.PulleyRust else None
+
+-- the number that 1 to 18 digits spell
+unfoldable pub count : List ℕ → Option ℕ
+count w = if nat_le 1 (length w) && (nat_le (length w) 18 && list_all is_digit w) then Some (decimal_value w) else None
+
+-- what stands before the first = and behind it
+unfoldable pub parts : List ℕ → Option (List ℕ × List ℕ)
+parts w = if position_or_len (λ b. b == 61) w == length w then None else Some (before_first (λ b. b == 61) w, after_first (λ b. b == 61) w)
+
+-- the word that asks for a trace
+unfoldable pub is_trace : List ℕ → Bool
+is_trace w = bytes_eq w (codes "--trace")
+
+-- the word in front of a file of answers
+unfoldable pub is_answers : List ℕ → Bool
+is_answers w = bytes_eq w (codes "--answers")
+
+-- a source, by what stands behind unit:
+abbrev pub source_by : List ℕ → Option (List ℕ) → Option Source
+source_by w None = Some (source.File w)
+source_by w (Some n) = if is_name n then Some (source.Unit n) else None
+
+-- the source that a name is
+unfoldable pub source_of : List ℕ → Option Source
+source_of w = source_by w (after_prefix (codes "unit:") w)
+
+-- behind the first word
+abbrev pub begun : FirstWord → Option Known
+begun first_word.Help = Some (state.Whole command.Help)
+begun first_word.Version = Some (state.Whole command.Version)
+begun first_word.Compile = Some (state.Options verb.Compile no_options)
+begun first_word.Build = Some (state.Options verb.Build no_options)
+begun first_word.Prelude = Some state.Kind
+begun first_word.Units = Some (state.Whole command.Units)
+begun first_word.Isa = Some state.Target
+begun first_word.Run = Some state.Run
+begun first_word.Other = None
+
+-- behind a source
+abbrev pub sourced : Bool → CodegenOptions → Option Source → Option Known
+sourced t o (Some s) = Some (state.Term t o s)
+sourced t o None = None
+
+-- behind the first name
+abbrev pub named : Verb → CodegenOptions → List ℕ → Option Known
+named verb.Compile o w = Some (state.Names o (w ∷ []))
+named verb.Build o w = Some (state.Whole (command.Build o w))
+named (verb.Run t) o w = sourced t o (source_of w)
+
+-- behind a word that names an option
+abbrev pub chosen : Verb → CodegenOptions → OptionWord → Option Known
+chosen v o marked.NoAllow = if o.exclude_global_allow_pragmas then None else Some (state.Options v (with_choice o choice.NoAllow))
+chosen v o marked.Log = if o.emit_logging then None else Some (state.Options v (with_choice o choice.Log))
+chosen v o marked.Split = if o.split_match_arms then None else Some (state.Options v (with_choice o choice.Split))
+chosen v o marked.Threshold = if is_some o.match_arm_split_threshold then None else Some (state.Threshold v o)
+chosen v o marked.Prefix = Some (state.Prefix v o)
+chosen v o marked.Other = None
+
+-- behind a threshold
+abbrev pub counted : Verb → CodegenOptions → Option ℕ → Option Known
+counted v o (Some n) = Some (state.Options v (with_choice o (choice.Threshold n)))
+counted v o None = None
+
+-- behind a prefix
+abbrev pub prefixed : Verb → CodegenOptions → Option (List ℕ × List ℕ) → Option Known
+prefixed v o (Some p) = if is_name p.1 then Some (state.Options v (with_choice o (choice.Prefixed p.0 p.1))) else None
+prefixed v o None = None
+
+-- behind a kind
+abbrev pub asked : Option Kind → Option Known
+asked (Some k) = Some (state.Whole (command.Prelude k))
+asked None = None
+
+-- behind an option or the first name
+abbrev pub optional : Verb → CodegenOptions → List ℕ → Option Known
+optional v o w = if is_name w then named v o w else chosen v o (mark w)
+
+-- behind values
+abbrev pub valued : Bool → CodegenOptions → Source → List ℕ → Option Writtens → Option Known
+valued t o s m (Some vs) = Some (state.Behind t o s m vs)
+valued t o s m None = None
+
+-- what is known behind one word more, where a line continues with it
+abbrev pub next : Known → List ℕ → Option Known
+next state.Begin w = begun (first w)
+next (state.Whole c) w = None
+next (state.Options v o) w = optional v o w
+next (state.Threshold v o) w = counted v o (count w)
+next (state.Prefix v o) w = prefixed v o (parts w)
+next (state.Names o ns) w = if is_name w then Some (state.Names o (ns ++ w ∷ [])) else None
+next state.Kind w = asked (kind_of w)
+next state.Target w = Some (state.Whole (command.Isa w))
+next state.Run w = if is_trace w then Some (state.Options (verb.Run true) no_options) else optional (verb.Run false) no_options w
+next (state.Term t o s) w = if is_name w then Some (state.Values t o s w) else None
+next (state.Values t o s m) w = valued t o s m (spelt w)
+next (state.Behind t o s m vs) w = if is_answers w then Some (state.Answers t o s m vs) else None
+next (state.Answers t o s m vs) w = if is_name w then Some (state.Whole (command.Run t o s m vs (Some w))) else None
+
+-- goes on where something is known
+abbrev pub onward : Option Known → (Known → Option Known) → Option Known
+onward (Some s) f = f s
+onward None f = None
+
+-- what is known behind words, where a line begins with them
+abbrev pub read : Known → List (List ℕ) → Option Known
+read s [] = Some s
+read s (w ∷ ws) = onward (next s w) (λ t. read t ws)
+
+-- what the words so far ask for, where they are a line
+abbrev pub asks : Known → Option Asked
+asks state.Begin = Some (command.Compile no_options (codes "first.isle" ∷ []))
+asks (state.Whole c) = Some c
+asks (state.Names o ns) = Some (command.Compile o ns)
+asks (state.Behind t o s m vs) = Some (command.Run t o s m vs None)
+asks s = None
+
+-- the word of this number is the first with which no line continues
+pub record StopsAt (words : List (List ℕ)) (i : ℕ) : Type 0 where
+  pub there : i < length words
+  pub before : IsSome (read state.Begin (take i words))
+  pub bad : read state.Begin (take (i + 1) words) ≡ None

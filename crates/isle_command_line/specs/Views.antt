@@ -1,0 +1,37 @@
+-- What contracts see of what lines ask for.
+use Rattle.isle_values.specs.Views.{seen}
+use Rattle.isle_command_line.specs.Asked as asked
+use Rattle.isle_command_line.specs.Asked.{Asked}
+use Rattle.isle_command_line.specs.Known as known
+use Rattle.isle_command_line.specs.Known.{Known}
+use Rattle.isle_command_line.specs.declared.commands.Command.{Command}
+use Rattle.isle_command_line.specs.declared.commands.Command.TheVariants as command
+use Rattle.isle_command_line.specs.declared.state.State.{State}
+use Rattle.isle_command_line.specs.declared.state.State.TheVariants as state
+
+-- what a line asks for
+abbrev pub seen_command : Command → Asked
+seen_command command.Help = asked.Help
+seen_command command.Version = asked.Version
+seen_command (command.Compile o ns) = asked.Compile o ns
+seen_command (command.Build o u) = asked.Build o u
+seen_command (command.Prelude k) = asked.Prelude k
+seen_command command.Units = asked.Units
+seen_command (command.Isa t) = asked.Isa t
+seen_command (command.Run t o s m vs a) = asked.Run t o s m (seen vs) a
+
+-- what is known
+abbrev pub seen_state : State → Known
+seen_state state.Begin = known.Begin
+seen_state (state.Whole c) = known.Whole (seen_command c)
+seen_state (state.Options v o) = known.Options v o
+seen_state (state.Threshold v o) = known.Threshold v o
+seen_state (state.Prefix v o) = known.Prefix v o
+seen_state (state.Names o ns) = known.Names o ns
+seen_state state.Kind = known.Kind
+seen_state state.Target = known.Target
+seen_state state.Run = known.Run
+seen_state (state.Term t o s) = known.Term t o s
+seen_state (state.Values t o s m) = known.Values t o s m
+seen_state (state.Behind t o s m vs) = known.Behind t o s m (seen vs)
+seen_state (state.Answers t o s m vs) = known.Answers t o s m (seen vs)

@@ -1,0 +1,169 @@
+ghost use Rattle.std.specs.Prelude.{◌≡◌, ◌≢◌, Err, Some, None, IfOk, IfSome};
+ghost use Rattle.isle_command_line.specs.Lines.{Prefixed, with_choice};
+ghost use Rattle.isle_command_line.specs.Known as known;
+ghost use Rattle.isle_command_line.specs.Reading.{next, named, chosen, optional, parts};
+ghost use Rattle.isle_command_line.specs.Views.{seen_state};
+ghost use Rattle.isle_command_line.specs.declared.state.WordFail.TheVariants.{Bad};
+
+use crate::commands::Command;
+use crate::run::sourced;
+use crate::state::{State, Verb, WordFail};
+use crate::word::{OptionWord, count, is_name, mark};
+use isle_core::{CodegenOptions, List, Prefix, Text};
+use std::alloc::Global;
+
+/// What is known behind a word that stands where an option or the first name may.
+pub fn option(
+    alloc: Global,
+    verb: Verb,
+    options: CodegenOptions,
+    word: &str,
+) -> Result<State, WordFail>
+    ensures next { IfOk result (λ s. optional verb options word.now ≡ Some (seen_state s)) }
+    ensures bad { result ≡ Err Bad → optional verb options word.now ≡ None }
+{
+    if is_name(word) {
+        named(alloc, verb, options, word)
+    } else {
+        chosen(verb, options, mark(word))
+    }
+}
+
+/// What is known behind the first name.
+fn named(alloc: Global, verb: Verb, options: CodegenOptions, word: &str) -> Result<State, WordFail>
+    ensures next { IfOk result (λ s. named verb options word.now ≡ Some (seen_state s)) }
+    ensures bad { result ≡ Err Bad → named verb options word.now ≡ None }
+{
+    match verb {
+        Verb::Compile => {
+            let name = Text::new(String::from_str(alloc, word)?);
+            Ok(State::Names(options, List::new(vec![in alloc; name]?)))
+        }
+        Verb::Build => {
+            let unit = Text::new(String::from_str(alloc, word)?);
+            Ok(State::Whole(Command::Build { options, unit }))
+        }
+        Verb::Run(trace) => sourced(alloc, trace, options, word),
+    }
+}
+
+/// What is known behind a word that names an option.
+fn chosen(verb: Verb, mut options: CodegenOptions, mark: OptionWord) -> Result<State, WordFail>
+    ensures next { IfOk result (λ s. chosen verb options mark ≡ Some (seen_state s)) }
+    ensures bad { result ≡ Err Bad → chosen verb options mark ≡ None }
+{
+    match mark {
+        OptionWord::NoAllow if !options.exclude_global_allow_pragmas => {
+            options.exclude_global_allow_pragmas = true;
+            Ok(State::Options(verb, options))
+        }
+        OptionWord::Log if !options.emit_logging => {
+            options.emit_logging = true;
+            Ok(State::Options(verb, options))
+        }
+        OptionWord::Split if !options.split_match_arms => {
+            options.split_match_arms = true;
+            Ok(State::Options(verb, options))
+        }
+        OptionWord::Threshold if options.match_arm_split_threshold.is_none() => {
+            Ok(State::Threshold(verb, options))
+        }
+        OptionWord::Prefix => Ok(State::Prefix(verb, options)),
+        _ => Err(WordFail::Bad),
+    }
+}
+
+/// What is known behind a threshold.
+pub fn threshold(verb: Verb, mut options: CodegenOptions, word: &str) -> Result<State, WordFail>
+    ensures next { IfOk result (λ s. next (known.Threshold verb options) word.now ≡ Some (seen_state s)) }
+    ensures bad { result ≡ Err Bad → next (known.Threshold verb options) word.now ≡ None }
+{
+    match count(word) {
+        Some(count) => {
+            options.match_arm_split_threshold = Some(count);
+            Ok(State::Options(verb, options))
+        }
+        None => Err(WordFail::Bad),
+    }
+}
+
+/// What stands before the first `=` and behind it.
+#[tactic(auto, unfolding(crate::specs::Reading::parts))]
+fn parts(word: &str) -> Option<(&str, &str)>
+    ensures some { IfSome result (λ p. parts word.now ≡ Some (p.0.now, p.1.now)) }
+    ensures none { result ≡ None → parts word.now ≡ None }
+{
+    word.split_once('=')
+}
+
+/// What is known behind a prefix.
+pub fn prefix(
+    alloc: Global,
+    verb: Verb,
+    options: CodegenOptions,
+    word: &str,
+) -> Result<State, WordFail>
+    ensures next { IfOk result (λ s. next (known.Prefix verb options) word.now ≡ Some (seen_state s)) }
+    ensures bad { result ≡ Err Bad → next (known.Prefix verb options) word.now ≡ None }
+{
+    match parts(word) {
+        Some((prefix, name)) => {
+            if is_name(name) {
+                prefixed(alloc, verb, options, prefix, name)
+            } else {
+                Err(WordFail::Bad)
+            }
+        }
+        None => Err(WordFail::Bad),
+    }
+}
+
+/// What is known behind this prefix, whose name is one.
+fn prefixed(
+    alloc: Global,
+    verb: Verb,
+    options: CodegenOptions,
+    prefix: &str,
+    name: &str,
+) -> Result<State, WordFail>
+    ensures next { IfOk result (λ s. seen_state s ≡ known.Options verb (with_choice options (Prefixed prefix.now name.now))) }
+    ensures bad { result ≢ Err Bad }
+{
+    let CodegenOptions {
+        exclude_global_allow_pragmas,
+        prefixes,
+        emit_logging,
+        split_match_arms,
+        match_arm_split_threshold,
+    } = options;
+    let prefix = Text::new(String::from_str(alloc, prefix)?);
+    let name = Text::new(String::from_str(alloc, name)?);
+    let mut all = prefixes.into_vec();
+    all.push(Prefix { prefix, name })?;
+    let options = CodegenOptions {
+        exclude_global_allow_pragmas,
+        prefixes: List::new(all),
+        emit_logging,
+        split_match_arms,
+        match_arm_split_threshold,
+    };
+    Ok(State::Options(verb, options))
+}
+
+/// What is known behind one name more.
+pub fn one_name(
+    alloc: Global,
+    options: CodegenOptions,
+    names: List<Text>,
+    word: &str,
+) -> Result<State, WordFail>
+    ensures next { IfOk result (λ s. next (known.Names options names) word.now ≡ Some (seen_state s)) }
+    ensures bad { result ≡ Err Bad → next (known.Names options names) word.now ≡ None }
+{
+    if !is_name(word) {
+        return Err(WordFail::Bad);
+    }
+    let mut all = names.into_vec();
+    all.push(Text::new(String::from_str(alloc, word)?))?;
+    Ok(State::Names(options, List::new(all)))
+}

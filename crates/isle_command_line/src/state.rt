@@ -1,0 +1,161 @@
+ghost use Rattle.std.specs.Prelude.{◌≡◌, Err, Some, None, IfOk};
+ghost use Rattle.isle_command_line.specs.Known as known;
+ghost use Rattle.isle_command_line.specs.Reading.{next, begun, asked};
+ghost use Rattle.isle_command_line.specs.Views.{seen_state};
+ghost use Rattle.isle_command_line.specs.declared.state.WordFail.TheVariants.{Bad};
+
+use crate::commands::{Command, Kind, Source};
+use crate::options::{one_name, option, prefix, threshold};
+use crate::run::{answers, behind, run, term, values};
+use crate::word::{FirstWord, first, kind_of};
+use isle_core::{CodegenOptions, List, OutOfMemory, Text};
+use isle_values::Written;
+use std::alloc::{AllocError, AllocFailed, Global};
+
+/// What is done with a name behind options.
+#[derive(Clone, Copy, Debug, PartialEq, Eq)]
+pub enum Verb {
+    Compile,
+    Build,
+    /// Whether the run is traced.
+    Run(bool),
+}
+
+/// What is known behind the first words of a line.
+#[derive(Debug, Drop)]
+pub enum State {
+    Begin,
+    /// A line with which no word continues.
+    Whole(Command),
+    /// An option or a name is next.
+    Options(Verb, CodegenOptions),
+    /// A threshold is next.
+    Threshold(Verb, CodegenOptions),
+    /// A prefix is next.
+    Prefix(Verb, CodegenOptions),
+    /// There is a name, and more of them may follow.
+    Names(CodegenOptions, List<Text>),
+    /// The kind of a prelude is next.
+    Kind,
+    /// A target is next.
+    Target,
+    /// `--trace`, an option or a source is next.
+    Run,
+    /// A term is next.
+    Term(bool, CodegenOptions, Source),
+    /// Values are next.
+    Values(bool, CodegenOptions, Source, Text),
+    /// A line of a run, which `--answers` may follow.
+    Behind(bool, CodegenOptions, Source, Text, List<Written>),
+    /// A file of answers is next.
+    Answers(bool, CodegenOptions, Source, Text, List<Written>),
+}
+
+/// Why nothing is known behind a word more.
+#[derive(Clone, Copy, Debug, PartialEq, Eq)]
+pub enum WordFail {
+    /// No line continues with it.
+    Bad,
+    Memory,
+}
+
+impl From<AllocError> for WordFail {
+    ghost use Rattle.std.specs.Prelude.{◌≡◌};
+    ghost use Rattle.isle_command_line.specs.Views.{seen_state};
+    ghost use Rattle.isle_command_line.specs.declared.state.WordFail.TheVariants.{Memory};
+
+    ghost from_gives = { λ _ e. e ≡ Memory };
+
+    fn from(_: AllocError) -> Self {
+        WordFail::Memory
+    }
+}
+
+impl<T: Drop> From<AllocFailed<T>> for WordFail {
+    ghost use Rattle.std.specs.Prelude.{◌≡◌};
+    ghost use Rattle.isle_command_line.specs.Views.{seen_state};
+    ghost use Rattle.isle_command_line.specs.declared.state.WordFail.TheVariants.{Memory};
+
+    ghost from_gives = { λ _ e. e ≡ Memory };
+
+    fn from(_: AllocFailed<T>) -> Self {
+        WordFail::Memory
+    }
+}
+
+impl From<OutOfMemory> for WordFail {
+    ghost use Rattle.std.specs.Prelude.{◌≡◌};
+    ghost use Rattle.isle_command_line.specs.declared.state.WordFail.TheVariants.{Memory};
+
+    ghost from_gives = { λ _ e. e ≡ Memory };
+
+    fn from(_: OutOfMemory) -> Self {
+        WordFail::Memory
+    }
+}
+
+/// What is known behind one word more.
+pub fn next(alloc: Global, state: State, word: &str) -> Result<State, WordFail>
+    ensures next { IfOk result (λ s. next (seen_state state) word.now ≡ Some (seen_state s)) }
+    ensures bad { result ≡ Err Bad → next (seen_state state) word.now ≡ None }
+{
+    match state {
+        State::Begin => begun(alloc, first(word)),
+        State::Whole(_) => Err(WordFail::Bad),
+        State::Options(verb, options) => option(alloc, verb, options, word),
+        State::Threshold(verb, options) => threshold(verb, options, word),
+        State::Prefix(verb, options) => prefix(alloc, verb, options, word),
+        State::Names(options, names) => one_name(alloc, options, names, word),
+        State::Kind => asked(kind_of(word)),
+        State::Target => target(alloc, word),
+        State::Run => run(alloc, word),
+        State::Term(trace, options, source) => term(alloc, trace, options, source, word),
+        State::Values(trace, options, source, term) => {
+            values(alloc, trace, options, source, term, word)
+        }
+        State::Behind(trace, options, source, term, values) => {
+            behind(trace, options, source, term, values, word)
+        }
+        State::Answers(trace, options, source, term, values) => {
+            answers(alloc, trace, options, source, term, values, word)
+        }
+    }
+}
+
+/// What is known behind the first word.
+fn begun(alloc: Global, word: FirstWord) -> Result<State, WordFail>
+    ensures next { IfOk result (λ s. begun word ≡ Some (seen_state s)) }
+    ensures bad { result ≡ Err Bad → begun word ≡ None }
+{
+    match word {
+        FirstWord::Help => Ok(State::Whole(Command::Help)),
+        FirstWord::Version => Ok(State::Whole(Command::Version)),
+        FirstWord::Compile => Ok(State::Options(Verb::Compile, CodegenOptions::new(alloc))),
+        FirstWord::Build => Ok(State::Options(Verb::Build, CodegenOptions::new(alloc))),
+        FirstWord::Prelude => Ok(State::Kind),
+        FirstWord::Units => Ok(State::Whole(Command::Units)),
+        FirstWord::Isa => Ok(State::Target),
+        FirstWord::Run => Ok(State::Run),
+        FirstWord::Other => Err(WordFail::Bad),
+    }
+}
+
+/// What is known behind the kind of a prelude.
+fn asked(kind: Option<Kind>) -> Result<State, WordFail>
+    ensures next { IfOk result (λ s. asked kind ≡ Some (seen_state s)) }
+    ensures bad { result ≡ Err Bad → asked kind ≡ None }
+{
+    match kind {
+        Some(kind) => Ok(State::Whole(Command::Prelude(kind))),
+        None => Err(WordFail::Bad),
+    }
+}
+
+/// What is known behind a target.
+fn target(alloc: Global, word: &str) -> Result<State, WordFail>
+    ensures next { IfOk result (λ s. next known.Target word.now ≡ Some (seen_state s)) }
+    ensures bad { result ≡ Err Bad → next known.Target word.now ≡ None }
+{
+    let target = String::from_str(alloc, word)?;
+    Ok(State::Whole(Command::Isa(Text::new(target))))
+}

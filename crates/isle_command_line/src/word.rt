@@ -1,0 +1,125 @@
+ghost use Rattle.std.specs.Prelude.{◌≡◌};
+ghost use Rattle.isle_command_line.specs.Words.{is_name};
+ghost use Rattle.isle_command_line.specs.Reading.{first, mark, kind_of, count, is_trace, is_answers};
+
+use crate::commands::Kind;
+
+/// What the first word of a line is.
+#[derive(Clone, Copy, Debug, PartialEq, Eq)]
+pub enum FirstWord {
+    Help,
+    Version,
+    Compile,
+    Build,
+    Prelude,
+    Units,
+    Isa,
+    Run,
+    /// No line begins with it.
+    Other,
+}
+
+/// What a word is where an option may stand.
+#[derive(Clone, Copy, Debug, PartialEq, Eq)]
+pub enum OptionWord {
+    NoAllow,
+    Log,
+    Split,
+    Threshold,
+    Prefix,
+    /// It is no option.
+    Other,
+}
+
+/// What the first word is.
+#[tactic(auto, unfolding(crate::specs::Reading::first))]
+pub fn first(word: &str) -> FirstWord
+    ensures { result ≡ first word.now }
+{
+    match word {
+        "--help" => FirstWord::Help,
+        "--version" => FirstWord::Version,
+        "compile" => FirstWord::Compile,
+        "build" => FirstWord::Build,
+        "prelude" => FirstWord::Prelude,
+        "units" => FirstWord::Units,
+        "isa" => FirstWord::Isa,
+        "run" => FirstWord::Run,
+        _ => FirstWord::Other,
+    }
+}
+
+/// The option that a word names.
+#[tactic(auto, unfolding(crate::specs::Reading::mark))]
+pub fn mark(word: &str) -> OptionWord
+    ensures { result ≡ mark word.now }
+{
+    match word {
+        "--no-allow" => OptionWord::NoAllow,
+        "--log" => OptionWord::Log,
+        "--split" => OptionWord::Split,
+        "--threshold" => OptionWord::Threshold,
+        "--prefix" => OptionWord::Prefix,
+        _ => OptionWord::Other,
+    }
+}
+
+/// The kind of prelude that a word names.
+#[tactic(auto, unfolding(crate::specs::Reading::kind_of))]
+pub fn kind_of(word: &str) -> Option<Kind>
+    ensures { result ≡ kind_of word.now }
+{
+    match word {
+        "numerics" => Some(Kind::Numerics),
+        "numerics-rust" => Some(Kind::NumericsRust),
+        "clif-opt" => Some(Kind::ClifOpt),
+        "clif-lower" => Some(Kind::ClifLower),
+        "assembler" => Some(Kind::Assembler),
+        "assembler-rust" => Some(Kind::AssemblerRust),
+        "pulley" => Some(Kind::Pulley),
+        "pulley-rust" => Some(Kind::PulleyRust),
+        _ => None,
+    }
+}
+
+/// Whether a word may name an input or a unit.
+pub fn is_name(word: &str) -> bool
+    ensures { result ≡ is_name word.now }
+{
+    !word.is_empty() && !word.starts_with("--")
+}
+
+/// Whether a word asks for a trace.
+#[tactic(auto, unfolding(crate::specs::Reading::is_trace))]
+pub fn is_trace(word: &str) -> bool
+    ensures { result ≡ is_trace word.now }
+{
+    word == "--trace"
+}
+
+/// Whether a file of answers is named behind a word.
+#[tactic(auto, unfolding(crate::specs::Reading::is_answers))]
+pub fn is_answers(word: &str) -> bool
+    ensures { result ≡ is_answers word.now }
+{
+    word == "--answers"
+}
+
+/// The number that a word of 1 to 18 digits spells.
+#[tactic(auto, unfolding(crate::specs::Reading::count))]
+pub fn count(word: &str) -> Option<usize>
+    ensures { result ≡ count word.now }
+{
+    let digits = word.as_bytes();
+    if digits.is_empty() || digits.len() > 18 {
+        return None;
+    }
+    let mut value = 0_usize;
+    for digit in digits {
+        if !digit.is_ascii_digit() {
+            return None;
+        }
+        value = value * 10 + usize::from(*digit - b'0');
+    }
+    Some(value)
+}

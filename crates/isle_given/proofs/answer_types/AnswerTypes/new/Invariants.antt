@@ -1,6 +1,0 @@
-use Rattle.std.proofs.Common.{drop}
-use Rattle.isle_given.specs.AnswerTypes.{FindsTypes}
-use Rattle.isle_given.proofs.answer_types.AnswerTypes.new.Given as goal
-
-abbrev pub invariant-loop-index : goal.invariant-loop-index
-invariant-loop-index l = FindsTypes l.fn.typeenv (drop l.index l.fn.terms) l.external l.internal

@@ -1,4 +1,0 @@
-use Rattle.isle_ink.proofs.numeral.+push_short.Given as goal
-
-abbrev pub decreases-push_short : goal.decreases-push_short
-decreases-push_short l = l.n

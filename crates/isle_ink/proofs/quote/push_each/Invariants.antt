@@ -1,7 +1,0 @@
-use Rattle.std.proofs.Common.{◌≡◌, ◌++◌, string_bytes}
-use lib.Utf8.{encodes}
-use Rattle.isle_ink.specs.Quote.{escaped}
-use Rattle.isle_ink.proofs.quote.push_each.Given as goal
-
-abbrev pub invariant-loop-c : goal.invariant-loop-c
-invariant-loop-c l = string_bytes l.out ≡ string_bytes l.fn.out ++ escaped (encodes l.yielded)

@@ -1,0 +1,121 @@
+-- A meaning that has the answers of another one runs a function whose calls those answer in the same way.
+use Rattle.std.proofs.Common.{◌≡◌, ℕ, zero, List, [], ◌∷◌, ◌++◌, map, Bool, true, false, Option, Some, None, refl, sym, ap, ◌∙◌, subst, arith}
+use Rattle.std.specs.Prelude.{find, cond, Contains, if◌then◌else◌}
+use Rattle.std.specs.List.{AllByRecursion}
+use Rattle.std.proofs.lemmas.List.Elements.{recursion_from_All, Contains-append_left, Contains-append_right}
+use Rattle.isle_core.specs.declared.values.Callee.{Callee}
+use Rattle.isle_core.specs.Value.{Value, Made}
+use Rattle.isle_core.specs.SameValue.{same_value}
+use Rattle.isle_core.specs.Meaning.{PureAnswers, TurnAnswers, Meaning, turns_of, cases_of}
+use Rattle.isle_core.specs.Answered.{answer_held, answer}
+use Rattle.isle_core.specs.Having.{HasCases, HasTurns, HasAnswers}
+use Rattle.isle_core.specs.Terms.{goes_to}
+use Rattle.isle_target.specs.declared.tree.TExpr.{TExpr}
+use Rattle.isle_target.specs.declared.tree.TExpr.TheVariants as expr
+use Rattle.isle_target.specs.Program.{Stmt, Let, LetList, IfEq, IfLet, Match, Loop, Return, Extend, Overflow, Log, Split, Tail, Body, Done, Then, Function}
+use Rattle.isle_target.specs.Run.{Env, Flow, Goes, Ends, Stuck, value_of, read_values, on_value, then_run, behind, run_bind, run_call, run_let, run_stmt, run_body, ended, function_run}
+use Rattle.isle_interpreter.specs.Forms.{Constant, Cases, Turns, forms, IsUnanswered}
+use Rattle.isle_interpreter.specs.Callees.{expr_calls, stmt_calls, body_calls}
+use Rattle.isle_interpreter.specs.Refusals.{AreAnswered}
+use Rattle.isle_interpreter.proofs.AnswersHold.{goes_same, both_unanswered, no_constants, no_turns, no_cases}
+use Rattle.isle_interpreter.proofs.Answering.{by_turns, by_cases}
+
+-- what is found passes the test, and is as all are
+found : {A : Type 0} (P : A → Type 0) (test : A → Bool) (xs : List A) (x : A) → AllByRecursion P xs → find test xs ≡ Some x → P x × (test x ≡ true)
+found P test [] x all e = absurd cc
+found P test (y ∷ xs) x all e = by (test y) refl (found P test xs x all.1) e
+  where
+    by : (b : Bool) → test y ≡ b → (find test xs ≡ Some x → P x × (test x ≡ true)) → cond b (Some y) (find test xs) ≡ Some x → P x × (test x ≡ true)
+    by true is others e = let same : y ≡ x = cc in (subst P same all.0, subst (λ z. test z ≡ true) same is)
+    by false is others e = others e
+
+module _ (m given : Meaning) (has : HasAnswers m given) where
+  has_turns : (callee : Callee) (t : TurnAnswers) → turns_of given callee ≡ Some t → turns_of m callee ≡ Some t
+  has_turns callee t e =
+      let there = found (HasTurns m) (λ (a : TurnAnswers). goes_to callee (Some a.callee)) given.turns t (recursion_from_All (HasTurns m) given.turns has.turns) e in
+      subst (λ c. turns_of m c ≡ Some t) (goes_same callee t.callee there.1) there.0
+
+  has_cases : (callee : Callee) (a : PureAnswers) → cases_of given callee ≡ Some a → (cases_of m callee ≡ Some a) × (turns_of m callee ≡ None)
+  has_cases callee a e =
+      let there = found (HasCases m) (λ (a : PureAnswers). goes_to callee (Some a.callee)) given.pure a (recursion_from_All (HasCases m) given.pure has.cases) e in
+      subst (λ c. (cases_of m c ≡ Some a) × (turns_of m c ≡ None)) (goes_same callee a.callee there.1) there.0
+
+  unanswered : (callee : Callee) → turns_of given callee ≡ None → cases_of given callee ≡ None → IsUnanswered callee (forms given)
+  unanswered callee t c =
+      both_unanswered callee (map (λ c. Constant c.0 c.1) given.consts) (map Cases given.pure ++ map Turns given.turns) (no_constants callee given.consts)
+      (both_unanswered callee (map Cases given.pure) (map Turns given.turns) (no_cases callee given.pure c) (no_turns callee given.turns t))
+
+  -- a callee with a form is answered alike
+  same_answer : (callee : Callee) → (IsUnanswered callee (forms given) → ⊥) → (vs : List Value) (made : List Made) → answer m callee vs made ≡ answer given callee vs made
+  same_answer callee some vs made = turns (turns_of given callee) refl
+    where
+      cases : turns_of given callee ≡ None → (o : Option PureAnswers) → cases_of given callee ≡ o → answer m callee vs made ≡ answer given callee vs made
+      cases t None e = absurd (some (unanswered callee t e))
+      cases t (Some a) e =
+          let h = has_cases callee a e in
+          by_cases m callee vs made a h.1 h.0 ∙ sym (by_cases given callee vs made a t e)
+
+      turns : (o : Option TurnAnswers) → turns_of given callee ≡ o → answer m callee vs made ≡ answer given callee vs made
+      turns None e = cases e (cases_of given callee) refl
+      turns (Some t) e = by_turns m callee vs made t (has_turns callee t e) ∙ sym (by_turns given callee vs made t e)
+
+  -- ---- statements
+
+  -- these callees are answered alike
+  abbrev Alike : List Callee → Type 0
+  Alike cs = (callee : Callee) → Contains cs callee → (vs : List Value) (made : List Made) → answer m callee vs made ≡ answer given callee vs made
+
+  front : (cs ds : List Callee) → Alike (cs ++ ds) → Alike cs
+  front cs ds alike callee there = alike callee (Contains-append_left cs ds callee there)
+
+  back : (cs ds : List Callee) → Alike (cs ++ ds) → Alike ds
+  back cs ds alike callee there = alike callee (Contains-append_right cs ds callee there)
+
+  same_call : (n : ℕ) (callee : Callee) (o : Option (List Value)) (env : Env) (made : List Made) → Alike (callee ∷ []) → run_call m n callee o env made ≡ run_call given n callee o env made
+  same_call n callee None env made alike = refl
+  same_call n callee (Some vs) env made alike =
+      ap (λ a. run_bind n (answer_held a) env (made ++ record { callee = callee; args = vs } ∷ [])) (alike callee (zero, omega arith, refl) vs made)
+
+  module _ (args : List Value) where
+    same_let : (n : ℕ) (e : TExpr) (env : Env) (made : List Made) → Alike (expr_calls e) → run_let m args n e env made ≡ run_let given args n e env made
+    same_let n (expr.Call borrow call) env made alike = same_call n call.callee (read_values args env call.args) env made alike
+    same_let n (expr.Read r) env made alike = refl
+    same_let n (expr.Some r) env made alike = refl
+    same_let n (expr.Try source as_ref) env made alike = refl
+    same_let n (expr.Variant ty variant fields) env made alike = refl
+    same_let n (expr.Struct ty fields) env made alike = refl
+    same_let n (expr.Tuple o k) env made alike = refl
+
+    then_same : (flow other : Flow) (go next : Env → List Made → Flow) → flow ≡ other → ((env : Env) (made : List Made) → go env made ≡ next env made) → then_run flow go ≡ then_run other next
+    then_same flow other go next e same = by flow ∙ ap (λ f. then_run f next) e
+      where
+        by : (f : Flow) → then_run f go ≡ then_run f next
+        by (Goes env made) = same env made
+        by (Ends end made) = refl
+        by Stuck = refl
+
+    mutual
+      same_stmt : (s : Stmt) (env : Env) (made : List Made) → Alike (stmt_calls s) → run_stmt m args s env made ≡ run_stmt given args s env made
+      same_stmt (Let n e) env made alike = same_let n e env made alike
+      same_stmt (IfEq a b inside) env made alike =
+          ap (λ flow. on_value (value_of args env a) (λ v. on_value (value_of args env b) (λ w. if same_value v w then behind env flow else Goes env made))) (same_body inside env made alike)
+      same_stmt (Return e) env made alike = refl
+      same_stmt (Tail texts) env made alike = refl
+      same_stmt (LetList n call) env made alike = refl
+      same_stmt (IfLet pat r inside) env made alike = refl
+      same_stmt (Match r arms) env made alike = refl
+      same_stmt (Loop list item inside) env made alike = refl
+      same_stmt (Extend r) env made alike = refl
+      same_stmt (Overflow inside) env made alike = refl
+      same_stmt (Log term place) env made alike = refl
+      same_stmt (Split inside within) env made alike = refl
+
+      same_body : (b : Body) (env : Env) (made : List Made) → Alike (body_calls b) → run_body m args b env made ≡ run_body given args b env made
+      same_body Done env made alike = refl
+      same_body (Then s ss) env made alike =
+          then_same (run_stmt m args s env made) (run_stmt given args s env made) (run_body m args ss) (run_body given args ss) (same_stmt s env made (front (stmt_calls s) (body_calls ss) alike))
+          (λ inner calls. same_body ss inner calls (back (stmt_calls s) (body_calls ss) alike))
+
+    -- the two runs are one
+    pub same_run : (f : Function) → AreAnswered f (forms given) → function_run m args (Some f) ≡ function_run given args (Some f)
+    same_run f some = ap ended (same_body f.body [] [] (λ callee there. same_answer callee (some callee there)))

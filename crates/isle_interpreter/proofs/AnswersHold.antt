@@ -1,0 +1,159 @@
+-- What callees answer under right forms.
+use Rattle.std.proofs.Common.{◌≡◌, ℕ, List, [], ◌∷◌, ◌++◌, map, Bool, true, false, Option, Some, None, refl, sym, ap, subst, append_assoc, append-nil}
+use Rattle.std.specs.Prelude.{zero, suc, find, cond, IsSomeAnd, slice_index_or}
+use Rattle.std.specs.List.{AllByRecursion}
+use Rattle.std.proofs.lemmas.Slice.Eq.{bytes_eq-Decides}
+use Rattle.isle_core.specs.declared.values.Callee.{Callee}
+use Rattle.isle_core.specs.declared.values.Callee.TheVariants.{External, Internal}
+use Rattle.isle_core.specs.Value.{Value, Answer, Plain, Found, Nothing, Several, Made}
+use Rattle.isle_core.specs.Meaning.{PureAnswers, TurnAnswers, Meaning, turns_of, times, cases_of, case_or, case_at, same_values}
+use Rattle.isle_core.specs.Answered.{Held, One, Optional, answer_held, answer_by, answer}
+use Rattle.isle_core.specs.Terms.{goes_to}
+use Rattle.isle_target.specs.declared.holds.Holds.{Holds}
+use Rattle.isle_target.specs.declared.holds.Holds.TheVariants as holds
+use Rattle.isle_target.specs.Program.{Program}
+use Rattle.isle_target.specs.WellFormed.{kind_holds, AreResults}
+use Rattle.isle_interpreter.specs.Signatures.{Signature, signature_of, AreNamed, AnswerFits}
+use Rattle.isle_interpreter.specs.Forms.{Form, Constant, Cases, Turns, forms, IsUnanswered, CaseFits, FormFits, AreRight}
+
+-- a place holds what is said of it
+abbrev pub HoldsIn : Holds → Held → Type 0
+HoldsIn holds.One (One v) = Unit {0}
+HoldsIn holds.Optional (Optional o) = Unit {0}
+HoldsIn h g = ⊥
+
+-- ---- callees
+
+pub goes_same : (c d : Callee) → goes_to c (Some d) ≡ true → d ≡ c
+goes_same (External a) (External b) e = ap External (sym ((bytes_eq-Decides a b).0 e))
+goes_same (Internal a) (Internal b) e = ap Internal (sym ((bytes_eq-Decides a b).0 e))
+goes_same (External a) (Internal b) e = absurd cc
+goes_same (Internal a) (External b) e = absurd cc
+
+-- ---- right forms
+
+right_front : (p : Program) (e xs ys : List Form) → AreRight p e (xs ++ ys) → AreRight p e xs
+right_front p e [] ys h = tt
+right_front p e (x ∷ xs) ys h = (h.0, right_front p (e ++ x ∷ []) xs ys h.1)
+
+right_behind : (p : Program) (e xs ys : List Form) → AreRight p e (xs ++ ys) → AreRight p (e ++ xs) ys
+right_behind p e [] ys h = subst (λ fs. AreRight p fs ys) (sym (append-nil e)) h
+right_behind p e (x ∷ xs) ys h = subst (λ fs. AreRight p fs ys) (append_assoc e (x ∷ []) xs) (right_behind p (e ++ x ∷ []) xs ys h.1)
+
+turns_by : (p : Program) (callee : Callee) (t a : TurnAnswers) (tail : Option TurnAnswers) (b : Bool) → goes_to callee (Some t.callee) ≡ b → IsSomeAnd (signature_of p t.callee) (FormFits (Turns t))
+    → (tail ≡ Some a → IsSomeAnd (signature_of p callee) (FormFits (Turns a))) → cond b (Some t) tail ≡ Some a → IsSomeAnd (signature_of p callee) (FormFits (Turns a))
+turns_by p callee t a tail true g h go e =
+    let same : t ≡ a = cc in
+    subst (λ (x : TurnAnswers). IsSomeAnd (signature_of p callee) (FormFits (Turns x))) same (subst (λ c. IsSomeAnd (signature_of p c) (FormFits (Turns t))) (goes_same callee t.callee g) h)
+turns_by p callee t a tail false g h go e = go e
+
+found_turns : (p : Program) (e : List Form) (ts : List TurnAnswers) (callee : Callee) (a : TurnAnswers) → AreRight p e (map Turns ts) → find (λ (b : TurnAnswers). goes_to callee (Some b.callee)) ts ≡ Some a
+    → IsSomeAnd (signature_of p callee) (FormFits (Turns a))
+found_turns p e [] callee a h f = absurd cc
+found_turns p e (t ∷ ts) callee a h f =
+    turns_by p callee t a (find (λ (b : TurnAnswers). goes_to callee (Some b.callee)) ts) (goes_to callee (Some t.callee)) refl h.0.1 (found_turns p (e ++ Turns t ∷ []) ts callee a h.1) f
+
+cases_by : (p : Program) (callee : Callee) (t a : PureAnswers) (tail : Option PureAnswers) (b : Bool) → goes_to callee (Some t.callee) ≡ b → IsSomeAnd (signature_of p t.callee) (FormFits (Cases t))
+    → (tail ≡ Some a → IsSomeAnd (signature_of p callee) (FormFits (Cases a))) → cond b (Some t) tail ≡ Some a → IsSomeAnd (signature_of p callee) (FormFits (Cases a))
+cases_by p callee t a tail true g h go e =
+    let same : t ≡ a = cc in
+    subst (λ (x : PureAnswers). IsSomeAnd (signature_of p callee) (FormFits (Cases x))) same (subst (λ c. IsSomeAnd (signature_of p c) (FormFits (Cases t))) (goes_same callee t.callee g) h)
+cases_by p callee t a tail false g h go e = go e
+
+found_cases : (p : Program) (e : List Form) (ts : List PureAnswers) (callee : Callee) (a : PureAnswers) → AreRight p e (map Cases ts) → find (λ (b : PureAnswers). goes_to callee (Some b.callee)) ts ≡ Some a
+    → IsSomeAnd (signature_of p callee) (FormFits (Cases a))
+found_cases p e [] callee a h f = absurd cc
+found_cases p e (t ∷ ts) callee a h f =
+    cases_by p callee t a (find (λ (b : PureAnswers). goes_to callee (Some b.callee)) ts) (goes_to callee (Some t.callee)) refl h.0.1 (found_cases p (e ++ Cases t ∷ []) ts callee a h.1) f
+
+-- ---- a callee without turns and cases is unanswered
+
+pub both_unanswered : (callee : Callee) (xs ys : List Form) → IsUnanswered callee xs → IsUnanswered callee ys → IsUnanswered callee (xs ++ ys)
+both_unanswered callee [] ys h k = k
+both_unanswered callee (x ∷ xs) ys h k = (h.0, both_unanswered callee xs ys h.1 k)
+
+pub no_constants : (callee : Callee) (cs : List (List ℕ × Value)) → IsUnanswered callee (map (λ c. Constant c.0 c.1) cs)
+no_constants callee [] = tt
+no_constants callee (c ∷ cs) = (unanswered callee, no_constants callee cs)
+  where
+    unanswered : (callee : Callee) → goes_to callee None ≡ false
+    unanswered (External name) = refl
+    unanswered (Internal term) = refl
+
+cond_none : {A : Type 0} (b : Bool) (x : A) (tail : Option A) → cond b (Some x) tail ≡ None → (b ≡ false) × (tail ≡ None)
+cond_none true x tail e = absurd cc
+cond_none false x tail e = (refl, e)
+
+pub no_turns : (callee : Callee) (ts : List TurnAnswers) → find (λ (b : TurnAnswers). goes_to callee (Some b.callee)) ts ≡ None → IsUnanswered callee (map Turns ts)
+no_turns callee [] e = tt
+no_turns callee (t ∷ ts) e = let f = cond_none (goes_to callee (Some t.callee)) t (find (λ (b : TurnAnswers). goes_to callee (Some b.callee)) ts) e in (f.0, no_turns callee ts f.1)
+
+pub no_cases : (callee : Callee) (ts : List PureAnswers) → find (λ (b : PureAnswers). goes_to callee (Some b.callee)) ts ≡ None → IsUnanswered callee (map Cases ts)
+no_cases callee [] e = tt
+no_cases callee (t ∷ ts) e = let f = cond_none (goes_to callee (Some t.callee)) t (find (λ (b : PureAnswers). goes_to callee (Some b.callee)) ts) e in (f.0, no_cases callee ts f.1)
+
+-- ---- answers fit
+
+index_fits : {A : Type 0} (P : A → Type 0) (xs : List A) (n : ℕ) (d : A) → AllByRecursion P xs → P d → P (slice_index_or xs n d)
+index_fits P [] n d h k = k
+index_fits P (x ∷ xs) zero d h k = h.0
+index_fits P (x ∷ xs) (suc n) d h k = index_fits P xs n d h.1 k
+
+case_fits : (s : Signature) (rest : Answer) (test : List Value × Answer → Bool) (cs : List (List Value × Answer)) → AllByRecursion (CaseFits s) cs → AnswerFits s rest → AnswerFits s (case_or rest (find test cs))
+case_fits s rest test [] h k = k
+case_fits s rest test (c ∷ cs) h k = by (test c) (case_fits s rest test cs h.1 k)
+  where
+    by : (b : Bool) → AnswerFits s (case_or rest (find test cs)) → AnswerFits s (case_or rest (cond b (Some c) (find test cs)))
+    by true go = h.0.1
+    by false go = go
+
+-- an answer fits the signature of its callee
+pub answer_fits : (p : Program) (m : Meaning) (callee : Callee) (s : Signature) → AreRight p [] (forms m) → (IsUnanswered callee (forms m) → ⊥) → signature_of p callee ≡ Some s
+    → (vs : List Value) (made : List Made) → AnswerFits s (answer m callee vs made)
+answer_fits p m callee s right some is vs made = by_turns (turns_of m callee) refl
+  where
+    consts : List Form
+    consts = map (λ c. Constant c.0 c.1) m.consts
+
+    behind : AreRight p consts (map Cases m.pure ++ map Turns m.turns)
+    behind = right_behind p [] consts (map Cases m.pure ++ map Turns m.turns) right
+
+    by_cases : turns_of m callee ≡ None → (o : Option PureAnswers) → cases_of m callee ≡ o → AnswerFits s (case_at o vs)
+    by_cases t None e = absurd (some (both_unanswered callee consts (map Cases m.pure ++ map Turns m.turns) (no_constants callee m.consts) (both_unanswered callee (map Cases m.pure) (map Turns m.turns) (no_cases callee m.pure e) (no_turns callee m.turns t))))
+    by_cases t (Some a) e =
+        let fit : FormFits (Cases a) s = subst (λ o. IsSomeAnd o (FormFits (Cases a))) is (found_cases p consts m.pure callee a (right_front p consts (map Cases m.pure) (map Turns m.turns) behind) e) in
+        case_fits s a.rest (λ (c : List Value × Answer). same_values c.0 vs) a.cases fit.0 fit.1
+
+    by_turns : (o : Option TurnAnswers) → turns_of m callee ≡ o → AnswerFits s (answer_by o m callee vs made)
+    by_turns None e = by_cases e (cases_of m callee) refl
+    by_turns (Some a) e =
+        let fit : FormFits (Turns a) s = subst (λ o. IsSomeAnd o (FormFits (Turns a))) is (found_turns p (consts ++ map Cases m.pure) m.turns callee a (right_behind p consts (map Cases m.pure) (map Turns m.turns) behind) e) in
+        index_fits (AnswerFits s) a.turns (times callee made) a.rest fit.0 fit.1
+
+-- ---- and hold what their kind says
+
+plain_holds : (names : List (List ℕ)) (vs : List Value) → AreResults names → AreNamed names vs → HoldsIn holds.One (answer_held (Plain vs))
+plain_holds [] vs h k = absurd h
+plain_holds (n ∷ []) [] h k = absurd k
+plain_holds (n ∷ []) (v ∷ []) h k = tt
+plain_holds (n ∷ []) (v ∷ w ∷ vs) h k = absurd k.1
+plain_holds (n ∷ m ∷ ns) vs h k = absurd h
+
+found_holds : (names : List (List ℕ)) (vs : List Value) → AreResults names → AreNamed names vs → HoldsIn holds.Optional (answer_held (Found vs))
+found_holds [] vs h k = absurd h
+found_holds (n ∷ []) [] h k = absurd k
+found_holds (n ∷ []) (v ∷ []) h k = tt
+found_holds (n ∷ []) (v ∷ w ∷ vs) h k = absurd k.1
+found_holds (n ∷ m ∷ ns) vs h k = absurd h
+
+pub answer_holds : (s : Signature) (h : Holds) (a : Answer) → AreResults s.results → kind_holds s.kind ≡ Some h → AnswerFits s a → HoldsIn h (answer_held a)
+answer_holds s h (Plain vs) one e fit =
+    let is : h ≡ holds.One = cc in
+    subst (λ x. HoldsIn x (answer_held (Plain vs))) (sym is) (plain_holds s.results vs one fit.1)
+answer_holds s h (Found vs) one e fit =
+    let is : h ≡ holds.Optional = cc in
+    subst (λ x. HoldsIn x (answer_held (Found vs))) (sym is) (found_holds s.results vs one fit.1)
+answer_holds s h Nothing one e fit =
+    let is : h ≡ holds.Optional = cc in
+    subst (λ x. HoldsIn x (answer_held Nothing)) (sym is) tt
+answer_holds s h (Several vss) one e fit = absurd fit

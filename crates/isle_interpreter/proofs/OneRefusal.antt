@@ -1,0 +1,137 @@
+-- There is one refusal at most, and none where the function may run.
+use Rattle.std.proofs.Common.{◌≡◌, ℕ, zero, suc, ◌<◌, List, [], ◌∷◌, ◌++◌, length, take, Bool, true, false, Some, None, refl, sym, ap, ◌∙◌, subst, arith, append_assoc, append-nil}
+use Rattle.std.specs.Prelude.{nat_lt, slice_get, Contains}
+use Rattle.std.proofs.lemmas.Bool.Decides.{nat_tests}
+use Rattle.std.proofs.lemmas.List.{length-map}
+use Rattle.isle_core.specs.Value.{Value}
+use Rattle.isle_core.specs.Meaning.{Meaning}
+use Rattle.isle_target.specs.declared.tree.Ty.{Ty}
+use Rattle.isle_target.specs.Program.{Function, Program}
+use Rattle.isle_target.specs.Run.{function_of}
+use Rattle.isle_interpreter.specs.declared.run_error.RunError.{RunError}
+use Rattle.isle_interpreter.specs.declared.run_error.RunError.TheVariants as error
+use Rattle.isle_interpreter.specs.Signatures.{type_names, AreNamed}
+use Rattle.isle_interpreter.specs.Forms.{Form, forms, IsRight, AreRight}
+use Rattle.isle_interpreter.specs.Callees.{body_calls}
+use Rattle.isle_interpreter.specs.Refusals.{IsWrongArg, IsWrongForm, MayRun, IsRefused, no_term, arg_count, arg_type, wrong_form, missing}
+use Rattle.isle_interpreter.proofs.WrongNamed.{named_at, not_named}
+
+-- two numbers that neither lies below the other are one
+same_number : (i j : ℕ) → (i < j → ⊥) → (j < i → ⊥) → i ≡ j
+same_number i j up down = by (nat_lt i j) refl (nat_lt j i) refl
+  where
+    below : (n m : ℕ) → nat_lt n m ≡ true → n < m
+    below n m e = grind (arith, nat_tests)
+
+    equal : nat_lt i j ≡ false → nat_lt j i ≡ false → i ≡ j
+    equal e f = grind (arith, nat_tests)
+
+    by : (a : Bool) → nat_lt i j ≡ a → (b : Bool) → nat_lt j i ≡ b → i ≡ j
+    by true e b f = absurd (up (below i j e))
+    by false e true f = absurd (down (below j i f))
+    by false e false f = equal e f
+
+-- what stands in a front of a list
+get_taken : {A : Type 0} (i j : ℕ) (xs : List A) → i < j → slice_get (take j xs) i ≡ slice_get xs i
+get_taken i zero xs lt = absurd (omega (arith, lt))
+get_taken i (suc j) [] lt = refl
+get_taken zero (suc j) (x ∷ xs) lt = refl
+get_taken (suc i) (suc j) (x ∷ xs) lt = get_taken i j xs (omega (arith, lt))
+
+taken_twice : {A : Type 0} (i j : ℕ) (xs : List A) → i < j → take i (take j xs) ≡ take i xs
+taken_twice i zero xs lt = absurd (omega (arith, lt))
+taken_twice zero (suc j) xs lt = refl
+taken_twice (suc i) (suc j) [] lt = refl
+taken_twice (suc i) (suc j) (x ∷ xs) lt = ap (λ ys. x ∷ ys) (taken_twice i j xs (omega (arith, lt)))
+
+-- ---- arguments
+
+earlier_arg : (names : List (List ℕ)) (args : List Value) (i j : ℕ) → IsWrongArg names args i → IsWrongArg names args j → i < j → ⊥
+earlier_arg names args i j v w lt = v.wrong (named_at i (take j names) (take j args) v.name v.arg w.before (get_taken i j names lt ∙ v.named) (get_taken i j args lt ∙ v.given))
+
+one_arg : (names : List (List ℕ)) (args : List Value) (i j : ℕ) → IsWrongArg names args i → IsWrongArg names args j → i ≡ j
+one_arg names args i j v w = same_number i j (earlier_arg names args i j v w) (earlier_arg names args j i w v)
+
+named_count : (names : List (List ℕ)) (args : List Value) → AreNamed names args → length args ≡ length names
+named_count [] [] h = refl
+named_count (n ∷ names) (v ∷ args) h = ap suc (named_count names args h.1)
+named_count [] (v ∷ args) h = absurd h
+named_count (n ∷ names) [] h = absurd h
+
+typed_count : (f : Function) (args : List Value) → AreNamed (type_names f.params) args → length args ≡ length f.params
+typed_count f args typed = named_count (type_names f.params) args typed ∙ length-map f.params (λ (ty : Ty). ty.name)
+
+-- ---- forms
+
+right_at : (p : Program) (earlier fs : List Form) (i : ℕ) (f : Form) → AreRight p earlier fs → slice_get fs i ≡ Some f → IsRight p (earlier ++ take i fs) f
+right_at p earlier [] i f right e = absurd cc
+right_at p earlier (g ∷ fs) zero f right e =
+    let same : g ≡ f = cc in
+    subst (λ gs. IsRight p gs f) (sym (append-nil earlier)) (subst (IsRight p earlier) same right.0)
+right_at p earlier (g ∷ fs) (suc i) f right e = subst (λ gs. IsRight p gs f) (append_assoc earlier (g ∷ []) (take i fs)) (right_at p (earlier ++ g ∷ []) fs i f right.1 e)
+
+not_right : (p : Program) (fs : List Form) (i : ℕ) → IsWrongForm p fs i → AreRight p [] fs → ⊥
+not_right p fs i w right = w.wrong (right_at p [] fs i w.form right w.there)
+
+earlier_form : (p : Program) (fs : List Form) (i j : ℕ) → IsWrongForm p fs i → IsWrongForm p fs j → i < j → ⊥
+earlier_form p fs i j v w lt = v.wrong (subst (λ gs. IsRight p gs v.form) (taken_twice i j fs lt) (right_at p [] (take j fs) i v.form w.before (get_taken i j fs lt ∙ v.there)))
+
+one_form : (p : Program) (fs : List Form) (i j : ℕ) → IsWrongForm p fs i → IsWrongForm p fs j → i ≡ j
+one_form p fs i j v w = same_number i j (earlier_form p fs i j v w) (earlier_form p fs j i w v)
+
+-- ---- refusals
+
+module _ (p : Program) (term : List ℕ) (args : List Value) (m : Meaning) where
+  -- a function that takes the arguments
+  same : (f g : Function) → function_of term p.fns ≡ Some f → function_of term p.fns ≡ Some g → f ≡ g
+  same f g e h = cc
+
+  typed_as : (f g : Function) → function_of term p.fns ≡ Some f → function_of term p.fns ≡ Some g → AreNamed (type_names f.params) args → AreNamed (type_names g.params) args
+  typed_as f g e h typed = subst (λ (k : Function). AreNamed (type_names k.params) args) (same f g e h) typed
+
+  counted_as : (f g : Function) → function_of term p.fns ≡ Some f → function_of term p.fns ≡ Some g → length args ≡ length f.params → length args ≡ length g.params
+  counted_as f g e h count = subst (λ (k : Function). length args ≡ length k.params) (same f g e h) count
+
+  -- a wrong argument and arguments that are taken
+  not_typed : (f g : Function) (i : ℕ) → function_of term p.fns ≡ Some f → function_of term p.fns ≡ Some g → IsWrongArg (type_names f.params) args i → AreNamed (type_names g.params) args → ⊥
+  not_typed f g i e h w typed = not_named (type_names f.params) args i w (typed_as g f h e typed)
+
+  -- another number of arguments and arguments that are taken
+  not_counted : (f g : Function) → function_of term p.fns ≡ Some f → function_of term p.fns ≡ Some g → (length args ≡ length f.params → ⊥) → AreNamed (type_names g.params) args → ⊥
+  not_counted f g e h n typed = n (counted_as g f h e (typed_count g args typed))
+
+  -- two refusals are one
+  pub one_refusal : (d e : RunError) → IsRefused p term args m d → IsRefused p term args m e → d ≡ e
+  one_refusal _ _ (no_term a) (no_term b) = refl
+  one_refusal _ _ (no_term a) (arg_count g h n) = absurd cc
+  one_refusal _ _ (no_term a) (arg_type g j h n w) = absurd cc
+  one_refusal _ _ (no_term a) (wrong_form g j h t w) = absurd cc
+  one_refusal _ _ (no_term a) (missing g h t r l) = absurd cc
+  one_refusal _ _ (arg_count f e n) (no_term b) = absurd cc
+  one_refusal _ _ (arg_count f e n) (arg_count g h k) = refl
+  one_refusal _ _ (arg_count f e n) (arg_type g j h k w) = absurd (n (counted_as g f h e k))
+  one_refusal _ _ (arg_count f e n) (wrong_form g j h t w) = absurd (not_counted f g e h n t)
+  one_refusal _ _ (arg_count f e n) (missing g h t r l) = absurd (not_counted f g e h n t)
+  one_refusal _ _ (arg_type f i e n v) (no_term b) = absurd cc
+  one_refusal _ _ (arg_type f i e n v) (arg_count g h k) = absurd (k (counted_as f g e h n))
+  one_refusal _ _ (arg_type f i e n v) (arg_type g j h k w) = ap error.ArgType (one_arg (type_names f.params) args i j v (subst (λ (x : Function). IsWrongArg (type_names x.params) args j) (same g f h e) w))
+  one_refusal _ _ (arg_type f i e n v) (wrong_form g j h t w) = absurd (not_typed f g i e h v t)
+  one_refusal _ _ (arg_type f i e n v) (missing g h t r l) = absurd (not_typed f g i e h v t)
+  one_refusal _ _ (wrong_form f i e s v) (no_term b) = absurd cc
+  one_refusal _ _ (wrong_form f i e s v) (arg_count g h k) = absurd (not_counted g f h e k s)
+  one_refusal _ _ (wrong_form f i e s v) (arg_type g j h k w) = absurd (not_typed g f j h e w s)
+  one_refusal _ _ (wrong_form f i e s v) (wrong_form g j h t w) = ap error.BadAnswers (one_form p (forms m) i j v w)
+  one_refusal _ _ (wrong_form f i e s v) (missing g h t r l) = absurd (not_right p (forms m) i v r)
+  one_refusal _ _ (missing f e s r l) (no_term b) = absurd cc
+  one_refusal _ _ (missing f e s r l) (arg_count g h k) = absurd (not_counted g f h e k s)
+  one_refusal _ _ (missing f e s r l) (arg_type g j h k w) = absurd (not_typed g f j h e w s)
+  one_refusal _ _ (missing f e s r l) (wrong_form g j h t w) = absurd (not_right p (forms m) j w r)
+  one_refusal _ _ (missing f e s r l) (missing g h t q k) = refl
+
+  -- where the function may run there is none
+  pub not_refused : (f : Function) (d : RunError) → MayRun p term args m f → IsRefused p term args m d → ⊥
+  not_refused f _ may (no_term b) = let none : None ≡ Some f = sym b ∙ may.there in cc
+  not_refused f _ may (arg_count g h k) = not_counted g f h may.there k may.typed
+  not_refused f _ may (arg_type g j h k w) = not_typed g f j h may.there w may.typed
+  not_refused f _ may (wrong_form g j h t w) = not_right p (forms m) j w may.right
+  not_refused f _ may (missing g h t r l) = may.answered l.callee (subst (λ (x : Function). Contains (body_calls x.body) l.callee) (same g f h may.there) l.called) l.none

@@ -1,0 +1,334 @@
+-- A well-formed function, with arguments and answers that fit, has a run.
+use Rattle.std.proofs.Common.{◌≡◌, ℕ, zero, suc, ◌<◌, List, [], ◌∷◌, ◌++◌, length, Bool, true, false, Option, Some, None, refl, sym, ap, ◌∙◌, subst, arith, rules}
+use Rattle.std.specs.Prelude.{◌==◌, ◌&&◌, nat_lt, fold, if◌then◌else◌, Contains, IsSome, slice_get}
+use Rattle.std.specs.List.{AllByRecursion}
+use Rattle.std.proofs.lemmas.Bool.Decides.{nat_tests}
+use Rattle.std.proofs.lemmas.List.Elements.{Contains-append_left, Contains-append_right}
+use Rattle.isle_core.specs.declared.types.ReturnKind.{ReturnKind}
+use Rattle.isle_core.specs.declared.types.ReturnKind.TheVariants as kind
+use Rattle.isle_core.specs.declared.values.Callee.{Callee}
+use Rattle.isle_core.specs.Value.{Value, Made, End, GivesSome}
+use Rattle.isle_core.specs.SameValue.{same_value}
+use Rattle.isle_core.specs.Meaning.{Meaning}
+use Rattle.isle_core.specs.Answered.{Held, Absent, One, Optional, answer_held, answer}
+use Rattle.isle_core.specs.Held.{held, value_before}
+use Rattle.isle_target.specs.declared.holds.Holds.{Holds}
+use Rattle.isle_target.specs.declared.holds.Holds.TheVariants as holds
+use Rattle.isle_target.specs.declared.tree.Operand.{Operand}
+use Rattle.isle_target.specs.declared.tree.Operand.TheVariants as operand
+use Rattle.isle_target.specs.declared.tree.Read.{Read}
+use Rattle.isle_target.specs.declared.tree.Read.TheVariants as read
+use Rattle.isle_target.specs.declared.tree.TCall.{TCall}
+use Rattle.isle_target.specs.declared.tree.TExpr.{TExpr}
+use Rattle.isle_target.specs.declared.tree.TExpr.TheVariants as expr
+use Rattle.isle_target.specs.declared.tree.TraitFn.{TraitFn}
+use Rattle.isle_target.specs.Program.{Stmt, Let, LetList, IfEq, IfLet, Match, Loop, Return, Extend, Overflow, Log, Split, Tail, Body, Done, Then}
+use Rattle.isle_target.specs.WellFormed as well
+use Rattle.isle_target.specs.WellFormed.{Locals, IsOperand, IsRead, IsCallee, IsExpr, IsStmt, IsBody, local_holds, operand_holds, read_holds, is_value, are_values, callee_holds, inner_holds, expr_holds, GivesKind, behind_let, bound_behind, IsStmtThere, IsBodyThere, IsReturned, FitsStmt, FitsBody, FitsLast, FitsFunction}
+use Rattle.isle_target.specs.Run.{Env, Flow, Goes, Ends, Stuck, newer, look, bind, value_of, read_value, read_values, on_value, then_run, behind, run_bind, run_call, run_try, run_let, ends_with, run_return, run_stmt, run_body}
+use Rattle.isle_interpreter.specs.Callees.{expr_calls, stmt_calls, body_calls}
+use Rattle.isle_interpreter.proofs.AnswersHold.{HoldsIn}
+
+-- ---- locals hold what is said of them
+
+-- as many locals, by the same numbers, and each holds that
+abbrev pub Agree : Locals → Env → Type 0
+Agree [] [] = Unit {0}
+Agree (b ∷ bound) (e ∷ env) = (b.0 ≡ e.0) × HoldsIn b.1 e.1 × Agree bound env
+Agree [] (e ∷ env) = ⊥
+Agree (b ∷ bound) [] = ⊥
+
+-- what may be said of a place
+abbrev Told : Option Holds → Held → Type 0
+Told None g = Unit {0}
+Told (Some h) g = HoldsIn h g
+
+told_newer : (n : ℕ) (o : Option Holds) (g : Held) (b : ℕ × Holds) (e : ℕ × Held) → Told o g → b.0 ≡ e.0 → HoldsIn b.1 e.1 → Told (well.newer n o b) (newer n g e)
+told_newer n o g b e t same h = by (b.0 == n) (e.0 == n) (ap (λ k. k == n) same)
+  where
+    by : (x y : Bool) → x ≡ y → Told (if x then Some b.1 else o) (if y then e.1 else g)
+    by true true f = h
+    by false false f = t
+    by true false f = absurd cc
+    by false true f = absurd cc
+
+told_fold : (n : ℕ) (bound : Locals) (env : Env) (o : Option Holds) (g : Held) → Agree bound env → Told o g → Told (fold (well.newer n) o bound) (fold (newer n) g env)
+told_fold n [] [] o g a t = t
+told_fold n (b ∷ bound) (e ∷ env) o g a t = told_fold n bound env (well.newer n o b) (newer n g e) a.2 (told_newer n o g b e t a.0 a.1)
+told_fold n [] (e ∷ env) o g a t = absurd a
+told_fold n (b ∷ bound) [] o g a t = absurd a
+
+told_local : (n : ℕ) (bound : Locals) (env : Env) → Agree bound env → Told (local_holds bound n) (look env n)
+told_local n bound env a = told_fold n bound env None Absent a tt
+
+one_more : (bound : Locals) (env : Env) (n : ℕ) (h : Holds) (g : Held) → Agree bound env → HoldsIn h g → Agree (bound ++ (n, h) ∷ []) (bind env n g)
+one_more [] [] n h g a k = (refl, k, tt)
+one_more (b ∷ bound) (e ∷ env) n h g a k = (a.0, a.1, one_more bound env n h g a.2 k)
+one_more [] (e ∷ env) n h g a k = absurd a
+one_more (b ∷ bound) [] n h g a k = absurd a
+
+-- ---- operands and reads
+
+given : (args : List Value) (n : ℕ) → n < length args → HoldsIn holds.One (held (slice_get args n))
+given [] n l = absurd (omega (arith, l))
+given (v ∷ args) zero l = tt
+given (v ∷ args) (suc n) l = given args n (omega (arith, l))
+
+told_arg : (args : List Value) (n : ℕ) → Told (if nat_lt n (length args) then Some holds.One else None) (held (slice_get args n))
+told_arg args n = by (nat_lt n (length args)) refl
+  where
+    below : nat_lt n (length args) ≡ true → n < length args
+    below e = grind (arith, nat_tests)
+
+    by : (b : Bool) → nat_lt n (length args) ≡ b → Told (if b then Some holds.One else None) (held (slice_get args n))
+    by true e = given args n (below e)
+    by false e = tt
+
+told_operand : (args : List Value) (bound : Locals) (env : Env) (o : Operand) → IsOperand o → Agree bound env → Told (operand_holds (length args) bound o) (value_of args env o)
+told_operand args bound env (operand.Local n) is a = told_local n bound env a
+told_operand args bound env (operand.Arg n) is a = told_arg args n
+told_operand args bound env (operand.Bool b) is a = tt
+told_operand args bound env (operand.Int ty z) is a = tt
+told_operand args bound env (operand.Raw z) is a = absurd is
+told_operand args bound env (operand.Name w) is a = absurd is
+
+told_read : (args : List Value) (bound : Locals) (env : Env) (r : Read) → IsRead r → Agree bound env → Told (read_holds (length args) bound r) (read_value args env r)
+told_read args bound env (read.Plain o) is a = told_operand args bound env o is a
+told_read args bound env (read.Borrow o) is a = absurd is
+told_read args bound env (read.Clone o) is a = absurd is
+
+-- a value stands there
+record HasValue (g : Held) : Type 0 where
+  v : Value
+  is : g ≡ One v
+
+told_value : (o : Option Holds) (g : Held) → Told o g → is_value o ≡ true → HasValue g
+told_value None g t e = absurd cc
+told_value (Some holds.One) (One v) t e = record { v = v; is = refl }
+told_value (Some holds.One) (Optional o) t e = absurd t
+told_value (Some holds.One) Absent t e = absurd t
+told_value (Some holds.Optional) g t e = absurd cc
+
+-- the values that are read are there
+record HaveValues (o : Option (List Value)) : Type 0 where
+  vs : List Value
+  are : o ≡ Some vs
+
+both_there : (g : Held) (o : Option (List Value)) → HasValue g → HaveValues o → HaveValues (value_before g o)
+both_there g o one others = record { vs = one.v ∷ others.vs; are = ap (λ x. value_before x o) one.is ∙ ap (value_before (One one.v)) others.are }
+
+told_values : (args : List Value) (bound : Locals) (env : Env) (rs : List Read) → AllByRecursion IsRead rs → Agree bound env → are_values (length args) bound rs ≡ true → HaveValues (read_values args env rs)
+told_values args bound env [] is a e = record { vs = []; are = refl }
+told_values args bound env (r ∷ rs) is a e = by (is_value (read_holds (length args) bound r)) refl e (told_values args bound env rs is.1 a)
+  where
+    by : (b : Bool) → is_value (read_holds (length args) bound r) ≡ b → (b && are_values (length args) bound rs) ≡ true → (are_values (length args) bound rs ≡ true → HaveValues (read_values args env rs)) → HaveValues (read_values args env (r ∷ rs))
+    by true f g go = both_there (read_value args env r) (read_values args env rs) (told_value (read_holds (length args) bound r) (read_value args env r) (told_read args bound env r is.0 a) f) (go g)
+    by false f g go = absurd cc
+
+-- ---- statements go on or end
+
+-- a flow that is not stuck, with these locals where it goes on
+abbrev pub Well : Locals → Flow → Type 0
+Well bound (Goes env made) = Agree bound env
+Well bound (Ends end made) = Unit {0}
+Well bound Stuck = ⊥
+
+-- where only that counts
+abbrev pub NotStuck : Flow → Type 0
+NotStuck (Goes env made) = Unit {0}
+NotStuck (Ends end made) = Unit {0}
+NotStuck Stuck = ⊥
+
+well_behind : (bound : Locals) (env : Env) (flow : Flow) → Agree bound env → NotStuck flow → Well bound (behind env flow)
+well_behind bound env (Goes inner made) a h = a
+well_behind bound env (Ends end made) a h = tt
+well_behind bound env Stuck a h = h
+
+well_bind : (n : ℕ) (h : Holds) (g : Held) (bound : Locals) (env : Env) (made : List Made) → Agree bound env → HoldsIn h g → Well (bound ++ (n, h) ∷ []) (run_bind n g env made)
+well_bind n h (One v) bound env made a k = one_more bound env n h (One v) a k
+well_bind n h (Optional o) bound env made a k = one_more bound env n h (Optional o) a k
+well_bind n holds.One Absent bound env made a k = absurd k
+well_bind n holds.Optional Absent bound env made a k = absurd k
+
+-- what is bound to what a place holds
+well_told : (n : ℕ) (o : Option Holds) (g : Held) (bound : Locals) (env : Env) (made : List Made) → Agree bound env → IsSome o → Told o g → Well (behind_let o n bound) (run_bind n g env made)
+well_told n None g bound env made a e t = absurd cc
+well_told n (Some h) g bound env made a e t = well_bind n h g bound env made a t
+
+well_try : (n : ℕ) (o : Option Holds) (g : Held) (bound : Locals) (env : Env) (made : List Made) → Agree bound env → IsSome (inner_holds o) → Told o g → Well (behind_let (inner_holds o) n bound) (run_try n g env made)
+well_try n None g bound env made a e t = absurd cc
+well_try n (Some holds.One) g bound env made a e t = absurd cc
+well_try n (Some holds.Optional) (Optional (Some v)) bound env made a e t = one_more bound env n holds.One (One v) a tt
+well_try n (Some holds.Optional) (Optional None) bound env made a e t = tt
+well_try n (Some holds.Optional) (One v) bound env made a e t = absurd t
+well_try n (Some holds.Optional) Absent bound env made a e t = absurd t
+
+-- ---- what is called answers with its kind
+
+-- each callee that the program's functions of the trait have answers so
+abbrev pub Answering : List TraitFn → Meaning → List Callee → Type 0
+Answering fns m callees = (c : Callee) → Contains callees c → (count : ℕ) (h : Holds) → callee_holds fns c count ≡ Some h → (vs : List Value) (made : List Made) → HoldsIn h (answer_held (answer m c vs made))
+
+well_call : (fns : List TraitFn) (m : Meaning) (args : List Value) (n : ℕ) (call : TCall) (bound : Locals) (env : Env) (made : List Made) → AllByRecursion IsRead call.args → Agree bound env
+    → Answering fns m (call.callee ∷ [])
+    → (o : Option Holds) → o ≡ (if are_values (length args) bound call.args then callee_holds fns call.callee (length call.args) else None) → IsSome o
+    → Well (behind_let o n bound) (run_call m n call.callee (read_values args env call.args) env made)
+well_call fns m args n call bound env made is a answering o e some = by (are_values (length args) bound call.args) refl e
+  where
+    holding : (b : Option Holds) → callee_holds fns call.callee (length call.args) ≡ b → o ≡ b → HaveValues (read_values args env call.args) → Well (behind_let o n bound) (run_call m n call.callee (read_values args env call.args) env made)
+    holding None f g have = absurd cc
+    holding (Some h) f g have =
+        let held_so = answering call.callee (search rules) (length call.args) h f have.vs made in
+        rw (g, have.are) (well_bind n h (answer_held (answer m call.callee have.vs made)) bound env (made ++ record { callee = call.callee; args = have.vs } ∷ []) a held_so)
+
+    by : (b : Bool) → are_values (length args) bound call.args ≡ b → o ≡ (if b then callee_holds fns call.callee (length call.args) else None) → Well (behind_let o n bound) (run_call m n call.callee (read_values args env call.args) env made)
+    by true f g = holding (callee_holds fns call.callee (length call.args)) refl g (told_values args bound env call.args is a f)
+    by false f g = absurd cc
+
+-- ---- statements
+
+no_gift : (kind : ReturnKind) → GivesKind kind None → ⊥
+no_gift kind.Plain g = g
+no_gift kind.Option g = g
+no_gift kind.Iterator g = g
+
+module _ (fns : List TraitFn) (m : Meaning) (args : List Value) where
+  well_let : (n : ℕ) (e : TExpr) (bound : Locals) (env : Env) (made : List Made) → IsExpr e → IsSome (expr_holds fns (length args) bound e) → Answering fns m (expr_calls e) → Agree bound env
+      → Well (behind_let (expr_holds fns (length args) bound e) n bound) (run_let m args n e env made)
+  well_let n (expr.Read r) bound env made is some answering a = well_told n (read_holds (length args) bound r) (read_value args env r) bound env made a some (told_read args bound env r is a)
+  well_let n (expr.Call borrow call) bound env made is some answering a = well_call fns m args n call bound env made is.1.args a answering (expr_holds fns (length args) bound (expr.Call borrow call)) refl some
+  well_let n (expr.Some r) bound env made is some answering a = by (is_value (read_holds (length args) bound r)) refl some
+    where
+      by : (b : Bool) → is_value (read_holds (length args) bound r) ≡ b → IsSome (if b then Some holds.Optional else None) → Well (behind_let (if b then Some holds.Optional else None) n bound) (on_value (read_value args env r) (λ v. Goes (bind env n (Optional (Some v))) made))
+      by true f g =
+          let one = told_value (read_holds (length args) bound r) (read_value args env r) (told_read args bound env r is a) f in
+          subst (λ x. Well (bound ++ (n, holds.Optional) ∷ []) (on_value x (λ v. Goes (bind env n (Optional (Some v))) made))) (sym one.is) (one_more bound env n holds.Optional (Optional (Some one.v)) a tt)
+      by false f g = absurd cc
+  well_let n (expr.Try source as_ref) bound env made is some answering a = well_try n (operand_holds (length args) bound source) (value_of args env source) bound env made a some (told_operand args bound env source is.1 a)
+  well_let n (expr.Variant ty variant fields) bound env made is some answering a = absurd is
+  well_let n (expr.Struct ty fields) bound env made is some answering a = absurd is
+  well_let n (expr.Tuple o i) bound env made is some answering a = absurd is
+
+  -- a return ends the function
+  pub record DoesEnd (flow : Flow) : Type 0 where
+    pub end : End
+    pub made : List Made
+    pub is : flow ≡ Ends end made
+
+  ends_held : (g : Held) (h : Holds) (made : List Made) → HoldsIn h g → DoesEnd (ends_with g made)
+  ends_held (One v) h made k = record { end = _; made = _; is = refl }
+  ends_held (Optional (Some v)) h made k = record { end = _; made = _; is = refl }
+  ends_held (Optional None) h made k = record { end = _; made = _; is = refl }
+  ends_held Absent holds.One made k = absurd k
+  ends_held Absent holds.Optional made k = absurd k
+
+  ends_told : (kind : ReturnKind) (o : Option Holds) (g : Held) (made : List Made) → GivesKind kind o → Told o g → DoesEnd (ends_with g made)
+  ends_told kind.Plain (Some holds.One) g made k t = ends_held g holds.One made t
+  ends_told kind.Plain (Some holds.Optional) g made k t = absurd k
+  ends_told kind.Plain None g made k t = absurd k
+  ends_told kind.Option (Some holds.One) g made k t = absurd k
+  ends_told kind.Option (Some holds.Optional) g made k t = ends_held g holds.Optional made t
+  ends_told kind.Option None g made k t = absurd k
+  ends_told kind.Iterator o g made k t = absurd k
+
+  -- what is said of two parts is said of each
+  front_answering : (xs ys : List Callee) → Answering fns m (xs ++ ys) → Answering fns m xs
+  front_answering xs ys h c k = h c (Contains-append_left xs ys c k)
+
+  behind_answering : (xs ys : List Callee) → Answering fns m (xs ++ ys) → Answering fns m ys
+  behind_answering xs ys h c k = h c (Contains-append_right xs ys c k)
+
+  well_return : (kind : ReturnKind) (e : TExpr) (bound : Locals) (env : Env) (made : List Made) → IsExpr e → GivesKind kind (expr_holds fns (length args) bound e) → IsReturned e → Agree bound env → DoesEnd (run_return args e env made)
+  well_return kind (expr.Read r) bound env made is gives fits a = ends_told kind (read_holds (length args) bound r) (read_value args env r) made gives (told_read args bound env r is a)
+  well_return kind (expr.Some r) bound env made is gives fits a = by (is_value (read_holds (length args) bound r)) refl gives
+    where
+      by : (b : Bool) → is_value (read_holds (length args) bound r) ≡ b → GivesKind kind (if b then Some holds.Optional else None) → DoesEnd (on_value (read_value args env r) (λ v. Ends (GivesSome v) made))
+      by true f g =
+          let one = told_value (read_holds (length args) bound r) (read_value args env r) (told_read args bound env r is a) f in
+          record { end = GivesSome one.v; made = made; is = ap (λ x. on_value x (λ v. Ends (GivesSome v) made)) one.is }
+      by false f g = absurd (no_gift kind g)
+  well_return kind (expr.Call borrow call) bound env made is gives fits a = absurd fits
+  well_return kind (expr.Try source as_ref) bound env made is gives fits a = absurd fits
+  well_return kind (expr.Variant ty variant fields) bound env made is gives fits a = absurd fits
+  well_return kind (expr.Struct ty fields) bound env made is gives fits a = absurd fits
+  well_return kind (expr.Tuple o i) bound env made is gives fits a = absurd fits
+
+  well_end : (bound : Locals) (flow : Flow) → DoesEnd flow → Well bound flow
+  well_end bound flow e = subst (Well bound) (sym e.is) tt
+
+  then_well : (bound : Locals) (flow : Flow) (go : Env → List Made → Flow) → Well bound flow → ((env : Env) (made : List Made) → Agree bound env → NotStuck (go env made)) → NotStuck (then_run flow go)
+  then_well bound (Goes env made) go h next = next env made h
+  then_well bound (Ends end made) go h next = tt
+  then_well bound Stuck go h next = h
+
+  -- a test runs what is inside it, or goes on
+  well_test : (bound : Locals) (env : Env) (made : List Made) (g h : Held) (inside : Flow) → Agree bound env → HasValue g → HasValue h → NotStuck inside
+      → Well bound (on_value g (λ v. on_value h (λ w. if same_value v w then behind env inside else Goes env made)))
+  well_test bound env made g h inside a one two k =
+      subst (λ x. Well bound (on_value x (λ v. on_value h (λ w. if same_value v w then behind env inside else Goes env made)))) (sym one.is)
+      (subst (λ x. Well bound (on_value x (λ w. if same_value one.v w then behind env inside else Goes env made))) (sym two.is) (by (same_value one.v two.v)))
+    where
+      by : (b : Bool) → Well bound (if b then behind env inside else Goes env made)
+      by true = well_behind bound env inside a k
+      by false = a
+
+  mutual
+    well_stmt : (kind : ReturnKind) (s : Stmt) (bound : Locals) (env : Env) (made : List Made) → IsStmt s → IsStmtThere fns kind (length args) bound s → FitsStmt kind s → Answering fns m (stmt_calls s) → Agree bound env
+        → Well (bound_behind fns (length args) s bound) (run_stmt m args s env made)
+    well_stmt kind (Let n e) bound env made is there fits answering a = well_let n e bound env made is there answering a
+    well_stmt kind (IfEq l r inside) bound env made is there fits answering a =
+        well_test bound env made (value_of args env l) (value_of args env r) (run_body m args inside env made) a
+        (told_value (operand_holds (length args) bound l) (value_of args env l) (told_operand args bound env l is.0 a) there.0)
+        (told_value (operand_holds (length args) bound r) (value_of args env r) (told_operand args bound env r is.1 a) there.1)
+        (well_body kind inside bound env made is.2 there.2 fits answering a)
+    well_stmt kind (Return e) bound env made is there fits answering a = well_end bound (run_return args e env made) (well_return kind e bound env made is there fits a)
+    well_stmt kind (Tail texts) bound env made is there fits answering a = absurd fits
+    well_stmt kind (LetList n call) bound env made is there fits answering a = absurd is
+    well_stmt kind (IfLet pat r inside) bound env made is there fits answering a = absurd is
+    well_stmt kind (Match r arms) bound env made is there fits answering a = absurd is
+    well_stmt kind (Loop list item inside) bound env made is there fits answering a = absurd is
+    well_stmt kind (Extend r) bound env made is there fits answering a = absurd is
+    well_stmt kind (Overflow inside) bound env made is there fits answering a = absurd is
+    well_stmt kind (Log term place) bound env made is there fits answering a = absurd is
+    well_stmt kind (Split inside within) bound env made is there fits answering a = absurd is
+
+    well_body : (kind : ReturnKind) (b : Body) (bound : Locals) (env : Env) (made : List Made) → IsBody b → IsBodyThere fns kind (length args) bound b → FitsBody kind b → Answering fns m (body_calls b) → Agree bound env
+        → NotStuck (run_body m args b env made)
+    well_body kind Done bound env made is there fits answering a = tt
+    well_body kind (Then s ss) bound env made is there fits answering a =
+        then_well (bound_behind fns (length args) s bound) (run_stmt m args s env made) (run_body m args ss)
+        (well_stmt kind s bound env made is.0 there.0 fits.0 (front_answering (stmt_calls s) (body_calls ss) answering) a)
+        (λ inner calls k. well_body kind ss (bound_behind fns (length args) s bound) inner calls is.1 there.1 fits.1 (behind_answering (stmt_calls s) (body_calls ss) answering) k)
+
+  -- ---- functions end
+
+  last_ends : (kind : ReturnKind) (s : Stmt) (bound : Locals) (env : Env) (made : List Made) → IsStmt s → IsStmtThere fns kind (length args) bound s → FitsLast kind s → Agree bound env → DoesEnd (run_stmt m args s env made)
+  last_ends kind (Return e) bound env made is there fits a = well_return kind e bound env made is there fits a
+  last_ends kind (Tail texts) bound env made is there fits a = record { end = _; made = _; is = refl }
+  last_ends kind (Let n e) bound env made is there fits a = absurd fits
+  last_ends kind (IfEq l r inside) bound env made is there fits a = absurd fits
+  last_ends kind (LetList n call) bound env made is there fits a = absurd is
+  last_ends kind (IfLet pat r inside) bound env made is there fits a = absurd is
+  last_ends kind (Match r arms) bound env made is there fits a = absurd is
+  last_ends kind (Loop list item inside) bound env made is there fits a = absurd is
+  last_ends kind (Extend r) bound env made is there fits a = absurd is
+  last_ends kind (Overflow inside) bound env made is there fits a = absurd is
+  last_ends kind (Log term place) bound env made is there fits a = absurd is
+  last_ends kind (Split inside within) bound env made is there fits a = absurd is
+
+  then_ends : (bound : Locals) (flow : Flow) (go : Env → List Made → Flow) → Well bound flow → ((env : Env) (made : List Made) → Agree bound env → DoesEnd (go env made)) → DoesEnd (then_run flow go)
+  then_ends bound (Goes env made) go h next = next env made h
+  then_ends bound (Ends end made) go h next = record { end = end; made = made; is = refl }
+  then_ends bound Stuck go h next = absurd h
+
+  -- the statements of a function end it
+  pub function_ends : (kind : ReturnKind) (b : Body) (bound : Locals) (env : Env) (made : List Made) → IsBody b → IsBodyThere fns kind (length args) bound b → FitsFunction kind b → Answering fns m (body_calls b) → Agree bound env
+      → DoesEnd (run_body m args b env made)
+  function_ends kind Done bound env made is there fits answering a = absurd fits
+  function_ends kind (Then s Done) bound env made is there fits answering a =
+      let last = last_ends kind s bound env made is.0 there.0 fits a in
+      record { end = last.end; made = last.made; is = ap (λ flow. then_run flow (run_body m args Done)) last.is }
+  function_ends kind (Then s (Then t ss)) bound env made is there fits answering a =
+      then_ends (bound_behind fns (length args) s bound) (run_stmt m args s env made) (run_body m args (Then t ss))
+      (well_stmt kind s bound env made is.0 there.0 fits.0 (front_answering (stmt_calls s) (body_calls (Then t ss)) answering) a)
+      (λ inner calls k. function_ends kind (Then t ss) (bound_behind fns (length args) s bound) inner calls is.1 there.1 fits.1 (behind_answering (stmt_calls s) (body_calls (Then t ss)) answering) k)

@@ -1,0 +1,12 @@
+use Rattle.std.proofs.Common.{rules, ◌≡◌, Some, None}
+use Rattle.isle_core.specs.ValueViews.{values, meaning}
+use Rattle.isle_target.specs.Run.{function_run}
+use Rattle.isle_target.specs.Views.{function, program}
+use Rattle.isle_interpreter.proofs.Founds.{not_none}
+use Rattle.isle_interpreter.proofs.fitting.run_fitting.Goals as goal
+
+pub unreachable-requires : goal.unreachable-requires
+unreachable-requires c =
+    let m = meaning c.args.answers.now in
+    let none : None ≡ function_run m (values c.args.args.now) (Some (function c.args.f.now)) = search rules in
+    not_none (program c.args.p.now) c.args.term.now (values c.args.args.now) m (function c.args.f.now) c.requires.well_formed c.requires.may none

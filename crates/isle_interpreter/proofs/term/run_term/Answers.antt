@@ -1,0 +1,50 @@
+use Rattle.std.proofs.Common.{rules, ◌≡◌, Some, inr}
+use Rattle.isle_core.specs.ValueViews.{values, meaning}
+use Rattle.isle_target.specs.Run.{function_of}
+use Rattle.isle_target.specs.Views.{function, program}
+use Rattle.isle_interpreter.specs.Judged.{Runs}
+use Rattle.isle_interpreter.specs.Refusals.{MayRun, IsRefused}
+use Rattle.isle_interpreter.specs.declared.run_error.RunError.{RunError}
+use Rattle.isle_interpreter.proofs.OneRefusal.{not_refused}
+use Rattle.isle_interpreter.proofs.Refusing.{bad_refused, only_one, on_ok}
+use Rattle.isle_interpreter.proofs.term.run_term.Goals as goal
+
+fits : (c : goal.After-run_fitting) → MayRun (program c.args.p.now) c.args.name.now (values c.args.args.now) (meaning c.args.answers.now) (function c.in-Ok.f.now)
+fits c =
+    let there : function_of c.args.name.now (program c.args.p.now).fns ≡ Some (function c.in-Ok.f.now) = search rules in
+    record { there = there; typed = c.in-Ok.ensures.typed; right = c.in-Ok-try_forms.ensures.right; answered = c.in-Ok-try_forms.ensures.answered }
+
+pub returns-in-Ok-try_forms-clause-may : goal.returns-in-Ok-try_forms-clause-may
+returns-in-Ok-try_forms-clause-may c =
+    on_ok c.run_fitting.result (Runs (program c.args.p.now) c.args.name.now (values c.args.args.now) (meaning c.args.answers.now)) (record { function = function c.in-Ok.f.now; may = fits c })
+
+pub returns-in-Ok-try_forms-clause-never : goal.returns-in-Ok-try_forms-clause-never
+returns-in-Ok-try_forms-clause-never c =
+    let p = program c.args.p.now in
+    let args = values c.args.args.now in
+    let m = meaning c.args.answers.now in
+    on_ok c.run_fitting.result ((d : RunError) → IsRefused p c.args.name.now args m d → ⊥) (λ d. not_refused p c.args.name.now args m (function c.in-Ok.f.now) d (fits c))
+
+pub returns-in-Err-clause-only : goal.returns-in-Err-clause-only
+returns-in-Err-clause-only c =
+    let p = program c.args.p.now in
+    let args = values c.args.args.now in
+    let m = meaning c.args.answers.now in
+    let refused : IsRefused p c.args.name.now args m c.in-Err.e = search rules in
+    only_one p c.args.name.now args m c.in-Err.e (inr refused)
+
+pub returns-in-Err-try_forms-clause-refused : goal.returns-in-Err-try_forms-clause-refused
+returns-in-Err-try_forms-clause-refused c =
+    let p = program c.args.p.now in
+    let f = function c.in-Ok.f.now in
+    let there : function_of c.args.name.now p.fns ≡ Some f = search rules in
+    bad_refused p c.args.name.now (values c.args.args.now) (meaning c.args.answers.now) f c.in-Err-try_forms.e there c.in-Ok.ensures.typed c.in-Err-try_forms.ensures.bad
+
+pub returns-in-Err-try_forms-clause-only : goal.returns-in-Err-try_forms-clause-only
+returns-in-Err-try_forms-clause-only c =
+    let p = program c.args.p.now in
+    let f = function c.in-Ok.f.now in
+    let args = values c.args.args.now in
+    let m = meaning c.args.answers.now in
+    let there : function_of c.args.name.now p.fns ≡ Some f = search rules in
+    only_one p c.args.name.now args m c.in-Err-try_forms.e (bad_refused p c.args.name.now args m f c.in-Err-try_forms.e there c.in-Ok.ensures.typed c.in-Err-try_forms.ensures.bad)

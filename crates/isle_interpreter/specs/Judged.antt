@@ -1,0 +1,41 @@
+-- What is told of forms, and of calls that need them.
+use Rattle.std.specs.Prelude.{◌≡◌, ◌⊎◌, ℕ, List, [], length, Some}
+use Rattle.isle_core.specs.Value.{Value}
+use Rattle.isle_core.specs.Meaning.{Meaning}
+use Rattle.isle_target.specs.Program.{Function, Program}
+use Rattle.isle_target.specs.Run.{function_of}
+use Rattle.isle_interpreter.specs.declared.run_error.RunError.{RunError}
+use Rattle.isle_interpreter.specs.declared.run_error.RunError.TheVariants as error
+use Rattle.isle_interpreter.specs.Forms.{Form, AreRight}
+use Rattle.isle_interpreter.specs.Refusals.{IsWrongForm, IsMissing, MayRun}
+use Rattle.isle_interpreter.specs.Signatures.{type_names, AreNamed}
+
+-- a refusal before any form is looked at
+abbrev pub IsEarly : RunError → Type 0
+IsEarly error.NoTerm = Unit {0}
+IsEarly error.ArgCount = Unit {0}
+IsEarly (error.ArgType i) = Unit {0}
+IsEarly e = ⊥
+
+-- why not all forms are right, or want of memory
+abbrev pub AreWrong : Program → List Form → RunError → Type 0
+AreWrong p fs error.Memory = Unit {0}
+AreWrong p fs (error.BadAnswers i) = IsWrongForm p fs i
+AreWrong p fs e = ⊥
+
+-- why the forms don't do for a function, or want of memory
+abbrev pub AreBad : Program → Function → List Form → RunError → Type 0
+AreBad p f fs error.Memory = Unit {0}
+AreBad p f fs (error.BadAnswers i) = IsWrongForm p fs i ⊎ (AreRight p [] fs × IsMissing f fs × (i ≡ length fs))
+AreBad p f fs e = ⊥
+
+-- the function of the term takes the arguments
+pub record Takes (p : Program) (term : List ℕ) (args : List Value) : Type 0 where
+  pub function : Function
+  pub there : function_of term p.fns ≡ Some function
+  pub typed : AreNamed (type_names function.params) args
+
+-- the term, the arguments and the answers fit the function of the term
+pub record Runs (p : Program) (term : List ℕ) (args : List Value) (m : Meaning) : Type 0 where
+  pub function : Function
+  pub may : MayRun p term args m function

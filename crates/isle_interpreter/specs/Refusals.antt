@@ -1,0 +1,53 @@
+-- Why a function has no run, and what is asked where it has one.
+use Rattle.std.specs.Prelude.{◌≡◌, ◌≢◌, ℕ, List, [], length, take, Contains, Some, None, slice_get}
+use Rattle.isle_core.specs.declared.values.Callee.{Callee}
+use Rattle.isle_core.specs.Value.{Value}
+use Rattle.isle_core.specs.Meaning.{Meaning}
+use Rattle.isle_target.specs.Program.{Function, Program}
+use Rattle.isle_target.specs.Run.{function_of}
+use Rattle.isle_interpreter.specs.declared.run_error.RunError.{RunError}
+use Rattle.isle_interpreter.specs.declared.run_error.RunError.TheVariants as error
+use Rattle.isle_interpreter.specs.Signatures.{type_names, IsNamed, AreNamed}
+use Rattle.isle_interpreter.specs.Forms.{Form, forms, IsUnanswered, IsRight, AreRight}
+use Rattle.isle_interpreter.specs.Callees.{body_calls}
+
+-- the argument of this number is the first that is no value of its parameter's type
+pub record IsWrongArg (names : List (List ℕ)) (args : List Value) (i : ℕ) : Type 0 where
+  pub name : List ℕ
+  pub arg : Value
+  pub named : slice_get names i ≡ Some name
+  pub given : slice_get args i ≡ Some arg
+  pub before : AreNamed (take i names) (take i args)
+  pub wrong : IsNamed name arg → ⊥
+
+-- the form of this number is the first wrong one
+pub record IsWrongForm (p : Program) (fs : List Form) (i : ℕ) : Type 0 where
+  pub form : Form
+  pub there : slice_get fs i ≡ Some form
+  pub before : AreRight p [] (take i fs)
+  pub wrong : IsRight p (take i fs) form → ⊥
+
+-- something that the function calls has no form
+pub record IsMissing (f : Function) (fs : List Form) : Type 0 where
+  pub callee : Callee
+  pub called : Contains (body_calls f.body) callee
+  pub none : IsUnanswered callee fs
+
+-- each callee of the function has a form
+abbrev pub AreAnswered : Function → List Form → Type 0
+AreAnswered f fs = (callee : Callee) → Contains (body_calls f.body) callee → IsUnanswered callee fs → ⊥
+
+-- the term, the arguments and the answers fit the function
+pub record MayRun (p : Program) (term : List ℕ) (args : List Value) (m : Meaning) (f : Function) : Type 0 where
+  pub there : function_of term p.fns ≡ Some f
+  pub typed : AreNamed (type_names f.params) args
+  pub right : AreRight p [] (forms m)
+  pub answered : AreAnswered f (forms m)
+
+-- why they don't, in the order in which it is asked
+pub data IsRefused (p : Program) (term : List ℕ) (args : List Value) (m : Meaning) : RunError → Type 0 where
+  no_term : function_of term p.fns ≡ None → IsRefused p term args m error.NoTerm
+  arg_count : (f : Function) → function_of term p.fns ≡ Some f → length args ≢ length f.params → IsRefused p term args m error.ArgCount
+  arg_type : (f : Function) (i : ℕ) → function_of term p.fns ≡ Some f → length args ≡ length f.params → IsWrongArg (type_names f.params) args i → IsRefused p term args m (error.ArgType i)
+  wrong_form : (f : Function) (i : ℕ) → function_of term p.fns ≡ Some f → AreNamed (type_names f.params) args → IsWrongForm p (forms m) i → IsRefused p term args m (error.BadAnswers i)
+  missing : (f : Function) → function_of term p.fns ≡ Some f → AreNamed (type_names f.params) args → AreRight p [] (forms m) → IsMissing f (forms m) → IsRefused p term args m (error.BadAnswers (length (forms m)))

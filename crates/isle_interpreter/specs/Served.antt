@@ -1,0 +1,29 @@
+-- The callees that forms answer for, as the code keeps them.
+use Rattle.std.specs.Prelude.{◌≡◌, ℕ, List, Bool}
+use Rattle.std.specs.List.{list_any}
+use Rattle.std.specs.BTreeSet.{BTreeSet, contains_by}
+use Rattle.std.specs.Cmp.Lexicographic.{slice_cmp}
+use Rattle.std.specs.Ordering.{nat_cmp}
+use denote.Ref.{Bor}
+use Rattle.isle_core.specs.declared.values.Callee.{Callee}
+use Rattle.isle_core.specs.declared.values.Callee.TheVariants.{External, Internal}
+use Rattle.isle_core.specs.Terms.{goes_to}
+use Rattle.isle_interpreter.specs.declared.served.Served.{Served}
+use Rattle.isle_interpreter.specs.Forms.{Form, answers_for}
+
+-- whether the set has the name
+abbrev pub has_name : BTreeSet (Bor (List ℕ)) → List ℕ → Bool
+has_name names name = contains_by (λ (k : Bor (List ℕ)). slice_cmp nat_cmp name k.now) names
+
+-- whether the sets have the callee
+abbrev pub has : Served → Callee → Bool
+has s (External name) = has_name s.externals name
+has s (Internal term) = has_name s.internals term
+
+-- whether a form answers for the callee
+abbrev pub is_answered : List Form → Callee → Bool
+is_answered fs callee = list_any (λ f. goes_to callee (answers_for f)) fs
+
+-- the sets have the callees that the forms answer for
+pub record Serves (fs : List Form) (s : Served) : Type 0 where
+  pub serves : (callee : Callee) → has s callee ≡ is_answered fs callee

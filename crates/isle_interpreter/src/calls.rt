@@ -1,0 +1,95 @@
+//! What calls are answered.
+
+ghost use Rattle.std.specs.Prelude.{◌≡◌, IfOk, Some, map, option_map, slice_index_or};
+ghost use Rattle.isle_core.specs.Answered.{answer_held};
+ghost use Rattle.isle_core.specs.Meaning.{same_values, case_at};
+ghost use Rattle.isle_core.specs.ValueViews.{values, answer as answer_of, pure_answers};
+ghost use Rattle.isle_interpreter.specs.RunViews.{held};
+ghost use Rattle.isle_interpreter.specs.Sources.{source, answered_by};
+
+use crate::holding::Holding;
+use crate::source::Source;
+use crate::value::{copied, same, text_copied};
+use isle_core::{Answer, Callee, PureAnswers, Value};
+use std::alloc::{AllocError, Global};
+
+/// A copy of what a call goes to.
+pub fn callee_copied(alloc: Global, callee: &Callee) -> Result<Callee, AllocError>
+    ensures { IfOk result (λ copy. copy ≡ callee.now) }
+{
+    match callee {
+        Callee::External(name) => Ok(Callee::External(text_copied(alloc, name)?)),
+        Callee::Internal(term) => Ok(Callee::Internal(text_copied(alloc, term)?)),
+    }
+}
+
+// What an answer holds.
+fn answer_holding(alloc: Global, answer: &Answer) -> Result<Holding, AllocError>
+    ensures { IfOk result (λ h. held h ≡ answer_held (answer_of answer.now)) }
+{
+    match answer {
+        Answer::Plain(results) => match results.as_slice() {
+            [value] => Ok(Holding::One(copied(alloc, value)?)),
+            _ => Ok(Holding::Absent),
+        },
+        Answer::Some(results) => match results.as_slice() {
+            [value] => Ok(Holding::Optional(Some(copied(alloc, value)?))),
+            _ => Ok(Holding::Absent),
+        },
+        Answer::Nothing => Ok(Holding::Optional(None)),
+        Answer::List(_) => Ok(Holding::Absent),
+    }
+}
+
+// Whether values are equal, in order.
+#[tactic(auto, using(crate::proofs::ValuesApart::values_apart))]
+fn same_values(ones: &[Value], others: &[Value]) -> bool
+    ensures { result ≡ same_values (values ones.now) (values others.now) }
+{
+    if ones.len() != others.len() {
+        return false;
+    }
+    for index in 0..ones.len() {
+        if !same(&ones[index], &others[index]) {
+            return false;
+        }
+    }
+    true
+}
+
+// The answer of the next turn, or the rest.
+fn turn_holding(alloc: Global, turns: &[Answer], rest: &Answer) -> Result<Holding, AllocError>
+    ensures { IfOk result (λ h. held h ≡ answer_held (slice_index_or (map answer_of turns.now) 0 (answer_of rest.now))) }
+{
+    match turns.first() {
+        Some(turn) => answer_holding(alloc, turn),
+        None => answer_holding(alloc, rest),
+    }
+}
+
+// The answer of the first case with these arguments, or the rest.
+fn case_holding(alloc: Global, answers: &PureAnswers, args: &[Value]) -> Result<Holding, AllocError>
+    ensures { IfOk result (λ h. held h ≡ answer_held (case_at (Some (pure_answers answers.now)) (values args.now))) }
+{
+    for case in answers.cases.as_slice() {
+        if same_values(case.0.as_slice(), args) {
+            return answer_holding(alloc, &case.1);
+        }
+    }
+    answer_holding(alloc, &answers.rest)
+}
+
+/// What a call is answered by a callee that has these answers.
+pub fn answered(
+    alloc: Global,
+    given: Option<Source<'_>>,
+    args: &[Value],
+) -> Result<Holding, AllocError>
+    ensures { IfOk result (λ h. held h ≡ answer_held (answered_by (option_map source given.entry) (values args.now))) }
+{
+    match given {
+        Some(Source::Turns(turns, rest)) => turn_holding(alloc, turns, rest),
+        Some(Source::Cases(cases)) => case_holding(alloc, cases, args),
+        None => Ok(Holding::Optional(None)),
+    }
+}

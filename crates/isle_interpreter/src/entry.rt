@@ -1,0 +1,57 @@
+//! The run of a function.
+
+ghost use Rattle.std.specs.Prelude.{◌≡◌, IfOk, Some, map, option_map};
+ghost use Rattle.isle_core.specs.ValueViews.{values, meaning, ran};
+ghost use Rattle.isle_target.specs.Run.{function_of, function_run};
+ghost use Rattle.isle_target.specs.Views.{function};
+ghost use Rattle.isle_printer.specs.Bytes.{same_bytes};
+
+use crate::bound::Bound;
+use crate::called::Calls;
+use crate::flow::Flow;
+use crate::frame::Frame;
+use crate::run::run_body;
+use isle_core::{Answers, List, Outcome, Value};
+use isle_target::Function;
+use std::alloc::{AllocError, Global};
+
+/// Whether two names are one.
+#[tactic(auto, using(isle_target::proofs::TypeNames::same_is))]
+pub fn is_same(one: &str, other: &str) -> bool
+    ensures { result ≡ same_bytes one.now other.now }
+{
+    one == other
+}
+
+/// The function of a term.
+pub fn function_of<'p>(fns: &'p [Function], term: &str) -> Option<&'p Function>
+    ensures { option_map (λ f. function f.now) result ≡ function_of term.now (map function fns.now) }
+{
+    for f in fns {
+        if is_same(term, f.term.as_str()) {
+            return Some(f);
+        }
+    }
+    None
+}
+
+/// The run of a function, where it has one.
+pub fn run_function(
+    alloc: Global,
+    f: &Function,
+    args: &[Value],
+    answers: &Answers,
+) -> Result<Option<Outcome>, AllocError>
+    ensures { IfOk result (λ o. option_map ran o ≡ function_run (meaning answers.now) (values args.now) (Some (function f.now))) }
+{
+    let locals = Bound::new(alloc);
+    let calls = Calls::new(alloc, answers)?;
+    let mut frame = Frame { locals, calls };
+    match run_body(alloc, f.body.as_slice(), args, &mut frame)? {
+        Flow::Ends(end) => {
+            let calls = List::new(frame.calls.into_vec());
+            Ok(Some(Outcome { end, calls }))
+        }
+        Flow::Goes | Flow::Stuck => Ok(None),
+    }
+}

@@ -1,0 +1,36 @@
+//! The run of a function whose arguments and answers fit.
+
+ghost use Rattle.std.specs.Prelude.{◌≡◌, IfOk, IfErr, Some};
+ghost use Rattle.isle_core.specs.ValueViews.{values, meaning, ran};
+ghost use Rattle.isle_target.specs.Run.{run};
+ghost use Rattle.isle_target.specs.Views.{function, program};
+ghost use Rattle.isle_target.specs.WellFormed.{IsWellFormed};
+ghost use Rattle.isle_interpreter.specs.Refusals.{MayRun};
+ghost use Rattle.isle_interpreter.specs.declared.run_error.RunError.TheVariants.{Memory};
+
+use crate::entry::run_function;
+use crate::run_error::RunError;
+use isle_core::{Answers, Outcome, Value};
+use isle_target::{Function, Program};
+use std::alloc::Global;
+
+/// The run. The only error is want of memory.
+#[tactic(auto, using(crate::proofs::Founds::run_is, crate::proofs::Founds::not_none))]
+pub fn run_fitting(
+    alloc: Global,
+    p: &Program,
+    f: &Function,
+    term: &str,
+    args: &[Value],
+    answers: &Answers,
+) -> Result<Outcome, RunError>
+    requires well_formed { IsWellFormed (program p.now) }
+    requires may { MayRun (program p.now) term.now (values args.now) (meaning answers.now) (function f.now) }
+    ensures ran { IfOk result (λ o. run (program p.now) term.now (values args.now) (meaning answers.now) ≡ Some (ran o)) }
+    ensures refused { IfErr result (λ e. e ≡ Memory) }
+{
+    match run_function(alloc, f, args, answers)? {
+        Some(outcome) => Ok(outcome),
+        None => unreachable!(),
+    }
+}

@@ -1,0 +1,109 @@
+//! What the functions of a program take and answer.
+
+ghost use Rattle.std.specs.Prelude.{◌≡◌, ◌↔◌, IfOk, IsTrue, option_map};
+ghost use Rattle.isle_core.specs.ValueViews.{values, answer};
+ghost use Rattle.isle_target.specs.Views.{function, program};
+ghost use Rattle.isle_interpreter.specs.Signatures.{AreNamed, AnswerFits, trait_signature, term_signature, signature_of};
+ghost use Rattle.isle_interpreter.specs.SignatureViews.{signature};
+
+use crate::terms::Terms;
+use crate::typed::{answer_fits, first_wrong};
+use isle_core::{Answer, Callee, ReturnKind, Text, Value};
+use isle_target::{Callees, Function, Program, TraitFn, Ty};
+use std::alloc::{AllocError, Global};
+use std::marker::Model;
+use std::slice;
+
+/// What a function takes, what its answers hold, and how it answers.
+#[derive(Drop)]
+pub struct Signature<'p> {
+    params: &'p [Ty],
+    results: &'p [Text],
+    kind: ReturnKind,
+}
+
+impl<'p> Signature<'p> {
+    // That of a function of the trait.
+    fn of_trait(f: &'p TraitFn) -> Signature<'p>
+        ensures { signature result ≡ trait_signature f.now }
+    {
+        Signature {
+            params: f.params.as_slice(),
+            results: f.results.as_slice(),
+            kind: f.kind,
+        }
+    }
+
+    // That of a term's function.
+    fn of_term(f: &'p Function) -> Signature<'p>
+        ensures { signature result ≡ term_signature (function f.now) }
+    {
+        Signature {
+            params: f.params.as_slice(),
+            results: slice::from_ref(&f.result),
+            kind: f.kind,
+        }
+    }
+
+    /// Whether these are as many values as the function takes, each of its parameter's type.
+    pub fn takes(&self, args: &[Value]) -> bool
+        ensures { IsTrue result ↔ AreNamed (signature self.now).params (values args.now) }
+    {
+        args.len() == self.params.len() && first_wrong(self.params, args).is_none()
+    }
+
+    /// Whether the function can answer so.
+    pub fn gives(&self, given: &Answer) -> bool
+        ensures { IsTrue result ↔ AnswerFits (signature self.now) (answer given.now) }
+    {
+        answer_fits(self.results, self.kind, given)
+    }
+}
+
+/// The functions of a program, each found by what a call goes to.
+#[derive(Drop)]
+pub struct Signatures<'p> {
+    program: &'p Program,
+    callees: Callees<'p>,
+    terms: Terms<'p>,
+}
+
+impl<'p> Model for Signatures<'p> {
+    ghost use Rattle.std.specs.Prelude.{◌≡◌};
+    ghost use Rattle.std.specs.Coded.{codes};
+    ghost use Rattle.isle_target.specs.contracts.tree.Stmt as e;
+    ghost use Rattle.isle_target.specs.declared.tree.Program.{Program};
+
+    ghost Value = { Program };
+
+    ghost coded = { Prim.hlevel (codes, e.the_row.coded) };
+
+    ghost view = { λ s. s.program.now };
+
+    ghost invariant = { λ s. (s.callees ≡ s.program.now.trait_fns) × (s.terms ≡ s.program.now.fns) };
+}
+
+impl<'p> Signatures<'p> {
+    /// The functions of a program. The only error is want of memory.
+    pub fn new(alloc: Global, p: &'p Program) -> Result<Signatures<'p>, AllocError>
+        ensures { IfOk result (λ s. s ≡ p.now) }
+    {
+        let callees = Callees::new(alloc, p.trait_fns.as_slice())?;
+        let terms = Terms::new(alloc, p.fns.as_slice())?;
+        Ok(Signatures {
+            program: p,
+            callees,
+            terms,
+        })
+    }
+
+    /// The signature of what is called, where the program has it.
+    pub fn of(&self, callee: &Callee) -> Option<Signature<'_>>
+        ensures { option_map signature result ≡ signature_of (program self.now) callee.now }
+    {
+        match callee {
+            Callee::External(name) => self.callees.named(name.as_str()).map(Signature::of_trait),
+            Callee::Internal(term) => self.terms.named(term.as_str()).map(Signature::of_term),
+        }
+    }
+}

@@ -1,0 +1,62 @@
+//! The run of the function of a term, where its arguments and the answers fit.
+
+ghost use Rattle.std.specs.Prelude.{◌≡◌, ◌+◌, ◌^◌, ◌<◌, ◌⊎◌, length, IfOk, IfErr, OnOk, Some};
+ghost use Rattle.isle_core.specs.Meaning.{Meaning};
+ghost use Rattle.isle_core.specs.ValueViews.{values, meaning, ran};
+ghost use Rattle.isle_target.specs.Run.{run};
+ghost use Rattle.isle_target.specs.Views.{program};
+ghost use Rattle.isle_target.specs.WellFormed.{IsWellFormed};
+ghost use Rattle.isle_interpreter.specs.Judged.{IsEarly, Takes, Runs};
+ghost use Rattle.isle_interpreter.specs.Refusals.{IsRefused};
+ghost use Rattle.isle_interpreter.specs.declared.run_error.RunError.{RunError};
+ghost use Rattle.isle_interpreter.specs.declared.run_error.RunError.TheVariants.{Memory};
+
+use crate::fitting::run_fitting;
+use crate::forms::try_forms;
+use crate::run_error::RunError;
+use crate::taking::taking;
+use isle_core::{Answers, Outcome, Value};
+use isle_target::Program;
+use std::alloc::Global;
+
+/// Tells which of the first three refusals it is, where the function of a term doesn't take the arguments.
+pub fn takes(p: &Program, term: &str, args: &[Value]) -> Result<(), RunError>
+    ensures takes { OnOk result (Takes (program p.now) term.now (values args.now)) }
+    ensures early { IfErr result IsEarly }
+    ensures refused { IfErr result (λ e. (m : Meaning) → IsRefused (program p.now) term.now (values args.now) m e) }
+{
+    match taking(p.fns.as_slice(), term, args) {
+        Ok(_) => Ok(()),
+        Err(e) => Err(e),
+    }
+}
+
+/// The run of the function of the term of this name under the answers.
+///
+/// The errors in the order in which they are asked: the program has no function of the term; it takes another number of
+/// arguments; the first argument that is no value of its parameter's type; the first form of the answers that is wrong, or
+/// the number of all forms where something that the function calls has none. Beside these, want of memory.
+pub fn run_term(
+    alloc: Global,
+    p: &Program,
+    name: &str,
+    args: &[Value],
+    answers: &Answers,
+) -> Result<Outcome, RunError>
+    requires well_formed { IsWellFormed (program p.now) }
+    requires counted { length answers.now.consts + length answers.now.pure + length answers.now.turns < 2 ^ 64 }
+    ensures ran { IfOk result (λ o. run (program p.now) name.now (values args.now) (meaning answers.now) ≡ Some (ran o)) }
+    ensures may { OnOk result (Runs (program p.now) name.now (values args.now) (meaning answers.now)) }
+    ensures refused { IfErr result (λ e. (e ≡ Memory) ⊎ IsRefused (program p.now) name.now (values args.now) (meaning answers.now) e) }
+    ensures never { OnOk result ((d : RunError) → IsRefused (program p.now) name.now (values args.now) (meaning answers.now) d → ⊥) }
+    ensures only { IfErr result (λ e. (d : RunError) → IsRefused (program p.now) name.now (values args.now) (meaning answers.now) d → (e ≡ Memory) ⊎ (d ≡ e)) }
+{
+    let f = match taking(p.fns.as_slice(), name, args) {
+        Ok(f) => f,
+        Err(e) => return Err(e),
+    };
+    match try_forms(alloc, p, f, answers) {
+        Ok(()) => run_fitting(alloc, p, f, name, args, answers),
+        Err(e) => Err(e),
+    }
+}

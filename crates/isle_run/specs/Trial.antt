@@ -1,0 +1,70 @@
+-- The lines that a run of a compiled term gives.
+use Rattle.std.specs.Prelude.{◌≡◌, ℕ, List, Bool, true, Some, slice_get}
+use Rattle.isle_core.specs.declared.TermId.{TermId}
+use Rattle.isle_core.specs.declared.options.CodegenOptions.{CodegenOptions}
+use Rattle.isle_core.specs.declared.files.Files.{Files}
+use Rattle.isle_core.specs.declared.types.Term.{Term}
+use Rattle.isle_core.specs.Value.{Value, Ran}
+use Rattle.isle_core.specs.Meaning.{Meaning}
+use Rattle.isle_core.specs.Having.{HasAnswers}
+use Rattle.isle_core.specs.HasType.{HaveTypes}
+use Rattle.isle_core.specs.Lawful.{IsLawful}
+use Rattle.isle_core.specs.Outcome.{Prescription, Prescribed, is_partial}
+use Rattle.isle_core.specs.Rule.{Environment, rules_of}
+use Rattle.isle_values.specs.Written.{Writtens}
+use Rattle.isle_answers.specs.Form.{Form}
+use Rattle.isle_answers.specs.Spelling.{SpellsForms}
+use Rattle.isle_run_inputs.specs.Given.{values_at}
+use Rattle.isle_run_inputs.specs.Asked.{asked_term, asked_types}
+use Rattle.isle_run_inputs.specs.Forms.{are_built, answers_at}
+use Rattle.isle_target.specs.Program.{Program}
+use Rattle.isle_target.specs.Run.{run}
+use Rattle.isle_interpreter.specs.Lines.{run_lines}
+use Rattle.isle_emission.specs.Ends.{end_of}
+use Rattle.isle_codegen.specs.Checked.{IsChecked}
+use Rattle.isle_codegen.specs.Headline.{impure_calls}
+use Rattle.isle_run.specs.Conforming.{Conforms}
+
+-- the arguments: the values as they are written, at the types of the term that has rules and this name
+abbrev pub args_given : Environment → List ℕ → Writtens → List Value
+args_given env term ws = values_at env (asked_types env term) ws
+
+-- a run as it is shown: its end, and the calls of impure terms
+abbrev pub shown_run : Environment → Ran → Ran
+shown_run env r = record { end = r.end; calls = impure_calls env r.calls }
+
+-- an outcome as it is shown
+abbrev pub shown_outcome : Bool → Prescription → Ran
+shown_outcome partial o = record { end = end_of partial o.result; calls = o.calls }
+
+-- the lines are those of the one outcome that the term's rules prescribe
+pub record AreOutcome (env : Environment) (id : TermId) (t : Term) (args : List Value) (m : Meaning) (lines : List ℕ) : Type 0 where
+  pub outcome : Prescription
+  pub prescribed : Prescribed env m args (rules_of env id) (is_partial t.kind) outcome
+  pub only : (other : Prescription) → Prescribed env m args (rules_of env id) (is_partial t.kind) other → other ≡ outcome
+  pub shown : lines ≡ run_lines (shown_outcome (is_partial t.kind) outcome)
+
+-- the lines of a run of the term at these arguments, under answers: under every lawful meaning that has the answers they
+-- are those of the rules' outcome; and in any case those of the run of a program that conforms to the source
+pub record AreLines (options : CodegenOptions) (files : Files) (env : Environment) (term : List ℕ) (args : List Value) (answers : Meaning) (lines : List ℕ) : Type 0 where
+  pub id : TermId
+  pub asked : asked_term env term ≡ Some id
+  pub declared : Term
+  pub there : slice_get env.terms id.0 ≡ Some declared
+  pub typed : HaveTypes env args declared.arg_tys
+  pub means : (m : Meaning) → IsLawful env id m → HasAnswers m answers → AreOutcome env id declared args m lines
+  pub program : Program
+  pub conforms : Conforms options files env program
+  pub ran : Ran
+  pub runs : run program term args answers ≡ Some ran
+  pub shown : lines ≡ run_lines (shown_run env ran)
+
+-- the lines are those of a run of the source's term at the values, under the answers of the forms that a text spells
+pub record IsTrial (options : CodegenOptions) (files : Files) (term : List ℕ) (ws : Writtens) (text : List ℕ) (lines : List ℕ) : Type 0 where
+  pub env : Environment
+  pub checked : IsChecked files env
+  pub forms : List Form
+  pub spelt : SpellsForms text forms
+  pub once : (others : List Form) → SpellsForms text others → others ≡ forms
+  pub built : are_built forms ≡ true
+  pub are_lines : AreLines options files env term (args_given env term ws) (answers_at env forms) lines

@@ -1,0 +1,49 @@
+//! The run of a term of a source that was checked.
+
+ghost use Rattle.std.specs.Prelude.{IfOk, IfErr};
+ghost use Rattle.std.specs.String.{string_bytes};
+ghost use Rattle.isle_core.specs.RuleViews.{environment};
+ghost use Rattle.isle_rulesets.specs.Grouping.{AreRuleSets};
+ghost use Rattle.isle_values.specs.Views.{seen};
+ghost use Rattle.isle_emission.specs.Built.{IsBuilt};
+ghost use Rattle.isle_codegen.specs.Checked.{IsChecked};
+ghost use Rattle.isle_run.specs.Trial.{IsTrial};
+ghost use Rattle.isle_run.specs.Stopped.{HasNoLines};
+
+use crate::program::of_program;
+use crate::trial_error::TrialError;
+use isle_codegen::{Checked, codegen_tree};
+use isle_core::{CodegenOptions, Files};
+use isle_values::Written;
+use std::alloc::Global;
+
+/// The lines of the run.
+pub fn of_checked(
+    alloc: Global,
+    files: &Files,
+    options: &CodegenOptions,
+    checked: &Checked,
+    term: &str,
+    given: &[Written],
+    answers: &str,
+) -> Result<String, TrialError>
+    requires checked { IsChecked files.now (environment checked.now.typeenv checked.now.termenv) }
+    requires terms { AreRuleSets (environment checked.now.typeenv checked.now.termenv) checked.now.terms.items }
+    requires options { IsBuilt options.now }
+    ensures ok { IfOk result (λ lines. IsTrial options.now files.now term.now (seen given.now) answers.now (string_bytes lines)) }
+    ensures err { IfErr result (λ e. HasNoLines options.now files.now term.now (seen given.now) answers.now e) }
+{
+    let terms = checked.terms.as_slice();
+    let program = match codegen_tree(
+        alloc,
+        files,
+        &checked.typeenv,
+        &checked.termenv,
+        terms,
+        options,
+    ) {
+        Ok(program) => program,
+        Err(_) => return Err(TrialError::Memory),
+    };
+    of_program(alloc, checked, &program, term, given, answers)
+}

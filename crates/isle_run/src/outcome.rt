@@ -1,0 +1,102 @@
+//! The outcome of a run under the answers that a text spells.
+
+ghost use Rattle.std.specs.Prelude.{◌≡◌, ◌⊎◌, ℕ, List, IfOk, IfErr, length};
+ghost use Rattle.isle_core.specs.RuleViews.{environment};
+ghost use Rattle.isle_core.specs.ValueViews.{values, ran};
+ghost use Rattle.isle_answers.specs.Views.{forms_seen};
+ghost use Rattle.isle_answers.specs.Spelling.{SpellsForms};
+ghost use Rattle.isle_target.specs.Views.{program};
+ghost use Rattle.isle_target.specs.WellFormed.{IsWellFormed};
+ghost use Rattle.isle_core.specs.Rule.{Environment};
+ghost use Rattle.isle_interpreter.specs.Judged.{Takes};
+ghost use Rattle.isle_run.specs.Ran.{IsUnder, IsOutcome};
+ghost use Rattle.isle_run.specs.Stopped.{IsHalted};
+ghost use Rattle.isle_run.specs.Told.{told};
+ghost use Rattle.isle_run.specs.declared.trial_error.TrialError.TheVariants.{Memory};
+
+use crate::halt::Halt;
+use crate::trial_error::TrialError;
+use isle_answers::{AnswersFail, Form, forms};
+use isle_core::{Outcome, TermEnv, TypeEnv, Value};
+use isle_run_inputs::{answers_at, are_built, place_at};
+use isle_interpreter::{RunError, run_term, takes};
+use isle_target::Program;
+use std::alloc::Global;
+
+/// An environment, and a program that conforms to its source.
+#[derive(Drop)]
+pub struct Compiled<'a> {
+    pub typeenv: &'a TypeEnv,
+    pub termenv: &'a TermEnv,
+    pub program: &'a Program,
+}
+
+// What a refusal of a run is called, the number of a form being its place.
+fn told(e: RunError, end: usize, forms: &[Form]) -> TrialError
+    ensures { result ≡ told e end (forms_seen forms.now) }
+{
+    match e {
+        RunError::NoTerm => TrialError::Halted(Halt::NoTerm),
+        RunError::ArgCount => TrialError::Halted(Halt::ArgCount),
+        RunError::ArgType(index) => TrialError::Halted(Halt::ArgType(index)),
+        RunError::BadAnswers(number) => {
+            TrialError::Halted(Halt::BadAnswers(place_at(end, forms, number)))
+        }
+        RunError::Memory => TrialError::Memory,
+    }
+}
+
+// The refusal for the term or the arguments, or else another one.
+fn refused(p: &Program, term: &str, args: &[Value], other: TrialError) -> TrialError
+    ensures { (env : Environment) (text : List ℕ) → (Takes (program p.now) term.now (values args.now) → IsHalted (program p.now) env term.now (values args.now) text other) → IsHalted (program p.now) env term.now (values args.now) text result }
+{
+    match takes(p, term, args) {
+        Ok(()) => other,
+        Err(e) => told(e, 0, &[]),
+    }
+}
+
+// The outcome under forms that stand in a text of that length.
+fn under_forms(
+    alloc: Global,
+    compiled: &Compiled<'_>,
+    term: &str,
+    args: &[Value],
+    forms: &[Form],
+    end: usize,
+) -> Result<Outcome, TrialError>
+    requires well_formed { IsWellFormed (program compiled.now.program.now) }
+    ensures ok { IfOk result (λ o. IsUnder (program compiled.now.program.now) (environment compiled.now.typeenv.now compiled.now.termenv.now) term.now (values args.now) (forms_seen forms.now) (ran o)) }
+    ensures err { IfErr result (λ e. (text : List ℕ) → SpellsForms text (forms_seen forms.now) → end ≡ length text → (e ≡ Memory) ⊎ IsHalted (program compiled.now.program.now) (environment compiled.now.typeenv.now compiled.now.termenv.now) term.now (values args.now) text e) }
+{
+    if !are_built(forms) {
+        return Err(refused(compiled.program, term, args, TrialError::NotYet));
+    }
+    let answers = answers_at(alloc, compiled.typeenv, compiled.termenv, forms)?;
+    match run_term(alloc, compiled.program, term, args, &answers) {
+        Ok(outcome) => Ok(outcome),
+        Err(e) => Err(told(e, end, forms)),
+    }
+}
+
+/// The outcome under the answers that a text spells.
+pub fn outcome_under(
+    alloc: Global,
+    compiled: &Compiled<'_>,
+    term: &str,
+    args: &[Value],
+    text: &str,
+) -> Result<Outcome, TrialError>
+    requires well_formed { IsWellFormed (program compiled.now.program.now) }
+    ensures ok { IfOk result (λ o. IsOutcome (program compiled.now.program.now) (environment compiled.now.typeenv.now compiled.now.termenv.now) term.now (values args.now) text.now (ran o)) }
+    ensures err { IfErr result (λ e. (e ≡ Memory) ⊎ IsHalted (program compiled.now.program.now) (environment compiled.now.typeenv.now compiled.now.termenv.now) term.now (values args.now) text.now e) }
+{
+    match forms(alloc, text) {
+        Ok(forms) => under_forms(alloc, compiled, term, args, forms.as_slice(), text.len()),
+        Err(AnswersFail::At(at)) => {
+            let other = TrialError::Halted(Halt::BadAnswers(at));
+            Err(refused(compiled.program, term, args, other))
+        }
+        Err(AnswersFail::Memory) => Err(TrialError::Memory),
+    }
+}

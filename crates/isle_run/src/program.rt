@@ -1,0 +1,80 @@
+//! The run of a term of a program that conforms to its source.
+
+ghost use Rattle.std.specs.Prelude.{◌≡◌, IfOk, IfErr};
+ghost use Rattle.std.specs.String.{string_bytes};
+ghost use Rattle.isle_core.specs.declared.files.Files.{Files as FileTexts};
+ghost use Rattle.isle_core.specs.declared.options.CodegenOptions.{CodegenOptions as Options};
+ghost use Rattle.isle_core.specs.RuleViews.{environment};
+ghost use Rattle.isle_core.specs.ValueViews.{values};
+ghost use Rattle.isle_rulesets.specs.Grouping.{AreRuleSets};
+ghost use Rattle.isle_values.specs.Views.{seen};
+ghost use Rattle.isle_target.specs.Views.{program};
+ghost use Rattle.isle_target.specs.WellFormed.{IsWellFormed};
+ghost use Rattle.isle_codegen.specs.Checked.{IsChecked};
+ghost use Rattle.isle_run.specs.Conforming.{Conforms};
+ghost use Rattle.isle_run.specs.Trial.{IsTrial, args_given};
+ghost use Rattle.isle_run.specs.Stopped.{HasNoLines};
+
+use crate::outcome::{Compiled, outcome_under};
+use crate::shown::lines_of;
+use crate::trial_error::TrialError;
+use isle_codegen::Checked;
+use isle_core::{OutOfMemory, Value};
+use isle_run_inputs::{asked_term, values_at};
+use isle_target::Program;
+use isle_values::Written;
+use std::alloc::Global;
+
+// The arguments: the values at the types of the term that has rules and this name.
+fn args_given(
+    alloc: Global,
+    checked: &Checked,
+    term: &str,
+    given: &[Written],
+) -> Result<Vec<Value>, OutOfMemory>
+    requires { AreRuleSets (environment checked.now.typeenv checked.now.termenv) checked.now.terms.items }
+    ensures { IfOk result (λ args. values args.items ≡ args_given (environment checked.now.typeenv checked.now.termenv) term.now (seen given.now)) }
+{
+    let typeenv = &checked.typeenv;
+    let tys = match asked_term(typeenv, &checked.termenv, checked.terms.as_slice(), term) {
+        Some(id) => match checked.termenv.terms.as_slice().get(id.index()) {
+            Some(term) => term.arg_tys.as_slice(),
+            None => &[],
+        },
+        None => &[],
+    };
+    values_at(alloc, typeenv, tys, given)
+}
+
+/// The lines of the run.
+pub fn of_program(
+    alloc: Global,
+    checked: &Checked,
+    tree: &Program,
+    term: &str,
+    given: &[Written],
+    answers: &str,
+) -> Result<String, TrialError>
+    requires terms { AreRuleSets (environment checked.now.typeenv checked.now.termenv) checked.now.terms.items }
+    requires well_formed { IsWellFormed (program tree.now) }
+    ensures ok { IfOk result (λ lines. (options : Options) (files : FileTexts) → IsChecked files (environment checked.now.typeenv checked.now.termenv) → Conforms options files (environment checked.now.typeenv checked.now.termenv) (program tree.now) → IsTrial options files term.now (seen given.now) answers.now (string_bytes lines)) }
+    ensures err { IfErr result (λ e. (options : Options) (files : FileTexts) → IsChecked files (environment checked.now.typeenv checked.now.termenv) → Conforms options files (environment checked.now.typeenv checked.now.termenv) (program tree.now) → HasNoLines options files term.now (seen given.now) answers.now e) }
+{
+    let args = match args_given(alloc, checked, term, given) {
+        Ok(args) => args,
+        Err(_) => return Err(TrialError::Memory),
+    };
+    let compiled = Compiled {
+        typeenv: &checked.typeenv,
+        termenv: &checked.termenv,
+        program: tree,
+    };
+    let outcome = match outcome_under(alloc, &compiled, term, args.as_slice(), answers) {
+        Ok(outcome) => outcome,
+        Err(e) => return Err(e),
+    };
+    match lines_of(alloc, &checked.typeenv, &checked.termenv, &outcome) {
+        Ok(lines) => Ok(lines),
+        Err(_) => Err(TrialError::Memory),
+    }
+}

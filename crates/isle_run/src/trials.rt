@@ -1,0 +1,45 @@
+//! The run of a term of a source.
+
+ghost use Rattle.std.specs.Prelude.{◌≡◌, length, IfOk, IfErr};
+ghost use Rattle.std.specs.String.{string_bytes};
+ghost use Rattle.isle_core.specs.RuleViews.{environment};
+ghost use Rattle.isle_rulesets.specs.Grouping.{AreRuleSets};
+ghost use Rattle.isle_values.specs.Views.{seen};
+ghost use Rattle.isle_emission.specs.Built.{IsBuilt};
+ghost use Rattle.isle_codegen.specs.Checked.{IsChecked};
+ghost use Rattle.isle_run.specs.Trial.{IsTrial};
+ghost use Rattle.isle_run.specs.Stopped.{HasNoLines};
+
+use crate::checked::of_checked;
+use crate::trial_error::TrialError;
+use isle_codegen::{FileError, check_files};
+use isle_core::{CodegenOptions, Files};
+use isle_values::Written;
+use std::alloc::Global;
+
+/// The lines of a run of the term of this name, of the source that the files' texts are, at the values, under the answers
+/// that a text spells: the line of the end, and one for each call of an impure term, in order. There are as many names as
+/// texts. The refusals come in this order: the source, the term, the number of arguments, their types, the answers.
+pub fn trial(
+    alloc: Global,
+    files: &Files,
+    options: &CodegenOptions,
+    term: &str,
+    given: &[Written],
+    answers: &str,
+) -> Result<String, TrialError>
+    requires count { length files.now.file_texts ≡ length files.now.file_names }
+    requires options { IsBuilt options.now }
+    ensures ok { IfOk result (λ lines. IsTrial options.now files.now term.now (seen given.now) answers.now (string_bytes lines)) }
+    ensures err { IfErr result (λ e. HasNoLines options.now files.now term.now (seen given.now) answers.now e) }
+{
+    let checked = match check_files(alloc, files) {
+        Ok(checked) => checked,
+        Err(FileError::NotYet) => return Err(TrialError::NotYet),
+        Err(FileError::Memory | FileError::Io { .. } | FileError::Errors(_) | FileError::Name(_)) =>
+            {
+                return Err(TrialError::Memory);
+            }
+    };
+    of_checked(alloc, files, options, &checked, term, given, answers)
+}

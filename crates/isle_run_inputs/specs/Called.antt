@@ -1,0 +1,12 @@
+-- What contracts see of what a call goes to.
+use Rattle.std.specs.Prelude.{Option, Some, None}
+use Rattle.isle_core.specs.declared.values.Callee.{Callee}
+use Rattle.isle_core.specs.declared.values.Callee.TheVariants as callee
+use Rattle.isle_run_inputs.specs.declared.answer_types.Called.{Called}
+use Rattle.isle_run_inputs.specs.declared.answer_types.Called.TheVariants as code
+
+-- the callee, where there is one
+abbrev pub called : Called → Option Callee
+called (code.External name) = Some (callee.External name.now)
+called (code.Internal name) = Some (callee.Internal name.now)
+called code.Nothing = None

@@ -1,0 +1,72 @@
+-- The answers that forms give.
+use Rattle.std.specs.Prelude.{ℕ, zero, suc, List, [], ◌∷◌, map, Bool, true, false, ◌&&◌, Option}
+use Rattle.std.specs.List.{list_all}
+use Rattle.isle_core.specs.declared.TypeId.{TypeId}
+use Rattle.isle_core.specs.Rule.{Environment}
+use Rattle.isle_core.specs.Value.{Answer}
+use Rattle.isle_core.specs.Value as value
+use Rattle.isle_core.specs.Meaning.{TurnAnswers, Meaning}
+use Rattle.isle_answers.specs.Form.{ResultForm, One, Tuple, AnswerForm, Plain, Found, Nothing, Several, Form, Held, Max, Const, Answers, Turns}
+use Rattle.isle_run_inputs.specs.Given.{value_at_any}
+use Rattle.isle_run_inputs.specs.Asked.{answer_type}
+
+-- a result that is built: one value
+abbrev pub is_built_result : ResultForm → Bool
+is_built_result (One v) = true
+is_built_result (Tuple vs) = false
+
+-- an answer that is built
+abbrev pub is_built_answer : AnswerForm → Bool
+is_built_answer (Plain r) = is_built_result r
+is_built_answer (Found r) = is_built_result r
+is_built_answer Nothing = true
+is_built_answer (Several rs) = false
+
+-- a form that is built: turns alone
+abbrev pub is_built : Form → Bool
+is_built (Turns callee turns rest at) = list_all is_built_answer turns && is_built_answer rest
+is_built form = false
+
+-- all of them are
+abbrev pub are_built : List Form → Bool
+are_built = list_all is_built
+
+-- a result at the type of what its callee answers
+abbrev pub result_at : Environment → Option TypeId → ResultForm → List value.Value
+result_at env ty (One v) = value_at_any env ty v ∷ []
+result_at env ty (Tuple vs) = []
+
+-- an answer at that type
+abbrev pub answer_at : Environment → Option TypeId → AnswerForm → Answer
+answer_at env ty (Plain r) = value.Plain (result_at env ty r)
+answer_at env ty (Found r) = value.Found (result_at env ty r)
+answer_at env ty Nothing = value.Nothing
+answer_at env ty (Several rs) = value.Several []
+
+-- the turns of a form that is built
+abbrev pub turns_at : Environment → List Form → List TurnAnswers
+turns_at env [] = []
+turns_at env (Turns callee turns rest at ∷ forms) =
+    record { callee = callee; turns = map (answer_at env (answer_type env callee)) turns; rest = answer_at env (answer_type env callee) rest } ∷ turns_at env forms
+turns_at env (Held count at ∷ forms) = turns_at env forms
+turns_at env (Max count at ∷ forms) = turns_at env forms
+turns_at env (Const name v at ∷ forms) = turns_at env forms
+turns_at env (Answers callee cases rest at ∷ forms) = turns_at env forms
+
+-- the answers of forms that are built: nothing is held at entry, and a hundred results are the limit
+abbrev pub answers_at : Environment → List Form → Meaning
+answers_at env forms = record { consts = []; pure = []; turns = turns_at env forms; held = 0; max_returns = 100 }
+
+-- where a form begins
+abbrev pub place_of : Form → ℕ
+place_of (Held count at) = at
+place_of (Max count at) = at
+place_of (Const name v at) = at
+place_of (Answers callee cases rest at) = at
+place_of (Turns callee turns rest at) = at
+
+-- the place that the number of a wrong form tells: where it begins, or the end of the file where one is missing
+abbrev pub place_at : (end : ℕ) → List Form → ℕ → ℕ
+place_at end [] i = end
+place_at end (form ∷ forms) zero = place_of form
+place_at end (form ∷ forms) (suc i) = place_at end forms i

@@ -1,0 +1,170 @@
+//! The answers that forms give.
+
+ghost use Rattle.std.specs.Prelude;
+ghost use Rattle.std.specs.Prelude.{◌≡◌, IfOk, ◌∷◌, map, option_map, ◌+◌, ◌<◌, ◌^◌, length};
+ghost use Rattle.std.specs.List.{cons_option};
+ghost use Rattle.isle_core.specs.ValueViews.{answer, turn_answers, meaning, values};
+ghost use Rattle.isle_answers.specs.Form as pure_form;
+ghost use Rattle.isle_answers.specs.Views.{result_seen, answer_seen, form_seen, forms_seen};
+ghost use Rattle.isle_core.specs.RuleViews.{environment};
+ghost use Rattle.isle_core.specs.Rule.{Environment};
+ghost use Rattle.isle_run_inputs.specs.Forms.{result_at, answer_at, turns_at, answers_at, place_of, place_at};
+
+use crate::answer_types::AnswerTypes;
+use crate::value::value_at_any;
+use isle_answers::{AnswerForm, Form, ResultForm};
+use isle_core::{
+    Answer, Answers, Callee, List, OutOfMemory, TermEnv, Text, TurnAnswers, TypeEnv, TypeId, Value,
+};
+use std::alloc::{AllocError, Global};
+
+// A result at the type of what its callee answers.
+fn result_at(
+    alloc: Global,
+    typeenv: &TypeEnv,
+    ty: Option<TypeId>,
+    form: &ResultForm,
+) -> Result<Vec<Value>, AllocError>
+    ensures { IfOk result (λ vs. (env : Environment) → env.types ≡ typeenv.now → values vs.items ≡ result_at env ty (result_seen form.now)) }
+{
+    match form {
+        ResultForm::One(written) => Ok(vec![in alloc; value_at_any(alloc, typeenv, ty, written)]?),
+        ResultForm::Tuple(_) => Ok(Vec::new(alloc)),
+    }
+}
+
+// An answer at that type.
+fn answer_at(
+    alloc: Global,
+    typeenv: &TypeEnv,
+    ty: Option<TypeId>,
+    form: &AnswerForm,
+) -> Result<Answer, AllocError>
+    ensures { IfOk result (λ a. (env : Environment) → env.types ≡ typeenv.now → answer a ≡ answer_at env ty (answer_seen form.now)) }
+{
+    match form {
+        AnswerForm::Plain(found) => {
+            let found = result_at(alloc, typeenv, ty, found)?;
+            Ok(Answer::Plain(List::new(found)))
+        }
+        AnswerForm::Some(found) => {
+            let found = result_at(alloc, typeenv, ty, found)?;
+            Ok(Answer::Some(List::new(found)))
+        }
+        AnswerForm::Nothing => Ok(Answer::Nothing),
+        AnswerForm::List(_) => Ok(Answer::List(List::new(Vec::new(alloc)))),
+    }
+}
+
+// Answers at that type, in order.
+fn all_at(
+    alloc: Global,
+    typeenv: &TypeEnv,
+    ty: Option<TypeId>,
+    forms: &[AnswerForm],
+) -> Result<Vec<Answer>, AllocError>
+    ensures { IfOk result (λ found. (env : Environment) → env.types ≡ typeenv.now → map answer found.items ≡ map (λ a. answer_at env ty (answer_seen a)) forms.now) }
+{
+    let mut found = Vec::new(alloc);
+    for form in forms {
+        found.push(answer_at(alloc, typeenv, ty, form)?)?;
+    }
+    Ok(found)
+}
+
+// A copy of a callee.
+fn callee_copied(alloc: Global, callee: &Callee) -> Result<Callee, AllocError>
+    ensures { IfOk result (λ copy. copy ≡ callee.now) }
+{
+    match callee {
+        Callee::External(name) => Ok(Callee::External(Text::new(String::from_str(
+            alloc,
+            name.as_str(),
+        )?))),
+        Callee::Internal(term) => Ok(Callee::Internal(Text::new(String::from_str(
+            alloc,
+            term.as_str(),
+        )?))),
+    }
+}
+
+// The turns that a form gives; only forms of turns are built, and the others give none.
+fn turns_of(
+    alloc: Global,
+    typeenv: &TypeEnv,
+    types: &AnswerTypes,
+    form: &Form,
+) -> Result<Option<TurnAnswers>, AllocError>
+    ensures { IfOk result (λ t. (env : Environment) → env.types ≡ typeenv.now → env.types ≡ types.now.0 → env.terms ≡ types.now.1 → (rest : Prelude.List pure_form.Form) → turns_at env (form_seen form.now ∷ rest) ≡ cons_option (option_map turn_answers t) (turns_at env rest)) }
+{
+    match form {
+        Form::Turns {
+            callee,
+            turns,
+            rest,
+            ..
+        } => {
+            let ty = types.of(callee);
+            let turns = all_at(alloc, typeenv, ty, turns.as_slice())?;
+            let rest = answer_at(alloc, typeenv, ty, rest)?;
+            Ok(Some(TurnAnswers {
+                callee: callee_copied(alloc, callee)?,
+                turns: List::new(turns),
+                rest,
+            }))
+        }
+        Form::Held { .. } | Form::Max { .. } | Form::Const { .. } | Form::Answers { .. } => Ok(
+            None,
+        ),
+    }
+}
+
+/// The answers that forms give, their values at the types of what callees answer; a value of another type is one of no
+/// type. Only turns are built: the other forms give none.
+pub fn answers_at(
+    alloc: Global,
+    typeenv: &TypeEnv,
+    termenv: &TermEnv,
+    forms: &[Form],
+) -> Result<Answers, OutOfMemory>
+    ensures answers { IfOk result (λ a. meaning a ≡ answers_at (environment typeenv.now termenv.now) (forms_seen forms.now)) }
+    ensures counted { IfOk result (λ a. length a.consts + length a.pure + length a.turns < 2 ^ 64) }
+{
+    let types = AnswerTypes::new(alloc, typeenv, termenv.terms.as_slice())?;
+    let mut all = Vec::new(alloc);
+    for form in forms {
+        if let Some(turns) = turns_of(alloc, typeenv, &types, form)? {
+            all.push(turns)?;
+        }
+    }
+    Ok(Answers {
+        consts: List::new(Vec::new(alloc)),
+        pure: List::new(Vec::new(alloc)),
+        turns: List::new(all),
+        held: 0,
+        max_returns: 100,
+    })
+}
+
+// Where a form begins.
+fn place_of(form: &Form) -> usize
+    ensures { result ≡ place_of (form_seen form.now) }
+{
+    match form {
+        Form::Held { at, .. }
+        | Form::Max { at, .. }
+        | Form::Const { at, .. }
+        | Form::Answers { at, .. }
+        | Form::Turns { at, .. } => *at,
+    }
+}
+
+/// The place that the number of a wrong form tells: where the form begins, or the end of the file where one is missing.
+pub fn place_at(end: usize, forms: &[Form], number: usize) -> usize
+    ensures { result ≡ place_at end (forms_seen forms.now) number }
+{
+    match forms.get(number) {
+        Some(form) => place_of(form),
+        None => end,
+    }
+}

@@ -1,0 +1,55 @@
+//! Which forms are built.
+
+ghost use Rattle.std.specs.Prelude.{◌≡◌};
+ghost use Rattle.std.specs.List.{list_all};
+ghost use Rattle.isle_answers.specs.Views.{result_seen, answer_seen, form_seen, forms_seen};
+ghost use Rattle.isle_run_inputs.specs.Forms.{is_built_result, is_built_answer, is_built, are_built};
+
+use isle_answers::{AnswerForm, Form, ResultForm};
+
+// Whether a result is one value.
+fn is_built_result(result_form: &ResultForm) -> bool
+    ensures { result ≡ is_built_result (result_seen result_form.now) }
+{
+    match result_form {
+        ResultForm::One(_) => true,
+        ResultForm::Tuple(_) => false,
+    }
+}
+
+// Whether an answer is of a form that is built.
+fn is_built_answer(answer: &AnswerForm) -> bool
+    ensures { result ≡ is_built_answer (answer_seen answer.now) }
+{
+    match answer {
+        AnswerForm::Plain(found) | AnswerForm::Some(found) => is_built_result(found),
+        AnswerForm::Nothing => true,
+        AnswerForm::List(_) => false,
+    }
+}
+
+// Whether a form is built: turns alone are.
+fn is_built(form: &Form) -> bool
+    ensures { result ≡ is_built (form_seen form.now) }
+{
+    match form {
+        Form::Turns { turns, rest, .. } => {
+            are_built_answers(turns.as_slice()) && is_built_answer(rest)
+        }
+        Form::Held { .. } | Form::Max { .. } | Form::Const { .. } | Form::Answers { .. } => false,
+    }
+}
+
+// Whether all answers are of forms that are built.
+fn are_built_answers(answers: &[AnswerForm]) -> bool
+    ensures { result ≡ list_all (λ a. is_built_answer (answer_seen a)) answers.now }
+{
+    answers.iter().all(|answer| is_built_answer(answer))
+}
+
+/// Whether all forms are built.
+pub fn are_built(forms: &[Form]) -> bool
+    ensures { result ≡ are_built (forms_seen forms.now) }
+{
+    forms.iter().all(|form| is_built(form))
+}

@@ -1,5 +1,0 @@
-use Rattle.isle_trial.specs.Stopped.{memory}
-use Rattle.isle_trial.proofs.checked.of_checked.Goals as goal
-
-pub returns-in-Err-clause-err : goal.returns-in-Err-clause-err
-returns-in-Err-clause-err c = memory

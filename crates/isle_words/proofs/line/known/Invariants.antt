@@ -1,9 +1,0 @@
-use Rattle.std.proofs.Common.{◌≡◌, take, Some}
-use Rattle.isle_core.specs.Inputs.{bytes_each}
-use Rattle.isle_words.specs.Reading.{read}
-use Rattle.isle_words.specs.Known.{Begin}
-use Rattle.isle_words.specs.Views.{seen_state}
-use Rattle.isle_words.proofs.line.known.Given as goal
-
-abbrev pub invariant-loop-index : goal.invariant-loop-index
-invariant-loop-index l = read Begin (bytes_each (take l.index l.words)) ≡ Some (seen_state l.state)

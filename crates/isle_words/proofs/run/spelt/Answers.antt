@@ -1,5 +1,0 @@
-use Rattle.isle_words.proofs.ReadValues.{read_spelt}
-use Rattle.isle_words.proofs.run.spelt.Goals as goal
-
-pub returns : goal.returns
-returns c = read_spelt c.args.word.now c.values.result c.values.ensures.some c.values.ensures.none
