@@ -11,7 +11,7 @@ use Rattle.isle_core.specs.Block.{Block}
 use Rattle.isle_core.specs.BlockLawful.{IsLawfulBlock}
 use Rattle.isle_core.specs.Rule.{Environment}
 use Rattle.isle_core.specs.Ready.{IsReady}
-use Rattle.isle_target.specs.Program.{Function}
+use Rattle.isle_tree.specs.Program.{Function}
 use Rattle.isle_emission.specs.TermFunction.{term_function}
 use Rattle.isle_codegen.specs.Emits.{MeansSet, CanEmit, IsEmitted, AreEmitted}
 

@@ -10,7 +10,7 @@ use Rattle.isle_core.specs.declared.rule_sets.RuleSet.{RuleSet}
 use Rattle.isle_core.specs.declared.types.Term.{Term}
 use Rattle.isle_core.specs.Terms.{sym_text, term_ids, term_name, has_rules, with_rules}
 use Rattle.isle_core.specs.Rule.{Environment}
-use Rattle.isle_target.specs.Program.{Function}
+use Rattle.isle_tree.specs.Program.{Function}
 use Rattle.isle_codegen.specs.Emits.{IsEmitted, AreEmitted}
 
 -- the name of a term that is there

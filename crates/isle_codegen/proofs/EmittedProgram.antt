@@ -15,9 +15,9 @@ use Rattle.isle_syntax.specs.Tree.{Def}
 use Rattle.isle_rulesets.specs.Grouping.{AreRuleSets}
 use Rattle.isle_sema.specs.Typing.{Typed}
 use Rattle.isle_sema.proofs.TypedTerms.{typed_names, typed_types}
-use Rattle.isle_target.specs.Program.{Function, Program}
-use Rattle.isle_target.specs.WellFormed.{IsTraitFn, fn_names, IsFunction, IsWellFormed}
-use Rattle.isle_target.specs.declared.tree.TraitFn.{TraitFn}
+use Rattle.isle_tree.specs.Program.{Function, Program}
+use Rattle.isle_tree.specs.WellFormed.{IsTraitFn, fn_names, IsFunction, IsWellFormed}
+use Rattle.isle_tree.specs.declared.tree.TraitFn.{TraitFn}
 use Rattle.isle_codegen.specs.Emits.{CanEmit, AreEmitted}
 use Rattle.isle_emission.specs.Emitted.{IsEmittable}
 use Rattle.isle_emission.specs.TraitFns.{trait_fns_of, HasFnNames}

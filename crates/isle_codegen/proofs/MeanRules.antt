@@ -33,8 +33,8 @@ use Rattle.isle_syntax.specs.Tree.{Def}
 use Rattle.isle_sema.specs.Typing.{Typed}
 use Rattle.isle_sema.proofs.TypedRules.{typed_built, typed_bound, typed_impure, typed_args}
 use Rattle.isle_sema.proofs.OneRule.{typed_one}
-use Rattle.isle_target.specs.Program.{Function, Program}
-use Rattle.isle_target.specs.Run.{run, function_of}
+use Rattle.isle_tree.specs.Program.{Function, Program}
+use Rattle.isle_tree.specs.Run.{run, function_of}
 use Rattle.isle_codegen.specs.Emits.{IsEmitted, AreEmitted}
 use Rattle.isle_emission.specs.Emitted.{ran_of}
 use Rattle.isle_codegen.specs.Headline.{GivesAs, GivesOutcome, MeansRules}

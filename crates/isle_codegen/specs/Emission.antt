@@ -10,8 +10,8 @@ use Rattle.isle_syntax.specs.Tree.{Def}
 use Rattle.isle_syntax.specs.Positions.{place_of}
 use Rattle.isle_codegen.specs.Source.{IsCompilable}
 use Rattle.isle_emission.specs.TraitFns.{trait_fns_of}
-use Rattle.isle_target.specs.declared.tree.TypeItem.{TypeItem}
-use Rattle.isle_target.specs.Program.{Program}
+use Rattle.isle_tree.specs.declared.tree.TypeItem.{TypeItem}
+use Rattle.isle_tree.specs.Program.{Program}
 
 -- an environment that definitions give, whose names may be emitted
 pub record IsGiven (env : Environment) : Type 0 where

@@ -14,7 +14,7 @@ use Rattle.isle_core.specs.BlockLawful.{IsLawfulBlock}
 use Rattle.isle_core.specs.Places.{LiesIn}
 use Rattle.isle_core.specs.Rule.{Environment}
 use Rattle.isle_core.specs.Ready.{IsReady}
-use Rattle.isle_target.specs.Program.{Function}
+use Rattle.isle_tree.specs.Program.{Function}
 use Rattle.isle_emission.specs.TermFunction.{term_function}
 use Rattle.isle_emission.specs.Emitted.{IsEmittable}
 use Rattle.isle_emission.specs.TraitFns.{HasFnNames}

@@ -1,6 +1,7 @@
 -- The comment that an emitted text begins with.
 use Rattle.std.specs.Prelude.{◌≡◌, ℕ, List, [], ◌∷◌, ◌++◌, map, codes}
 use Rattle.isle_printer.specs.Comment.{comment_lines}
+use Rattle.isle_printer.specs.Token.{HasNoComment}
 
 -- the line of a file
 abbrev pub file_line : List ℕ → List ℕ
@@ -22,6 +23,8 @@ header_lines names = first_lines ++ map file_line names
 abbrev pub header : List (List ℕ) → List ℕ
 header names = comment_lines (header_lines names)
 
--- the text begins with the header comment of these names
-abbrev pub HasHeader : List (List ℕ) → List ℕ → Type 0
-HasHeader names text = (print : List ℕ) × (text ≡ header names ++ print)
+-- the text begins with the header comment of these names, and behind it stands no other comment
+pub record HasHeader (names : List (List ℕ)) (text : List ℕ) : Type 0 where
+  pub print : List ℕ
+  pub behind : text ≡ header names ++ print
+  pub alone : HasNoComment print

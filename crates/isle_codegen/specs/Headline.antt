@@ -13,9 +13,9 @@ use Rattle.isle_core.specs.Rule.{Environment, rules_of}
 use Rattle.isle_core.specs.Terms.{with_rules, term_name, is_impure}
 use Rattle.isle_syntax.specs.Tree.{Def}
 use Rattle.isle_sema.specs.Typing.{TypedOnly}
-use Rattle.isle_target.specs.Program.{Function, Program}
+use Rattle.isle_tree.specs.Program.{Function, Program}
 use Rattle.isle_target.specs.Reading.{SpellsOnly}
-use Rattle.isle_target.specs.Run.{run}
+use Rattle.isle_tree.specs.Run.{run}
 use Rattle.isle_codegen.specs.Emission.{IsFrame}
 use Rattle.isle_emission.specs.Ends.{end_of}
 use Rattle.isle_emission.specs.OfTerm.{AreDeclared}

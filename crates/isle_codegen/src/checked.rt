@@ -18,7 +18,7 @@ use isle_emission::trait_fns;
 use isle_rulesets::rule_sets;
 use isle_sema::{EnvError, env_from_ast};
 use isle_syntax::{Def, ParseFail};
-use isle_target::TraitFn;
+use isle_tree::TraitFn;
 use std::alloc::Global;
 
 /// The environment of definitions that may be compiled.

@@ -1,7 +1,7 @@
 ghost use Rattle.std.specs.Prelude.{◌≡◌, ◌↔◌, IsTrue, IfOk, map};
 ghost use Rattle.std.specs.List.{AllByRecursion, list_all};
-ghost use Rattle.isle_target.specs.declared.tree.TraitFn.{TraitFn as TheFn};
-ghost use Rattle.isle_target.specs.Identifier.{IsIdentifier};
+ghost use Rattle.isle_tree.specs.declared.tree.TraitFn.{TraitFn as TheFn};
+ghost use Rattle.isle_spelling.specs.Identifier.{IsIdentifier};
 ghost use Rattle.isle_emission.specs.TraitFns.{AreFnNames};
 ghost use Rattle.isle_printer.specs.Token.{is_word_byte};
 ghost use Rattle.isle_core.specs.RuleViews.{environment};
@@ -9,7 +9,8 @@ ghost use Rattle.isle_core.specs.Terms.{with_rules, term_name};
 ghost use Rattle.isle_codegen.specs.Names.{is_name_byte, is_file_name, are_file_names, is_term_name, are_term_names};
 
 use isle_core::{OutOfMemory, RuleSet, TermEnv, TermId, Text, TypeEnv};
-use isle_target::{TraitFn, are_apart, is_identifier};
+use isle_spelling::is_identifier;
+use isle_tree::{TraitFn, are_apart};
 use std::alloc::Global;
 
 /// What a name stands for.

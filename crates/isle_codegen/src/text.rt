@@ -14,7 +14,8 @@ use crate::tree::tree_of;
 use isle_core::{CodegenOptions, Files, OutOfMemory, RuleSet, TermEnv, TermId, Text, TypeEnv};
 use isle_emission::trait_fns;
 use isle_printer::push_comment;
-use isle_target::{TraitFn, print_program};
+use isle_target::print_program;
+use isle_tree::TraitFn;
 use std::alloc::Global;
 
 /// The text of the program of an environment: the header comment, which names the files, and the print of

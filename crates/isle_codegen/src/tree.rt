@@ -2,8 +2,8 @@ ghost use Rattle.std.specs.Prelude.{◌≡◌, map, IfOk};
 ghost use Rattle.std.specs.List.{AllByRecursion};
 ghost use Rattle.isle_core.specs.RuleViews.{environment};
 ghost use Rattle.isle_rulesets.specs.Grouping.{AreRuleSets};
-ghost use Rattle.isle_target.specs.Views.{function, program};
-ghost use Rattle.isle_target.specs.WellFormed.{IsWellFormed};
+ghost use Rattle.isle_tree.specs.Views.{function, program};
+ghost use Rattle.isle_tree.specs.WellFormed.{IsWellFormed};
 ghost use Rattle.isle_codegen.specs.Emission.{IsGiven, IsFrame, ArePlaced};
 ghost use Rattle.isle_emission.specs.Built.{IsBuilt};
 ghost use Rattle.isle_emission.specs.TraitFns.{trait_fns_of};
@@ -14,7 +14,7 @@ ghost use Rattle.isle_emission.specs.LineStarts.{starts_of};
 use isle_blocks::serialize;
 use isle_core::{CodegenOptions, Files, List, OutOfMemory, RuleSet, TermEnv, TermId, TypeEnv};
 use isle_emission::{Context, LineStarts, is_partial, term_function, trait_fns};
-use isle_target::{Function, Program, TraitFn};
+use isle_tree::{Function, Program, TraitFn};
 use std::alloc::Global;
 
 /// The function of the term of this number, from the block of its rule set. The table is that of the files.

@@ -4,6 +4,7 @@
 mod blocks;
 mod errors;
 mod files;
+mod int_type;
 mod options;
 mod position;
 mod read_error;

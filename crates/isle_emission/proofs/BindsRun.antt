@@ -29,11 +29,11 @@ use Rattle.isle_core.specs.Rule.{Environment}
 use Rattle.isle_core.proofs.Contained.{head_contained, contained_cases, none_contained}
 use Rattle.isle_core.proofs.AnsweredByTurn.{turn_is, turn_held}
 use Rattle.isle_core.proofs.TurnKinds as turn_kind
-use Rattle.isle_target.specs.declared.tree.Read.TheVariants as read
-use Rattle.isle_target.specs.declared.tree.TExpr.{TExpr}
-use Rattle.isle_target.specs.declared.tree.TExpr.TheVariants as expr
-use Rattle.isle_target.specs.Program.{Body}
-use Rattle.isle_target.specs.Run.{Env, bind, value_of, read_values, Goes, Ends, then_run, run_bind, run_call, run_try, run_let, run_body}
+use Rattle.isle_tree.specs.declared.tree.Read.TheVariants as read
+use Rattle.isle_tree.specs.declared.tree.TExpr.{TExpr}
+use Rattle.isle_tree.specs.declared.tree.TExpr.TheVariants as expr
+use Rattle.isle_tree.specs.Program.{Body}
+use Rattle.isle_tree.specs.Run.{Env, bind, value_of, read_values, Goes, Ends, then_run, run_bind, run_call, run_try, run_let, run_body}
 use Rattle.isle_emission.specs.Ends.{end_of}
 use Rattle.isle_emission.specs.Emitted.{AnswersBindings}
 use Rattle.isle_emission.specs.Operands.{in_place, operand_of}

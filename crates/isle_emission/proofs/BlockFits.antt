@@ -11,9 +11,9 @@ use Rattle.isle_core.specs.Block as block
 use Rattle.isle_core.specs.Block.{Block, Stop, Step, Control}
 use Rattle.isle_core.specs.BlockLawful.{IsBindable, AreBindable, IsLawfulBlock, IsLawfulControl, bound_by}
 use Rattle.isle_core.specs.Rule.{Environment}
-use Rattle.isle_target.specs.declared.tree.Operand.{Operand}
-use Rattle.isle_target.specs.Program.{Stmt, Let, Tail, Body, Done, Then}
-use Rattle.isle_target.specs.WellFormed.{FitsLet, IsReturned, FitsStmt, FitsBody, FitsFunction}
+use Rattle.isle_tree.specs.declared.tree.Operand.{Operand}
+use Rattle.isle_tree.specs.Program.{Stmt, Let, Tail, Body, Done, Then}
+use Rattle.isle_tree.specs.WellFormed.{FitsLet, IsReturned, FitsStmt, FitsBody, FitsFunction}
 use Rattle.isle_emission.specs.Operands.{operand_of}
 use Rattle.isle_emission.specs.Statements.{bound_expr, lets, returned, block_body, control_stmt}
 use Rattle.isle_emission.specs.TermFunction.{kind_of, ends_in_return, mark_of, tail_of}

@@ -19,9 +19,9 @@ use Rattle.isle_core.specs.Block as block
 use Rattle.isle_core.specs.Block.{Block, Stop, Step, Control}
 use Rattle.isle_core.specs.BlockLawful.{IsPathOf, IsConstraintOf, IsInPlace, IsReadAs, AreReadAs, IsBindable, AreBindable, IsLawfulBlock, IsLawfulControl, bound_by}
 use Rattle.isle_core.specs.Rule.{Environment}
-use Rattle.isle_target.specs.declared.tree.Operand.{Operand}
-use Rattle.isle_target.specs.Program.{Body, Done, Then}
-use Rattle.isle_target.specs.WellFormed.{IsOperand, IsRead, IsExpr, IsStmt, IsBody}
+use Rattle.isle_tree.specs.declared.tree.Operand.{Operand}
+use Rattle.isle_tree.specs.Program.{Body, Done, Then}
+use Rattle.isle_tree.specs.WellFormed.{IsOperand, IsRead, IsExpr, IsStmt, IsBody}
 use Rattle.isle_emission.specs.Operands.{constant, in_place, tested, is_bound, operand_of}
 use Rattle.isle_emission.specs.Statements.{reads, bound_expr, lets, returned, block_body, control_stmt}
 use Rattle.isle_emission.specs.TraitFns.{HasFnNames}

@@ -21,11 +21,11 @@ use Rattle.isle_core.specs.Block as block
 use Rattle.isle_core.specs.Block.{Block, Stop, Step, Control}
 use Rattle.isle_core.specs.BlockLawful.{IsPathOf, IsOptionOf, IsConstraintOf, IsInPlace, IsCall, IsPlain, IsReadAs, AreReadAs, IsBindable, AreBindable, IsLawfulBlock, IsLawfulControl, bound_by}
 use Rattle.isle_core.specs.Rule.{Environment}
-use Rattle.isle_target.specs.declared.holds.Holds.{Holds}
-use Rattle.isle_target.specs.declared.holds.Holds.TheVariants as holds
-use Rattle.isle_target.specs.declared.tree.Operand.{Operand}
-use Rattle.isle_target.specs.Program.{Body, Done, Then}
-use Rattle.isle_target.specs.WellFormed.{Locals, newer, local_holds, operand_holds, is_value, are_values, kind_holds, call_holds, callee_holds, inner_holds, expr_holds, GivesKind, behind_let, IsBodyThere}
+use Rattle.isle_tree.specs.declared.holds.Holds.{Holds}
+use Rattle.isle_tree.specs.declared.holds.Holds.TheVariants as holds
+use Rattle.isle_tree.specs.declared.tree.Operand.{Operand}
+use Rattle.isle_tree.specs.Program.{Body, Done, Then}
+use Rattle.isle_tree.specs.WellFormed.{Locals, newer, local_holds, operand_holds, is_value, are_values, kind_holds, call_holds, callee_holds, inner_holds, expr_holds, GivesKind, behind_let, IsBodyThere}
 use Rattle.isle_emission.specs.Operands.{constant, in_place, tested, is_bound, operand_of}
 use Rattle.isle_emission.specs.Statements.{callee_of, reads, bound_expr, lets, returned, block_body, control_stmt}
 use Rattle.isle_emission.specs.TermFunction.{parameter, kind_of}

@@ -7,8 +7,8 @@ use Rattle.isle_core.specs.Block.{Block}
 use Rattle.isle_core.specs.declared.rule_sets.Binding.{Binding}
 use Rattle.isle_core.specs.Path.{paths_of}
 use Rattle.isle_core.specs.Rule.{Environment}
-use Rattle.isle_target.specs.Program.{Program, Function}
-use Rattle.isle_target.specs.WellFormed.{IsFunction}
+use Rattle.isle_tree.specs.Program.{Program, Function}
+use Rattle.isle_tree.specs.WellFormed.{IsFunction}
 use Rattle.isle_emission.specs.Emitted.{RunsAsBlock}
 use Rattle.isle_emission.specs.MayEmit.{MayEmit}
 use Rattle.isle_emission.specs.Shape.{HasShape}

@@ -18,9 +18,9 @@ use Rattle.isle_core.specs.Terms.{sym_text, impure_callee}
 use Rattle.isle_core.specs.BlockLawful.{IsCall}
 use Rattle.isle_core.specs.Rule.{Environment}
 use Rattle.isle_core.proofs.Contained.{head_contained, tail_contained, contained_cases, none_contained}
-use Rattle.isle_target.specs.declared.tree.TraitFn.{TraitFn}
-use Rattle.isle_target.specs.Identifier.{IsIdentifier}
-use Rattle.isle_target.specs.WellFormed.{IsCallee, fn_names, trait_fn}
+use Rattle.isle_tree.specs.declared.tree.TraitFn.{TraitFn}
+use Rattle.isle_spelling.specs.Identifier.{IsIdentifier}
+use Rattle.isle_tree.specs.WellFormed.{IsCallee, fn_names, trait_fn}
 use Rattle.isle_emission.specs.Statements.{callee_of}
 use Rattle.isle_emission.specs.TraitFns.{fn_for, func_of, trait_fn_of, trait_fns_in, trait_fns_of, HasFnNames}
 

@@ -15,7 +15,7 @@ use Rattle.isle_core.specs.Path.{Path, at, at_all, paths_of}
 use Rattle.isle_core.specs.Held.{Held, Absent, One, Optional, Known, value_before, value_at, values_at}
 use Rattle.isle_core.specs.BlockLawful.{IsPathOf, IsOptionOf, IsReadAs, AreReadAs}
 use Rattle.isle_core.specs.Rule.{Environment}
-use Rattle.isle_target.specs.Run.{Env, newer, look, bind, value_of, read_values}
+use Rattle.isle_tree.specs.Run.{Env, newer, look, bind, value_of, read_values}
 use Rattle.isle_emission.specs.Operands.{is_bound, operand_of}
 use Rattle.isle_emission.specs.Statements.{reads}
 use Rattle.isle_emission.proofs.BoundTests.{found}

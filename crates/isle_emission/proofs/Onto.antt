@@ -1,10 +1,10 @@
 -- Statements before a body, as statements are pushed; and the locals that lets bind.
 use Rattle.std.proofs.Common.{◌≡◌, ℕ, List, [], ◌∷◌, ◌++◌, map, refl, ap, ◌∙◌, append_assoc, rules}
 use Rattle.isle_base.specs.declared.ids.BindingId.{BindingId}
-use Rattle.isle_target.specs.declared.tree.Stmt.{Stmt as CodeStmt}
-use Rattle.isle_target.specs.Program.{Body, Done, Then}
-use Rattle.isle_target.specs.Views.{stmt, body_of}
-use Rattle.isle_target.specs.Program.{Stmt}
+use Rattle.isle_tree.specs.declared.tree.Stmt.{Stmt as CodeStmt}
+use Rattle.isle_tree.specs.Program.{Body, Done, Then}
+use Rattle.isle_tree.specs.Views.{stmt, body_of}
+use Rattle.isle_tree.specs.Program.{Stmt}
 use Rattle.isle_emission.specs.BodyOnto.{body_onto}
 use Rattle.isle_core.specs.BlockLawful.{bound_by}
 

@@ -17,7 +17,7 @@ use Rattle.isle_core.specs.Path.{Path, Arg, ConstBool, ConstInt}
 use Rattle.isle_core.specs.Held.{One, Known, held, value_at, meets}
 use Rattle.isle_core.specs.BlockLawful.{IsPathOf, IsConstraintOf, IsInPlace}
 use Rattle.isle_core.specs.Rule.{Environment}
-use Rattle.isle_target.specs.Run.{Env, value_of}
+use Rattle.isle_tree.specs.Run.{Env, value_of}
 use Rattle.isle_emission.specs.Operands.{constant, in_place, tested}
 
 -- the path has this value, where it is read in place and where a block runs

@@ -5,11 +5,11 @@ use Rattle.isle_core.specs.declared.rule_sets.Binding.{Binding}
 use Rattle.isle_core.specs.Block.{Block}
 use Rattle.isle_core.specs.BlockViews.{block_of, step}
 use Rattle.isle_core.specs.Rule.{Environment}
-use Rattle.isle_target.specs.declared.tree.Stmt.{Stmt as CodeStmt}
-use Rattle.isle_target.specs.declared.tree.Stmt.TheVariants as code
-use Rattle.isle_target.specs.Program.{Tail, Body, Done, Then}
-use Rattle.isle_target.specs.Views.{stmt, body}
-use Rattle.isle_target.proofs.Sees.{stmt-tail}
+use Rattle.isle_tree.specs.declared.tree.Stmt.{Stmt as CodeStmt}
+use Rattle.isle_tree.specs.declared.tree.Stmt.TheVariants as code
+use Rattle.isle_tree.specs.Program.{Tail, Body, Done, Then}
+use Rattle.isle_tree.specs.Views.{stmt, body}
+use Rattle.isle_tree.proofs.Sees.{stmt-tail}
 use Rattle.isle_emission.specs.BodyOnto.{body_onto}
 use Rattle.isle_emission.specs.Statements.{block_body}
 use Rattle.isle_emission.specs.TermFunction.{is_return, ends_in_return, mark_of, tail_of}

@@ -12,8 +12,8 @@ use Rattle.isle_core.specs.Block.{Block, Stop, Step, Control}
 use Rattle.isle_core.specs.BlockLawful.{IsLawfulBlock, IsLawfulControl, bound_by}
 use Rattle.isle_core.specs.Terms.{sym_text}
 use Rattle.isle_core.specs.Rule.{Environment}
-use Rattle.isle_target.specs.declared.tree.Operand.{Operand}
-use Rattle.isle_target.specs.Program.{IfEq, Tail, Body, Done, Then}
+use Rattle.isle_tree.specs.declared.tree.Operand.{Operand}
+use Rattle.isle_tree.specs.Program.{IfEq, Tail, Body, Done, Then}
 use Rattle.isle_emission.specs.Operands.{is_bound, operand_of, tested}
 use Rattle.isle_emission.specs.Statements.{lets, returned, block_body, control_stmt}
 use Rattle.isle_emission.specs.TermFunction.{ends_in_return, mark_of, term_function}

@@ -25,9 +25,9 @@ use Rattle.isle_core.specs.BlockLawful.{bound_by, occurrences, MakesOnce, IsLawf
 use Rattle.isle_core.specs.Terms.{sym_text}
 use Rattle.isle_core.specs.Rule.{Environment}
 use Rattle.isle_core.proofs.Contained.{none_contained}
-use Rattle.isle_target.specs.declared.tree.Operand.{Operand}
-use Rattle.isle_target.specs.Program.{Tail, Body, Done, Then}
-use Rattle.isle_target.specs.Run.{Env, value_of, Flow, Goes, Ends, then_run, behind, run_return, run_stmt, run_body, ended, function_run}
+use Rattle.isle_tree.specs.declared.tree.Operand.{Operand}
+use Rattle.isle_tree.specs.Program.{Tail, Body, Done, Then}
+use Rattle.isle_tree.specs.Run.{Env, value_of, Flow, Goes, Ends, then_run, behind, run_return, run_stmt, run_body, ended, function_run}
 use Rattle.isle_emission.specs.Ends.{end_of}
 use Rattle.isle_emission.specs.Operands.{operand_of}
 use Rattle.isle_emission.specs.Statements.{returned, block_body, control_stmt}

@@ -9,13 +9,13 @@ use Rattle.isle_core.specs.Block.{Block, Step}
 use Rattle.isle_core.specs.BlockViews.{SeenStep, SeenArm, block_of, arms_of, step, arm}
 use Rattle.isle_core.specs.BlockLawful.{bound_by}
 use Rattle.isle_core.specs.Rule.{Environment}
-use Rattle.isle_target.specs.declared.tree.Operand.{Operand}
-use Rattle.isle_target.specs.declared.tree.TExpr.{TExpr}
-use Rattle.isle_target.specs.declared.tree.Stmt.{Stmt as CodeStmt}
-use Rattle.isle_target.specs.declared.tree.Stmt.TheVariants as code
-use Rattle.isle_target.specs.Program.{Let, IfEq, Body, Done, Then}
-use Rattle.isle_target.specs.Views.{stmt, body}
-use Rattle.isle_target.proofs.Sees.{stmt-let, stmt-if_eq}
+use Rattle.isle_tree.specs.declared.tree.Operand.{Operand}
+use Rattle.isle_tree.specs.declared.tree.TExpr.{TExpr}
+use Rattle.isle_tree.specs.declared.tree.Stmt.{Stmt as CodeStmt}
+use Rattle.isle_tree.specs.declared.tree.Stmt.TheVariants as code
+use Rattle.isle_tree.specs.Program.{Let, IfEq, Body, Done, Then}
+use Rattle.isle_tree.specs.Views.{stmt, body}
+use Rattle.isle_tree.proofs.Sees.{stmt-let, stmt-if_eq}
 use Rattle.isle_emission.specs.BodyOnto.{body_onto}
 use Rattle.isle_emission.specs.Operands.{tested}
 use Rattle.isle_emission.specs.Statements.{bound_expr, lets, block_body, control_stmt, arms_stmt}

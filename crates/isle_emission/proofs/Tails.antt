@@ -12,7 +12,7 @@ use Rattle.isle_core.specs.Block.{Block, Control}
 use Rattle.isle_core.specs.BlockLawful.{IsLawfulBlock, IsLawfulControl, bound_by}
 use Rattle.isle_core.specs.Terms.{sym_text}
 use Rattle.isle_core.specs.Rule.{Environment}
-use Rattle.isle_target.specs.Program.{Tail, Body, Done, Then}
+use Rattle.isle_tree.specs.Program.{Tail, Body, Done, Then}
 use Rattle.isle_emission.specs.Statements.{lets, block_body, control_stmt}
 use Rattle.isle_emission.specs.TermFunction.{ends_in_return, tail_of, term_function}
 use Rattle.isle_emission.specs.OfTerm.{marks, mark_in, IsOfTerm}

@@ -13,8 +13,8 @@ use Rattle.isle_core.specs.declared.types.Term.{Term}
 use Rattle.isle_core.specs.declared.rule_sets.Binding.{Binding}
 use Rattle.isle_core.specs.Block.{Block}
 use Rattle.isle_core.specs.Rule.{Environment}
-use Rattle.isle_target.specs.Literal.{type_name}
-use Rattle.isle_target.specs.WellFormed.{IsBuiltin, IsTy, HasNames}
+use Rattle.isle_spelling.specs.Literal.{type_name}
+use Rattle.isle_tree.specs.WellFormed.{IsBuiltin, IsTy, HasNames}
 use Rattle.isle_emission.specs.TermFunction.{def_text, type_text, parameter, term_function}
 use Rattle.isle_core.specs.BuiltinType.{IsBuiltinType}
 use Rattle.isle_emission.specs.Emitted.{IsEmittable}

@@ -7,9 +7,9 @@ use Rattle.isle_core.specs.declared.types.Term.{Term}
 use Rattle.isle_core.specs.BuiltinType.{IsBuiltinType}
 use Rattle.isle_core.specs.Calling.{is_partial}
 use Rattle.isle_core.specs.Rule.{Environment}
-use Rattle.isle_target.specs.declared.tree.TraitFn.{TraitFn}
-use Rattle.isle_target.specs.Identifier.{IsIdentifier}
-use Rattle.isle_target.specs.WellFormed.{IsTraitFn}
+use Rattle.isle_tree.specs.declared.tree.TraitFn.{TraitFn}
+use Rattle.isle_spelling.specs.Identifier.{IsIdentifier}
+use Rattle.isle_tree.specs.WellFormed.{IsTraitFn}
 use Rattle.isle_emission.specs.TraitFns.{fn_for, func_of, trait_fns_in}
 use Rattle.isle_emission.proofs.TermNames.{type_is_builtin, params_are}
 use Rattle.isle_emission.proofs.WellFormedFunctions.{kind_is}

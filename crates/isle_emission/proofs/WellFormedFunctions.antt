@@ -10,9 +10,9 @@ use Rattle.isle_core.specs.Block.{Block}
 use Rattle.isle_core.specs.BlockLawful.{IsLawfulBlock}
 use Rattle.isle_core.specs.Terms.{sym_text}
 use Rattle.isle_core.specs.Rule.{Environment}
-use Rattle.isle_target.specs.Program.{Tail, Done, Then, Program}
-use Rattle.isle_target.specs.WellFormed.{Locals, IsBody, IsBodyThere, IsKind, IsFunction}
-use Rattle.isle_target.specs.declared.tree.TraitFn.{TraitFn}
+use Rattle.isle_tree.specs.Program.{Tail, Done, Then, Program}
+use Rattle.isle_tree.specs.WellFormed.{Locals, IsBody, IsBodyThere, IsKind, IsFunction}
+use Rattle.isle_tree.specs.declared.tree.TraitFn.{TraitFn}
 use Rattle.isle_core.specs.declared.types.ReturnKind.{ReturnKind}
 use Rattle.isle_emission.specs.TermFunction.{parameter, kind_of, ends_in_return, mark_of, tail_of, term_function}
 use Rattle.isle_emission.specs.Emitted.{IsEmittable}

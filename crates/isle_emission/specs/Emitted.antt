@@ -17,8 +17,8 @@ use Rattle.isle_core.specs.BlockRun.{block_outcome}
 use Rattle.isle_core.specs.Terms.{sym_text}
 use Rattle.isle_core.specs.Rule.{Environment}
 use Rattle.isle_core.specs.BuiltinType.{IsBuiltinType}
-use Rattle.isle_target.specs.Program.{Function, Program}
-use Rattle.isle_target.specs.Run.{run, function_of}
+use Rattle.isle_tree.specs.Program.{Function, Program}
+use Rattle.isle_tree.specs.Run.{run, function_of}
 use Rattle.isle_emission.specs.Ends.{end_of}
 
 -- a term whose name may be emitted, and whose types are built

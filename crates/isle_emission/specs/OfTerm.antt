@@ -8,7 +8,7 @@ use Rattle.isle_core.specs.Calling.{is_partial}
 use Rattle.isle_core.specs.Places.{place_in}
 use Rattle.isle_core.specs.Terms.{sym_text}
 use Rattle.isle_core.specs.Rule.{Environment}
-use Rattle.isle_target.specs.Program.{Tail, Body, Done, Then, Function}
+use Rattle.isle_tree.specs.Program.{Tail, Body, Done, Then, Function}
 use Rattle.isle_emission.specs.TermFunction.{type_text, parameter, kind_of, mark_of}
 
 -- the marks of the tails of a body

@@ -9,8 +9,8 @@ use Rattle.isle_core.specs.Constants.{int_value}
 use Rattle.isle_core.specs.declared.rule_sets.Binding.{Binding}
 use Rattle.isle_core.specs.Path.{Path, Arg, ConstBool, ConstInt, at, paths_of}
 use Rattle.isle_core.specs.Rule.{Environment}
-use Rattle.isle_target.specs.declared.tree.Operand.{Operand}
-use Rattle.isle_target.specs.declared.tree.Operand.TheVariants as operand
+use Rattle.isle_tree.specs.declared.tree.Operand.{Operand}
+use Rattle.isle_tree.specs.declared.tree.Operand.TheVariants as operand
 
 -- the operand that spells a value; of a variant or struct none is built
 abbrev pub constant : Value → Operand

@@ -5,12 +5,12 @@ use Rattle.isle_core.specs.Path.{Path, at}
 use Rattle.isle_core.specs.Block as block
 use Rattle.isle_core.specs.Block.{Block, Control}
 use Rattle.isle_core.specs.Rule.{Environment}
-use Rattle.isle_target.specs.declared.tree.Operand.{Operand}
-use Rattle.isle_target.specs.declared.tree.Operand.TheVariants as operand
-use Rattle.isle_target.specs.declared.tree.Read.TheVariants as read
-use Rattle.isle_target.specs.declared.tree.TExpr.{TExpr}
-use Rattle.isle_target.specs.declared.tree.TExpr.TheVariants as expr
-use Rattle.isle_target.specs.Program.{Stmt, Let, IfEq, Return, Tail, Body, Done, Then}
+use Rattle.isle_tree.specs.declared.tree.Operand.{Operand}
+use Rattle.isle_tree.specs.declared.tree.Operand.TheVariants as operand
+use Rattle.isle_tree.specs.declared.tree.Read.TheVariants as read
+use Rattle.isle_tree.specs.declared.tree.TExpr.{TExpr}
+use Rattle.isle_tree.specs.declared.tree.TExpr.TheVariants as expr
+use Rattle.isle_tree.specs.Program.{Stmt, Let, IfEq, Return, Tail, Body, Done, Then}
 use Rattle.isle_emission.specs.Operands.{in_place, tested}
 
 -- the operand of a binding: its local, or what is read in place

@@ -14,9 +14,9 @@ use Rattle.isle_core.specs.Block.{Block, Stop, Step, Control, Match, Equal, Loop
 use Rattle.isle_core.specs.Calling.{is_partial}
 use Rattle.isle_core.specs.Terms.{sym_text}
 use Rattle.isle_core.specs.Rule.{Environment}
-use Rattle.isle_target.specs.declared.tree.Ty.{Ty}
-use Rattle.isle_target.specs.Literal.{type_name}
-use Rattle.isle_target.specs.Program.{Tail, Body, Done, Then, Function}
+use Rattle.isle_tree.specs.declared.tree.Ty.{Ty}
+use Rattle.isle_spelling.specs.Literal.{type_name}
+use Rattle.isle_tree.specs.Program.{Tail, Body, Done, Then, Function}
 use Rattle.isle_emission.specs.Statements.{block_body}
 
 -- the name of a type; of a declared one none is built

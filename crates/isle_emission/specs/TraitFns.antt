@@ -11,9 +11,9 @@ use Rattle.isle_core.specs.declared.types.TermKind.TheVariants as kind
 use Rattle.isle_core.specs.Calling.{is_partial}
 use Rattle.isle_core.specs.Terms.{sym_text}
 use Rattle.isle_core.specs.Rule.{Environment}
-use Rattle.isle_target.specs.declared.tree.TraitFn.{TraitFn}
-use Rattle.isle_target.specs.Identifier.{IsIdentifier}
-use Rattle.isle_target.specs.WellFormed.{fn_names}
+use Rattle.isle_tree.specs.declared.tree.TraitFn.{TraitFn}
+use Rattle.isle_spelling.specs.Identifier.{IsIdentifier}
+use Rattle.isle_tree.specs.WellFormed.{fn_names}
 use Rattle.isle_emission.specs.TermFunction.{type_text, parameter, kind_of}
 
 -- the function of this name for a term

@@ -2,7 +2,7 @@
 
 ghost use Rattle.std.specs.Prelude.{◌≡◌, IfOk, false, slice_get};
 ghost use Rattle.isle_core.specs.Calling.{calling};
-ghost use Rattle.isle_target.specs.declared.tree.TExpr.TheVariants as expr;
+ghost use Rattle.isle_tree.specs.declared.tree.TExpr.TheVariants as expr;
 ghost use Rattle.isle_emission.specs.Contexts.{env_of, bindings_in};
 ghost use Rattle.isle_emission.specs.Statements as Statements;
 
@@ -11,7 +11,7 @@ use crate::context::Context;
 use crate::operands::{in_place, operand_of};
 use crate::signature::sym_name;
 use isle_core::{Binding, BindingId, Callee, ConstructorKind, List, TermId, TermKind, Text};
-use isle_target::{Read, TCall, TExpr};
+use isle_tree::{Read, TCall, TExpr};
 use std::alloc::{AllocError, Global};
 
 /// What a call of the term of this number goes to: its external function, or the function of the text that its rules

@@ -6,9 +6,9 @@ ghost use Rattle.isle_core.specs.Calling.{is_partial};
 ghost use Rattle.isle_core.specs.Path.{paths_of};
 ghost use Rattle.isle_core.specs.Places.{LiesIn};
 ghost use Rattle.isle_core.specs.RuleViews.{environment};
-ghost use Rattle.isle_target.specs.Program.{Program};
-ghost use Rattle.isle_target.specs.Views as Views;
-ghost use Rattle.isle_target.specs.WellFormed.{IsFunction};
+ghost use Rattle.isle_tree.specs.Program.{Program};
+ghost use Rattle.isle_tree.specs.Views as Views;
+ghost use Rattle.isle_tree.specs.WellFormed.{IsFunction};
 ghost use Rattle.isle_emission.specs.Contexts.{env_of, bindings_in};
 ghost use Rattle.isle_emission.specs.Built.{IsBuilt};
 ghost use Rattle.isle_emission.specs.Emitted.{RunsAsBlock};
@@ -25,7 +25,7 @@ use crate::signature::{kind_of, params, sym_name, ty_name};
 use isle_core::{
     Block, CodegenOptions, Files, List, OutOfMemory, RuleSet, Term, TermEnv, TermId, TypeEnv,
 };
-use isle_target::Function;
+use isle_tree::Function;
 use std::alloc::Global;
 
 /// The function of a term, made from its context and its block. The table is that of the files.

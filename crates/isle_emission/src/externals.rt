@@ -7,7 +7,7 @@ ghost use Rattle.isle_emission.specs.TraitFns as TraitFns;
 use crate::context::is_partial;
 use crate::signature::{kind_of, params, sym_name, ty_name};
 use isle_core::{ConstructorKind, List, Sym, Term, TermEnv, TermKind, TypeEnv};
-use isle_target::TraitFn;
+use isle_tree::TraitFn;
 use std::alloc::{AllocError, Global};
 
 /// The function of this symbol for a term.

@@ -9,7 +9,7 @@ ghost use Rattle.isle_emission.specs.Operands as Operands;
 use crate::bound::Bound;
 use crate::context::Context;
 use isle_core::{Binding, BindingId, BuiltinType, Constraint, TypeDef, TypeEnv, TypeId};
-use isle_target::Operand;
+use isle_tree::Operand;
 
 /// A number as an operand of a type.
 fn number(typeenv: &TypeEnv, ty: TypeId, val: i128) -> Operand

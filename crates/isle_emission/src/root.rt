@@ -4,7 +4,7 @@ ghost use Rattle.std.specs.Prelude.{◌≡◌, [], map, IfOk};
 ghost use Rattle.isle_core.specs.BlockViews as BlockViews;
 ghost use Rattle.isle_core.specs.Places.{LiesIn, place_in};
 ghost use Rattle.isle_core.specs.Terms.{sym_text};
-ghost use Rattle.isle_target.specs.Views as Views;
+ghost use Rattle.isle_tree.specs.Views as Views;
 ghost use Rattle.isle_emission.specs.Contexts.{env_of, bindings_in};
 ghost use Rattle.isle_emission.specs.LineStarts.{starts_of};
 ghost use Rattle.isle_emission.specs.Statements.{block_body};
@@ -16,7 +16,7 @@ use crate::line_starts::LineStarts;
 use crate::signature::sym_name;
 use crate::statements::block_stmts;
 use isle_core::{Block, ControlFlow, Files, OutOfMemory, Term, Text};
-use isle_target::Stmt;
+use isle_tree::Stmt;
 use std::alloc::Global;
 
 /// What a function says where no rule matches: nothing, or the name and the place of its term.
@@ -63,7 +63,7 @@ fn ends_in_return(block: &Block) -> bool
 }
 
 /// The statements of a term's function: those of its block, and the tail where the block can end without a result.
-#[tactic(auto, using(isle_target::proofs::Sees::sees))]
+#[tactic(auto, using(isle_tree::proofs::Sees::sees))]
 pub fn root_stmts(
     alloc: Global,
     files: &Files,

@@ -5,7 +5,8 @@ ghost use Rattle.isle_core.specs.RuleViews.{environment};
 ghost use Rattle.isle_emission.specs.TermFunction.{def_text, parameter, kind_of};
 
 use isle_core::{BuiltinType, ReturnKind, Sym, TermEnv, Text, TypeDef, TypeEnv, TypeId};
-use isle_target::{Ty, type_name};
+use isle_spelling::type_name;
+use isle_tree::Ty;
 use std::alloc::{AllocError, Global};
 
 /// The text of a symbol.

@@ -3,8 +3,8 @@
 ghost use Rattle.std.specs.Prelude.{◌≡◌, map, IfOk, OnOk};
 ghost use Rattle.isle_core.specs.BlockLawful.{bound_by};
 ghost use Rattle.isle_core.specs.BlockViews as BlockViews;
-ghost use Rattle.isle_target.specs.Program.{Body};
-ghost use Rattle.isle_target.specs.Views.{stmt};
+ghost use Rattle.isle_tree.specs.Program.{Body};
+ghost use Rattle.isle_tree.specs.Views.{stmt};
 ghost use Rattle.isle_emission.specs.BodyOnto.{body_onto};
 ghost use Rattle.isle_emission.specs.Contexts.{env_of, bindings_in};
 ghost use Rattle.isle_emission.specs.Statements as Statements;
@@ -14,11 +14,11 @@ use crate::calls::bound_expr;
 use crate::context::Context;
 use crate::operands::{operand_of, tested};
 use isle_core::{BindingId, Block, ControlFlow, List, MatchArm};
-use isle_target::{Operand, Read, Stmt, TExpr};
+use isle_tree::{Operand, Read, Stmt, TExpr};
 use std::alloc::{AllocError, Global};
 
 /// Each binding in its local, behind what is there.
-#[tactic(auto, using(isle_target::proofs::Sees::sees))]
+#[tactic(auto, using(isle_tree::proofs::Sees::sees))]
 fn push_lets(
     alloc: Global,
     context: &Context<'_>,
@@ -72,7 +72,7 @@ pub fn block_stmts(
 
 /// The statement of what a step does.
 #[cycle(statements)]
-#[tactic(auto, using(isle_core::proofs::SeesBlocks::sees_blocks, isle_target::proofs::Sees::sees))]
+#[tactic(auto, using(isle_core::proofs::SeesBlocks::sees_blocks, isle_tree::proofs::Sees::sees))]
 fn control_stmt(
     alloc: Global,
     context: &Context<'_>,
@@ -103,7 +103,7 @@ fn control_stmt(
 
 /// The test of an operand against the first arm's constraint.
 #[cycle(statements)]
-#[tactic(auto, using(isle_core::proofs::SeesBlocks::sees_blocks, isle_target::proofs::Sees::sees))]
+#[tactic(auto, using(isle_core::proofs::SeesBlocks::sees_blocks, isle_tree::proofs::Sees::sees))]
 fn arms_stmt(
     alloc: Global,
     context: &Context<'_>,

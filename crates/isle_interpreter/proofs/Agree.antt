@@ -10,10 +10,10 @@ use Rattle.isle_core.specs.Meaning.{PureAnswers, TurnAnswers, Meaning, turns_of,
 use Rattle.isle_core.specs.Answered.{answer_held, answer}
 use Rattle.isle_core.specs.Having.{HasCases, HasTurns, HasAnswers}
 use Rattle.isle_core.specs.Terms.{goes_to}
-use Rattle.isle_target.specs.declared.tree.TExpr.{TExpr}
-use Rattle.isle_target.specs.declared.tree.TExpr.TheVariants as expr
-use Rattle.isle_target.specs.Program.{Stmt, Let, LetList, IfEq, IfLet, Match, Loop, Return, Extend, Overflow, Log, Split, Tail, Body, Done, Then, Function}
-use Rattle.isle_target.specs.Run.{Env, Flow, Goes, Ends, Stuck, value_of, read_values, on_value, then_run, behind, run_bind, run_call, run_let, run_stmt, run_body, ended, function_run}
+use Rattle.isle_tree.specs.declared.tree.TExpr.{TExpr}
+use Rattle.isle_tree.specs.declared.tree.TExpr.TheVariants as expr
+use Rattle.isle_tree.specs.Program.{Stmt, Let, LetList, IfEq, IfLet, Match, Loop, Return, Extend, Overflow, Log, Split, Tail, Body, Done, Then, Function}
+use Rattle.isle_tree.specs.Run.{Env, Flow, Goes, Ends, Stuck, value_of, read_values, on_value, then_run, behind, run_bind, run_call, run_let, run_stmt, run_body, ended, function_run}
 use Rattle.isle_interpreter.specs.Forms.{Constant, Cases, Turns, forms, IsUnanswered}
 use Rattle.isle_interpreter.specs.Callees.{expr_calls, stmt_calls, body_calls}
 use Rattle.isle_interpreter.specs.Refusals.{AreAnswered}

@@ -9,10 +9,10 @@ use Rattle.isle_core.specs.Value.{Value, Answer, Plain, Found, Nothing, Several,
 use Rattle.isle_core.specs.Meaning.{PureAnswers, TurnAnswers, Meaning, turns_of, times, cases_of, case_or, case_at, same_values}
 use Rattle.isle_core.specs.Answered.{Held, One, Optional, answer_held, answer_by, answer}
 use Rattle.isle_core.specs.Terms.{goes_to}
-use Rattle.isle_target.specs.declared.holds.Holds.{Holds}
-use Rattle.isle_target.specs.declared.holds.Holds.TheVariants as holds
-use Rattle.isle_target.specs.Program.{Program}
-use Rattle.isle_target.specs.WellFormed.{kind_holds, AreResults}
+use Rattle.isle_tree.specs.declared.holds.Holds.{Holds}
+use Rattle.isle_tree.specs.declared.holds.Holds.TheVariants as holds
+use Rattle.isle_tree.specs.Program.{Program}
+use Rattle.isle_tree.specs.WellFormed.{kind_holds, AreResults}
 use Rattle.isle_interpreter.specs.Signatures.{Signature, signature_of, AreNamed, AnswerFits}
 use Rattle.isle_interpreter.specs.Forms.{Form, Constant, Cases, Turns, forms, IsUnanswered, CaseFits, FormFits, AreRight}
 

@@ -11,9 +11,9 @@ use Rattle.std.proofs.lemmas.Map.Text.{btree_map_updates_str}
 use denote.Ref.{Bor}
 use Rattle.isle_printer.specs.Bytes.{same_bytes}
 use Rattle.isle_printer.proofs.Bytes.{same_bytes_refl, same_bytes_sound}
-use Rattle.isle_target.specs.declared.tree.Function.{Function as CodeFunction}
-use Rattle.isle_target.specs.Run.{function_of}
-use Rattle.isle_target.specs.Views.{function}
+use Rattle.isle_tree.specs.declared.tree.Function.{Function as CodeFunction}
+use Rattle.isle_tree.specs.Run.{function_of}
+use Rattle.isle_tree.specs.Views.{function}
 use Rattle.isle_interpreter.specs.Found.{FindsTerms}
 
 -- the two tests of names agree, whichever stands first

@@ -7,7 +7,7 @@ use Rattle.std.proofs.lemmas.List.Elements.{All-from_recursion, All-contains, Co
 use Rattle.std.proofs.lemmas.List.Folds.{list_any-append}
 use Rattle.isle_core.specs.declared.values.Callee.{Callee}
 use Rattle.isle_core.specs.Terms.{goes_to}
-use Rattle.isle_target.specs.Program.{Function, Program}
+use Rattle.isle_tree.specs.Program.{Function, Program}
 use Rattle.isle_interpreter.specs.declared.served.Served.{Served}
 use Rattle.isle_interpreter.specs.Signatures.{Signature, signature_of}
 use Rattle.isle_interpreter.specs.Forms.{Form, answers_for, IsUnanswered, FormFits, IsRight, AreRight}

@@ -2,9 +2,9 @@
 use Rattle.std.proofs.Common.{◌≡◌, ℕ, List, Some, None, sym, ap, ◌∙◌}
 use Rattle.isle_core.specs.Value.{Value}
 use Rattle.isle_core.specs.Meaning.{Meaning}
-use Rattle.isle_target.specs.Program.{Function, Program}
-use Rattle.isle_target.specs.WellFormed.{IsWellFormed}
-use Rattle.isle_target.specs.Run.{function_run, run}
+use Rattle.isle_tree.specs.Program.{Function, Program}
+use Rattle.isle_tree.specs.WellFormed.{IsWellFormed}
+use Rattle.isle_tree.specs.Run.{function_run, run}
 use Rattle.isle_interpreter.specs.Refusals.{MayRun}
 use Rattle.isle_interpreter.proofs.Runs.{runs}
 

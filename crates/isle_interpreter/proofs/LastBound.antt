@@ -8,7 +8,7 @@ use Rattle.std.specs.declared.cmp.Ordering.TheVariants.{Equal}
 use Rattle.std.proofs.lemmas.Bool.{eq-eqb, ne_eqb}
 use Rattle.std.proofs.lemmas.List.{append-nil}
 use Rattle.std.proofs.lemmas.Map.Lookups.{exact_unsigned}
-use Rattle.isle_target.specs.Run.{newer, look}
+use Rattle.isle_tree.specs.Run.{newer, look}
 use Rattle.isle_interpreter.specs.RunViews.{held, locals}
 use Rattle.isle_interpreter.specs.declared.binding.Binding.{Binding}
 use Rattle.isle_interpreter.specs.Bound.{logged, last_from, last, Undoes, Finds, found_at}

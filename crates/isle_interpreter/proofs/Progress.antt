@@ -12,20 +12,20 @@ use Rattle.isle_core.specs.SameValue.{same_value}
 use Rattle.isle_core.specs.Meaning.{Meaning}
 use Rattle.isle_core.specs.Answered.{Held, Absent, One, Optional, answer_held, answer}
 use Rattle.isle_core.specs.Held.{held, value_before}
-use Rattle.isle_target.specs.declared.holds.Holds.{Holds}
-use Rattle.isle_target.specs.declared.holds.Holds.TheVariants as holds
-use Rattle.isle_target.specs.declared.tree.Operand.{Operand}
-use Rattle.isle_target.specs.declared.tree.Operand.TheVariants as operand
-use Rattle.isle_target.specs.declared.tree.Read.{Read}
-use Rattle.isle_target.specs.declared.tree.Read.TheVariants as read
-use Rattle.isle_target.specs.declared.tree.TCall.{TCall}
-use Rattle.isle_target.specs.declared.tree.TExpr.{TExpr}
-use Rattle.isle_target.specs.declared.tree.TExpr.TheVariants as expr
-use Rattle.isle_target.specs.declared.tree.TraitFn.{TraitFn}
-use Rattle.isle_target.specs.Program.{Stmt, Let, LetList, IfEq, IfLet, Match, Loop, Return, Extend, Overflow, Log, Split, Tail, Body, Done, Then}
-use Rattle.isle_target.specs.WellFormed as well
-use Rattle.isle_target.specs.WellFormed.{Locals, IsOperand, IsRead, IsCallee, IsExpr, IsStmt, IsBody, local_holds, operand_holds, read_holds, is_value, are_values, callee_holds, inner_holds, expr_holds, GivesKind, behind_let, bound_behind, IsStmtThere, IsBodyThere, IsReturned, FitsStmt, FitsBody, FitsLast, FitsFunction}
-use Rattle.isle_target.specs.Run.{Env, Flow, Goes, Ends, Stuck, newer, look, bind, value_of, read_value, read_values, on_value, then_run, behind, run_bind, run_call, run_try, run_let, ends_with, run_return, run_stmt, run_body}
+use Rattle.isle_tree.specs.declared.holds.Holds.{Holds}
+use Rattle.isle_tree.specs.declared.holds.Holds.TheVariants as holds
+use Rattle.isle_tree.specs.declared.tree.Operand.{Operand}
+use Rattle.isle_tree.specs.declared.tree.Operand.TheVariants as operand
+use Rattle.isle_tree.specs.declared.tree.Read.{Read}
+use Rattle.isle_tree.specs.declared.tree.Read.TheVariants as read
+use Rattle.isle_tree.specs.declared.tree.TCall.{TCall}
+use Rattle.isle_tree.specs.declared.tree.TExpr.{TExpr}
+use Rattle.isle_tree.specs.declared.tree.TExpr.TheVariants as expr
+use Rattle.isle_tree.specs.declared.tree.TraitFn.{TraitFn}
+use Rattle.isle_tree.specs.Program.{Stmt, Let, LetList, IfEq, IfLet, Match, Loop, Return, Extend, Overflow, Log, Split, Tail, Body, Done, Then}
+use Rattle.isle_tree.specs.WellFormed as well
+use Rattle.isle_tree.specs.WellFormed.{Locals, IsOperand, IsRead, IsCallee, IsExpr, IsStmt, IsBody, local_holds, operand_holds, read_holds, is_value, are_values, callee_holds, inner_holds, expr_holds, GivesKind, behind_let, bound_behind, IsStmtThere, IsBodyThere, IsReturned, FitsStmt, FitsBody, FitsLast, FitsFunction}
+use Rattle.isle_tree.specs.Run.{Env, Flow, Goes, Ends, Stuck, newer, look, bind, value_of, read_value, read_values, on_value, then_run, behind, run_bind, run_call, run_try, run_let, ends_with, run_return, run_stmt, run_body}
 use Rattle.isle_interpreter.specs.Callees.{expr_calls, stmt_calls, body_calls}
 use Rattle.isle_interpreter.proofs.AnswersHold.{HoldsIn}
 

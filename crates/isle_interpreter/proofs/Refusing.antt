@@ -5,8 +5,8 @@ use Rattle.std.specs.declared.result.Result.{Result}
 use Rattle.std.specs.declared.result.Result.TheVariants as result
 use Rattle.isle_core.specs.Value.{Value}
 use Rattle.isle_core.specs.Meaning.{Meaning}
-use Rattle.isle_target.specs.Program.{Function, Program}
-use Rattle.isle_target.specs.Run.{function_of}
+use Rattle.isle_tree.specs.Program.{Function, Program}
+use Rattle.isle_tree.specs.Run.{function_of}
 use Rattle.isle_interpreter.specs.declared.run_error.RunError.{RunError}
 use Rattle.isle_interpreter.specs.declared.run_error.RunError.TheVariants as error
 use Rattle.isle_interpreter.specs.Signatures.{type_names, AreNamed}

@@ -10,12 +10,12 @@ use Rattle.isle_core.specs.Value.{Value, Made, Ran}
 use Rattle.isle_core.specs.Meaning.{Meaning}
 use Rattle.isle_core.specs.Answered.{answer_held, answer}
 use Rattle.isle_printer.specs.Bytes.{same_bytes}
-use Rattle.isle_target.specs.declared.holds.Holds.{Holds}
-use Rattle.isle_target.specs.declared.tree.Ty.{Ty}
-use Rattle.isle_target.specs.declared.tree.TraitFn.{TraitFn}
-use Rattle.isle_target.specs.Program.{Function, Program}
-use Rattle.isle_target.specs.WellFormed.{IsTraitFn, IsFunction, IsWellFormed, IsBodyThere, trait_fn, call_holds, kind_holds}
-use Rattle.isle_target.specs.Run.{ended, function_of, function_run, run}
+use Rattle.isle_tree.specs.declared.holds.Holds.{Holds}
+use Rattle.isle_tree.specs.declared.tree.Ty.{Ty}
+use Rattle.isle_tree.specs.declared.tree.TraitFn.{TraitFn}
+use Rattle.isle_tree.specs.Program.{Function, Program}
+use Rattle.isle_tree.specs.WellFormed.{IsTraitFn, IsFunction, IsWellFormed, IsBodyThere, trait_fn, call_holds, kind_holds}
+use Rattle.isle_tree.specs.Run.{ended, function_of, function_run, run}
 use Rattle.isle_interpreter.specs.Signatures.{trait_signature, signature_of, type_names, AreNamed}
 use Rattle.isle_interpreter.specs.Forms.{forms, IsUnanswered, AreRight}
 use Rattle.isle_interpreter.specs.Callees.{body_calls}

@@ -3,7 +3,7 @@ use Rattle.std.proofs.Common.{◌≡◌, Bool, true, false, Option, Some, None, 
 use Rattle.std.specs.Prelude.{if◌then◌else◌}
 use Rattle.isle_core.specs.Answered.{Held, Absent, One, Optional}
 use Rattle.isle_core.specs.SameValue.{same_value}
-use Rattle.isle_target.specs.Run.{Flow, Stuck, on_value}
+use Rattle.isle_tree.specs.Run.{Flow, Stuck, on_value}
 use Rattle.isle_interpreter.specs.RunViews.{tested}
 
 -- by what a test says

@@ -4,12 +4,12 @@ use Rattle.std.specs.List.{list_all}
 use Rattle.std.proofs.lemmas.List.{drop_more, drop_all}
 use Rattle.std.proofs.lemmas.List.Folds.{list_all-append}
 use Rattle.isle_core.specs.declared.values.Callee.{Callee}
-use Rattle.isle_target.specs.declared.tree.Read.{Read}
-use Rattle.isle_target.specs.declared.tree.TPat.{TPat}
-use Rattle.isle_target.specs.declared.tree.Stmt.{Stmt as CodeStmt}
-use Rattle.isle_target.specs.declared.tree.Stmt.TheVariants as code
-use Rattle.isle_target.specs.Views.{stmt, body, arms}
-use Rattle.isle_target.proofs.Sees.{stmt-match}
+use Rattle.isle_tree.specs.declared.tree.Read.{Read}
+use Rattle.isle_tree.specs.declared.tree.TPat.{TPat}
+use Rattle.isle_tree.specs.declared.tree.Stmt.{Stmt as CodeStmt}
+use Rattle.isle_tree.specs.declared.tree.Stmt.TheVariants as code
+use Rattle.isle_tree.specs.Views.{stmt, body, arms}
+use Rattle.isle_tree.proofs.Sees.{stmt-match}
 use Rattle.isle_interpreter.specs.Callees.{stmt_calls, body_calls, arms_calls}
 
 pub match_within : (test : Callee → Bool) (r : Read) (xs ys : List (TPat × List CodeStmt)) (s : CodeStmt) (b : Bool) → s ≡ code.Match r xs → ys ≡ xs → b ≡ list_all test (arms_calls (arms ys)) → b ≡ list_all test (stmt_calls (stmt s))

@@ -3,7 +3,7 @@ use Rattle.std.proofs.Common.{◌≡◌, ℕ, zero, suc, List, [], ◌∷◌, le
 use Rattle.std.specs.Prelude.{slice_get, ◌↔◌, IsTrue, false, not, is_some, eqb}
 use Rattle.std.proofs.lemmas.Bool.{eqb-true}
 use Rattle.std.proofs.lemmas.List.{length-map}
-use Rattle.isle_target.specs.declared.tree.Ty.{Ty}
+use Rattle.isle_tree.specs.declared.tree.Ty.{Ty}
 use Rattle.isle_core.specs.Value.{Value}
 use Rattle.isle_interpreter.specs.Signatures.{type_names, IsNamed, AreNamed}
 use Rattle.isle_interpreter.specs.Refusals.{IsWrongArg}

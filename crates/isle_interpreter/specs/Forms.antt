@@ -5,7 +5,7 @@ use Rattle.isle_core.specs.declared.values.Callee.{Callee}
 use Rattle.isle_core.specs.Value.{Value, Answer}
 use Rattle.isle_core.specs.Meaning.{PureAnswers, TurnAnswers, Meaning}
 use Rattle.isle_core.specs.Terms.{goes_to}
-use Rattle.isle_target.specs.Program.{Program}
+use Rattle.isle_tree.specs.Program.{Program}
 use Rattle.isle_interpreter.specs.Signatures.{Signature, signature_of, AreNamed, AnswerFits}
 
 -- a constant's value, the cases of a callee, or its turns

@@ -4,10 +4,10 @@ use Rattle.std.specs.BTreeMap.{BTreeMap, get_by}
 use Rattle.std.specs.Cmp.Lexicographic.{slice_cmp}
 use Rattle.std.specs.Ordering.{nat_cmp}
 use denote.Ref.{Bor}
-use Rattle.isle_target.specs.declared.tree.Function.{Function as CodeFunction}
-use Rattle.isle_target.specs.Program.{Function}
-use Rattle.isle_target.specs.Run.{function_of}
-use Rattle.isle_target.specs.Views.{function}
+use Rattle.isle_tree.specs.declared.tree.Function.{Function as CodeFunction}
+use Rattle.isle_tree.specs.Program.{Function}
+use Rattle.isle_tree.specs.Run.{function_of}
+use Rattle.isle_tree.specs.Views.{function}
 
 -- what the map has at a term
 abbrev pub at_term : BTreeMap (Bor (List ℕ)) (Bor CodeFunction) → List ℕ → Option Function

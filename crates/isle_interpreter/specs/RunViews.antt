@@ -4,7 +4,7 @@ use Rattle.isle_core.specs.Answered.{Held, Absent, One, Optional}
 use Rattle.isle_core.specs.Value.{Made}
 use Rattle.isle_core.specs.SameValue.{same_value}
 use Rattle.isle_core.specs.ValueViews.{value, end}
-use Rattle.isle_target.specs.Run.{Env, Flow, Goes, Ends, Stuck}
+use Rattle.isle_tree.specs.Run.{Env, Flow, Goes, Ends, Stuck}
 use Rattle.isle_interpreter.specs.declared.holding.Holding.{Holding}
 use Rattle.isle_interpreter.specs.declared.holding.Holding.TheVariants as holding
 use Rattle.isle_interpreter.specs.declared.flow.Flow.{Flow as CodeFlow}

@@ -7,12 +7,12 @@ use Rattle.isle_core.specs.declared.values.Callee.TheVariants as callee
 use Rattle.isle_core.specs.Value.{Value, Truth, Int, Answer, Plain, Found, Nothing}
 use Rattle.isle_core.specs.HasType.{IsHeld}
 use Rattle.isle_printer.specs.Bytes.{same_bytes}
-use Rattle.isle_target.specs.declared.tree.Ty.{Ty}
-use Rattle.isle_target.specs.declared.tree.TraitFn.{TraitFn}
-use Rattle.isle_target.specs.Literal.{type_named}
-use Rattle.isle_target.specs.Program.{Function, Program}
-use Rattle.isle_target.specs.WellFormed.{trait_fn}
-use Rattle.isle_target.specs.Run.{function_of}
+use Rattle.isle_tree.specs.declared.tree.Ty.{Ty}
+use Rattle.isle_tree.specs.declared.tree.TraitFn.{TraitFn}
+use Rattle.isle_spelling.specs.Literal.{type_named}
+use Rattle.isle_tree.specs.Program.{Function, Program}
+use Rattle.isle_tree.specs.WellFormed.{trait_fn}
+use Rattle.isle_tree.specs.Run.{function_of}
 
 -- what a function takes, what its answers hold, and how it answers
 pub record Signature : Type 0 where

@@ -3,7 +3,7 @@
 ghost use Rattle.std.specs.Prelude.{◌≡◌, ◌-◌, ◌++◌, [], ◌∷◌, length, take, IsSome, OnOk};
 ghost use Rattle.std.specs.Ordering.{nat_cmp};
 ghost use Rattle.std.specs.BTreeMap.{get, Updates};
-ghost use Rattle.isle_target.specs.Run.{look};
+ghost use Rattle.isle_tree.specs.Run.{look};
 ghost use Rattle.isle_interpreter.specs.RunViews.{locals};
 ghost use Rattle.isle_interpreter.specs.Locals.{found};
 ghost use Rattle.isle_interpreter.specs.Bound.{logged, found_at, Finds};

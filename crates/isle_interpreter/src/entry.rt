@@ -2,9 +2,8 @@
 
 ghost use Rattle.std.specs.Prelude.{◌≡◌, IfOk, Some, map, option_map};
 ghost use Rattle.isle_core.specs.ValueViews.{values, meaning, ran};
-ghost use Rattle.isle_target.specs.Run.{function_of, function_run};
-ghost use Rattle.isle_target.specs.Views.{function};
-ghost use Rattle.isle_printer.specs.Bytes.{same_bytes};
+ghost use Rattle.isle_tree.specs.Run.{function_of, function_run};
+ghost use Rattle.isle_tree.specs.Views.{function};
 
 use crate::bound::Bound;
 use crate::called::Calls;
@@ -12,16 +11,9 @@ use crate::flow::Flow;
 use crate::frame::Frame;
 use crate::run::run_body;
 use isle_core::{Answers, List, Outcome, Value};
-use isle_target::Function;
+use isle_spelling::is_same;
+use isle_tree::Function;
 use std::alloc::{AllocError, Global};
-
-/// Whether two names are one.
-#[tactic(auto, using(isle_target::proofs::TypeNames::same_is))]
-pub fn is_same(one: &str, other: &str) -> bool
-    ensures { result ≡ same_bytes one.now other.now }
-{
-    one == other
-}
 
 /// The function of a term.
 pub fn function_of<'p>(fns: &'p [Function], term: &str) -> Option<&'p Function>

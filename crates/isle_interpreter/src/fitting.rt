@@ -2,16 +2,16 @@
 
 ghost use Rattle.std.specs.Prelude.{◌≡◌, IfOk, IfErr, Some};
 ghost use Rattle.isle_core.specs.ValueViews.{values, meaning, ran};
-ghost use Rattle.isle_target.specs.Run.{run};
-ghost use Rattle.isle_target.specs.Views.{function, program};
-ghost use Rattle.isle_target.specs.WellFormed.{IsWellFormed};
+ghost use Rattle.isle_tree.specs.Run.{run};
+ghost use Rattle.isle_tree.specs.Views.{function, program};
+ghost use Rattle.isle_tree.specs.WellFormed.{IsWellFormed};
 ghost use Rattle.isle_interpreter.specs.Refusals.{MayRun};
 ghost use Rattle.isle_interpreter.specs.declared.run_error.RunError.TheVariants.{Memory};
 
 use crate::entry::run_function;
 use crate::run_error::RunError;
 use isle_core::{Answers, Outcome, Value};
-use isle_target::{Function, Program};
+use isle_tree::{Function, Program};
 use std::alloc::Global;
 
 /// The run. The only error is want of memory.

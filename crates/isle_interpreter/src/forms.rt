@@ -2,7 +2,7 @@
 
 ghost use Rattle.std.specs.Prelude.{◌≡◌, ◌+◌, ◌^◌, ◌<◌, ◌↔◌, List, [], ◌∷◌, ◌++◌, length, IfOk, IfErr, OnOk, IsTrue};
 ghost use Rattle.isle_core.specs.ValueViews.{meaning};
-ghost use Rattle.isle_target.specs.Views.{function, program};
+ghost use Rattle.isle_tree.specs.Views.{function, program};
 ghost use Rattle.isle_interpreter.specs.Forms.{Form as FormOf, forms, IsRight, AreRight};
 ghost use Rattle.isle_interpreter.specs.FormViews.{form};
 ghost use Rattle.isle_interpreter.specs.Judged.{AreWrong, AreBad};
@@ -15,7 +15,7 @@ use crate::served::Served;
 use crate::signatures::Signatures;
 use crate::within::are_within;
 use isle_core::Answers;
-use isle_target::{Function, Program};
+use isle_tree::{Function, Program};
 use std::alloc::{AllocError, Global};
 
 // How many forms there are.

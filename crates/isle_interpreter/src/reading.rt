@@ -2,14 +2,14 @@
 
 ghost use Rattle.std.specs.Prelude.{◌≡◌, IfOk, option_map};
 ghost use Rattle.isle_core.specs.ValueViews.{values};
-ghost use Rattle.isle_target.specs.Run.{value_of, read_value, read_values};
+ghost use Rattle.isle_tree.specs.Run.{value_of, read_value, read_values};
 ghost use Rattle.isle_interpreter.specs.RunViews.{held, locals};
 
 use crate::bound::Bound;
 use crate::holding::{Holding, holding_copied};
 use crate::value::copied;
 use isle_core::Value;
-use isle_target::{Operand, Read};
+use isle_tree::{Operand, Read};
 use std::alloc::{AllocError, Global};
 
 /// What an operand holds.

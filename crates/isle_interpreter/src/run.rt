@@ -5,8 +5,8 @@ ghost use Rattle.isle_core.specs.ValueViews.{values, meaning, made};
 ghost use Rattle.std.specs.Prelude.{List, Some};
 ghost use Rattle.isle_core.specs.Answered.{Optional};
 ghost use Rattle.isle_core.specs.Value.{Made, GivesSome};
-ghost use Rattle.isle_target.specs.Run as run;
-ghost use Rattle.isle_target.specs.Views.{stmt, body};
+ghost use Rattle.isle_tree.specs.Run as run;
+ghost use Rattle.isle_tree.specs.Views.{stmt, body};
 ghost use Rattle.isle_interpreter.specs.RunViews.{held, locals, flow, tested};
 ghost use Rattle.isle_interpreter.specs.Frames.{Follows};
 
@@ -17,7 +17,7 @@ use crate::holding::Holding;
 use crate::reading::{read_value, read_values, value_of};
 use crate::value::same;
 use isle_core::{End, Value};
-use isle_target::{Operand, Stmt, TCall, TExpr};
+use isle_tree::{Operand, Stmt, TCall, TExpr};
 use std::alloc::{AllocError, Global};
 
 // Binds a local to what a place holds.
@@ -187,7 +187,7 @@ fn test(
 
 // Runs a statement.
 #[cycle(running)]
-#[tactic(auto, using(isle_target::proofs::Sees::sees, crate::proofs::Tests::on_test))]
+#[tactic(auto, using(isle_tree::proofs::Sees::sees, crate::proofs::Tests::on_test))]
 fn run_stmt(
     alloc: Global,
     statement: &Stmt,

@@ -2,14 +2,14 @@
 
 ghost use Rattle.std.specs.Prelude.{◌≡◌, ◌↔◌, IfOk, IsTrue, option_map};
 ghost use Rattle.isle_core.specs.ValueViews.{values, answer};
-ghost use Rattle.isle_target.specs.Views.{function, program};
+ghost use Rattle.isle_tree.specs.Views.{function, program};
 ghost use Rattle.isle_interpreter.specs.Signatures.{AreNamed, AnswerFits, trait_signature, term_signature, signature_of};
 ghost use Rattle.isle_interpreter.specs.SignatureViews.{signature};
 
 use crate::terms::Terms;
 use crate::typed::{answer_fits, first_wrong};
 use isle_core::{Answer, Callee, ReturnKind, Text, Value};
-use isle_target::{Callees, Function, Program, TraitFn, Ty};
+use isle_tree::{Callees, Function, Program, TraitFn, Ty};
 use std::alloc::{AllocError, Global};
 use std::marker::Model;
 use std::slice;
@@ -71,8 +71,8 @@ pub struct Signatures<'p> {
 impl<'p> Model for Signatures<'p> {
     ghost use Rattle.std.specs.Prelude.{◌≡◌};
     ghost use Rattle.std.specs.Coded.{codes};
-    ghost use Rattle.isle_target.specs.contracts.tree.Stmt as e;
-    ghost use Rattle.isle_target.specs.declared.tree.Program.{Program};
+    ghost use Rattle.isle_tree.specs.contracts.tree.Stmt as e;
+    ghost use Rattle.isle_tree.specs.declared.tree.Program.{Program};
 
     ghost Value = { Program };
 

@@ -3,9 +3,9 @@
 ghost use Rattle.std.specs.Prelude.{◌≡◌, IfOk, IfErr, Some, map};
 ghost use Rattle.isle_core.specs.Meaning.{Meaning};
 ghost use Rattle.isle_core.specs.ValueViews.{values};
-ghost use Rattle.isle_target.specs.Program.{Program};
-ghost use Rattle.isle_target.specs.Run.{function_of};
-ghost use Rattle.isle_target.specs.Views.{function};
+ghost use Rattle.isle_tree.specs.Program.{Program};
+ghost use Rattle.isle_tree.specs.Run.{function_of};
+ghost use Rattle.isle_tree.specs.Views.{function};
 ghost use Rattle.isle_interpreter.specs.Judged.{IsEarly};
 ghost use Rattle.isle_interpreter.specs.Refusals.{IsRefused};
 ghost use Rattle.isle_interpreter.specs.Signatures.{type_names, AreNamed};
@@ -14,7 +14,7 @@ use crate::entry::function_of;
 use crate::run_error::RunError;
 use crate::typed::first_wrong;
 use isle_core::Value;
-use isle_target::Function;
+use isle_tree::Function;
 
 /// The function of a term, where it takes these arguments.
 pub fn taking<'p>(fns: &'p [Function], term: &str, args: &[Value]) -> Result<&'p Function, RunError>

@@ -3,9 +3,9 @@
 ghost use Rattle.std.specs.Prelude.{◌≡◌, ◌+◌, ◌^◌, ◌<◌, ◌⊎◌, length, IfOk, IfErr, OnOk, Some};
 ghost use Rattle.isle_core.specs.Meaning.{Meaning};
 ghost use Rattle.isle_core.specs.ValueViews.{values, meaning, ran};
-ghost use Rattle.isle_target.specs.Run.{run};
-ghost use Rattle.isle_target.specs.Views.{program};
-ghost use Rattle.isle_target.specs.WellFormed.{IsWellFormed};
+ghost use Rattle.isle_tree.specs.Run.{run};
+ghost use Rattle.isle_tree.specs.Views.{program};
+ghost use Rattle.isle_tree.specs.WellFormed.{IsWellFormed};
 ghost use Rattle.isle_interpreter.specs.Judged.{IsEarly, Takes, Runs};
 ghost use Rattle.isle_interpreter.specs.Refusals.{IsRefused};
 ghost use Rattle.isle_interpreter.specs.declared.run_error.RunError.{RunError};
@@ -16,7 +16,7 @@ use crate::forms::try_forms;
 use crate::run_error::RunError;
 use crate::taking::taking;
 use isle_core::{Answers, Outcome, Value};
-use isle_target::Program;
+use isle_tree::Program;
 use std::alloc::Global;
 
 /// Tells which of the first three refusals it is, where the function of a term doesn't take the arguments.

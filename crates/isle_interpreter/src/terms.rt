@@ -1,11 +1,11 @@
 //! The functions of a program, by their terms.
 
 ghost use Rattle.std.specs.Prelude.{◌≡◌, IfOk, map, option_map};
-ghost use Rattle.isle_target.specs.Run.{function_of};
-ghost use Rattle.isle_target.specs.Views.{function};
+ghost use Rattle.isle_tree.specs.Run.{function_of};
+ghost use Rattle.isle_tree.specs.Views.{function};
 ghost use Rattle.isle_interpreter.specs.Found.{FindsTerms};
 
-use isle_target::Function;
+use isle_tree::Function;
 use std::alloc::{AllocError, Global};
 use std::collections::BTreeMap;
 use std::marker::Model;
@@ -20,8 +20,8 @@ pub struct Terms<'p> {
 impl<'p> Model for Terms<'p> {
     ghost use Rattle.std.specs.Prelude.{List};
     ghost use Rattle.std.specs.Coded.{codes};
-    ghost use Rattle.isle_target.specs.contracts.tree.Stmt as e;
-    ghost use Rattle.isle_target.specs.declared.tree.Function.{Function};
+    ghost use Rattle.isle_tree.specs.contracts.tree.Stmt as e;
+    ghost use Rattle.isle_tree.specs.declared.tree.Function.{Function};
     ghost use Rattle.isle_interpreter.specs.Found.{FindsTerms};
 
     ghost Value = { List Function };

@@ -5,9 +5,9 @@ ghost use Rattle.isle_core.specs.ValueViews.{value, values, answer};
 ghost use Rattle.isle_interpreter.specs.Signatures.{type_names, IsNamed, AreNamed, AnswerFits};
 ghost use Rattle.isle_interpreter.specs.Told.{Told};
 
-use crate::entry::is_same;
 use isle_core::{Answer, ReturnKind, Text, Value};
-use isle_target::{Ty, int_type_named, is_held};
+use isle_spelling::{int_type_named, is_same};
+use isle_tree::Ty;
 
 /// Whether a value is of the type of this name.
 #[tactic(auto, using(crate::proofs::SeesValues::sees_values))]
@@ -17,7 +17,7 @@ pub fn is_named(name: &str, given: &Value) -> bool
     match given {
         Value::Bool(_) => is_same("bool", name),
         Value::Int(ty, number) => match int_type_named(name) {
-            Some(named) => named == *ty && is_held(*ty, *number),
+            Some(named) => named == *ty && ty.holds(*number),
             None => false,
         },
         Value::Opaque(..) | Value::Variant(..) | Value::Struct(..) => false,

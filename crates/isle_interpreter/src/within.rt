@@ -2,12 +2,12 @@
 
 ghost use Rattle.std.specs.Prelude.{◌≡◌};
 ghost use Rattle.std.specs.List.{list_all};
-ghost use Rattle.isle_target.specs.Views.{stmt, body};
+ghost use Rattle.isle_tree.specs.Views.{stmt, body};
 ghost use Rattle.isle_interpreter.specs.Callees.{expr_calls, stmt_calls, body_calls};
 ghost use Rattle.isle_interpreter.specs.Served.{has};
 
 use crate::served::Served;
-use isle_target::{Stmt, TExpr};
+use isle_tree::{Stmt, TExpr};
 
 // Whether what is computed calls none but these.
 fn is_computed_within(served: &Served<'_>, computed: &TExpr) -> bool
@@ -26,7 +26,7 @@ fn is_computed_within(served: &Served<'_>, computed: &TExpr) -> bool
 
 // Whether a statement calls none but these.
 #[cycle(within)]
-#[tactic(auto, using(isle_target::proofs::Sees::sees))]
+#[tactic(auto, using(isle_tree::proofs::Sees::sees))]
 fn is_within(served: &Served<'_>, statement: &Stmt) -> bool
     ensures { result ≡ list_all (has served.now) (stmt_calls (stmt statement.now)) }
 {

@@ -2,7 +2,7 @@
 use Rattle.std.proofs.Common.{◌≡◌, ℕ, List, [], ◌∷◌, ◌++◌, Bool, true, false, cond, eqb, refl, sym, ap, ◌∙◌, append_assoc, arith}
 use Rattle.std.specs.Prelude.{◌&&◌, ◌||◌, ◌<◌, length, slice_index, fold}
 use Rattle.std.proofs.lemmas.List.{append-nil}
-use Rattle.isle_printer.specs.Token.{Token, Word, Mark, Quoted, Stray, State, Between, InWord, AfterMark, InComment, InQuotes, Escaped, Scan, is_word_byte, is_blank, joins, begun, step, last_of, scan, finished, tokens_of}
+use Rattle.isle_printer.specs.Token.{Token, Word, Mark, Quoted, Stray, Comment, State, Between, InWord, AfterMark, InComment, InQuotes, Escaped, Scan, is_word_byte, is_blank, joins, begun, step, last_of, scan, finished, tokens_of}
 use Rattle.isle_printer.specs.Glue.{Ends}
 use Rattle.isle_printer.proofs.Scans.{scan-append, scan-next}
 
@@ -26,7 +26,7 @@ step-behind ts us (InWord w) b =
     choice_behind ts (is_word_byte b) _ _ _ _ refl (ap (λ l. begun l b) (append_assoc ts us (Word w ∷ [])) ∙ begun-behind ts (us ++ Word w ∷ []) b)
 step-behind ts us (AfterMark a) b =
     choice_behind ts (joins a b) _ _ _ _ (ap (λ l. record { tokens = l; state = Between }) (append_assoc ts us (Mark (a ∷ b ∷ []) ∷ [])))
-    (choice_behind ts (eqb a 47 && eqb b 47) _ _ _ _ refl (ap (λ l. begun l b) (append_assoc ts us (Mark (a ∷ []) ∷ [])) ∙ begun-behind ts (us ++ Mark (a ∷ []) ∷ []) b))
+    (choice_behind ts (eqb a 47 && eqb b 47) _ _ _ _ (ap (λ l. record { tokens = l; state = InComment }) (append_assoc ts us (Comment ∷ []))) (ap (λ l. begun l b) (append_assoc ts us (Mark (a ∷ []) ∷ [])) ∙ begun-behind ts (us ++ Mark (a ∷ []) ∷ []) b))
 step-behind ts us InComment b = choice_behind ts (eqb b 10) _ _ _ _ refl refl
 step-behind ts us (InQuotes w) b =
     choice_behind ts (eqb b 34) _ _ _ _ (ap (λ l. record { tokens = l; state = Between }) (append_assoc ts us (Quoted w ∷ []))) (choice_behind ts (eqb b 92) _ _ _ _ refl refl)

@@ -1,5 +1,7 @@
 -- Texts that compare as the same are the same.
-use Rattle.std.proofs.Common.{◌≡◌, ℕ, List, [], ◌∷◌, true, refl}
+use Rattle.std.proofs.Common.{◌≡◌, ℕ, List, [], ◌∷◌, true, refl, ap}
+use Rattle.std.specs.Prelude.{eqb, ◌&&◌}
+use Rattle.std.specs.Str.{bytes_eq}
 use Rattle.std.proofs.lemmas.Bool.{eq-eqb, eqb-true, and_from, and_parts}
 use Rattle.isle_printer.specs.Bytes.{same_bytes}
 
@@ -16,3 +18,10 @@ same_bytes_sound (a ∷ more) (b ∷ bs) h =
     let heads : a ≡ b = eqb-true a b parts.0 in
     let tails : more ≡ bs = same_bytes_sound more bs parts.1 in
     cc
+
+-- both tests of two texts say the same
+pub same_is : (a b : List ℕ) → bytes_eq a b ≡ same_bytes a b
+same_is [] [] = refl
+same_is [] (y ∷ ys) = refl
+same_is (x ∷ xs) [] = refl
+same_is (x ∷ xs) (y ∷ ys) = ap (λ c. eqb x y && c) (same_is xs ys)

@@ -1,5 +1,5 @@
--- A target text as a list of tokens, each the longest run that it can be.
-use Rattle.std.specs.Prelude.{ℕ, List, [], ◌∷◌, ◌++◌, Bool, true, false, ◌==◌, ◌&&◌, ◌||◌, nat_le, if◌then◌else◌, fold}
+-- A target text as a list of tokens, each the longest run that it can be, comments among them.
+use Rattle.std.specs.Prelude.{ℕ, List, [], ◌∷◌, ◌++◌, Bool, true, false, ◌==◌, ◌&&◌, ◌||◌, nat_le, if◌then◌else◌, fold, filter, IsTrue}
 use Rattle.std.specs.List.{list_all}
 
 pub data Token : Type 0 where
@@ -11,6 +11,8 @@ pub data Token : Type 0 where
   Quoted : List ℕ → Token
   -- a quote that is not closed, or an escape that is none; no program has it
   Stray : Token
+  -- what stands from // to the end of its line; a reader leaves it out
+  Comment : Token
 
 -- what was begun and may go on
 pub data State : Type 0 where
@@ -57,7 +59,7 @@ step s b = next s.state s.tokens b
     next (InWord w) ts b = if is_word_byte b then record { tokens = ts; state = InWord (w ++ b ∷ []) } else begun (ts ++ Word w ∷ []) b
     next (AfterMark a) ts b =
         if joins a b then record { tokens = ts ++ Mark (a ∷ b ∷ []) ∷ []; state = Between }
-        else (if (a == 47) && (b == 47) then record { tokens = ts; state = InComment } else begun (ts ++ Mark (a ∷ []) ∷ []) b)
+        else (if (a == 47) && (b == 47) then record { tokens = ts ++ Comment ∷ []; state = InComment } else begun (ts ++ Mark (a ∷ []) ∷ []) b)
     next InComment ts b = if b == 10 then record { tokens = ts; state = Between } else record { tokens = ts; state = InComment }
     next (InQuotes w) ts b =
         if b == 34 then record { tokens = ts ++ Quoted w ∷ []; state = Between }
@@ -86,6 +88,22 @@ finished s = s.tokens ++ last_of s.state
 -- the tokens of a text
 abbrev pub tokens_of : List ℕ → List Token
 tokens_of text = finished (scan text)
+
+-- a token that a reader takes
+abbrev pub is_read : Token → Bool
+is_read (Word w) = true
+is_read (Mark m) = true
+is_read (Quoted text) = true
+is_read Stray = true
+is_read Comment = false
+
+-- the tokens, the comments left out
+abbrev pub without_comments : List Token → List Token
+without_comments ts = filter is_read ts
+
+-- no comment stands in the text
+abbrev pub HasNoComment : List ℕ → Type 0
+HasNoComment text = IsTrue (list_all is_read (tokens_of text))
 
 -- bytes that are one word
 abbrev pub is_word : List ℕ → Bool

@@ -11,9 +11,9 @@ use Rattle.isle_core.specs.Rule.{Environment}
 use Rattle.isle_core.specs.Terms.{term_name, sym_text}
 use Rattle.isle_printer.specs.Bytes.{same_bytes}
 use Rattle.isle_printer.proofs.Bytes.{same_bytes_sound}
-use Rattle.isle_target.specs.Program.{Function}
-use Rattle.isle_target.specs.Run.{function_of}
-use Rattle.isle_target.proofs.TypeNames.{same_is}
+use Rattle.isle_tree.specs.Program.{Function}
+use Rattle.isle_tree.specs.Run.{function_of}
+use Rattle.isle_printer.proofs.Bytes.{same_is}
 use Rattle.isle_emission.specs.OfTerm.{AreDeclared, IsDeclared}
 
 -- the term of the function

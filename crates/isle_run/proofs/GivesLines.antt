@@ -14,9 +14,9 @@ use Rattle.isle_core.specs.Terms.{with_rules}
 use Rattle.isle_core.specs.Meaning.{Meaning}
 use Rattle.isle_core.specs.Value.{Value, Ran}
 use Rattle.isle_values.specs.Written.{Writtens}
-use Rattle.isle_target.specs.declared.tree.Ty.{Ty}
-use Rattle.isle_target.specs.Program.{Program, Function}
-use Rattle.isle_target.specs.Run.{run}
+use Rattle.isle_tree.specs.declared.tree.Ty.{Ty}
+use Rattle.isle_tree.specs.Program.{Program, Function}
+use Rattle.isle_tree.specs.Run.{run}
 use Rattle.isle_emission.specs.TermFunction.{parameter}
 use Rattle.isle_run_inputs.specs.Asked.{asked_term, asked_types, arg_types}
 use Rattle.isle_run_inputs.specs.Forms.{answers_at}

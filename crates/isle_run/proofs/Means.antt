@@ -13,8 +13,8 @@ use Rattle.isle_core.specs.Lawful.{IsLawful}
 use Rattle.isle_core.specs.Outcome.{is_partial}
 use Rattle.isle_core.specs.Rule.{Environment}
 use Rattle.isle_core.specs.Terms.{term_name, with_rules}
-use Rattle.isle_target.specs.Program.{Program, Function}
-use Rattle.isle_target.specs.Run.{run, function_run}
+use Rattle.isle_tree.specs.Program.{Program, Function}
+use Rattle.isle_tree.specs.Run.{run, function_run}
 use Rattle.isle_interpreter.specs.Lines.{run_lines}
 use Rattle.isle_interpreter.specs.Refusals.{MayRun}
 use Rattle.isle_interpreter.proofs.Agree.{same_run}

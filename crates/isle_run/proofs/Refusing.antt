@@ -5,7 +5,7 @@ use Rattle.isle_core.specs.declared.options.CodegenOptions.{CodegenOptions}
 use Rattle.isle_core.specs.Rule.{Environment}
 use Rattle.isle_core.specs.Value.{Value}
 use Rattle.isle_values.specs.Written.{Writtens}
-use Rattle.isle_target.specs.Program.{Program}
+use Rattle.isle_tree.specs.Program.{Program}
 use Rattle.isle_codegen.specs.Checked.{IsChecked}
 use Rattle.isle_run.specs.declared.trial_error.TrialError.{TrialError}
 use Rattle.isle_run.specs.declared.trial_error.TrialError.TheVariants as trial

@@ -2,8 +2,8 @@
 use Rattle.isle_core.specs.declared.options.CodegenOptions.{CodegenOptions}
 use Rattle.isle_core.specs.declared.files.Files.{Files}
 use Rattle.isle_core.specs.Rule.{Environment}
-use Rattle.isle_target.specs.Program.{Program}
-use Rattle.isle_target.specs.WellFormed.{IsWellFormed}
+use Rattle.isle_tree.specs.Program.{Program}
+use Rattle.isle_tree.specs.WellFormed.{IsWellFormed}
 use Rattle.isle_codegen.specs.Emission.{IsFrame}
 use Rattle.isle_codegen.specs.Headline.{FunctionsMean}
 

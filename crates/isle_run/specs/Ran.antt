@@ -5,8 +5,8 @@ use Rattle.isle_core.specs.Rule.{Environment}
 use Rattle.isle_answers.specs.Form.{Form}
 use Rattle.isle_answers.specs.Spelling.{SpellsForms}
 use Rattle.isle_run_inputs.specs.Forms.{are_built, answers_at}
-use Rattle.isle_target.specs.Program.{Program}
-use Rattle.isle_target.specs.Run.{run}
+use Rattle.isle_tree.specs.Program.{Program}
+use Rattle.isle_tree.specs.Run.{run}
 use Rattle.isle_interpreter.specs.Judged.{Runs}
 
 -- the outcome is that of the run under the answers of these forms, which are built and fit the function of the term

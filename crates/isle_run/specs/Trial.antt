@@ -17,8 +17,8 @@ use Rattle.isle_answers.specs.Spelling.{SpellsForms}
 use Rattle.isle_run_inputs.specs.Given.{values_at}
 use Rattle.isle_run_inputs.specs.Asked.{asked_term, asked_types}
 use Rattle.isle_run_inputs.specs.Forms.{are_built, answers_at}
-use Rattle.isle_target.specs.Program.{Program}
-use Rattle.isle_target.specs.Run.{run}
+use Rattle.isle_tree.specs.Program.{Program}
+use Rattle.isle_tree.specs.Run.{run}
 use Rattle.isle_interpreter.specs.Lines.{run_lines}
 use Rattle.isle_emission.specs.Ends.{end_of}
 use Rattle.isle_codegen.specs.Checked.{IsChecked}

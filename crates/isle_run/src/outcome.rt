@@ -5,8 +5,8 @@ ghost use Rattle.isle_core.specs.RuleViews.{environment};
 ghost use Rattle.isle_core.specs.ValueViews.{values, ran};
 ghost use Rattle.isle_answers.specs.Views.{forms_seen};
 ghost use Rattle.isle_answers.specs.Spelling.{SpellsForms};
-ghost use Rattle.isle_target.specs.Views.{program};
-ghost use Rattle.isle_target.specs.WellFormed.{IsWellFormed};
+ghost use Rattle.isle_tree.specs.Views.{program};
+ghost use Rattle.isle_tree.specs.WellFormed.{IsWellFormed};
 ghost use Rattle.isle_core.specs.Rule.{Environment};
 ghost use Rattle.isle_interpreter.specs.Judged.{Takes};
 ghost use Rattle.isle_run.specs.Ran.{IsUnder, IsOutcome};
@@ -20,7 +20,7 @@ use isle_answers::{AnswersFail, Form, forms};
 use isle_core::{Outcome, TermEnv, TypeEnv, Value};
 use isle_run_inputs::{answers_at, are_built, place_at};
 use isle_interpreter::{RunError, run_term, takes};
-use isle_target::Program;
+use isle_tree::Program;
 use std::alloc::Global;
 
 /// An environment, and a program that conforms to its source.

@@ -17,7 +17,7 @@ use Rattle.isle_core.specs.Int.{IsBelow, wrapped}
 use Rattle.isle_core.specs.HasType.{IsHeld, IsOfDef, HaveTypes}
 use Rattle.isle_core.specs.Rule.{Environment}
 use Rattle.isle_core.specs.Value.{Value, Int}
-use Rattle.isle_target.proofs.Wraps.{wraps, wraps_only}
+use Rattle.isle_spelling.proofs.Wraps.{wraps, wraps_only}
 use Rattle.isle_values.specs.Written as written
 use Rattle.isle_values.specs.Written.{Written, Writtens, NoValue, AValue}
 use Rattle.isle_run_inputs.specs.Given.{misfit, is_of, value_of_def, values_at}

@@ -3,9 +3,10 @@ use Rattle.std.proofs.Common.{◌≡◌, ℕ, zero, suc, ◌+◌, ◌<◌, ◌�
 use Rattle.std.specs.Prelude.{codes}
 use Rattle.std.specs.List.{AllByRecursion, list_all}
 use Rattle.std.proofs.lemmas.Bool.{and_parts}
-use Rattle.isle_printer.specs.Token.{Token, Word, Mark, Quoted, Stray, step, begun, tokens_of}
+use Rattle.isle_printer.specs.Token.{Token, Word, Mark, Quoted, Stray, Comment, is_read, without_comments, step, begun, tokens_of}
+use Rattle.isle_printer.proofs.Comments.{all_read}
 use Rattle.isle_printer.proofs.Bytes.{same_bytes_refl, same_bytes_sound}
-use Rattle.isle_target.specs.Fixed.{allow_tokens, uses_tokens, fixed_tokens}
+use Rattle.isle_spelling.specs.Fixed.{allow_tokens, uses_tokens, fixed_tokens}
 use Rattle.isle_printer.specs.Number.{numeral}
 use Rattle.isle_printer.specs.Bytes.{same_bytes}
 use Rattle.isle_core.specs.Int.{wrapped}
@@ -15,20 +16,21 @@ use Rattle.isle_core.specs.declared.values.Callee.{Callee}
 use Rattle.isle_core.specs.declared.values.Callee.TheVariants as callee
 use Rattle.isle_core.specs.declared.types.ReturnKind.{ReturnKind}
 use Rattle.isle_core.specs.declared.types.ReturnKind.TheVariants as kind
-use Rattle.isle_target.specs.declared.tree.Ty.{Ty}
-use Rattle.isle_target.specs.declared.tree.TraitFn.{TraitFn}
-use Rattle.isle_target.specs.declared.tree.Operand.{Operand}
-use Rattle.isle_target.specs.declared.tree.Operand.TheVariants as operand
-use Rattle.isle_target.specs.declared.tree.Read.{Read}
-use Rattle.isle_target.specs.declared.tree.Read.TheVariants as read
-use Rattle.isle_target.specs.declared.tree.TExpr.{TExpr}
-use Rattle.isle_target.specs.declared.tree.TExpr.TheVariants as expr
-use Rattle.isle_target.specs.Literal.{literal_tokens}
+use Rattle.isle_tree.specs.declared.tree.Ty.{Ty}
+use Rattle.isle_tree.specs.declared.tree.TraitFn.{TraitFn}
+use Rattle.isle_tree.specs.declared.tree.Operand.{Operand}
+use Rattle.isle_tree.specs.declared.tree.Operand.TheVariants as operand
+use Rattle.isle_tree.specs.declared.tree.Read.{Read}
+use Rattle.isle_tree.specs.declared.tree.Read.TheVariants as read
+use Rattle.isle_tree.specs.declared.tree.TExpr.{TExpr}
+use Rattle.isle_tree.specs.declared.tree.TExpr.TheVariants as expr
+use Rattle.isle_spelling.specs.Literal.{literal_tokens}
 use Rattle.isle_target.specs.Spelling.{operand_tokens, args_tokens, call_tokens, expr_tokens, stmt_tokens, body_tokens, constructor_word, no_rule, params_tokens, result_tokens, if_eq_head, function_head, function_tokens, functions_tokens, allow_part, close, program_tokens, joined_tokens, results_tokens, trait_fn_head, trait_fn_tokens, trait_fns_tokens, trait_tokens}
-use Rattle.isle_target.specs.Program.{Stmt, Let, IfEq, Return, Tail, Body, Done, Then, Function, Program}
-use Rattle.isle_target.specs.WellFormed.{IsOperand, IsRead, IsCallee, IsExpr, IsStmt, IsBody, IsBuiltin, IsTy, IsKind, AreResults, IsTraitFn, IsTypeItem, IsFunction, IsWellFormed}
+use Rattle.isle_tree.specs.Program.{Stmt, Let, IfEq, Return, Tail, Body, Done, Then, Function, Program}
+use Rattle.isle_tree.specs.WellFormed.{IsOperand, IsRead, IsCallee, IsExpr, IsStmt, IsBody, IsBuiltin, IsTy, IsKind, AreResults, IsTraitFn, IsTypeItem, IsFunction, IsWellFormed}
 use Rattle.isle_target.specs.Reading.{same_token, phrase, at, read_args, read_expr, read_stmt, read_body, read_params, read_result, read_function, read_functions, read_joined, read_trait_fn, read_trait_fns, read_trait, read_items, read_program, program_of, SpellsOnly}
 use Rattle.isle_target.proofs.Words.{operand_again}
+use Rattle.isle_target.proofs.NoComments.{program_read}
 
 -- whether a token is none of those that no program has
 abbrev pub is_whole : Token → Bool
@@ -36,12 +38,14 @@ is_whole (Word w) = true
 is_whole (Mark m) = true
 is_whole (Quoted s) = true
 is_whole Stray = false
+is_whole Comment = false
 
 same_token_refl : (t : Token) → is_whole t ≡ true → same_token t t ≡ true
 same_token_refl (Word w) h = same_bytes_refl w
 same_token_refl (Mark m) h = same_bytes_refl m
 same_token_refl (Quoted s) h = same_bytes_refl s
 same_token_refl Stray h = absurd cc
+same_token_refl Comment h = absurd cc
 
 -- tokens are found where they stand
 pub phrase_again : (ps ts : List Token) → list_all is_whole ps ≡ true → phrase ps (ps ++ ts) ≡ Some ts
@@ -332,11 +336,15 @@ program_again p h = made_again p p.allow p.trait_fns p.fns h.trait_fns h.fns ∙
 -- a text of the program's tokens spells it and no other
 pub spells_only : (text : List ℕ) (p : Program) → IsWellFormed p → tokens_of text ≡ program_tokens p → SpellsOnly text p
 spells_only text p h e =
-    let reads : program_of text ≡ Some p = ap read_program e ∙ program_again p h in
+    let reads : program_of text ≡ Some p = ap read_program (ap without_comments e ∙ all_read (program_tokens p) (program_read p)) ∙ program_again p h in
     record {
       spells = record { reads = reads; well_formed = h };
       only = λ q s. let other = s.reads in cc;
     }
+
+-- no comment stands in such a text
+pub no_comment : (text : List ℕ) (p : Program) → tokens_of text ≡ program_tokens p → list_all is_read (tokens_of text) ≡ true
+no_comment text p e = ap (list_all is_read) e ∙ program_read p
 
 -- what a printer has printed behind the head, the trait, the fixed items and the functions
 pub printed_program : (p : Program) (text : List ℕ) (fresh head body whole all : List Token)

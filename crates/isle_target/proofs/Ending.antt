@@ -3,10 +3,10 @@ use Rattle.std.proofs.Common.{ap, ◌∙◌, refl, List, [], ◌∷◌, ◌++◌
 use Rattle.std.specs.Prelude.{◌↔◌, IsTrue}
 use Rattle.std.proofs.lemmas.List.{map-append}
 use Rattle.isle_core.specs.declared.types.ReturnKind.{ReturnKind}
-use Rattle.isle_target.specs.declared.tree.Stmt.{Stmt as CodeStmt}
-use Rattle.isle_target.specs.Program.{Stmt}
-use Rattle.isle_target.specs.Views.{stmt, body, body_of}
-use Rattle.isle_target.specs.WellFormed.{FitsBody, FitsLast, FitsFunction}
+use Rattle.isle_tree.specs.declared.tree.Stmt.{Stmt as CodeStmt}
+use Rattle.isle_tree.specs.Program.{Stmt}
+use Rattle.isle_tree.specs.Views.{stmt, body, body_of}
+use Rattle.isle_tree.specs.WellFormed.{FitsBody, FitsLast, FitsFunction}
 
 split : (kind : ReturnKind) (front : List Stmt) (last : Stmt) → FitsFunction kind (body_of (front ++ last ∷ [])) ↔ (FitsBody kind (body_of front) × FitsLast kind last)
 split kind [] last = (λ h. (tt, h), λ h. h.1)

@@ -5,12 +5,12 @@ use Rattle.std.specs.List.{AllByRecursion, IsDistinct}
 use Rattle.std.specs.Str.{bytes_eq}
 use Rattle.std.proofs.lemmas.Bool.{eqb-true}
 use Rattle.std.proofs.lemmas.List.{drop_more, at_drop_all}
-use Rattle.isle_target.specs.declared.tree.Function.{Function as CodeFunction}
-use Rattle.isle_target.specs.declared.tree.Program.{Program as CodeProgram}
-use Rattle.isle_target.specs.declared.tree.TraitFn.{TraitFn}
-use Rattle.isle_target.specs.Program.{Program}
-use Rattle.isle_target.specs.Views.{program, function}
-use Rattle.isle_target.specs.WellFormed.{IsTraitFn, IsTypeItem, IsFunction, IsWellFormed, terms, fn_names}
+use Rattle.isle_tree.specs.declared.tree.Function.{Function as CodeFunction}
+use Rattle.isle_tree.specs.declared.tree.Program.{Program as CodeProgram}
+use Rattle.isle_tree.specs.declared.tree.TraitFn.{TraitFn}
+use Rattle.isle_tree.specs.Program.{Program}
+use Rattle.isle_tree.specs.Views.{program, function}
+use Rattle.isle_tree.specs.WellFormed.{IsTraitFn, IsTypeItem, IsFunction, IsWellFormed, terms, fn_names}
 
 -- all are where those that are left are, in a program with these functions of the trait
 abbrev pub Left : List TraitFn → List CodeFunction → ℕ → Type 0

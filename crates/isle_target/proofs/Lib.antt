@@ -1,12 +1,8 @@
-pub mod Wraps
-pub mod Literals
-pub mod Sees
-pub mod Apart
 pub mod Functions
 pub mod Ending
 pub mod Newest
-pub mod FindCallees
 pub mod TypeNames
 pub mod Prints
 pub mod Words
+pub mod NoComments
 pub mod Again

@@ -9,9 +9,9 @@ use Rattle.std.proofs.lemmas.Bool.{eq-eqb, ne_eqb}
 use Rattle.std.proofs.lemmas.List.{append-nil, map-append}
 use Rattle.std.proofs.lemmas.List.Sums.{fold-append}
 use Rattle.std.proofs.lemmas.Map.Lookups.{exact_unsigned}
-use Rattle.isle_target.specs.declared.holds.Holds.{Holds}
+use Rattle.isle_tree.specs.declared.holds.Holds.{Holds}
 use Rattle.isle_target.specs.declared.entry.Entry.{Entry}
-use Rattle.isle_target.specs.WellFormed.{Locals, newer, local_holds}
+use Rattle.isle_tree.specs.WellFormed.{Locals, newer, local_holds}
 use Rattle.isle_target.specs.Bound.{logged, Undoes, Finds}
 
 -- ---- one local more

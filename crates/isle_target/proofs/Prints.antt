@@ -1,16 +1,6 @@
 -- One piece printed after another.
-use Rattle.std.proofs.Common.{◌≡◌, List, ◌++◌, Result, Ok, Err, ap, ◌∙◌, append_assoc}
+use Rattle.std.proofs.Common.{◌≡◌, List, ◌++◌, Result, Ok, Err, ◌∙◌, append_assoc}
 use Rattle.std.specs.Prelude.{OnOk}
-
--- a head is printed, and then what stands behind it
-pub behind_head : {A E T : Type 0} (r : Result T E) (old mid new head inside all : List A) → mid ≡ old ++ head → head ++ inside ≡ all → OnOk r (new ≡ mid ++ inside) → OnOk r (new ≡ old ++ all)
-behind_head (Ok u) old mid new head inside all e k h = h ∙ ap (λ x. x ++ inside) e ∙ append_assoc old head inside ∙ ap (λ x. old ++ x) k
-behind_head (Err x) old mid new head inside all e k h = tt
-
--- what is printed, in other words
-pub also : {A E T : Type 0} (r : Result T E) (old new inside all : List A) → inside ≡ all → OnOk r (new ≡ old ++ inside) → OnOk r (new ≡ old ++ all)
-also (Ok u) old new inside all k h = h ∙ ap (λ x. old ++ x) k
-also (Err x) old new inside all k h = tt
 
 -- five pieces behind a line that has no token, and a line behind them
 pub five_pieces : {A E T : Type 0} (r : Result T E) (old head params arrow inside end n0 n1 n2 n3 n4 n5 new : List A)

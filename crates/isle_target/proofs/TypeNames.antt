@@ -8,10 +8,10 @@ use Rattle.isle_printer.specs.Token.{is_word}
 use Rattle.isle_printer.specs.Bytes.{same_bytes}
 use Rattle.isle_printer.proofs.Bytes.{same_bytes_sound}
 use Rattle.isle_printer.proofs.Numerals.{list_all-join}
-use Rattle.isle_target.specs.Identifier.{IsIdentifier}
-use Rattle.isle_target.specs.Literal.{type_named}
+use Rattle.isle_spelling.specs.Identifier.{IsIdentifier}
+use Rattle.isle_spelling.specs.Literal.{type_named}
 use Rattle.isle_target.specs.Spelling.{constructor_word}
-use Rattle.isle_target.specs.WellFormed.{IsBuiltin, AreResults, IsTermName}
+use Rattle.isle_tree.specs.WellFormed.{IsBuiltin, AreResults, IsTermName}
 
 -- the name is this one, or the next ones decide
 is_this : (b : Bool) (v w : List ℕ) → same_bytes v w ≡ b → is_word v ≡ true → (b ≡ false → is_word w ≡ true) → is_word w ≡ true
@@ -61,10 +61,3 @@ identifier_is_word [] h = absurd (false_not_true h.begins)
     false_not_true : false ≡ true → ⊥
     false_not_true e = cc
 identifier_is_word (b ∷ bs) h = h.word
-
--- both tests of two texts say the same
-pub same_is : (a b : List ℕ) → bytes_eq a b ≡ same_bytes a b
-same_is [] [] = refl
-same_is [] (y ∷ ys) = refl
-same_is (x ∷ xs) [] = refl
-same_is (x ∷ xs) (y ∷ ys) = ap (λ c. eqb x y && c) (same_is xs ys)

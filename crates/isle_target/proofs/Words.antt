@@ -17,14 +17,14 @@ use Rattle.isle_core.specs.HasType.{IsHeld}
 use Rattle.isle_printer.specs.Token.{Token, Word}
 use Rattle.isle_printer.specs.Number.{numeral, glyph}
 use Rattle.isle_printer.proofs.Readback.{numeral_again}
-use Rattle.isle_target.specs.declared.tree.Operand.{Operand}
-use Rattle.isle_target.specs.declared.tree.Operand.TheVariants as operand
-use Rattle.isle_target.specs.Literal.{literal_word, literal_tokens, held}
+use Rattle.isle_tree.specs.declared.tree.Operand.{Operand}
+use Rattle.isle_tree.specs.declared.tree.Operand.TheVariants as operand
+use Rattle.isle_spelling.specs.Literal.{literal_word, literal_tokens, held}
 use Rattle.isle_target.specs.Spelling.{operand_tokens}
-use Rattle.isle_target.specs.WellFormed.{IsOperand}
+use Rattle.isle_tree.specs.WellFormed.{IsOperand}
 use Rattle.isle_target.specs.Reading.{is_number, number_at, read_operand, at}
-use Rattle.isle_target.proofs.Literals.{literal_again}
-use Rattle.isle_target.proofs.Wraps.{wraps, wraps_only}
+use Rattle.isle_spelling.proofs.Literals.{literal_again}
+use Rattle.isle_spelling.proofs.Wraps.{wraps, wraps_only}
 
 -- ---- a word that is a literal begins with a digit
 

@@ -2,9 +2,9 @@
 use Rattle.std.specs.Prelude.{◌≡◌, ℕ, List, [], ◌∷◌, ◌++◌, map}
 use Rattle.std.specs.Ordering.{nat_cmp}
 use Rattle.std.specs.BTreeMap.{BTreeMap, get}
-use Rattle.isle_target.specs.declared.holds.Holds.{Holds}
+use Rattle.isle_tree.specs.declared.holds.Holds.{Holds}
 use Rattle.isle_target.specs.declared.entry.Entry.{Entry}
-use Rattle.isle_target.specs.WellFormed.{Locals, local_holds}
+use Rattle.isle_tree.specs.WellFormed.{Locals, local_holds}
 
 -- the locals of a log
 abbrev pub logged : List Entry → Locals

@@ -1,11 +1,3 @@
-pub mod Program
-pub mod Views
-pub mod Literal
-pub mod Fixed
-pub mod Identifier
 pub mod Spelling
-pub mod WellFormed
 pub mod Reading
 pub mod Bound
-pub mod Callees
-pub mod Run

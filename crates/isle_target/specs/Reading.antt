@@ -6,22 +6,22 @@ use Rattle.isle_core.specs.declared.types.IntType.{IntType}
 use Rattle.isle_core.specs.declared.values.Callee.TheVariants as callee
 use Rattle.isle_core.specs.declared.types.ReturnKind.{ReturnKind}
 use Rattle.isle_core.specs.declared.types.ReturnKind.TheVariants as kind
-use Rattle.isle_printer.specs.Token.{Token, Word, Mark, Quoted, tokens_of}
+use Rattle.isle_printer.specs.Token.{Token, Word, Mark, Quoted, tokens_of, without_comments}
 use Rattle.isle_printer.specs.Bytes.{same_bytes}
 use Rattle.isle_printer.specs.Number.{numeral_of}
-use Rattle.isle_target.specs.declared.tree.Ty.{Ty}
-use Rattle.isle_target.specs.declared.tree.TraitFn.{TraitFn}
-use Rattle.isle_target.specs.declared.tree.Operand.{Operand}
-use Rattle.isle_target.specs.declared.tree.Operand.TheVariants as operand
-use Rattle.isle_target.specs.declared.tree.Read.{Read}
-use Rattle.isle_target.specs.declared.tree.Read.TheVariants as read
-use Rattle.isle_target.specs.declared.tree.TExpr.{TExpr}
-use Rattle.isle_target.specs.declared.tree.TExpr.TheVariants as expr
-use Rattle.isle_target.specs.Fixed.{allow_tokens, uses_tokens, fixed_tokens}
-use Rattle.isle_target.specs.Literal.{literal_of, held}
+use Rattle.isle_tree.specs.declared.tree.Ty.{Ty}
+use Rattle.isle_tree.specs.declared.tree.TraitFn.{TraitFn}
+use Rattle.isle_tree.specs.declared.tree.Operand.{Operand}
+use Rattle.isle_tree.specs.declared.tree.Operand.TheVariants as operand
+use Rattle.isle_tree.specs.declared.tree.Read.{Read}
+use Rattle.isle_tree.specs.declared.tree.Read.TheVariants as read
+use Rattle.isle_tree.specs.declared.tree.TExpr.{TExpr}
+use Rattle.isle_tree.specs.declared.tree.TExpr.TheVariants as expr
+use Rattle.isle_spelling.specs.Fixed.{allow_tokens, uses_tokens, fixed_tokens}
+use Rattle.isle_spelling.specs.Literal.{literal_of, held}
 use Rattle.isle_target.specs.Spelling.{param_token, generics, context_param, self_param, comma, trait_head, close, no_rule, unreachable_head}
-use Rattle.isle_target.specs.Program.{Stmt, Let, IfEq, Return, Tail, Body, Done, Then, Function, Program}
-use Rattle.isle_target.specs.WellFormed.{IsWellFormed}
+use Rattle.isle_tree.specs.Program.{Stmt, Let, IfEq, Return, Tail, Body, Done, Then, Function, Program}
+use Rattle.isle_tree.specs.WellFormed.{IsWellFormed}
 
 infixl 10 ◌>>=◌
 abbrev pub ◌>>=◌ : {A B : Type 0} → Option A → (A → Option B) → Option B
@@ -384,9 +384,9 @@ read_items start = do
 unfoldable pub read_program : List Token → Option Program
 read_program ts = read_items (after_allow (phrase allow_tokens ts) ts)
 
--- the program that a text reads as, or none
+-- the program that a text reads as, its comments left out, or none
 abbrev pub program_of : List ℕ → Option Program
-program_of text = read_program (tokens_of text)
+program_of text = read_program (without_comments (tokens_of text))
 
 -- the text reads as the program, which is well formed
 pub record SpellsProgram (text : List ℕ) (p : Program) : Type 0 where

@@ -7,17 +7,17 @@ use Rattle.isle_core.specs.declared.types.ReturnKind.{ReturnKind}
 use Rattle.isle_core.specs.declared.types.ReturnKind.TheVariants as kind
 use Rattle.isle_printer.specs.Token.{Token, Word, Mark, Quoted}
 use Rattle.isle_printer.specs.Number.{numeral}
-use Rattle.isle_target.specs.declared.tree.Ty.{Ty}
-use Rattle.isle_target.specs.declared.tree.TraitFn.{TraitFn}
-use Rattle.isle_target.specs.declared.tree.Operand.{Operand}
-use Rattle.isle_target.specs.declared.tree.Operand.TheVariants as operand
-use Rattle.isle_target.specs.declared.tree.Read.{Read}
-use Rattle.isle_target.specs.declared.tree.Read.TheVariants as read
-use Rattle.isle_target.specs.declared.tree.TExpr.{TExpr}
-use Rattle.isle_target.specs.declared.tree.TExpr.TheVariants as expr
-use Rattle.isle_target.specs.Fixed.{allow_tokens, uses_tokens, fixed_tokens}
-use Rattle.isle_target.specs.Literal.{literal_tokens}
-use Rattle.isle_target.specs.Program.{Stmt, Let, IfEq, Return, Tail, Body, Done, Then, Function, Program}
+use Rattle.isle_tree.specs.declared.tree.Ty.{Ty}
+use Rattle.isle_tree.specs.declared.tree.TraitFn.{TraitFn}
+use Rattle.isle_tree.specs.declared.tree.Operand.{Operand}
+use Rattle.isle_tree.specs.declared.tree.Operand.TheVariants as operand
+use Rattle.isle_tree.specs.declared.tree.Read.{Read}
+use Rattle.isle_tree.specs.declared.tree.Read.TheVariants as read
+use Rattle.isle_tree.specs.declared.tree.TExpr.{TExpr}
+use Rattle.isle_tree.specs.declared.tree.TExpr.TheVariants as expr
+use Rattle.isle_spelling.specs.Fixed.{allow_tokens, uses_tokens, fixed_tokens}
+use Rattle.isle_spelling.specs.Literal.{literal_tokens}
+use Rattle.isle_tree.specs.Program.{Stmt, Let, IfEq, Return, Tail, Body, Done, Then, Function, Program}
 
 -- ---- what stands for a value
 

@@ -3,11 +3,11 @@
 ghost use Rattle.std.specs.Prelude.{◌≡◌, ◌-◌, ◌++◌, [], ◌∷◌, length, take, IsSome, OnOk};
 ghost use Rattle.std.specs.Ordering.{nat_cmp};
 ghost use Rattle.std.specs.BTreeMap.{get, Updates};
-ghost use Rattle.isle_target.specs.WellFormed.{local_holds};
+ghost use Rattle.isle_tree.specs.WellFormed.{local_holds};
 ghost use Rattle.isle_target.specs.Bound.{logged, Finds};
 
 use crate::entry::Entry;
-use crate::holds::Holds;
+use isle_tree::Holds;
 use std::alloc::{AllocError, Global};
 use std::collections::BTreeMap;
 use std::marker::Model;
@@ -21,7 +21,7 @@ pub struct Bound {
 }
 
 impl Model for Bound {
-    ghost use Rattle.isle_target.specs.WellFormed.{Locals};
+    ghost use Rattle.isle_tree.specs.WellFormed.{Locals};
     ghost use Rattle.isle_target.specs.Bound.{logged, Finds};
 
     ghost Value = { Locals };

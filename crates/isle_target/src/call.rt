@@ -1,12 +1,12 @@
 //! The text of calls. A form that isn't built has none.
 
 ghost use Rattle.std.specs.Prelude.{◌≡◌, ◌++◌, OnOk};
-ghost use Rattle.isle_target.specs.Identifier.{IsIdentifier};
+ghost use Rattle.isle_spelling.specs.Identifier.{IsIdentifier};
 ghost use Rattle.isle_target.specs.Spelling.{call_head, args_tokens, call_tokens};
-ghost use Rattle.isle_target.specs.WellFormed.{IsCall};
+ghost use Rattle.isle_tree.specs.WellFormed.{IsCall};
 
 use crate::operand::print_read;
-use crate::tree::{Read, TCall};
+use isle_tree::{Read, TCall};
 use isle_core::Callee;
 use isle_printer::Printer;
 use std::alloc::{AllocError, Global};

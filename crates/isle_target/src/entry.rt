@@ -1,6 +1,6 @@
 //! A local that was bound.
 
-use crate::holds::Holds;
+use isle_tree::Holds;
 
 /// A local, what it holds, and what a local of this number held before.
 #[derive(Clone, Copy)]

@@ -1,10 +1,10 @@
 //! Which statements fit the kind of their function.
 
 ghost use Rattle.std.specs.Prelude.{◌↔◌, IsTrue};
-ghost use Rattle.isle_target.specs.Views.{stmt, body};
-ghost use Rattle.isle_target.specs.WellFormed.{FitsLet, IsReturned, FitsStmt, FitsBody, FitsLast, FitsFunction};
+ghost use Rattle.isle_tree.specs.Views.{stmt, body};
+ghost use Rattle.isle_tree.specs.WellFormed.{FitsLet, IsReturned, FitsStmt, FitsBody, FitsLast, FitsFunction};
 
-use crate::tree::{Stmt, TExpr};
+use isle_tree::{Stmt, TExpr};
 use isle_core::ReturnKind;
 
 // Whether a `let` may compute it in a function of the kind.
@@ -38,7 +38,7 @@ fn is_returned(e: &TExpr) -> bool
 
 // Whether a statement may stand inside a function of the kind.
 #[cycle(fits)]
-#[tactic(auto, using(crate::proofs::Sees::sees))]
+#[tactic(auto, using(isle_tree::proofs::Sees::sees))]
 fn fits_stmt(kind: ReturnKind, s: &Stmt) -> bool
     ensures { IsTrue result ↔ FitsStmt kind (stmt s.now) }
 {
@@ -72,7 +72,7 @@ fn fits_body(kind: ReturnKind, stmts: &[Stmt]) -> bool
 }
 
 // Whether a function of the kind may end with the statement.
-#[tactic(auto, using(crate::proofs::Sees::sees))]
+#[tactic(auto, using(isle_tree::proofs::Sees::sees))]
 fn fits_last(kind: ReturnKind, s: &Stmt) -> bool
     ensures { IsTrue result ↔ FitsLast kind (stmt s.now) }
 {

@@ -2,19 +2,19 @@
 
 ghost use Rattle.std.specs.Prelude.{◌≡◌, IfOk, IsTrue, ◌↔◌, map};
 ghost use Rattle.std.specs.List.{AllByRecursion};
-ghost use Rattle.isle_target.specs.Program.{Program as Target};
-ghost use Rattle.isle_target.specs.Views.{program, function};
-ghost use Rattle.isle_target.specs.WellFormed.{IsFunction, IsWellFormed};
+ghost use Rattle.isle_tree.specs.Program.{Program as Target};
+ghost use Rattle.isle_tree.specs.Views.{program, function};
+ghost use Rattle.isle_tree.specs.WellFormed.{IsFunction, IsWellFormed};
 
 use crate::bound::Bound;
-use crate::callees::Callees;
-use crate::distinct::{are_apart, are_distinct};
+use isle_tree::Callees;
+use isle_tree::{are_apart, are_distinct};
 use crate::fits::fits_function;
 use crate::names::{has_names, is_kind};
 use crate::shapes::is_body;
 use crate::there::is_body_there;
 use crate::trait_fns::are_trait_fns;
-use crate::tree::{Function, Program};
+use isle_tree::{Function, Program};
 use isle_core::OutOfMemory;
 use std::alloc::Global;
 

@@ -3,12 +3,12 @@
 ghost use Rattle.std.specs.Prelude.{◌≡◌, ◌++◌, [], ◌∷◌, OnOk, codes};
 ghost use Rattle.std.specs.List.{AllByRecursion};
 ghost use Rattle.isle_printer.specs.Token.{Word, Mark};
-ghost use Rattle.isle_target.specs.Views.{function, body};
-ghost use Rattle.isle_target.specs.WellFormed.{IsTermName, IsBuiltin, IsTy, IsBody, HasNames};
+ghost use Rattle.isle_tree.specs.Views.{function, body};
+ghost use Rattle.isle_tree.specs.WellFormed.{IsTermName, IsBuiltin, IsTy, IsBody, HasNames};
 ghost use Rattle.isle_target.specs.Spelling.{constructor_word, generics, context_param, function_head, typed_tokens, param_tokens, params_tokens, result_tokens, result_part, function_tokens};
 
 use crate::statement::print_body;
-use crate::tree::{Function, Ty};
+use isle_tree::{Function, Ty};
 use isle_core::ReturnKind;
 use isle_printer::Printer;
 use std::alloc::{AllocError, Global};

@@ -1,12 +1,12 @@
 //! What operands hold, and what is computed from them.
 
 ghost use Rattle.std.specs.Prelude.{◌≡◌, Some, []};
-ghost use Rattle.isle_target.specs.WellFormed.{operand_holds, read_holds, is_value, are_values, kind_holds, call_holds, callee_holds, inner_holds, expr_holds};
+ghost use Rattle.isle_tree.specs.WellFormed.{operand_holds, read_holds, is_value, are_values, kind_holds, call_holds, callee_holds, inner_holds, expr_holds};
 
 use crate::bound::Bound;
-use crate::callees::Callees;
-use crate::holds::Holds;
-use crate::tree::{Operand, Read, TCall, TExpr, TraitFn};
+use isle_tree::Callees;
+use isle_tree::Holds;
+use isle_tree::{Operand, Read, TCall, TExpr, TraitFn};
 use isle_core::{Callee, ReturnKind};
 
 /// What an operand holds, where it is there.

@@ -2,11 +2,11 @@
 
 ghost use Rattle.std.specs.Prelude.{◌≡◌, ◌++◌, false, OnOk};
 ghost use Rattle.isle_target.specs.Spelling.{operand_tokens, read_tokens, expr_tokens};
-ghost use Rattle.isle_target.specs.WellFormed.{IsExpr};
+ghost use Rattle.isle_tree.specs.WellFormed.{IsExpr};
 
 use crate::call::print_call;
-use crate::literal::print_literal;
-use crate::tree::{Operand, Read, TExpr};
+use isle_spelling::print_literal;
+use isle_tree::{Operand, Read, TExpr};
 use isle_printer::Printer;
 use std::alloc::{AllocError, Global};
 

@@ -1,17 +1,17 @@
 //! The text of a program.
 
 ghost use Rattle.std.specs.Prelude.{◌≡◌, ◌++◌, OnOk, IfOk, string_bytes};
-ghost use Rattle.isle_printer.specs.Token.{tokens_of};
-ghost use Rattle.isle_target.specs.Views.{program};
-ghost use Rattle.isle_target.specs.WellFormed.{IsWellFormed};
-ghost use Rattle.isle_target.specs.Fixed.{uses_tokens, fixed_tokens};
+ghost use Rattle.isle_printer.specs.Token.{tokens_of, HasNoComment};
+ghost use Rattle.isle_tree.specs.Views.{program};
+ghost use Rattle.isle_tree.specs.WellFormed.{IsWellFormed};
+ghost use Rattle.isle_spelling.specs.Fixed.{uses_tokens, fixed_tokens};
 ghost use Rattle.isle_target.specs.Spelling.{allow_part, functions_tokens, program_tokens};
 ghost use Rattle.isle_target.specs.Reading.{SpellsOnly};
 
 use crate::context::print_trait;
-use crate::fixed::{print_allow, print_fixed, print_uses};
+use isle_spelling::{print_allow, print_fixed, print_uses};
 use crate::function::print_function;
-use crate::tree::Program;
+use isle_tree::Program;
 use isle_core::OutOfMemory;
 use isle_printer::Printer;
 use std::alloc::{AllocError, Global};
@@ -37,11 +37,13 @@ fn print_functions(out: &mut Printer, alloc: Global, p: &Program) -> Result<(), 
     Ok(())
 }
 
-/// The text of a well-formed program, which spells it and no other. The only error is want of memory.
+/// Prints a well-formed program: the text spells it and no other, and no comment stands in it. The only error is want of
+/// memory.
 pub fn print_program(alloc: Global, p: &Program) -> Result<String, OutOfMemory>
     requires { IsWellFormed (program p.now) }
     ensures spells { IfOk result (λ text. SpellsOnly (string_bytes text) (program p.now)) }
     ensures tokens { IfOk result (λ text. tokens_of (string_bytes text) ≡ program_tokens (program p.now)) }
+    ensures no_comment { IfOk result (λ text. HasNoComment (string_bytes text)) }
 {
     let mut out = Printer::new(alloc);
     print_head(&mut out, p.allow)?;

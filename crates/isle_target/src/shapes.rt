@@ -1,33 +1,13 @@
 //! Which operands and statements are of a form that is built, their integers lying in their types.
 
 ghost use Rattle.std.specs.Prelude.{◌↔◌, IsTrue};
-ghost use Rattle.isle_core.specs.HasType.{IsHeld};
-ghost use Rattle.isle_target.specs.Views.{stmt, body};
+ghost use Rattle.isle_tree.specs.Views.{stmt, body};
 ghost use Rattle.std.specs.List.{AllByRecursion};
-ghost use Rattle.isle_target.specs.WellFormed.{IsOperand, IsRead, IsCallee, IsCall, IsExpr, IsStmt, IsBody};
+ghost use Rattle.isle_tree.specs.WellFormed.{IsOperand, IsRead, IsCallee, IsCall, IsExpr, IsStmt, IsBody};
 
-use crate::identifier::is_identifier;
-use crate::tree::{Operand, Read, Stmt, TCall, TExpr};
-use isle_core::{Callee, IntType};
-
-/// Whether the number is one of the type, as a value holds it.
-pub fn is_held(ty: IntType, val: i128) -> bool
-    ensures { IsTrue result ↔ IsHeld ty val }
-{
-    match ty {
-        IntType::U8 => (0..0x100).contains(&val),
-        IntType::U16 => (0..0x1_0000).contains(&val),
-        IntType::U32 => (0..0x1_0000_0000).contains(&val),
-        IntType::U64 | IntType::USize => (0..0x1_0000_0000_0000_0000).contains(&val),
-        IntType::I8 => (-0x80..0x80).contains(&val),
-        IntType::I16 => (-0x8000..0x8000).contains(&val),
-        IntType::I32 => (-0x8000_0000..0x8000_0000).contains(&val),
-        IntType::I64 | IntType::ISize => {
-            (-0x8000_0000_0000_0000..0x8000_0000_0000_0000).contains(&val)
-        }
-        IntType::U128 | IntType::I128 => true,
-    }
-}
+use isle_core::Callee;
+use isle_spelling::is_identifier;
+use isle_tree::{Operand, Read, Stmt, TCall, TExpr};
 
 // Whether an operand is of a form that is built.
 fn is_operand(o: &Operand) -> bool
@@ -35,7 +15,7 @@ fn is_operand(o: &Operand) -> bool
 {
     match o {
         Operand::Local(_) | Operand::Arg(_) | Operand::Bool(_) => true,
-        Operand::Int(ty, val) => is_held(*ty, *val),
+        Operand::Int(ty, val) => ty.holds(*val),
         Operand::Raw(_) | Operand::Name(_) => false,
     }
 }
@@ -96,7 +76,7 @@ fn is_expr(e: &TExpr) -> bool
 
 // Whether a statement is.
 #[cycle(shapes)]
-#[tactic(auto, using(crate::proofs::Sees::sees))]
+#[tactic(auto, using(isle_tree::proofs::Sees::sees))]
 fn is_stmt(s: &Stmt) -> bool
     ensures { IsTrue result ↔ IsStmt (stmt s.now) }
 {

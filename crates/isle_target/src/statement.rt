@@ -2,12 +2,12 @@
 
 ghost use Rattle.std.specs.Prelude.{◌≡◌, ◌++◌, [], ◌∷◌, OnOk, codes};
 ghost use Rattle.isle_printer.specs.Token.{Mark, Quoted};
-ghost use Rattle.isle_target.specs.Views.{stmt, body};
-ghost use Rattle.isle_target.specs.WellFormed.{IsExpr, IsStmt, IsBody};
+ghost use Rattle.isle_tree.specs.Views.{stmt, body};
+ghost use Rattle.isle_tree.specs.WellFormed.{IsExpr, IsStmt, IsBody};
 ghost use Rattle.isle_target.specs.Spelling.{let_tokens, return_tokens, if_eq_head, no_rule, unreachable_head, tail_tokens, stmt_tokens, body_tokens};
 
 use crate::operand::{print_expr, print_operand};
-use crate::tree::{Operand, Stmt, TExpr};
+use isle_tree::{Operand, Stmt, TExpr};
 use isle_core::Text;
 use isle_printer::Printer;
 use std::alloc::{AllocError, Global};
@@ -96,7 +96,7 @@ fn print_tail(
 
 // Prints a statement.
 #[cycle(statements)]
-#[tactic(auto, using(crate::proofs::Sees::sees))]
+#[tactic(auto, using(isle_tree::proofs::Sees::sees))]
 fn print_stmt(out: &mut Printer, alloc: Global, s: &Stmt) -> Result<(), AllocError>
     requires { IsStmt (stmt s.now) }
     ensures { OnOk result (out.new ≡ out.old ++ stmt_tokens (stmt s.now)) }

@@ -1,6 +1,6 @@
 //! What no line of words shows: trees that emission never makes, and numbers that are wrapped.
 
-use crate::tree::{Function, Operand, Program, Read, Stmt, TExpr, Ty};
+use isle_tree::{Function, Operand, Program, Read, Stmt, TExpr, Ty};
 use crate::{rust_int_literal, well_formed};
 use isle_core::{IntType, List, ReturnKind, Text};
 use std::alloc::{AllocError, Global};

@@ -1,14 +1,14 @@
 //! Whether each operand of statements is there and holds what is asked of it.
 
 ghost use Rattle.std.specs.Prelude.{◌≡◌, ◌↔◌, IsTrue, IsSome, IfOk, OnOk};
-ghost use Rattle.isle_target.specs.Views.{stmt, body};
-ghost use Rattle.isle_target.specs.WellFormed.{expr_holds, GivesKind, behind_let, IsStmtThere, IsBodyThere, bound_behind};
+ghost use Rattle.isle_tree.specs.Views.{stmt, body};
+ghost use Rattle.isle_tree.specs.WellFormed.{expr_holds, GivesKind, behind_let, IsStmtThere, IsBodyThere, bound_behind};
 
 use crate::bound::Bound;
-use crate::callees::Callees;
+use isle_tree::Callees;
 use crate::held::{expr_holds, is_value, operand_holds};
-use crate::holds::Holds;
-use crate::tree::Stmt;
+use isle_tree::Holds;
+use isle_tree::Stmt;
 use isle_core::ReturnKind;
 use std::alloc::AllocError;
 
@@ -39,7 +39,7 @@ fn bind(bound: &mut Bound, local: usize, holds: Option<Holds>) -> Result<bool, A
 
 // Whether a statement reads what is there; its own local is bound behind it.
 #[cycle(there)]
-#[tactic(auto, using(crate::proofs::Sees::sees))]
+#[tactic(auto, using(isle_tree::proofs::Sees::sees))]
 fn is_stmt_there(
     callees: &Callees,
     kind: ReturnKind,

@@ -2,11 +2,11 @@
 
 ghost use Rattle.std.specs.Prelude.{◌↔◌, IsTrue};
 ghost use Rattle.std.specs.List.{AllByRecursion};
-ghost use Rattle.isle_target.specs.WellFormed.{AreResults, IsTraitFn};
+ghost use Rattle.isle_tree.specs.WellFormed.{AreResults, IsTraitFn};
 
-use crate::identifier::is_identifier;
+use isle_spelling::is_identifier;
 use crate::names::{are_tys, is_builtin, is_kind};
-use crate::tree::TraitFn;
+use isle_tree::TraitFn;
 use isle_core::Text;
 
 // Whether there is one result, of a builtin type.

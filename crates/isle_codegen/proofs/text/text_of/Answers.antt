@@ -1,8 +1,15 @@
-use Rattle.std.proofs.Common.{◌∙◌}
+use Rattle.std.proofs.Common.{◌∙◌, refl}
 use Rattle.std.specs.String.{string_bytes}
-use Rattle.isle_target.specs.Views.{program}
+use Rattle.isle_tree.specs.Views.{program}
 use Rattle.isle_codegen.proofs.Headers.{spells_behind}
 use Rattle.isle_codegen.proofs.text.text_of.Goals as goal
+
+pub returns-clause-header : goal.returns-clause-header
+returns-clause-header c = record {
+  print = string_bytes c.in_ok-print.print;
+  behind = c.in_ok-push_str.ensures.bytes ∙ rw (c.in_ok-text.ensures, c.as_slice.ensures, c.as_str.ensures.value) refl;
+  alone = c.in_ok-print.ensures.no_comment;
+}
 
 pub returns-clause-program : goal.returns-clause-program
 returns-clause-program c = record {

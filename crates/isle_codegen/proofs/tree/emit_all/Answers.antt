@@ -1,7 +1,7 @@
 use Rattle.std.proofs.Common.{◌+◌, take, map, subst, sym, ◌∙◌, ap, [], ◌∷◌}
 use Rattle.std.proofs.lemmas.List.{map-append}
 use Rattle.isle_core.specs.RuleViews.{environment}
-use Rattle.isle_target.specs.Views.{function}
+use Rattle.isle_tree.specs.Views.{function}
 use Rattle.isle_codegen.specs.Emits.{AreEmitted}
 use Rattle.isle_codegen.proofs.Emissions.{emitted_more}
 use Rattle.isle_codegen.proofs.tree.emit_all.Goals as goal

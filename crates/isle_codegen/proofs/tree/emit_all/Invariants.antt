@@ -1,6 +1,6 @@
 use Rattle.std.proofs.Common.{take, map}
 use Rattle.isle_core.specs.RuleViews.{environment}
-use Rattle.isle_target.specs.Views.{function}
+use Rattle.isle_tree.specs.Views.{function}
 use Rattle.isle_codegen.specs.Emits.{AreEmitted}
 use Rattle.isle_codegen.proofs.tree.emit_all.Given as goal
 

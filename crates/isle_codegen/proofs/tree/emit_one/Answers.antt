@@ -1,7 +1,7 @@
 use Rattle.std.proofs.Common.{◌≡◌, get_or, ap, ◌∙◌}
 use Rattle.isle_core.specs.BlockViews.{block}
 use Rattle.isle_core.specs.RuleViews.{environment}
-use Rattle.isle_target.specs.Views.{function}
+use Rattle.isle_tree.specs.Views.{function}
 use Rattle.isle_emission.specs.TermFunction.{term_function}
 use Rattle.isle_emission.proofs.EmittedLaws.{if_ok}
 use Rattle.isle_codegen.proofs.Emissions.{is_emitted, at_place}

@@ -1,6 +1,6 @@
 use Rattle.std.proofs.Common.{map, ap, ◌∙◌}
 use Rattle.isle_core.specs.RuleViews.{environment}
-use Rattle.isle_target.specs.Views.{function}
+use Rattle.isle_tree.specs.Views.{function}
 use Rattle.isle_codegen.proofs.Emitting.{can_emit}
 use Rattle.isle_codegen.proofs.EmittedProgram.{program_well_formed, program_means}
 use Rattle.isle_codegen.proofs.tree.tree_of.Goals as goal

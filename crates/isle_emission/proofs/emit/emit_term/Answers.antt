@@ -1,7 +1,7 @@
 use Rattle.std.proofs.Common.{◌≡◌, get_or, ap, ◌∙◌, slice_get}
 use Rattle.isle_core.specs.BlockViews.{block}
 use Rattle.isle_core.specs.RuleViews.{environment}
-use Rattle.isle_target.specs.Views.{function}
+use Rattle.isle_tree.specs.Views.{function}
 use Rattle.isle_emission.specs.TermFunction.{term_function}
 use Rattle.isle_emission.proofs.EmittedLaws.{at_item, if_ok, is_well_formed, is_shaped, is_run}
 use Rattle.isle_emission.proofs.emit.emit_term.Goals as goal

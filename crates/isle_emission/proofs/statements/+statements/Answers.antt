@@ -1,8 +1,8 @@
 use Rattle.std.proofs.Common.{◌++◌, sym, ap, ◌∙◌, map, append_assoc}
 use Rattle.isle_core.specs.BlockViews.{block_of, step, control}
 use Rattle.isle_core.proofs.SeesBlocks.{step-parts, block-steps, arm-parts, control-equal}
-use Rattle.isle_target.specs.Program.{Done}
-use Rattle.isle_target.specs.Views.{stmt}
+use Rattle.isle_tree.specs.Program.{Done}
+use Rattle.isle_tree.specs.Views.{stmt}
 use Rattle.isle_emission.specs.BodyOnto.{body_onto}
 use Rattle.isle_emission.specs.Contexts.{env_of, bindings_in}
 use Rattle.isle_emission.specs.Statements.{block_body, control_stmt}

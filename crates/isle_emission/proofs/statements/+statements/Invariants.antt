@@ -1,7 +1,7 @@
 use Rattle.std.proofs.Common.{◌≡◌, ◌++◌, List, ℕ, drop, map}
 use Rattle.isle_core.specs.BlockViews.{block_of, step}
-use Rattle.isle_target.specs.Program.{Body}
-use Rattle.isle_target.specs.Views.{stmt}
+use Rattle.isle_tree.specs.Program.{Body}
+use Rattle.isle_tree.specs.Views.{stmt}
 use Rattle.isle_emission.specs.BodyOnto.{body_onto}
 use Rattle.isle_emission.specs.Contexts.{env_of, bindings_in}
 use Rattle.isle_emission.specs.Statements.{block_body}

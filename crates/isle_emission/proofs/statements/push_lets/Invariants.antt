@@ -1,6 +1,6 @@
 use Rattle.std.proofs.Common.{◌≡◌, drop, map}
-use Rattle.isle_target.specs.Program.{Body}
-use Rattle.isle_target.specs.Views.{stmt}
+use Rattle.isle_tree.specs.Program.{Body}
+use Rattle.isle_tree.specs.Views.{stmt}
 use Rattle.isle_emission.specs.BodyOnto.{body_onto}
 use Rattle.isle_emission.specs.Contexts.{env_of, bindings_in}
 use Rattle.isle_core.specs.BlockLawful.{bound_by}

@@ -1,6 +1,6 @@
 use Rattle.std.proofs.Common.{◌≡◌, map, drop}
-use Rattle.isle_target.specs.Run.{function_of}
-use Rattle.isle_target.specs.Views.{function}
+use Rattle.isle_tree.specs.Run.{function_of}
+use Rattle.isle_tree.specs.Views.{function}
 use Rattle.isle_interpreter.proofs.entry.function_of.Given as goal
 
 abbrev pub invariant-loop-f : goal.invariant-loop-f

@@ -1,7 +1,7 @@
 use Rattle.std.proofs.Common.{rules, ◌≡◌, Some, None}
 use Rattle.isle_core.specs.ValueViews.{values, meaning}
-use Rattle.isle_target.specs.Run.{function_run}
-use Rattle.isle_target.specs.Views.{function, program}
+use Rattle.isle_tree.specs.Run.{function_run}
+use Rattle.isle_tree.specs.Views.{function, program}
 use Rattle.isle_interpreter.proofs.Founds.{not_none}
 use Rattle.isle_interpreter.proofs.fitting.run_fitting.Goals as goal
 

@@ -1,5 +1,5 @@
 use Rattle.isle_core.specs.ValueViews.{meaning}
-use Rattle.isle_target.specs.Views.{program}
+use Rattle.isle_tree.specs.Views.{program}
 use Rattle.isle_interpreter.specs.Forms.{forms}
 use Rattle.isle_interpreter.specs.FormViews.{form}
 use Rattle.isle_interpreter.proofs.FormTests.{upto_more}

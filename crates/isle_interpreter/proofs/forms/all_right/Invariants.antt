@@ -1,6 +1,6 @@
 use Rattle.std.proofs.Common.{[], take}
 use Rattle.isle_core.specs.ValueViews.{meaning}
-use Rattle.isle_target.specs.Views.{program}
+use Rattle.isle_tree.specs.Views.{program}
 use Rattle.isle_interpreter.specs.Forms.{forms, AreRight}
 use Rattle.isle_interpreter.specs.Served.{Serves}
 use Rattle.isle_interpreter.proofs.forms.all_right.Given as goal

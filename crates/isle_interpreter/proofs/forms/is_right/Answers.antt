@@ -1,5 +1,5 @@
 use Rattle.std.proofs.Common.{rules, ◌≡◌, Some, true, false}
-use Rattle.isle_target.specs.Views.{program}
+use Rattle.isle_tree.specs.Views.{program}
 use Rattle.isle_interpreter.specs.Forms.{answers_for}
 use Rattle.isle_interpreter.specs.FormViews.{form}
 use Rattle.isle_interpreter.specs.Served.{has}

@@ -1,7 +1,7 @@
 use Rattle.std.proofs.Common.{rules, ◌≡◌, [], true, false, inr}
 use Rattle.std.specs.List.{list_all}
 use Rattle.isle_core.specs.ValueViews.{meaning}
-use Rattle.isle_target.specs.Views.{function, program}
+use Rattle.isle_tree.specs.Views.{function, program}
 use Rattle.isle_interpreter.specs.Callees.{body_calls}
 use Rattle.isle_interpreter.specs.Forms.{forms, AreRight}
 use Rattle.isle_interpreter.specs.Served.{has}

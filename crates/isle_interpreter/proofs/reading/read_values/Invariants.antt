@@ -1,7 +1,7 @@
 use Rattle.std.proofs.Common.{◌≡◌, ◌++◌, drop}
 use Rattle.std.specs.Prelude.{option_map}
 use Rattle.isle_core.specs.ValueViews.{values}
-use Rattle.isle_target.specs.Run.{read_values}
+use Rattle.isle_tree.specs.Run.{read_values}
 use Rattle.isle_interpreter.specs.RunViews.{locals}
 use Rattle.isle_interpreter.proofs.reading.read_values.Given as goal
 

@@ -1,7 +1,7 @@
 use Rattle.std.proofs.Common.{◌≡◌, ◌+◌, ◌*◌, drop, map}
 use Rattle.isle_core.specs.ValueViews.{values, meaning, made}
-use Rattle.isle_target.specs.Views.{body}
-use Rattle.isle_target.specs.Run as run
+use Rattle.isle_tree.specs.Views.{body}
+use Rattle.isle_tree.specs.Run as run
 use Rattle.isle_interpreter.specs.RunViews.{locals}
 use Rattle.isle_interpreter.specs.Frames.{Follows}
 use Rattle.isle_interpreter.proofs.run.+running.Given as goal

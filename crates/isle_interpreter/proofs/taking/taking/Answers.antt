@@ -2,8 +2,8 @@ use Rattle.std.proofs.Common.{rules, ◌≡◌, ℕ, Some, None, length, map, sy
 use Rattle.std.specs.Prelude.{◌≢◌}
 use Rattle.std.proofs.lemmas.List.{length-map}
 use Rattle.isle_core.specs.ValueViews.{value, values}
-use Rattle.isle_target.specs.Run.{function_of}
-use Rattle.isle_target.specs.Views.{function}
+use Rattle.isle_tree.specs.Run.{function_of}
+use Rattle.isle_tree.specs.Views.{function}
 use Rattle.isle_interpreter.specs.Signatures.{type_names}
 use Rattle.isle_interpreter.specs.Refusals.{IsWrongArg, no_term, arg_count, arg_type}
 use Rattle.isle_interpreter.proofs.taking.taking.Goals as goal

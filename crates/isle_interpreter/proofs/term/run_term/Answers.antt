@@ -1,7 +1,7 @@
 use Rattle.std.proofs.Common.{rules, ◌≡◌, Some, inr}
 use Rattle.isle_core.specs.ValueViews.{values, meaning}
-use Rattle.isle_target.specs.Run.{function_of}
-use Rattle.isle_target.specs.Views.{function, program}
+use Rattle.isle_tree.specs.Run.{function_of}
+use Rattle.isle_tree.specs.Views.{function, program}
 use Rattle.isle_interpreter.specs.Judged.{Runs}
 use Rattle.isle_interpreter.specs.Refusals.{MayRun, IsRefused}
 use Rattle.isle_interpreter.specs.declared.run_error.RunError.{RunError}

@@ -1,6 +1,6 @@
 use Rattle.std.proofs.Common.{ap, sym, ◌∙◌}
 use Rattle.std.specs.List.{list_all}
-use Rattle.isle_target.specs.Views.{body}
+use Rattle.isle_tree.specs.Views.{body}
 use Rattle.isle_interpreter.specs.Callees.{body_calls}
 use Rattle.isle_interpreter.specs.Served.{has}
 use Rattle.isle_interpreter.proofs.WithinArms.{arm_without, arms_within, match_within}

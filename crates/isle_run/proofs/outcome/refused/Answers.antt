@@ -1,6 +1,6 @@
 use Rattle.std.proofs.Common.{[]}
 use Rattle.isle_core.specs.ValueViews.{values}
-use Rattle.isle_target.specs.Views.{program}
+use Rattle.isle_tree.specs.Views.{program}
 use Rattle.isle_run_inputs.specs.Forms.{answers_at}
 use Rattle.isle_run.proofs.Halting.{halts_early}
 use Rattle.isle_run.proofs.outcome.refused.Goals as goal

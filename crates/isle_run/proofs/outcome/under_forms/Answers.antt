@@ -2,7 +2,7 @@ use Rattle.std.proofs.Common.{rules, inr}
 use Rattle.isle_core.specs.RuleViews.{environment}
 use Rattle.isle_core.specs.ValueViews.{values}
 use Rattle.isle_answers.specs.Views.{forms_seen}
-use Rattle.isle_target.specs.Views.{program}
+use Rattle.isle_tree.specs.Views.{program}
 use Rattle.isle_run.specs.Stopped.{unbuilt}
 use Rattle.isle_run.proofs.Halting.{halts}
 use Rattle.isle_run.proofs.outcome.under_forms.Goals as goal

@@ -3,7 +3,7 @@ use Rattle.isle_core.specs.RuleViews.{environment}
 use Rattle.isle_core.specs.ValueViews.{values, ran}
 use Rattle.isle_values.specs.Views.{seen}
 use Rattle.std.specs.String.{string_bytes}
-use Rattle.isle_target.specs.Views.{program}
+use Rattle.isle_tree.specs.Views.{program}
 use Rattle.isle_run.specs.Stopped.{memory}
 use Rattle.isle_run.proofs.Refusing.{by_halt}
 use Rattle.isle_run.proofs.GivesLines.{is_trial}

@@ -1,6 +1,6 @@
 use Rattle.std.proofs.Common.{◌≡◌, ◌++◌, drop}
 use Rattle.std.specs.List.{AllByRecursion}
-use Rattle.isle_target.specs.WellFormed.{IsTraitFn}
+use Rattle.isle_tree.specs.WellFormed.{IsTraitFn}
 use Rattle.isle_target.specs.Spelling.{trait_fns_tokens}
 use Rattle.isle_target.proofs.context.print_trait_fns.Given as goal
 

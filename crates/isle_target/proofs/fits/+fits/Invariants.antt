@@ -1,7 +1,7 @@
 use Rattle.std.proofs.Common.{drop}
 use Rattle.std.specs.Prelude.{◌↔◌}
-use Rattle.isle_target.specs.Views.{body}
-use Rattle.isle_target.specs.WellFormed.{FitsBody}
+use Rattle.isle_tree.specs.Views.{body}
+use Rattle.isle_tree.specs.WellFormed.{FitsBody}
 use Rattle.isle_target.proofs.fits.+fits.Given as goal
 
 abbrev pub invariant-fits_body-loop-s : goal.invariant-fits_body-loop-s

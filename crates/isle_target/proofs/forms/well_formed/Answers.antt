@@ -2,11 +2,11 @@ use Rattle.std.proofs.Common.{◌≡◌, List, map, subst, sym, ◌∙◌, Bool,
 use Rattle.std.specs.Prelude.{◌↔◌, IsTrue}
 use Rattle.std.specs.List.{AllByRecursion, IsDistinct}
 use Rattle.std.specs.Str.{bytes_eq}
-use Rattle.isle_target.specs.declared.tree.Function.{Function as CodeFunction}
-use Rattle.isle_target.specs.declared.tree.Program.{Program as CodeProgram}
-use Rattle.isle_target.specs.declared.tree.TraitFn.{TraitFn}
-use Rattle.isle_target.specs.Views.{function}
-use Rattle.isle_target.specs.WellFormed.{IsTraitFn, terms, fn_names}
+use Rattle.isle_tree.specs.declared.tree.Function.{Function as CodeFunction}
+use Rattle.isle_tree.specs.declared.tree.Program.{Program as CodeProgram}
+use Rattle.isle_tree.specs.declared.tree.TraitFn.{TraitFn}
+use Rattle.isle_tree.specs.Views.{function}
+use Rattle.isle_tree.specs.WellFormed.{IsTraitFn, terms, fn_names}
 use Rattle.isle_target.proofs.Functions.{DecideAll, refused_trait_fns, refused_names, refused_types, refused_fns, by_names}
 use Rattle.isle_target.proofs.forms.well_formed.Goals as goal
 

@@ -1,5 +1,5 @@
 use Rattle.std.proofs.Common.{◌++◌, ap, ◌∙◌}
-use Rattle.isle_target.specs.Views.{body}
+use Rattle.isle_tree.specs.Views.{body}
 use Rattle.isle_target.specs.Spelling.{function_head, params_tokens, result_part, body_tokens, close, function_tokens}
 use Rattle.isle_target.proofs.Prints.{five_pieces}
 use Rattle.isle_target.proofs.function.print_function.Goals as goal

@@ -1,6 +1,6 @@
 use Rattle.std.proofs.Common.{◌≡◌, ◌++◌, drop}
 use Rattle.std.specs.List.{AllByRecursion}
-use Rattle.isle_target.specs.WellFormed.{IsTy}
+use Rattle.isle_tree.specs.WellFormed.{IsTy}
 use Rattle.isle_target.specs.Spelling.{params_tokens}
 use Rattle.isle_target.proofs.function.print_params.Given as goal
 

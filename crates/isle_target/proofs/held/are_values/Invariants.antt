@@ -1,5 +1,5 @@
 use Rattle.std.proofs.Common.{◌≡◌, drop}
-use Rattle.isle_target.specs.WellFormed.{are_values}
+use Rattle.isle_tree.specs.WellFormed.{are_values}
 use Rattle.isle_target.proofs.held.are_values.Given as goal
 
 abbrev pub invariant-loop-read : goal.invariant-loop-read

@@ -1,7 +1,7 @@
 use Rattle.std.proofs.Common.{drop}
 use Rattle.std.specs.Prelude.{◌↔◌}
 use Rattle.std.specs.List.{AllByRecursion}
-use Rattle.isle_target.specs.WellFormed.{IsTy}
+use Rattle.isle_tree.specs.WellFormed.{IsTy}
 use Rattle.isle_target.proofs.names.are_tys.Given as goal
 
 abbrev pub invariant-loop-ty : goal.invariant-loop-ty

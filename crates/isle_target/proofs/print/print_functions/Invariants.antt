@@ -1,7 +1,7 @@
 use Rattle.std.proofs.Common.{◌≡◌, ◌++◌, map, drop}
 use Rattle.std.specs.List.{AllByRecursion}
-use Rattle.isle_target.specs.Views.{program, function}
-use Rattle.isle_target.specs.WellFormed.{IsFunction}
+use Rattle.isle_tree.specs.Views.{program, function}
+use Rattle.isle_tree.specs.WellFormed.{IsFunction}
 use Rattle.isle_target.specs.Spelling.{functions_tokens}
 use Rattle.isle_target.proofs.print.print_functions.Given as goal
 

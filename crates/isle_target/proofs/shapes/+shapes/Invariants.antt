@@ -1,7 +1,7 @@
 use Rattle.std.proofs.Common.{drop}
 use Rattle.std.specs.Prelude.{◌↔◌}
-use Rattle.isle_target.specs.Views.{body}
-use Rattle.isle_target.specs.WellFormed.{IsBody}
+use Rattle.isle_tree.specs.Views.{body}
+use Rattle.isle_tree.specs.WellFormed.{IsBody}
 use Rattle.isle_target.proofs.shapes.+shapes.Given as goal
 
 abbrev pub invariant-is_body-loop-s : goal.invariant-is_body-loop-s

@@ -1,7 +1,7 @@
 use Rattle.std.proofs.Common.{drop}
 use Rattle.std.specs.Prelude.{◌↔◌}
 use Rattle.std.specs.List.{AllByRecursion}
-use Rattle.isle_target.specs.WellFormed.{IsRead}
+use Rattle.isle_tree.specs.WellFormed.{IsRead}
 use Rattle.isle_target.proofs.shapes.are_reads.Given as goal
 
 abbrev pub invariant-loop-read : goal.invariant-loop-read

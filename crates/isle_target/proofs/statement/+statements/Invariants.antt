@@ -1,7 +1,7 @@
 use Rattle.std.proofs.Common.{◌≡◌, ◌++◌, drop}
-use Rattle.isle_target.specs.Views.{body}
+use Rattle.isle_tree.specs.Views.{body}
 use Rattle.isle_target.specs.Spelling.{body_tokens}
-use Rattle.isle_target.specs.WellFormed.{IsBody}
+use Rattle.isle_tree.specs.WellFormed.{IsBody}
 use Rattle.isle_target.proofs.statement.+statements.Given as goal
 
 abbrev pub invariant-print_body-loop-s : goal.invariant-print_body-loop-s

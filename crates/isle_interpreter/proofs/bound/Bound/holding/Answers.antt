@@ -1,7 +1,7 @@
 use Rattle.std.proofs.Common.{rules, ◌≡◌, ap, ◌∙◌}
 use Rattle.std.specs.Ordering.{nat_cmp}
 use Rattle.std.specs.BTreeMap.{get}
-use Rattle.isle_target.specs.Run.{look}
+use Rattle.isle_tree.specs.Run.{look}
 use Rattle.isle_interpreter.specs.RunViews.{locals}
 use Rattle.isle_interpreter.specs.Bound.{found_at}
 use Rattle.isle_interpreter.proofs.LastBound.{reads_last}

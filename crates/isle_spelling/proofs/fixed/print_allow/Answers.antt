@@ -1,0 +1,12 @@
+use Rattle.std.proofs.Common.{refl}
+use Rattle.isle_printer.specs.Token.{step, begun}
+use Rattle.isle_spelling.specs.Fixed.{allow_tokens}
+use Rattle.isle_spelling.proofs.fixed.print_allow.Goals as goal
+
+pub fixed-requires : goal.fixed-requires
+unfolding step begun
+fixed-requires c = refl
+
+pub returns : goal.returns
+unfolding allow_tokens
+returns c = c.fixed.ensures

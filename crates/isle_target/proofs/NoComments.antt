@@ -1,0 +1,158 @@
+-- No comment is among the tokens of a program.
+use Rattle.std.proofs.Common.{◌≡◌, ℕ, zero, suc, List, [], ◌∷◌, ◌++◌, Bool, true, false, Option, Some, None, refl, ap, ◌∙◌}
+use Rattle.std.specs.Prelude.{codes, ℤ, pos, negsuc, ◌+◌}
+use Rattle.std.specs.List.{list_all}
+use Rattle.isle_printer.specs.Token.{Token, Word, Mark, Quoted, is_read, step, begun}
+use Rattle.isle_printer.proofs.Comments.{both_read}
+use Rattle.isle_core.specs.Int.{wrapped}
+use Rattle.isle_core.specs.declared.types.IntType.{IntType}
+use Rattle.isle_core.specs.declared.values.Callee.{Callee}
+use Rattle.isle_core.specs.declared.values.Callee.TheVariants as callee
+use Rattle.isle_core.specs.declared.types.ReturnKind.{ReturnKind}
+use Rattle.isle_core.specs.declared.types.ReturnKind.TheVariants as kind
+use Rattle.isle_spelling.specs.Fixed.{allow_tokens, uses_tokens, fixed_tokens}
+use Rattle.isle_spelling.specs.Literal.{literal_tokens}
+use Rattle.isle_tree.specs.declared.tree.Ty.{Ty}
+use Rattle.isle_tree.specs.declared.tree.TraitFn.{TraitFn}
+use Rattle.isle_tree.specs.declared.tree.Operand.{Operand}
+use Rattle.isle_tree.specs.declared.tree.Operand.TheVariants as operand
+use Rattle.isle_tree.specs.declared.tree.Read.{Read}
+use Rattle.isle_tree.specs.declared.tree.Read.TheVariants as read
+use Rattle.isle_tree.specs.declared.tree.TExpr.{TExpr}
+use Rattle.isle_tree.specs.declared.tree.TExpr.TheVariants as expr
+use Rattle.isle_tree.specs.Program.{Stmt, Let, LetList, IfEq, IfLet, Match, Loop, Return, Extend, Overflow, Log, Split, Tail, Body, Done, Then, Function, Program}
+use Rattle.isle_target.specs.Spelling.{truth_token, operand_tokens, read_tokens, args_tokens, call_tokens, expr_tokens, close, let_tokens, return_tokens, if_eq_head, tail_tokens, stmt_tokens, body_tokens, params_tokens, result_tokens, result_part, function_tokens, functions_tokens, allow_part, comma, typed_tokens, joined_tokens, results_tokens, trait_result, trait_fn_tokens, trait_fns_tokens, trait_tokens, program_tokens}
+
+-- none of the tokens is a comment
+abbrev AreRead : List Token → Type 0
+AreRead ts = list_all is_read ts ≡ true
+
+literal_read : (ty : IntType) (z : ℤ) → AreRead (literal_tokens ty z)
+literal_read ty (pos n) = refl
+literal_read ty (negsuc n) = refl
+
+truth_read : (b : Bool) → AreRead (truth_token b ∷ [])
+truth_read true = refl
+truth_read false = refl
+
+operand_read : (o : Operand) → AreRead (operand_tokens o)
+operand_read (operand.Local n) = refl
+operand_read (operand.Arg n) = refl
+operand_read (operand.Bool b) = truth_read b
+operand_read (operand.Int ty z) = literal_read ty (wrapped ty z)
+operand_read (operand.Raw z) = refl
+operand_read (operand.Name name) = refl
+
+read_read : (r : Read) → AreRead (read_tokens r)
+read_read (read.Plain o) = operand_read o
+read_read (read.Borrow o) = refl
+read_read (read.Clone o) = refl
+
+args_read : (rs : List Read) → AreRead (args_tokens rs)
+args_read [] = refl
+args_read (r ∷ rs) = both_read (read_tokens r) (args_tokens rs) (read_read r) (args_read rs)
+
+call_read : (c : Callee) (rs : List Read) → AreRead (call_tokens c rs)
+call_read (callee.External name) rs = args_read rs
+call_read (callee.Internal term) rs = refl
+
+expr_read : (e : TExpr) → AreRead (expr_tokens e)
+expr_read (expr.Read r) = read_read r
+expr_read (expr.Call false call) = call_read call.callee call.args
+expr_read (expr.Call true call) = refl
+expr_read (expr.Variant ty variant fields) = refl
+expr_read (expr.Struct ty fields) = refl
+expr_read (expr.Some r) = both_read (read_tokens r) (Mark (codes ")") ∷ []) (read_read r) refl
+expr_read (expr.Try source false) = both_read (operand_tokens source) (Mark (codes "?") ∷ []) (operand_read source) refl
+expr_read (expr.Try source true) = refl
+expr_read (expr.Tuple o n) = refl
+
+head_read : (a b : Operand) → AreRead (if_eq_head a b)
+head_read a b = both_read (operand_tokens a) _ (operand_read a) (both_read (operand_tokens b) (Mark (codes "{") ∷ []) (operand_read b) refl)
+
+tail_read : (texts : Option (List ℕ × List ℕ)) → AreRead (tail_tokens texts)
+tail_read None = refl
+tail_read (Some texts) = refl
+
+mutual
+  stmt_read : (s : Stmt) → AreRead (stmt_tokens s)
+  stmt_read (Let n e) = both_read (expr_tokens e) (Mark (codes ";") ∷ []) (expr_read e) refl
+  stmt_read (LetList n call) = refl
+  stmt_read (IfEq a b inside) = both_read (if_eq_head a b) (body_tokens inside ++ close) (head_read a b) (both_read (body_tokens inside) close (body_read inside) refl)
+  stmt_read (IfLet p r inside) = refl
+  stmt_read (Match r arms) = refl
+  stmt_read (Loop l i inside) = refl
+  stmt_read (Return e) = both_read (expr_tokens e) (Mark (codes ";") ∷ []) (expr_read e) refl
+  stmt_read (Extend r) = refl
+  stmt_read (Overflow inside) = refl
+  stmt_read (Log t p) = refl
+  stmt_read (Split b inside) = refl
+  stmt_read (Tail texts) = tail_read texts
+
+  body_read : (b : Body) → AreRead (body_tokens b)
+  body_read Done = refl
+  body_read (Then s ss) = both_read (stmt_tokens s) (body_tokens ss) (stmt_read s) (body_read ss)
+
+params_read : (n : ℕ) (tys : List Ty) → AreRead (params_tokens n tys)
+params_read n [] = refl
+params_read n (ty ∷ tys) = params_read (n + 1) tys
+
+result_read : (how : ReturnKind) (ty : List ℕ) → AreRead (result_tokens how ty)
+result_read kind.Plain ty = refl
+result_read kind.Option ty = refl
+result_read kind.Iterator ty = refl
+
+function_read : (f : Function) → AreRead (function_tokens f)
+unfolding function_tokens
+function_read f =
+    both_read (params_tokens 0 f.params) _ (params_read 0 f.params)
+    (both_read (result_part f.kind f.result) _ (both_read (result_tokens f.kind f.result) (Mark (codes "{") ∷ []) (result_read f.kind f.result) refl)
+    (both_read (body_tokens f.body) close (body_read f.body) refl))
+
+functions_read : (fs : List Function) → AreRead (functions_tokens fs)
+functions_read [] = refl
+functions_read (f ∷ fs) = both_read (function_tokens f) (functions_tokens fs) (function_read f) (functions_read fs)
+
+comma_read : (n : ℕ) → AreRead (comma n)
+comma_read zero = refl
+comma_read (suc n) = refl
+
+joined_read : (n : ℕ) (tys : List Ty) → AreRead (joined_tokens n tys)
+joined_read n [] = refl
+joined_read n (ty ∷ tys) = both_read (comma n) (typed_tokens n ty ++ joined_tokens (n + 1) tys) (comma_read n) (joined_read (n + 1) tys)
+
+results_read : (how : ReturnKind) (tys : List (List ℕ)) → AreRead (results_tokens how tys)
+results_read how [] = refl
+results_read how (ty ∷ []) = result_read how ty
+results_read how (ty ∷ more ∷ tys) = refl
+
+trait_fn_read : (f : TraitFn) → AreRead (trait_fn_tokens f)
+unfolding trait_fn_tokens
+trait_fn_read f =
+    both_read (joined_tokens 0 f.params) (trait_result f.kind f.results) (joined_read 0 f.params)
+    (both_read (results_tokens f.kind f.results) (Mark (codes ";") ∷ []) (results_read f.kind f.results) refl)
+
+trait_fns_read : (fs : List TraitFn) → AreRead (trait_fns_tokens fs)
+trait_fns_read [] = refl
+trait_fns_read (f ∷ fs) = both_read (trait_fn_tokens f) (trait_fns_tokens fs) (trait_fn_read f) (trait_fns_read fs)
+
+allow_read : (allow : Bool) → AreRead (allow_part allow)
+unfolding allow_tokens step begun
+allow_read true = refl
+allow_read false = refl
+
+uses_read : AreRead uses_tokens
+unfolding uses_tokens step begun
+uses_read = refl
+
+fixed_read : AreRead fixed_tokens
+unfolding fixed_tokens step begun
+fixed_read = refl
+
+-- a program's tokens are all read
+pub program_read : (p : Program) → AreRead (program_tokens p)
+program_read p =
+    both_read (allow_part p.allow) _ (allow_read p.allow)
+    (both_read uses_tokens _ uses_read
+    (both_read (trait_tokens p.trait_fns) _ (both_read (trait_fns_tokens p.trait_fns) close (trait_fns_read p.trait_fns) refl)
+    (both_read fixed_tokens _ fixed_read (functions_read p.fns))))

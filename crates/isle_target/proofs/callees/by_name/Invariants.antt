@@ -1,6 +1,0 @@
-use Rattle.std.proofs.Common.{drop}
-use Rattle.isle_target.specs.Callees.{FindsCallees}
-use Rattle.isle_target.proofs.callees.by_name.Given as goal
-
-abbrev pub invariant-loop-index : goal.invariant-loop-index
-invariant-loop-index l = FindsCallees (drop l.index l.fn.fns) l.found

@@ -1,0 +1,5 @@
+pub mod Program
+pub mod Views
+pub mod WellFormed
+pub mod Callees
+pub mod Run

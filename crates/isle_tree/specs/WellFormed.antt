@@ -1,0 +1,278 @@
+-- What a program keeps to that has a spelling. What is not built is not well formed.
+use Rattle.std.specs.Prelude.{◌≡◌, ℕ, ◌==◌, nat_lt, List, [], ◌∷◌, ◌++◌, length, map, fold, find, Bool, true, false, is_some, ◌||◌, if◌then◌else◌, IsTrue, IsSome, Option, Some, None, codes}
+use Rattle.std.specs.List.{AllByRecursion, IsDistinct, list_all}
+use Rattle.std.specs.Str.{bytes_eq}
+use Rattle.isle_core.specs.HasType.{IsHeld}
+use Rattle.isle_core.specs.declared.values.Callee.{Callee}
+use Rattle.isle_core.specs.declared.values.Callee.TheVariants as callee
+use Rattle.isle_core.specs.declared.types.ReturnKind.{ReturnKind}
+use Rattle.isle_core.specs.declared.types.ReturnKind.TheVariants as kind
+use Rattle.isle_printer.specs.Token.{is_word_byte}
+use Rattle.isle_printer.specs.Bytes.{same_bytes}
+use Rattle.isle_tree.specs.declared.holds.Holds.{Holds}
+use Rattle.isle_tree.specs.declared.holds.Holds.TheVariants as holds
+use Rattle.isle_tree.specs.declared.tree.Ty.{Ty}
+use Rattle.isle_tree.specs.declared.tree.TCall.{TCall}
+use Rattle.isle_tree.specs.declared.tree.TraitFn.{TraitFn}
+use Rattle.isle_tree.specs.declared.tree.TypeItem.{TypeItem}
+use Rattle.isle_tree.specs.declared.tree.Operand.{Operand}
+use Rattle.isle_tree.specs.declared.tree.Operand.TheVariants as operand
+use Rattle.isle_tree.specs.declared.tree.Read.{Read}
+use Rattle.isle_tree.specs.declared.tree.Read.TheVariants as read
+use Rattle.isle_tree.specs.declared.tree.TExpr.{TExpr}
+use Rattle.isle_tree.specs.declared.tree.TExpr.TheVariants as expr
+use Rattle.isle_spelling.specs.Identifier.{IsIdentifier}
+use Rattle.isle_spelling.specs.Literal.{type_named}
+use Rattle.isle_tree.specs.Program.{Stmt, Let, IfEq, Return, Tail, Body, Done, Then, Function, Program}
+
+-- ---- the forms that are built, and that integers lie in their type
+
+-- an operand
+abbrev pub IsOperand : Operand → Type 0
+IsOperand (operand.Local n) = Unit {0}
+IsOperand (operand.Arg n) = Unit {0}
+IsOperand (operand.Bool b) = Unit {0}
+IsOperand (operand.Int ty z) = IsHeld ty z
+IsOperand o = ⊥
+
+-- a read: the plain operand
+abbrev pub IsRead : Read → Type 0
+IsRead (read.Plain o) = IsOperand o
+IsRead r = ⊥
+
+-- a function of the trait, whose name is a name; calls of functions of the text are not built
+abbrev pub IsCallee : Callee → Type 0
+IsCallee (callee.External name) = IsIdentifier name
+IsCallee (callee.Internal term) = ⊥
+
+-- a call: what is called, and what is read
+pub record IsCall (call : TCall) : Type 0 where
+  pub callee : IsCallee call.callee
+  pub args : AllByRecursion IsRead call.args
+
+-- what is computed: a read, a call without &, an option, or the inner value of one
+abbrev pub IsExpr : TExpr → Type 0
+IsExpr (expr.Read r) = IsRead r
+IsExpr (expr.Call borrow call) = (borrow ≡ false) × IsCall call
+IsExpr (expr.Some r) = IsRead r
+IsExpr (expr.Try source as_ref) = (as_ref ≡ false) × IsOperand source
+IsExpr e = ⊥
+
+-- a statement, and statements in order
+abbrev mutual
+  pub IsStmt : Stmt → Type 0
+  IsStmt (Let n e) = IsExpr e
+  IsStmt (IfEq a b inside) = IsOperand a × IsOperand b × IsBody inside
+  IsStmt (Return e) = IsExpr e
+  IsStmt (Tail texts) = Unit {0}
+  IsStmt s = ⊥
+
+  pub IsBody : Body → Type 0
+  IsBody Done = Unit {0}
+  IsBody (Then s ss) = IsStmt s × IsBody ss
+
+-- ---- what operands hold
+
+-- the locals that are bound and what each holds, the newest last
+abbrev pub Locals : Type 0
+Locals = List (ℕ × Holds)
+
+-- what is bound last counts
+abbrev pub newer : ℕ → Option Holds → ℕ × Holds → Option Holds
+newer n h bound = if bound.0 == n then Some bound.1 else h
+
+-- what a local holds, where it is bound
+abbrev pub local_holds : Locals → ℕ → Option Holds
+local_holds bound n = fold (newer n) None bound
+
+-- what an operand holds, where it is there: an argument lies below the number of parameters
+abbrev pub operand_holds : ℕ → Locals → Operand → Option Holds
+operand_holds params bound (operand.Local n) = local_holds bound n
+operand_holds params bound (operand.Arg n) = if nat_lt n params then Some holds.One else None
+operand_holds params bound o = Some holds.One
+
+-- what is read holds
+abbrev pub read_holds : ℕ → Locals → Read → Option Holds
+read_holds params bound (read.Plain o) = operand_holds params bound o
+read_holds params bound (read.Borrow o) = operand_holds params bound o
+read_holds params bound (read.Clone o) = operand_holds params bound o
+
+-- a value, and no option
+abbrev pub is_value : Option Holds → Bool
+is_value None = false
+is_value (Some holds.One) = true
+is_value (Some holds.Optional) = false
+
+-- each read is of a value
+abbrev pub are_values : ℕ → Locals → List Read → Bool
+are_values params bound rs = list_all (λ r. is_value (read_holds params bound r)) rs
+
+-- what the answer of a function of the kind holds; several answers are not built
+abbrev pub kind_holds : ReturnKind → Option Holds
+kind_holds kind.Plain = Some holds.One
+kind_holds kind.Option = Some holds.Optional
+kind_holds kind.Iterator = None
+
+-- the function of the trait of this name
+abbrev pub trait_fn : List TraitFn → List ℕ → Option TraitFn
+trait_fn fns name = find (λ (f : TraitFn). bytes_eq name f.name) fns
+
+-- the answer of a function of the trait, called with as many arguments as it has parameters
+abbrev pub call_holds : Option TraitFn → ℕ → Option Holds
+call_holds None count = None
+call_holds (Some f) count = if length f.params == count then kind_holds f.kind else None
+
+-- the answer of what is called; calls of functions of the text are not built
+abbrev pub callee_holds : List TraitFn → Callee → ℕ → Option Holds
+callee_holds fns (callee.External name) count = call_holds (trait_fn fns name) count
+callee_holds fns (callee.Internal term) count = None
+
+-- the inner value of an option
+abbrev pub inner_holds : Option Holds → Option Holds
+inner_holds None = None
+inner_holds (Some holds.One) = None
+inner_holds (Some holds.Optional) = Some holds.One
+
+-- what is computed holds, where each operand holds what is asked of it
+abbrev pub expr_holds : List TraitFn → ℕ → Locals → TExpr → Option Holds
+expr_holds fns params bound (expr.Read r) = read_holds params bound r
+expr_holds fns params bound (expr.Call borrow call) = if are_values params bound call.args then callee_holds fns call.callee (length call.args) else None
+expr_holds fns params bound (expr.Some r) = if is_value (read_holds params bound r) then Some holds.Optional else None
+expr_holds fns params bound (expr.Try source as_ref) = inner_holds (operand_holds params bound source)
+expr_holds fns params bound e = None
+
+-- ---- each operand of a statement is there
+
+-- a return gives a value in kind Plain, and an option in kind Option
+abbrev pub GivesKind : ReturnKind → Option Holds → Type 0
+GivesKind kind.Plain (Some holds.One) = Unit {0}
+GivesKind kind.Option (Some holds.Optional) = Unit {0}
+GivesKind kind h = ⊥
+
+-- the locals behind one that is bound
+abbrev pub behind_let : Option Holds → ℕ → Locals → Locals
+behind_let None n bound = bound
+behind_let (Some h) n bound = bound ++ (n, h) ∷ []
+
+-- the locals that are bound behind a statement: none of those inside it
+abbrev pub bound_behind : List TraitFn → ℕ → Stmt → Locals → Locals
+bound_behind fns params (Let n e) bound = behind_let (expr_holds fns params bound e) n bound
+bound_behind fns params s bound = bound
+
+-- a statement, and statements in order, of a function of the kind with this number of parameters
+abbrev mutual
+  pub IsStmtThere : List TraitFn → ReturnKind → ℕ → Locals → Stmt → Type 0
+  IsStmtThere fns kind params bound (Let n e) = IsSome (expr_holds fns params bound e)
+  IsStmtThere fns kind params bound (IfEq a b inside) = IsTrue (is_value (operand_holds params bound a)) × IsTrue (is_value (operand_holds params bound b)) × IsBodyThere fns kind params bound inside
+  IsStmtThere fns kind params bound (Return e) = GivesKind kind (expr_holds fns params bound e)
+  IsStmtThere fns kind params bound (Tail texts) = Unit {0}
+  IsStmtThere fns kind params bound s = ⊥
+
+  pub IsBodyThere : List TraitFn → ReturnKind → ℕ → Locals → Body → Type 0
+  IsBodyThere fns kind params bound Done = Unit {0}
+  IsBodyThere fns kind params bound (Then s ss) = IsStmtThere fns kind params bound s × IsBodyThere fns kind params (bound_behind fns params s bound) ss
+
+-- ---- statements fit the function's kind
+
+-- ? stands only in kind Option
+abbrev pub FitsLet : ReturnKind → TExpr → Type 0
+FitsLet of (expr.Try source as_ref) = of ≡ kind.Option
+FitsLet of e = Unit {0}
+
+-- a return computes a read, or an option of one
+abbrev pub IsReturned : TExpr → Type 0
+IsReturned (expr.Read r) = Unit {0}
+IsReturned (expr.Some r) = Unit {0}
+IsReturned e = ⊥
+
+-- a statement inside a function, and statements in order: no tail is among them
+abbrev mutual
+  pub FitsStmt : ReturnKind → Stmt → Type 0
+  FitsStmt kind (Let n e) = FitsLet kind e
+  FitsStmt kind (IfEq a b inside) = FitsBody kind inside
+  FitsStmt kind (Return e) = IsReturned e
+  FitsStmt kind s = ⊥
+
+  pub FitsBody : ReturnKind → Body → Type 0
+  FitsBody kind Done = Unit {0}
+  FitsBody kind (Then s ss) = FitsStmt kind s × FitsBody kind ss
+
+-- the last statement of a function: a return, or the tail of its kind
+abbrev pub FitsLast : ReturnKind → Stmt → Type 0
+FitsLast kind (Return e) = IsReturned e
+FitsLast kind.Option (Tail None) = Unit {0}
+FitsLast kind.Plain (Tail (Some texts)) = Unit {0}
+FitsLast kind s = ⊥
+
+-- the statements of a function
+abbrev pub FitsFunction : ReturnKind → Body → Type 0
+FitsFunction kind Done = ⊥
+FitsFunction kind (Then s Done) = FitsLast kind s
+FitsFunction kind (Then s (Then t ss)) = FitsStmt kind s × FitsFunction kind (Then t ss)
+
+-- ---- items
+
+-- the name of a term: behind constructor_ it is a name of Rust
+abbrev pub IsTermName : List ℕ → Type 0
+IsTermName term = IsTrue (list_all is_word_byte term)
+
+-- the name of bool or of an integer type
+abbrev pub IsBuiltin : List ℕ → Type 0
+IsBuiltin name = IsTrue (same_bytes (codes "bool") name || is_some (type_named name))
+
+-- the type of a parameter
+abbrev pub IsTy : Ty → Type 0
+IsTy ty = (ty.by_ref ≡ false) × IsBuiltin ty.name
+
+-- how often a function answers
+abbrev pub IsKind : ReturnKind → Type 0
+IsKind kind.Plain = Unit {0}
+IsKind kind.Option = Unit {0}
+IsKind kind.Iterator = ⊥
+
+-- the results of a function of the trait: one
+abbrev pub AreResults : List (List ℕ) → Type 0
+AreResults [] = ⊥
+AreResults (name ∷ []) = IsBuiltin name
+AreResults (name ∷ more ∷ names) = ⊥
+
+-- a function of the trait
+pub record IsTraitFn (f : TraitFn) : Type 0 where
+  pub name : IsIdentifier f.name
+  pub params : AllByRecursion IsTy f.params
+  pub results : AreResults f.results
+  pub kind : IsKind f.kind
+
+-- a declared type; no form of one is built
+abbrev pub IsTypeItem : TypeItem → Type 0
+IsTypeItem t = ⊥
+
+-- the names in the head of a function
+pub record HasNames (f : Function) : Type 0 where
+  pub term : IsTermName f.term
+  pub params : AllByRecursion IsTy f.params
+  pub result : IsBuiltin f.result
+
+-- a function in its program
+pub record IsFunction (p : Program) (f : Function) : Type 0 where
+  pub names : HasNames f
+  pub kind : IsKind f.kind
+  pub forms : IsBody f.body
+  pub there : IsBodyThere p.trait_fns f.kind (length f.params) [] f.body
+  pub fits : FitsFunction f.kind f.body
+
+-- the terms of the functions
+abbrev pub terms : List Function → List (List ℕ)
+terms fs = map (λ (f : Function). f.term) fs
+
+-- the names of the functions of the trait
+abbrev pub fn_names : List TraitFn → List (List ℕ)
+fn_names fs = map (λ (f : TraitFn). f.name) fs
+
+-- each item is of a form that is built, and no two functions have one name
+pub record IsWellFormed (p : Program) : Type 0 where
+  pub trait_fns : AllByRecursion IsTraitFn p.trait_fns
+  pub types : AllByRecursion IsTypeItem p.types
+  pub fns : AllByRecursion (IsFunction p) p.fns
+  pub distinct : IsDistinct bytes_eq (terms p.fns)
+  pub trait_names : IsDistinct bytes_eq (fn_names p.trait_fns)
