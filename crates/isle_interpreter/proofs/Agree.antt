@@ -15,7 +15,7 @@ use Rattle.isle_tree.specs.declared.tree.TExpr.TheVariants as expr
 use Rattle.isle_tree.specs.Program.{Stmt, Let, LetList, IfEq, IfLet, Match, Loop, Return, Extend, Overflow, Log, Split, Tail, Body, Done, Then, Function}
 use Rattle.isle_tree.specs.Run.{Env, Flow, Goes, Ends, Stuck, value_of, read_values, on_value, then_run, behind, run_bind, run_call, run_let, run_stmt, run_body, ended, function_run}
 use Rattle.isle_interpreter.specs.Forms.{Constant, Cases, Turns, forms, IsUnanswered}
-use Rattle.isle_interpreter.specs.Callees.{expr_calls, stmt_calls, body_calls}
+use Rattle.isle_tree.specs.Calls.{expr_calls, stmt_calls, body_calls}
 use Rattle.isle_interpreter.specs.Refusals.{AreAnswered}
 use Rattle.isle_interpreter.proofs.AnswersHold.{goes_same, both_unanswered, no_constants, no_turns, no_cases}
 use Rattle.isle_interpreter.proofs.Answering.{by_turns, by_cases}

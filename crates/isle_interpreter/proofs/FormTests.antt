@@ -11,7 +11,7 @@ use Rattle.isle_tree.specs.Program.{Function, Program}
 use Rattle.isle_interpreter.specs.declared.served.Served.{Served}
 use Rattle.isle_interpreter.specs.Signatures.{Signature, signature_of}
 use Rattle.isle_interpreter.specs.Forms.{Form, answers_for, IsUnanswered, FormFits, IsRight, AreRight}
-use Rattle.isle_interpreter.specs.Callees.{body_calls}
+use Rattle.isle_tree.specs.Calls.{body_calls}
 use Rattle.isle_interpreter.specs.Refusals.{IsMissing, AreAnswered}
 use Rattle.isle_interpreter.specs.Served.{has, is_answered, Serves}
 

@@ -12,7 +12,7 @@ use Rattle.isle_interpreter.specs.declared.run_error.RunError.{RunError}
 use Rattle.isle_interpreter.specs.declared.run_error.RunError.TheVariants as error
 use Rattle.isle_interpreter.specs.Signatures.{type_names, AreNamed}
 use Rattle.isle_interpreter.specs.Forms.{Form, forms, IsRight, AreRight}
-use Rattle.isle_interpreter.specs.Callees.{body_calls}
+use Rattle.isle_tree.specs.Calls.{body_calls}
 use Rattle.isle_interpreter.specs.Refusals.{IsWrongArg, IsWrongForm, MayRun, IsRefused, no_term, arg_count, arg_type, wrong_form, missing}
 use Rattle.isle_interpreter.proofs.WrongNamed.{named_at, not_named}
 

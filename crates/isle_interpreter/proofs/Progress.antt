@@ -26,7 +26,7 @@ use Rattle.isle_tree.specs.Program.{Stmt, Let, LetList, IfEq, IfLet, Match, Loop
 use Rattle.isle_tree.specs.WellFormed as well
 use Rattle.isle_tree.specs.WellFormed.{Locals, IsOperand, IsRead, IsCallee, IsExpr, IsStmt, IsBody, local_holds, operand_holds, read_holds, is_value, are_values, callee_holds, inner_holds, expr_holds, GivesKind, behind_let, bound_behind, IsStmtThere, IsBodyThere, IsReturned, FitsStmt, FitsBody, FitsLast, FitsFunction}
 use Rattle.isle_tree.specs.Run.{Env, Flow, Goes, Ends, Stuck, newer, look, bind, value_of, read_value, read_values, on_value, then_run, behind, run_bind, run_call, run_try, run_let, ends_with, run_return, run_stmt, run_body}
-use Rattle.isle_interpreter.specs.Callees.{expr_calls, stmt_calls, body_calls}
+use Rattle.isle_tree.specs.Calls.{expr_calls, stmt_calls, body_calls}
 use Rattle.isle_interpreter.proofs.AnswersHold.{HoldsIn}
 
 -- ---- locals hold what is said of them

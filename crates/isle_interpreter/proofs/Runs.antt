@@ -18,7 +18,7 @@ use Rattle.isle_tree.specs.WellFormed.{IsTraitFn, IsFunction, IsWellFormed, IsBo
 use Rattle.isle_tree.specs.Run.{ended, function_of, function_run, run}
 use Rattle.isle_interpreter.specs.Signatures.{trait_signature, signature_of, type_names, AreNamed}
 use Rattle.isle_interpreter.specs.Forms.{forms, IsUnanswered, AreRight}
-use Rattle.isle_interpreter.specs.Callees.{body_calls}
+use Rattle.isle_tree.specs.Calls.{body_calls}
 use Rattle.isle_interpreter.specs.Refusals.{MayRun}
 use Rattle.isle_interpreter.proofs.AnswersHold.{HoldsIn, answer_fits, answer_holds}
 use Rattle.isle_interpreter.proofs.Progress.{Answering, function_ends}

@@ -10,7 +10,7 @@ use Rattle.isle_tree.specs.declared.tree.Stmt.{Stmt as CodeStmt}
 use Rattle.isle_tree.specs.declared.tree.Stmt.TheVariants as code
 use Rattle.isle_tree.specs.Views.{stmt, body, arms}
 use Rattle.isle_tree.proofs.Sees.{stmt-match}
-use Rattle.isle_interpreter.specs.Callees.{stmt_calls, body_calls, arms_calls}
+use Rattle.isle_tree.specs.Calls.{stmt_calls, body_calls, arms_calls}
 
 pub match_within : (test : Callee → Bool) (r : Read) (xs ys : List (TPat × List CodeStmt)) (s : CodeStmt) (b : Bool) → s ≡ code.Match r xs → ys ≡ xs → b ≡ list_all test (arms_calls (arms ys)) → b ≡ list_all test (stmt_calls (stmt s))
 match_within test r xs ys s b is same e =

@@ -1,6 +1,5 @@
 pub mod Signatures
 pub mod Forms
-pub mod Callees
 pub mod Refusals
 pub mod Fields
 pub mod RunViews

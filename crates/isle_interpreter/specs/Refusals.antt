@@ -9,7 +9,7 @@ use Rattle.isle_interpreter.specs.declared.run_error.RunError.{RunError}
 use Rattle.isle_interpreter.specs.declared.run_error.RunError.TheVariants as error
 use Rattle.isle_interpreter.specs.Signatures.{type_names, IsNamed, AreNamed}
 use Rattle.isle_interpreter.specs.Forms.{Form, forms, IsUnanswered, IsRight, AreRight}
-use Rattle.isle_interpreter.specs.Callees.{body_calls}
+use Rattle.isle_tree.specs.Calls.{body_calls}
 
 -- the argument of this number is the first that is no value of its parameter's type
 pub record IsWrongArg (names : List (List ℕ)) (args : List Value) (i : ℕ) : Type 0 where

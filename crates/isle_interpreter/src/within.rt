@@ -3,7 +3,7 @@
 ghost use Rattle.std.specs.Prelude.{◌≡◌};
 ghost use Rattle.std.specs.List.{list_all};
 ghost use Rattle.isle_tree.specs.Views.{stmt, body};
-ghost use Rattle.isle_interpreter.specs.Callees.{expr_calls, stmt_calls, body_calls};
+ghost use Rattle.isle_tree.specs.Calls.{expr_calls, stmt_calls, body_calls};
 ghost use Rattle.isle_interpreter.specs.Served.{has};
 
 use crate::served::Served;

@@ -74,6 +74,7 @@ are_lines options files env p term ws f r answers conforms may runs =
       means = means options files env p term (args_given env term ws) answers f r h.id h.declared.term conforms may runs h.among (declared_name files env h.id f h.declared ∙ sym h.named) h.declared.there types;
       program = p;
       conforms = conforms;
+      fits = record { function = f; may = may };
       ran = r;
       runs = runs;
       shown = refl;

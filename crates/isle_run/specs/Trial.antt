@@ -19,6 +19,7 @@ use Rattle.isle_run_inputs.specs.Asked.{asked_term, asked_types}
 use Rattle.isle_run_inputs.specs.Forms.{are_built, answers_at}
 use Rattle.isle_tree.specs.Program.{Program}
 use Rattle.isle_tree.specs.Run.{run}
+use Rattle.isle_interpreter.specs.Judged.{Runs}
 use Rattle.isle_interpreter.specs.Lines.{run_lines}
 use Rattle.isle_emission.specs.Ends.{end_of}
 use Rattle.isle_codegen.specs.Checked.{IsChecked}
@@ -45,7 +46,8 @@ pub record AreOutcome (env : Environment) (id : TermId) (t : Term) (args : List 
   pub shown : lines ≡ run_lines (shown_outcome (is_partial t.kind) outcome)
 
 -- the lines of a run of the term at these arguments, under answers: under every lawful meaning that has the answers they
--- are those of the rules' outcome; and in any case those of the run of a program that conforms to the source
+-- are those of the rules' outcome; and in any case the term, the arguments and the answers fit the function of a program
+-- that conforms to the source, and the lines are those of its run
 pub record AreLines (options : CodegenOptions) (files : Files) (env : Environment) (term : List ℕ) (args : List Value) (answers : Meaning) (lines : List ℕ) : Type 0 where
   pub id : TermId
   pub asked : asked_term env term ≡ Some id
@@ -55,6 +57,7 @@ pub record AreLines (options : CodegenOptions) (files : Files) (env : Environmen
   pub means : (m : Meaning) → IsLawful env id m → HasAnswers m answers → AreOutcome env id declared args m lines
   pub program : Program
   pub conforms : Conforms options files env program
+  pub fits : Runs program term args answers
   pub ran : Ran
   pub runs : run program term args answers ≡ Some ran
   pub shown : lines ≡ run_lines (shown_run env ran)

@@ -28,11 +28,11 @@ IsNotOfIt (Compile options names) files = IfSome files (λ fs. IsNotBuilt no_opt
 IsNotOfIt (Run trace options from term vs answers) files = GivesNoLines (source_name from) term vs answers files trial.NotYet
 IsNotOfIt asked files = ⊥
 
--- why a line is not answered: it is not built, or its inputs are not; an input was not read, the first that is not; a term
--- is not run; or want of memory
+-- why a line is not answered: it is not built, or its inputs are not; it is built, and an input was not read, the first
+-- that is not, or a term is not run; or want of memory
 abbrev pub HasCause : Refusal → Asked → Option Files → (before after : ℕ) → Type 0
 HasCause refusal.NotYet asked files before after = (IsBuilt asked → ⊥) ⊎ IsNotOfIt asked files
-HasCause (refusal.Unread index why) asked files before after = (index < length (inputs_of asked)) × Fails (read.Io index why) files (inputs_of asked) before after
-HasCause (refusal.Halted h) (Run trace options from term vs answers) files before after = GivesNoLines (source_name from) term vs answers files (trial.Halted h)
+HasCause (refusal.Unread index why) asked files before after = IsBuilt asked × (index < length (inputs_of asked)) × Fails (read.Io index why) files (inputs_of asked) before after
+HasCause (refusal.Halted h) (Run trace options from term vs answers) files before after = IsBuilt (Run trace options from term vs answers) × GivesNoLines (source_name from) term vs answers files (trial.Halted h)
 HasCause (refusal.Halted h) asked files before after = ⊥
 HasCause refusal.Memory asked files before after = Unit {0}

@@ -1,6 +1,6 @@
 //! The text that a line asks for.
 
-ghost use Rattle.std.specs.Prelude.{◌≡◌, ◌≤◌, [], ◌∷◌, ℕ, List, IfOk, IfErr, IsOkUnless, IsSomeAnd};
+ghost use Rattle.std.specs.Prelude.{◌≡◌, ◌≤◌, [], ◌∷◌, ℕ, List, Err, IfOk, IfErr, IsOkUnless, IsSomeAnd};
 ghost use Rattle.std.specs.Option.{option_copied};
 ghost use Rattle.std.specs.String.{string_bytes};
 ghost use Rattle.isle_outside.specs.Directory.{Rose};
@@ -24,6 +24,7 @@ use std::alloc::Global;
 pub fn answer<D: Dir>(alloc: Global, command: &Command, dir: &mut D) -> Result<String, Refusal>
     ensures ok { IfOk result (λ text. IsAnswer (seen_command command.now) (D.files dir.old) (string_bytes text)) }
     ensures err { IfErr result (λ e. HasCause e (seen_command command.now) (D.files dir.old) (D.faults dir.old) (D.faults dir.new)) }
+    ensures not_built { (IsBuilt (seen_command command.now) → ⊥) → result ≡ Err Refusal.NotYet }
     ensures complete { (name : List ℕ) → seen_command command.now ≡ Compile no_options (name ∷ []) → IsSomeAnd (D.files dir.old) (λ fs. IsValid fs name) → (Rose (D.faults dir.old) (D.faults dir.new) → ⊥) → IsOkUnless result Refusal.Memory }
     ensures files { D.files dir.new ≡ D.files dir.old }
 {

@@ -7,6 +7,7 @@ ghost use Rattle.isle_values.specs.Views.{seen};
 ghost use Rattle.isle_command_line.specs.Asked.{Run};
 ghost use Rattle.isle_command_line.specs.Lines.{no_options};
 ghost use Rattle.isle_command_line.specs.declared.commands.Source.TheVariants.{File};
+ghost use Rattle.isle_top.specs.Asking.{ArePlain};
 ghost use Rattle.isle_top.specs.Valid.{IsRunOf};
 ghost use Rattle.isle_top.specs.Causes.{HasCause};
 
@@ -17,7 +18,7 @@ use isle_run::{TrialError, trial};
 use isle_values::Written;
 use std::alloc::Global;
 
-/// The lines of a run of the term of the source of this name at the values, under the answers of a file.
+/// Runs the term of the source of this name at the values, which are built, under the answers of a file.
 pub fn ran<D: Dir>(
     alloc: Global,
     source: &str,
@@ -26,6 +27,7 @@ pub fn ran<D: Dir>(
     answers: Option<&str>,
     dir: &mut D,
 ) -> Result<String, Refusal>
+    requires { ArePlain (seen values.now) }
     ensures ok { IfOk result (λ lines. IsRunOf source.now term.now (seen values.now) (option_copied answers.entry) (D.files dir.old) (string_bytes lines)) }
     ensures err { IfErr result (λ e. HasCause e (Run false no_options (File source.now) term.now (seen values.now) (option_copied answers.entry)) (D.files dir.old) (D.faults dir.old) (D.faults dir.new)) }
     ensures files { D.files dir.new ≡ D.files dir.old }

@@ -5,7 +5,7 @@ ghost use Rattle.isle_core.specs.Inputs.{bytes_each};
 ghost use Rattle.isle_command_line.specs.Asked.{Asked, Compile};
 ghost use Rattle.isle_command_line.specs.Lines.{LineS, no_options};
 ghost use Rattle.isle_command_line.specs.Views.{seen_command};
-ghost use Rattle.isle_top.specs.Asking.{Asks};
+ghost use Rattle.isle_top.specs.Asking.{Asks, IsBuilt};
 ghost use Rattle.isle_top.specs.Causes.{HasCause};
 ghost use Rattle.isle_top.specs.Lines.{not_yet_line, write_fault_line, memory_line, Wrote};
 ghost use Rattle.isle_top.specs.Statuses.{IsStatus, IsNoLine, IsUnread, IsHalt};
@@ -52,9 +52,10 @@ pub fn run_words<D: Dir, O: Sink, E: Sink>(
     ensures bad { result.0 ≡ 2 → IsNoLine (bytes_each words.now) (Wrote (E.taken err.old) (E.taken err.new) (E.faults err.old) (E.faults err.new)) }
     ensures no_line { ((asked : Asked) → LineS (bytes_each words.now) asked → ⊥) → (result.0 ≡ 2) ⊎ (result.0 ≡ 12) }
 
-    // Status 14: the line is not built, or its inputs were read and are not.
+    // Status 14: the line is not built, or its inputs were read and are not. A line that is not built ends so, or with 12.
     ensures not_yet { result.0 ≡ 14 → (asked : Asked) × Asks (bytes_each words.now) asked × HasCause Refusal.NotYet asked (D.files dir.old) (D.faults dir.old) (D.faults dir.new) }
     ensures not_yet_line { result.0 ≡ 14 → Wrote (E.taken err.old) (E.taken err.new) (E.faults err.old) (E.faults err.new) not_yet_line }
+    ensures not_built { (asked : Asked) → LineS (bytes_each words.now) asked → (IsBuilt asked → ⊥) → (result.0 ≡ 14) ⊎ (result.0 ≡ 12) }
 
     // Status 5: an input was not read, and the line says which and why.
     ensures unread { result.0 ≡ 5 → (asked : Asked) × Asks (bytes_each words.now) asked × IsUnread asked (D.files dir.old) (D.faults dir.old) (D.faults dir.new)
@@ -116,6 +117,7 @@ fn run_command<D: Dir, O: Sink, E: Sink>(
     ensures part_line { result.0 ≡ 11 → Wrote (E.taken err.old) (E.taken err.new) (E.faults err.old) (E.faults err.new) write_fault_line }
     ensures untouched { result.0 ≢ 0 → result.0 ≢ 11 → O.taken out.new ≡ O.taken out.old }
     ensures known { result.0 ≢ 2 }
+    ensures not_built { (IsBuilt (seen_command asked.now) → ⊥) → result.0 ≡ 14 }
     ensures not_yet { result.0 ≡ 14 → HasCause Refusal.NotYet (seen_command asked.now) (D.files dir.old) (D.faults dir.old) (D.faults dir.new) }
     ensures not_yet_line { result.0 ≡ 14 → Wrote (E.taken err.old) (E.taken err.new) (E.faults err.old) (E.faults err.new) not_yet_line }
     ensures unread { result.0 ≡ 5 → IsUnread (seen_command asked.now) (D.files dir.old) (D.faults dir.old) (D.faults dir.new)

@@ -3,3 +3,4 @@ pub mod Views
 pub mod WellFormed
 pub mod Callees
 pub mod Run
+pub mod Calls

@@ -2,7 +2,7 @@ use Rattle.std.proofs.Common.{rules, ◌≡◌, [], true, false, inr}
 use Rattle.std.specs.List.{list_all}
 use Rattle.isle_core.specs.ValueViews.{meaning}
 use Rattle.isle_tree.specs.Views.{function, program}
-use Rattle.isle_interpreter.specs.Callees.{body_calls}
+use Rattle.isle_tree.specs.Calls.{body_calls}
 use Rattle.isle_interpreter.specs.Forms.{forms, AreRight}
 use Rattle.isle_interpreter.specs.Served.{has}
 use Rattle.isle_interpreter.proofs.FormTests.{are_answered, is_missing}

@@ -1,7 +1,7 @@
 use Rattle.std.proofs.Common.{ap, sym, ◌∙◌}
 use Rattle.std.specs.List.{list_all}
 use Rattle.isle_tree.specs.Views.{body}
-use Rattle.isle_interpreter.specs.Callees.{body_calls}
+use Rattle.isle_tree.specs.Calls.{body_calls}
 use Rattle.isle_interpreter.specs.Served.{has}
 use Rattle.isle_interpreter.proofs.WithinArms.{arm_without, arms_within, match_within}
 use Rattle.isle_interpreter.proofs.within.+within.Goals as goal

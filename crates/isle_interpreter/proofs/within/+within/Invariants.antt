@@ -1,7 +1,7 @@
 use Rattle.std.proofs.Common.{◌≡◌, drop}
 use Rattle.std.specs.List.{list_all}
 use Rattle.isle_tree.specs.Views.{body, arms}
-use Rattle.isle_interpreter.specs.Callees.{body_calls, arms_calls}
+use Rattle.isle_tree.specs.Calls.{body_calls, arms_calls}
 use Rattle.isle_interpreter.specs.Served.{has}
 use Rattle.isle_interpreter.proofs.within.+within.Given as goal
 
