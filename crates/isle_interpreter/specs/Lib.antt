@@ -12,7 +12,6 @@ pub mod SignatureViews
 pub mod Served
 pub mod FormViews
 pub mod Judged
-pub mod Bound
 pub mod Sources
 pub mod Called
 pub mod Frames

@@ -1,7 +1,6 @@
 //! Runs of target programs under given answers.
 #![tactic(auto)]
 
-mod binding;
 mod bound;
 mod called;
 mod calls;

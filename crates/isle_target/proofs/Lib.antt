@@ -1,6 +1,5 @@
 pub mod Functions
 pub mod Ending
-pub mod Newest
 pub mod TypeNames
 pub mod Prints
 pub mod Words

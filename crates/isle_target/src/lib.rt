@@ -4,7 +4,6 @@
 mod bound;
 mod call;
 mod context;
-mod entry;
 mod fits;
 mod forms;
 mod function;

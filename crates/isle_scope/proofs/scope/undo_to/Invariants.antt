@@ -1,6 +1,6 @@
 use Rattle.std.proofs.Common.{◌≡◌, take, length}
-use Rattle.isle_interpreter.specs.Bound.{Finds}
-use Rattle.isle_interpreter.proofs.bound.undo_to.Given as goal
+use Rattle.isle_scope.specs.Log.{Finds}
+use Rattle.isle_scope.proofs.scope.undo_to.Given as goal
 
 abbrev pub invariant-loop-log : goal.invariant-loop-log
 invariant-loop-log l = Finds l.log.items l.places × (take l.len l.log.items ≡ take l.len l.fn.log.items)

@@ -1,0 +1,99 @@
+-- Where a local is bound last, as it is bound and goes out of scope.
+use Rattle.std.proofs.Common.{◌≡◌, ℕ, zero, suc, ◌+◌, List, [], ◌∷◌, ◌++◌, length, take, map, Bool, true, false, cond, Option, Some, None, ⊎_elim, ◌⊎◌, inl, inr, refl, sym, ap, ◌∙◌, append_assoc, subst, arith}
+use Rattle.std.specs.Prelude.{◌==◌, IsSome, if◌then◌else◌}
+use Rattle.std.specs.Ordering.{nat_cmp, is_eq}
+use Rattle.std.specs.BTreeMap.{BTreeMap, get, Updates, is_at}
+use Rattle.std.specs.Cmp.{Equal-is, nat_cmp_is}
+use Rattle.std.specs.declared.cmp.Ordering.TheVariants.{Equal}
+use Rattle.std.proofs.lemmas.Bool.{eq-eqb, ne_eqb}
+use Rattle.std.proofs.lemmas.List.{append-nil, map-append, length-map}
+use Rattle.std.proofs.lemmas.Map.Lookups.{exact_unsigned}
+use Rattle.isle_scope.specs.declared.entry.Entry.{Entry}
+use Rattle.isle_scope.specs.Scope.{last_from, last_place}
+use Rattle.isle_scope.specs.Log.{locals_of, Undoes, Finds}
+
+-- ---- one local more
+
+from_more : (place : ℕ) (known : Option ℕ) (ls : List ℕ) (l n : ℕ)
+    → last_from place known (ls ++ l ∷ []) n ≡ (if l == n then Some (place + length ls) else last_from place known ls n)
+from_more place known [] l n = ap (λ p. if l == n then Some p else known) {y = place + 0} (omega arith)
+from_more place known (x ∷ ls) l n =
+    from_more (suc place) (if x == n then Some place else known) ls l n
+    ∙ ap (λ p. if l == n then Some p else last_from (suc place) (if x == n then Some place else known) ls n) {y = place + suc (length ls)} (omega arith)
+
+-- the local that is bound
+last_now : (ls : List ℕ) (l n : ℕ) → l ≡ n → last_place (ls ++ l ∷ []) n ≡ Some (length ls)
+last_now ls l n e = from_more 0 None ls l n ∙ rw (eq-eqb l n e) (ap Some {x = 0 + length ls} {y = length ls} (omega arith))
+
+-- another
+last_still : (ls : List ℕ) (l n : ℕ) → (l ≡ n → ⊥) → last_place (ls ++ l ∷ []) n ≡ last_place ls n
+last_still ls l n apart = from_more 0 None ls l n ∙ rw (ne_eqb l n apart) refl
+
+-- ---- the log
+
+locals_more : (log : List Entry) (e : Entry) → locals_of (log ++ e ∷ []) ≡ locals_of log ++ e.local ∷ []
+locals_more log e = map-append _ log (e ∷ [])
+
+-- with an entry more
+undoes_more : (bound : List ℕ) (log : List Entry) (e : Entry) → Undoes bound log → e.hidden ≡ last_place (bound ++ locals_of log) e.local → Undoes bound (log ++ e ∷ [])
+undoes_more bound [] e h was = (subst (λ (ls : List ℕ). e.hidden ≡ last_place ls e.local) (append-nil bound) was, tt)
+undoes_more bound (x ∷ log) e h was =
+    (h.0, undoes_more (bound ++ x.local ∷ []) log e h.1 (subst (λ (ls : List ℕ). e.hidden ≡ last_place ls e.local) (sym (append_assoc bound (x.local ∷ []) (locals_of log))) was))
+
+-- and with one less
+undoes_less : (bound : List ℕ) (log : List Entry) (e : Entry) → Undoes bound (log ++ e ∷ []) → Undoes bound log × (e.hidden ≡ last_place (bound ++ locals_of log) e.local)
+undoes_less bound [] e h = (tt, subst (λ (ls : List ℕ). e.hidden ≡ last_place ls e.local) (sym (append-nil bound)) h.0)
+undoes_less bound (x ∷ log) e h =
+    let k = undoes_less (bound ++ x.local ∷ []) log e h.1 in
+    ((h.0, k.0), subst (λ (ls : List ℕ). e.hidden ≡ last_place ls e.local) (append_assoc bound (x.local ∷ []) (locals_of log)) k.1)
+
+-- ---- the map
+
+differ : (n : ℕ) → is_at (nat_cmp n) n ≡ false → ⊥
+differ n e = let same : true ≡ is_eq (nat_cmp n n) = ap is_eq (nat_cmp_is n n Equal refl) in absurd cc
+
+-- what the map has behind an update
+got : (old new : BTreeMap ℕ ℕ) (y n : ℕ) (o : Option ℕ) → Updates nat_cmp old new y o → ((y ≡ n) × (get nat_cmp new n ≡ o)) ⊎ ((y ≡ n → ⊥) × (get nat_cmp new n ≡ get nat_cmp old n))
+got old new y n o u = one (is_at (nat_cmp y) n) refl
+  where
+    one : (b : Bool) → is_at (nat_cmp y) n ≡ b → ((y ≡ n) × (get nat_cmp new n ≡ o)) ⊎ ((y ≡ n → ⊥) × (get nat_cmp new n ≡ get nat_cmp old n))
+    one true is =
+        let same : y ≡ n = exact_unsigned y n ((Equal-is (nat_cmp y n)).0 is) in
+        inl (same, u.0 n ∙ ap (λ b. cond b o (get nat_cmp old n)) is)
+    one false is = inr (λ e. differ n (subst (λ x. is_at (nat_cmp x) n ≡ false) e is), u.2 n is)
+
+-- a local is bound
+pub finds_more : (log : List Entry) (old new : BTreeMap ℕ ℕ) (e : Entry) (place : ℕ) → Finds log old → e.hidden ≡ get nat_cmp old e.local → place ≡ length log → Updates nat_cmp old new e.local (Some place) → Finds (log ++ e ∷ []) new
+finds_more log old new e place f was is u = record {
+  now = λ n.
+      ⊎_elim
+      (λ same. same.1 ∙ ap Some (is ∙ sym (length-map log (λ (x : Entry). x.local))) ∙ sym (last_now (locals_of log) e.local n same.0))
+      (λ other. other.1 ∙ f.now n ∙ sym (last_still (locals_of log) e.local n other.0))
+      (got old new e.local n (Some place) u)
+      ∙ ap (λ (ls : List ℕ). last_place ls n) (sym (locals_more log e));
+  before = undoes_more [] log e f.before (was ∙ f.now e.local);
+}
+
+-- a local goes out of scope
+pub finds_less : (log : List Entry) (old new : BTreeMap ℕ ℕ) (e : Entry) → Finds (log ++ e ∷ []) old → Updates nat_cmp old new e.local e.hidden → Finds log new
+finds_less log old new e f u = record {
+  now = λ n. ⊎_elim
+      (λ same. same.1 ∙ k.1 ∙ ap (last_place (locals_of log)) same.0)
+      (λ other. other.1 ∙ f.now n ∙ ap (λ (ls : List ℕ). last_place ls n) (locals_more log e) ∙ last_still (locals_of log) e.local n other.0)
+      (got old new e.local n e.hidden u);
+  before = k.0;
+}
+  where
+    k : Undoes [] log × (e.hidden ≡ last_place (locals_of log) e.local)
+    k = undoes_less [] log e f.before
+
+-- the last local is bound
+pub last_is : (log : List Entry) (old : BTreeMap ℕ ℕ) (e : Entry) → Finds (log ++ e ∷ []) old → IsSome (get nat_cmp old e.local)
+last_is log old e f =
+    subst IsSome (sym (f.now e.local ∙ ap (λ (ls : List ℕ). last_place ls e.local) (locals_more log e) ∙ last_now (locals_of log) e.local e.local refl)) refl
+
+-- fewer locals
+pub locals-take : (n : ℕ) (log : List Entry) → locals_of (take n log) ≡ take n (locals_of log)
+locals-take zero log = refl
+locals-take (suc n) [] = refl
+locals-take (suc n) (e ∷ log) = ap (λ (ls : List ℕ). e.local ∷ ls) (locals-take n log)

@@ -1,0 +1,20 @@
+-- How the code finds where a local was bound.
+use Rattle.std.specs.Prelude.{◌≡◌, ℕ, List, [], ◌∷◌, ◌++◌, map}
+use Rattle.std.specs.Ordering.{nat_cmp}
+use Rattle.std.specs.BTreeMap.{BTreeMap, get}
+use Rattle.isle_scope.specs.declared.entry.Entry.{Entry}
+use Rattle.isle_scope.specs.Scope.{last_place}
+
+-- the locals of a log
+abbrev pub locals_of : List Entry → List ℕ
+locals_of log = map (λ (e : Entry). e.local) log
+
+-- each entry behind these locals has where its local was bound before it
+abbrev pub Undoes : List ℕ → List Entry → Type 0
+Undoes bound [] = Unit {0}
+Undoes bound (e ∷ es) = (e.hidden ≡ last_place bound e.local) × Undoes (bound ++ e.local ∷ []) es
+
+-- the map has where each local is bound last, and the log where it was bound before
+pub record Finds (log : List Entry) (places : BTreeMap ℕ ℕ) : Type 0 where
+  pub now : (n : ℕ) → get nat_cmp places n ≡ last_place (locals_of log) n
+  pub before : Undoes [] log

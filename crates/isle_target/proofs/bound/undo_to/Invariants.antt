@@ -1,9 +1,0 @@
-use Rattle.std.proofs.Common.{◌≡◌, take, length}
-use Rattle.isle_target.specs.Bound.{Finds}
-use Rattle.isle_target.proofs.bound.undo_to.Given as goal
-
-abbrev pub invariant-loop-log : goal.invariant-loop-log
-invariant-loop-log l = Finds l.log.items l.held × (take l.len l.log.items ≡ take l.len l.fn.log.items)
-
-abbrev pub decreases-loop-log : goal.decreases-loop-log
-decreases-loop-log l = length l.log.items
