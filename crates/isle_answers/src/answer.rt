@@ -99,7 +99,7 @@ fn answer_list(
     answer_behind(tokens, alloc, most, depth, head)
 }
 
-/// An answer whose parentheses nest at most `depth` deep, its lists of at most `most` tokens.
+/// Reads an answer whose parentheses nest at most `depth` deep, its lists of at most `most` tokens.
 #[tactic(auto, using(crate::proofs::Choices::answer_choice))]
 pub fn answer(
     tokens: &mut Tokens<'_>,

@@ -77,7 +77,7 @@ fn rest(
     Ok(found)
 }
 
-/// Cases, the rest, and the closing parenthesis behind it, of at most `most` tokens.
+/// Reads cases, the rest, and the closing parenthesis behind it, of at most `most` tokens.
 #[tactic(auto, using(crate::proofs::CaseSteps::cases_steps))]
 pub fn cases(
     tokens: &mut Tokens<'_>,

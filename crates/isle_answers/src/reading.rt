@@ -237,7 +237,7 @@ fn max_behind(max: bool, form: &Form) -> bool
     }
 }
 
-/// The forms of a file of at most `most` tokens, up to its end.
+/// Reads the forms of a file of at most `most` tokens, up to its end.
 #[tactic(auto, using(isle_reading::proofs::ListSteps::alls), unfolding(crate::specs::Reading::read_forms))]
 pub fn all_forms(tokens: &mut Tokens<'_>, alloc: Global, most: usize) -> Result<Vec<Form>, Fail>
     ensures { Reads (λ read. forms_seen read.items) result (read_forms most) (left tokens.old) (left tokens.new) }

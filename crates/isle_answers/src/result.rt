@@ -20,7 +20,7 @@ pub enum ResultHead {
     Made(Text),
 }
 
-/// What a result's list is that begins with the word.
+/// Returns what a result's list is that begins with the word.
 pub fn result_head_of(alloc: Global, word: &str) -> Result<Option<ResultHead>, AllocError>
     ensures { IfOk result (λ read. option_map result_head_seen read ≡ result_head_of word.now) }
 {
@@ -58,7 +58,7 @@ fn result_head(tokens: &mut Tokens<'_>, alloc: Global) -> Result<ResultHead, Fai
     }
 }
 
-/// A result of one word.
+/// Reads a result of one word.
 #[tactic(auto, using(isle_reading::proofs::Steps::chain), unfolding(crate::specs::Reading::read_simple_result))]
 pub fn simple_result(tokens: &mut Tokens<'_>) -> Result<ResultForm, Fail>
     ensures { Reads result_seen result read_simple_result (left tokens.old) (left tokens.new) }
@@ -66,7 +66,7 @@ pub fn simple_result(tokens: &mut Tokens<'_>) -> Result<ResultForm, Fail>
     Ok(ResultForm::One(simple(tokens)?))
 }
 
-/// What stands behind the first word of a result's list.
+/// Reads what stands behind the first word of a result's list.
 #[tactic(auto, using(isle_reading::proofs::Steps::chain, isle_values::proofs::Sees::sees), unfolding(crate::specs::Reading::read_result_behind))]
 pub fn result_behind(
     tokens: &mut Tokens<'_>,
@@ -99,7 +99,7 @@ fn result_list(
     result_behind(tokens, alloc, most, depth, head)
 }
 
-/// A result whose parentheses nest at most `depth` deep, its lists of at most `most` tokens.
+/// Reads a result whose parentheses nest at most `depth` deep, its lists of at most `most` tokens.
 #[tactic(auto, using(crate::proofs::Choices::result_choice))]
 pub fn result(
     tokens: &mut Tokens<'_>,
@@ -120,7 +120,7 @@ pub fn result(
     }
 }
 
-/// Results up to a closing parenthesis, which is taken, of at most `most` tokens.
+/// Reads results up to a closing parenthesis, which is taken, of at most `most` tokens.
 #[tactic(auto, using(isle_reading::proofs::ListSteps::lists))]
 pub fn results(
     tokens: &mut Tokens<'_>,

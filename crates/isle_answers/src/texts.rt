@@ -36,8 +36,8 @@ fn of_tokens(alloc: Global, tokens: &[Token<'_>], end: usize) -> Result<Vec<Form
     }
 }
 
-/// The forms of the answers file that a text spells, in order. `At` comes exactly where it spells none, with the place
-/// where it goes wrong.
+/// Returns the forms of the answers file that a text spells, in order. `At` comes exactly where it spells none, with
+/// the place where it goes wrong.
 pub fn forms(alloc: Global, text: &str) -> Result<List<Form>, AnswersFail>
     ensures spelt { IfOk result (λ read. SpellsForms text.now (forms_seen read)) }
     ensures only { IfOk result (λ read. (others : List PureForm) → SpellsForms text.now others → others ≡ forms_seen read) }

@@ -128,7 +128,7 @@ fn ended(alloc: Global, turns: &mut Vec<AnswerForm>) -> Result<Option<AnswerForm
     }
 }
 
-/// Turns, the rest, and the closing parenthesis behind it, of at most `most` tokens.
+/// Reads turns, the rest, and the closing parenthesis behind it, of at most `most` tokens.
 #[tactic(auto, using(crate::proofs::TurnSteps::turns_steps))]
 pub fn turns(
     tokens: &mut Tokens<'_>,

@@ -8,7 +8,7 @@ use std::alloc::{AllocError, Global};
 /// The most digits of a count.
 const MOST_DIGITS: usize = 18;
 
-/// The number that 1 to 18 decimal digits spell.
+/// Returns the number that 1 to 18 decimal digits spell.
 #[tactic(auto, unfolding(crate::specs::Words::count_of))]
 pub fn count_of(word: &str) -> Option<usize>
     ensures { result ≡ count_of word.now }
@@ -37,7 +37,7 @@ fn behind<'a>(word: &'a str, prefix: &str) -> Option<&'a str>
     if name.is_empty() { None } else { Some(name) }
 }
 
-/// What is called, where the word is `C::F` or `constructor_T`.
+/// Returns what is called, where the word is `C::F` or `constructor_T`.
 #[tactic(auto, unfolding(crate::specs::Words::callee_of))]
 pub fn callee_of(alloc: Global, word: &str) -> Result<Option<Callee>, AllocError>
     ensures { IfOk result (λ callee. callee ≡ callee_of word.now) }
@@ -51,7 +51,7 @@ pub fn callee_of(alloc: Global, word: &str) -> Result<Option<Callee>, AllocError
     Ok(None)
 }
 
-/// Whether a list that begins with the word is a form of its own where an answer or a result stands.
+/// Tells whether a list that begins with the word is a form of its own where an answer or a result stands.
 pub fn is_reserved(word: &str) -> bool
     ensures { result ≡ is_reserved word.now }
 {

@@ -12,8 +12,8 @@ use crate::state::{State, WordFail, next};
 use isle_core::{CodegenOptions, List, Text};
 use std::alloc::Global;
 
-/// What a line of words asks for. `Bad` gives the number of the first word with which no line continues; words that
-/// are `Missing` something begin a line, and are none.
+/// Returns what a line of words asks for. `Bad` gives the number of the first word with which no line continues; words
+/// that are `Missing` something begin a line, and are none.
 pub fn command(alloc: Global, words: &[String]) -> Result<Command, LineFail>
     ensures line { IfOk result (λ c. LineS (bytes_each words.now) (seen_command c)) }
     ensures only { IfOk result (λ c. (other : Asked) → LineS (bytes_each words.now) other → other ≡ seen_command c) }

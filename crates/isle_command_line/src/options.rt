@@ -12,7 +12,7 @@ use crate::word::{OptionWord, count, is_name, mark};
 use isle_core::{CodegenOptions, List, Prefix, Text};
 use std::alloc::Global;
 
-/// What is known behind a word that stands where an option or the first name may.
+/// Returns what is known behind a word that stands where an option or the first name may.
 pub fn option(
     alloc: Global,
     verb: Verb,
@@ -73,7 +73,7 @@ fn chosen(verb: Verb, mut options: CodegenOptions, mark: OptionWord) -> Result<S
     }
 }
 
-/// What is known behind a threshold.
+/// Returns what is known behind a threshold.
 pub fn threshold(verb: Verb, mut options: CodegenOptions, word: &str) -> Result<State, WordFail>
     ensures next { IfOk result (λ s. next (known.Threshold verb options) word.now ≡ Some (seen_state s)) }
     ensures bad { result ≡ Err Bad → next (known.Threshold verb options) word.now ≡ None }
@@ -96,7 +96,7 @@ fn parts(word: &str) -> Option<(&str, &str)>
     word.split_once('=')
 }
 
-/// What is known behind a prefix.
+/// Returns what is known behind a prefix.
 pub fn prefix(
     alloc: Global,
     verb: Verb,
@@ -150,7 +150,7 @@ fn prefixed(
     Ok(State::Options(verb, options))
 }
 
-/// What is known behind one name more.
+/// Returns what is known behind one name more.
 pub fn one_name(
     alloc: Global,
     options: CodegenOptions,

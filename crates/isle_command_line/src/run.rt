@@ -16,7 +16,7 @@ use isle_core::{CodegenOptions, List, OutOfMemory, Text};
 use isle_values::Written;
 use std::alloc::{AllocError, Global};
 
-/// What is known behind a word that stands where `--trace` may.
+/// Returns what is known behind a word that stands where `--trace` may.
 pub fn run(alloc: Global, word: &str) -> Result<State, WordFail>
     ensures next { IfOk result (λ s. next known.Run word.now ≡ Some (seen_state s)) }
     ensures bad { result ≡ Err Bad → next known.Run word.now ≡ None }
@@ -53,7 +53,7 @@ fn source(alloc: Global, word: &str) -> Result<Option<Source>, AllocError>
     }
 }
 
-/// What is known behind a source.
+/// Returns what is known behind a source.
 pub fn sourced(
     alloc: Global,
     trace: bool,
@@ -69,7 +69,7 @@ pub fn sourced(
     }
 }
 
-/// What is known behind a term.
+/// Returns what is known behind a term.
 pub fn term(
     alloc: Global,
     trace: bool,
@@ -94,7 +94,7 @@ fn spelt(alloc: Global, word: &str) -> Result<Option<List<Written>>, OutOfMemory
     isle_values::values(alloc, word)
 }
 
-/// What is known behind values.
+/// Returns what is known behind values.
 pub fn values(
     alloc: Global,
     trace: bool,
@@ -112,7 +112,7 @@ pub fn values(
     }
 }
 
-/// What is known behind a word that follows values.
+/// Returns what is known behind a word that follows values.
 pub fn behind(
     trace: bool,
     options: CodegenOptions,
@@ -131,7 +131,7 @@ pub fn behind(
     }
 }
 
-/// What is known behind a file of answers.
+/// Returns what is known behind a file of answers.
 pub fn answers(
     alloc: Global,
     trace: bool,

@@ -94,7 +94,7 @@ impl From<OutOfMemory> for WordFail {
     }
 }
 
-/// What is known behind one word more.
+/// Returns what is known behind one word more.
 pub fn next(alloc: Global, state: State, word: &str) -> Result<State, WordFail>
     ensures next { IfOk result (λ s. next (seen_state state) word.now ≡ Some (seen_state s)) }
     ensures bad { result ≡ Err Bad → next (seen_state state) word.now ≡ None }

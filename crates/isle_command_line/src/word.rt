@@ -31,7 +31,7 @@ pub enum OptionWord {
     Other,
 }
 
-/// What the first word is.
+/// Returns what the first word is.
 #[tactic(auto, unfolding(crate::specs::Reading::first))]
 pub fn first(word: &str) -> FirstWord
     ensures { result ≡ first word.now }
@@ -49,7 +49,7 @@ pub fn first(word: &str) -> FirstWord
     }
 }
 
-/// The option that a word names.
+/// Returns the option that a word names.
 #[tactic(auto, unfolding(crate::specs::Reading::mark))]
 pub fn mark(word: &str) -> OptionWord
     ensures { result ≡ mark word.now }
@@ -64,7 +64,7 @@ pub fn mark(word: &str) -> OptionWord
     }
 }
 
-/// The kind of prelude that a word names.
+/// Returns the kind of prelude that a word names.
 #[tactic(auto, unfolding(crate::specs::Reading::kind_of))]
 pub fn kind_of(word: &str) -> Option<Kind>
     ensures { result ≡ kind_of word.now }
@@ -82,14 +82,14 @@ pub fn kind_of(word: &str) -> Option<Kind>
     }
 }
 
-/// Whether a word may name an input or a unit.
+/// Tells whether a word may name an input or a unit.
 pub fn is_name(word: &str) -> bool
     ensures { result ≡ is_name word.now }
 {
     !word.is_empty() && !word.starts_with("--")
 }
 
-/// Whether a word asks for a trace.
+/// Tells whether a word asks for a trace.
 #[tactic(auto, unfolding(crate::specs::Reading::is_trace))]
 pub fn is_trace(word: &str) -> bool
     ensures { result ≡ is_trace word.now }
@@ -97,7 +97,7 @@ pub fn is_trace(word: &str) -> bool
     word == "--trace"
 }
 
-/// Whether a file of answers is named behind a word.
+/// Tells whether a file of answers is named behind a word.
 #[tactic(auto, unfolding(crate::specs::Reading::is_answers))]
 pub fn is_answers(word: &str) -> bool
     ensures { result ≡ is_answers word.now }
@@ -105,7 +105,7 @@ pub fn is_answers(word: &str) -> bool
     word == "--answers"
 }
 
-/// The number that a word of 1 to 18 digits spells.
+/// Returns the number that a word of 1 to 18 digits spells.
 #[tactic(auto, unfolding(crate::specs::Reading::count))]
 pub fn count(word: &str) -> Option<usize>
     ensures { result ≡ count word.now }

@@ -61,7 +61,7 @@ fn held_at(held: &[Holding], place: Option<usize>) -> Option<&Holding>
 }
 
 impl Bound {
-    /// No local.
+    /// Makes a scope with no local.
     pub fn new(alloc: Global) -> Bound
         ensures { result ≡ [] }
     {
@@ -71,14 +71,14 @@ impl Bound {
         }
     }
 
-    /// How many were bound, each time that one was.
+    /// Returns how many were bound, each time that one was.
     pub fn len(&self) -> usize
         ensures { result ≡ length self.now }
     {
         self.held.len()
     }
 
-    /// What a local holds, where it is bound.
+    /// Returns what a local holds, where it is bound.
     pub fn holding(&self, local: usize) -> Option<&Holding>
         ensures { found result ≡ look (locals self.now) local }
     {

@@ -37,7 +37,7 @@ impl<'a> Model for Calls<'a> {
 }
 
 impl<'a> Calls<'a> {
-    /// No calls, with what they are to be answered.
+    /// Begins with no calls made, and takes what they are to be answered.
     pub fn new(alloc: Global, answers: &'a Answers) -> Result<Calls<'a>, AllocError>
         ensures { IfOk result (λ c. c ≡ record { answers = answers.now; made = [] }) }
     {
@@ -70,7 +70,7 @@ impl<'a> Calls<'a> {
         Ok(holding)
     }
 
-    /// The calls made.
+    /// Returns the calls made.
     pub fn into_vec(self) -> Vec<CallMade>
         ensures { result.items ≡ self.entry.made }
     {

@@ -13,7 +13,7 @@ use crate::value::{copied, same, text_copied};
 use isle_core::{Answer, Callee, PureAnswers, Value};
 use std::alloc::{AllocError, Global};
 
-/// A copy of what a call goes to.
+/// Copies what a call goes to.
 pub fn callee_copied(alloc: Global, callee: &Callee) -> Result<Callee, AllocError>
     ensures { IfOk result (λ copy. copy ≡ callee.now) }
 {
@@ -79,7 +79,7 @@ fn case_holding(alloc: Global, answers: &PureAnswers, args: &[Value]) -> Result<
     answer_holding(alloc, &answers.rest)
 }
 
-/// What a call is answered by a callee that has these answers.
+/// Returns what a call is answered by a callee that has these answers.
 pub fn answered(
     alloc: Global,
     given: Option<Source<'_>>,

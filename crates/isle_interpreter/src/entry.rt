@@ -15,7 +15,7 @@ use isle_spelling::is_same;
 use isle_tree::Function;
 use std::alloc::{AllocError, Global};
 
-/// The function of a term.
+/// Returns the function of a term.
 pub fn function_of<'p>(fns: &'p [Function], term: &str) -> Option<&'p Function>
     ensures { option_map (λ f. function f.now) result ≡ function_of term.now (map function fns.now) }
 {
@@ -27,7 +27,7 @@ pub fn function_of<'p>(fns: &'p [Function], term: &str) -> Option<&'p Function>
     None
 }
 
-/// The run of a function, where it has one.
+/// Runs a function, where it has a run. The only error is want of memory.
 pub fn run_function(
     alloc: Global,
     f: &Function,

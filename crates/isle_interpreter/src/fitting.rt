@@ -14,7 +14,7 @@ use isle_core::{Answers, Outcome, Value};
 use isle_tree::{Function, Program};
 use std::alloc::Global;
 
-/// The run. The only error is want of memory.
+/// Runs the function. The only error is want of memory.
 #[tactic(auto, using(crate::proofs::Founds::run_is, crate::proofs::Founds::not_none))]
 pub fn run_fitting(
     alloc: Global,

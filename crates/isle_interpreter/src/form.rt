@@ -17,7 +17,7 @@ pub enum Form<'a> {
     Turns(&'a TurnAnswers),
 }
 
-/// The form of this number.
+/// Returns the form of this number.
 pub fn form_at(answers: &Answers, index: usize) -> Form<'_>
     requires { index < length answers.now.consts + length answers.now.pure + length answers.now.turns }
     ensures { slice_get (forms (meaning answers.now)) index ≡ Some (form result) }
@@ -62,7 +62,7 @@ fn turns_fit(given: &TurnAnswers, of: &Signature<'_>) -> bool
 }
 
 impl<'a> Form<'a> {
-    /// What the form answers for: a constant's value for no callee.
+    /// Returns what the form answers for: a constant's value for no callee.
     pub fn callee(&self) -> Option<&'a Callee>
         ensures { option_map (λ callee. callee.now) result ≡ answers_for (form self.now) }
     {
@@ -73,7 +73,7 @@ impl<'a> Form<'a> {
         }
     }
 
-    /// Whether the answers of the form fit the signature of what it answers for.
+    /// Tells whether the answers of the form fit the signature of what it answers for.
     pub fn fits(&self, of: &Signature<'_>) -> bool
         ensures { IsTrue result ↔ FormFits (form self.now) (signature of.now) }
     {

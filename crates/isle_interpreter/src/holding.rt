@@ -14,7 +14,7 @@ pub enum Holding {
     Optional(Option<Value>),
 }
 
-/// A copy of what a place holds.
+/// Copies what a place holds.
 pub fn holding_copied(alloc: Global, given: &Holding) -> Result<Holding, AllocError>
     ensures { IfOk result (λ copy. copy ≡ given.now) }
 {

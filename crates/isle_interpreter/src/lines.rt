@@ -75,7 +75,7 @@ pub fn push_call(out: &mut String, call: &CallMade) -> Result<(), OutOfMemory>
     Ok(())
 }
 
-/// The line of an end: the value, `Some(V)`, `None`, `unreachable`, or `[V, V]`.
+/// Returns the line of an end: the value, `Some(V)`, `None`, `unreachable`, or `[V, V]`.
 pub fn end_line(alloc: Global, given: &End) -> Result<String, OutOfMemory>
     ensures { IfOk result (λ line. string_bytes line ≡ end_line (end given.now)) }
 {

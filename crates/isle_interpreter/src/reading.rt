@@ -12,7 +12,7 @@ use isle_core::Value;
 use isle_tree::{Operand, Read};
 use std::alloc::{AllocError, Global};
 
-/// What an operand holds.
+/// Returns what an operand holds.
 #[tactic(auto, using(crate::proofs::SeesValues::sees_values))]
 pub fn value_of(
     alloc: Global,
@@ -37,7 +37,7 @@ pub fn value_of(
     }
 }
 
-/// What is read.
+/// Returns what is read.
 pub fn read_value(
     alloc: Global,
     args: &[Value],
@@ -52,7 +52,7 @@ pub fn read_value(
     }
 }
 
-/// The values that are read, where all are.
+/// Returns the values that are read, where all are.
 pub fn read_values(
     alloc: Global,
     args: &[Value],

@@ -26,7 +26,7 @@ fn added<'a>(names: &mut BTreeSet<&'a str>, name: &'a str) -> Result<bool, Alloc
 }
 
 impl<'a> Served<'a> {
-    /// No callee.
+    /// Makes a set with no callee.
     pub fn new(alloc: Global) -> Served<'a>
         ensures { (callee : Callee) → has result callee ≡ false }
     {
@@ -36,7 +36,7 @@ impl<'a> Served<'a> {
         }
     }
 
-    /// One callee more, and whether it is new. The only error is want of memory.
+    /// Adds a callee, and tells whether it is new. The only error is want of memory.
     pub fn add(&mut self, callee: &'a Callee) -> Result<bool, AllocError>
         ensures fresh { IfOk result (λ fresh. fresh ≡ not (has self.old callee.now)) }
         ensures more { OnOk result ((other : Callee) → has self.new other ≡ (goes_to other (Some callee.now) || has self.old other)) }
@@ -47,7 +47,7 @@ impl<'a> Served<'a> {
         }
     }
 
-    /// Whether the callee is among them.
+    /// Tells whether the callee is among them.
     pub fn has(&self, callee: &Callee) -> bool
         ensures { result ≡ has self.now callee.now }
     {

@@ -45,14 +45,14 @@ impl<'p> Signature<'p> {
         }
     }
 
-    /// Whether these are as many values as the function takes, each of its parameter's type.
+    /// Tells whether these are as many values as the function takes, each of its parameter's type.
     pub fn takes(&self, args: &[Value]) -> bool
         ensures { IsTrue result ↔ AreNamed (signature self.now).params (values args.now) }
     {
         args.len() == self.params.len() && first_wrong(self.params, args).is_none()
     }
 
-    /// Whether the function can answer so.
+    /// Tells whether the function can answer so.
     pub fn gives(&self, given: &Answer) -> bool
         ensures { IsTrue result ↔ AnswerFits (signature self.now) (answer given.now) }
     {
@@ -84,7 +84,7 @@ impl<'p> Model for Signatures<'p> {
 }
 
 impl<'p> Signatures<'p> {
-    /// The functions of a program. The only error is want of memory.
+    /// Finds the functions of a program by their names. The only error is want of memory.
     pub fn new(alloc: Global, p: &'p Program) -> Result<Signatures<'p>, AllocError>
         ensures { IfOk result (λ s. s ≡ p.now) }
     {
@@ -97,7 +97,7 @@ impl<'p> Signatures<'p> {
         })
     }
 
-    /// The signature of what is called, where the program has it.
+    /// Returns the signature of what is called, where the program has it.
     pub fn of(&self, callee: &Callee) -> Option<Signature<'_>>
         ensures { option_map signature result ≡ signature_of (program self.now) callee.now }
     {

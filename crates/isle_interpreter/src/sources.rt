@@ -68,7 +68,7 @@ impl<'a> Sources<'a> {
         Ok(())
     }
 
-    /// The answers of a callee, where it has any.
+    /// Returns the answers of a callee, where it has any.
     pub fn get(&self, callee: &Callee) -> Option<Source<'a>>
         ensures { option_map source result ≡ at_callee self.now callee.now }
     {
@@ -89,7 +89,7 @@ impl<'a> Sources<'a> {
     }
 }
 
-/// Of each callee the first turns, or else the first cases.
+/// Finds the first turns of each callee, or else its first cases.
 pub fn sources_of<'a>(alloc: Global, answers: &'a Answers) -> Result<Sources<'a>, AllocError>
     ensures { IfOk result (λ s. FindsSources (map turn_answers answers.now.turns) (map pure_answers answers.now.pure) [] s) }
 {

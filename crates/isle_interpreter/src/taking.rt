@@ -16,7 +16,7 @@ use crate::typed::first_wrong;
 use isle_core::Value;
 use isle_tree::Function;
 
-/// The function of a term, where it takes these arguments.
+/// Returns the function of a term, where it takes these arguments.
 pub fn taking<'p>(fns: &'p [Function], term: &str, args: &[Value]) -> Result<&'p Function, RunError>
     ensures there { IfOk result (λ f. function_of term.now (map function fns.now) ≡ Some (function f.now)) }
     ensures typed { IfOk result (λ f. AreNamed (type_names f.now.params) (values args.now)) }

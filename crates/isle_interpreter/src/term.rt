@@ -31,7 +31,7 @@ pub fn takes(p: &Program, term: &str, args: &[Value]) -> Result<(), RunError>
     }
 }
 
-/// The run of the function of the term of this name under the answers.
+/// Returns the run of the function of the term of this name under the answers.
 ///
 /// The errors in the order in which they are asked: the program has no function of the term; it takes another number of
 /// arguments; the first argument that is no value of its parameter's type; the first form of the answers that is wrong, or

@@ -49,7 +49,7 @@ fn by_term<'p>(
 }
 
 impl<'p> Terms<'p> {
-    /// The functions of a program. The only error is want of memory.
+    /// Finds the functions of a program by their names. The only error is want of memory.
     pub fn new(alloc: Global, fns: &'p [Function]) -> Result<Terms<'p>, AllocError>
         ensures { IfOk result (λ t. t ≡ fns.now) }
     {
@@ -57,7 +57,7 @@ impl<'p> Terms<'p> {
         Ok(Terms { fns, found })
     }
 
-    /// The first function of this term.
+    /// Returns the first function of this term.
     pub fn named(&self, term: &str) -> Option<&Function>
         ensures { option_map (λ f. function f.now) result ≡ function_of term.now (map function self.now) }
     {

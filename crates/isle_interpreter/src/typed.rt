@@ -9,7 +9,7 @@ use isle_core::{Answer, ReturnKind, Text, Value};
 use isle_spelling::{int_type_named, is_same};
 use isle_tree::Ty;
 
-/// Whether a value is of the type of this name.
+/// Tells whether a value is of the type of this name.
 #[tactic(auto, using(crate::proofs::SeesValues::sees_values))]
 pub fn is_named(name: &str, given: &Value) -> bool
     ensures { IsTrue result ↔ IsNamed name.now (value given.now) }
@@ -24,7 +24,7 @@ pub fn is_named(name: &str, given: &Value) -> bool
     }
 }
 
-/// Whether there are as many values as names, each of its type.
+/// Tells whether there are as many values as names, each of its type.
 #[tactic(auto, using(crate::proofs::NamedApart::named_apart))]
 pub fn are_named(names: &[Text], given: &[Value]) -> bool
     ensures { IsTrue result ↔ AreNamed names.now (values given.now) }
@@ -40,7 +40,7 @@ pub fn are_named(names: &[Text], given: &[Value]) -> bool
     true
 }
 
-/// Whether an answer is of the kind, with values of the types of these names.
+/// Tells whether an answer is of the kind, with values of the types of these names.
 #[tactic(auto, using(crate::proofs::SeesValues::sees_values))]
 pub fn answer_fits(results: &[Text], kind: ReturnKind, given: &Answer) -> bool
     ensures { (params : List (List ℕ)) → IsTrue result ↔ AnswerFits (record { params = params; results = results.now; kind = kind }) (answer given.now) }
@@ -57,7 +57,7 @@ pub fn answer_fits(results: &[Text], kind: ReturnKind, given: &Answer) -> bool
     }
 }
 
-/// The number of the first argument that is no value of its parameter's type.
+/// Returns the number of the first argument that is no value of its parameter's type.
 pub fn first_wrong(params: &[Ty], args: &[Value]) -> Option<usize>
     requires { length args.now ≡ length params.now }
     ensures { Told (type_names params.now) (values args.now) result }

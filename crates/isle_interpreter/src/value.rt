@@ -10,14 +10,14 @@ ghost use Rattle.isle_interpreter.specs.Fields.{fields};
 use isle_core::{IntType, List, Text, Value};
 use std::alloc::{AllocError, Global};
 
-/// A copy of a text.
+/// Copies a text.
 pub fn text_copied(alloc: Global, text: &Text) -> Result<Text, AllocError>
     ensures { IfOk result (λ copy. copy ≡ text.now) }
 {
     Ok(Text::new(String::from_str(alloc, text.as_str())?))
 }
 
-/// A copy of a value.
+/// Copies a value.
 pub fn copied(alloc: Global, given: &Value) -> Result<Value, AllocError>
     ensures { IfOk result (λ copy. copy ≡ given.now) }
 {
@@ -44,7 +44,7 @@ pub fn copied(alloc: Global, given: &Value) -> Result<Value, AllocError>
     }
 }
 
-/// Copies of values in order.
+/// Copies values in order.
 pub fn all_copied(alloc: Global, given: &[Value]) -> Result<Vec<Value>, AllocError>
     ensures { IfOk result (λ copies. copies.items ≡ given.now) }
 {
@@ -89,14 +89,14 @@ fn same_number(one: i128, other: i128) -> bool
     one == other
 }
 
-/// Whether two names are one.
+/// Tells whether two names are one.
 pub fn same_name(one: &str, other: &str) -> bool
     ensures { result ≡ bytes_eq one.now other.now }
 {
     one == other
 }
 
-/// Whether two values are equal.
+/// Tells whether two values are equal.
 #[cycle(equality)]
 #[tactic(auto, using(crate::proofs::SeesValues::sees_values), unfolding(isle_core::specs::SameValue::same_value))]
 pub fn same(one: &Value, other: &Value) -> bool

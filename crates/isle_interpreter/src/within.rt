@@ -50,7 +50,7 @@ fn is_within(served: &Served<'_>, statement: &Stmt) -> bool
     }
 }
 
-/// Whether statements call none but these.
+/// Tells whether statements call none but these.
 #[cycle(within)]
 pub fn are_within(served: &Served<'_>, statements: &[Stmt]) -> bool
     ensures { result ≡ list_all (has served.now) (body_calls (body statements.now)) }

@@ -28,14 +28,14 @@ fn is_single(byte: u8) -> bool
     matches!(byte, b')' | b'@' | b'<' | b'>')
 }
 
-/// Whether a byte belongs to a word.
+/// Tells whether a byte belongs to a word.
 pub fn is_word_byte(byte: u8) -> bool
     ensures { result ≡ is_word_byte byte }
 {
     !(is_blank(byte) || is_single(byte) || byte == b'(' || byte == b';')
 }
 
-/// What a byte begins.
+/// Returns what a byte begins.
 pub fn begun_by(byte: u8) -> Begun
     ensures { (at : ℕ) → begun at byte ≡ begins result at }
 {

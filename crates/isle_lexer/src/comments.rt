@@ -39,8 +39,8 @@ fn behind(outer: usize, last: Seen, byte: u8) -> Option<(usize, Seen)>
     }
 }
 
-/// The place behind a comment that nests, of which this place is the first behind its opening. None comes where it never
-/// ends.
+/// Returns the place behind a comment that nests, of which this place is the first behind its opening. None comes where
+/// it never ends.
 pub fn comment_end(text: &[u8], at: usize) -> Option<usize>
     requires { at ≤ length text.now }
     ensures some { IfSome result (λ to. (from : ℕ) → coming text.now (InComment from 0 Other) at ≡ coming text.now Between to) }
@@ -60,7 +60,7 @@ pub fn comment_end(text: &[u8], at: usize) -> Option<usize>
     None
 }
 
-/// The place behind a comment that ends with its line, of which this place is a part.
+/// Returns the place behind a comment that ends with its line, of which this place is a part.
 pub fn line_end(text: &[u8], at: usize) -> usize
     requires { at ≤ length text.now }
     ensures line { coming text.now InLine at ≡ coming text.now Between result }

@@ -70,7 +70,7 @@ fn piece_at(text: &[u8], at: usize) -> Piece
     }
 }
 
-/// What comes first behind a place at which nothing was begun.
+/// Returns what comes first behind a place at which nothing was begun.
 pub fn find(text: &[u8], from: usize) -> Found
     ensures { IsFirst text.now from result }
 {

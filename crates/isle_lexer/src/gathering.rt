@@ -17,7 +17,7 @@ pub enum LexFail {
     Memory,
 }
 
-/// The tokens of a text, and where a comment begins that never ends.
+/// Returns the tokens of a text, and where a comment begins that never ends.
 pub fn gathered(alloc: Global, text: &str) -> Result<(Vec<Token<'_>>, Option<usize>), AllocError>
     ensures tokens { IfOk result (λ read. tokens_seen read.0.items ≡ lexemes text.now) }
     ensures unclosed { IfOk result (λ read. read.1 ≡ unclosed text.now) }
@@ -38,7 +38,7 @@ pub fn gathered(alloc: Global, text: &str) -> Result<(Vec<Token<'_>>, Option<usi
     }
 }
 
-/// The tokens of a text, read in one pass.
+/// Returns the tokens of a text, read in one pass.
 pub fn tokens(alloc: Global, text: &str) -> Result<Vec<Token<'_>>, LexFail>
     ensures tokens { IfOk result (λ tokens. tokens_seen tokens.items ≡ lexemes text.now) }
     ensures closed { IfOk result (λ tokens. IsClosed text.now) }

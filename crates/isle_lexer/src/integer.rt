@@ -97,8 +97,9 @@ fn negated(magnitude: u128) -> i128
     magnitude.wrapping_neg().cast_signed()
 }
 
-/// The value that a word spells: an optional `-`, then a decimal word that begins with a digit, or `0x`, `0o`, `0b` and
-/// digits of that base, `_` anywhere among them. None comes exactly where it spells none, or one of 2^128 and more.
+/// Returns the value that a word spells: an optional `-`, then a decimal word that begins with a digit, or `0x`, `0o`,
+/// `0b` and digits of that base, `_` anywhere among them. None comes exactly where it spells none, or one of 2^128 and
+/// more.
 #[tactic(auto, unfolding(crate::specs::Integer::signed_of))]
 pub fn signed_of(word: &[u8]) -> Option<Signed>
     ensures { option_map signed result ≡ signed_of word.now }
@@ -116,7 +117,7 @@ pub fn signed_of(word: &[u8]) -> Option<Signed>
     }
 }
 
-/// The value that a word spells, wrapped to 128 signed bits.
+/// Returns the value that a word spells, wrapped to 128 signed bits.
 #[tactic(auto, unfolding(crate::specs::Integer::int_of))]
 pub fn int_of(word: &[u8]) -> Option<i128>
     ensures { result ≡ int_of word.now }

@@ -35,8 +35,8 @@ pub struct Lexer<'a> {
 }
 
 impl<'a> Lexer<'a> {
-    /// The tokens of the text of the file of that number. Err gives the start of a nested comment that never ends,
-    /// the outermost one's.
+    /// Returns the tokens of the text of the file of that number. Err gives the start of a nested comment that never
+    /// ends, the outermost one's.
     pub fn new(file: usize, src: &'a str) -> Result<Lexer<'a>, Pos>
         ensures ok { IfOk result (λ lexer. IsClosed src.now × IsUntaken lexer × (lexer_file lexer ≡ file) × (lexer_text lexer ≡ src.now)) }
         ensures err { IfErr result (λ pos. (unclosed src.now ≡ Some pos.offset) × (pos.file ≡ file)) }
@@ -51,7 +51,8 @@ impl<'a> Lexer<'a> {
         }
     }
 
-    /// The next token, by the bytes that it takes. None comes exactly where no token is left. It takes no memory.
+    /// Returns the next token, by the bytes that it takes. None comes exactly where no token is left. It takes no
+    /// memory.
     pub fn next_token(&mut self) -> Option<Tok>
         ensures some { IfSome result (λ tok. lexer_left self.old ≡ tok ∷ lexer_left self.new) }
         ensures none { result ≡ None → (lexer_left self.old ≡ []) × (lexer_left self.new ≡ []) }
@@ -67,14 +68,14 @@ impl<'a> Lexer<'a> {
         }
     }
 
-    /// The number of the file.
+    /// Returns the number of the file.
     pub fn file(&self) -> usize
         ensures { result ≡ lexer_file self.now }
     {
         self.file
     }
 
-    /// The tokens that are left, in order, as the grammar sees them.
+    /// Returns the tokens that are left, in order, as the grammar sees them.
     pub fn tokens(self, alloc: Global) -> Result<Vec<Token<'a>>, AllocError>
         requires { IsUntaken self }
         ensures tokens { IfOk result (λ tokens. tokens_seen tokens.items ≡ lexemes (lexer_text self.entry)) }

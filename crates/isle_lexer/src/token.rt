@@ -21,7 +21,7 @@ pub enum Token<'a> {
     Word(usize, &'a str),
 }
 
-/// The token that takes these bytes of a text.
+/// Returns the token that takes these bytes of a text.
 pub fn token_at(text: &str, from: usize, to: usize) -> Token<'_>
     requires { IsCut text.now from to }
     ensures { token_seen result ≡ lexeme text.now (record { from = from; to = to }) }

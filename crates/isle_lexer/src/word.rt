@@ -31,7 +31,7 @@ fn symbol_kind(word: &str) -> Kind
     }
 }
 
-/// What a word is.
+/// Returns what a word is.
 #[tactic(auto, unfolding(crate::specs::Word::kind))]
 pub fn kind_of(word: &str) -> Kind
     ensures { kind_seen word.now result ≡ kind word.now }
@@ -50,7 +50,7 @@ pub fn kind_of(word: &str) -> Kind
     }
 }
 
-/// Whether a word may stand where the grammar has a name.
+/// Tells whether a word may stand where the grammar has a name.
 pub fn is_name(word: &str) -> bool
     ensures { result ≡ names (kind word.now) }
 {
@@ -60,21 +60,21 @@ pub fn is_name(word: &str) -> bool
     }
 }
 
-/// The text of a word.
+/// Returns the text of a word.
 pub fn text_of(alloc: Global, word: &str) -> Result<Text, AllocError>
     ensures { IfOk result (λ text. text ≡ word.now) }
 {
     Ok(Text::new(String::from_str(alloc, word)?))
 }
 
-/// Whether a word is a flag where it stands directly behind `decl`.
+/// Tells whether a word is a flag where it stands directly behind `decl`.
 pub fn is_flag(word: &str) -> bool
     ensures { result ≡ is_flag word.now }
 {
     matches!(word, "pure" | "multi" | "partial" | "rec")
 }
 
-/// Whether a word begins another form than a call where a call has its name.
+/// Tells whether a word begins another form than a call where a call has its name.
 pub fn is_let(word: &str) -> bool
     ensures { result ≡ is_let word.now }
 {

@@ -186,7 +186,7 @@ fn pad(text: &mut String, depth: usize) -> Result<(), AllocError>
 }
 
 impl Printer {
-    /// A printer that has printed nothing.
+    /// Makes a printer that has printed nothing.
     pub fn new(alloc: Global) -> Self
         ensures { result ≡ [] }
     {
@@ -324,14 +324,14 @@ impl Printer {
         Ok(())
     }
 
-    /// Lines begin four blanks further in from here on.
+    /// Begins lines four blanks further in from here on.
     pub fn indent(&mut self)
         ensures { self.new ≡ self.old }
     {
         self.depth = self.depth.saturating_add(1);
     }
 
-    /// Lines begin four blanks less far in from here on, as far as they can.
+    /// Begins lines four blanks less far in from here on, as far as they can.
     pub fn dedent(&mut self)
         ensures { self.new ≡ self.old }
     {

@@ -11,7 +11,7 @@ use std::alloc::{AllocError, AllocFailed};
 /// How many parentheses and `@` may be open at once.
 const MOST_OPEN: usize = 256;
 
-/// How many of them may be open inside the outermost parentheses.
+/// Returns how many of them may be open inside the outermost parentheses.
 #[tactic(auto, unfolding(crate::specs::Nesting::most_open))]
 pub fn most_inside() -> usize
     ensures { result ≡ most_open - 1 }
@@ -55,14 +55,14 @@ pub struct Tokens<'t> {
 }
 
 impl<'t> Tokens<'t> {
-    /// The tokens, none of which was read.
+    /// Begins before the first token.
     pub fn new(all: &'t [Token<'t>]) -> Tokens<'t>
         ensures { left result ≡ tokens_seen all.now }
     {
         Tokens { all, next: 0 }
     }
 
-    /// How many tokens are still to be read.
+    /// Returns how many tokens are still to be read.
     pub fn len(&self) -> usize
         ensures { result ≡ length (left self.now) }
     {
@@ -83,7 +83,7 @@ impl<'t> Tokens<'t> {
         self.next += 1;
     }
 
-    /// A word that is next.
+    /// Returns a word that is next.
     pub fn word(&self) -> Option<&'t str>
         ensures { option_map (λ word. word.now) result ≡ next_word (λ w. Some w) (left self.now) }
     {
@@ -93,7 +93,7 @@ impl<'t> Tokens<'t> {
         }
     }
 
-    /// The place of an opening parenthesis that is next.
+    /// Returns the place of an opening parenthesis that is next.
     pub fn opens(&self) -> Option<usize>
         ensures { result ≡ opens (left self.now) }
     {
@@ -103,7 +103,7 @@ impl<'t> Tokens<'t> {
         }
     }
 
-    /// The place of a closing parenthesis that is next.
+    /// Returns the place of a closing parenthesis that is next.
     pub fn closes(&self) -> Option<usize>
         ensures { result ≡ closes (left self.now) }
     {
@@ -113,7 +113,7 @@ impl<'t> Tokens<'t> {
         }
     }
 
-    /// The place of an opening parenthesis, which is taken.
+    /// Returns the place of an opening parenthesis, which is taken.
     #[tactic(auto, using(crate::proofs::Steps::round))]
     pub fn open(&mut self) -> Result<usize, Fail>
         ensures { Reads (λ at. at) result read_open (left self.old) (left self.new) }
@@ -127,7 +127,7 @@ impl<'t> Tokens<'t> {
         }
     }
 
-    /// The place of a closing parenthesis, which is taken.
+    /// Returns the place of a closing parenthesis, which is taken.
     #[tactic(auto, using(crate::proofs::Steps::round))]
     pub fn close(&mut self) -> Result<usize, Fail>
         ensures { Reads (λ at. at) result read_close (left self.old) (left self.new) }
@@ -156,7 +156,7 @@ fn place(token: Token<'_>) -> usize
     }
 }
 
-/// The place in a text of length `end` where so many of its tokens are left.
+/// Returns the place in a text of length `end` where so many of its tokens are left.
 pub fn place_of(tokens: &[Token<'_>], left: usize, end: usize) -> usize
     ensures { result ≡ place_left (tokens_seen tokens.now) left end }
 {

@@ -9,7 +9,7 @@ use isle_lexer::{is_name, text_of};
 use std::alloc::Global;
 
 impl<'t> Tokens<'t> {
-    /// A name that is next.
+    /// Returns a name that is next.
     #[tactic(auto, using(crate::proofs::Steps::next))]
     pub fn next_name(&self) -> Option<&'t str>
         ensures { option_map (λ word. word.now) result ≡ next_word name_of (left self.now) }
@@ -18,7 +18,7 @@ impl<'t> Tokens<'t> {
         if is_name(word) { Some(word) } else { None }
     }
 
-    /// A name.
+    /// Returns a name.
     #[tactic(auto, using(crate::proofs::Steps::words), unfolding(crate::specs::Names::read_name))]
     pub fn name(&mut self, alloc: Global) -> Result<Text, Fail>
         ensures { Reads (λ name. name) result read_name (left self.old) (left self.new) }

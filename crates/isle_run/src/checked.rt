@@ -17,7 +17,7 @@ use isle_core::{CodegenOptions, Files};
 use isle_values::Written;
 use std::alloc::Global;
 
-/// The lines of the run.
+/// Runs the term, and returns its lines.
 pub fn of_checked(
     alloc: Global,
     files: &Files,

@@ -79,7 +79,7 @@ fn under_forms(
     }
 }
 
-/// The outcome under the answers that a text spells.
+/// Runs the function under the answers that a text spells.
 pub fn outcome_under(
     alloc: Global,
     compiled: &Compiled<'_>,

@@ -46,7 +46,7 @@ fn args_given(
     values_at(alloc, typeenv, tys, given)
 }
 
-/// The lines of the run.
+/// Runs the term, and returns its lines.
 pub fn of_program(
     alloc: Global,
     checked: &Checked,

@@ -43,7 +43,7 @@ fn push_calls(
     Ok(())
 }
 
-/// The line of the end, and a line for each call of an impure term, in order.
+/// Returns the line of the end, and a line for each call of an impure term, in order.
 pub fn lines_of(
     alloc: Global,
     typeenv: &TypeEnv,

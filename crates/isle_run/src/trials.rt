@@ -17,9 +17,10 @@ use isle_core::{CodegenOptions, Files};
 use isle_values::Written;
 use std::alloc::Global;
 
-/// The lines of a run of the term of this name, of the source that the files' texts are, at the values, under the answers
-/// that a text spells: the line of the end, and one for each call of an impure term, in order. There are as many names as
-/// texts. The refusals come in this order: the source, the term, the number of arguments, their types, the answers.
+/// Returns the lines of a run of the term of this name, of the source that the files' texts are, at the values, under
+/// the answers that a text spells: the line of the end, and one for each call of an impure term, in order. There are as
+/// many names as texts. The refusals come in this order: the source, the term, the number of arguments, their types,
+/// the answers.
 pub fn trial(
     alloc: Global,
     files: &Files,

@@ -64,7 +64,7 @@ fn impure_callee<'e>(typeenv: &'e TypeEnv, term: &Term) -> Called<'e>
 }
 
 impl<'e> AnswerTypes<'e> {
-    /// The types of what the impure callees of these terms answer.
+    /// Returns the types of what the impure callees of these terms answer.
     pub fn new(
         alloc: Global,
         typeenv: &'e TypeEnv,
@@ -94,7 +94,7 @@ impl<'e> AnswerTypes<'e> {
         })
     }
 
-    /// The type of what a call of the callee answers.
+    /// Returns the type of what a call of the callee answers.
     pub fn of(&self, callee: &Callee) -> Option<TypeId>
         ensures { (env : Environment) → env.types ≡ self.now.0 → env.terms ≡ self.now.1 → result ≡ answer_type env callee.now }
     {

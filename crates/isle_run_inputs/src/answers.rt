@@ -119,8 +119,8 @@ fn turns_of(
     }
 }
 
-/// The answers that forms give, their values at the types of what callees answer; a value of another type is one of no
-/// type. Only turns are built: the other forms give none.
+/// Returns the answers that forms give, their values at the types of what callees answer; a value of another type is
+/// one of no type. Only turns are built: the other forms give none.
 pub fn answers_at(
     alloc: Global,
     typeenv: &TypeEnv,
@@ -159,7 +159,8 @@ fn place_of(form: &Form) -> usize
     }
 }
 
-/// The place that the number of a wrong form tells: where the form begins, or the end of the file where one is missing.
+/// Returns the place that the number of a wrong form tells: where the form begins, or the end of the file where one is
+/// missing.
 pub fn place_at(end: usize, forms: &[Form], number: usize) -> usize
     ensures { result ≡ place_at end (forms_seen forms.now) number }
 {

@@ -17,7 +17,7 @@ fn is_named(typeenv: &TypeEnv, terms: &[Term], id: TermId, name: &str) -> bool
     name == term_name(typeenv, terms, id)
 }
 
-/// The first term of this name that has rules. `terms` lists the terms with rules, in order of ids.
+/// Returns the first term of this name that has rules. `terms` lists the terms with rules, in order of ids.
 pub fn asked_term(
     typeenv: &TypeEnv,
     termenv: &TermEnv,

@@ -47,7 +47,7 @@ fn are_built_answers(answers: &[AnswerForm]) -> bool
     answers.iter().all(|answer| is_built_answer(answer))
 }
 
-/// Whether all forms are built.
+/// Tells whether all forms are built.
 pub fn are_built(forms: &[Form]) -> bool
     ensures { result ≡ are_built (forms_seen forms.now) }
 {

@@ -6,7 +6,7 @@ ghost use Rattle.isle_core.specs.Terms.{sym_text, term_name};
 
 use isle_core::{Sym, Term, TermId, TypeEnv};
 
-/// The text of a symbol; one that is not there has none.
+/// Returns the text of a symbol; one that is not there has none.
 pub fn sym_text(typeenv: &TypeEnv, sym: Sym) -> &str
     ensures { (env : Environment) → env.types ≡ typeenv.now → result.now ≡ sym_text env sym }
 {
@@ -16,7 +16,7 @@ pub fn sym_text(typeenv: &TypeEnv, sym: Sym) -> &str
     }
 }
 
-/// The name of a term; one that is not there has none.
+/// Returns the name of a term; one that is not there has none.
 pub fn term_name<'e>(typeenv: &'e TypeEnv, terms: &[Term], id: TermId) -> &'e str
     ensures { (env : Environment) → env.types ≡ typeenv.now → env.terms ≡ terms.now → result.now ≡ term_name env id }
 {

@@ -43,7 +43,7 @@ fn lowest(ty: IntType) -> u128
     }
 }
 
-/// Whether a number is one of the type, before any wrapping.
+/// Tells whether a number is one of the type, before any wrapping.
 pub fn is_of(ty: IntType, number: Signed) -> bool
     ensures { result ≡ is_of ty (signed number) }
 {
@@ -68,7 +68,7 @@ fn negated(magnitude: u128) -> i128
     magnitude.wrapping_neg().cast_signed()
 }
 
-/// The 128 signed bits of a number.
+/// Returns the 128 signed bits of a number.
 pub fn bits(number: Signed) -> i128
     ensures { result ≡ wrapped I128 (signed number) }
 {

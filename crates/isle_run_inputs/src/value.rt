@@ -14,7 +14,7 @@ use isle_lexer::Signed;
 use isle_values::Written;
 use std::alloc::Global;
 
-/// What is given for a written value that is none of its type: a value of no type.
+/// Returns what is given for a written value that is none of its type: a value of no type.
 pub fn misfit(alloc: Global) -> Value
     ensures { value result ≡ misfit }
 {
@@ -51,14 +51,14 @@ fn value_of_def(alloc: Global, def: Option<&TypeDef>, given: &Written) -> Value
     }
 }
 
-/// A written value at a type of an environment; one of another type is a value of no type.
+/// Returns a written value at a type of an environment; one of another type is a value of no type.
 pub fn value_at(alloc: Global, typeenv: &TypeEnv, ty: TypeId, given: &Written) -> Value
     ensures { (env : Environment) → env.types ≡ typeenv.now → value result ≡ value_at env ty (written given.now) }
 {
     value_of_def(alloc, typeenv.types.as_slice().get(ty.index()), given)
 }
 
-/// A written value at a type that may be missing; then none fits.
+/// Returns a written value at a type that may be missing; then none fits.
 pub fn value_at_any(alloc: Global, typeenv: &TypeEnv, ty: Option<TypeId>, given: &Written) -> Value
     ensures { (env : Environment) → env.types ≡ typeenv.now → value result ≡ value_at_any env ty (written given.now) }
 {

@@ -11,7 +11,8 @@ use isle_core::{OutOfMemory, TypeEnv, TypeId, Value};
 use isle_values::Written;
 use std::alloc::Global;
 
-/// Written values in order, each at its type; one of another type, or for which there is no type, is a value of no type.
+/// Returns written values in order, each at its type; one of another type, or for which there is no type, is a value of
+/// no type.
 pub fn values_at(
     alloc: Global,
     typeenv: &TypeEnv,

@@ -91,7 +91,7 @@ fn undo_to(log: &mut Vec<Entry>, places: &mut BTreeMap<usize, usize>, len: usize
 }
 
 impl Scope {
-    /// No local.
+    /// Makes a scope with no local.
     pub fn new(alloc: Global) -> Scope
         ensures { result ≡ [] }
     {
@@ -101,14 +101,14 @@ impl Scope {
         }
     }
 
-    /// How many were bound, each time that one was.
+    /// Returns how many were bound, each time that one was.
     pub fn len(&self) -> usize
         ensures { result ≡ length self.now }
     {
         self.log.len()
     }
 
-    /// The place where a local was bound last, counted from 0, if it is bound.
+    /// Returns the place where a local was bound last, counted from 0, if it is bound.
     pub fn place(&self, local: usize) -> Option<usize>
         ensures { result ≡ last_place self.now local }
     {

@@ -65,7 +65,7 @@ fn is_kept(name: &str) -> bool
     is_among(name, &KEPT_WORDS)
 }
 
-/// Whether an item may have the name.
+/// Tells whether an item may have the name.
 pub fn is_identifier(name: &str) -> bool
     ensures { IsTrue result ↔ IsIdentifier name.now }
 {

@@ -22,7 +22,7 @@ fn is_signed(ty: IntType) -> bool
     }
 }
 
-/// The type's name in Rust.
+/// Returns the type's name in Rust.
 pub fn type_name(ty: IntType) -> &'static str
     ensures { result.now ≡ type_name ty }
 {
@@ -153,8 +153,8 @@ pub fn print_literal(out: &mut Printer, ty: IntType, val: i128) -> Result<(), Al
     print_bits(out, ty, low_bits(ty, val.cast_unsigned()))
 }
 
-/// A number as a Rust literal of the type, to which it is wrapped: `0xfe_u8` for -2 at `u8`, `-1_i64` for -1 at `i64`.
-/// Unsigned types have hexadecimal digits, signed ones decimal. The only error is want of memory.
+/// Returns a number as a Rust literal of the type, to which it is wrapped: `0xfe_u8` for -2 at `u8`, `-1_i64` for -1 at
+/// `i64`. Unsigned types have hexadecimal digits, signed ones decimal. The only error is want of memory.
 pub fn rust_int_literal(alloc: Global, ty: IntType, val: i128) -> Result<String, OutOfMemory>
     ensures text { IfOk result (λ s. string_bytes s ≡ literal_text ty (wrapped ty val)) }
     ensures wraps { WrapsTo ty val (wrapped ty val) }

@@ -15,7 +15,7 @@ fn is_word_byte(byte: u8) -> bool
     byte.is_ascii_alphanumeric() || byte == b'_'
 }
 
-/// Whether all bytes may stand in a word.
+/// Tells whether all bytes may stand in a word.
 pub fn are_word_bytes(bytes: &[u8]) -> bool
     ensures { result ≡ list_all is_word_byte bytes.now }
 {
@@ -27,7 +27,7 @@ pub fn are_word_bytes(bytes: &[u8]) -> bool
     true
 }
 
-/// Whether two names are one.
+/// Tells whether two names are one.
 #[tactic(auto, using(isle_printer::proofs::Bytes::same_is))]
 pub fn is_same(a: &str, b: &str) -> bool
     ensures { result ≡ same_bytes a.now b.now }
@@ -35,7 +35,7 @@ pub fn is_same(a: &str, b: &str) -> bool
     a == b
 }
 
-/// The integer type of the name.
+/// Returns the integer type of the name.
 pub fn int_type_named(name: &str) -> Option<IntType>
     ensures { result ≡ type_named name.now }
 {

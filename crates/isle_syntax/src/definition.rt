@@ -251,7 +251,7 @@ fn behind(
     }
 }
 
-/// A definition of the file of that number, its lists of at most `most` tokens.
+/// Reads a definition of the file of that number, its lists of at most `most` tokens.
 #[tactic(auto, using(isle_reading::proofs::Steps::chain), unfolding(crate::specs::Reading::read_def))]
 pub fn definition(
     tokens: &mut Tokens<'_>,
@@ -266,7 +266,7 @@ pub fn definition(
     behind(tokens, alloc, most, Pos { file, offset }, head)
 }
 
-/// The definitions of a file of at most `most` tokens, up to its end.
+/// Reads the definitions of a file of at most `most` tokens, up to its end.
 #[tactic(auto, using(isle_reading::proofs::ListSteps::alls))]
 pub fn file_of(
     tokens: &mut Tokens<'_>,

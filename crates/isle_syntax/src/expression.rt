@@ -124,7 +124,7 @@ fn arguments(
     Err(Fail::At(tokens.len()))
 }
 
-/// A rule's right side, its lists of at most `most` tokens.
+/// Reads a rule's right side, its lists of at most `most` tokens.
 #[tactic(auto, unfolding(crate::specs::Reading::read_right))]
 pub fn right_side(tokens: &mut Tokens<'_>, alloc: Global, most: usize) -> Result<AstExpr, Fail>
     ensures { Reads expr result (read_right most) (left tokens.old) (left tokens.new) }

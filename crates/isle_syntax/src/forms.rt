@@ -11,7 +11,7 @@ use isle_lexer::{Kind, kind_of, text_of};
 use isle_reading::{Fail, Tokens};
 use std::alloc::{AllocError, Global};
 
-/// The name of a rule, or none.
+/// Reads the name of a rule, or none.
 #[tactic(auto, using(crate::proofs::WordSteps::rule_names), unfolding(crate::specs::Reading::read_rule_name))]
 pub fn rule_name(tokens: &mut Tokens<'_>, alloc: Global) -> Result<Option<Text>, Fail>
     ensures { Reads (λ name. name) result read_rule_name (left tokens.old) (left tokens.new) }
@@ -46,7 +46,7 @@ fn next_prio(tokens: &Tokens<'_>) -> Option<i64>
     prio_of(tokens.word()?)
 }
 
-/// A priority, or 0.
+/// Reads a priority, or 0.
 #[tactic(auto, using(isle_reading::proofs::Steps::optionals), unfolding(crate::specs::Reading::read_prio))]
 pub fn prio(tokens: &mut Tokens<'_>) -> Result<i64, Fail>
     ensures { Reads (λ prio. prio) result read_prio (left tokens.old) (left tokens.new) }
@@ -88,7 +88,7 @@ fn next_pattern(tokens: &Tokens<'_>, alloc: Global) -> Result<Option<AstPattern>
     }
 }
 
-/// A pattern.
+/// Reads a pattern.
 #[tactic(auto, using(isle_reading::proofs::Steps::words), unfolding(crate::specs::Reading::read_pattern))]
 pub fn pattern(tokens: &mut Tokens<'_>, alloc: Global) -> Result<AstPattern, Fail>
     ensures { Reads pattern result read_pattern (left tokens.old) (left tokens.new) }

@@ -11,7 +11,7 @@ use isle_core::Text;
 use isle_reading::{Fail, Tokens};
 use std::alloc::Global;
 
-/// Names up to a closing parenthesis, which is taken, of at most `most` tokens.
+/// Reads names up to a closing parenthesis, which is taken, of at most `most` tokens.
 #[tactic(auto, using(isle_reading::proofs::ListSteps::lists))]
 pub fn names(tokens: &mut Tokens<'_>, alloc: Global, most: usize) -> Result<Vec<Text>, Fail>
     ensures { Reads (λ names. names.items) result (many most read_name) (left tokens.old) (left tokens.new) }
@@ -29,7 +29,7 @@ pub fn names(tokens: &mut Tokens<'_>, alloc: Global, most: usize) -> Result<Vec<
     Err(Fail::At(tokens.len()))
 }
 
-/// Patterns up to a closing parenthesis, which is taken, of at most `most` tokens.
+/// Reads patterns up to a closing parenthesis, which is taken, of at most `most` tokens.
 #[tactic(auto, using(isle_reading::proofs::ListSteps::lists))]
 pub fn patterns(
     tokens: &mut Tokens<'_>,

@@ -46,9 +46,9 @@ fn of_tokens(alloc: Global, file: usize, tokens: &[Token<'_>]) -> Result<Vec<Def
     }
 }
 
-/// The definitions that the reader's text spells, in order. `NotYet` comes exactly where no definitions of the forms
-/// that are built are spelt: `decl` with no flag but `partial`, `extern constructor`, and `rule` without conditions whose
-/// right side is a word or a call, with at most 256 parentheses open at once.
+/// Returns the definitions that the reader's text spells, in order. `NotYet` comes exactly where no definitions of the
+/// forms that are built are spelt: `decl` with no flag but `partial`, `extern constructor`, and `rule` without
+/// conditions whose right side is a word or a call, with at most 256 parentheses open at once.
 pub fn parse(alloc: Global, lexer: Lexer<'_>) -> Result<Vec<Def>, ParseFail>
     requires closed { IsClosed (lexer_text lexer) }
     requires untaken { IsUntaken lexer }
@@ -63,8 +63,8 @@ pub fn parse(alloc: Global, lexer: Lexer<'_>) -> Result<Vec<Def>, ParseFail>
     }
 }
 
-/// The definitions that the text of the file of that number spells, read in one pass for its tokens. `NotYet` as of
-/// `parse`, and where a comment never ends.
+/// Returns the definitions that the text of the file of that number spells, read in one pass for its tokens. `NotYet`
+/// as of `parse`, and where a comment never ends.
 pub fn parse_text(alloc: Global, file: usize, text: &str) -> Result<Vec<Def>, ParseFail>
     ensures ok { IfOk result (λ read. Spells file text.now (defs read.items)) }
     ensures only { IfOk result (λ read. (others : List PureDef) → Spells file text.now others → others ≡ defs read.items) }

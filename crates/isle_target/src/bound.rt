@@ -56,7 +56,7 @@ fn held_at(held: &[Holds], place: Option<usize>) -> Option<Holds>
 }
 
 impl Bound {
-    /// No local.
+    /// Makes a scope with no local.
     pub fn new(alloc: Global) -> Bound
         ensures { result ≡ [] }
     {
@@ -66,14 +66,14 @@ impl Bound {
         }
     }
 
-    /// How many were bound, each time that one was.
+    /// Returns how many were bound, each time that one was.
     pub fn len(&self) -> usize
         ensures { result ≡ length self.now }
     {
         self.held.len()
     }
 
-    /// What a local holds, where it is bound.
+    /// Returns what a local holds, where it is bound.
     pub fn holds(&self, local: usize) -> Option<Holds>
         ensures { result ≡ local_holds self.now local }
     {

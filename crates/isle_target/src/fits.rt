@@ -93,7 +93,7 @@ fn fits_last(kind: ReturnKind, s: &Stmt) -> bool
     }
 }
 
-/// Whether the statements are those of a function of the kind.
+/// Tells whether the statements are those of a function of the kind.
 pub fn fits_function(kind: ReturnKind, stmts: &[Stmt]) -> bool
     ensures { IsTrue result ↔ FitsFunction kind (body stmts.now) }
 {

@@ -52,7 +52,7 @@ fn are_functions(alloc: Global, callees: &Callees, fns: &[Function]) -> Result<b
     Ok(true)
 }
 
-/// Whether the program is well formed, and so can be printed. The only error is want of memory.
+/// Tells whether the program is well formed, and so can be printed. The only error is want of memory.
 pub fn well_formed(alloc: Global, p: &Program) -> Result<bool, OutOfMemory>
     ensures { IfOk result (λ b. IsTrue b ↔ IsWellFormed (program p.now)) }
 {

@@ -9,7 +9,7 @@ use isle_tree::Holds;
 use isle_tree::{Operand, Read, TCall, TExpr, TraitFn};
 use isle_core::{Callee, ReturnKind};
 
-/// What an operand holds, where it is there.
+/// Returns what an operand holds, where it is there.
 pub fn operand_holds(bound: &Bound, params: usize, o: &Operand) -> Option<Holds>
     ensures { result ≡ operand_holds params bound.now o.now }
 {
@@ -31,7 +31,7 @@ fn read_holds(bound: &Bound, params: usize, read: &Read) -> Option<Holds>
     }
 }
 
-/// Whether it is a value, and no option.
+/// Tells whether it is a value, and no option.
 pub fn is_value(holds: Option<Holds>) -> bool
     ensures { result ≡ is_value holds }
 {
@@ -126,7 +126,7 @@ fn some_holds(bound: &Bound, params: usize, read: &Read) -> Option<Holds>
     }
 }
 
-/// What is computed holds, where each operand holds what is asked of it.
+/// Returns what is computed holds, where each operand holds what is asked of it.
 pub fn expr_holds(callees: &Callees, bound: &Bound, params: usize, e: &TExpr) -> Option<Holds>
     ensures { result ≡ expr_holds callees.now params bound.now e.now }
 {

@@ -9,7 +9,7 @@ use isle_core::ReturnKind;
 use isle_spelling::{are_word_bytes, int_type_named, is_same};
 use isle_tree::{Function, Ty};
 
-/// Whether the name is that of a builtin type.
+/// Tells whether the name is that of a builtin type.
 pub fn is_builtin(name: &str) -> bool
     ensures { IsTrue result ↔ IsBuiltin name.now }
 {
@@ -19,7 +19,7 @@ pub fn is_builtin(name: &str) -> bool
     int_type_named(name).is_some()
 }
 
-/// Whether a function may answer so often.
+/// Tells whether a function may answer so often.
 pub fn is_kind(kind: ReturnKind) -> bool
     ensures { IsTrue result ↔ IsKind kind }
 {
@@ -39,7 +39,7 @@ fn is_ty(ty: &Ty) -> bool
     is_builtin(ty.name.as_str())
 }
 
-/// Whether parameters may have the types.
+/// Tells whether parameters may have the types.
 pub fn are_tys(tys: &[Ty]) -> bool
     ensures { IsTrue result ↔ AllByRecursion IsTy tys.now }
 {
@@ -51,7 +51,7 @@ pub fn are_tys(tys: &[Ty]) -> bool
     true
 }
 
-/// Whether the names in a function's head may stand there.
+/// Tells whether the names in a function's head may stand there.
 pub fn has_names(f: &Function) -> bool
     ensures { IsTrue result ↔ HasNames (function f.now) }
 {

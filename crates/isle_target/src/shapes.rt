@@ -103,7 +103,7 @@ fn is_stmt(s: &Stmt) -> bool
     }
 }
 
-/// Whether all statements are of a form that is built.
+/// Tells whether all statements are of a form that is built.
 #[cycle(shapes)]
 pub fn is_body(stmts: &[Stmt]) -> bool
     ensures { IsTrue result ↔ IsBody (body stmts.now) }

@@ -77,7 +77,8 @@ fn is_stmt_there(
     }
 }
 
-/// Whether all statements read what is there. What is bound is the same behind them. The only error is want of memory.
+/// Tells whether all statements read what is there. What is bound is the same behind them. The only error is want of
+/// memory.
 #[cycle(there)]
 pub fn is_body_there(
     callees: &Callees,

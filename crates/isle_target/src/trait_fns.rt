@@ -35,7 +35,7 @@ fn is_trait_fn(f: &TraitFn) -> bool
     is_kind(f.kind)
 }
 
-/// Whether the trait may have all of them.
+/// Tells whether the trait may have all of them.
 pub fn are_trait_fns(fns: &[TraitFn]) -> bool
     ensures { IsTrue result ↔ AllByRecursion IsTraitFn fns.now }
 {

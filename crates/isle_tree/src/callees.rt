@@ -44,7 +44,7 @@ fn by_name<'p>(
 }
 
 impl<'p> Callees<'p> {
-    /// The functions of a trait.
+    /// Finds the functions of a trait by their names. The only error is want of memory.
     pub fn new(alloc: Global, fns: &'p [TraitFn]) -> Result<Callees<'p>, AllocError>
         ensures { IfOk result (λ c. c ≡ fns.now) }
     {
@@ -52,7 +52,7 @@ impl<'p> Callees<'p> {
         Ok(Callees { fns, found })
     }
 
-    /// The function of this name.
+    /// Returns the function of this name.
     pub fn named(&self, name: &str) -> Option<&TraitFn>
         ensures { option_map (λ f. f.now) result ≡ trait_fn self.now name.now }
     {

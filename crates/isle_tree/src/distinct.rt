@@ -11,7 +11,7 @@ use isle_core::OutOfMemory;
 use std::alloc::Global;
 use std::collections::BTreeSet;
 
-/// Whether no two functions are of one term. The only error is want of memory.
+/// Tells whether no two functions are of one term. The only error is want of memory.
 pub fn are_distinct(alloc: Global, fns: &[Function]) -> Result<bool, OutOfMemory>
     ensures { IfOk result (λ b. IsTrue b ↔ IsDistinct bytes_eq (terms (map function fns.now))) }
 {
@@ -24,7 +24,7 @@ pub fn are_distinct(alloc: Global, fns: &[Function]) -> Result<bool, OutOfMemory
     Ok(true)
 }
 
-/// Whether no two functions of the trait have one name. The only error is want of memory.
+/// Tells whether no two functions of the trait have one name. The only error is want of memory.
 pub fn are_apart(alloc: Global, fns: &[TraitFn]) -> Result<bool, OutOfMemory>
     ensures { IfOk result (λ b. IsTrue b ↔ IsDistinct bytes_eq (fn_names fns.now)) }
 {

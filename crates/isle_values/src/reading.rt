@@ -30,7 +30,7 @@ fn next_simple(tokens: &Tokens<'_>) -> Option<Written>
     word_value(tokens.word()?)
 }
 
-/// A value of one word.
+/// Reads a value of one word.
 #[tactic(auto, using(isle_reading::proofs::Steps::words), unfolding(crate::specs::Reading::read_simple))]
 pub fn simple(tokens: &mut Tokens<'_>) -> Result<Written, Fail>
     ensures { Reads written result read_simple (left tokens.old) (left tokens.new) }
@@ -44,7 +44,7 @@ pub fn simple(tokens: &mut Tokens<'_>) -> Result<Written, Fail>
     }
 }
 
-/// A value whose parentheses nest at most `depth` deep, its lists of at most `most` tokens.
+/// Reads a value whose parentheses nest at most `depth` deep, its lists of at most `most` tokens.
 #[cycle(values)]
 #[tactic(auto, using(crate::proofs::ValueSteps::value_steps, crate::proofs::Sees::sees))]
 pub fn value(
@@ -69,7 +69,7 @@ pub fn value(
     }
 }
 
-/// Values up to a closing parenthesis, which is taken, of at most `most` tokens.
+/// Reads values up to a closing parenthesis, which is taken, of at most `most` tokens.
 #[cycle(values)]
 #[tactic(auto, using(crate::proofs::ValueSteps::lists))]
 pub fn parts(
@@ -93,7 +93,7 @@ pub fn parts(
     Err(Fail::At(tokens.len()))
 }
 
-/// A list of values, with its parentheses.
+/// Reads a list of values, with its parentheses.
 #[tactic(auto, using(isle_reading::proofs::Steps::chain), unfolding(crate::specs::Reading::read_list))]
 pub fn list(
     tokens: &mut Tokens<'_>,
@@ -107,7 +107,7 @@ pub fn list(
     parts(tokens, alloc, most, depth)
 }
 
-/// A list of values, of at most `most` tokens, and nothing behind it.
+/// Reads a list of values, of at most `most` tokens, and nothing behind it.
 #[tactic(auto, using(isle_reading::proofs::Steps::chain), unfolding(crate::specs::Reading::read_whole))]
 pub fn whole(tokens: &mut Tokens<'_>, alloc: Global, most: usize) -> Result<Vec<Written>, Fail>
     ensures { Reads (λ values. map written values.items) result (read_whole most) (left tokens.old) (left tokens.new) }

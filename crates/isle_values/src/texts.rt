@@ -23,8 +23,9 @@ fn listed(alloc: Global, tokens: &[Token<'_>]) -> Result<Vec<Written>, Fail>
     whole(&mut cursor, alloc, tokens.len())
 }
 
-/// The list of values that a text spells, `( V* )` and nothing behind it. A V is `true`, `false`, an integer, or `( N V* )`
-/// with a name N. None comes exactly where the text spells no such list with at most 256 parentheses open at once.
+/// Returns the list of values that a text spells, `( V* )` and nothing behind it. A V is `true`, `false`, an integer,
+/// or `( N V* )` with a name N. None comes exactly where the text spells no such list with at most 256 parentheses open
+/// at once.
 pub fn values(alloc: Global, text: &str) -> Result<Option<List<Written>>, OutOfMemory>
     ensures some { IfOk result (λ read. IfSome read (λ vs. SpellsValues text.now (seen vs))) }
     ensures only { IfOk result (λ read. IfSome read (λ vs. (others : Writtens) → SpellsValues text.now others → others ≡ seen vs)) }
