@@ -1,16 +1,16 @@
 -- The inputs that were read, one more, and the first that was not.
-use Rattle.std.proofs.Common.{◌≡◌, ℕ, ◌+◌, ◌<◌, ◌≤◌, List, [], ◌∷◌, ◌++◌, length, take, get_or, Option, Some, None, String, Global, Result, Err, refl, sym, ap, ◌∙◌, subst, arith}
+use Rattle.std.proofs.Common.{◌≡◌, ℕ, ◌+◌, ◌-◌, ◌^◌, ◌<◌, ◌⊎◌, List, [], ◌∷◌, ◌++◌, length, take, get_or, Option, Some, None, String, Global, Result, Err, refl, sym, ap, ◌∙◌, subst, arith}
 use Rattle.std.specs.Prelude.{IfSome}
 use Rattle.std.specs.String.{string_bytes}
 use Rattle.std.proofs.lemmas.Option.{slice_get_read, slice_get-map}
-use Rattle.std.proofs.lemmas.List.{take-map, take_more, map-append}
-use Rattle.isle_outside.specs.Directory.{Files, bytes_of, Rose}
-use Rattle.isle_outside.specs.Reading.{IsText, IsCause, Answers}
+use Rattle.std.proofs.lemmas.List.{take-map, take_more, length-map, map-append}
+use Rattle.isle_outside.specs.Directory.{Files, bytes_of, Counts, raised}
+use Rattle.isle_outside.specs.Reading.{IsText, IsCause, Answers, CountsFault, RoseAt}
 use Rattle.isle_outside.specs.declared.errors.IoCause.{IoCause}
 use Rattle.isle_outside.specs.declared.errors.IoCause.TheVariants as cause
 use Rattle.isle_outside.specs.declared.errors.ReadFail.{ReadFail}
 use Rattle.isle_outside.specs.declared.errors.ReadFail.TheVariants as fail
-use Rattle.isle_core.specs.Inputs.{bytes_each, AreRead, RoseAt, Fails, failure_at}
+use Rattle.isle_core.specs.Inputs.{bytes_each, AreRead, Fails, FailsAt, IsTried, failure_at}
 use Rattle.isle_core.specs.declared.read_error.ReadError.TheVariants as error
 
 one_more : (files : Files) (names texts : List (List ℕ)) (name text : List ℕ) → AreRead files names texts → IsText text (bytes_of files name) → AreRead files (names ++ name ∷ []) (texts ++ text ∷ [])
@@ -29,34 +29,34 @@ read_more (Some files) names texts i x text lt is h k =
     let each : bytes_each (take (i + 1) names) ≡ bytes_each (take i names) ++ string_bytes x ∷ [] = ap bytes_each all ∙ map-append string_bytes (take i names) (x ∷ []) in
     subst (λ ns. AreRead files ns (texts ++ text ∷ [])) (sym each) (one_more files (bytes_each (take i names)) texts (string_bytes x) text h k)
 
-rose_at : (why : IoCause) (old before after : ℕ) → old ≤ before → before ≤ after → (why ≡ cause.Fault → Rose before after) → RoseAt why old after
-rose_at cause.Fault old before after h k r = let rose = r refl in grind arith
-rose_at cause.Absent old before after h k r = tt
-rose_at cause.NotUtf8 old before after h k r = tt
-rose_at cause.TooLong old before after h k r = tt
+-- one name more was looked up
+pub tries_more : (i start mid after : ℕ) → (mid ≡ start + i) ⊎ (mid ≡ 2 ^ 64 - 1) → after ≡ raised 1 mid → (after ≡ start + (i + 1)) ⊎ (after ≡ 2 ^ 64 - 1)
+tries_more i start mid after h k = grind arith
+
+rose_at : (why : IoCause) (start before after : ℕ) → before ≡ start → RoseAt why before after → RoseAt why start after
+rose_at why start before after h r = rw (← h) r
 
 -- the input at the place is the first that is not read
-pub fails_here : (why : IoCause) (files : Option Files) (names : List (String Global)) (texts : List (List ℕ)) (i : ℕ) (x : String Global) (old before after : ℕ)
+fails_here : (why : IoCause) (files : Option Files) (names : List (String Global)) (texts : List (List ℕ)) (i : ℕ) (x : String Global)
     → i < length names → x ≡ get_or names i x → IfSome files (λ fs. AreRead fs (bytes_each (take i names)) texts)
-    → IfSome files (λ fs. IsCause why (bytes_of fs (string_bytes x))) → (why ≡ cause.Fault → Rose before after) → old ≤ before → before ≤ after
-    → Fails (error.Io i why) files (bytes_each names) old after
-fails_here why None names texts i x old before after lt is r f fault h k = (rose_at why old before after h k fault, tt)
-fails_here why (Some fs) names texts i x old before after lt is r f fault h k = (
-  rose_at why old before after h k fault,
-  record {
-    before = (texts, rw take-map r);
-    here = rw (slice_get-map, slice_get_read names (length names) i x refl lt is) f;
-  },
-)
-
-not_fault : (why : IoCause) (before after : ℕ) → (let r : Result (String Global) ReadFail = Err (fail.Io why) in r ≡ Err (fail.Io cause.Fault) → Rose before after) → why ≡ cause.Fault → Rose before after
-not_fault why before after h e = h (ap (λ w. Err (fail.Io w)) e)
+    → IfSome files (λ fs. IsCause why (bytes_of fs (string_bytes x))) → IfSome files (λ fs. FailsAt fs (bytes_each names) i why)
+fails_here why None names texts i x lt is r f = tt
+fails_here why (Some fs) names texts i x lt is r f = record {
+  before = (texts, rw take-map r);
+  here = rw (slice_get-map, slice_get_read names (length names) i x refl lt is) f;
+}
 
 -- the failure of the input at the place
-pub fails_at : (f : ReadFail) (files : Option Files) (names : List (String Global)) (texts : List (List ℕ)) (i : ℕ) (x : String Global) (old before after : ℕ)
+pub fails_at : (f : ReadFail) (files : Option Files) (names : List (String Global)) (texts : List (List ℕ)) (i : ℕ) (x : String Global) (old before after : Counts)
     → i < length names → x ≡ get_or names i x → IfSome files (λ fs. AreRead fs (bytes_each (take i names)) texts)
     → IfSome files (λ fs. Answers {X = String Global} string_bytes (Err f) (bytes_of fs (string_bytes x)))
-    → (let r : Result (String Global) ReadFail = Err f in r ≡ Err (fail.Io cause.Fault) → Rose before after) → old ≤ before → before ≤ after
+    → (let r : Result (String Global) ReadFail = Err f in CountsFault r before.faults after.faults) → before.faults ≡ old.faults
+    → IsTried i old before → after.finds ≡ raised 1 before.finds
     → Fails (failure_at i f) files (bytes_each names) old after
-fails_at fail.Memory files names texts i x old before after lt is r f fault h k = tt
-fails_at (fail.Io why) files names texts i x old before after lt is r f fault h k = fails_here why files names texts i x old before after lt is r f (not_fault why before after fault) h k
+fails_at fail.Memory files names texts i x old before after lt is r f fault same tried find = fault ∙ same
+fails_at (fail.Io why) files names texts i x old before after lt is r f fault same tried find = (
+  rw (length-map names string_bytes) lt,
+  tries_more i old.finds before.finds after.finds tried find,
+  rose_at why old.faults before.faults after.faults same fault,
+  fails_here why files names texts i x lt is r f,
+)

@@ -1,9 +1,9 @@
 -- What reading several inputs answers.
-use Rattle.std.specs.Prelude.{ℕ, List, [], ◌∷◌, map, take, Option, IfSome, IsSomeAnd, String, slice_get}
+use Rattle.std.specs.Prelude.{◌≡◌, ℕ, ◌+◌, ◌-◌, ◌^◌, ◌<◌, ◌⊎◌, List, [], ◌∷◌, length, map, take, Option, IfSome, IsSomeAnd, String, slice_get}
 use Rattle.std.specs.String.{string_bytes}
 use Rattle.std.specs.declared.alloc.Global.{Global}
-use Rattle.isle_outside.specs.Directory.{Files, bytes_of, Rose}
-use Rattle.isle_outside.specs.Reading.{IsCause, IsText}
+use Rattle.isle_outside.specs.Directory.{Files, bytes_of, Counts}
+use Rattle.isle_outside.specs.Reading.{IsCause, IsText, RoseAt}
 use Rattle.isle_outside.specs.declared.errors.IoCause.{IoCause}
 use Rattle.isle_outside.specs.declared.errors.IoCause.TheVariants as cause
 use Rattle.isle_outside.specs.declared.errors.ReadFail.{ReadFail}
@@ -27,19 +27,17 @@ abbrev pub failure_at : ℕ → ReadFail → ReadError
 failure_at index (fail.Io why) = error.Io index why
 failure_at index fail.Memory = error.Memory
 
--- the count rose, where the cause is a fault
-abbrev pub RoseAt : IoCause → ℕ → ℕ → Type 0
-RoseAt cause.Fault before after = Rose before after
-RoseAt cause.Absent before after = Unit {0}
-RoseAt cause.TooLong before after = Unit {0}
-RoseAt cause.NotUtf8 before after = Unit {0}
+-- so many names were looked up, or that count stands at its limit
+abbrev pub IsTried : ℕ → Counts → Counts → Type 0
+IsTried n before after = (after.finds ≡ before.finds + n) ⊎ (after.finds ≡ 2 ^ 64 - 1)
 
 -- the input at the place is the first that is not read, for this cause
 pub record FailsAt (files : Files) (names : List (List ℕ)) (index : ℕ) (why : IoCause) : Type 0 where
   pub before : (texts : List (List ℕ)) × AreRead files (take index names) texts
   pub here : IsSomeAnd (slice_get names index) (λ name. IsCause why (bytes_of files name))
 
--- why inputs are not read: the first that is not, where the directory tells its files, or want of memory
-abbrev pub Fails : ReadError → Option Files → List (List ℕ) → ℕ → ℕ → Type 0
-Fails error.Memory files names before after = Unit {0}
-Fails (error.Io index why) files names before after = RoseAt why before after × IfSome files (λ fs. FailsAt fs names index why)
+-- why inputs are not read: the first that is not, which is the last that was looked up, or want of memory
+abbrev pub Fails : ReadError → Option Files → List (List ℕ) → Counts → Counts → Type 0
+Fails error.Memory files names before after = after.faults ≡ before.faults
+Fails (error.Io index why) files names before after =
+    (index < length names) × IsTried (index + 1) before after × RoseAt why before.faults after.faults × IfSome files (λ fs. FailsAt fs names index why)

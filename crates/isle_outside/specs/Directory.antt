@@ -1,5 +1,5 @@
 -- What a directory is, apart from how it is kept.
-use Rattle.std.specs.Prelude.{◌≡◌, ℕ, ◌-◌, ◌^◌, ◌≤◌, ◌<◌, ◌⊎◌, List, [], ◌∷◌, length, take, drop, Bool, true, false, ◌==◌, Option, Some, None, IfSome, IsSomeAnd, if◌then◌else◌, option_and_then, IsPermutation}
+use Rattle.std.specs.Prelude.{◌≡◌, ℕ, ◌+◌, ◌-◌, ◌^◌, ◌≤◌, ◌<◌, ◌⊎◌, List, [], ◌∷◌, length, take, drop, min, max, Bool, true, false, ◌==◌, Option, Some, None, IfSome, IsSomeAnd, if◌then◌else◌, option_and_then, IsPermutation}
 use Rattle.std.specs.Option.{is_some}
 use Rattle.std.specs.List.{filter_map, list_any}
 use Rattle.std.specs.Str.{bytes_eq}
@@ -40,6 +40,17 @@ plain name = if list_any (λ b. b == 47) name then None else Some name
 abbrev pub directly_in : Files → List ℕ → List (List ℕ)
 directly_in files folder = filter_map (λ file. option_and_then plain (behind folder file.0)) files
 
+-- the counts of a directory, each up to 2^64 - 1: how often it failed, how often a name was looked up, and how many bytes
+-- of files it gave
+pub record Counts : Type 0 where
+  pub faults : ℕ
+  pub finds : ℕ
+  pub given : ℕ
+
+-- a count and so many more, up to its limit
+abbrev pub raised : ℕ → ℕ → ℕ
+raised n count = min (count + n) (2 ^ 64 - 1)
+
 -- a count of faults rose, or stood at its limit
 abbrev pub Rose : ℕ → ℕ → Type 0
 Rose before after = (before < after) ⊎ (before ≡ 2 ^ 64 - 1)
@@ -78,3 +89,18 @@ KeepsOthers (Some old) new name = IsSomeAnd new (λ fs. (other : List ℕ) → (
 -- the file of the name holds the bytes, where the directory tells
 abbrev pub Holds : Option Files → List ℕ → List ℕ → Type 0
 Holds files name bytes = IfSome files (λ fs. bytes_of fs name ≡ Some bytes)
+
+-- how many entries of a name there are
+abbrev pub entries_of : Files → List ℕ → ℕ
+entries_of [] name = 0
+entries_of (file ∷ files) name = if bytes_eq file.0 name then entries_of files name + 1 else entries_of files name
+
+-- the file of a name joins no second entry of the name, and every other name has the entries that it had
+pub record AddsNoSecond (old new : Files) (name : List ℕ) : Type 0 where
+  pub here : entries_of new name ≤ max 1 (entries_of old name)
+  pub others : (other : List ℕ) → (other ≡ name → ⊥) → entries_of new other ≡ entries_of old other
+
+-- the same where the directory tells its files
+abbrev pub KeepsEntries : Option Files → Option Files → List ℕ → Type 0
+KeepsEntries None new name = new ≡ None
+KeepsEntries (Some old) new name = IsSomeAnd new (λ fs. AddsNoSecond old fs name)

@@ -3,7 +3,7 @@ use Rattle.std.specs.Prelude.{◌≡◌, ℕ, ◌^◌, ◌+◌, ◌-◌, List, [
 use Rattle.std.specs.String.{string_bytes}
 use Rattle.std.specs.Str.{bytes_eq}
 use Rattle.std.specs.declared.alloc.Global.{Global}
-use Rattle.isle_outside.specs.Directory.{Files, Current, Nothing, Reading, InFolder}
+use Rattle.isle_outside.specs.Directory.{Files, Current, Nothing, Reading, InFolder, Counts}
 use Rattle.isle_outside.specs.Failures.{counted, is_failing}
 use Rattle.isle_outside.specs.declared.mem_dir.MemDir.{MemDir}
 use Rattle.isle_outside.specs.declared.mem_dir.State.{State}
@@ -45,6 +45,10 @@ files_in dir = files_of dir.files.items
 abbrev pub current_in : MemDir → Current
 current_in dir = current_at dir.state dir.files.items
 
+-- the counts of a directory in memory
+abbrev pub counts_in : MemDir → Counts
+counts_in dir = record { faults = dir.faults; finds = dir.finds; given = dir.given }
+
 -- how often a directory in memory has failed
 abbrev pub faults_in : MemDir → ℕ
 faults_in dir = dir.faults
@@ -65,8 +69,8 @@ left_in Nothing = 0
 left_in (InFolder name) = 0
 
 -- a call was counted, and failed just where its number is among those that fail; each failure is a fault
-abbrev pub Counts : MemDir → MemDir → Bool → Type 0
-Counts old new failed = (failed ≡ is_failing old.failures.calls old.failures.numbers.items)
+abbrev pub IsCounted : MemDir → MemDir → Bool → Type 0
+IsCounted old new failed = (failed ≡ is_failing old.failures.calls old.failures.numbers.items)
     × (new.failures.calls ≡ min (old.failures.calls + 1) (2 ^ 64 - 1))
     × (new.failures.numbers ≡ old.failures.numbers)
     × (new.piece ≡ old.piece)

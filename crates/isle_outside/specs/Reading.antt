@@ -1,7 +1,7 @@
 -- What reading a file to its end answers.
 use Rattle.std.specs.Prelude.{◌≡◌, ℕ, ◌^◌, ◌≤◌, ◌<◌, List, ◌++◌, length, drop, Option, Some, None, IsSomeAnd, Result, Ok, Err}
 use Rattle.std.specs.Str.{IsUtf8}
-use Rattle.isle_outside.specs.Directory.{Current, Nothing, Reading, InFolder}
+use Rattle.isle_outside.specs.Directory.{Current, Nothing, Reading, InFolder, Rose}
 use Rattle.isle_outside.specs.declared.errors.IoCause.{IoCause}
 use Rattle.isle_outside.specs.declared.errors.IoCause.TheVariants as cause
 use Rattle.isle_outside.specs.declared.errors.ReadFail.{ReadFail}
@@ -52,3 +52,16 @@ Told view (Err (fail.Io cause.Fault)) all = Unit {0}
 Told view (Err (fail.Io cause.Absent)) all = ⊥
 Told view (Err (fail.Io cause.NotUtf8)) all = ⊥
 Told view (Err fail.Memory) all = Unit {0}
+
+-- the count of faults rose where the cause is a fault, and is what it was where it is another
+abbrev pub RoseAt : IoCause → ℕ → ℕ → Type 0
+RoseAt cause.Fault before after = Rose before after
+RoseAt cause.Absent before after = after ≡ before
+RoseAt cause.TooLong before after = after ≡ before
+RoseAt cause.NotUtf8 before after = after ≡ before
+
+-- the count of faults rose where the answer is a fault, and is what it was at every other answer
+abbrev pub CountsFault : {X : Type 0} → Result X ReadFail → ℕ → ℕ → Type 0
+CountsFault (Ok x) before after = after ≡ before
+CountsFault (Err (fail.Io why)) before after = RoseAt why before after
+CountsFault (Err fail.Memory) before after = after ≡ before

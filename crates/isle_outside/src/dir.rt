@@ -1,6 +1,7 @@
-ghost use Rattle.std.specs.Prelude.{◌≡◌, ℕ, ◌≤◌, ◌<◌, Option, None, Err, length, take, map, IfOk, OnOk, OnErr};
+ghost use Rattle.std.specs.Prelude.{◌≡◌, ◌-◌, ◌^◌, ◌≤◌, ◌<◌, Option, None, Err, false, length, take, map, IfOk, OnOk, OnErr};
 ghost use Rattle.std.specs.String.{string_bytes};
-ghost use Rattle.isle_outside.specs.Directory.{Files, Current, Nothing, InFolder, Finds, IsReading, Gives, Lists, KeepsOthers, Holds, Rose};
+ghost use Rattle.isle_outside.specs.Directory.{Files, Current, Nothing, InFolder, Finds, IsReading, Gives, Lists, KeepsOthers, KeepsEntries, Holds, Counts, raised, Rose};
+ghost use Rattle.isle_outside.specs.Failures.{is_fault};
 
 use crate::errors::{DirFault, Failed};
 use std::alloc::Global;
@@ -15,8 +16,9 @@ pub enum Found {
 
 /// A directory of files. A folder is a name that stands before a `/` in a file's name; a name that is both is a file.
 ///
-/// The count of faults never falls, and stays at 2^64 - 1 once it stands there. `Failed` comes only where the count
-/// rose in that call, or stood there. After `Failed`, `Absent`, `list` and `write_file` nothing is current.
+/// The count of faults never falls, rises in no call that doesn't fail, and stays at 2^64 - 1 once it stands there.
+/// `Failed` comes only where the count rose in that call, or stood there. After `Failed`, `Absent`, `list` and
+/// `write_file` nothing is current.
 pub trait Dir {
     /// The files, where it tells them.
     ghost files: { Self → Option Files };
@@ -24,15 +26,19 @@ pub trait Dir {
     /// What is current.
     ghost current: { Self → Current };
 
-    /// How often it has failed, up to 2^64 - 1.
-    ghost faults: { Self → ℕ };
+    /// How often it has failed, how often a name was looked up, and how many bytes it gave, each up to 2^64 - 1.
+    ghost counts: { Self → Counts };
 
     /// Looks a name up, and makes the file or folder that has it current.
     fn find(&mut self, name: &str) -> Result<Found, Failed>
         ensures found { IfOk result (λ found. Finds (files self.old) name.now found (current self.new)) }
         ensures files { files self.new ≡ files self.old }
-        ensures later { faults self.old ≤ faults self.new }
-        ensures failed { OnErr result (Rose (faults self.old) (faults self.new)) }
+        ensures later { (counts self.old).faults ≤ (counts self.new).faults }
+        ensures stays { (counts self.old).faults ≡ 2 ^ 64 - 1 → (counts self.new).faults ≡ 2 ^ 64 - 1 }
+        ensures failed { OnErr result (Rose (counts self.old).faults (counts self.new).faults) }
+        ensures steady { OnOk result ((counts self.new).faults ≡ (counts self.old).faults) }
+        ensures finds { (counts self.new).finds ≡ raised 1 (counts self.old).finds }
+        ensures given { (counts self.new).given ≡ (counts self.old).given }
         ensures nothing { OnErr result (current self.new ≡ Nothing) };
 
     /// The number of the next bytes of the current file, which stand at the front of the buffer then; 0 is the end.
@@ -42,8 +48,13 @@ pub trait Dir {
         ensures within { IfOk result (λ n. n ≤ length buf.new) }
         ensures gives { IfOk result (λ n. Gives (current self.old) (current self.new) n buf.new) }
         ensures files { files self.new ≡ files self.old }
-        ensures later { faults self.old ≤ faults self.new }
-        ensures failed { OnErr result (Rose (faults self.old) (faults self.new)) }
+        ensures later { (counts self.old).faults ≤ (counts self.new).faults }
+        ensures stays { (counts self.old).faults ≡ 2 ^ 64 - 1 → (counts self.new).faults ≡ 2 ^ 64 - 1 }
+        ensures failed { OnErr result (Rose (counts self.old).faults (counts self.new).faults) }
+        ensures steady { OnOk result ((counts self.new).faults ≡ (counts self.old).faults) }
+        ensures finds { (counts self.new).finds ≡ (counts self.old).finds }
+        ensures given { IfOk result (λ n. (counts self.new).given ≡ raised n (counts self.old).given) }
+        ensures ungiven { OnErr result ((counts self.new).given ≡ (counts self.old).given) }
         ensures nothing { OnErr result (current self.new ≡ Nothing) };
 
     /// The names of the files directly in the current folder, in any order. A name that isn't UTF-8 is a fault.
@@ -51,16 +62,25 @@ pub trait Dir {
         requires { current self.old ≡ InFolder name.now }
         ensures names { IfOk result (λ names. Lists (files self.old) name.now (map string_bytes names.items)) }
         ensures files { files self.new ≡ files self.old }
-        ensures later { faults self.old ≤ faults self.new }
-        ensures failed { result ≡ Err DirFault.Failed → Rose (faults self.old) (faults self.new) }
+        ensures later { (counts self.old).faults ≤ (counts self.new).faults }
+        ensures stays { (counts self.old).faults ≡ 2 ^ 64 - 1 → (counts self.new).faults ≡ 2 ^ 64 - 1 }
+        ensures failed { result ≡ Err DirFault.Failed → Rose (counts self.old).faults (counts self.new).faults }
+        ensures steady { is_fault result ≡ false → (counts self.new).faults ≡ (counts self.old).faults }
+        ensures finds { (counts self.new).finds ≡ (counts self.old).finds }
+        ensures given { (counts self.new).given ≡ (counts self.old).given }
         ensures nothing { current self.new ≡ Nothing };
 
     /// Makes the file of the name hold these bytes. After `Failed` that file may hold anything, after `Memory` all files are as before.
     fn write_file(&mut self, name: &str, bytes: &[u8]) -> Result<(), DirFault>
         ensures holds { OnOk result (Holds (files self.new) name.now bytes.now) }
         ensures others { KeepsOthers (files self.old) (files self.new) name.now }
+        ensures entries { KeepsEntries (files self.old) (files self.new) name.now }
         ensures memory { result ≡ Err DirFault.Memory → files self.new ≡ files self.old }
-        ensures later { faults self.old ≤ faults self.new }
-        ensures failed { result ≡ Err DirFault.Failed → Rose (faults self.old) (faults self.new) }
+        ensures later { (counts self.old).faults ≤ (counts self.new).faults }
+        ensures stays { (counts self.old).faults ≡ 2 ^ 64 - 1 → (counts self.new).faults ≡ 2 ^ 64 - 1 }
+        ensures failed { result ≡ Err DirFault.Failed → Rose (counts self.old).faults (counts self.new).faults }
+        ensures steady { is_fault result ≡ false → (counts self.new).faults ≡ (counts self.old).faults }
+        ensures finds { (counts self.new).finds ≡ (counts self.old).finds }
+        ensures given { (counts self.new).given ≡ (counts self.old).given }
         ensures nothing { current self.new ≡ Nothing };
 }

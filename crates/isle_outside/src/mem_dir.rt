@@ -1,4 +1,4 @@
-ghost use Rattle.std.specs.Prelude.{◌≡◌, ◌<◌};
+ghost use Rattle.std.specs.Prelude.{◌≡◌, ◌-◌, ◌^◌, ◌<◌};
 
 use crate::dir::{Dir, Found};
 use crate::errors::{DirFault, Failed};
@@ -24,6 +24,8 @@ pub struct MemDir {
     failures: Failures,
     piece: usize,
     faults: u64,
+    finds: u64,
+    given: u64,
     state: State,
     ghost some: { 0 < piece },
 }
@@ -31,7 +33,7 @@ pub struct MemDir {
 impl MemDir {
     ghost use Rattle.std.specs.Prelude.{◌≤◌, true, false};
     ghost use Rattle.isle_outside.specs.Directory.{Nothing, Rose};
-    ghost use Rattle.isle_outside.specs.Memory.{Counts, IsUnused, current_in, faults_in, files_in, files_of, piece_in};
+    ghost use Rattle.isle_outside.specs.Memory.{IsCounted, IsUnused, current_in, faults_in, files_in, files_of, piece_in};
 
     /// A directory of these files, in which nothing is current. The first call of a method of `Dir` has number 1.
     pub fn new(
@@ -53,6 +55,8 @@ impl MemDir {
             failures: Failures::new(fails),
             piece,
             faults: 0,
+            finds: 0,
+            given: 0,
             state: State::Nothing,
         }
     }
@@ -73,11 +77,14 @@ impl MemDir {
 
     /// Counts a call, and says whether it is to fail; then it is a fault, and nothing is current.
     fn fails_now(&mut self) -> bool
-        ensures counts { Counts self.old self.new result }
+        ensures counts { IsCounted self.old self.new result }
         ensures files { self.new.files ≡ self.old.files }
         ensures state { result ≡ false → self.new.state ≡ self.old.state }
         ensures nothing { result ≡ true → self.new.state ≡ State.Nothing }
         ensures later { faults_in self.old ≤ faults_in self.new }
+        ensures stays { faults_in self.old ≡ 2 ^ 64 - 1 → faults_in self.new ≡ 2 ^ 64 - 1 }
+        ensures finds { self.new.finds ≡ self.old.finds }
+        ensures given { self.new.given ≡ self.old.given }
         ensures rose { result ≡ true → Rose (faults_in self.old) (faults_in self.new) }
     {
         if !self.failures.next_fails() {
@@ -90,26 +97,31 @@ impl MemDir {
 }
 
 impl Dir for MemDir {
-    ghost use Rattle.std.specs.Prelude.{◌≤◌, Some, Err, min, length, map, is_err, IfOk, OnOk, OnErr};
+    ghost use Rattle.std.specs.Prelude.{◌≤◌, Some, Err, false, min, length, map, is_err, IfOk, OnOk, OnErr};
     ghost use Rattle.std.specs.String.{string_bytes};
-    ghost use Rattle.isle_outside.specs.Directory.{Nothing, InFolder, Finds, IsReading, Gives, Lists, KeepsOthers, Holds, Rose};
+    ghost use Rattle.isle_outside.specs.Directory.{Nothing, InFolder, Finds, IsReading, Gives, Lists, KeepsOthers, KeepsEntries, Holds, raised, Rose};
     ghost use Rattle.isle_outside.specs.Failures.{is_fault};
-    ghost use Rattle.isle_outside.specs.Memory.{Counts, current_in, faults_in, files_in, left_in, piece_in, written};
+    ghost use Rattle.isle_outside.specs.Memory.{IsCounted, counts_in, current_in, files_in, left_in, piece_in, written};
 
     ghost files = { λ d. Some (files_in d) };
 
     ghost current = { λ d. current_in d };
 
-    ghost faults = { λ d. faults_in d };
+    ghost counts = { λ d. counts_in d };
 
     fn find(&mut self, name: &str) -> Result<Found, Failed>
         ensures found { IfOk result (λ found. Finds (Some (files_in self.old)) name.now found (current_in self.new)) }
         ensures files { Some (files_in self.new) ≡ Some (files_in self.old) }
-        ensures later { faults_in self.old ≤ faults_in self.new }
-        ensures failed { OnErr result (Rose (faults_in self.old) (faults_in self.new)) }
+        ensures later { (counts_in self.old).faults ≤ (counts_in self.new).faults }
+        ensures stays { (counts_in self.old).faults ≡ 2 ^ 64 - 1 → (counts_in self.new).faults ≡ 2 ^ 64 - 1 }
+        ensures failed { OnErr result (Rose ((counts_in self.old).faults) ((counts_in self.new).faults)) }
+        ensures steady { OnOk result ((counts_in self.new).faults ≡ (counts_in self.old).faults) }
+        ensures finds { (counts_in self.new).finds ≡ raised 1 (counts_in self.old).finds }
+        ensures given { (counts_in self.new).given ≡ (counts_in self.old).given }
         ensures nothing { OnErr result (current_in self.new ≡ Nothing) }
-        ensures counts { Counts self.old self.new (is_err result) }
+        ensures counts { IsCounted self.old self.new (is_err result) }
     {
+        self.finds = self.finds.saturating_add(1);
         if self.fails_now() {
             return Err(Failed);
         }
@@ -131,10 +143,15 @@ impl Dir for MemDir {
         ensures within { IfOk result (λ n. n ≤ length buf.new) }
         ensures gives { IfOk result (λ n. Gives (current_in self.old) (current_in self.new) n buf.new) }
         ensures files { Some (files_in self.new) ≡ Some (files_in self.old) }
-        ensures later { faults_in self.old ≤ faults_in self.new }
-        ensures failed { OnErr result (Rose (faults_in self.old) (faults_in self.new)) }
+        ensures later { (counts_in self.old).faults ≤ (counts_in self.new).faults }
+        ensures stays { (counts_in self.old).faults ≡ 2 ^ 64 - 1 → (counts_in self.new).faults ≡ 2 ^ 64 - 1 }
+        ensures failed { OnErr result (Rose ((counts_in self.old).faults) ((counts_in self.new).faults)) }
+        ensures steady { OnOk result ((counts_in self.new).faults ≡ (counts_in self.old).faults) }
+        ensures finds { (counts_in self.new).finds ≡ (counts_in self.old).finds }
+        ensures given { IfOk result (λ n. (counts_in self.new).given ≡ raised n (counts_in self.old).given) }
+        ensures ungiven { OnErr result ((counts_in self.new).given ≡ (counts_in self.old).given) }
         ensures nothing { OnErr result (current_in self.new ≡ Nothing) }
-        ensures counts { Counts self.old self.new (is_err result) }
+        ensures counts { IsCounted self.old self.new (is_err result) }
         ensures most { IfOk result (λ n. n ≡ min (min (length buf.old) (piece_in self.old)) (left_in (current_in self.old))) }
     {
         if self.fails_now() {
@@ -150,6 +167,7 @@ impl Dir for MemDir {
         let n = buf.len().min(self.piece).min(bytes.len() - at);
         buf[..n].copy_from_slice(&bytes[at..at + n]);
         self.state = State::Reading(file, at + n);
+        self.given = self.given.saturating_add(n as u64);
         Ok(n)
     }
 
@@ -157,10 +175,14 @@ impl Dir for MemDir {
         requires { current_in self.old ≡ InFolder name.now }
         ensures names { IfOk result (λ names. Lists (Some (files_in self.old)) name.now (map string_bytes names.items)) }
         ensures files { Some (files_in self.new) ≡ Some (files_in self.old) }
-        ensures later { faults_in self.old ≤ faults_in self.new }
-        ensures failed { result ≡ Err DirFault.Failed → Rose (faults_in self.old) (faults_in self.new) }
+        ensures later { (counts_in self.old).faults ≤ (counts_in self.new).faults }
+        ensures stays { (counts_in self.old).faults ≡ 2 ^ 64 - 1 → (counts_in self.new).faults ≡ 2 ^ 64 - 1 }
+        ensures failed { result ≡ Err DirFault.Failed → Rose ((counts_in self.old).faults) ((counts_in self.new).faults) }
+        ensures steady { is_fault result ≡ false → (counts_in self.new).faults ≡ (counts_in self.old).faults }
+        ensures finds { (counts_in self.new).finds ≡ (counts_in self.old).finds }
+        ensures given { (counts_in self.new).given ≡ (counts_in self.old).given }
         ensures nothing { current_in self.new ≡ Nothing }
-        ensures counts { Counts self.old self.new (is_fault result) }
+        ensures counts { IsCounted self.old self.new (is_fault result) }
     {
         if self.fails_now() {
             return Err(DirFault::Failed);
@@ -172,11 +194,16 @@ impl Dir for MemDir {
     fn write_file(&mut self, name: &str, bytes: &[u8]) -> Result<(), DirFault>
         ensures holds { OnOk result (Holds (Some (files_in self.new)) name.now bytes.now) }
         ensures others { KeepsOthers (Some (files_in self.old)) (Some (files_in self.new)) name.now }
+        ensures entries { KeepsEntries (Some (files_in self.old)) (Some (files_in self.new)) name.now }
         ensures memory { result ≡ Err DirFault.Memory → Some (files_in self.new) ≡ Some (files_in self.old) }
-        ensures later { faults_in self.old ≤ faults_in self.new }
-        ensures failed { result ≡ Err DirFault.Failed → Rose (faults_in self.old) (faults_in self.new) }
+        ensures later { (counts_in self.old).faults ≤ (counts_in self.new).faults }
+        ensures stays { (counts_in self.old).faults ≡ 2 ^ 64 - 1 → (counts_in self.new).faults ≡ 2 ^ 64 - 1 }
+        ensures failed { result ≡ Err DirFault.Failed → Rose ((counts_in self.old).faults) ((counts_in self.new).faults) }
+        ensures steady { is_fault result ≡ false → (counts_in self.new).faults ≡ (counts_in self.old).faults }
+        ensures finds { (counts_in self.new).finds ≡ (counts_in self.old).finds }
+        ensures given { (counts_in self.new).given ≡ (counts_in self.old).given }
         ensures nothing { current_in self.new ≡ Nothing }
-        ensures counts { Counts self.old self.new (is_fault result) }
+        ensures counts { IsCounted self.old self.new (is_fault result) }
         ensures exact { OnOk result (files_in self.new ≡ written (files_in self.old) name.now bytes.now) }
         ensures kept { OnErr result (files_in self.new ≡ files_in self.old) }
     {

@@ -67,6 +67,7 @@ impl MemSink {
         ensures bytes { self.new.bytes ≡ self.old.bytes }
         ensures faults { self.new.faults ≡ counted true self.old.faults }
         ensures later { self.old.faults ≤ self.new.faults }
+        ensures stays { self.old.faults ≡ 2 ^ 64 - 1 → self.new.faults ≡ 2 ^ 64 - 1 }
         ensures rose { Rose self.old.faults self.new.faults }
     {
         self.faults = self.faults.saturating_add(1);
@@ -93,6 +94,7 @@ impl Sink for MemSink {
         ensures taken { IfOk result (λ n. Took (Some self.old.bytes.items) (Some self.new.bytes.items) (take n bytes.now)) }
         ensures untouched { OnErr result (Some self.new.bytes.items ≡ Some self.old.bytes.items) }
         ensures later { self.old.faults ≤ self.new.faults }
+        ensures stays { self.old.faults ≡ 2 ^ 64 - 1 → self.new.faults ≡ 2 ^ 64 - 1 }
         ensures failed { OnErr result (Rose self.old.faults self.new.faults) }
         ensures fails { is_err result ≡ (is_failing self.old.failures.calls self.old.failures.numbers.items
             || (nat_lt 0 (length bytes.now) && (self.old.room == vec_len self.old.bytes))) }

@@ -1,8 +1,8 @@
-ghost use Rattle.std.specs.Prelude.{◌≡◌, ◌≤◌, ◌↔◌, ◌⊎◌, IsTrue, true, None, IfOk, OnErr, is_err};
+ghost use Rattle.std.specs.Prelude.{◌≡◌, ◌-◌, ◌^◌, ◌≤◌, ◌↔◌, ◌⊎◌, IsTrue, true, None, IfOk, OnOk, OnErr, is_err};
 ghost use Rattle.std.specs.String.{string_bytes};
 ghost use Rattle.std.specs.Path.{path_buf_bytes, path_join};
 ghost use Rattle.std.specs.IoError.{error_kind};
-ghost use Rattle.isle_outside.specs.Directory.{Rose, Nothing, Finds};
+ghost use Rattle.isle_outside.specs.Directory.{Rose, Nothing, Finds, raised};
 ghost use Rattle.isle_outside.specs.Failures.{counted};
 ghost use Rattle.isle_outside.specs.Machine.{opened};
 
@@ -28,6 +28,8 @@ pub struct StdDir<R: Files> {
     file: Option<R::File>,
     folder: Option<String>,
     faults: u64,
+    finds: u64,
+    given: u64,
 }
 
 impl<R: Files + AllocGlobal + Clone + Drop> StdDir<R> {
@@ -44,6 +46,8 @@ impl<R: Files + AllocGlobal + Clone + Drop> StdDir<R> {
             file: None,
             folder: None,
             faults: 0,
+            finds: 0,
+            given: 0,
         }
     }
 
@@ -59,6 +63,8 @@ impl<R: Files + AllocGlobal + Clone + Drop> StdDir<R> {
         ensures file { self.new.file ≡ None }
         ensures folder { self.new.folder ≡ None }
         ensures faults { self.new.faults ≡ self.old.faults }
+        ensures finds { self.new.finds ≡ self.old.finds }
+        ensures given { self.new.given ≡ self.old.given }
     {
         self.file = None;
         self.folder = None;
@@ -70,7 +76,10 @@ impl<R: Files + AllocGlobal + Clone + Drop> StdDir<R> {
         ensures folder { self.new.folder ≡ None }
         ensures faults { self.new.faults ≡ counted true self.old.faults }
         ensures later { self.old.faults ≤ self.new.faults }
+        ensures stays { self.old.faults ≡ 2 ^ 64 - 1 → self.new.faults ≡ 2 ^ 64 - 1 }
         ensures rose { Rose self.old.faults self.new.faults }
+        ensures finds { self.new.finds ≡ self.old.finds }
+        ensures given { self.new.given ≡ self.old.given }
     {
         self.file = None;
         self.folder = None;
@@ -83,8 +92,12 @@ impl<R: Files + AllocGlobal + Clone + Drop> StdDir<R> {
         requires { opened self.old.file self.old.folder ≡ Nothing }
         ensures found { IfOk result (λ found. Finds None name.now found (opened self.new.file self.new.folder)) }
         ensures later { self.old.faults ≤ self.new.faults }
+        ensures stays { self.old.faults ≡ 2 ^ 64 - 1 → self.new.faults ≡ 2 ^ 64 - 1 }
         ensures failed { OnErr result (Rose self.old.faults self.new.faults) }
         ensures nothing { OnErr result (opened self.new.file self.new.folder ≡ Nothing) }
+        ensures steady { OnOk result (self.new.faults ≡ self.old.faults) }
+        ensures finds { self.new.finds ≡ self.old.finds }
+        ensures given { self.new.given ≡ self.old.given }
         ensures counted { self.new.faults ≡ counted (is_err result) self.old.faults }
     {
         let found = match fs::metadata(&self.rt, path) {
@@ -118,9 +131,9 @@ impl<R: Files + AllocGlobal + Clone + Drop> StdDir<R> {
 }
 
 impl<R: Files + AllocGlobal + Clone + Drop> Dir for StdDir<R> {
-    ghost use Rattle.std.specs.Prelude.{◌≤◌, ◌<◌, None, Err, length, take, is_err, IfSome, IfOk, OnErr};
+    ghost use Rattle.std.specs.Prelude.{◌≤◌, ◌<◌, None, Err, false, length, take, is_err, IfSome, IfOk, OnOk, OnErr};
     ghost use Rattle.std.specs.Io.KnownBytes.{Consumes, IsAtEnd};
-    ghost use Rattle.isle_outside.specs.Directory.{Nothing, InFolder, Finds, IsReading, Gives};
+    ghost use Rattle.isle_outside.specs.Directory.{Nothing, InFolder, Finds, IsReading, Gives, raised};
     ghost use Rattle.isle_outside.specs.Failures.{counted, is_fault};
     ghost use Rattle.isle_outside.specs.Machine.{opened};
 
@@ -128,16 +141,21 @@ impl<R: Files + AllocGlobal + Clone + Drop> Dir for StdDir<R> {
 
     ghost current = { λ d. opened d.file d.folder };
 
-    ghost faults = { λ d. d.faults };
+    ghost counts = { λ d. record { faults = d.faults; finds = d.finds; given = d.given } };
 
     fn find(&mut self, name: &str) -> Result<Found, Failed>
         ensures found { IfOk result (λ found. Finds None name.now found (opened self.new.file self.new.folder)) }
         ensures later { self.old.faults ≤ self.new.faults }
+        ensures stays { self.old.faults ≡ 2 ^ 64 - 1 → self.new.faults ≡ 2 ^ 64 - 1 }
         ensures failed { OnErr result (Rose self.old.faults self.new.faults) }
+        ensures steady { OnOk result (self.new.faults ≡ self.old.faults) }
+        ensures finds { self.new.finds ≡ raised 1 self.old.finds }
+        ensures given { self.new.given ≡ self.old.given }
         ensures nothing { OnErr result (opened self.new.file self.new.folder ≡ Nothing) }
         ensures counted { self.new.faults ≡ counted (is_err result) self.old.faults }
     {
         self.close();
+        self.finds = self.finds.saturating_add(1);
         if self.root.is_empty() {
             return self.open(Path::new(name), name);
         }
@@ -153,7 +171,12 @@ impl<R: Files + AllocGlobal + Clone + Drop> Dir for StdDir<R> {
         ensures within { IfOk result (λ n. n ≤ length buf.new) }
         ensures gives { IfOk result (λ n. Gives (opened self.old.file self.old.folder) (opened self.new.file self.new.folder) n buf.new) }
         ensures later { self.old.faults ≤ self.new.faults }
+        ensures stays { self.old.faults ≡ 2 ^ 64 - 1 → self.new.faults ≡ 2 ^ 64 - 1 }
         ensures failed { OnErr result (Rose self.old.faults self.new.faults) }
+        ensures steady { OnOk result (self.new.faults ≡ self.old.faults) }
+        ensures finds { self.new.finds ≡ self.old.finds }
+        ensures given { IfOk result (λ n. self.new.given ≡ raised n self.old.given) }
+        ensures ungiven { OnErr result (self.new.given ≡ self.old.given) }
         ensures nothing { OnErr result (opened self.new.file self.new.folder ≡ Nothing) }
         ensures bytes { IfSome self.old.file (λ old. IfSome self.new.file
             (λ new. IfOk result (λ n. Consumes (R.File.remaining old) (R.File.remaining new) (take n buf.new) × (n ≡ 0 → IsAtEnd (R.File.remaining new))))) }
@@ -163,14 +186,21 @@ impl<R: Files + AllocGlobal + Clone + Drop> Dir for StdDir<R> {
             return Err(self.fault());
         };
         match file.read(buf) {
-            Ok(n) => Ok(n),
+            Ok(n) => {
+                self.given = self.given.saturating_add(n as u64);
+                Ok(n)
+            }
             Err(_) => Err(self.fault()),
         }
     }
 
     fn list(&mut self, alloc: Global, name: &str) -> Result<Vec<String>, DirFault>
         ensures later { self.old.faults ≤ self.new.faults }
+        ensures stays { self.old.faults ≡ 2 ^ 64 - 1 → self.new.faults ≡ 2 ^ 64 - 1 }
         ensures failed { result ≡ Err DirFault.Failed → Rose self.old.faults self.new.faults }
+        ensures steady { is_fault result ≡ false → self.new.faults ≡ self.old.faults }
+        ensures finds { self.new.finds ≡ self.old.finds }
+        ensures given { self.new.given ≡ self.old.given }
         ensures nothing { opened self.new.file self.new.folder ≡ Nothing }
         ensures counted { self.new.faults ≡ counted (is_fault result) self.old.faults }
     {
@@ -190,7 +220,11 @@ impl<R: Files + AllocGlobal + Clone + Drop> Dir for StdDir<R> {
 
     fn write_file(&mut self, name: &str, bytes: &[u8]) -> Result<(), DirFault>
         ensures later { self.old.faults ≤ self.new.faults }
+        ensures stays { self.old.faults ≡ 2 ^ 64 - 1 → self.new.faults ≡ 2 ^ 64 - 1 }
         ensures failed { result ≡ Err DirFault.Failed → Rose self.old.faults self.new.faults }
+        ensures steady { is_fault result ≡ false → self.new.faults ≡ self.old.faults }
+        ensures finds { self.new.finds ≡ self.old.finds }
+        ensures given { self.new.given ≡ self.old.given }
         ensures nothing { opened self.new.file self.new.folder ≡ Nothing }
         ensures counted { self.new.faults ≡ counted (is_fault result) self.old.faults }
     {

@@ -1,4 +1,4 @@
-ghost use Rattle.std.specs.Prelude.{◌≡◌, ◌≤◌, ◌<◌, length, take, OnOk, OnErr};
+ghost use Rattle.std.specs.Prelude.{◌≡◌, ◌-◌, ◌^◌, ◌≤◌, ◌<◌, length, take, OnOk, OnErr};
 ghost use Rattle.isle_outside.specs.Directory.{Rose};
 ghost use Rattle.isle_outside.specs.Sinks.{Took, TookPart};
 
@@ -11,6 +11,7 @@ pub fn write_all<S: Sink>(sink: &mut S, bytes: &[u8]) -> Result<(), Failed>
     ensures part { OnErr result (TookPart (S.taken sink.old) (S.taken sink.new) bytes.now) }
     ensures failed { OnErr result (Rose (S.faults sink.old) (S.faults sink.new)) }
     ensures later { S.faults sink.old ≤ S.faults sink.new }
+    ensures stays { S.faults sink.old ≡ 2 ^ 64 - 1 → S.faults sink.new ≡ 2 ^ 64 - 1 }
 {
     let mut at = 0;
     while at < bytes.len() {

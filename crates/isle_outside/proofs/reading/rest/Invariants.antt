@@ -1,4 +1,4 @@
-use Rattle.std.proofs.Common.{◌≡◌, ◌≤◌, ◌-◌, ◌^◌, vec_len}
+use Rattle.std.proofs.Common.{◌≡◌, ◌≤◌, ◌+◌, ◌-◌, ◌^◌, vec_len}
 use Rattle.isle_outside.specs.Directory.{IsReading}
 use Rattle.isle_outside.specs.Reading.{Front}
 use Rattle.isle_outside.proofs.reading.rest.Given as goal
@@ -9,7 +9,9 @@ invariant-read g l = record {
   front : Front (g.D.Dir.current l.fn.dir) (g.D.Dir.current l.dir) l.bytes.items;
   small : vec_len l.bytes ≤ 2 ^ 24;
   files : g.D.Dir.files l.dir ≡ g.D.Dir.files l.fn.dir;
-  later : g.D.Dir.faults l.fn.dir ≤ g.D.Dir.faults l.dir;
+  faults : (g.D.Dir.counts l.dir).faults ≡ (g.D.Dir.counts l.fn.dir).faults;
+  finds : (g.D.Dir.counts l.dir).finds ≡ (g.D.Dir.counts l.fn.dir).finds;
+  given : (g.D.Dir.counts l.dir).given ≤ (g.D.Dir.counts l.fn.dir).given + vec_len l.bytes;
 }
 
 abbrev pub decreases-read : goal.decreases-read

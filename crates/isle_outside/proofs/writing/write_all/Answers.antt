@@ -7,4 +7,5 @@ loop-at-preserved g c = record {
   within = omega (arith, c.in-Ok.ensures.within);
   taken = took_next _ _ _ _ _ _ c.loop-at.invariant.taken c.in-Ok.ensures.taken;
   later = omega (arith, c.put.ensures.later);
+  stays = λ e. c.put.ensures.stays (c.loop-at.invariant.stays e);
 }
