@@ -26,11 +26,11 @@ AreRising n (p ∷ ps) = (occurrence p ≡ suc n) × AreRising (suc n) ps
 
 term_rising : (c : Calling) (m : Meaning) (n k : ℕ) (term : TermId) (ps : Paths) (cs more : List Path) → TakesTurns m c → ((after : List Path) → AreRising (n + k) after → AreRising n (cs ++ after)) → AreRising (n + one_more c k) more
     → AreRising n ((cs ++ if_ordered c (Called term ps (instance_of c (n + k)))) ++ more)
-term_rising (ByTurns callee partial) m n k term ps cs more t h r =
+term_rising (ByTurns callee kind) m n k term ps cs more t h r =
     let p = Called term ps (suc (n + k)) in
     let last : n + suc k ≡ suc (n + k) = omega arith in
     subst (AreRising n) (sym (append_assoc cs (p ∷ []) more)) (h (p ∷ more) (refl, subst (λ j. AreRising j more) last r))
-term_rising (ByCases callee partial) m n k term ps cs more t h r = absurd t
+term_rising (ByCases callee kind) m n k term ps cs more t h r = absurd t
 term_rising NoCall m n k term ps cs more t h r = absurd t
 
 none_rising : (n : ℕ) (more : List Path) → AreRising (n + 0) more → AreRising n more

@@ -141,18 +141,18 @@ answer_up_to c n p b = pick (is_fallible c)
     pick false = b
 
 instance_up_to : (c : Calling) (n : ℕ) → instance_of c n ≤ one_more c n
-instance_up_to (ByTurns callee partial) n = omega arith
-instance_up_to (ByCases callee partial) n = omega arith
+instance_up_to (ByTurns callee kind) n = omega arith
+instance_up_to (ByCases callee kind) n = omega arith
 instance_up_to NoCall n = omega arith
 
 one_more_up : (c : Calling) (n k : ℕ) → one_more c (n + k) ≡ n + one_more c k
-one_more_up (ByTurns callee partial) n k = omega arith
-one_more_up (ByCases callee partial) n k = refl
+one_more_up (ByTurns callee kind) n k = omega arith
+one_more_up (ByCases callee kind) n k = refl
 one_more_up NoCall n k = refl
 
 less_one : (c : Calling) (n : ℕ) → n ≤ one_more c n
-less_one (ByTurns callee partial) n = omega arith
-less_one (ByCases callee partial) n = omega arith
+less_one (ByTurns callee kind) n = omega arith
+less_one (ByCases callee kind) n = omega arith
 less_one NoCall n = omega arith
 
 mutual

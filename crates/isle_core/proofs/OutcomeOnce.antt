@@ -2,6 +2,7 @@
 use Rattle.std.proofs.Common.{◌≡◌, ℤ, List, Bool, Some, None, [], refl, sym, ap, ◌∙◌, ⊎_elim, arith}
 use Rattle.std.specs.Prelude.{◌<ℤ◌}
 use Rattle.std.proofs.lemmas.Int.{ints}
+use Rattle.isle_core.specs.declared.types.ReturnKind.{ReturnKind}
 use Rattle.isle_core.specs.Value.{Value}
 use Rattle.isle_core.specs.Meaning.{Meaning}
 use Rattle.isle_core.specs.Match.{Names}
@@ -27,8 +28,8 @@ none_some : (a : Names) → None ≡ Some a → ⊥
 none_some a e = cc
 
 -- at most one outcome is prescribed
-pub prescribed_once : {env : Environment} {m : Meaning} {args : List Value} {rules : List Rule} {partial : Bool} {o p : Prescription}
-    → Prescribed env m args rules partial o → Prescribed env m args rules partial p → o ≡ p
+pub prescribed_once : {env : Environment} {m : Meaning} {args : List Value} {rules : List Rule} {kind : ReturnKind} {o p : Prescription}
+    → Prescribed env m args rules kind o → Prescribed env m args rules kind p → o ≡ p
 prescribed_once (no_rule h) (no_rule k) = refl
 prescribed_once (no_rule h) (one_rule r names k) = absurd (none_some names (sym (h r k.among) ∙ k.matched))
 prescribed_once (one_rule r names h) (no_rule k) = absurd (none_some names (sym (k r h.among) ∙ h.matched))

@@ -7,6 +7,7 @@ use Rattle.std.proofs.lemmas.List.Elements.{All-contains, recursion_from_All, Co
 use Rattle.std.proofs.lemmas.List.Sums.{AllPass-from_list_all, list_all-from_AllPass}
 use Rattle.isle_base.specs.declared.ids.TermId.{TermId}
 use Rattle.isle_core.specs.declared.rule_sets.FlatRule.{FlatRule}
+use Rattle.isle_core.specs.declared.types.ReturnKind.{ReturnKind}
 use Rattle.isle_core.specs.Value.{Value}
 use Rattle.isle_core.specs.Meaning.{Meaning}
 use Rattle.isle_core.specs.Calling.{impure}
@@ -132,18 +133,18 @@ highest_alike (r ∷ rs) (f ∷ fs) env m args ps n b v i c l h =
 highest_alike [] (f ∷ fs) env m args ps n b v i c l h = absurd h
 highest_alike (r ∷ rs) [] env m args ps n b v i c l h = absurd h
 
-alike_given : (env : Environment) (m : Meaning) (args : List Value) (ps : List Path) (partial : Bool) (o : Option FlatRule) (best : Option (Rule × Names)) → Alike env m args ps o best → given env m args ps partial o ≡ given_by env m partial best
-alike_given env m args ps partial None None h = refl
-alike_given env m args ps partial (Some f) (Some o) h = ap (gave partial) h.1
-alike_given env m args ps partial None (Some o) h = absurd h
-alike_given env m args ps partial (Some f) None h = absurd h
+alike_given : (env : Environment) (m : Meaning) (args : List Value) (ps : List Path) (kind : ReturnKind) (o : Option FlatRule) (best : Option (Rule × Names)) → Alike env m args ps o best → given env m args ps kind o ≡ given_by env m kind best
+alike_given env m args ps kind None None h = refl
+alike_given env m args ps kind (Some f) (Some o) h = ap (gave kind) h.1
+alike_given env m args ps kind None (Some o) h = absurd h
+alike_given env m args ps kind (Some f) None h = absurd h
 
 -- flat rules that are the rules give what the rules give
-pub set_means : (env : Environment) (m : Meaning) (args : List Value) (ps : List Path) (rules : List Rule) (fs : List FlatRule) (partial : Bool)
+pub set_means : (env : Environment) (m : Meaning) (args : List Value) (ps : List Path) (rules : List Rule) (fs : List FlatRule) (kind : ReturnKind)
     → All IsBuiltRule rules → All IsBoundRule rules → All (IsImpureRule env.terms) rules → ((c : TermId) → Contains (called rules) c → AnswersFit env m c)
     → All (λ (r : Rule). length r.args ≡ length args) rules → AreFlat env ps rules 0 fs
-    → set_outcome env m args ps fs partial ≡ outcome_of env m args rules partial
-set_means env m args ps rules fs partial b v i c l h =
-    alike_given env m args ps partial (highest (flat_holds env m args ps) fs) (highest_match env m args rules)
+    → set_outcome env m args ps fs kind ≡ outcome_of env m args rules kind
+set_means env m args ps rules fs kind b v i c l h =
+    alike_given env m args ps kind (highest (flat_holds env m args ps) fs) (highest_match env m args rules)
     (highest_alike rules fs env m args ps 0 (recursion_from_All IsBuiltRule rules b) (recursion_from_All IsBoundRule rules v) (recursion_from_All (IsImpureRule env.terms) rules i) c
     (recursion_from_All (λ (r : Rule). length r.args ≡ length args) rules l) h)

@@ -8,14 +8,16 @@ use Rattle.isle_base.specs.declared.ids.TypeId.{TypeId}
 use Rattle.isle_base.specs.declared.ids.VarId.{VarId}
 use Rattle.isle_core.specs.declared.types.Term.{Term}
 use Rattle.isle_core.specs.declared.types.TermKind.{TermKind}
-use Rattle.isle_core.specs.declared.types.TermKind.TheVariants as kind
+use Rattle.isle_core.specs.declared.types.TermKind.TheVariants as term_kind
 use Rattle.isle_core.specs.declared.types.ConstructorKind.TheVariants as constructor
 use Rattle.isle_core.specs.declared.values.Callee.{Callee}
 use Rattle.isle_core.specs.declared.values.Callee.TheVariants.{External, Internal}
+use Rattle.isle_core.specs.declared.types.ReturnKind.{ReturnKind}
+use Rattle.isle_core.specs.declared.types.ReturnKind.TheVariants as return_kind
 use Rattle.isle_core.specs.Value.{Value, Answer, Plain, Found, Nothing, Made}
 use Rattle.isle_core.specs.Meaning.{Meaning, TurnAnswers, turns_of, turn_at, times, turn}
 use Rattle.isle_core.specs.Answered.{Held, One, Optional, answer_held}
-use Rattle.isle_core.specs.Calling.{Calling, ByTurns, is_partial, pure_callee, calling_by, calling_of, calling}
+use Rattle.isle_core.specs.Calling.{Calling, ByTurns, kind_of, kind_by, pure_callee, calling_by, calling_of, calling}
 use Rattle.isle_core.specs.Terms.{sym_text, impure_callee}
 use Rattle.isle_core.specs.Lawful.{Fits, all_turns, CallingFits, AnswersFit, called_by, called_by_all}
 use Rattle.isle_core.specs.BuiltRule.{IsBuiltExpr, AreBuiltExprs, IsImpureKind, CallsImpure, AllCallImpure, IsBoundIn, AreBoundIn}
@@ -30,42 +32,43 @@ use Rattle.isle_core.specs.Rule.{Environment}
 -- ---- a turn
 
 -- what the answer of a term holds: a value, or an option of one where the term is partial
-abbrev pub IsOfKind : Bool → Held → Type 0
-IsOfKind false h = (v : Value) × (h ≡ One v)
-IsOfKind true h = (o : Option Value) × (h ≡ Optional o)
+abbrev pub IsOfKind : ReturnKind → Held → Type 0
+IsOfKind return_kind.Plain h = (v : Value) × (h ≡ One v)
+IsOfKind return_kind.Option h = (o : Option Value) × (h ≡ Optional o)
+IsOfKind return_kind.Iterator h = ⊥
 
-fits_kind : (env : Environment) (partial : Bool) (ty : TypeId) (a : Answer) → Fits env partial ty a → IsOfKind partial (answer_held a)
-fits_kind env true ty (Found (v ∷ [])) h = (Some v, refl)
-fits_kind env true ty Nothing h = (None, refl)
-fits_kind env false ty (Plain (v ∷ [])) h = (v, refl)
-fits_kind env partial ty a h = absurd h
+fits_kind : (env : Environment) (kind : ReturnKind) (ty : TypeId) (a : Answer) → Fits env kind ty a → IsOfKind kind (answer_held a)
+fits_kind env return_kind.Option ty (Found (v ∷ [])) h = (Some v, refl)
+fits_kind env return_kind.Option ty Nothing h = (None, refl)
+fits_kind env return_kind.Plain ty (Plain (v ∷ [])) h = (v, refl)
+fits_kind env kind ty a h = absurd h
 
 turn_in : (P : Answer → Type 0) (turns : List Answer) (n : ℕ) (rest : Answer) → P rest → AllByRecursion P turns → P (slice_index_or turns n rest)
 turn_in P [] n rest h k = h
 turn_in P (a ∷ turns) zero rest h k = k.0
 turn_in P (a ∷ turns) (suc n) rest h k = turn_in P turns n rest h k.1
 
-turn_at_fits : (env : Environment) (ty : TypeId) (partial : Bool) (o : Option TurnAnswers) (n : ℕ) → IsSomeAnd o (λ a. All (Fits env partial ty) (all_turns a)) → IsOfKind partial (answer_held (turn_at o n))
-turn_at_fits env ty partial None n h = absurd h
-turn_at_fits env ty partial (Some a) n h =
-    let each = recursion_from_All (Fits env partial ty) (all_turns a) h in
-    fits_kind env partial ty (slice_index_or a.turns n a.rest) (turn_in (Fits env partial ty) a.turns n a.rest each.0 each.1)
+turn_at_fits : (env : Environment) (ty : TypeId) (kind : ReturnKind) (o : Option TurnAnswers) (n : ℕ) → IsSomeAnd o (λ a. All (Fits env kind ty) (all_turns a)) → IsOfKind kind (answer_held (turn_at o n))
+turn_at_fits env ty kind None n h = absurd h
+turn_at_fits env ty kind (Some a) n h =
+    let each = recursion_from_All (Fits env kind ty) (all_turns a) h in
+    fits_kind env kind ty (slice_index_or a.turns n a.rest) (turn_in (Fits env kind ty) a.turns n a.rest each.0 each.1)
 
 -- the term takes turns, and each is of its kind
 abbrev pub TakesTurns : Meaning → Calling → Type 0
-TakesTurns m (ByTurns callee partial) = (made : List Made) → IsOfKind partial (answer_held (turn m callee made))
+TakesTurns m (ByTurns callee kind) = (made : List Made) → IsOfKind kind (answer_held (turn m callee made))
 TakesTurns m c = ⊥
 
 -- turns that fit are of the term's kind
-pub turns_fit : (env : Environment) (m : Meaning) (ty : TypeId) (callee : Callee) (partial : Bool) → CallingFits env m ty (ByTurns callee partial) → TakesTurns m (ByTurns callee partial)
-turns_fit env m ty callee partial h made = turn_at_fits env ty partial (turns_of m callee) (times callee made) h
+pub turns_fit : (env : Environment) (m : Meaning) (ty : TypeId) (callee : Callee) (kind : ReturnKind) → CallingFits env m ty (ByTurns callee kind) → TakesTurns m (ByTurns callee kind)
+turns_fit env m ty callee kind h made = turn_at_fits env ty kind (turns_of m callee) (times callee made) h
 
 -- ---- a term
 
 kind_takes : (env : Environment) (m : Meaning) (ty : TypeId) (t : Term) (k : TermKind) → IsImpureKind k
-    → CallingFits env m ty (calling_by (is_partial k) (impure_callee env t k) (pure_callee env t k)) → TakesTurns m (calling_by (is_partial k) (impure_callee env t k) (pure_callee env t k))
-kind_takes env m ty t (kind.Decl false multi partial recursive constructor.Internal extractor) i h = turns_fit env m ty (Internal (sym_text env t.name)) partial h
-kind_takes env m ty t (kind.Decl false multi partial recursive (constructor.External func) extractor) i h = turns_fit env m ty (External (sym_text env func)) partial h
+    → CallingFits env m ty (calling_by (kind_of k) (impure_callee env t k) (pure_callee env t k)) → TakesTurns m (calling_by (kind_of k) (impure_callee env t k) (pure_callee env t k))
+kind_takes env m ty t (term_kind.Decl false multi partial recursive constructor.Internal extractor) i h = turns_fit env m ty (Internal (sym_text env t.name)) (kind_by multi partial) h
+kind_takes env m ty t (term_kind.Decl false multi partial recursive (constructor.External func) extractor) i h = turns_fit env m ty (External (sym_text env func)) (kind_by multi partial) h
 kind_takes env m ty t k i h = absurd i
 
 term_takes : (env : Environment) (m : Meaning) (o : Option Term) → IsSomeAnd o (λ (t : Term). IsImpureKind t.kind) → IsSomeAnd o (λ (t : Term). CallingFits env m t.ret_ty (calling_of env o)) → TakesTurns m (calling_of env o)

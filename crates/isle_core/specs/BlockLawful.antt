@@ -10,10 +10,12 @@ use Rattle.isle_core.specs.declared.rule_sets.Constraint.TheVariants as constrai
 use Rattle.isle_core.specs.declared.types.Term.{Term}
 use Rattle.isle_core.specs.declared.values.Callee.{Callee}
 use Rattle.isle_core.specs.declared.values.Callee.TheVariants.{External, Internal}
+use Rattle.isle_core.specs.declared.types.ReturnKind.{ReturnKind}
+use Rattle.isle_core.specs.declared.types.ReturnKind.TheVariants as return_kind
 use Rattle.isle_core.specs.HasType.{HasType}
 use Rattle.isle_core.specs.Value.{Truth}
 use Rattle.isle_core.specs.Constants.{int_value}
-use Rattle.isle_core.specs.Calling.{Calling, ByTurns, ByCases, NoCall, calling, is_partial}
+use Rattle.isle_core.specs.Calling.{Calling, ByTurns, ByCases, NoCall, calling, kind_of, may_be_nothing}
 use Rattle.isle_core.specs.Path.{Path, Arg, ConstBool, ConstInt, Called, Inner, Paths, NoPath, APath, at, at_all, paths_of}
 use Rattle.isle_core.specs.StandsFor.{EachOnce}
 use Rattle.isle_core.specs.Block.{Block, Stop, Step, Control, Match, Equal, Loop, Return, Arms, NoArm, Arm}
@@ -26,11 +28,11 @@ abbrev pub IsExternal : Callee → Type 0
 IsExternal (External name) = Unit {0}
 IsExternal (Internal name) = ⊥
 
--- an impure call of an external function, which may answer nothing exactly where this says so; pure calls are not built
-abbrev pub IsCall : (partial : Bool) → Calling → Type 0
-IsCall partial (ByTurns callee p) = (p ≡ partial) × IsExternal callee
-IsCall partial (ByCases callee p) = ⊥
-IsCall partial NoCall = ⊥
+-- an impure call of an external function that answers so often; pure calls are not built
+abbrev pub IsCall : ReturnKind → Calling → Type 0
+IsCall kind (ByTurns callee of) = (of ≡ kind) × IsExternal callee
+IsCall kind (ByCases callee of) = ⊥
+IsCall kind NoCall = ⊥
 
 -- a path that holds a value of the type, whatever the arguments and the answers are; only arguments, constants, calls and inner values are built
 abbrev mutual
@@ -38,13 +40,13 @@ abbrev mutual
   IsPathOf env t (Arg i) ty = slice_get t.arg_tys i ≡ Some ty
   IsPathOf env t (ConstBool of b) ty = (of ≡ ty) × HasType env (Truth b) ty
   IsPathOf env t (ConstInt of n) ty = (of ≡ ty) × HasType env (int_value env ty n) ty
-  IsPathOf env t (Called term ps instance) ty = IsCall false (calling env term) × IsSomeAnd (slice_get env.terms term.0) (λ (c : Term). (c.ret_ty ≡ ty) × ArePathsOf env t ps c.arg_tys)
+  IsPathOf env t (Called term ps instance) ty = IsCall return_kind.Plain (calling env term) × IsSomeAnd (slice_get env.terms term.0) (λ (c : Term). (c.ret_ty ≡ ty) × ArePathsOf env t ps c.arg_tys)
   IsPathOf env t (Inner p) ty = IsOptionOf env t p ty
   IsPathOf env t p ty = ⊥
 
   -- a path that holds an option of such a value
   pub IsOptionOf : Environment → Term → Path → TypeId → Type 0
-  IsOptionOf env t (Called term ps instance) ty = IsCall true (calling env term) × IsSomeAnd (slice_get env.terms term.0) (λ (c : Term). (c.ret_ty ≡ ty) × ArePathsOf env t ps c.arg_tys)
+  IsOptionOf env t (Called term ps instance) ty = IsCall return_kind.Option (calling env term) × IsSomeAnd (slice_get env.terms term.0) (λ (c : Term). (c.ret_ty ≡ ty) × ArePathsOf env t ps c.arg_tys)
   IsOptionOf env t p ty = ⊥
 
   -- as many paths as types, each of its type
@@ -87,8 +89,8 @@ pub record IsCallBound (env : Environment) (t : Term) (bs : List Binding) (bound
   pub called : Term
   pub there : slice_get env.terms term.0 ≡ Some called
   pub args : AreReadAs env t bs bound parameters called.arg_tys
-  pub partial : Bool
-  pub external : IsCall partial (calling env term)
+  pub kind : ReturnKind
+  pub external : IsCall kind (calling env term)
 
 -- an inner value of a bound option; only in a term that may answer nothing
 pub record IsInnerBound (env : Environment) (t : Term) (bs : List Binding) (bound : List ℕ) (p : Path) (source : BindingId) : Type 0 where
@@ -96,7 +98,7 @@ pub record IsInnerBound (env : Environment) (t : Term) (bs : List Binding) (boun
   pub ty : TypeId
   pub option : IsOptionOf env t (at (paths_of bs) source) ty
   pub bound' : Contains bound source.0
-  pub partial : is_partial t.kind ≡ true
+  pub fits : may_be_nothing (kind_of t.kind) ≡ true
 
 -- an argument or a constant of some type
 abbrev pub IsPlain : Environment → Term → Path → Type 0
@@ -125,8 +127,8 @@ AreBindable env t bs bound (b ∷ more) = IsBindable env t bs bound (at (paths_o
 
 -- the occurrence of an impure call
 abbrev pub occurrence : Calling → ℕ → List ℕ
-occurrence (ByTurns callee partial) instance = instance ∷ []
-occurrence (ByCases callee partial) instance = []
+occurrence (ByTurns callee kind) instance = instance ∷ []
+occurrence (ByCases callee kind) instance = []
 occurrence NoCall instance = []
 
 -- that of a path

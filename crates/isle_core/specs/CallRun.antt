@@ -38,8 +38,8 @@ take_turn m callee instance None None known made = Goes known made
 
 -- a call with these arguments: a pure one has its answer anyway
 abbrev pub make_call : Meaning → Calling → ℕ → Option (List Value) → Known → List Made → Went
-make_call m (ByTurns callee partial) instance vs known made = take_turn m callee instance (known instance) vs known made
-make_call m (ByCases callee partial) instance vs known made = Goes known made
+make_call m (ByTurns callee kind) instance vs known made = take_turn m callee instance (known instance) vs known made
+make_call m (ByCases callee kind) instance vs known made = Goes known made
 make_call m NoCall instance vs known made = Goes known made
 
 -- the call at a path

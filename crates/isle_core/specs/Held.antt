@@ -43,13 +43,13 @@ value_before h vs = None
 
 -- what a pure call answers to its arguments, where all are there
 abbrev pub case_held : Meaning → Calling → Option (List Value) → Held
-case_held m (ByCases callee partial) (Some vs) = answer_held (case m callee vs)
+case_held m (ByCases callee kind) (Some vs) = answer_held (case m callee vs)
 case_held m c vs = Absent
 
 -- what stands at the path of a call: an impure one was answered by its turn
 abbrev pub call_held : Meaning → Calling → Option Answer → Option (List Value) → Held
-call_held m (ByTurns callee partial) known vs = held_of known
-call_held m (ByCases callee partial) known vs = case_held m (ByCases callee partial) vs
+call_held m (ByTurns callee kind) known vs = held_of known
+call_held m (ByCases callee kind) known vs = case_held m (ByCases callee kind) vs
 call_held m NoCall known vs = Absent
 
 -- what stands at a path, under the arguments and the answers known so far; only arguments, constants, calls and inner values are built

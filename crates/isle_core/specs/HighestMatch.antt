@@ -1,6 +1,7 @@
 -- The matching rule of highest priority, and what it gives.
-use Rattle.std.specs.Prelude.{◌≡◌, List, [], ◌∷◌, Bool, Option, Some, None, if◌then◌else◌, Contains}
+use Rattle.std.specs.Prelude.{◌≡◌, List, [], ◌∷◌, Option, Some, None, if◌then◌else◌, Contains}
 use Rattle.std.specs.Ordering.{int_cmp, is_lt}
+use Rattle.isle_core.specs.declared.types.ReturnKind.{ReturnKind}
 use Rattle.isle_core.specs.Value.{Value}
 use Rattle.isle_core.specs.Meaning.{Meaning}
 use Rattle.isle_core.specs.Match.{Names}
@@ -24,13 +25,13 @@ highest_match env m args [] = None
 highest_match env m args (r ∷ rs) = or_later r (rule_names env m args r) (highest_match env m args rs)
 
 -- what the highest rule gives, or that none matches
-abbrev pub given_by : Environment → Meaning → Bool → Option (Rule × Names) → Prescription
-given_by env m partial None = record { result = unmatched partial; calls = [] }
-given_by env m partial (Some o) = prescription_of (evaluated env m o.0.rhs o.1 [])
+abbrev pub given_by : Environment → Meaning → ReturnKind → Option (Rule × Names) → Prescription
+given_by env m kind None = record { result = unmatched kind; calls = [] }
+given_by env m kind (Some o) = prescription_of (evaluated env m o.0.rhs o.1 [])
 
 -- what the rules of a term give
-abbrev pub outcome_of : Environment → Meaning → List Value → List Rule → Bool → Prescription
-outcome_of env m args rules partial = given_by env m partial (highest_match env m args rules)
+abbrev pub outcome_of : Environment → Meaning → List Value → List Rule → ReturnKind → Prescription
+outcome_of env m args rules kind = given_by env m kind (highest_match env m args rules)
 
 -- no other rule that matches has the priority of the highest
 pub record HighestIsOne (env : Environment) (m : Meaning) (args : List Value) (rules : List Rule) : Type 0 where

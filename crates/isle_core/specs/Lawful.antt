@@ -3,6 +3,8 @@ use Rattle.std.specs.Prelude.{◌≡◌, List, [], ◌∷◌, ◌++◌, Bool, tr
 use Rattle.isle_base.specs.declared.ids.TermId.{TermId}
 use Rattle.isle_base.specs.declared.ids.TypeId.{TypeId}
 use Rattle.isle_core.specs.declared.types.Term.{Term}
+use Rattle.isle_core.specs.declared.types.ReturnKind.{ReturnKind}
+use Rattle.isle_core.specs.declared.types.ReturnKind.TheVariants as return_kind
 use Rattle.isle_core.specs.Value.{Value, Answer, Plain, Found, Nothing}
 use Rattle.isle_core.specs.Meaning.{PureAnswers, TurnAnswers, Meaning, turns_of, cases_of}
 use Rattle.isle_core.specs.Calling.{Calling, ByTurns, ByCases, NoCall, calling}
@@ -35,11 +37,11 @@ called [] = []
 called (r ∷ rs) = called_in r ++ called rs
 
 -- an answer of the term's kind, with a value of its type; a `multi` term is not built
-abbrev pub Fits : Environment → (partial : Bool) → TypeId → Answer → Type 0
-Fits env true ty (Found (v ∷ [])) = HasType env v ty
-Fits env true ty Nothing = Unit {0}
-Fits env false ty (Plain (v ∷ [])) = HasType env v ty
-Fits env partial ty a = ⊥
+abbrev pub Fits : Environment → ReturnKind → TypeId → Answer → Type 0
+Fits env return_kind.Option ty (Found (v ∷ [])) = HasType env v ty
+Fits env return_kind.Option ty Nothing = Unit {0}
+Fits env return_kind.Plain ty (Plain (v ∷ [])) = HasType env v ty
+Fits env kind ty a = ⊥
 
 -- the turns and the rest
 abbrev pub all_turns : TurnAnswers → List Answer
@@ -51,8 +53,8 @@ all_cases a = a.rest ∷ map (λ (c : List Value × Answer). c.1) a.cases
 
 -- the answers of what is called fit: an impure callee has turns, a pure one cases and no turns
 abbrev pub CallingFits : Environment → Meaning → TypeId → Calling → Type 0
-CallingFits env m ty (ByTurns callee partial) = IsSomeAnd (turns_of m callee) (λ a. All (Fits env partial ty) (all_turns a))
-CallingFits env m ty (ByCases callee partial) = IsSomeAnd (cases_of m callee) (λ a. All (Fits env partial ty) (all_cases a)) × (turns_of m callee ≡ None)
+CallingFits env m ty (ByTurns callee kind) = IsSomeAnd (turns_of m callee) (λ a. All (Fits env kind ty) (all_turns a))
+CallingFits env m ty (ByCases callee kind) = IsSomeAnd (cases_of m callee) (λ a. All (Fits env kind ty) (all_cases a)) × (turns_of m callee ≡ None)
 CallingFits env m ty NoCall = ⊥
 
 -- the meaning answers calls of the term with its kind and types
