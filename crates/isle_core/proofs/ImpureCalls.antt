@@ -33,7 +33,7 @@ one_more env (d ∷ made) c h k = (h.0, one_more env made c h.1 k)
 same_bytes : (xs : List ℕ) → bytes_eq xs xs ≡ true
 same_bytes xs = (bytes_eq-Decides xs xs).1 refl
 
-goes_there : (callee : Callee) → goes_to callee (Some callee) ≡ true
+pub goes_there : (callee : Callee) → goes_to callee (Some callee) ≡ true
 goes_there (External name) = same_bytes name
 goes_there (Internal name) = same_bytes name
 
@@ -133,13 +133,13 @@ unfolding calls_in
 prescribed_impure env (Answered v made) h = h
 prescribed_impure env (Failed made) h = h
 
-given_impure : (env : Environment) (m : Meaning) (kind : ReturnKind) (o : Option (Rule × Names)) → AreImpure env (given_by env m kind o).calls
-given_impure env m kind None = tt
-given_impure env m kind (Some o) = prescribed_impure env (evaluated env m o.0.rhs o.1 []) (expr_impure o.0.rhs env m o.1 [] tt)
+given_impure : (env : Environment) (m : Meaning) (kind : ReturnKind) (o : Option (Rule × Names)) (made : List Made) → AreImpure env made → AreImpure env (given_by env m kind o made).calls
+given_impure env m kind None made h = h
+given_impure env m kind (Some o) made h = prescribed_impure env (evaluated env m o.0.rhs o.1 made) (expr_impure o.0.rhs env m o.1 made h)
 
--- the calls of an outcome
-pub outcome_impure : (env : Environment) (m : Meaning) (args : List Value) (rules : List Rule) (kind : ReturnKind) → AreImpure env (outcome_of env m args rules kind).calls
-outcome_impure env m args rules kind = given_impure env m kind (highest_match env m args rules)
+-- the calls of an outcome, where those made before are
+pub outcome_impure : (env : Environment) (m : Meaning) (args : List Value) (rules : List Rule) (kind : ReturnKind) (made : List Made) → AreImpure env made → AreImpure env (outcome_of env m args rules kind made).calls
+outcome_impure env m args rules kind made h = given_impure env m kind (highest_match env m args rules) made h
 
 -- none of them is left out
 pub all_kept : (env : Environment) (calls : List Made) → AreImpure env calls → filter (λ (c : Made). is_impure env c.callee) calls ≡ calls

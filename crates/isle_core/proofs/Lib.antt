@@ -17,3 +17,7 @@ pub mod AnsweredByTurn
 pub mod SeesRules
 pub mod SeesBlocks
 pub mod ImpureCalls
+pub mod ListLaws
+pub mod Entries
+pub mod LawfulExists
+pub mod Inhabited

@@ -1,11 +1,10 @@
 -- A rule set that stands for rules gives what they give.
-use Rattle.std.proofs.Common.{◌≡◌, ⊎_elim, ℕ, ◌+◌, List, [], ◌∷◌, Bool, true, false, cond, length, get_or, map, Option, Some, None, refl, sym, ap, ◌∙◌, subst, arith}
+use Rattle.std.proofs.Common.{◌≡◌, ⊎_elim, ℕ, ◌+◌, List, [], ◌∷◌, ◌++◌, Bool, true, false, cond, length, get_or, map, Option, Some, None, refl, sym, ap, ◌∙◌, subst, arith}
 use Rattle.std.specs.Prelude.{Contains, All, option_and_then}
 use Rattle.std.specs.Ordering.{int_cmp, is_lt}
 use Rattle.std.specs.List.{list_all, AllByRecursion}
 use Rattle.std.proofs.lemmas.List.Elements.{All-contains, recursion_from_All, Contains-get_or, Contains-append_left, Contains-append_right}
 use Rattle.std.proofs.lemmas.List.Sums.{AllPass-from_list_all, list_all-from_AllPass}
-use Rattle.isle_base.specs.declared.ids.TermId.{TermId}
 use Rattle.isle_core.specs.declared.rule_sets.FlatRule.{FlatRule}
 use Rattle.isle_core.specs.declared.types.ReturnKind.{ReturnKind}
 use Rattle.isle_core.specs.Value.{Value}
@@ -21,7 +20,8 @@ use Rattle.isle_core.specs.Held.{Known, nothing_known, value_at, holds, all_hold
 use Rattle.isle_core.specs.CallRun.{Went, Goes, Ends, then_go, returns, run_calls}
 use Rattle.isle_core.specs.RuleSet.{flat_tests, flat_holds, gave, flat_run, higher, highest, given, set_outcome}
 use Rattle.isle_core.specs.StandsFor.{IsFlat, AreFlat}
-use Rattle.isle_core.specs.Lawful.{AnswersFit, called_in, called}
+use Rattle.isle_core.specs.Lawful.{OccurrenceFits}
+use Rattle.isle_core.specs.Occurrences.{Occurrence, extracted_in, called_in_iflets, called_by, called_in, called}
 use Rattle.isle_core.specs.BuiltRule.{IsBuiltPattern, IsBuiltRule, IsImpureRule, IsBoundRule}
 use Rattle.isle_core.specs.Rule.{Environment, IfLet, Rule}
 use Rattle.isle_core.proofs.NotTrivial.{no_trivial}
@@ -74,8 +74,8 @@ rule_both env m args r b l =
 abbrev RuleByTurns : Environment → Meaning → Rule → Type 0
 RuleByTurns env m r = CallsByTurns env m (rule_places r) r.rhs
 
-rule_by_turns : (env : Environment) (m : Meaning) (r : Rule) → IsBuiltRule r → IsBoundRule r → IsImpureRule env.terms r → ((c : TermId) → Contains (called_in r) c → AnswersFit env m c) → RuleByTurns env m r
-rule_by_turns env m r b v i h = calls_by_turns r.rhs env m r.args (rule_places r) (λ ty x c. args_placed r.args 0 no_places ty x c) b.rhs v i h
+rule_by_turns : (env : Environment) (m : Meaning) (r : Rule) → IsBuiltRule r → IsBoundRule r → IsImpureRule env.terms r → ((o : Occurrence) → Contains (called_in env r) o → OccurrenceFits env m o) → RuleByTurns env m r
+rule_by_turns env m r b v i h = calls_by_turns r.rhs env m r.args (rule_places r) (λ ty x c. args_placed r.args 0 no_places ty x c) b.rhs v i (λ o k. h o (Contains-append_right (extracted_in env r.args ++ called_in_iflets env r.iflets) (called_by env r.rhs) o k))
 
 follows_returns : (env : Environment) (m : Meaning) (args : List Value) (n n' : ℕ) (known : Known) (p : Path) (r : Evaluated) (w : Went) → Follows env m args n n' known p r w → then_go w (returns env m args p) ≡ Ends (prescription_of r)
 follows_returns env m args n n' known p (Answered v made) (Goes known' made') h = rw (h.0.held, h.1) refl
@@ -121,19 +121,19 @@ alike_more env m args ps r n f b (Some names) later best t h k s =
     subst (λ x. Alike env m args ps (cond x (Some (higher f later)) later) (Some (better r names best))) (sym k.0) (alike_higher env m args ps r names f later best (h.prio, flat_gives env m args ps r n f names t h k.1) s)
 
 highest_alike : (rules : List Rule) (fs : List FlatRule) (env : Environment) (m : Meaning) (args : List Value) (ps : List Path) (n : ℕ) → AllByRecursion IsBuiltRule rules → AllByRecursion IsBoundRule rules → AllByRecursion (IsImpureRule env.terms) rules
-    → ((c : TermId) → Contains (called rules) c → AnswersFit env m c) → AllByRecursion (λ (r : Rule). length r.args ≡ length args) rules → AreFlat env ps rules n fs
+    → ((o : Occurrence) → Contains (called env rules) o → OccurrenceFits env m o) → AllByRecursion (λ (r : Rule). length r.args ≡ length args) rules → AreFlat env ps rules n fs
     → Alike env m args ps (highest (flat_holds env m args ps) fs) (highest_match env m args rules)
 highest_alike [] [] env m args ps n b v i c l h = tt
 highest_alike (r ∷ rs) (f ∷ fs) env m args ps n b v i c l h =
     let val = value_at env m args nothing_known in
     alike_more env m args ps r n f (flat_holds env m args ps f) (rule_names env m args r) (highest (flat_holds env m args ps) fs) (highest_match env m args rs)
-    (rule_by_turns env m r b.0 v.0 i.0 (λ t k. c t (Contains-append_left (called_in r) (called rs) t k))) h.0
+    (rule_by_turns env m r b.0 v.0 i.0 (λ t k. c t (Contains-append_left (called_in env r) (called env rs) t k))) h.0
     (subst (λ x. Both val (rule_names env m args r) x (rule_places r)) (sym (flat_same env m args ps r n f h.0)) (rule_both env m args r b.0 l.0))
-    (highest_alike rs fs env m args ps (n + impure env r.rhs) b.1 v.1 i.1 (λ t k. c t (Contains-append_right (called_in r) (called rs) t k)) l.1 h.1)
+    (highest_alike rs fs env m args ps (n + impure env r.rhs) b.1 v.1 i.1 (λ t k. c t (Contains-append_right (called_in env r) (called env rs) t k)) l.1 h.1)
 highest_alike [] (f ∷ fs) env m args ps n b v i c l h = absurd h
 highest_alike (r ∷ rs) [] env m args ps n b v i c l h = absurd h
 
-alike_given : (env : Environment) (m : Meaning) (args : List Value) (ps : List Path) (kind : ReturnKind) (o : Option FlatRule) (best : Option (Rule × Names)) → Alike env m args ps o best → given env m args ps kind o ≡ given_by env m kind best
+alike_given : (env : Environment) (m : Meaning) (args : List Value) (ps : List Path) (kind : ReturnKind) (o : Option FlatRule) (best : Option (Rule × Names)) → Alike env m args ps o best → given env m args ps kind o ≡ given_by env m kind best []
 alike_given env m args ps kind None None h = refl
 alike_given env m args ps kind (Some f) (Some o) h = ap (gave kind) h.1
 alike_given env m args ps kind None (Some o) h = absurd h
@@ -141,9 +141,9 @@ alike_given env m args ps kind (Some f) None h = absurd h
 
 -- flat rules that are the rules give what the rules give
 pub set_means : (env : Environment) (m : Meaning) (args : List Value) (ps : List Path) (rules : List Rule) (fs : List FlatRule) (kind : ReturnKind)
-    → All IsBuiltRule rules → All IsBoundRule rules → All (IsImpureRule env.terms) rules → ((c : TermId) → Contains (called rules) c → AnswersFit env m c)
+    → All IsBuiltRule rules → All IsBoundRule rules → All (IsImpureRule env.terms) rules → ((o : Occurrence) → Contains (called env rules) o → OccurrenceFits env m o)
     → All (λ (r : Rule). length r.args ≡ length args) rules → AreFlat env ps rules 0 fs
-    → set_outcome env m args ps fs kind ≡ outcome_of env m args rules kind
+    → set_outcome env m args ps fs kind ≡ outcome_of env m args rules kind []
 set_means env m args ps rules fs kind b v i c l h =
     alike_given env m args ps kind (highest (flat_holds env m args ps) fs) (highest_match env m args rules)
     (highest_alike rules fs env m args ps 0 (recursion_from_All IsBuiltRule rules b) (recursion_from_All IsBoundRule rules v) (recursion_from_All (IsImpureRule env.terms) rules i) c

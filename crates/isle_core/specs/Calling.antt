@@ -4,13 +4,16 @@ use Rattle.isle_base.specs.declared.ids.TermId.{TermId}
 use Rattle.isle_core.specs.declared.types.Term.{Term}
 use Rattle.isle_core.specs.declared.types.TermKind.{TermKind}
 use Rattle.isle_core.specs.declared.types.TermKind.TheVariants as term_kind
+use Rattle.isle_core.specs.declared.types.ExtractorKind.{ExtractorKind}
+use Rattle.isle_core.specs.declared.types.ExtractorKind.TheVariants as extractor
 use Rattle.isle_core.specs.declared.values.Callee.{Callee}
+use Rattle.isle_core.specs.declared.values.Callee.TheVariants.{External}
 use Rattle.isle_core.specs.declared.types.ReturnKind.{ReturnKind}
 use Rattle.isle_core.specs.declared.types.ReturnKind.TheVariants as return_kind
 use Rattle.isle_core.specs.Expr as expr
 use Rattle.isle_core.specs.Expr.{Expr, Exprs, NoExpr, AnExpr}
 use Rattle.isle_core.specs.Rule.{Environment}
-use Rattle.isle_core.specs.Terms.{callee_by, impure_callee}
+use Rattle.isle_core.specs.Terms.{sym_text, callee_by, impure_callee}
 
 -- how often a term with these flags answers: a `multi` one several times, a `partial` one at most once
 abbrev pub kind_by : (multi partial : Bool) → ReturnKind
@@ -63,6 +66,33 @@ calling_of env (Some t) = calling_by (kind_of t.kind) (impure_callee env t t.kin
 -- how the term is called
 abbrev pub calling : Environment → TermId → Calling
 calling env term = calling_of env (slice_get env.terms term.0)
+
+-- how often an extractor answers: that of a `multi` term several times, an infallible one once, any other one at most once
+abbrev pub extractor_kind : (multi infallible : Bool) → ReturnKind
+extractor_kind true infallible = return_kind.Iterator
+extractor_kind false true = return_kind.Plain
+extractor_kind false false = return_kind.Option
+
+-- how a term is called as an extractor: an external one by cases; none by a template is left in a rule
+abbrev pub extracting_by : Environment → (multi : Bool) → ExtractorKind → Calling
+extracting_by env multi extractor.Absent = NoCall
+extracting_by env multi extractor.Internal = NoCall
+extracting_by env multi (extractor.External func infallible) = ByCases (External (sym_text env func)) (extractor_kind multi infallible)
+
+-- so of one of this kind
+abbrev pub extracting_kind : Environment → TermKind → Calling
+extracting_kind env (term_kind.Variant ty variant) = NoCall
+extracting_kind env (term_kind.Struct ty) = NoCall
+extracting_kind env (term_kind.Decl pure multi partial recursive constructor by) = extracting_by env multi by
+
+-- so of one that is there
+abbrev pub extracting_of : Environment → Option Term → Calling
+extracting_of env None = NoCall
+extracting_of env (Some t) = extracting_kind env t.kind
+
+-- how the term is called as an extractor
+abbrev pub extracting : Environment → TermId → Calling
+extracting env term = extracting_of env (slice_get env.terms term.0)
 
 -- whether a call may be answered by nothing
 abbrev pub is_fallible : Calling → Bool

@@ -28,8 +28,11 @@ pub mod BlockViews
 pub mod BlockRun
 pub mod BlockLawful
 pub mod Ready
-pub mod Lawful
 pub mod Having
+pub mod Occurrences
+pub mod OccurringConstants
+pub mod Lawful
+pub mod History
 pub mod Printed
 pub mod Inputs
 pub mod Places

@@ -1,5 +1,5 @@
 -- What the rules of a term prescribe.
-use Rattle.std.specs.Prelude.{◌≡◌, ◌<ℤ◌, ◌⊎◌, List, [], Option, Some, None, Contains, option_and_then}
+use Rattle.std.specs.Prelude.{◌≡◌, ◌<ℤ◌, ◌⊎◌, List, Option, Some, None, Contains, option_and_then}
 use Rattle.isle_core.specs.declared.types.ReturnKind.{ReturnKind}
 use Rattle.isle_core.specs.declared.types.ReturnKind.TheVariants as return_kind
 use Rattle.isle_core.specs.Value.{Value, Made}
@@ -15,7 +15,7 @@ pub data Result : Type 0 where
   Failure : Result
   Unmatched : Result
 
--- the result, and the impure calls in order
+-- the result, and all impure calls so far, in order
 pub record Prescription : Type 0 where
   pub result : Result
   pub calls : List Made
@@ -45,7 +45,7 @@ abbrev pub prescription_of : Evaluated → Prescription
 prescription_of (Answered v calls) = record { result = Value' v; calls = calls }
 prescription_of (Failed calls) = record { result = Failure; calls = calls }
 
--- what the rules of a term without `multi` prescribe: no rule matches, or the one highest that does answers or fails
-pub data Prescribed (env : Environment) (m : Meaning) (args : List Value) (rules : List Rule) (kind : ReturnKind) : Prescription → Type 0 where
-  no_rule : NoneMatches env m args rules → Prescribed env m args rules kind (record { result = unmatched kind; calls = [] })
-  one_rule : (r : Rule) (names : Names) → IsHighest env m args rules r names → Prescribed env m args rules kind (prescription_of (evaluated env m r.rhs names []))
+-- what the rules of a term without `multi` prescribe, after the calls made before: no rule matches, or the one highest that does answers or fails
+pub data Prescribed (env : Environment) (m : Meaning) (args : List Value) (rules : List Rule) (kind : ReturnKind) (made : List Made) : Prescription → Type 0 where
+  no_rule : NoneMatches env m args rules → Prescribed env m args rules kind made (record { result = unmatched kind; calls = made })
+  one_rule : (r : Rule) (names : Names) → IsHighest env m args rules r names → Prescribed env m args rules kind made (prescription_of (evaluated env m r.rhs names made))
