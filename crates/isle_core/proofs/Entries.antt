@@ -1,4 +1,4 @@
--- A meaning made of one entry for each occurrence, and what it looks up.
+-- A meaning made of one entry for each called term, and what it looks up.
 use Rattle.std.proofs.Common.{◌≡◌, List, [], ◌∷◌, Bool, true, false, cond, map, Option, Some, None, refl, sym, ap, ◌∙◌, ⊎_elim, subst}
 use Rattle.std.specs.Prelude.{Contains, filter, find, not, option_map}
 use Rattle.std.proofs.lemmas.Slice.Eq.{bytes_eq-Decides}

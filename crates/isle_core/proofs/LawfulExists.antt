@@ -17,10 +17,10 @@ use Rattle.isle_core.specs.Constants.{int_of_def}
 use Rattle.isle_core.specs.Meaning.{Meaning, TurnAnswers, PureAnswers, turns_of, cases_of, turn_at, times, same_values, case_or, case_at, case}
 use Rattle.isle_core.specs.Answered.{answer, answer_by}
 use Rattle.isle_core.specs.Calling.{Calling, ByTurns, ByCases, NoCall}
-use Rattle.isle_core.specs.Occurrences.{Role, Occurrence, called}
+use Rattle.isle_core.specs.CalledTerms.{Role, CalledTerm, called}
 use Rattle.isle_core.specs.OccurringConstants.{Constant, TypedConstant, Truth, Number, Named, rules_constants}
 use Rattle.isle_core.specs.Terms.{goes_to}
-use Rattle.isle_core.specs.Lawful.{Fits, all_turns, all_cases, CallingFits, result_types, OccurrenceFits, constant_value, called_as, IsLawful}
+use Rattle.isle_core.specs.Lawful.{Fits, all_turns, all_cases, CallingFits, result_types, CalledTermFits, constant_value, called_as, IsLawful}
 use Rattle.isle_core.specs.History.{AnsweredCall, Service, service_by, service_of, IsAnswerable, AreAnswerable, NamesNone, IsCallOf, IsHistory, AnswersSo}
 use Rattle.isle_core.specs.Rule.{Environment, rules_of}
 use Rattle.isle_core.proofs.Contained.{head_contained, tail_contained, contained_cases, none_contained}
@@ -29,38 +29,38 @@ use Rattle.isle_core.proofs.SameValueLaws.{same_value-self}
 use Rattle.isle_core.proofs.ListLaws.{not_both, filter_from, filter_keeps, at_seam}
 use Rattle.isle_core.proofs.Entries.{goes_same, Entry, answers_to, cases_to, turns_in, cases_in, takes_turns, meaning_of, serves, turns_found, cases_found, Finds, finds, finds_none}
 
--- ---- the entries of occurrences
+-- ---- the entries of called terms
 
 -- one for each
-entries : (env : Environment) (os : List Occurrence) → ((o : Occurrence) → Contains os o → IsAnswerable env o) → List Entry
+entries : (env : Environment) (os : List CalledTerm) → ((o : CalledTerm) → Contains os o → IsAnswerable env o) → List Entry
 entries env [] h = []
 entries env (o ∷ os) h = record { service = (h o (head_contained o os)).service; rest = (h o (head_contained o os)).answer } ∷ entries env os (λ p c. h p (tail_contained o os p c))
 
--- an entry is of an occurrence, and its rest fits
-record IsEntryOf (env : Environment) (os : List Occurrence) (e : Entry) : Type 0 where
-  occurrence : Occurrence
-  among : Contains os occurrence
-  is : service_of env occurrence ≡ Some e.service
+-- an entry is of a called term, and its rest fits
+record IsEntryOf (env : Environment) (os : List CalledTerm) (e : Entry) : Type 0 where
+  from : CalledTerm
+  among : Contains os from
+  is : service_of env from ≡ Some e.service
   fits : Fits env e.service.kind e.service.types e.rest
 
-entry_of : (env : Environment) (os : List Occurrence) (h : (o : Occurrence) → Contains os o → IsAnswerable env o) (e : Entry) → Contains (entries env os h) e → IsEntryOf env os e
+entry_of : (env : Environment) (os : List CalledTerm) (h : (o : CalledTerm) → Contains os o → IsAnswerable env o) (e : Entry) → Contains (entries env os h) e → IsEntryOf env os e
 unfolding entries
 entry_of env [] h e c = absurd (none_contained e c)
 entry_of env (o ∷ os) h e c =
     let a = h o (head_contained o os) in
     let first : Entry = record { service = a.service; rest = a.answer } in
     let more = entries env os (λ p k. h p (tail_contained o os p k)) in
-    ⊎_elim (λ (s : first ≡ e). subst (IsEntryOf env (o ∷ os)) s (record { occurrence = o; among = head_contained o os; is = a.is; fits = a.fits }))
-    (λ d. let f = entry_of env os (λ p k. h p (tail_contained o os p k)) e d in record { occurrence = f.occurrence; among = tail_contained o os f.occurrence f.among; is = f.is; fits = f.fits })
+    ⊎_elim (λ (s : first ≡ e). subst (IsEntryOf env (o ∷ os)) s (record { from = o; among = head_contained o os; is = a.is; fits = a.fits }))
+    (λ d. let f = entry_of env os (λ p k. h p (tail_contained o os p k)) e d in record { from = f.from; among = tail_contained o os f.from f.among; is = f.is; fits = f.fits })
     (contained_cases first more e c)
 
--- an occurrence has an entry
-record HasEntry (env : Environment) (es : List Entry) (o : Occurrence) : Type 0 where
+-- a called term has an entry
+record HasEntry (env : Environment) (es : List Entry) (o : CalledTerm) : Type 0 where
   entry : Entry
   among : Contains es entry
   is : service_of env o ≡ Some entry.service
 
-has_entry : (env : Environment) (os : List Occurrence) (h : (o : Occurrence) → Contains os o → IsAnswerable env o) (o : Occurrence) → Contains os o → HasEntry env (entries env os h) o
+has_entry : (env : Environment) (os : List CalledTerm) (h : (o : CalledTerm) → Contains os o → IsAnswerable env o) (o : CalledTerm) → Contains os o → HasEntry env (entries env os h) o
 unfolding entries
 has_entry env [] h o c = absurd (none_contained o c)
 has_entry env (p ∷ os) h o c =
@@ -147,7 +147,7 @@ abbrev ServiceFits : Environment → Meaning → Service → Bool → Type 0
 ServiceFits env m s false = IsSomeAnd (turns_of m s.callee) (λ a. All (Fits env s.kind s.types) (all_turns a))
 ServiceFits env m s true = IsSomeAnd (cases_of m s.callee) (λ a. All (Fits env s.kind s.types) (all_cases a)) × (turns_of m s.callee ≡ None)
 
--- and so the occurrence
+-- and so the called term
 answered_as : (env : Environment) (m : Meaning) (role : Role) (o : Option Term) (c : Calling) (s : Service) → service_by role o c ≡ Some s → ServiceFits env m s s.pure → IsSomeAnd o (λ (t : Term). CallingFits env m (result_types role t) c)
 answered_as env m role None c s e f = cc
 answered_as env m role (Some t) NoCall s e f = cc
@@ -161,7 +161,7 @@ answered_as env m role (Some t) (ByCases callee kind) s e f =
 some_service : (s t : Service) → Some s ≡ Some t → s ≡ t
 some_service s t e = cc
 
-module _ (env : Environment) (os : List Occurrence) (h : List AnsweredCall) (can : AreAnswerable env os) (history : IsHistory env os h) where
+module _ (env : Environment) (os : List CalledTerm) (h : List AnsweredCall) (can : AreAnswerable env os) (history : IsHistory env os h) where
   abbrev made_entries : List Entry
   made_entries = entries env os can.each
 
@@ -169,20 +169,20 @@ module _ (env : Environment) (os : List Occurrence) (h : List AnsweredCall) (can
   built = meaning_of h made_entries
 
   -- entries of one callee have one service
-  entries_alike : (o : Occurrence) (s : Service) → Contains os o → service_of env o ≡ Some s → (e : Entry) → Contains made_entries e → s.callee ≡ e.service.callee → e.service ≡ s
+  entries_alike : (o : CalledTerm) (s : Service) → Contains os o → service_of env o ≡ Some s → (e : Entry) → Contains made_entries e → s.callee ≡ e.service.callee → e.service ≡ s
   entries_alike o s c is e k same =
       let f = entry_of env os can.each e k in
-      sym (can.alike o f.occurrence s e.service c f.among is f.is same)
+      sym (can.alike o f.from s e.service c f.among is f.is same)
 
   -- each call of the history of the callee fits
-  calls_fit : (o : Occurrence) (s : Service) → Contains os o → service_of env o ≡ Some s → (c : AnsweredCall) → Contains h c → s.callee ≡ c.callee → Fits env s.kind s.types c.answer
+  calls_fit : (o : CalledTerm) (s : Service) → Contains os o → service_of env o ≡ Some s → (c : AnsweredCall) → Contains h c → s.callee ≡ c.callee → Fits env s.kind s.types c.answer
   calls_fit o s k is c d same =
       let f = history.calls c d in
-      let one : f.service ≡ s = sym (can.alike o f.occurrence s f.service k f.among is f.is (same ∙ sym f.callee)) in
+      let one : f.service ≡ s = sym (can.alike o f.from s f.service k f.among is f.is (same ∙ sym f.callee)) in
       subst (λ (x : Service). Fits env x.kind x.types c.answer) one f.fits
 
   -- all answers of an entry fit
-  answers_fit : (o : Occurrence) (s : Service) → Contains os o → service_of env o ≡ Some s → (e : Entry) → Contains made_entries e → e.service ≡ s → All (Fits env s.kind s.types) (e.rest ∷ answers_to e.service.callee h)
+  answers_fit : (o : CalledTerm) (s : Service) → Contains os o → service_of env o ≡ Some s → (e : Entry) → Contains made_entries e → e.service ≡ s → All (Fits env s.kind s.types) (e.rest ∷ answers_to e.service.callee h)
   answers_fit o s k is e c same =
       All-from_recursion (Fits env s.kind s.types) (e.rest ∷ answers_to e.service.callee h) (
         subst (λ (x : Service). Fits env x.kind x.types e.rest) same (entry_of env os can.each e c).fits,
@@ -190,7 +190,7 @@ module _ (env : Environment) (os : List Occurrence) (h : List AnsweredCall) (can
       )
 
   -- where it is impure
-  finds_turns : (o : Occurrence) (s : Service) → Contains os o → service_of env o ≡ Some s → s.pure ≡ false → Finds (filter takes_turns made_entries) s
+  finds_turns : (o : CalledTerm) (s : Service) → Contains os o → service_of env o ≡ Some s → s.pure ≡ false → Finds (filter takes_turns made_entries) s
   finds_turns o s k is impure =
       let w = has_entry env os can.each o k in
       let same : w.entry.service ≡ s = some_service w.entry.service s (sym w.is ∙ is) in
@@ -198,12 +198,12 @@ module _ (env : Environment) (os : List Occurrence) (h : List AnsweredCall) (can
       (filter_keeps takes_turns made_entries w.entry w.among (ap (λ (x : Service). not x.pure) same ∙ ap not impure)) same
 
   -- where it is pure
-  finds_cases : (o : Occurrence) (s : Service) → Contains os o → service_of env o ≡ Some s → Finds made_entries s
+  finds_cases : (o : CalledTerm) (s : Service) → Contains os o → service_of env o ≡ Some s → Finds made_entries s
   finds_cases o s k is =
       let w = has_entry env os can.each o k in
       finds made_entries s (entries_alike o s k is) w.entry w.among (some_service w.entry.service s (sym w.is ∙ is))
 
-  no_turns : (o : Occurrence) (s : Service) → Contains os o → service_of env o ≡ Some s → s.pure ≡ true → turns_of built s.callee ≡ None
+  no_turns : (o : CalledTerm) (s : Service) → Contains os o → service_of env o ≡ Some s → s.pure ≡ true → turns_of built s.callee ≡ None
   no_turns o s k is pure =
       turns_found h made_entries s.callee None
       (finds_none (filter takes_turns made_entries) s.callee (λ e c same.
@@ -211,7 +211,7 @@ module _ (env : Environment) (os : List Occurrence) (h : List AnsweredCall) (can
       let one : e.service ≡ s = entries_alike o s k is e f.0 same in
       not_both f.1 (ap (λ (x : Service). not x.pure) one ∙ ap not pure)))
 
-  service_fits : (o : Occurrence) (s : Service) → Contains os o → service_of env o ≡ Some s → (b : Bool) → s.pure ≡ b → ServiceFits env built s b
+  service_fits : (o : CalledTerm) (s : Service) → Contains os o → service_of env o ≡ Some s → (b : Bool) → s.pure ≡ b → ServiceFits env built s b
   service_fits o s k is false impure =
       let f = finds_turns o s k is impure in
       subst (λ a. IsSomeAnd a (λ x. All (Fits env s.kind s.types) (all_turns x))) (sym (turns_found h made_entries s.callee (Some f.entry) f.found))
@@ -223,8 +223,8 @@ module _ (env : Environment) (os : List Occurrence) (h : List AnsweredCall) (can
         no_turns o s k is pure,
       )
 
-  occurrence_fits : (o : Occurrence) → Contains os o → OccurrenceFits env built o
-  occurrence_fits o k =
+  called_term_fits : (o : CalledTerm) → Contains os o → CalledTermFits env built o
+  called_term_fits o k =
       let a = can.each o k in
       answered_as env built o.role (slice_get env.terms o.term.0) (called_as env o.term o.role) a.service a.is (service_fits o a.service k a.is a.service.pure refl)
 
@@ -237,7 +237,7 @@ module _ (env : Environment) (os : List Occurrence) (h : List AnsweredCall) (can
 
       by_service : (b : Bool) → f.service.pure ≡ b → answer built c.callee c.args (calls_of g) ≡ c.answer
       by_service false impure =
-          let w = finds_turns f.occurrence f.service f.among f.is impure in
+          let w = finds_turns f.from f.service f.among f.is impure in
           let to : w.entry.service.callee ≡ c.callee = ap (λ (x : Service). x.callee) w.service ∙ f.callee in
           let looked : turns_of built c.callee ≡ Some (turns_in h w.entry) = subst (λ x. turns_of built x ≡ Some (turns_in h w.entry)) f.callee (turns_found h made_entries f.service.callee (Some w.entry) w.found) in
           ap (λ o. answer_by o built c.callee c.args (calls_of g)) looked
@@ -245,14 +245,14 @@ module _ (env : Environment) (os : List Occurrence) (h : List AnsweredCall) (can
           ∙ ap (λ x. slice_index_or (answers_to c.callee x) (times c.callee (calls_of g)) w.entry.rest) is
           ∙ next_turn c.callee g after c w.entry.rest refl
       by_service true pure =
-          let w = finds_cases f.occurrence f.service f.among f.is in
+          let w = finds_cases f.from f.service f.among f.is in
           let to : w.entry.service.callee ≡ c.callee = ap (λ (x : Service). x.callee) w.service ∙ f.callee in
           let looked : cases_of built c.callee ≡ Some (cases_in h w.entry) = subst (λ x. cases_of built x ≡ Some (cases_in h w.entry)) f.callee (cases_found h made_entries f.service.callee (Some w.entry) w.found) in
-          let none : turns_of built c.callee ≡ None = subst (λ x. turns_of built x ≡ None) f.callee (no_turns f.occurrence f.service f.among f.is pure) in
+          let none : turns_of built c.callee ≡ None = subst (λ x. turns_of built x ≡ None) f.callee (no_turns f.from f.service f.among f.is pure) in
           ap (λ o. answer_by o built c.callee c.args (calls_of g)) none
           ∙ ap (λ o. case_at o c.args) looked
           ∙ ap (λ x. case_or w.entry.rest (find (λ (y : List Value × Answer). same_values y.0 c.args) (cases_to x h))) to
-          ∙ the_case c.callee h c w.entry.rest d refl (λ x j at_x same. history.alike x c f.occurrence f.service j d f.among f.is pure (f.callee ∙ at_x) (sym at_x) same)
+          ∙ the_case c.callee h c w.entry.rest d refl (λ x j at_x same. history.alike x c f.from f.service j d f.among f.is pure (f.callee ∙ at_x) (sym at_x) same)
 
   answers_so : (after g : List AnsweredCall) → h ≡ g ++ after → ((c : AnsweredCall) → Contains after c → Contains h c) → AnswersSo built (calls_of g) after
   answers_so [] g is all = tt
@@ -290,14 +290,14 @@ pub lawful_with : (env : Environment) (term : TermId) (h : List AnsweredCall) �
 lawful_with env term h can none history = (
   built env (called env (rules_of env term)) h can history,
   record {
-    answers = occurrence_fits env (called env (rules_of env term)) h can history;
+    answers = called_term_fits env (called env (rules_of env term)) h can history;
     named = λ ty name c. absurd (none ty name c);
     apart = written_apart env (built env (called env (rules_of env term)) h can history) (rules_constants (rules_of env term)) none;
   },
   answers_so env (called env (rules_of env term)) h can history h [] refl (λ c k. k),
 )
 
-no_history : (env : Environment) (os : List Occurrence) → IsHistory env os []
+no_history : (env : Environment) (os : List CalledTerm) → IsHistory env os []
 no_history env os = record {
   calls = λ c k. absurd (none_contained c k);
   alike = λ c d o s k. absurd (none_contained c k);

@@ -20,8 +20,8 @@ use Rattle.isle_core.specs.Held.{Known, nothing_known, value_at, holds, all_hold
 use Rattle.isle_core.specs.CallRun.{Went, Goes, Ends, then_go, returns, run_calls}
 use Rattle.isle_core.specs.RuleSet.{flat_tests, flat_holds, gave, flat_run, higher, highest, given, set_outcome}
 use Rattle.isle_core.specs.StandsFor.{IsFlat, AreFlat}
-use Rattle.isle_core.specs.Lawful.{OccurrenceFits}
-use Rattle.isle_core.specs.Occurrences.{Occurrence, extracted_in, called_in_iflets, called_by, called_in, called}
+use Rattle.isle_core.specs.Lawful.{CalledTermFits}
+use Rattle.isle_core.specs.CalledTerms.{CalledTerm, extracted_in, called_in_iflets, called_by, called_in, called}
 use Rattle.isle_core.specs.BuiltRule.{IsBuiltPattern, IsBuiltRule, IsImpureRule, IsBoundRule}
 use Rattle.isle_core.specs.Rule.{Environment, IfLet, Rule}
 use Rattle.isle_core.proofs.NotTrivial.{no_trivial}
@@ -74,7 +74,7 @@ rule_both env m args r b l =
 abbrev RuleByTurns : Environment → Meaning → Rule → Type 0
 RuleByTurns env m r = CallsByTurns env m (rule_places r) r.rhs
 
-rule_by_turns : (env : Environment) (m : Meaning) (r : Rule) → IsBuiltRule r → IsBoundRule r → IsImpureRule env.terms r → ((o : Occurrence) → Contains (called_in env r) o → OccurrenceFits env m o) → RuleByTurns env m r
+rule_by_turns : (env : Environment) (m : Meaning) (r : Rule) → IsBuiltRule r → IsBoundRule r → IsImpureRule env.terms r → ((o : CalledTerm) → Contains (called_in env r) o → CalledTermFits env m o) → RuleByTurns env m r
 rule_by_turns env m r b v i h = calls_by_turns r.rhs env m r.args (rule_places r) (λ ty x c. args_placed r.args 0 no_places ty x c) b.rhs v i (λ o k. h o (Contains-append_right (extracted_in env r.args ++ called_in_iflets env r.iflets) (called_by env r.rhs) o k))
 
 follows_returns : (env : Environment) (m : Meaning) (args : List Value) (n n' : ℕ) (known : Known) (p : Path) (r : Evaluated) (w : Went) → Follows env m args n n' known p r w → then_go w (returns env m args p) ≡ Ends (prescription_of r)
@@ -121,7 +121,7 @@ alike_more env m args ps r n f b (Some names) later best t h k s =
     subst (λ x. Alike env m args ps (cond x (Some (higher f later)) later) (Some (better r names best))) (sym k.0) (alike_higher env m args ps r names f later best (h.prio, flat_gives env m args ps r n f names t h k.1) s)
 
 highest_alike : (rules : List Rule) (fs : List FlatRule) (env : Environment) (m : Meaning) (args : List Value) (ps : List Path) (n : ℕ) → AllByRecursion IsBuiltRule rules → AllByRecursion IsBoundRule rules → AllByRecursion (IsImpureRule env.terms) rules
-    → ((o : Occurrence) → Contains (called env rules) o → OccurrenceFits env m o) → AllByRecursion (λ (r : Rule). length r.args ≡ length args) rules → AreFlat env ps rules n fs
+    → ((o : CalledTerm) → Contains (called env rules) o → CalledTermFits env m o) → AllByRecursion (λ (r : Rule). length r.args ≡ length args) rules → AreFlat env ps rules n fs
     → Alike env m args ps (highest (flat_holds env m args ps) fs) (highest_match env m args rules)
 highest_alike [] [] env m args ps n b v i c l h = tt
 highest_alike (r ∷ rs) (f ∷ fs) env m args ps n b v i c l h =
@@ -141,7 +141,7 @@ alike_given env m args ps kind (Some f) None h = absurd h
 
 -- flat rules that are the rules give what the rules give
 pub set_means : (env : Environment) (m : Meaning) (args : List Value) (ps : List Path) (rules : List Rule) (fs : List FlatRule) (kind : ReturnKind)
-    → All IsBuiltRule rules → All IsBoundRule rules → All (IsImpureRule env.terms) rules → ((o : Occurrence) → Contains (called env rules) o → OccurrenceFits env m o)
+    → All IsBuiltRule rules → All IsBoundRule rules → All (IsImpureRule env.terms) rules → ((o : CalledTerm) → Contains (called env rules) o → CalledTermFits env m o)
     → All (λ (r : Rule). length r.args ≡ length args) rules → AreFlat env ps rules 0 fs
     → set_outcome env m args ps fs kind ≡ outcome_of env m args rules kind []
 set_means env m args ps rules fs kind b v i c l h =

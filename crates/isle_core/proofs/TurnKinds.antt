@@ -20,8 +20,8 @@ use Rattle.isle_core.specs.Meaning.{Meaning, TurnAnswers, turns_of, turn_at, tim
 use Rattle.isle_core.specs.Answered.{Held, One, Optional, answer_held}
 use Rattle.isle_core.specs.Calling.{Calling, ByTurns, kind_of, kind_by, pure_callee, calling_by, calling_of, calling}
 use Rattle.isle_core.specs.Terms.{sym_text, impure_callee}
-use Rattle.isle_core.specs.Lawful.{Fits, all_turns, CallingFits, AnswersFit, OccurrenceFits}
-use Rattle.isle_core.specs.Occurrences.{Constructor, Occurrence, is_made_kind, is_made_term, unless_made, called_by, called_by_all}
+use Rattle.isle_core.specs.Lawful.{Fits, all_turns, CallingFits, AnswersFit, CalledTermFits}
+use Rattle.isle_core.specs.CalledTerms.{Constructor, CalledTerm, is_made_kind, is_made_term, unless_made, called_by, called_by_all}
 use Rattle.isle_core.specs.BuiltRule.{IsBuiltExpr, AreBuiltExprs, IsImpureKind, CallsImpure, AllCallImpure, IsBoundIn, AreBoundIn}
 use Rattle.isle_core.specs.Pattern as pattern
 use Rattle.isle_core.specs.Pattern.{Pattern}
@@ -97,9 +97,9 @@ not_made (Some t) i = of_kind t.kind i
     of_kind (term_kind.Struct ty) h = absurd h
 
 -- so it is called where it stands
-called_here : (env : Environment) (term : TermId) → IsSomeAnd (slice_get env.terms term.0) (λ (t : Term). IsImpureKind t.kind) → Contains {X = Occurrence} (unless_made env Constructor term) (record { term = term; role = Constructor })
+called_here : (env : Environment) (term : TermId) → IsSomeAnd (slice_get env.terms term.0) (λ (t : Term). IsImpureKind t.kind) → Contains {X = CalledTerm} (unless_made env Constructor term) (record { term = term; role = Constructor })
 called_here env term i =
-    let o : Occurrence = record { term = term; role = Constructor } in
+    let o : CalledTerm = record { term = term; role = Constructor } in
     subst (λ b. Contains (cond b [] (o ∷ [])) o) (sym (not_made (slice_get env.terms term.0) i)) (head_contained o [])
 
 -- ---- an expression
@@ -126,7 +126,7 @@ abbrev mutual
 mutual
   -- impure terms that are answered lawfully take turns
   pub calls_by_turns : (e : Expr) (env : Environment) (m : Meaning) (args : List Pattern) (places : Places) → ((ty : TypeId) (x : VarId) → Contains args (pattern.Var ty x) → IsPlaced (places x.0))
-      → IsBuiltExpr e → IsBoundIn args e → CallsImpure env.terms e → ((o : Occurrence) → Contains (called_by env e) o → OccurrenceFits env m o) → CallsByTurns env m places e
+      → IsBuiltExpr e → IsBoundIn args e → CallsImpure env.terms e → ((o : CalledTerm) → Contains (called_by env e) o → CalledTermFits env m o) → CallsByTurns env m places e
   calls_by_turns (expr.Var ty x) env m args places p b v i h = p v.0 x v.1
   calls_by_turns (expr.ConstBool c) env m args places p b v i h = tt
   calls_by_turns (expr.ConstInt ty n) env m args places p b v i h = tt
@@ -139,7 +139,7 @@ mutual
 
   -- so of expressions in order
   pub all_call_by_turns : (es : Exprs) (env : Environment) (m : Meaning) (args : List Pattern) (places : Places) → ((ty : TypeId) (x : VarId) → Contains args (pattern.Var ty x) → IsPlaced (places x.0))
-      → AreBuiltExprs es → AreBoundIn args es → AllCallImpure env.terms es → ((o : Occurrence) → Contains (called_by_all env es) o → OccurrenceFits env m o) → AllCallByTurns env m places es
+      → AreBuiltExprs es → AreBoundIn args es → AllCallImpure env.terms es → ((o : CalledTerm) → Contains (called_by_all env es) o → CalledTermFits env m o) → AllCallByTurns env m places es
   all_call_by_turns NoExpr env m args places p b v i h = tt
   all_call_by_turns (AnExpr e es) env m args places p b v i h = (
     calls_by_turns e env m args places p b.0 v.0 i.0 (λ o k. h o (Contains-append_left (called_by env e) (called_by_all env es) o k)),

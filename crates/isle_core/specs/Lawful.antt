@@ -13,7 +13,7 @@ use Rattle.isle_core.specs.Meaning.{PureAnswers, TurnAnswers, Meaning, turns_of,
 use Rattle.isle_core.specs.Having.{const_of}
 use Rattle.isle_core.specs.Calling.{Calling, ByTurns, ByCases, NoCall, calling, extracting}
 use Rattle.isle_core.specs.HasType.{HasType, HaveTypes}
-use Rattle.isle_core.specs.Occurrences.{Role, Extractor, Constructor, Occurrence, called}
+use Rattle.isle_core.specs.CalledTerms.{Role, Extractor, Constructor, CalledTerm, called}
 use Rattle.isle_core.specs.OccurringConstants.{Constant, Truth, Number, Named, rules_constants}
 use Rattle.isle_core.specs.Terms.{sym_text}
 use Rattle.isle_core.specs.Rule.{Environment, Rule, rules_of}
@@ -64,9 +64,9 @@ RoleFits env m term role = IsSomeAnd (slice_get env.terms term.0) (λ (t : Term)
 abbrev pub AnswersFit : Environment → Meaning → TermId → Type 0
 AnswersFit env m term = RoleFits env m term Constructor
 
--- so of an occurrence
-abbrev pub OccurrenceFits : Environment → Meaning → Occurrence → Type 0
-OccurrenceFits env m o = RoleFits env m o.term o.role
+-- so of a called term
+abbrev pub CalledTermFits : Environment → Meaning → CalledTerm → Type 0
+CalledTermFits env m o = RoleFits env m o.term o.role
 
 -- ---- constants
 
@@ -81,6 +81,6 @@ constant_value env m ty (Named name) = const_of m (sym_text env name)
 -- the meaning answers each term that the term's rules call; each named constant in them has a value of its type, and
 -- constants of one type that have one value are one
 pub record IsLawful (env : Environment) (term : TermId) (m : Meaning) : Type 0 where
-  pub answers : (o : Occurrence) → Contains (called env (rules_of env term)) o → OccurrenceFits env m o
+  pub answers : (o : CalledTerm) → Contains (called env (rules_of env term)) o → CalledTermFits env m o
   pub named : (ty : TypeId) (name : Sym) → Contains (rules_constants (rules_of env term)) (ty, Named name) → IsSomeAnd (const_of m (sym_text env name)) (λ v. HasType env v ty)
   pub apart : (ty : TypeId) (c d : Constant) → Contains (rules_constants (rules_of env term)) (ty, c) → Contains (rules_constants (rules_of env term)) (ty, d) → constant_value env m ty c ≡ constant_value env m ty d → c ≡ d

@@ -9,6 +9,7 @@ pub mod RuleViews
 pub mod HasType
 pub mod BuiltinType
 pub mod SameValue
+pub mod SameInRun
 pub mod Constants
 pub mod Calling
 pub mod Answered
@@ -29,7 +30,7 @@ pub mod BlockRun
 pub mod BlockLawful
 pub mod Ready
 pub mod Having
-pub mod Occurrences
+pub mod CalledTerms
 pub mod OccurringConstants
 pub mod Lawful
 pub mod History
