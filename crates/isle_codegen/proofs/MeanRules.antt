@@ -144,7 +144,7 @@ module _ (defs : List Def) (files : Files) (env : Environment) (p : Program) (id
   runs args m types lawful =
       let named = name_of_term env id the_term h.emitted.there in
       ap (λ (n : List ℕ). run p n args m) named
-      ∙ runs_as_block files env the_term h.set.bindings h.emitted.block h.emitted.lawful p args m
+      ∙ runs_as_block files env the_term h.set.bindings h.emitted.block h.emitted.lawful h.emitted.single p args m
       (ap (λ (n : List ℕ). function_of n p.fns) (sym named) ∙ h.found ∙ ap (λ (f : Function). Some f) h.emitted.given) types (bindings_answered env id m h.set h.stands lawful)
       ∙ ap (λ (o : Prescription). Some (ran_of env the_term o)) (same_outcome args m types lawful)
 

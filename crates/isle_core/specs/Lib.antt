@@ -26,7 +26,17 @@ pub mod StandsFor
 pub mod Block
 pub mod BlockViews
 pub mod BlockRun
+pub mod ReturnPosition
+pub mod Setting
+pub mod ExternalCall
+pub mod PathType
+pub mod ConstraintType
+pub mod Readable
+pub mod Bindable
+pub mod Occurrences
+pub mod ArmPlaces
 pub mod BlockLawful
+pub mod SingleArms
 pub mod Ready
 pub mod Lawful
 pub mod Having

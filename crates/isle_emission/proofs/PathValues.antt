@@ -15,7 +15,9 @@ use Rattle.isle_core.specs.HasType.{IsOfDef, HasType, HaveTypes}
 use Rattle.isle_core.specs.Constants.{int_of_def, int_value}
 use Rattle.isle_core.specs.Path.{Path, Arg, ConstBool, ConstInt}
 use Rattle.isle_core.specs.Held.{One, Known, held, value_at, meets}
-use Rattle.isle_core.specs.BlockLawful.{IsPathOf, IsConstraintOf, IsInPlace}
+use Rattle.isle_core.specs.ConstraintType.{IsConstraintOf}
+use Rattle.isle_core.specs.PathType.{IsPathOf}
+use Rattle.isle_core.specs.Readable.{IsInPlace}
 use Rattle.isle_core.specs.Rule.{Environment}
 use Rattle.isle_target.specs.Run.{Env, value_of}
 use Rattle.isle_emission.specs.Operands.{constant, in_place, tested}

@@ -7,7 +7,7 @@ use Rattle.isle_core.specs.declared.blocks.MatchArm.{MatchArm as CodeArm}
 use Rattle.isle_core.specs.declared.rule_sets.Binding.{Binding}
 use Rattle.isle_core.specs.Block.{Block, Step}
 use Rattle.isle_core.specs.BlockViews.{SeenStep, SeenArm, block_of, arms_of, step, arm}
-use Rattle.isle_core.specs.BlockLawful.{bound_by}
+use Rattle.isle_core.specs.Bindable.{bound_by}
 use Rattle.isle_core.specs.Rule.{Environment}
 use Rattle.isle_target.specs.declared.tree.Operand.{Operand}
 use Rattle.isle_target.specs.declared.tree.TExpr.{TExpr}

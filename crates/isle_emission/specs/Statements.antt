@@ -7,7 +7,7 @@ use Rattle.isle_core.specs.declared.values.Callee.{Callee}
 use Rattle.isle_core.specs.declared.values.Callee.TheVariants.{External}
 use Rattle.isle_core.specs.Calling.{Calling, ByTurns, ByCases, NoCall, calling}
 use Rattle.isle_core.specs.Path.{at, paths_of}
-use Rattle.isle_core.specs.BlockLawful.{bound_by}
+use Rattle.isle_core.specs.Bindable.{bound_by}
 use Rattle.isle_core.specs.Block as block
 use Rattle.isle_core.specs.Block.{Block, Control, Arms}
 use Rattle.isle_core.specs.Rule.{Environment}

@@ -13,7 +13,9 @@ use Rattle.isle_core.specs.declared.types.TermKind.{TermKind}
 use Rattle.isle_core.specs.declared.types.TermKind.TheVariants as kind
 use Rattle.isle_core.specs.declared.values.Callee.{Callee}
 use Rattle.isle_core.specs.declared.values.Callee.TheVariants.{External}
-use Rattle.isle_core.specs.BlockLawful.{IsPathOf, ArePathsOf, IsCall, occurrence, occurrence_at, occurrences}
+use Rattle.isle_core.specs.ExternalCall.{IsCall}
+use Rattle.isle_core.specs.Occurrences.{occurrence, occurrence_at, occurrences}
+use Rattle.isle_core.specs.PathType.{IsPathOf, ArePathsOf}
 use Rattle.isle_core.specs.Calling.{Calling, ByTurns, ByCases, NoCall, calling, calling_of, calling_by, pure_callee, is_partial, is_fallible, instance_of, one_more, impure, impure_all}
 use Rattle.isle_core.specs.Expr as expr
 use Rattle.isle_core.specs.Expr.{Expr, Exprs, NoExpr, AnExpr}

@@ -10,7 +10,7 @@ use Rattle.isle_core.specs.declared.VarId.{VarId}
 use Rattle.isle_core.specs.declared.rule_sets.FlatRule.{FlatRule}
 use Rattle.isle_core.specs.declared.rule_sets.RuleSet.{RuleSet}
 use Rattle.isle_core.specs.declared.types.Term.{Term}
-use Rattle.isle_core.specs.BlockLawful.{IsPathOf}
+use Rattle.isle_core.specs.PathType.{IsPathOf}
 use Rattle.isle_core.specs.Calling.{calling, is_partial, is_fallible, instance_of, impure, impure_all}
 use Rattle.isle_core.specs.Expr as expr
 use Rattle.isle_core.specs.Expr.{Expr, Exprs, NoExpr, AnExpr}

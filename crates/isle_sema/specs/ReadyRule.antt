@@ -2,7 +2,9 @@
 use Rattle.isle_core.specs.declared.TypeId.{TypeId}
 use Rattle.isle_core.specs.declared.rule_sets.Constraint.{Constraint}
 use Rattle.isle_core.specs.declared.types.Term.{Term}
-use Rattle.isle_core.specs.BlockLawful.{IsPathOf, IsConstraintOf, IsInPlace}
+use Rattle.isle_core.specs.ConstraintType.{IsConstraintOf}
+use Rattle.isle_core.specs.PathType.{IsPathOf}
+use Rattle.isle_core.specs.Readable.{IsInPlace}
 use Rattle.isle_core.specs.Path.{Path}
 use Rattle.isle_core.specs.Tests.{Test, Is, Equal}
 use Rattle.isle_core.specs.Rule.{Environment}
