@@ -17,8 +17,12 @@ pub mod Eval
 pub mod Outcome
 pub mod HighestMatch
 pub mod BuiltRule
+pub mod Scope
 pub mod Path
 pub mod Tests
+pub mod RightSide
+pub mod OrderedCalls
+pub mod RulePaths
 pub mod Held
 pub mod CallRun
 pub mod RuleSet

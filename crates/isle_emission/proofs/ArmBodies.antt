@@ -10,7 +10,7 @@ use Rattle.isle_core.specs.BlockLawful.{IsLawfulFrom, AreLawfulArms}
 use Rattle.isle_core.specs.ConstraintType.{IsConstraintOf}
 use Rattle.isle_core.specs.Setting.{Setting}
 
-no_places : (s : Setting) (source : BindingId) (c : Constraint) (places : List (Option BindingId)) (ty : TypeId) → IsConstraintOf s.env c ty → ArePlacesOf s source c places → places ≡ []
+pub no_places : (s : Setting) (source : BindingId) (c : Constraint) (places : List (Option BindingId)) (ty : TypeId) → IsConstraintOf s.env c ty → ArePlacesOf s source c places → places ≡ []
 no_places s source (constraint.ConstBool val) places ty h k = k
 no_places s source (constraint.ConstInt val of) places ty h k = k
 no_places s source (constraint.ConstPrim val) places ty h k = k

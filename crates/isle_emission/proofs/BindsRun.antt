@@ -41,7 +41,7 @@ use Rattle.isle_target.specs.Program.{Body}
 use Rattle.isle_target.specs.Run.{Env, bind, value_of, read_values, Goes, Ends, then_run, run_bind, run_call, run_try, run_let, run_body}
 use Rattle.isle_emission.specs.Ends.{end_of}
 use Rattle.isle_emission.specs.Emitted.{AnswersBindings}
-use Rattle.isle_emission.specs.Operands.{in_place, operand_of}
+use Rattle.isle_emission.specs.Operands.{written_place, written_operand}
 use Rattle.isle_emission.specs.Statements.{callee_of, reads, bound_expr, lets}
 use Rattle.isle_emission.proofs.BoundTests.{found}
 use Rattle.isle_emission.proofs.HeldStays.{IsThere, Grows}
@@ -94,10 +94,10 @@ no_option env t (ConstInt of n) ty h k = k
 no_option env t p ty h k = absurd h
 
 plain_binds : (env : Environment) (m : Meaning) (args : List Value) (t : Term) (n : ℕ) (p : Path) (known : Known) (made : List Made) (locals : Env) → HaveTypes env args t.arg_tys → IsPlain env t p
-    → BindsOne env m args t n (expr.Read (read.Plain (in_place env p))) p known made locals (bind_one env m args p known made)
+    → BindsOne env m args t n (expr.Read (read.Plain (written_place env p))) p known made locals (bind_one env m args p known made)
 plain_binds env m args t n p known made locals h k =
     let r = path_reads env m args t p k.1.0 h k.1.1 k.0 in
-    subst (BindsOne env m args t n (expr.Read (read.Plain (in_place env p))) p known made locals) (sym (plain_run env m args p known made k.0))
+    subst (BindsOne env m args t n (expr.Read (read.Plain (written_place env p))) p known made locals) (sym (plain_run env m args p known made k.0))
     (One r.0, ap (λ x. run_bind n x locals made) (r.1.place locals), r.1.held known, record { there = tt; value = λ ty of. (r.0, refl); option = λ ty of. absurd (no_option env t p ty k.0 of) }, same_known known, λ j c. refl)
 
 -- ---- a call
@@ -167,7 +167,7 @@ call_binds env m args t bs bound n term parameters k callee partial called known
 
 inner_binds : (env : Environment) (m : Meaning) (args : List Value) (t : Term) (bs : List Binding) (bound : List ℕ) (n : ℕ) (source : BindingId) (ty : TypeId) (known : Known) (made : List Made) (locals : Env)
     → Agree env m args t bs bound known locals → IsOptionOf env t (at (paths_of bs) source) ty → Contains bound source.0 → is_partial t.kind ≡ true
-    → BindsOne env m args t n (expr.Try (operand_of env bs bound source) false) (Inner (at (paths_of bs) source)) known made locals (bind_one env m args (Inner (at (paths_of bs) source)) known made)
+    → BindsOne env m args t n (expr.Try (written_operand env bs bound source) false) (Inner (at (paths_of bs) source)) known made locals (bind_one env m args (Inner (at (paths_of bs) source)) known made)
 inner_binds env m args t bs bound n source ty known made locals a of c partial =
     let is = found bound source.0 c in
     let s = a.by source is in
@@ -178,9 +178,9 @@ inner_binds env m args t bs bound n source ty known made locals a of c partial =
     q = at (paths_of bs) source
 
     e : TExpr
-    e = expr.Try (operand_of env bs bound source) false
+    e = expr.Try (written_operand env bs bound source) false
 
-    one : (o : Option Value) → value_at env m args known q ≡ Optional o → value_of args locals (operand_of env bs bound source) ≡ value_at env m args known q → BindsOne env m args t n e (Inner q) known made locals (bind_one env m args (Inner q) known made)
+    one : (o : Option Value) → value_at env m args known q ≡ Optional o → value_of args locals (written_operand env bs bound source) ≡ value_at env m args known q → BindsOne env m args t n e (Inner q) known made locals (bind_one env m args (Inner q) known made)
     one None held place =
         subst (BindsOne env m args t n e (Inner q) known made locals) (sym (ap (λ h. unless_nothing h known made) held))
         (ap (λ h. run_try n h locals made) (place ∙ held) ∙ ap (λ x. Ends (end_of x Failure) made) (sym partial))
@@ -202,9 +202,9 @@ binding_answers env m (binding.Constructor x qs j ∷ bs) (suc i) term parameter
 binding_answers env m (b ∷ bs) (suc i) term parameters k h e = binding_answers env m bs i term parameters k h e
 
 in_place_binds : (env : Environment) (m : Meaning) (args : List Value) (t : Term) (bs : List Binding) (bound : List ℕ) (b : BindingId) (p : Path) (known : Known) (made : List Made) (locals : Env) → at (paths_of bs) b ≡ p → HaveTypes env args t.arg_tys → IsPlain env t p
-    → BindsOne env m args t b.0 (expr.Read (read.Plain (in_place env (at (paths_of bs) b)))) p known made locals (bind_one env m args p known made)
+    → BindsOne env m args t b.0 (expr.Read (read.Plain (written_place env (at (paths_of bs) b)))) p known made locals (bind_one env m args p known made)
 in_place_binds env m args t bs bound b p known made locals at_p h is =
-    subst (λ q. BindsOne env m args t b.0 (expr.Read (read.Plain (in_place env q))) p known made locals (bind_one env m args p known made)) (sym at_p) (plain_binds env m args t b.0 p known made locals h is)
+    subst (λ q. BindsOne env m args t b.0 (expr.Read (read.Plain (written_place env q))) p known made locals (bind_one env m args p known made)) (sym at_p) (plain_binds env m args t b.0 p known made locals h is)
 
 -- a binding that may be bound
 bound_binds : (env : Environment) (m : Meaning) (args : List Value) (t : Term) (bs : List Binding) (bound : List ℕ) (b : BindingId) (p : Path) (o : Option Binding) (known : Known) (made : List Made) (locals : Env)

@@ -17,7 +17,7 @@ use Rattle.isle_core.specs.Setting.{setting}
 use Rattle.isle_target.specs.declared.tree.Operand.{Operand}
 use Rattle.isle_target.specs.Program.{Stmt, Let, Tail, Body, Done, Then}
 use Rattle.isle_target.specs.WellFormed.{FitsLet, IsReturned, FitsStmt, FitsBody, FitsFunction}
-use Rattle.isle_emission.specs.Operands.{operand_of}
+use Rattle.isle_emission.specs.Operands.{written_operand}
 use Rattle.isle_emission.specs.Statements.{bound_expr, lets, returned, block_body, control_stmt}
 use Rattle.isle_emission.specs.TermFunction.{kind_of, ends_in_return, mark_of, tail_of}
 use Rattle.isle_emission.proofs.ArmBodies.{arm_body}
@@ -54,7 +54,7 @@ mutual
   control_fits (block.Match source block.NoArm) more env t bs bound made k o = absurd o
   control_fits (block.Equal x y body) more env t bs bound made k o = block_fits body env t bs bound made k.1 o
   control_fits (block.Loop result body) more env t bs bound made k o = absurd k
-  control_fits (block.Return pos result) more env t bs bound made k o = returned_fits (is_partial t.kind) (operand_of env bs bound result)
+  control_fits (block.Return pos result) more env t bs bound made k o = returned_fits (is_partial t.kind) (written_operand env bs bound result)
 
 -- ---- a whole function
 
@@ -83,7 +83,7 @@ return_last : (b : Block) (env : Environment) (t : Term) (bs : List Binding) (bo
     → IsLawfulFrom (setting env t bs) bound made b → HasSingleArms b → ends_in_return b ≡ true → FitsFunction (kind_of (is_partial t.kind)) (block_body env bs (is_partial t.kind) bound b Done)
 return_last Stop env t bs bound made k o e = cc
 return_last (Step binds (block.Return pos result) Stop) env t bs bound made k o e =
-    lets_before env t bs bound binds (Then (control_stmt env bs (is_partial t.kind) (bound_by bound binds) (block.Return pos result)) Done) k.0 (returned_fits (is_partial t.kind) (operand_of env bs (bound_by bound binds) result))
+    lets_before env t bs bound binds (Then (control_stmt env bs (is_partial t.kind) (bound_by bound binds) (block.Return pos result)) Done) k.0 (returned_fits (is_partial t.kind) (written_operand env bs (bound_by bound binds) result))
 return_last (Step binds (block.Match source arms) Stop) env t bs bound made k o e = cc
 return_last (Step binds (block.Equal x y body) Stop) env t bs bound made k o e = cc
 return_last (Step binds (block.Loop result body) Stop) env t bs bound made k o e = cc

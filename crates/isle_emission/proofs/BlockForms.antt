@@ -28,31 +28,31 @@ use Rattle.isle_core.specs.Setting.{setting}
 use Rattle.isle_target.specs.declared.tree.Operand.{Operand}
 use Rattle.isle_target.specs.Program.{Body, Done, Then}
 use Rattle.isle_target.specs.WellFormed.{IsOperand, IsRead, IsExpr, IsStmt, IsBody}
-use Rattle.isle_emission.specs.Operands.{constant, in_place, tested, is_bound, operand_of}
+use Rattle.isle_emission.specs.Operands.{written_constant, written_place, written_test, is_bound, written_operand}
 use Rattle.isle_emission.specs.Statements.{reads, bound_expr, lets, returned, block_body, control_stmt}
 use Rattle.isle_emission.specs.TraitFns.{HasFnNames}
 use Rattle.isle_emission.proofs.ArmBodies.{arm_body}
 use Rattle.isle_emission.proofs.BoundTests.{found}
 use Rattle.isle_emission.proofs.ExternalTerms.{callee_is}
 
-number_is : (o : Option TypeDef) (n : ℤ) → IsSomeAnd o (λ d. IsOfDef d (int_of_def o n)) → IsOperand (constant (int_of_def o n))
+number_is : (o : Option TypeDef) (n : ℤ) → IsSomeAnd o (λ d. IsOfDef d (int_of_def o n)) → IsOperand (written_constant (int_of_def o n))
 number_is (Some (def.Builtin (builtin.Int ty))) n h = h.1
 number_is (Some (def.Builtin builtin.Bool)) n h = absurd h
 number_is None n h = absurd h
 number_is (Some d) n h = absurd h
 
-typed_number_is : (env : Environment) (of ty : TypeId) (n : ℤ) → of ≡ ty → HasType env (int_value env ty n) ty → IsOperand (constant (int_value env of n))
+typed_number_is : (env : Environment) (of ty : TypeId) (n : ℤ) → of ≡ ty → HasType env (int_value env ty n) ty → IsOperand (written_constant (int_value env of n))
 typed_number_is env of ty n e h = rw e (number_is (slice_get env.types.types ty.0) n h)
 
 -- a path of a type that is read in place
-in_place_is : (env : Environment) (t : Term) (p : Path) (ty : TypeId) → IsPathOf env t p ty → IsInPlace p → IsOperand (in_place env p)
+in_place_is : (env : Environment) (t : Term) (p : Path) (ty : TypeId) → IsPathOf env t p ty → IsInPlace p → IsOperand (written_place env p)
 in_place_is env t (Arg i) ty h k = tt
 in_place_is env t (ConstBool of b) ty h k = tt
 in_place_is env t (ConstInt of n) ty h k = typed_number_is env of ty n h.0 h.1
 in_place_is env t p ty h k = absurd k
 
 -- a constraint of a type
-tested_is : (env : Environment) (c : Constraint) (ty : TypeId) → IsConstraintOf env c ty → IsOperand (tested env c)
+tested_is : (env : Environment) (c : Constraint) (ty : TypeId) → IsConstraintOf env c ty → IsOperand (written_test env c)
 tested_is env (constraint.ConstBool val) ty h = tt
 tested_is env (constraint.ConstInt val of) ty h = typed_number_is env of ty val h.0 h.1
 tested_is env c ty h = absurd h
@@ -60,10 +60,10 @@ tested_is env c ty h = absurd h
 not_bound : (bound : List ℕ) (b : BindingId) → Contains bound b.0 → is_bound bound b ≡ false → ⊥
 not_bound bound b c e = let t = found bound b.0 c in cc
 
-operand_is : (env : Environment) (t : Term) (bs : List Binding) (bound : List ℕ) (b : BindingId) (ty : TypeId) → IsReadAs (setting env t bs) bound b ty → IsOperand (operand_of env bs bound b)
+operand_is : (env : Environment) (t : Term) (bs : List Binding) (bound : List ℕ) (b : BindingId) (ty : TypeId) → IsReadAs (setting env t bs) bound b ty → IsOperand (written_operand env bs bound b)
 operand_is env t bs bound b ty h = one (is_bound bound b) refl
   where
-    one : (x : Bool) → is_bound bound b ≡ x → IsOperand (operand_of env bs bound b)
+    one : (x : Bool) → is_bound bound b ≡ x → IsOperand (written_operand env bs bound b)
     one true is = rw is tt
     one false is = rw is (⊎_elim (λ k. in_place_is env t (at (paths_of bs) b) ty h.path k) (λ c. absurd (not_bound bound b c is)) h.read)
 
@@ -74,10 +74,10 @@ reads_are env t bs bound [] (ty ∷ tys) h = absurd h
 reads_are env t bs bound (b ∷ more) [] h = absurd h
 
 -- the local of a bound source is read
-source_is : (env : Environment) (bs : List Binding) (bound : List ℕ) (b : BindingId) → Contains bound b.0 → IsOperand (operand_of env bs bound b)
+source_is : (env : Environment) (bs : List Binding) (bound : List ℕ) (b : BindingId) → Contains bound b.0 → IsOperand (written_operand env bs bound b)
 source_is env bs bound b c = one (is_bound bound b) refl
   where
-    one : (x : Bool) → is_bound bound b ≡ x → IsOperand (operand_of env bs bound b)
+    one : (x : Bool) → is_bound bound b ≡ x → IsOperand (written_operand env bs bound b)
     one true is = rw is tt
     one false is = absurd (not_bound bound b c is)
 
@@ -89,9 +89,9 @@ returned_is false o h = h
 bound_is : (env : Environment) (t : Term) (bs : List Binding) (bound : List ℕ) (b : BindingId) (p : Path) (o : Option Binding) → HasFnNames env → at (paths_of bs) b ≡ p → IsBindable (setting env t bs) bound p o → IsExpr (bound_expr env bs bound b o)
 bound_is env t bs bound b p (Some (binding.Constructor term parameters k)) names e is = (refl, record { callee = callee_is env term is.called is.partial names is.there is.external; args = reads_are env t bs bound parameters is.called.arg_tys is.args })
 bound_is env t bs bound b p (Some (binding.MatchSome source)) names e is = (refl, source_is env bs bound source is.bound')
-bound_is env t bs bound b p (Some (binding.Argument index)) names e is = subst (λ q. IsOperand (in_place env q)) (sym e) (in_place_is env t p is.1.0 is.1.1 is.0)
-bound_is env t bs bound b p (Some (binding.ConstBool val ty)) names e is = subst (λ q. IsOperand (in_place env q)) (sym e) (in_place_is env t p is.1.0 is.1.1 is.0)
-bound_is env t bs bound b p (Some (binding.ConstInt val ty)) names e is = subst (λ q. IsOperand (in_place env q)) (sym e) (in_place_is env t p is.1.0 is.1.1 is.0)
+bound_is env t bs bound b p (Some (binding.Argument index)) names e is = subst (λ q. IsOperand (written_place env q)) (sym e) (in_place_is env t p is.1.0 is.1.1 is.0)
+bound_is env t bs bound b p (Some (binding.ConstBool val ty)) names e is = subst (λ q. IsOperand (written_place env q)) (sym e) (in_place_is env t p is.1.0 is.1.1 is.0)
+bound_is env t bs bound b p (Some (binding.ConstInt val ty)) names e is = subst (λ q. IsOperand (written_place env q)) (sym e) (in_place_is env t p is.1.0 is.1.1 is.0)
 bound_is env t bs bound b p o names e is = absurd is
 
 lets_are : (env : Environment) (t : Term) (bs : List Binding) (bound : List ℕ) (binds : List BindingId) (more : Body) → HasFnNames env → AreBindable (setting env t bs) bound binds → IsBody more → IsBody (lets env bs bound binds more)
@@ -118,4 +118,4 @@ mutual
       (operand_is env t bs bound x k.0.0 k.0.1, operand_is env t bs bound y k.0.0 k.0.2, block_is body env t bs partial bound made Done names k.1 o tt)
   control_is (block.Loop result body) more env t bs partial bound made names k o = absurd k
   control_is (block.Return pos result) more env t bs partial bound made names k o =
-      returned_is partial (operand_of env bs bound result) (operand_is env t bs bound result t.ret_ty k.0)
+      returned_is partial (written_operand env bs bound result) (operand_is env t bs bound result t.ret_ty k.0)

@@ -33,7 +33,7 @@ use Rattle.isle_target.specs.declared.holds.Holds.TheVariants as holds
 use Rattle.isle_target.specs.declared.tree.Operand.{Operand}
 use Rattle.isle_target.specs.Program.{Body, Done, Then}
 use Rattle.isle_target.specs.WellFormed.{Locals, newer, local_holds, operand_holds, is_value, are_values, kind_holds, call_holds, callee_holds, inner_holds, expr_holds, GivesKind, behind_let, IsBodyThere}
-use Rattle.isle_emission.specs.Operands.{constant, in_place, tested, is_bound, operand_of}
+use Rattle.isle_emission.specs.Operands.{written_constant, written_place, written_test, is_bound, written_operand}
 use Rattle.isle_emission.specs.Statements.{callee_of, reads, bound_expr, lets, returned, block_body, control_stmt}
 use Rattle.isle_emission.specs.TermFunction.{parameter, kind_of}
 use Rattle.isle_emission.specs.TraitFns.{trait_fns_of, HasFnNames}
@@ -43,7 +43,7 @@ use Rattle.isle_emission.proofs.ExternalTerms.{external_term, term_fn_found}
 
 -- ---- operands
 
-constant_holds : (v : Value) (params : ℕ) (locals : Locals) → operand_holds params locals (constant v) ≡ Some holds.One
+constant_holds : (v : Value) (params : ℕ) (locals : Locals) → operand_holds params locals (written_constant v) ≡ Some holds.One
 constant_holds (Truth b) params locals = refl
 constant_holds (Int ty n) params locals = refl
 constant_holds (Opaque ty n) params locals = refl
@@ -51,14 +51,14 @@ constant_holds (Variant ty name fields) params locals = refl
 constant_holds (Struct ty fields) params locals = refl
 
 -- a path of a type that is read in place holds a value
-in_place_holds : (env : Environment) (t : Term) (p : Path) (ty : TypeId) (locals : Locals) → IsPathOf env t p ty → IsInPlace p → operand_holds (length t.arg_tys) locals (in_place env p) ≡ Some holds.One
+in_place_holds : (env : Environment) (t : Term) (p : Path) (ty : TypeId) (locals : Locals) → IsPathOf env t p ty → IsInPlace p → operand_holds (length t.arg_tys) locals (written_place env p) ≡ Some holds.One
 in_place_holds env t (Arg i) ty locals h k = ap (λ b. cond b (Some holds.One) None) (lt-ltb i (length t.arg_tys) (slice_get_within t.arg_tys i ty h))
 in_place_holds env t (ConstBool of b) ty locals h k = refl
 in_place_holds env t (ConstInt of n) ty locals h k = constant_holds (int_value env of n) (length t.arg_tys) locals
 in_place_holds env t p ty locals h k = absurd k
 
 -- a constraint is tested for a value
-tested_holds : (env : Environment) (c : Constraint) (ty : TypeId) (params : ℕ) (locals : Locals) → IsConstraintOf env c ty → operand_holds params locals (tested env c) ≡ Some holds.One
+tested_holds : (env : Environment) (c : Constraint) (ty : TypeId) (params : ℕ) (locals : Locals) → IsConstraintOf env c ty → operand_holds params locals (written_test env c) ≡ Some holds.One
 tested_holds env (constraint.ConstBool val) ty params locals h = refl
 tested_holds env (constraint.ConstInt val of) ty params locals h = constant_holds (int_value env of val) params locals
 tested_holds env c ty params locals h = absurd h
@@ -95,10 +95,10 @@ more_hold env t bs bound locals b h l here = record {
 not_bound : (bound : List ℕ) (b : BindingId) → Contains bound b.0 → is_bound bound b ≡ false → ⊥
 not_bound bound b c e = let t = found bound b.0 c in cc
 
-operand_one : (env : Environment) (t : Term) (bs : List Binding) (bound : List ℕ) (locals : Locals) (b : BindingId) (ty : TypeId) → LocalsHold env t bs bound locals → IsReadAs (setting env t bs) bound b ty → operand_holds (length t.arg_tys) locals (operand_of env bs bound b) ≡ Some holds.One
+operand_one : (env : Environment) (t : Term) (bs : List Binding) (bound : List ℕ) (locals : Locals) (b : BindingId) (ty : TypeId) → LocalsHold env t bs bound locals → IsReadAs (setting env t bs) bound b ty → operand_holds (length t.arg_tys) locals (written_operand env bs bound b) ≡ Some holds.One
 operand_one env t bs bound locals b ty l h = one (is_bound bound b) refl
   where
-    one : (x : Bool) → is_bound bound b ≡ x → operand_holds (length t.arg_tys) locals (operand_of env bs bound b) ≡ Some holds.One
+    one : (x : Bool) → is_bound bound b ≡ x → operand_holds (length t.arg_tys) locals (written_operand env bs bound b) ≡ Some holds.One
     one true is = rw is ((l.by b is).value ty h.path)
     one false is = rw is (⊎_elim (λ k. in_place_holds env t (at (paths_of bs) b) ty locals h.path k) (λ c. absurd (not_bound bound b c is)) h.read)
 
@@ -130,8 +130,8 @@ plain_holds env t (ConstInt of n) k = record { value = λ ty h. refl; option = �
 plain_holds env t p k = absurd k.0
 
 in_place_let : (env : Environment) (t : Term) (bs : List Binding) (bound : List ℕ) (locals : Locals) (b : BindingId) (p : Path) → at (paths_of bs) b ≡ p → IsPlain env t p
-    → (operand_holds (length t.arg_tys) locals (in_place env (at (paths_of bs) b)) ≡ Some holds.One) × HoldsAs env t p (Some holds.One)
-in_place_let env t bs bound locals b p e k = (ap (λ q. operand_holds (length t.arg_tys) locals (in_place env q)) e ∙ in_place_holds env t p k.1.0 locals k.1.1 k.0, plain_holds env t p k)
+    → (operand_holds (length t.arg_tys) locals (written_place env (at (paths_of bs) b)) ≡ Some holds.One) × HoldsAs env t p (Some holds.One)
+in_place_let env t bs bound locals b p e k = (ap (λ q. operand_holds (length t.arg_tys) locals (written_place env q)) e ∙ in_place_holds env t p k.1.0 locals k.1.1 k.0, plain_holds env t p k)
 
 -- what the answer of a term's function holds
 abbrev answer_holds : Bool → Holds
@@ -220,7 +220,7 @@ mutual
       ((is_one _ (operand_one env t bs bound locals x k.0.0 l k.0.1), is_one _ (operand_one env t bs bound locals y k.0.0 l k.0.2), block_there body env t bs bound made locals Done names l k.1 o (λ after. tt)), h)
   control_there (block.Loop result body) more env t bs bound made locals ss names l k o h = absurd k
   control_there (block.Return pos result) more env t bs bound made locals ss names l k o h =
-      (returned_there (is_partial t.kind) (operand_of env bs bound result) env (length t.arg_tys) locals (operand_one env t bs bound locals result t.ret_ty l k.0), h)
+      (returned_there (is_partial t.kind) (written_operand env bs bound result) env (length t.arg_tys) locals (operand_one env t bs bound locals result t.ret_ty l k.0), h)
 
 -- what the block of a function reads
 pub root_there : (b : Block) (env : Environment) (t : Term) (bs : List Binding) (end : Body) → HasFnNames env → IsLawfulBlock (setting env t bs) b → HasSingleArms b

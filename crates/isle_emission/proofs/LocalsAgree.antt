@@ -18,7 +18,7 @@ use Rattle.isle_core.specs.Readable.{IsReadAs, AreReadAs}
 use Rattle.isle_core.specs.Rule.{Environment}
 use Rattle.isle_core.specs.Setting.{setting}
 use Rattle.isle_target.specs.Run.{Env, newer, look, bind, value_of, read_values}
-use Rattle.isle_emission.specs.Operands.{is_bound, operand_of}
+use Rattle.isle_emission.specs.Operands.{is_bound, written_operand}
 use Rattle.isle_emission.specs.Statements.{reads}
 use Rattle.isle_emission.proofs.BoundTests.{found}
 use Rattle.isle_emission.proofs.HeldStays.{IsThere, Grows, held_stays}
@@ -81,7 +81,7 @@ bind_agrees env m args t bs bound known locals b h a at_b kind = record {
 -- the value that an operand stands for, in the function and at the path
 pub record ReadsAs (env : Environment) (m : Meaning) (args : List Value) (bs : List Binding) (bound : List ℕ) (known : Known) (locals : Env) (b : BindingId) : Type 0 where
   pub v : Value
-  pub place : value_of args locals (operand_of env bs bound b) ≡ One v
+  pub place : value_of args locals (written_operand env bs bound b) ≡ One v
   pub held : value_at env m args known (at (paths_of bs) b) ≡ One v
 
 not_bound : (bound : List ℕ) (n : ℕ) → Contains bound n → is_bound bound (record { 0 = n }) ≡ false → ⊥

@@ -32,7 +32,7 @@ use Rattle.isle_target.specs.declared.tree.Operand.{Operand}
 use Rattle.isle_target.specs.Program.{Tail, Body, Done, Then}
 use Rattle.isle_target.specs.Run.{Env, value_of, Flow, Goes, Ends, then_run, behind, run_return, run_stmt, run_body, ended, function_run}
 use Rattle.isle_emission.specs.Ends.{end_of}
-use Rattle.isle_emission.specs.Operands.{operand_of}
+use Rattle.isle_emission.specs.Operands.{written_operand}
 use Rattle.isle_emission.specs.Statements.{returned, block_body, control_stmt}
 use Rattle.isle_emission.specs.TermFunction.{ends_in_return, mark_of, tail_of, term_function}
 use Rattle.isle_emission.specs.Emitted.{AnswersBindings, RunsAsBlock}
@@ -222,7 +222,7 @@ module _ (env : Environment) (m : Meaning) (args : List Value) (t : Term) (bs : 
     control_runs (block.Loop result body) more bound made locals known calls only k o a = absurd k
     control_runs (block.Return pos result) more bound made locals known calls only k o a =
         let v = operand_reads env m args t bs bound known locals result t.ret_ty typed a k.0 in
-        record { runs = rw v.held (return_back args (is_partial t.kind) (operand_of env bs bound result) v.v locals calls v.place); goes = tt }
+        record { runs = rw v.held (return_back args (is_partial t.kind) (written_operand env bs bound result) v.v locals calls v.place); goes = tt }
 
 -- ---- functions
 
