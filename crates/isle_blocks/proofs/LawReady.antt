@@ -83,7 +83,7 @@ matched_lawful (c ∷ cs) es last env t bs more h k l stop r =
       lawful = (
         tt,
         no_new,
-        (tt, one.ty, read, (one.constraint, no_place (setting env t bs) c.0 c.1 one.ty one.constraint, body.lawful, tt)),
+        (tt, (one.ty, read, (one.constraint, no_place (setting env t bs) c.0 c.1 one.ty one.constraint, body.lawful, tt))),
         subst (λ ks. IsLawfulFrom (setting env t bs) [] ks more) (sym after) r,
       );
       after = after;

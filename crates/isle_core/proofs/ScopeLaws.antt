@@ -1,8 +1,8 @@
 -- The variables in scope of a rule of built forms are those of its patterns.
-use Rattle.std.proofs.Common.{◌≡◌, ⊎_elim, ℕ, List, [], ◌∷◌, ◌++◌, refl, sym, subst}
+use Rattle.std.proofs.Common.{◌≡◌, ⊎_elim, ℕ, List, [], ◌∷◌, ◌++◌, sym, subst}
 use Rattle.std.specs.Prelude.{Contains}
 use Rattle.std.specs.List.{AllByRecursion}
-use Rattle.std.proofs.lemmas.List.Elements.{Contains-append_left, Contains-append_right, Contains-append_cases}
+use Rattle.std.proofs.lemmas.List.Elements.{Contains-append_right, Contains-append_cases}
 use Rattle.isle_base.specs.declared.ids.TypeId.{TypeId}
 use Rattle.isle_base.specs.declared.ids.VarId.{VarId}
 use Rattle.isle_core.specs.Pattern.{Pattern, Var, ConstBool, ConstInt, Wildcard}

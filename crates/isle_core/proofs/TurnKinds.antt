@@ -5,7 +5,6 @@ use Rattle.std.specs.List.{AllByRecursion}
 use Rattle.std.proofs.lemmas.List.Elements.{recursion_from_All, Contains-append_left, Contains-append_right, Contains-push}
 use Rattle.isle_base.specs.declared.ids.TermId.{TermId}
 use Rattle.isle_base.specs.declared.ids.TypeId.{TypeId}
-use Rattle.isle_base.specs.declared.ids.VarId.{VarId}
 use Rattle.isle_core.specs.declared.types.Term.{Term}
 use Rattle.isle_core.specs.declared.types.TermKind.{TermKind}
 use Rattle.isle_core.specs.declared.types.TermKind.TheVariants as kind
@@ -20,8 +19,6 @@ use Rattle.isle_core.specs.Terms.{sym_text, impure_callee}
 use Rattle.isle_core.specs.Lawful.{Fits, all_turns, CallingFits, AnswersFit, called_by, called_by_all}
 use Rattle.isle_core.specs.BuiltRule.{IsBuiltExpr, AreBuiltExprs, IsImpureKind, CallsImpure, AllCallImpure}
 use Rattle.isle_core.specs.Scope.{IsInScope, AreInScope}
-use Rattle.isle_core.specs.Pattern as pattern
-use Rattle.isle_core.specs.Pattern.{Pattern}
 use Rattle.isle_core.specs.Expr as expr
 use Rattle.isle_core.specs.Expr.{Expr, Exprs, NoExpr, AnExpr}
 use Rattle.isle_core.specs.Path.{Path}

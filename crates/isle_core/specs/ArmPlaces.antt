@@ -1,7 +1,6 @@
 -- The places of an arm: bindings of the parts that its constraint shows.
-use Rattle.std.specs.Prelude.{◌≡◌, ℕ, suc, ◌≤◌, List, [], ◌∷◌, ◌++◌, length, Option, Some, None, IsSomeAnd, option_and_then, slice_get}
+use Rattle.std.specs.Prelude.{◌≡◌, ℕ, suc, ◌≤◌, List, [], ◌∷◌, ◌++◌, length, Option, Some, None, IsSomeAnd, slice_get}
 use Rattle.isle_base.specs.declared.ids.BindingId.{BindingId}
-use Rattle.isle_base.specs.declared.ids.TypeId.{TypeId}
 use Rattle.isle_base.specs.declared.ids.VariantId.{VariantId}
 use Rattle.isle_core.specs.declared.rule_sets.Binding.{Binding}
 use Rattle.isle_core.specs.declared.rule_sets.Binding.TheVariants as binding

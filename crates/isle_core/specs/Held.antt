@@ -3,7 +3,7 @@ use Rattle.std.specs.Prelude.{ℕ, List, [], ◌∷◌, Bool, false, Option, Som
 use Rattle.std.specs.List.{list_all}
 use Rattle.isle_core.specs.declared.rule_sets.Constraint.{Constraint}
 use Rattle.isle_core.specs.declared.rule_sets.Constraint.TheVariants as constraint
-use Rattle.isle_core.specs.Value.{Value, Truth, Answer, Plain, Found, Nothing}
+use Rattle.isle_core.specs.Value.{Value, Truth, Answer}
 use Rattle.isle_core.specs.SameValue.{same_value}
 use Rattle.isle_core.specs.Constants.{int_value}
 use Rattle.isle_core.specs.Meaning.{Meaning, case}

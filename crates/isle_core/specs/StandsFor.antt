@@ -1,13 +1,13 @@
 -- When a rule set stands for rules.
-use Rattle.std.specs.Prelude.{◌≡◌, ◌↔◌, ◌⊎◌, ℕ, ◌+◌, List, [], ◌∷◌, ◌++◌, Contains, map}
+use Rattle.std.specs.Prelude.{◌≡◌, ◌↔◌, ◌⊎◌, ℕ, ◌+◌, List, [], ◌∷◌, Contains, map}
 use Rattle.isle_core.specs.declared.rule_sets.FlatRule.{FlatRule}
 use Rattle.isle_core.specs.declared.rule_sets.RuleSet.{RuleSet}
 use Rattle.isle_core.specs.Path.{Path, at, paths_of}
 use Rattle.isle_core.specs.OrderedCalls.{rule_calls}
 use Rattle.isle_core.specs.RightSide.{rule_result}
-use Rattle.isle_core.specs.RulePaths.{rule_paths}
 use Rattle.isle_core.specs.Tests.{Test, Is, Equal, Never, rule_tests}
 use Rattle.isle_core.specs.Calling.{impure}
+use Rattle.isle_core.specs.RulePaths.{rules_paths}
 use Rattle.isle_core.specs.RuleSet.{flat_tests}
 use Rattle.isle_core.specs.Rule.{Environment, Rule}
 

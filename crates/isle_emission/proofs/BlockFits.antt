@@ -49,7 +49,7 @@ mutual
       (control_fits c more env t bs (bound_by bound binds) _ k.2 o.0, block_fits more env t bs (bound_by bound binds) _ k.3 o.1)
 
   control_fits : (c : Control) (more : Block) (env : Environment) (t : Term) (bs : List Binding) (bound made : List ℕ) → IsLawfulControl (setting env t bs) bound made c more → IsSingle c → FitsStmt (kind_of (is_partial t.kind)) (control_stmt env bs (is_partial t.kind) bound c)
-  control_fits (block.Match source (block.Arm c places body block.NoArm)) more env t bs bound made k o = block_fits body env t bs bound made (arm_body (setting env t bs) bound made source c places body block.NoArm k.1 k.3) o
+  control_fits (block.Match source (block.Arm c places body block.NoArm)) more env t bs bound made k o = block_fits body env t bs bound made (arm_body (setting env t bs) bound made source c places body block.NoArm k.1.0 k.1.2) o
   control_fits (block.Match source (block.Arm c places body (block.Arm d others inside arms))) more env t bs bound made k o = absurd o
   control_fits (block.Match source block.NoArm) more env t bs bound made k o = absurd o
   control_fits (block.Equal x y body) more env t bs bound made k o = block_fits body env t bs bound made k.1 o

@@ -208,9 +208,9 @@ mutual
   control_there (block.Match source (block.Arm c places body block.NoArm)) more env t bs bound made locals ss names l k o h =
       (
           (
-              is_one _ (operand_one env t bs bound locals source k.1 l k.2),
-              is_one _ (tested_holds env c k.1 (length t.arg_tys) locals k.3.0),
-              block_there body env t bs bound made locals Done names l (arm_body (setting env t bs) bound made source c places body block.NoArm k.1 k.3) o (λ after. tt),
+              is_one _ (operand_one env t bs bound locals source k.1.0 l k.1.1),
+              is_one _ (tested_holds env c k.1.0 (length t.arg_tys) locals k.1.2.0),
+              block_there body env t bs bound made locals Done names l (arm_body (setting env t bs) bound made source c places body block.NoArm k.1.0 k.1.2) o (λ after. tt),
           ),
           h,
       )

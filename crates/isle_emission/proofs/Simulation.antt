@@ -192,9 +192,9 @@ module _ (env : Environment) (m : Meaning) (args : List Value) (t : Term) (bs : 
     control_runs : (c : Control) (more : Block) (bound made : List ℕ) (locals : Env) (known : Known) (calls : List Made) → KnowsOnly made known → IsLawfulControl (setting env t bs) bound made c more → IsSingle c → Agree env m args t bs bound known locals
         → Does bound made c locals known calls
     control_runs (block.Match source (block.Arm c places body block.NoArm)) more bound made locals known calls only k o a =
-        let v = operand_reads env m args t bs bound known locals source k.1 typed a k.2 in
-        let w = constraint_tests env c k.1 k.3.0 in
-        let r = block_runs body bound made locals known calls only (arm_body (setting env t bs) bound made source c places body block.NoArm k.1 k.3) o a in
+        let v = operand_reads env m args t bs bound known locals source k.1.0 typed a k.1.1 in
+        let w = constraint_tests env c k.1.0 k.1.2.0 in
+        let r = block_runs body bound made locals known calls only (arm_body (setting env t bs) bound made source c places body block.NoArm k.1.0 k.1.2) o a in
         let after = after_block env (paths_of bs) made body in
         record {
           runs =
