@@ -11,7 +11,8 @@ use Rattle.isle_core.specs.Path.{Path, Called, Paths, at, paths_of}
 use Rattle.isle_core.specs.Held.{Known, value_at}
 use Rattle.isle_core.specs.CallRun.{Went, Goes, Ends, then_go, make, unless_nothing, check_call, run_calls}
 use Rattle.isle_core.specs.BlockRun.{bind_one, bind_all}
-use Rattle.isle_core.specs.BlockLawful.{IsCall, occurrence_at, occurrences}
+use Rattle.isle_core.specs.ExternalCall.{IsCall}
+use Rattle.isle_core.specs.Occurrences.{occurrence_at, occurrences}
 use Rattle.isle_core.specs.StandsFor.{EachOnce}
 use Rattle.isle_core.specs.Ready.{IsReadyCall, AreReadyCalls}
 use Rattle.isle_core.specs.Rule.{Environment}

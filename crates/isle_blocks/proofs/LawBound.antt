@@ -9,10 +9,14 @@ use Rattle.isle_core.specs.declared.rule_sets.Binding.TheVariants as binding
 use Rattle.isle_core.specs.declared.types.Term.{Term}
 use Rattle.isle_core.specs.Calling.{calling}
 use Rattle.isle_core.specs.Path.{Path, Arg, ConstBool, ConstInt, Called, Inner, at, at_all, paths_of}
-use Rattle.isle_core.specs.BlockLawful.{IsCall, IsPathOf, IsOptionOf, ArePathsOf, IsInPlace, IsReadAs, AreReadAs, IsBindable, IsCallBound, IsInnerBound, AreBindable, bound_by}
+use Rattle.isle_core.specs.Bindable.{IsBindable, IsCallBound, IsInnerBound, AreBindable, bound_by}
+use Rattle.isle_core.specs.ExternalCall.{IsCall}
+use Rattle.isle_core.specs.PathType.{IsPathOf, IsOptionOf, ArePathsOf}
+use Rattle.isle_core.specs.Readable.{IsInPlace, IsReadAs, AreReadAs}
 use Rattle.isle_core.specs.StandsFor.{EachOnce}
 use Rattle.isle_core.specs.Ready.{StandsOn, AllStandOn, IsReadyCall, AreReadyCalls}
 use Rattle.isle_core.specs.Rule.{Environment}
+use Rattle.isle_core.specs.Setting.{setting}
 use Rattle.isle_blocks.specs.Inners.{FindsInners}
 use Rattle.isle_blocks.specs.Nest.{with_inner, binds}
 use Rattle.isle_blocks.proofs.BindingPaths.{IsThere, contains_at, place_once, call_at, paths_there}
@@ -78,7 +82,7 @@ option_stands env t done (Called term ps instance) ty h s = s
 option_stands env t done p ty h s = absurd h
 
 pub read_as : (env : Environment) (t : Term) (bs : List Binding) (done : List Path) (bound : List ℕ) (b : BindingId) (ty : TypeId) → IsBehind (paths_of bs) done bound
-    → IsPathOf env t (at (paths_of bs) b) ty → StandsOn done (at (paths_of bs) b) → IsReadAs env t bs bound b ty
+    → IsPathOf env t (at (paths_of bs) b) ty → StandsOn done (at (paths_of bs) b) → IsReadAs (setting env t bs) bound b ty
 read_as env t bs done bound b ty k h s = record { path = h; read = place (at (paths_of bs) b) refl h s }
   where
     place : (p : Path) → at (paths_of bs) b ≡ p → IsPathOf env t p ty → StandsOn done p → IsInPlace (at (paths_of bs) b) ⊎ Contains bound b.0
@@ -90,7 +94,7 @@ read_as env t bs done bound b ty k h s = record { path = h; read = place (at (pa
     place p e h' s' = absurd h'
 
 all_read : (env : Environment) (t : Term) (bs : List Binding) (done : List Path) (bound : List ℕ) → IsBehind (paths_of bs) done bound → (parameters : List BindingId) (tys : List TypeId)
-    → ArePathsOf env t (at_all (paths_of bs) parameters) tys → AllStandOn done (at_all (paths_of bs) parameters) → AreReadAs env t bs bound parameters tys
+    → ArePathsOf env t (at_all (paths_of bs) parameters) tys → AllStandOn done (at_all (paths_of bs) parameters) → AreReadAs (setting env t bs) bound parameters tys
 all_read env t bs done bound k [] [] h s = tt
 all_read env t bs done bound k [] (ty ∷ tys) h s = absurd h
 all_read env t bs done bound k (b ∷ more) [] h s = absurd h
@@ -99,10 +103,10 @@ all_read env t bs done bound k (b ∷ more) (ty ∷ tys) h s = (read_as env t bs
 -- ---- what may be bound
 
 call_bound : (env : Environment) (t : Term) (bs : List Binding) (done : List Path) (bound : List ℕ) (c : BindingId) → IsBehind (paths_of bs) done bound → IsReadyCall env t (paths_of bs) done (at (paths_of bs) c)
-    → IsBindable env t bs bound (at (paths_of bs) c) (slice_get bs c.0)
+    → IsBindable (setting env t bs) bound (at (paths_of bs) c) (slice_get bs c.0)
 call_bound env t bs done bound c k h =
     let is = call_at bs c h.term h.parameters h.instance (paths_there env t h.parameters h.called.arg_tys h.args) h.path in
-    let bound_call : IsCallBound env t bs bound (at (paths_of bs) c) h.term is.0 h.instance = record {
+    let bound_call : IsCallBound (setting env t bs) bound (at (paths_of bs) c) h.term is.0 h.instance = record {
       path = h.path ∙ ap (λ q. Called h.term q h.instance) is.2;
       called = h.called;
       there = h.there;
@@ -110,22 +114,22 @@ call_bound env t bs done bound c k h =
       partial = h.partial;
       external = h.external;
     } in
-    subst (IsBindable env t bs bound (at (paths_of bs) c)) (sym is.1) bound_call
+    subst (IsBindable (setting env t bs) bound (at (paths_of bs) c)) (sym is.1) bound_call
 
 inner_bound : (env : Environment) (t : Term) (bs : List Binding) (done : List Path) (bound : List ℕ) (c b : BindingId) → (h : IsReadyCall env t (paths_of bs) done (at (paths_of bs) c)) → h.partial ≡ true
-    → slice_get bs b.0 ≡ Some (binding.MatchSome c) → at (paths_of bs) b ≡ Inner (at (paths_of bs) c) → Contains bound c.0 → IsBindable env t bs bound (at (paths_of bs) b) (slice_get bs b.0)
+    → slice_get bs b.0 ≡ Some (binding.MatchSome c) → at (paths_of bs) b ≡ Inner (at (paths_of bs) c) → Contains bound c.0 → IsBindable (setting env t bs) bound (at (paths_of bs) b) (slice_get bs b.0)
 inner_bound env t bs done bound c b h is there path k =
     let external : IsCall true (calling env h.term) = subst (λ x. IsCall x (calling env h.term)) is h.external in
     let typed : IsSomeAnd (slice_get env.terms h.term.0) (λ (x : Term). (x.ret_ty ≡ h.called.ret_ty) × ArePathsOf env t h.parameters x.arg_tys) =
     subst (λ o. IsSomeAnd o (λ (x : Term). (x.ret_ty ≡ h.called.ret_ty) × ArePathsOf env t h.parameters x.arg_tys)) (sym h.there) (refl, h.args) in
-    let bound_inner : IsInnerBound env t bs bound (at (paths_of bs) b) c = record {
+    let bound_inner : IsInnerBound (setting env t bs) bound (at (paths_of bs) b) c = record {
       path = path;
       ty = h.called.ret_ty;
       option = subst (λ q. IsOptionOf env t q h.called.ret_ty) (sym h.path) (external, typed);
       bound' = k;
       partial = h.fits is;
     } in
-    subst (IsBindable env t bs bound (at (paths_of bs) b)) (sym there) bound_inner
+    subst (IsBindable (setting env t bs) bound (at (paths_of bs) b)) (sym there) bound_inner
 
 -- ---- calls in order
 
@@ -147,7 +151,7 @@ stands_more done more h p s = tt
 
 -- a bind order may stand there, and behind it these calls were made
 pub record BindsAll (env : Environment) (t : Term) (bs : List Binding) (bound : List ℕ) (made : List Path) (order : List BindingId) : Type 0 where
-  pub bindable : AreBindable env t bs bound order
+  pub bindable : AreBindable (setting env t bs) bound order
   pub behind : IsBehind (paths_of bs) made (bound_by bound order)
 
 one_binds : (env : Environment) (t : Term) (bs : List Binding) (inners : ℕ → Option BindingId) (done made : List Path) (bound : List ℕ) (c : BindingId) (rest : List BindingId) → EachOnce (paths_of bs) → IsBehind (paths_of bs) done bound

@@ -31,7 +31,7 @@ if_inside true c x y z e = e
 if_inside false c x y z e = refl
 
 -- what a step does at first
-abbrev step_run : Environment → Meaning → List Value → List Path → SeenStep → Went
+abbrev pub step_run : Environment → Meaning → List Value → List Path → SeenStep → Went
 step_run env m args ps s = then_go (bind_all env m args ps s.0 nothing_known []) (control_run env m args ps s.1)
 
 -- a step does y where tests hold, and goes on elsewhere
@@ -58,7 +58,7 @@ last_runs : (env : Environment) (t : Term) (m : Meaning) (args : List Value) (bs
     → step_run env m args (paths_of bs) (last_step inners f) ≡ flat_run env m args (paths_of bs) f
 last_runs env t m args bs inners f found once h = ap (λ w. then_go w (returns env m args (at (paths_of bs) f.result))) (binds_run env t m args bs inners found once f.ordered [] h.calls nothing_known [])
 
-rule_does : (env : Environment) (t : Term) (m : Meaning) (args : List Value) (bs : List Binding) (inners : ℕ → Option BindingId) (f : FlatRule) → FindsInners bs inners → EachOnce (paths_of bs) → IsReadyRule env t (paths_of bs) f
+pub rule_does : (env : Environment) (t : Term) (m : Meaning) (args : List Value) (bs : List Binding) (inners : ℕ → Option BindingId) (f : FlatRule) → FindsInners bs inners → EachOnce (paths_of bs) → IsReadyRule env t (paths_of bs) f
     → DoesWhere env m args (paths_of bs) (rule_step inners f) (flat_tests (paths_of bs) f) (flat_run env m args (paths_of bs) f)
 rule_does env t m args bs inners f found once h =
     let ps = paths_of bs in
@@ -67,7 +67,7 @@ rule_does env t m args bs inners f found once h =
     ∙ ap (λ w. cond (all_hold env (value_at env m args nothing_known) (map (equal_test ps) f.equals)) w (Goes nothing_known [])) (last_runs env t m args bs inners f found once h))
 
 -- a rule without tests holds
-untested_holds : (cs : List (BindingId × Constraint)) (es : List (BindingId × BindingId)) (env : Environment) (m : Meaning) (args : List Value) (ps : List Path) → no_tests cs es ≡ true → all_hold env (value_at env m args nothing_known) (map (is_test ps) cs ++ map (equal_test ps) es) ≡ true
+pub untested_holds : (cs : List (BindingId × Constraint)) (es : List (BindingId × BindingId)) (env : Environment) (m : Meaning) (args : List Value) (ps : List Path) → no_tests cs es ≡ true → all_hold env (value_at env m args nothing_known) (map (is_test ps) cs ++ map (equal_test ps) es) ≡ true
 untested_holds [] [] env m args ps e = refl
 untested_holds [] (x ∷ es) env m args ps e = cc
 untested_holds (x ∷ cs) es env m args ps e = cc

@@ -14,8 +14,11 @@ use Rattle.isle_core.specs.Lawful.{called_by, called_by_all, called_in, called, 
 use Rattle.isle_core.specs.Path.{Path, Nowhere, Arg, Called, Inner, Paths, paths_of}
 use Rattle.isle_core.specs.Pattern.{Pattern}
 use Rattle.isle_core.specs.Rule.{Environment, Rule, rules_of}
-use Rattle.isle_core.specs.StandsFor.{rules_paths, StandsFor}
-use Rattle.isle_core.specs.Tests.{Places, no_places, arg_paths, path_or, call_path, paths as all_paths, with_inner, expr_paths, exprs_paths, rule_places, rule_paths}
+use Rattle.isle_core.specs.RulePaths.{rules_paths}
+use Rattle.isle_core.specs.StandsFor.{StandsFor}
+use Rattle.isle_core.specs.RightSide.{path_or, call_path, paths as all_paths}
+use Rattle.isle_core.specs.RulePaths.{arg_paths, with_inner, expr_paths, exprs_paths, rule_paths}
+use Rattle.isle_core.specs.Tests.{Places, no_places, rule_places}
 use Rattle.isle_core.proofs.Contained.{head_contained, tail_contained, contained_cases, none_contained}
 use Rattle.isle_blocks.proofs.BindingPaths.{path_before}
 use Rattle.isle_emission.specs.Emitted.{AnswersBindings}
@@ -80,8 +83,8 @@ rules_of_called : (rules : List Rule) (env : Environment) (n : ℕ) → AreOf (c
 rules_of_called [] env n term qs k c = absurd (none_contained (Called term qs k) c)
 rules_of_called (r ∷ rules) env n term qs k c =
     both_of (called (r ∷ rules)) (rule_paths env r n) (rules_paths env rules (n + impure env r.rhs))
-    (both_of (called (r ∷ rules)) (arg_paths r.args 0) (expr_paths env r.rhs (rule_places r) n) (args_of (called (r ∷ rules)) r.args 0)
-    (wider (called_in r) (called (r ∷ rules)) (expr_paths env r.rhs (rule_places r) n) (λ t d. Contains-append_left (called_in r) (called rules) t d) (expr_of r.rhs env (rule_places r) n (args_argument r.args 0 no_places (λ z. tt)))))
+    (both_of (called (r ∷ rules)) (arg_paths r.args 0) (expr_paths env r.rhs (rule_places env r) n) (args_of (called (r ∷ rules)) r.args 0)
+    (wider (called_in r) (called (r ∷ rules)) (expr_paths env r.rhs (rule_places env r) n) (λ t d. Contains-append_left (called_in r) (called rules) t d) (expr_of r.rhs env (rule_places env r) n (args_argument env r.args 0 no_places (λ z. tt)))))
     (wider (called rules) (called (r ∷ rules)) (rules_paths env rules (n + impure env r.rhs)) (λ t d. Contains-append_right (called_in r) (called rules) t d) (rules_of_called rules env (n + impure env r.rhs))) term qs k c
 
 -- ---- bindings

@@ -21,7 +21,8 @@ use Rattle.isle_core.specs.BlockRun.{block_outcome}
 use Rattle.isle_core.specs.StandsFor.{StandsFor}
 use Rattle.isle_core.specs.Terms.{term_name}
 use Rattle.isle_core.specs.Rule.{Environment, Rule, rules_of}
-use Rattle.isle_core.specs.BuiltRule.{IsBuiltRule, IsBoundRule, IsImpureRule}
+use Rattle.isle_core.specs.BuiltRule.{IsBuiltRule, IsImpureRule}
+use Rattle.isle_core.specs.Scope.{IsScopedRule}
 use Rattle.isle_core.proofs.Contained.{head_contained, tail_contained, contained_cases, none_contained}
 use Rattle.isle_core.proofs.OutcomeOf.{outcome_of_one}
 use Rattle.isle_core.proofs.OutcomeOnce.{prescribed_once}
@@ -31,7 +32,7 @@ use Rattle.isle_printer.specs.Bytes.{same_bytes}
 use Rattle.isle_printer.proofs.Bytes.{same_bytes_refl, same_bytes_sound}
 use Rattle.isle_syntax.specs.Tree.{Def}
 use Rattle.isle_sema.specs.Typing.{Typed}
-use Rattle.isle_sema.proofs.TypedRules.{typed_built, typed_bound, typed_impure, typed_args}
+use Rattle.isle_sema.proofs.TypedRules.{typed_built, typed_scoped, typed_impure, typed_args}
 use Rattle.isle_sema.proofs.OneRule.{typed_one}
 use Rattle.isle_target.specs.Program.{Function, Program}
 use Rattle.isle_target.specs.Run.{run, function_of}
@@ -137,14 +138,14 @@ module _ (defs : List Def) (files : Files) (env : Environment) (p : Program) (id
   same_outcome args m types lawful =
       h.emitted.means m args partial
       ∙ set_means env m args (paths_of h.set.bindings) (rules_of env id) h.set.rules partial
-      (of_term IsBuiltRule env id (typed_built defs env typed)) (of_term IsBoundRule env id (typed_bound defs env typed)) (of_term (IsImpureRule env.terms) env id (typed_impure defs env typed)) lawful.answers
+      (of_term IsBuiltRule env id (typed_built defs env typed)) (of_term IsScopedRule env id (typed_scoped defs env typed)) (of_term (IsImpureRule env.terms) env id (typed_impure defs env typed)) lawful.answers
       (λ k d lt. typed_args defs env id the_term typed h.emitted.there k d lt ∙ sym (as_many env args the_term.arg_tys types)) h.stands.flat
 
   runs : (args : List Value) (m : Meaning) → HaveTypes env args the_term.arg_tys → IsLawful env id m → run p (term_name env id) args m ≡ Some (ran_of env the_term (outcome_of env m args (rules_of env id) partial))
   runs args m types lawful =
       let named = name_of_term env id the_term h.emitted.there in
       ap (λ (n : List ℕ). run p n args m) named
-      ∙ runs_as_block files env the_term h.set.bindings h.emitted.block h.emitted.lawful p args m
+      ∙ runs_as_block files env the_term h.set.bindings h.emitted.block h.emitted.lawful h.emitted.single p args m
       (ap (λ (n : List ℕ). function_of n p.fns) (sym named) ∙ h.found ∙ ap (λ (f : Function). Some f) h.emitted.given) types (bindings_answered env id m h.set h.stands lawful)
       ∙ ap (λ (o : Prescription). Some (ran_of env the_term o)) (same_outcome args m types lawful)
 

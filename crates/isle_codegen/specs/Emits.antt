@@ -14,6 +14,8 @@ use Rattle.isle_core.specs.BlockLawful.{IsLawfulBlock}
 use Rattle.isle_core.specs.Places.{LiesIn}
 use Rattle.isle_core.specs.Rule.{Environment}
 use Rattle.isle_core.specs.Ready.{IsReady}
+use Rattle.isle_core.specs.Setting.{setting}
+use Rattle.isle_core.specs.SingleArms.{HasSingleArms}
 use Rattle.isle_target.specs.Program.{Function}
 use Rattle.isle_emission.specs.TermFunction.{term_function}
 use Rattle.isle_emission.specs.Emitted.{IsEmittable}
@@ -33,12 +35,13 @@ pub record CanEmit (files : Files) (env : Environment) (s : TermId × RuleSet) :
 abbrev pub MeansSet : Environment → RuleSet → Block → Type 0
 MeansSet env s b = (m : Meaning) (args : List Value) (partial : Bool) → block_outcome env m args (paths_of s.bindings) b partial ≡ set_outcome env m args (paths_of s.bindings) s.rules partial
 
--- the function of the term, from a block that is lawful for its rule set and means it
+-- the function of the term, from a block that is lawful for its rule set, has one arm in each Match and means the set
 pub record IsEmitted (files : Files) (env : Environment) (id : TermId) (s : RuleSet) (f : Function) : Type 0 where
   pub term : Term
   pub there : slice_get env.terms id.0 ≡ Some term
   pub block : Block
-  pub lawful : IsLawfulBlock env term s.bindings [] block
+  pub lawful : IsLawfulBlock (setting env term s.bindings) block
+  pub single : HasSingleArms block
   pub means : MeansSet env s block
   pub given : f ≡ term_function files env term s.bindings block
 

@@ -8,7 +8,9 @@ use Rattle.isle_core.specs.Calling.{Calling, ByTurns, ByCases, NoCall, calling, 
 use Rattle.isle_core.specs.Expr as expr
 use Rattle.isle_core.specs.Expr.{Expr, Exprs, NoExpr, AnExpr}
 use Rattle.isle_core.specs.Path.{Path, Called, Paths}
-use Rattle.isle_core.specs.Tests.{Places, paths, if_ordered, calls, calls_all}
+use Rattle.isle_core.specs.OrderedCalls.{if_ordered, calls, calls_all}
+use Rattle.isle_core.specs.RightSide.{paths}
+use Rattle.isle_core.specs.Tests.{Places}
 use Rattle.isle_core.specs.StandsFor.{AreFirsts, no_more, again, first}
 use Rattle.isle_core.specs.Rule.{Environment}
 use Rattle.isle_core.proofs.Contained.{contained_cases, none_contained}

@@ -13,6 +13,7 @@ pub mod KnownAnswers
 pub mod CallsFollow
 pub mod CallOccurrences
 pub mod PlacedVariables
+pub mod ScopeLaws
 pub mod SetMeans
 pub mod AnsweredByTurn
 pub mod SeesRules

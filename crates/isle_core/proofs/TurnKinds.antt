@@ -6,7 +6,6 @@ use Rattle.std.proofs.lemmas.List.Elements.{recursion_from_All, Contains-append_
 use Rattle.isle_core.proofs.Contained.{head_contained}
 use Rattle.isle_base.specs.declared.ids.TermId.{TermId}
 use Rattle.isle_base.specs.declared.ids.TypeId.{TypeId}
-use Rattle.isle_base.specs.declared.ids.VarId.{VarId}
 use Rattle.isle_core.specs.declared.types.Term.{Term}
 use Rattle.isle_core.specs.declared.types.TermKind.{TermKind}
 use Rattle.isle_core.specs.declared.types.TermKind.TheVariants as term_kind
@@ -22,9 +21,8 @@ use Rattle.isle_core.specs.Calling.{Calling, ByTurns, kind_of, kind_by, pure_cal
 use Rattle.isle_core.specs.Terms.{sym_text, impure_callee}
 use Rattle.isle_core.specs.Lawful.{Fits, all_turns, CallingFits, AnswersFit, CalledTermFits}
 use Rattle.isle_core.specs.CalledTerms.{Constructor, CalledTerm, is_made_kind, is_made_term, unless_made, called_by, called_by_all}
-use Rattle.isle_core.specs.BuiltRule.{IsBuiltExpr, AreBuiltExprs, IsImpureKind, CallsImpure, AllCallImpure, IsBoundIn, AreBoundIn}
-use Rattle.isle_core.specs.Pattern as pattern
-use Rattle.isle_core.specs.Pattern.{Pattern}
+use Rattle.isle_core.specs.BuiltRule.{IsBuiltExpr, AreBuiltExprs, IsImpureKind, CallsImpure, AllCallImpure}
+use Rattle.isle_core.specs.Scope.{IsInScope, AreInScope}
 use Rattle.isle_core.specs.Expr as expr
 use Rattle.isle_core.specs.Expr.{Expr, Exprs, NoExpr, AnExpr}
 use Rattle.isle_core.specs.Path.{Path}
@@ -125,23 +123,23 @@ abbrev mutual
 
 mutual
   -- impure terms that are answered lawfully take turns
-  pub calls_by_turns : (e : Expr) (env : Environment) (m : Meaning) (args : List Pattern) (places : Places) → ((ty : TypeId) (x : VarId) → Contains args (pattern.Var ty x) → IsPlaced (places x.0))
-      → IsBuiltExpr e → IsBoundIn args e → CallsImpure env.terms e → ((o : CalledTerm) → Contains (called_by env e) o → CalledTermFits env m o) → CallsByTurns env m places e
-  calls_by_turns (expr.Var ty x) env m args places p b v i h = p v.0 x v.1
-  calls_by_turns (expr.ConstBool c) env m args places p b v i h = tt
-  calls_by_turns (expr.ConstInt ty n) env m args places p b v i h = tt
-  calls_by_turns (expr.Term ty term es) env m args places p b v i h = (
+  pub calls_by_turns : (e : Expr) (env : Environment) (m : Meaning) (scope : List ℕ) (places : Places) → ((x : ℕ) → Contains scope x → IsPlaced (places x))
+      → IsBuiltExpr e → IsInScope scope e → CallsImpure env.terms e → ((o : CalledTerm) → Contains (called_by env e) o → CalledTermFits env m o) → CallsByTurns env m places e
+  calls_by_turns (expr.Var ty x) env m scope places p b v i h = p x.0 v
+  calls_by_turns (expr.ConstBool c) env m scope places p b v i h = tt
+  calls_by_turns (expr.ConstInt ty n) env m scope places p b v i h = tt
+  calls_by_turns (expr.Term ty term es) env m scope places p b v i h = (
     term_takes env m (slice_get env.terms term.0) i.0 (h (record { term = term; role = Constructor }) (Contains-append_right (called_by_all env es) (unless_made env Constructor term) (record { term = term; role = Constructor }) (called_here env term i.0))),
-    all_call_by_turns es env m args places p b v i.1 (λ o k. h o (Contains-append_left (called_by_all env es) (unless_made env Constructor term) o k)),
+    all_call_by_turns es env m scope places p b v i.1 (λ o k. h o (Contains-append_left (called_by_all env es) (unless_made env Constructor term) o k)),
   )
-  calls_by_turns (expr.ConstPrim ty name) env m args places p b v i h = absurd b
-  calls_by_turns (expr.Let ty bindings inner) env m args places p b v i h = absurd b
+  calls_by_turns (expr.ConstPrim ty name) env m scope places p b v i h = absurd b
+  calls_by_turns (expr.Let ty bindings inner) env m scope places p b v i h = absurd b
 
   -- so of expressions in order
-  pub all_call_by_turns : (es : Exprs) (env : Environment) (m : Meaning) (args : List Pattern) (places : Places) → ((ty : TypeId) (x : VarId) → Contains args (pattern.Var ty x) → IsPlaced (places x.0))
-      → AreBuiltExprs es → AreBoundIn args es → AllCallImpure env.terms es → ((o : CalledTerm) → Contains (called_by_all env es) o → CalledTermFits env m o) → AllCallByTurns env m places es
-  all_call_by_turns NoExpr env m args places p b v i h = tt
-  all_call_by_turns (AnExpr e es) env m args places p b v i h = (
-    calls_by_turns e env m args places p b.0 v.0 i.0 (λ o k. h o (Contains-append_left (called_by env e) (called_by_all env es) o k)),
-    all_call_by_turns es env m args places p b.1 v.1 i.1 (λ o k. h o (Contains-append_right (called_by env e) (called_by_all env es) o k)),
+  pub all_call_by_turns : (es : Exprs) (env : Environment) (m : Meaning) (scope : List ℕ) (places : Places) → ((x : ℕ) → Contains scope x → IsPlaced (places x))
+      → AreBuiltExprs es → AreInScope scope es → AllCallImpure env.terms es → ((o : CalledTerm) → Contains (called_by_all env es) o → CalledTermFits env m o) → AllCallByTurns env m places es
+  all_call_by_turns NoExpr env m scope places p b v i h = tt
+  all_call_by_turns (AnExpr e es) env m scope places p b v i h = (
+    calls_by_turns e env m scope places p b.0 v.0 i.0 (λ o k. h o (Contains-append_left (called_by env e) (called_by_all env es) o k)),
+    all_call_by_turns es env m scope places p b.1 v.1 i.1 (λ o k. h o (Contains-append_right (called_by env e) (called_by_all env es) o k)),
   )

@@ -1,10 +1,10 @@
 -- Running calls in order, with the answers known and the calls made so far.
-use Rattle.std.specs.Prelude.{ℕ, List, [], ◌∷◌, ◌++◌, Bool, Option, Some, None, if◌then◌else◌}
+use Rattle.std.specs.Prelude.{ℕ, List, [], ◌∷◌, ◌++◌, Option, Some, None, if◌then◌else◌}
 use Rattle.isle_core.specs.declared.values.Callee.{Callee}
 use Rattle.isle_core.specs.Value.{Value, Answer, Made}
 use Rattle.isle_core.specs.Meaning.{Meaning, turn}
 use Rattle.isle_core.specs.Calling.{Calling, ByTurns, ByCases, NoCall, calling, is_fallible}
-use Rattle.isle_core.specs.Answered.{Held, Absent, One, Optional}
+use Rattle.isle_core.specs.Answered.{Held, One, Optional}
 use Rattle.isle_core.specs.Match.{with}
 use Rattle.isle_core.specs.Outcome.{Result, Value', Failure, Prescription}
 use Rattle.isle_core.specs.Path.{Path, Called}

@@ -6,7 +6,7 @@ use Rattle.isle_core.specs.Pattern as pattern
 use Rattle.isle_core.specs.Pattern.{Pattern, Patterns, NoPattern, APattern}
 use Rattle.isle_core.specs.Expr as expr
 use Rattle.isle_core.specs.Expr.{Expr, Exprs, NoExpr, AnExpr, LetBindings, NoBinding, ABinding}
-use Rattle.isle_core.specs.Tests.{bool_type}
+use Rattle.isle_core.specs.RightSide.{bool_type}
 use Rattle.isle_core.specs.Rule.{IfLet, Rule}
 
 -- a truth or a number that is written, or a name

@@ -12,7 +12,11 @@ use Rattle.isle_core.specs.declared.types.ReturnKind.{ReturnKind}
 use Rattle.isle_core.specs.Calling.{calling, kind_of, may_be_nothing}
 use Rattle.isle_core.specs.Path.{Path, Called, Inner, Paths, NoPath, APath, at, paths_of}
 use Rattle.isle_core.specs.StandsFor.{EachOnce}
-use Rattle.isle_core.specs.BlockLawful.{IsPathOf, ArePathsOf, IsConstraintOf, IsInPlace, IsCall, occurrences}
+use Rattle.isle_core.specs.ConstraintType.{IsConstraintOf}
+use Rattle.isle_core.specs.ExternalCall.{IsCall}
+use Rattle.isle_core.specs.Occurrences.{occurrences}
+use Rattle.isle_core.specs.PathType.{IsPathOf, ArePathsOf}
+use Rattle.isle_core.specs.Readable.{IsInPlace}
 use Rattle.isle_core.specs.Rule.{Environment}
 
 -- ---- tests

@@ -15,7 +15,7 @@ use Rattle.isle_core.specs.declared.types.TermKind.TheVariants as kind
 use Rattle.isle_core.specs.declared.values.Callee.TheVariants.{External}
 use Rattle.isle_core.specs.Calling.{Calling, calling, calling_of, calling_by, pure_callee, is_partial}
 use Rattle.isle_core.specs.Terms.{sym_text, impure_callee}
-use Rattle.isle_core.specs.BlockLawful.{IsCall}
+use Rattle.isle_core.specs.ExternalCall.{IsCall}
 use Rattle.isle_core.specs.Rule.{Environment}
 use Rattle.isle_core.proofs.Contained.{head_contained, tail_contained, contained_cases, none_contained}
 use Rattle.isle_target.specs.declared.tree.TraitFn.{TraitFn}

@@ -6,6 +6,7 @@ pub mod Statements
 pub mod TermFunction
 pub mod TraitFns
 pub mod OfTerm
+pub mod Bare
 pub mod Shape
 pub mod Emitted
 pub mod Contexts

@@ -10,7 +10,9 @@ use Rattle.isle_core.specs.Expr as expr
 use Rattle.isle_core.specs.Expr.{Expr, Exprs, NoExpr, AnExpr}
 use Rattle.isle_core.specs.Path.{Path, Paths, Called}
 use Rattle.isle_core.specs.Calling.{Calling, ByTurns, calling, instance_of, one_more, impure, impure_all}
-use Rattle.isle_core.specs.Tests.{Places, calls, calls_all, paths, if_ordered, rule_places, rule_calls}
+use Rattle.isle_core.specs.OrderedCalls.{calls, calls_all, if_ordered, rule_calls}
+use Rattle.isle_core.specs.RightSide.{paths}
+use Rattle.isle_core.specs.Tests.{Places, rule_places}
 use Rattle.isle_core.specs.StandsFor.{EachOnce, AreFirsts, no_more, first}
 use Rattle.isle_core.specs.BuiltRule.{IsBuiltExpr, AreBuiltExprs, CallsImpure, AllCallImpure}
 use Rattle.isle_core.specs.Rule.{Environment, Rule}
@@ -128,4 +130,4 @@ firsts_of seen (x ∷ xs) h k =
 
 -- the calls of a rule are their own firsts
 pub rule_firsts : (env : Environment) (terms : List Term) (r : Rule) (n : ℕ) → env.terms ≡ terms → IsBuiltExpr r.rhs → CallsImpure terms r.rhs → AreFirsts [] (rule_calls env r n) (rule_calls env r n)
-rule_firsts env terms r n same b h = firsts_of [] (rule_calls env r n) (expr_calls env terms (rule_places r) r.rhs n same b h).once (λ x c d. none_contained x c)
+rule_firsts env terms r n same b h = firsts_of [] (rule_calls env r n) (expr_calls env terms (rule_places env r) r.rhs n same b h).once (λ x c d. none_contained x c)

@@ -25,7 +25,10 @@ use Rattle.isle_core.specs.BuiltRule.{IsImpureKind, CallsImpure, AllCallImpure}
 use Rattle.isle_core.specs.Calling.{Calling, ByTurns, ByCases, NoCall, is_partial, pure_callee, calling_by, calling_of, calling, instance_of, one_more, impure, impure_all}
 use Rattle.isle_core.specs.Path as path
 use Rattle.isle_core.specs.Path.{Path, Paths, NoPath, APath, at, at_all, paths_of}
-use Rattle.isle_core.specs.Tests.{Places, path as path_of, paths, path_or, bool_type, calls as calls_of, calls_all, expr_paths, exprs_paths, call_path, with_inner, if_ordered}
+use Rattle.isle_core.specs.OrderedCalls.{calls as calls_of, calls_all, if_ordered}
+use Rattle.isle_core.specs.RightSide.{path as path_of, paths, path_or, bool_type, call_path}
+use Rattle.isle_core.specs.RulePaths.{expr_paths, exprs_paths, with_inner}
+use Rattle.isle_core.specs.Tests.{Places}
 use Rattle.isle_core.specs.Rule.{Environment}
 use Rattle.isle_core.proofs.Contained.{head_contained, contained_cases, none_contained}
 use Rattle.isle_rulesets.specs.Numbering.{Numbered, Extends, Numbers, next_call, Calls}

@@ -4,7 +4,8 @@ ghost use Rattle.isle_core.specs.RuleViews.{expr as seen, exprs_of};
 ghost use Rattle.isle_core.specs.BuiltRule.{IsImpureKind, CallsImpure, AllCallImpure};
 ghost use Rattle.isle_core.specs.Calling.{is_partial as partial, calling};
 ghost use Rattle.isle_core.specs.Path.{at_all, paths_of};
-ghost use Rattle.isle_core.specs.Tests.{Places, call_path};
+ghost use Rattle.isle_core.specs.RightSide.{call_path};
+ghost use Rattle.isle_core.specs.Tests.{Places};
 ghost use Rattle.isle_core.specs.Rule.{Environment};
 ghost use Rattle.isle_rulesets.specs.RightSides.{IsKnown, AreKnown, Stand, Gives, GivesAll, GivesCall};
 

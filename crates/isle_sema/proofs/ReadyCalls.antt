@@ -13,7 +13,9 @@ use Rattle.isle_core.specs.declared.types.TermKind.{TermKind}
 use Rattle.isle_core.specs.declared.types.TermKind.TheVariants as kind
 use Rattle.isle_core.specs.declared.values.Callee.{Callee}
 use Rattle.isle_core.specs.declared.values.Callee.TheVariants.{External}
-use Rattle.isle_core.specs.BlockLawful.{IsPathOf, ArePathsOf, IsCall, occurrence, occurrence_at, occurrences}
+use Rattle.isle_core.specs.ExternalCall.{IsCall}
+use Rattle.isle_core.specs.Occurrences.{occurrence, occurrence_at, occurrences}
+use Rattle.isle_core.specs.PathType.{IsPathOf, ArePathsOf}
 use Rattle.isle_core.specs.Calling.{Calling, ByTurns, ByCases, NoCall, calling, calling_of, calling_by, pure_callee, is_partial, is_fallible, instance_of, one_more, impure, impure_all}
 use Rattle.isle_core.specs.Expr as expr
 use Rattle.isle_core.specs.Expr.{Expr, Exprs, NoExpr, AnExpr}
@@ -24,7 +26,10 @@ use Rattle.isle_core.specs.Ready.{StandsOn, AllStandOn, IsReadyCall, AreReadyCal
 use Rattle.isle_core.specs.Rule.{Environment}
 use Rattle.isle_core.specs.StandsFor.{EachOnce}
 use Rattle.isle_core.specs.Terms.{sym_text, impure_callee}
-use Rattle.isle_core.specs.Tests.{Places, path_or, call_path, answer_path, path, paths as all_paths, if_ordered, calls, calls_all, with_inner, expr_paths, exprs_paths}
+use Rattle.isle_core.specs.OrderedCalls.{if_ordered, calls, calls_all}
+use Rattle.isle_core.specs.RightSide.{path_or, call_path, answer_path, path, paths as all_paths}
+use Rattle.isle_core.specs.RulePaths.{with_inner, expr_paths, exprs_paths}
+use Rattle.isle_core.specs.Tests.{Places}
 use Rattle.isle_core.proofs.CallOccurrences.{AreRising, occurrence as occurrence_of}
 use Rattle.isle_core.proofs.Contained.{head_contained, tail_contained, contained_cases, none_contained}
 use Rattle.isle_sema.specs.TypedRule.{IsExternalKind, IsExprOf, AreExprsOf}

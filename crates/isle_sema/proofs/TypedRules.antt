@@ -12,7 +12,8 @@ use Rattle.isle_core.specs.Calling.{is_partial}
 use Rattle.isle_core.specs.Pattern as core
 use Rattle.isle_core.specs.Pattern.{Pattern as CorePattern}
 use Rattle.isle_core.specs.Rule.{Rule, Environment, rules_of}
-use Rattle.isle_core.specs.BuiltRule.{IsBuiltPattern, IsBuiltRule, IsImpureRule, IsBoundRule}
+use Rattle.isle_core.specs.BuiltRule.{IsBuiltPattern, IsBuiltRule, IsImpureRule}
+use Rattle.isle_core.specs.Scope.{all_variables, iflets_scope, IsInScope, AreIfLetsInScope, IsScopedRule}
 use Rattle.isle_syntax.specs.Tree as tree
 use Rattle.isle_syntax.specs.Tree.{Pattern, Def}
 use Rattle.isle_sema.specs.Symbols.{index_of, pattern_names, symbols}
@@ -27,7 +28,7 @@ use Rattle.isle_sema.specs.Typing.{env_of, Typed}
 use Rattle.isle_sema.proofs.LookUps.{at_place, named_at}
 use Rattle.isle_sema.proofs.Parts.{forms, calls, sound_rules}
 use Rattle.isle_sema.proofs.TypedConstants.{type_below, integer_typed}
-use Rattle.isle_sema.proofs.TypedExprs.{truth_typed, expr_typed, built_expr, bound_expr, impure_expr}
+use Rattle.isle_sema.proofs.TypedExprs.{truth_typed, expr_typed, built_expr, scoped_expr, impure_expr}
 use Rattle.isle_sema.proofs.BoundVariables.{some_same}
 use Rattle.isle_sema.proofs.VariablesOnce.{apart_numbers}
 
@@ -159,9 +160,18 @@ typed_built defs env h k d lt =
     let t = typed_ready defs env h k d lt in
     record { args = All-from_recursion IsBuiltPattern _ (built_patterns env t.term.arg_tys _ t.typed.args); iflets = t.typed.iflets; rhs = built_expr env (is_partial t.term.kind) _ t.term.ret_ty _ t.typed.rhs }
 
--- each variable of a right side is bound
-pub typed_bound : (defs : List Def) (env : Environment) → Typed defs env → All IsBoundRule env.rules
-typed_bound defs env h k d lt = let t = typed_ready defs env h k d lt in bound_expr env (is_partial t.term.kind) _ t.term.ret_ty _ t.typed.rhs
+-- each variable of a right side is in scope
+without_conditions : (r : Rule) → r.iflets ≡ [] → IsInScope (all_variables r.args) r.rhs → IsScopedRule r
+without_conditions r e h = record {
+  iflets = subst (AreIfLetsInScope (all_variables r.args)) (sym e) tt;
+  rhs = subst (λ is. IsInScope (iflets_scope (all_variables r.args) is) r.rhs) (sym e) h;
+}
+
+pub typed_scoped : (defs : List Def) (env : Environment) → Typed defs env → All IsScopedRule env.rules
+typed_scoped defs env h k d lt =
+    let t = typed_ready defs env h k d lt in
+    let rhs = scoped_expr env (is_partial t.term.kind) _ t.term.ret_ty _ t.typed.rhs in
+    without_conditions _ t.typed.iflets rhs
 
 -- each term that a right side calls is impure, and has a constructor
 pub typed_impure : (defs : List Def) (env : Environment) → Typed defs env → All (IsImpureRule env.terms) env.rules

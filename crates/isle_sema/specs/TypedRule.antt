@@ -15,7 +15,7 @@ use Rattle.isle_core.specs.Value.{Truth}
 use Rattle.isle_core.specs.HasType.{HasType}
 use Rattle.isle_core.specs.Constants.{int_value}
 use Rattle.isle_core.specs.StandsFor.{EachOnce}
-use Rattle.isle_core.specs.Tests.{bool_type}
+use Rattle.isle_core.specs.RightSide.{bool_type}
 
 -- a pattern of the type: a constant is one of its values
 abbrev pub IsPatternOf : Environment → TypeId → Pattern → Type 0

@@ -5,6 +5,6 @@ pub number_pattern-requires : goal.number_pattern-requires
 number_pattern-requires c = built_at c.args.patterns.now c.loop-index.index c.index-patterns-index.result c.requires c.loop-index-test.true c.index-patterns-index.is
 
 pub loop-index-preserved : goal.loop-index-preserved
-loop-index-preserved c =
-    drafted_more c.args.numbering.now c.loop-index.numbering c.intern.new.self c.args.patterns.now c.loop-index.index c.index-patterns-index.result c.loop-index.draft c.number_pattern.new.draft c.in_ok-argument.argument
-    c.loop-index-test.true c.index-patterns-index.is c.loop-index.invariant c.in_ok-argument.ensures c.in_ok-number_pattern.ensures
+loop-index-preserved c = λ env.
+    drafted_more env c.args.numbering.now c.loop-index.numbering c.intern.new.self c.args.patterns.now c.loop-index.index c.index-patterns-index.result c.loop-index.draft c.number_pattern.new.draft c.in_ok-argument.argument
+    c.loop-index-test.true c.index-patterns-index.is (c.loop-index.invariant env) c.in_ok-argument.ensures (c.in_ok-number_pattern.ensures env)
