@@ -2,6 +2,9 @@
 use Rattle.std.proofs.Common.{◌≡◌, ◌⊎◌, inl, inr, ⊎_elim, ℕ, zero, suc, List, [], ◌∷◌, ◌++◌, Bool, true, false, Option, Some, map, refl, sym, ap, ◌∙◌, subst, arith}
 use Rattle.std.specs.Prelude.{slice_get, IsSomeAnd, Contains}
 use Rattle.std.proofs.lemmas.List.Elements.{Contains-push, Contains-append_left}
+use Rattle.isle_core.specs.declared.types.ReturnKind.{ReturnKind}
+use Rattle.isle_core.specs.declared.types.ReturnKind.TheVariants as return_kind
+use Rattle.isle_core.specs.Calling.{may_be_nothing}
 use Rattle.isle_core.specs.declared.BindingId.{BindingId}
 use Rattle.isle_core.specs.declared.TypeId.{TypeId}
 use Rattle.isle_core.specs.declared.rule_sets.Binding.{Binding}
@@ -111,15 +114,20 @@ call_bound env t bs done bound c k h =
       called = h.called;
       there = h.there;
       args = all_read env t bs done bound k is.0 h.called.arg_tys (subst (λ q. ArePathsOf env t q h.called.arg_tys) is.2 h.args) (subst (AllStandOn done) is.2 h.stand);
-      partial = h.partial;
+      kind = h.kind;
       external = h.external;
     } in
     subst (IsBindable (setting env t bs) bound (at (paths_of bs) c)) (sym is.1) bound_call
 
-inner_bound : (env : Environment) (t : Term) (bs : List Binding) (done : List Path) (bound : List ℕ) (c b : BindingId) → (h : IsReadyCall env t (paths_of bs) done (at (paths_of bs) c)) → h.partial ≡ true
+option_kind : (kind : ReturnKind) → may_be_nothing kind ≡ true → kind ≡ return_kind.Option
+option_kind return_kind.Option e = refl
+option_kind return_kind.Plain e = cc
+option_kind return_kind.Iterator e = cc
+
+inner_bound : (env : Environment) (t : Term) (bs : List Binding) (done : List Path) (bound : List ℕ) (c b : BindingId) → (h : IsReadyCall env t (paths_of bs) done (at (paths_of bs) c)) → may_be_nothing h.kind ≡ true
     → slice_get bs b.0 ≡ Some (binding.MatchSome c) → at (paths_of bs) b ≡ Inner (at (paths_of bs) c) → Contains bound c.0 → IsBindable (setting env t bs) bound (at (paths_of bs) b) (slice_get bs b.0)
 inner_bound env t bs done bound c b h is there path k =
-    let external : IsCall true (calling env h.term) = subst (λ x. IsCall x (calling env h.term)) is h.external in
+    let external : IsCall return_kind.Option (calling env h.term) = subst (λ x. IsCall x (calling env h.term)) (option_kind h.kind is) h.external in
     let typed : IsSomeAnd (slice_get env.terms h.term.0) (λ (x : Term). (x.ret_ty ≡ h.called.ret_ty) × ArePathsOf env t h.parameters x.arg_tys) =
     subst (λ o. IsSomeAnd o (λ (x : Term). (x.ret_ty ≡ h.called.ret_ty) × ArePathsOf env t h.parameters x.arg_tys)) (sym h.there) (refl, h.args) in
     let bound_inner : IsInnerBound (setting env t bs) bound (at (paths_of bs) b) c = record {
@@ -127,7 +135,7 @@ inner_bound env t bs done bound c b h is there path k =
       ty = h.called.ret_ty;
       option = subst (λ q. IsOptionOf env t q h.called.ret_ty) (sym h.path) (external, typed);
       bound' = k;
-      partial = h.fits is;
+      fits = h.fits is;
     } in
     subst (IsBindable (setting env t bs) bound (at (paths_of bs) b)) (sym there) bound_inner
 
@@ -157,7 +165,7 @@ pub record BindsAll (env : Environment) (t : Term) (bs : List Binding) (bound : 
 one_binds : (env : Environment) (t : Term) (bs : List Binding) (inners : ℕ → Option BindingId) (done made : List Path) (bound : List ℕ) (c : BindingId) (rest : List BindingId) → EachOnce (paths_of bs) → IsBehind (paths_of bs) done bound
     → (h : IsReadyCall env t (paths_of bs) done (at (paths_of bs) c))
     → ((bound' : List ℕ) → IsBehind (paths_of bs) (at (paths_of bs) c ∷ done) bound' → BindsAll env t bs bound' made rest)
-    → (partial : Bool) → h.partial ≡ partial → HasInner bs inners c partial → BindsAll env t bs bound made (with_inner (inners c.0) c rest)
+    → (partial : Bool) → may_be_nothing h.kind ≡ partial → HasInner bs inners c partial → BindsAll env t bs bound made (with_inner (inners c.0) c rest)
 one_binds env t bs inners done made bound c rest once k h go false is (has_none e without) =
     let there : IsThere (at (paths_of bs) c) = subst IsThere (sym h.path) tt in
     let r = go (bound ++ c.0 ∷ []) (behind_call (paths_of bs) done bound c once there without k) in
@@ -178,4 +186,4 @@ binds_all env t bs inners f once [] done bound k h = record { bindable = tt; beh
 binds_all env t bs inners f once (c ∷ cs) done bound k h =
     one_binds env t bs inners done (made_behind (at (paths_of bs) c ∷ done) (map (at (paths_of bs)) cs)) bound c (binds inners cs) once k h.0
     (λ bound' k'. binds_all env t bs inners f once cs (at (paths_of bs) c ∷ done) bound' k' h.1)
-    h.0.partial refl (has_inner env t bs inners done c f once h.0)
+    (may_be_nothing h.0.kind) refl (has_inner env t bs inners done c f once h.0)

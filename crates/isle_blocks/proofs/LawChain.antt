@@ -1,6 +1,7 @@
 -- A chain gives what its rules give.
 use Rattle.std.proofs.Common.{◌≡◌, ℕ, List, [], ◌∷◌, ◌++◌, Bool, true, false, cond, ◌&&◌, Option, Some, map, refl, ap, ◌∙◌}
 use Rattle.std.specs.List.{AllByRecursion}
+use Rattle.isle_core.specs.declared.types.ReturnKind.{ReturnKind}
 use Rattle.isle_core.specs.declared.BindingId.{BindingId}
 use Rattle.isle_core.specs.declared.rule_sets.Binding.{Binding}
 use Rattle.isle_core.specs.declared.rule_sets.Constraint.{Constraint}
@@ -77,24 +78,24 @@ result_ends : (w : Went) (env : Environment) (m : Meaning) (args : List Value) (
 result_ends (Goes known made) env m args p more = refl
 result_ends (Ends o) env m args p more = refl
 
-chain_gives : (env : Environment) (t : Term) (m : Meaning) (args : List Value) (bs : List Binding) (inners : ℕ → Option BindingId) (partial : Bool) → FindsInners bs inners → EachOnce (paths_of bs)
+chain_gives : (env : Environment) (t : Term) (m : Meaning) (args : List Value) (bs : List Binding) (inners : ℕ → Option BindingId) (kind : ReturnKind) → FindsInners bs inners → EachOnce (paths_of bs)
     → (fs : List FlatRule) → AllByRecursion (IsReadyRule env t (paths_of bs)) fs
-    → gave partial (block_run env m args (paths_of bs) (block_of (chain_steps inners fs)) nothing_known []) ≡ given env m args (paths_of bs) partial (first (flat_holds env m args (paths_of bs)) fs)
-chain_gives env t m args bs inners partial found once [] h = refl
-chain_gives env t m args bs inners partial found once (f ∷ fs) h =
-    ap (λ w. gave partial (then_go w (block_run env m args (paths_of bs) (block_of (cond (no_tests f.constraints f.equals) [] (chain_steps inners fs)))))) (rule_does env t m args bs inners f found once h.0)
-    ∙ pick (flat_holds env m args (paths_of bs) f) (no_tests f.constraints f.equals) (untested_holds f.constraints f.equals env m args (paths_of bs)) (chain_gives env t m args bs inners partial found once fs h.1)
+    → gave kind (block_run env m args (paths_of bs) (block_of (chain_steps inners fs)) nothing_known []) ≡ given env m args (paths_of bs) kind (first (flat_holds env m args (paths_of bs)) fs)
+chain_gives env t m args bs inners kind found once [] h = refl
+chain_gives env t m args bs inners kind found once (f ∷ fs) h =
+    ap (λ w. gave kind (then_go w (block_run env m args (paths_of bs) (block_of (cond (no_tests f.constraints f.equals) [] (chain_steps inners fs)))))) (rule_does env t m args bs inners f found once h.0)
+    ∙ pick (flat_holds env m args (paths_of bs) f) (no_tests f.constraints f.equals) (untested_holds f.constraints f.equals env m args (paths_of bs)) (chain_gives env t m args bs inners kind found once fs h.1)
   where
     ps : List Path
     ps = paths_of bs
 
-    pick : (holds untested : Bool) → (untested ≡ true → holds ≡ true) → gave partial (block_run env m args ps (block_of (chain_steps inners fs)) nothing_known []) ≡ given env m args ps partial (first (flat_holds env m args ps) fs)
-        → gave partial (then_go (cond holds (flat_run env m args ps f) (Goes nothing_known [])) (block_run env m args ps (block_of (cond untested [] (chain_steps inners fs))))) ≡ given env m args ps partial (cond holds (Some f) (first (flat_holds env m args ps) fs))
-    pick true untested k e = ap (gave partial) (result_ends (run_calls env m args (map (at ps) f.ordered) nothing_known []) env m args (at ps f.result) (block_run env m args ps (block_of (cond untested [] (chain_steps inners fs)))))
+    pick : (holds untested : Bool) → (untested ≡ true → holds ≡ true) → gave kind (block_run env m args ps (block_of (chain_steps inners fs)) nothing_known []) ≡ given env m args ps kind (first (flat_holds env m args ps) fs)
+        → gave kind (then_go (cond holds (flat_run env m args ps f) (Goes nothing_known [])) (block_run env m args ps (block_of (cond untested [] (chain_steps inners fs))))) ≡ given env m args ps kind (cond holds (Some f) (first (flat_holds env m args ps) fs))
+    pick true untested k e = ap (gave kind) (result_ends (run_calls env m args (map (at ps) f.ordered) nothing_known []) env m args (at ps f.result) (block_run env m args ps (block_of (cond untested [] (chain_steps inners fs)))))
     pick false false k e = e
     pick false true k e = let bad = k refl in cc
 
-pub chain_means : (env : Environment) (t : Term) (m : Meaning) (args : List Value) (bs : List Binding) (inners : ℕ → Option BindingId) (partial : Bool) → FindsInners bs inners → EachOnce (paths_of bs)
-    → (fs : List FlatRule) → AllByRecursion (IsReadyRule env t (paths_of bs)) fs → block_outcome env m args (paths_of bs) (chain inners fs) partial ≡ set_outcome env m args (paths_of bs) fs partial
-chain_means env t m args bs inners partial found once fs h =
-    chain_gives env t m args bs inners partial found once (by_priority fs) (all_in_order (IsReadyRule env t (paths_of bs)) fs h) ∙ ap (given env m args (paths_of bs) partial) (first_is_highest (flat_holds env m args (paths_of bs)) fs)
+pub chain_means : (env : Environment) (t : Term) (m : Meaning) (args : List Value) (bs : List Binding) (inners : ℕ → Option BindingId) (kind : ReturnKind) → FindsInners bs inners → EachOnce (paths_of bs)
+    → (fs : List FlatRule) → AllByRecursion (IsReadyRule env t (paths_of bs)) fs → block_outcome env m args (paths_of bs) (chain inners fs) kind ≡ set_outcome env m args (paths_of bs) fs kind
+chain_means env t m args bs inners kind found once fs h =
+    chain_gives env t m args bs inners kind found once (by_priority fs) (all_in_order (IsReadyRule env t (paths_of bs)) fs h) ∙ ap (given env m args (paths_of bs) kind) (first_is_highest (flat_holds env m args (paths_of bs)) fs)

@@ -70,8 +70,8 @@ fn chained(
 /// block is built.
 pub fn serialize(alloc: Global, rules: &RuleSet, iterator: bool) -> Result<Block, OutOfMemory>
     requires { iterator ≡ false }
-    ensures means { IfOk result (λ b. (env : Environment) (m : Meaning) (t : Term) (args : ListOf Value) (partial : Bool) → IsReady env t rules.now →
-        block_outcome env m args (paths_of rules.now.bindings) (BlockViews.block b) partial ≡ set_outcome env m args (paths_of rules.now.bindings) rules.now.rules partial) }
+    ensures means { IfOk result (λ b. (env : Environment) (m : Meaning) (t : Term) (args : ListOf Value) (kind : ReturnKind) → IsReady env t rules.now →
+        block_outcome env m args (paths_of rules.now.bindings) (BlockViews.block b) kind ≡ set_outcome env m args (paths_of rules.now.bindings) rules.now.rules kind) }
     ensures positions { IfOk result (λ b. (env : Environment) (m : Meaning) (t : Term) (args : ListOf Value) → IsReady env t rules.now →
         block_position env m args (paths_of rules.now.bindings) (BlockViews.block b) nothing_known [] ≡ set_position env m args (paths_of rules.now.bindings) rules.now.rules) }
     ensures lawful { IfOk result (λ b. (env : Environment) (t : Term) → IsReady env t rules.now → IsLawfulBlock (setting env t rules.now.bindings) (BlockViews.block b)) }

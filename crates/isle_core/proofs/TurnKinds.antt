@@ -95,7 +95,7 @@ not_made (Some t) i = of_kind t.kind i
     of_kind (term_kind.Struct ty) h = absurd h
 
 -- so it is called where it stands
-called_here : (env : Environment) (term : TermId) → IsSomeAnd (slice_get env.terms term.0) (λ (t : Term). IsImpureKind t.kind) → Contains {X = CalledTerm} (unless_made env Constructor term) (record { term = term; role = Constructor })
+pub called_here : (env : Environment) (term : TermId) → IsSomeAnd (slice_get env.terms term.0) (λ (t : Term). IsImpureKind t.kind) → Contains {X = CalledTerm} (unless_made env Constructor term) (record { term = term; role = Constructor })
 called_here env term i =
     let o : CalledTerm = record { term = term; role = Constructor } in
     subst (λ b. Contains (cond b [] (o ∷ [])) o) (sym (not_made (slice_get env.terms term.0) i)) (head_contained o [])

@@ -3,6 +3,8 @@ use Rattle.std.proofs.Common.{◌≡◌, ◌⊎◌, inl, inr, ℕ, zero, suc, Li
 use Rattle.std.specs.Prelude.{Contains, slice_get}
 use Rattle.std.proofs.lemmas.Bool.{eq-eqb, eqb-true}
 use Rattle.std.proofs.lemmas.List.Elements.{Contains-append_left, Contains-append_right}
+use Rattle.isle_core.specs.declared.types.ReturnKind.{ReturnKind}
+use Rattle.isle_core.specs.declared.types.ReturnKind.TheVariants as return_kind
 use Rattle.isle_core.specs.declared.BindingId.{BindingId}
 use Rattle.isle_core.specs.declared.TermId.{TermId}
 use Rattle.isle_core.specs.declared.TypeId.{TypeId}
@@ -13,7 +15,8 @@ use Rattle.isle_core.specs.declared.values.Callee.{Callee}
 use Rattle.isle_core.specs.Value.{Value, Answer, Made}
 use Rattle.isle_core.specs.Meaning.{Meaning, turn}
 use Rattle.isle_core.specs.Answered.{answer_held}
-use Rattle.isle_core.specs.Calling.{Calling, ByTurns, ByCases, NoCall, calling, is_partial}
+use Rattle.isle_core.specs.Calling.{Calling, ByTurns, ByCases, NoCall, calling}
+use Rattle.isle_emission.specs.Partial.{is_partial}
 use Rattle.isle_core.specs.Match.{with}
 use Rattle.isle_core.specs.Outcome.{Failure}
 use Rattle.isle_core.specs.HasType.{HaveTypes}
@@ -119,15 +122,16 @@ with_keeps : (known : Known) (k : ℕ) (a : Answer) → Keeps (k ∷ []) known (
 with_keeps known k a j not_k = with_else known k j a (λ (same : k ≡ j). not_k (subst (Contains (k ∷ [])) same (head_contained k [])))
 
 -- what is held of the kind that a call says
-held_kind : (partial : Bool) (h : Held) → turn_kind.IsOfKind partial h → (env : Environment) (t : Term) (term : TermId) (callee : Callee) → calling env term ≡ ByTurns callee partial → (ps : _) (k : ℕ) → IsOfKind env t (Called term ps k) h
-held_kind false h is env t term callee c ps k = record {
+held_kind : (kind : ReturnKind) (h : Held) → turn_kind.IsOfKind kind h → (env : Environment) (t : Term) (term : TermId) (callee : Callee) → calling env term ≡ ByTurns callee kind → (ps : _) (k : ℕ) → IsOfKind env t (Called term ps k) h
+held_kind return_kind.Iterator h is env t term callee c ps k = absurd is
+held_kind return_kind.Plain h is env t term callee c ps k = record {
   there = subst IsThere (sym is.1) tt;
   value = λ ty of. is;
-  option = λ ty of. absurd (let call : IsCall true (ByTurns callee false) = subst (IsCall true) c of.0 in cc);
+  option = λ ty of. absurd (let call : IsCall return_kind.Option (ByTurns callee return_kind.Plain) = subst (IsCall return_kind.Option) c of.0 in cc);
 }
-held_kind true h is env t term callee c ps k = record {
+held_kind return_kind.Option h is env t term callee c ps k = record {
   there = subst IsThere (sym is.1) tt;
-  value = λ ty of. absurd (let call : IsCall false (ByTurns callee true) = subst (IsCall false) c of.0 in cc);
+  value = λ ty of. absurd (let call : IsCall return_kind.Plain (ByTurns callee return_kind.Option) = subst (IsCall return_kind.Plain) c of.0 in cc);
   option = λ ty of. is;
 }
 
@@ -137,25 +141,25 @@ bind_there n (One v) locals made t = refl
 bind_there n (Optional o) locals made t = refl
 
 -- a call whose occurrence is new takes its turn, here and there
-call_run : (env : Environment) (m : Meaning) (args : List Value) (term : TermId) (ps : _) (k : ℕ) (callee : Callee) (partial : Bool) (vs : List Value) (known : Known) (made : List Made) → calling env term ≡ ByTurns callee partial → known k ≡ None → values_at env m args known ps ≡ Some vs
+call_run : (env : Environment) (m : Meaning) (args : List Value) (term : TermId) (ps : _) (k : ℕ) (callee : Callee) (kind : ReturnKind) (vs : List Value) (known : Known) (made : List Made) → calling env term ≡ ByTurns callee kind → known k ≡ None → values_at env m args known ps ≡ Some vs
     → bind_one env m args (Called term ps k) known made ≡ went.Goes (with known k (turn m callee made)) (made ++ record { callee = callee; args = vs } ∷ [])
-call_run env m args term ps k callee partial vs known made c new held = rw (c, new, held) refl
+call_run env m args term ps k callee kind vs known made c new held = rw (c, new, held) refl
 
-call_binds : (env : Environment) (m : Meaning) (args : List Value) (t : Term) (bs : List Binding) (bound : List ℕ) (n : ℕ) (term : TermId) (parameters : List BindingId) (k : ℕ) (callee : Callee) (partial : Bool) (called : Term) (known : Known) (made : List Made) (locals : Env)
-    → HaveTypes env args t.arg_tys → Agree env m args t bs bound known locals → calling env term ≡ ByTurns callee partial → AreReadAs (setting env t bs) bound parameters called.arg_tys → AnswersFit env m term → known k ≡ None
+call_binds : (env : Environment) (m : Meaning) (args : List Value) (t : Term) (bs : List Binding) (bound : List ℕ) (n : ℕ) (term : TermId) (parameters : List BindingId) (k : ℕ) (callee : Callee) (kind : ReturnKind) (called : Term) (known : Known) (made : List Made) (locals : Env)
+    → HaveTypes env args t.arg_tys → Agree env m args t bs bound known locals → calling env term ≡ ByTurns callee kind → AreReadAs (setting env t bs) bound parameters called.arg_tys → AnswersFit env m term → known k ≡ None
     → BindsOne env m args t n (expr.Call false (record { callee = callee_of (calling env term); args = reads env bs bound parameters })) (Called term (at_all (paths_of bs) parameters) k) known made locals (bind_one env m args (Called term (at_all (paths_of bs) parameters) k) known made)
-call_binds env m args t bs bound n term parameters k callee partial called known made locals h a c r fit new =
+call_binds env m args t bs bound n term parameters k callee kind called known made locals h a c r fit new =
     let l = operands_read env m args t bs bound known locals parameters called.arg_tys h a r in
     let ps = at_all (paths_of bs) parameters in
     let answered = answer_held (turn m callee made) in
-    let is = turn_held env m term callee partial fit c made in
-    let of_kind = held_kind partial answered is env t term callee c ps k in
+    let is = turn_held env m term callee kind fit c made in
+    let of_kind = held_kind kind answered is env t term callee c ps k in
     let held : value_at env m args (with known k (turn m callee made)) (Called term ps k) ≡ answered = rw (c, with_here known k (turn m callee made)) refl in
-    subst (BindsOne env m args t n (expr.Call false (record { callee = callee_of (calling env term); args = reads env bs bound parameters })) (Called term ps k) known made locals) (sym (call_run env m args term ps k callee partial l.vs known made c new l.held)) (
+    subst (BindsOne env m args t n (expr.Call false (record { callee = callee_of (calling env term); args = reads env bs bound parameters })) (Called term ps k) known made locals) (sym (call_run env m args term ps k callee kind l.vs known made c new l.held)) (
       answered,
       ap (λ d. run_call m n (callee_of d) (read_values args locals (reads env bs bound parameters)) locals made) c
           ∙ ap (λ vs. run_call m n callee vs locals made) l.places
-          ∙ ap (λ x. run_bind n (answer_held x) locals (made ++ record { callee = callee; args = l.vs } ∷ [])) (turn_is env m term callee partial fit c l.vs made)
+          ∙ ap (λ x. run_bind n (answer_held x) locals (made ++ record { callee = callee; args = l.vs } ∷ [])) (turn_is env m term callee kind fit c l.vs made)
           ∙ bind_there n answered locals (made ++ record { callee = callee; args = l.vs } ∷ []) of_kind.there,
       held,
       of_kind,
@@ -212,7 +216,7 @@ bound_binds : (env : Environment) (m : Meaning) (args : List Value) (t : Term) (
     → BindsOne env m args t b.0 (bound_expr env bs bound b o) p known made locals (bind_one env m args p known made)
 bound_binds env m args t bs bound b p (Some (binding.Constructor term parameters k)) known made locals at_p at_b h answers a new is = one (calling env term) refl is.external
   where
-    one : (c : Calling) → calling env term ≡ c → IsCall is.partial c → BindsOne env m args t b.0 (bound_expr env bs bound b (Some (binding.Constructor term parameters k))) p known made locals (bind_one env m args p known made)
+    one : (c : Calling) → calling env term ≡ c → IsCall is.kind c → BindsOne env m args t b.0 (bound_expr env bs bound b (Some (binding.Constructor term parameters k))) p known made locals (bind_one env m args p known made)
     one (ByTurns callee partial) c of =
         let q = Called term (at_all (paths_of bs) parameters) k in
         let none : known k ≡ None = subst (AreUnanswered known) (ap (occurrence_at env) is.path ∙ ap (λ d. occurrence d k) c) new k (head_contained k []) in
@@ -222,7 +226,7 @@ bound_binds env m args t bs bound b p (Some (binding.Constructor term parameters
     one NoCall c of = absurd of
 bound_binds env m args t bs bound b p (Some (binding.MatchSome source)) known made locals at_p at_b h answers a new is =
     subst (λ x. BindsOne env m args t b.0 (bound_expr env bs bound b (Some (binding.MatchSome source))) x known made locals (bind_one env m args x known made)) (sym is.path)
-    (inner_binds env m args t bs bound b.0 source is.ty known made locals a is.option is.bound' is.partial)
+    (inner_binds env m args t bs bound b.0 source is.ty known made locals a is.option is.bound' is.fits)
 bound_binds env m args t bs bound b p (Some (binding.Argument index)) known made locals at_p at_b h answers a new is = in_place_binds env m args t bs bound b p known made locals at_p h is
 bound_binds env m args t bs bound b p (Some (binding.ConstBool val ty)) known made locals at_p at_b h answers a new is = in_place_binds env m args t bs bound b p known made locals at_p h is
 bound_binds env m args t bs bound b p (Some (binding.ConstInt val ty)) known made locals at_p at_b h answers a new is = in_place_binds env m args t bs bound b p known made locals at_p h is

@@ -5,7 +5,7 @@ use Rattle.isle_core.specs.declared.types.ReturnKind.{ReturnKind}
 use Rattle.isle_core.specs.declared.types.Term.{Term}
 use Rattle.isle_core.specs.declared.rule_sets.Binding.{Binding}
 use Rattle.isle_core.specs.declared.rule_sets.Binding.TheVariants as binding
-use Rattle.isle_core.specs.Calling.{is_partial}
+use Rattle.isle_emission.specs.Partial.{is_partial}
 use Rattle.isle_core.specs.Path.{Path, at, paths_of}
 use Rattle.isle_core.specs.Block as block
 use Rattle.isle_core.specs.Block.{Block, Stop, Step, Control}
@@ -31,7 +31,7 @@ returned_fits false o = tt
 -- ? stands only in a function that may answer nothing
 bound_fits : (env : Environment) (t : Term) (bs : List Binding) (bound : List ℕ) (b : BindingId) (p : Path) (o : Option Binding) → IsBindable (setting env t bs) bound p o → FitsLet (kind_of (is_partial t.kind)) (bound_expr env bs bound b o)
 bound_fits env t bs bound b p (Some (binding.Constructor term parameters k)) is = tt
-bound_fits env t bs bound b p (Some (binding.MatchSome source)) is = ap kind_of is.partial
+bound_fits env t bs bound b p (Some (binding.MatchSome source)) is = ap kind_of is.fits
 bound_fits env t bs bound b p (Some (binding.Argument index)) is = tt
 bound_fits env t bs bound b p (Some (binding.ConstBool val ty)) is = tt
 bound_fits env t bs bound b p (Some (binding.ConstInt val ty)) is = tt

@@ -6,6 +6,9 @@ use Rattle.std.proofs.lemmas.List.{length-map}
 use Rattle.std.proofs.lemmas.List.Folds.{list_any-append}
 use Rattle.std.proofs.lemmas.List.Sums.{fold_push}
 use Rattle.std.proofs.lemmas.Option.{slice_get_within}
+use Rattle.isle_core.specs.declared.types.ReturnKind.{ReturnKind}
+use Rattle.isle_core.specs.declared.types.ReturnKind.TheVariants as return_kind
+use Rattle.isle_core.specs.Calling.{may_be_nothing}
 use Rattle.isle_core.specs.declared.BindingId.{BindingId}
 use Rattle.isle_core.specs.declared.TypeId.{TypeId}
 use Rattle.isle_core.specs.declared.rule_sets.Binding.{Binding}
@@ -13,7 +16,8 @@ use Rattle.isle_core.specs.declared.rule_sets.Binding.TheVariants as binding
 use Rattle.isle_core.specs.declared.rule_sets.Constraint.{Constraint}
 use Rattle.isle_core.specs.declared.rule_sets.Constraint.TheVariants as constraint
 use Rattle.isle_core.specs.declared.types.Term.{Term}
-use Rattle.isle_core.specs.Calling.{Calling, ByTurns, ByCases, NoCall, calling, is_partial}
+use Rattle.isle_core.specs.Calling.{Calling, ByTurns, ByCases, NoCall, calling}
+use Rattle.isle_emission.specs.Partial.{is_partial}
 use Rattle.isle_core.specs.Value.{Value, Truth, Int, Opaque, Variant, Struct}
 use Rattle.isle_core.specs.Constants.{int_value}
 use Rattle.isle_core.specs.Path.{Path, Arg, ConstBool, ConstInt, Called, at, paths_of}
@@ -142,28 +146,29 @@ kind_of_holds : (partial : Bool) → kind_holds (kind_of partial) ≡ Some (answ
 kind_of_holds true = refl
 kind_of_holds false = refl
 
-call_as : (env : Environment) (t : Term) (term : _) (ps : _) (k : ℕ) (partial : Bool) (c : Calling) → calling env term ≡ c → IsCall partial c → HoldsAs env t (Called term ps k) (Some (answer_holds partial))
-call_as env t term ps k true (ByTurns callee p) e h = record { value = λ ty of. absurd (let bad : IsCall false (ByTurns callee p) = subst (IsCall false) e of.0 in let q = h.0 in let r = bad.0 in cc); option = λ ty of. refl }
-call_as env t term ps k false (ByTurns callee p) e h = record { value = λ ty of. refl; option = λ ty of. absurd (let bad : IsCall true (ByTurns callee p) = subst (IsCall true) e of.0 in let q = h.0 in let r = bad.0 in cc) }
-call_as env t term ps k partial (ByCases callee p) e h = absurd h
-call_as env t term ps k partial NoCall e h = absurd h
+call_as : (env : Environment) (t : Term) (term : _) (ps : _) (k : ℕ) (of : ReturnKind) (c : Calling) → calling env term ≡ c → IsCall of c → HoldsAs env t (Called term ps k) (Some (answer_holds (may_be_nothing of)))
+call_as env t term ps k return_kind.Option (ByTurns callee p) e h = record { value = λ ty of. absurd (let bad : IsCall return_kind.Plain (ByTurns callee p) = subst (IsCall return_kind.Plain) e of.0 in let q = h.0 in let r = bad.0 in cc); option = λ ty of. refl }
+call_as env t term ps k return_kind.Plain (ByTurns callee p) e h = record { value = λ ty of. refl; option = λ ty of. absurd (let bad : IsCall return_kind.Option (ByTurns callee p) = subst (IsCall return_kind.Option) e of.0 in let q = h.0 in let r = bad.0 in cc) }
+call_as env t term ps k return_kind.Iterator (ByTurns callee p) e h = record { value = λ ty of. refl; option = λ ty of. absurd (let bad : IsCall return_kind.Option (ByTurns callee p) = subst (IsCall return_kind.Option) e of.0 in let q = h.0 in let r = bad.0 in cc) }
+call_as env t term ps k of (ByCases callee p) e h = absurd h
+call_as env t term ps k of NoCall e h = absurd h
 
 same_count : (n m : ℕ) → n ≡ m → eqb n m ≡ true
 same_count n m e = eq-eqb n m e
 
 let_holds : (env : Environment) (t : Term) (bs : List Binding) (bound : List ℕ) (locals : Locals) (b : BindingId) (p : Path) (o : Option Binding) → HasFnNames env → at (paths_of bs) b ≡ p → LocalsHold env t bs bound locals → IsBindable (setting env t bs) bound p o → LetHolds env t bs bound locals b p o
 let_holds env t bs bound locals b p (Some (binding.Constructor term parameters k)) names e l is =
-    let x = external_term env term is.called is.partial is.there is.external in
+    let x = external_term env term is.called is.kind is.there is.external in
     let args = reads_hold env t bs bound locals parameters is.called.arg_tys l is.args in
     record {
-      h = answer_holds is.partial;
+      h = answer_holds (may_be_nothing is.kind);
       is =
           ap (λ y. cond y (callee_holds (trait_fns_of env) (callee_of (calling env term)) (length (reads env bs bound parameters))) None) args.0
           ∙ ap (λ y. callee_holds (trait_fns_of env) y (length (reads env bs bound parameters))) x.callee
-          ∙ ap (λ y. call_holds y (length (reads env bs bound parameters))) (term_fn_found env term is.called is.partial names is.there x)
+          ∙ ap (λ y. call_holds y (length (reads env bs bound parameters))) (term_fn_found env term is.called (may_be_nothing is.kind) names is.there x)
           ∙ ap (λ y. cond y (kind_holds (kind_of (is_partial is.called.kind))) None) (same_count (length (map (parameter env) is.called.arg_tys)) (length (reads env bs bound parameters)) (length-map is.called.arg_tys (parameter env) ∙ sym args.1))
-          ∙ ap (λ y. kind_holds (kind_of y)) x.partial' ∙ kind_of_holds is.partial;
-      kept = subst (λ q. HoldsAs env t q (Some (answer_holds is.partial))) (sym is.path) (call_as env t term _ k is.partial (calling env term) refl is.external);
+          ∙ ap (λ y. kind_holds (kind_of y)) x.partial' ∙ kind_of_holds (may_be_nothing is.kind);
+      kept = subst (λ q. HoldsAs env t q (Some (answer_holds (may_be_nothing is.kind)))) (sym is.path) (call_as env t term _ k is.kind (calling env term) refl is.external);
     }
 let_holds env t bs bound locals b p (Some (binding.MatchSome source)) names e l is =
     record {

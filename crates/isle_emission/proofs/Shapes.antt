@@ -16,7 +16,7 @@ use Rattle.isle_core.specs.Bindable.{bound_by}
 use Rattle.isle_core.specs.Block as block
 use Rattle.isle_core.specs.Block.{Block, Stop, Step, Control}
 use Rattle.isle_core.specs.BlockLawful.{IsLawfulFrom, IsLawfulControl, IsLawfulBlock}
-use Rattle.isle_core.specs.Calling.{is_partial}
+use Rattle.isle_emission.specs.Partial.{is_partial}
 use Rattle.isle_core.specs.Constants.{int_of_def, int_value}
 use Rattle.isle_core.specs.ConstraintType.{IsConstraintOf}
 use Rattle.isle_core.specs.HasType.{IsOfDef, HasType}

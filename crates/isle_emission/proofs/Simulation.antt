@@ -10,7 +10,7 @@ use Rattle.isle_core.specs.Value.{Value, Made}
 use Rattle.isle_core.specs.SameValue.{same_value}
 use Rattle.isle_core.specs.Meaning.{Meaning}
 use Rattle.isle_core.specs.HasType.{HaveTypes}
-use Rattle.isle_core.specs.Calling.{is_partial}
+use Rattle.isle_emission.specs.Partial.{is_partial}
 use Rattle.isle_core.specs.Outcome.{Value', Prescription}
 use Rattle.isle_core.specs.Path.{paths_of}
 use Rattle.isle_core.specs.Held.{One, Known, nothing_known, meets}
@@ -34,7 +34,7 @@ use Rattle.isle_target.specs.Run.{Env, value_of, Flow, Goes, Ends, then_run, beh
 use Rattle.isle_emission.specs.Ends.{end_of}
 use Rattle.isle_emission.specs.Operands.{written_operand}
 use Rattle.isle_emission.specs.Statements.{returned, block_body, control_stmt}
-use Rattle.isle_emission.specs.TermFunction.{ends_in_return, mark_of, tail_of, term_function}
+use Rattle.isle_emission.specs.TermFunction.{kind_of, ends_in_return, mark_of, tail_of, term_function}
 use Rattle.isle_emission.specs.Emitted.{AnswersBindings, RunsAsBlock}
 use Rattle.isle_emission.proofs.ArmBodies.{arm_body}
 use Rattle.isle_emission.proofs.HeldStays.{Grows}
@@ -246,7 +246,7 @@ returns (Step binds c (Step ds d more)) env m args bs known made e =
 
 -- behind a block that goes on stands the tail of its kind
 tail_runs : (m : Meaning) (args : List Value) (partial x : Bool) (name place : List ℕ) (locals : Env) (w : Went) → (x ≡ true → (o : Prescription) × (w ≡ went.Ends o))
-    → ended (then_run (back partial locals w) (run_body m args (cond x Done (Then (Tail (mark_of partial name place)) Done)))) ≡ Some (record { end = end_of partial (gave partial w).result; calls = (gave partial w).calls })
+    → ended (then_run (back partial locals w) (run_body m args (cond x Done (Then (Tail (mark_of partial name place)) Done)))) ≡ Some (record { end = end_of partial (gave (kind_of partial) w).result; calls = (gave (kind_of partial) w).calls })
 tail_runs m args partial x name place locals (went.Ends o) h = refl
 tail_runs m args partial true name place locals (went.Goes known made) h = let k = h refl in cc
 tail_runs m args true false name place locals (went.Goes known made) h = refl

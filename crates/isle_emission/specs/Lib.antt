@@ -3,6 +3,7 @@ pub mod Ends
 pub mod Built
 pub mod Operands
 pub mod Statements
+pub mod Partial
 pub mod TermFunction
 pub mod TraitFns
 pub mod OfTerm

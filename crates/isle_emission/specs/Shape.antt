@@ -5,7 +5,7 @@ use Rattle.isle_core.specs.ArmPlaces.{bound_within}
 use Rattle.isle_core.specs.Bindable.{bound_by}
 use Rattle.isle_core.specs.Block as block
 use Rattle.isle_core.specs.Block.{Block, Control}
-use Rattle.isle_core.specs.Calling.{is_partial}
+use Rattle.isle_emission.specs.Partial.{is_partial}
 use Rattle.isle_core.specs.Setting.{Setting}
 use Rattle.isle_target.specs.declared.tree.Operand.{Operand}
 use Rattle.isle_target.specs.declared.tree.Read.TheVariants as read

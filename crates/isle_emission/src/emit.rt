@@ -2,7 +2,7 @@
 
 ghost use Rattle.std.specs.Prelude.{◌≡◌, map, IfOk};
 ghost use Rattle.isle_core.specs.BlockViews as BlockViews;
-ghost use Rattle.isle_core.specs.Calling.{is_partial};
+ghost use Rattle.isle_emission.specs.Partial.{is_partial};
 ghost use Rattle.isle_core.specs.Places.{LiesIn};
 ghost use Rattle.isle_core.specs.RuleViews.{environment};
 ghost use Rattle.isle_core.specs.Setting.{setting};

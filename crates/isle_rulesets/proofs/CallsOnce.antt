@@ -3,6 +3,7 @@ use Rattle.std.proofs.Common.{◌≡◌, ⊎_elim, Bool, ℕ, suc, ◌<◌, ◌�
 use Rattle.std.specs.Prelude.{Contains}
 use Rattle.std.specs.List.{AllByRecursion}
 use Rattle.std.proofs.lemmas.List.Elements.{All-contains, All-from_recursion}
+use Rattle.isle_core.specs.declared.types.ReturnKind.{ReturnKind}
 use Rattle.isle_core.specs.declared.TermId.{TermId}
 use Rattle.isle_core.specs.declared.types.Term.{Term}
 use Rattle.isle_core.specs.declared.values.Callee.{Callee}
@@ -80,8 +81,8 @@ no_calls n = record { rise = rise; within = tt; once = tt }
     rise : n ≤ n + 0
     rise = omega arith
 
-last_call : (callee : Callee) (partial : Bool) (term : TermId) (ps : Paths) (n : ℕ) → AreCalls n (suc n) (if_ordered (ByTurns callee partial) (Called term ps (suc n)))
-last_call callee partial term ps n = record { rise = rise; within = ((low, high), tt); once = (none_contained (Called term ps (suc n)), tt) }
+last_call : (callee : Callee) (kind : ReturnKind) (term : TermId) (ps : Paths) (n : ℕ) → AreCalls n (suc n) (if_ordered (ByTurns callee kind) (Called term ps (suc n)))
+last_call callee kind term ps n = record { rise = rise; within = ((low, high), tt); once = (none_contained (Called term ps (suc n)), tt) }
   where
     rise : n ≤ suc n
     rise = omega arith
@@ -93,11 +94,11 @@ last_call callee partial term ps n = record { rise = rise; within = ((low, high)
     high = omega arith
 
 -- a call behind its arguments
-call_then : (c : Calling) (callee : Callee) (partial : Bool) (term : TermId) (ps : Paths) (m n : ℕ) (cs : List Path) → c ≡ ByTurns callee partial → AreCalls n (n + m) cs
+call_then : (c : Calling) (callee : Callee) (kind : ReturnKind) (term : TermId) (ps : Paths) (m n : ℕ) (cs : List Path) → c ≡ ByTurns callee kind → AreCalls n (n + m) cs
     → AreCalls n (n + one_more c m) (cs ++ if_ordered c (Called term ps (instance_of c (n + m))))
-call_then c callee partial term ps m n cs is h =
+call_then c callee kind term ps m n cs is h =
     subst (λ d. AreCalls n (n + one_more d m) (cs ++ if_ordered d (Called term ps (instance_of d (n + m))))) (sym is)
-    (subst (λ k. AreCalls n k (cs ++ Called term ps (suc (n + m)) ∷ [])) (up n m) (then_calls n (n + m) (suc (n + m)) cs (Called term ps (suc (n + m)) ∷ []) h (last_call callee partial term ps (n + m))))
+    (subst (λ k. AreCalls n k (cs ++ Called term ps (suc (n + m)) ∷ [])) (up n m) (then_calls n (n + m) (suc (n + m)) cs (Called term ps (suc (n + m)) ∷ []) h (last_call callee kind term ps (n + m))))
   where
     up : (a b : ℕ) → suc (a + b) ≡ a + suc b
     up a b = omega arith

@@ -11,7 +11,7 @@ use Rattle.isle_core.specs.declared.rule_sets.FlatRule.{FlatRule}
 use Rattle.isle_core.specs.declared.rule_sets.RuleSet.{RuleSet}
 use Rattle.isle_core.specs.declared.types.Term.{Term}
 use Rattle.isle_core.specs.PathType.{IsPathOf}
-use Rattle.isle_core.specs.Calling.{calling, is_partial, is_fallible, instance_of, impure, impure_all}
+use Rattle.isle_core.specs.Calling.{calling, kind_of, may_be_nothing, is_fallible, instance_of, impure, impure_all}
 use Rattle.isle_core.specs.Expr as expr
 use Rattle.isle_core.specs.Expr.{Expr, Exprs, NoExpr, AnExpr}
 use Rattle.isle_core.specs.Match.{with}
@@ -241,15 +241,15 @@ module _ (env : Environment) (t : Term) (ps : List Path) (fit : Fallible env ps)
   flat_ready : (r : Rule) (n : ℕ) (f : FlatRule) → IsFlat env ps r n f → IsRuleOf env t r → ((p : Path) → Contains (rule_paths env r n) p → Contains ps p) → IsReadyRule env t ps f
   flat_ready r n f flat h among =
       let at_args = rule_placed env t r.args h.args h.once in
-      let rises = expr_rises env t (is_partial t.kind) r.args (rule_places env r) at_args r.rhs n t.ret_ty h.rhs in
+      let rises = expr_rises env t (may_be_nothing (kind_of t.kind)) r.args (rule_places env r) at_args r.rhs n t.ret_ty h.rhs in
       let same : map (at ps) f.ordered ≡ rule_calls env r n = rising_firsts n (rule_calls env r n) (map (at ps) f.ordered) rises flat.ordered in
       record {
         constraints = each _ f.constraints (λ c d. let k = ready (is_test ps c) (Contains-append_left (map (is_test ps) f.constraints) (map (equal_test ps) f.equals) (is_test ps c) (contained_map (is_test ps) f.constraints c d)) in record { ty = k.ty; path = k.path; in_place = k.in_place; constraint = k.constraint });
         equals = each _ f.equals (λ e d. let k = ready (equal_test ps e) (Contains-append_right (map (is_test ps) f.constraints) (map (equal_test ps) f.equals) (equal_test ps e) (contained_map (equal_test ps) f.equals e d)) in record { ty = k.ty; left = k.left; left_in_place = k.left_in_place; right = k.right; right_in_place = k.right_in_place });
-        calls = subst (AreReadyCalls env t ps []) (sym same) (calls_ready env t (is_partial t.kind) r.args (rule_places env r) at_args r.rhs n t.ret_ty ps [] h.rhs refl fit (λ p c. among p (Contains-append_right (arg_paths r.args 0) (expr_paths env r.rhs (rule_places env r) n) p c)));
+        calls = subst (AreReadyCalls env t ps []) (sym same) (calls_ready env t (may_be_nothing (kind_of t.kind)) r.args (rule_places env r) at_args r.rhs n t.ret_ty ps [] h.rhs refl fit (λ p c. among p (Contains-append_right (arg_paths r.args 0) (expr_paths env r.rhs (rule_places env r) n) p c)));
         once = ordered_once env ps f.ordered n (subst (AreRising n) (sym same) rises);
-        result = subst (λ p. IsPathOf env t p t.ret_ty) (sym flat.result) (path_typed env t (is_partial t.kind) r.args (rule_places env r) at_args r.rhs n t.ret_ty h.rhs);
-        stands = subst (StandsOn (map (at ps) f.ordered)) (sym flat.result) (subst (λ done. StandsOn done (path env r.rhs (rule_places env r) n)) (sym same) (path_stands env t (is_partial t.kind) r.args (rule_places env r) at_args r.rhs n t.ret_ty (rule_calls env r n) h.rhs (λ p c. c)));
+        result = subst (λ p. IsPathOf env t p t.ret_ty) (sym flat.result) (path_typed env t (may_be_nothing (kind_of t.kind)) r.args (rule_places env r) at_args r.rhs n t.ret_ty h.rhs);
+        stands = subst (StandsOn (map (at ps) f.ordered)) (sym flat.result) (subst (λ done. StandsOn done (path env r.rhs (rule_places env r) n)) (sym same) (path_stands env t (may_be_nothing (kind_of t.kind)) r.args (rule_places env r) at_args r.rhs n t.ret_ty (rule_calls env r n) h.rhs (λ p c. c)));
       }
     where
       ready : (x : Test) → Contains (map (is_test ps) f.constraints ++ map (equal_test ps) f.equals) x → IsReadyTest env t x

@@ -9,7 +9,7 @@ use Rattle.isle_core.specs.Expr.{Expr, Exprs, NoExpr, AnExpr}
 use Rattle.isle_core.specs.declared.types.TermKind.{TermKind}
 use Rattle.isle_core.specs.declared.types.TermKind.TheVariants as kind
 use Rattle.isle_core.specs.declared.types.ConstructorKind.TheVariants as constructor
-use Rattle.isle_core.specs.Calling.{is_partial}
+use Rattle.isle_core.specs.Calling.{kind_of, may_be_nothing}
 use Rattle.isle_core.specs.Rule.{Rule, Environment}
 use Rattle.isle_core.specs.Value.{Truth}
 use Rattle.isle_core.specs.HasType.{HasType}
@@ -67,7 +67,7 @@ pub record IsRuleOf (env : Environment) (t : Term) (r : Rule) : Type 0 where
   pub args : ArePatternsOf env t.arg_tys r.args
   pub once : EachOnce (numbers r.args)
   pub iflets : r.iflets ≡ []
-  pub rhs : IsExprOf env (is_partial t.kind) r.args t.ret_ty r.rhs
+  pub rhs : IsExprOf env (may_be_nothing (kind_of t.kind)) r.args t.ret_ty r.rhs
 
 -- the rule's term is there, and the rule is one of its
 pub record IsTypedRule (env : Environment) (r : Rule) : Type 0 where

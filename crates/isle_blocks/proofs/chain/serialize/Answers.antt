@@ -18,12 +18,12 @@ use Rattle.isle_blocks.proofs.LawPositions.{chain_positions}
 use Rattle.isle_blocks.proofs.chain.serialize.Goals as goal
 
 pub returns-clause-means : goal.returns-clause-means
-returns-clause-means c = λ env m t args partial h.
+returns-clause-means c = λ env m t args kind h.
     let s = c.args.rules.now in
     let inners : ℕ → Option BindingId = get nat_cmp c.in_ok-inners.inners in
     let found : FindsInners s.bindings inners = subst (λ bs. FindsInners bs inners) c.as_slice.ensures c.in_ok-inners.ensures in
     let is_chain : block c.in_ok-chained.field-0 ≡ chain inners s.rules = c.in_ok-chained.ensures ∙ ap (chain inners) c.as_slice-2.ensures in
-    ap (λ b. block_outcome env m args (paths_of s.bindings) b partial) is_chain ∙ chain_means env t m args s.bindings inners partial found h.once s.rules h.rules
+    ap (λ b. block_outcome env m args (paths_of s.bindings) b kind) is_chain ∙ chain_means env t m args s.bindings inners kind found h.once s.rules h.rules
 
 pub returns-clause-lawful : goal.returns-clause-lawful
 returns-clause-lawful c = λ env t h.
