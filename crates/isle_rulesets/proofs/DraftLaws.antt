@@ -1,7 +1,7 @@
 -- A draft has the tests of patterns, one pattern after another.
 use Rattle.std.proofs.Common.{◌≡◌, inl, inr, ⊎_elim, ℕ, ◌<◌, ◌≤◌, ◌+◌, suc, List, [], ◌∷◌, ◌++◌, length, map, take, get_or, refl, sym, ap, ◌∙◌, subst, arith, append_assoc, append-nil, Some}
 use Rattle.std.specs.Prelude.{Contains, All, slice_get}
-use Rattle.std.proofs.lemmas.List.{map_more, length-map, length-take-le, get_or-map}
+use Rattle.std.proofs.lemmas.List.{map_more, length-map, length-take-le, get_or-map, take_all}
 use Rattle.std.proofs.lemmas.List.Elements.{Contains-push, Contains-push_cases, Contains-append_left}
 use Rattle.std.proofs.lemmas.Option.{get_or_from_slice_get, slice_get_within}
 use Rattle.isle_core.specs.declared.BindingId.{BindingId}
@@ -104,6 +104,10 @@ drafted_more env old mid new patterns i x d e b lt is h n t =
   where
     le : i ≤ length patterns
     le = omega arith
+
+-- after the last pattern of the code's list
+pub drafted_all : (env : Environment) (old new : Numbered) (patterns : List CodePattern) (i : ℕ) (d : Draft) → length patterns ≤ i → Drafted env old new (map pattern (take i patterns)) d → Drafted env old new (map pattern patterns) d
+drafted_all env old new patterns i d le h = subst (λ xs. Drafted env old new (map pattern xs) d) (take_all i patterns le) h
 
 -- a pattern of a list of built ones
 pub built_at : (patterns : List CodePattern) (i : ℕ) (x : CodePattern) → All IsBuiltPattern (map pattern patterns) → i < length patterns → x ≡ get_or patterns i x → IsBuiltPattern (pattern x)
