@@ -1,6 +1,7 @@
-ghost use Rattle.std.specs.Prelude.{◌≡◌, IfOk, Bool, [], false, map, List as ListOf};
+ghost use Rattle.std.specs.Prelude.{◌≡◌, IfOk, [], false, map, List as ListOf};
 ghost use Rattle.std.specs.Ordering.{nat_cmp};
 ghost use Rattle.std.specs.BTreeMap.{get};
+ghost use Rattle.isle_core.specs.declared.types.ReturnKind.{ReturnKind};
 ghost use Rattle.isle_core.specs.declared.types.Term.{Term};
 ghost use Rattle.isle_core.specs.Value.{Value};
 ghost use Rattle.isle_core.specs.Meaning.{Meaning};
