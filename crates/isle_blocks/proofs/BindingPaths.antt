@@ -11,7 +11,7 @@ use Rattle.isle_core.specs.declared.rule_sets.Binding.TheVariants as binding
 use Rattle.isle_core.specs.declared.types.Term.{Term}
 use Rattle.isle_core.specs.Path.{Path, Nowhere, Arg, ConstBool, ConstInt, Extracted, Called, Chosen, MadeVariant, MadeStruct, VariantField, StructField, Wrapped, Inner, Part, Paths, NoPath, APath, at, at_all, path_over, add_path, paths_of}
 use Rattle.isle_core.specs.StandsFor.{EachOnce}
-use Rattle.isle_core.specs.BlockLawful.{IsPathOf, IsOptionOf, ArePathsOf}
+use Rattle.isle_core.specs.PathType.{IsPathOf, IsOptionOf, ArePathsOf}
 use Rattle.isle_core.specs.Rule.{Environment}
 
 -- ---- the paths before a place

@@ -6,6 +6,7 @@ use Rattle.std.specs.BTreeMap.{BTreeMap, get, Updates}
 use Rattle.std.proofs.lemmas.Bool.{ltb-true, lt-ltb}
 use Rattle.std.proofs.lemmas.List.{take_more, length-take-le}
 use Rattle.std.proofs.lemmas.Map.Lookups.{exact_unsigned}
+use Rattle.isle_core.specs.Calling.{may_be_nothing}
 use Rattle.isle_core.specs.declared.BindingId.{BindingId}
 use Rattle.isle_core.specs.declared.rule_sets.Binding.{Binding}
 use Rattle.isle_core.specs.declared.rule_sets.Binding.TheVariants as binding
@@ -116,8 +117,8 @@ pub data HasInner (bs : List Binding) (inners : ℕ → Option BindingId) (c : B
   has_one : (b : BindingId) → inners c.0 ≡ Some b → slice_get bs b.0 ≡ Some (binding.MatchSome c) → at (paths_of bs) b ≡ Inner (at (paths_of bs) c) → HasInner bs inners c true
 
 pub has_inner : (env : Environment) (t : Term) (bs : List Binding) (inners : ℕ → Option BindingId) (done : List Path) (c : BindingId) → FindsInners bs inners → EachOnce (paths_of bs)
-    → (h : IsReadyCall env t (paths_of bs) done (at (paths_of bs) c)) → HasInner bs inners c h.partial
-has_inner env t bs inners done c f once h = pick (inners c.0) refl h.partial h.inner
+    → (h : IsReadyCall env t (paths_of bs) done (at (paths_of bs) c)) → HasInner bs inners c (may_be_nothing h.kind)
+has_inner env t bs inners done c f once h = pick (inners c.0) refl (may_be_nothing h.kind) h.inner
   where
     ps : List Path
     ps = paths_of bs

@@ -1,17 +1,19 @@
 -- Binding calls, each with its inner value, is running them.
 use Rattle.std.proofs.Common.{◌≡◌, ℕ, List, [], ◌∷◌, ◌++◌, Bool, true, false, cond, Option, Some, None, map, refl, sym, ap, ◌∙◌, subst}
+use Rattle.isle_core.specs.declared.types.ReturnKind.{ReturnKind}
 use Rattle.isle_core.specs.declared.BindingId.{BindingId}
 use Rattle.isle_core.specs.declared.TermId.{TermId}
 use Rattle.isle_core.specs.declared.rule_sets.Binding.{Binding}
 use Rattle.isle_core.specs.declared.types.Term.{Term}
 use Rattle.isle_core.specs.Value.{Value, Made}
 use Rattle.isle_core.specs.Meaning.{Meaning}
-use Rattle.isle_core.specs.Calling.{Calling, ByTurns, ByCases, NoCall, calling, is_fallible}
+use Rattle.isle_core.specs.Calling.{Calling, ByTurns, ByCases, NoCall, calling, may_be_nothing, is_fallible}
 use Rattle.isle_core.specs.Path.{Path, Called, Paths, at, paths_of}
 use Rattle.isle_core.specs.Held.{Known, value_at}
 use Rattle.isle_core.specs.CallRun.{Went, Goes, Ends, then_go, make, unless_nothing, check_call, run_calls}
 use Rattle.isle_core.specs.BlockRun.{bind_one, bind_all}
-use Rattle.isle_core.specs.BlockLawful.{IsCall, occurrence_at, occurrences}
+use Rattle.isle_core.specs.ExternalCall.{IsCall}
+use Rattle.isle_core.specs.Occurrences.{occurrence_at, occurrences}
 use Rattle.isle_core.specs.StandsFor.{EachOnce}
 use Rattle.isle_core.specs.Ready.{IsReadyCall, AreReadyCalls}
 use Rattle.isle_core.specs.Rule.{Environment}
@@ -40,40 +42,40 @@ call_made : (env : Environment) (m : Meaning) (args : List Value) (p : Path) (te
 call_made env m args p term ps instance known made e =
     subst (λ q. bind_one env m args q known made ≡ make env m args q known made) (sym e) (goes_on (make env m args (Called term ps instance) known made))
 
-fallible_is : (partial : Bool) (c : Calling) → IsCall partial c → is_fallible c ≡ partial
-fallible_is partial (ByTurns callee p) h = h.0
-fallible_is partial (ByCases callee p) h = absurd h
-fallible_is partial NoCall h = absurd h
+fallible_is : (kind : ReturnKind) (c : Calling) → IsCall kind c → is_fallible c ≡ may_be_nothing kind
+fallible_is kind (ByTurns callee of) h = ap may_be_nothing h.0
+fallible_is kind (ByCases callee of) h = absurd h
+fallible_is kind NoCall h = absurd h
 
 -- a call may fail or is not checked
-checked : (partial : Bool) (env : Environment) (m : Meaning) (args : List Value) (p : Path) (term : TermId) (ps : Paths) (instance : ℕ) (known : Known) (made : List Made) → p ≡ Called term ps instance → IsCall partial (calling env term)
+checked : (partial : Bool) (kind : ReturnKind) (env : Environment) (m : Meaning) (args : List Value) (p : Path) (term : TermId) (ps : Paths) (instance : ℕ) (known : Known) (made : List Made) → p ≡ Called term ps instance → may_be_nothing kind ≡ partial → IsCall kind (calling env term)
     → check_call env m args p known made ≡ cond partial (unless_nothing (value_at env m args known p) known made) (Goes known made)
-checked partial env m args p term ps instance known made e h =
+checked partial kind env m args p term ps instance known made e is h =
     subst (λ q. check_call env m args q known made ≡ cond partial (unless_nothing (value_at env m args known q) known made) (Goes known made)) (sym e)
-    (ap (λ b. cond b (unless_nothing (value_at env m args known (Called term ps instance)) known made) (Goes known made)) (fallible_is partial (calling env term) h))
+    (ap (λ b. cond b (unless_nothing (value_at env m args known (Called term ps instance)) known made) (Goes known made)) (fallible_is kind (calling env term) h ∙ is))
 
 -- a call with its inner value, before others
 one_run : (env : Environment) (m : Meaning) (args : List Value) (bs : List Binding) (inners : ℕ → Option BindingId) (c : BindingId) (term : TermId) (parameters : Paths) (instance : ℕ) (rest : List BindingId) (more : List Path)
     → at (paths_of bs) c ≡ Called term parameters instance
     → ((known : Known) (made : List Made) → bind_all env m args (paths_of bs) rest known made ≡ run_calls env m args more known made)
-    → (partial : Bool) → IsCall partial (calling env term) → HasInner bs inners c partial
+    → (partial : Bool) (kind : ReturnKind) → may_be_nothing kind ≡ partial → IsCall kind (calling env term) → HasInner bs inners c partial
     → (known : Known) (made : List Made) → bind_all env m args (paths_of bs) (with_inner (inners c.0) c rest) known made ≡ run_calls env m args (at (paths_of bs) c ∷ more) known made
-one_run env m args bs inners c term parameters instance rest more is same false call (has_none e without) known made =
+one_run env m args bs inners c term parameters instance rest more is same false kind fails call (has_none e without) known made =
     let ps = paths_of bs in
     let p = at ps c in
     ap (λ o. bind_all env m args ps (with_inner o c rest) known made) e
     ∙ ap (λ w. then_go w (bind_all env m args ps rest)) (call_made env m args p term parameters instance known made is)
     ∙ then_same (make env m args p known made) (bind_all env m args ps rest) (λ k d. then_go (check_call env m args p k d) (run_calls env m args more))
-    (λ k d. same k d ∙ sym (ap (λ w. then_go w (run_calls env m args more)) (checked false env m args p term parameters instance k d is call)))
+    (λ k d. same k d ∙ sym (ap (λ w. then_go w (run_calls env m args more)) (checked false kind env m args p term parameters instance k d is fails call)))
     ∙ sym (then_twice (make env m args p known made) (check_call env m args p) (run_calls env m args more))
-one_run env m args bs inners c term parameters instance rest more is same true call (has_one b e there path) known made =
+one_run env m args bs inners c term parameters instance rest more is same true kind fails call (has_one b e there path) known made =
     let ps = paths_of bs in
     let p = at ps c in
     ap (λ o. bind_all env m args ps (with_inner o c rest) known made) e
     ∙ ap (λ w. then_go w (bind_all env m args ps (b ∷ rest))) (call_made env m args p term parameters instance known made is)
     ∙ then_same (make env m args p known made) (bind_all env m args ps (b ∷ rest)) (λ k d. then_go (check_call env m args p k d) (run_calls env m args more))
     (λ k d. ap (λ q. then_go (bind_one env m args q k d) (bind_all env m args ps rest)) path
-    ∙ ap (λ w. then_go w (bind_all env m args ps rest)) (sym (checked true env m args p term parameters instance k d is call))
+    ∙ ap (λ w. then_go w (bind_all env m args ps rest)) (sym (checked true kind env m args p term parameters instance k d is fails call))
     ∙ then_same (check_call env m args p k d) (bind_all env m args ps rest) (run_calls env m args more) same)
     ∙ sym (then_twice (make env m args p known made) (check_call env m args p) (run_calls env m args more))
 
@@ -87,7 +89,7 @@ binds_run env t m args bs inners f once (c ∷ cs) done h known made =
     let call : IsReadyCall env t (paths_of bs) done (at (paths_of bs) c) = h.0 in
     one_run env m args bs inners c call.term call.parameters call.instance (binds inners cs) (map (at (paths_of bs)) cs) call.path
     (binds_run env t m args bs inners f once cs (at (paths_of bs) c ∷ done) h.1)
-    call.partial call.external (has_inner env t bs inners done c f once call) known made
+    (may_be_nothing call.kind) call.kind refl call.external (has_inner env t bs inners done c f once call) known made
 
 -- inner values are no impure calls
 pub occurrences_same : (env : Environment) (bs : List Binding) (inners : ℕ → Option BindingId) → FindsInners bs inners → (cs : List BindingId) → occurrences env (paths_of bs) (binds inners cs) ≡ occurrences env (paths_of bs) cs

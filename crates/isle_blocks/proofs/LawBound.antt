@@ -2,6 +2,9 @@
 use Rattle.std.proofs.Common.{◌≡◌, ◌⊎◌, inl, inr, ⊎_elim, ℕ, zero, suc, List, [], ◌∷◌, ◌++◌, Bool, true, false, Option, Some, map, refl, sym, ap, ◌∙◌, subst, arith}
 use Rattle.std.specs.Prelude.{slice_get, IsSomeAnd, Contains}
 use Rattle.std.proofs.lemmas.List.Elements.{Contains-push, Contains-append_left}
+use Rattle.isle_core.specs.declared.types.ReturnKind.{ReturnKind}
+use Rattle.isle_core.specs.declared.types.ReturnKind.TheVariants as return_kind
+use Rattle.isle_core.specs.Calling.{may_be_nothing}
 use Rattle.isle_core.specs.declared.BindingId.{BindingId}
 use Rattle.isle_core.specs.declared.TypeId.{TypeId}
 use Rattle.isle_core.specs.declared.rule_sets.Binding.{Binding}
@@ -9,10 +12,14 @@ use Rattle.isle_core.specs.declared.rule_sets.Binding.TheVariants as binding
 use Rattle.isle_core.specs.declared.types.Term.{Term}
 use Rattle.isle_core.specs.Calling.{calling}
 use Rattle.isle_core.specs.Path.{Path, Arg, ConstBool, ConstInt, Called, Inner, at, at_all, paths_of}
-use Rattle.isle_core.specs.BlockLawful.{IsCall, IsPathOf, IsOptionOf, ArePathsOf, IsInPlace, IsReadAs, AreReadAs, IsBindable, IsCallBound, IsInnerBound, AreBindable, bound_by}
+use Rattle.isle_core.specs.Bindable.{IsBindable, IsCallBound, IsInnerBound, AreBindable, bound_by}
+use Rattle.isle_core.specs.ExternalCall.{IsCall}
+use Rattle.isle_core.specs.PathType.{IsPathOf, IsOptionOf, ArePathsOf}
+use Rattle.isle_core.specs.Readable.{IsInPlace, IsReadAs, AreReadAs}
 use Rattle.isle_core.specs.StandsFor.{EachOnce}
 use Rattle.isle_core.specs.Ready.{StandsOn, AllStandOn, IsReadyCall, AreReadyCalls}
 use Rattle.isle_core.specs.Rule.{Environment}
+use Rattle.isle_core.specs.Setting.{setting}
 use Rattle.isle_blocks.specs.Inners.{FindsInners}
 use Rattle.isle_blocks.specs.Nest.{with_inner, binds}
 use Rattle.isle_blocks.proofs.BindingPaths.{IsThere, contains_at, place_once, call_at, paths_there}
@@ -78,7 +85,7 @@ option_stands env t done (Called term ps instance) ty h s = s
 option_stands env t done p ty h s = absurd h
 
 pub read_as : (env : Environment) (t : Term) (bs : List Binding) (done : List Path) (bound : List ℕ) (b : BindingId) (ty : TypeId) → IsBehind (paths_of bs) done bound
-    → IsPathOf env t (at (paths_of bs) b) ty → StandsOn done (at (paths_of bs) b) → IsReadAs env t bs bound b ty
+    → IsPathOf env t (at (paths_of bs) b) ty → StandsOn done (at (paths_of bs) b) → IsReadAs (setting env t bs) bound b ty
 read_as env t bs done bound b ty k h s = record { path = h; read = place (at (paths_of bs) b) refl h s }
   where
     place : (p : Path) → at (paths_of bs) b ≡ p → IsPathOf env t p ty → StandsOn done p → IsInPlace (at (paths_of bs) b) ⊎ Contains bound b.0
@@ -90,7 +97,7 @@ read_as env t bs done bound b ty k h s = record { path = h; read = place (at (pa
     place p e h' s' = absurd h'
 
 all_read : (env : Environment) (t : Term) (bs : List Binding) (done : List Path) (bound : List ℕ) → IsBehind (paths_of bs) done bound → (parameters : List BindingId) (tys : List TypeId)
-    → ArePathsOf env t (at_all (paths_of bs) parameters) tys → AllStandOn done (at_all (paths_of bs) parameters) → AreReadAs env t bs bound parameters tys
+    → ArePathsOf env t (at_all (paths_of bs) parameters) tys → AllStandOn done (at_all (paths_of bs) parameters) → AreReadAs (setting env t bs) bound parameters tys
 all_read env t bs done bound k [] [] h s = tt
 all_read env t bs done bound k [] (ty ∷ tys) h s = absurd h
 all_read env t bs done bound k (b ∷ more) [] h s = absurd h
@@ -99,33 +106,38 @@ all_read env t bs done bound k (b ∷ more) (ty ∷ tys) h s = (read_as env t bs
 -- ---- what may be bound
 
 call_bound : (env : Environment) (t : Term) (bs : List Binding) (done : List Path) (bound : List ℕ) (c : BindingId) → IsBehind (paths_of bs) done bound → IsReadyCall env t (paths_of bs) done (at (paths_of bs) c)
-    → IsBindable env t bs bound (at (paths_of bs) c) (slice_get bs c.0)
+    → IsBindable (setting env t bs) bound (at (paths_of bs) c) (slice_get bs c.0)
 call_bound env t bs done bound c k h =
     let is = call_at bs c h.term h.parameters h.instance (paths_there env t h.parameters h.called.arg_tys h.args) h.path in
-    let bound_call : IsCallBound env t bs bound (at (paths_of bs) c) h.term is.0 h.instance = record {
+    let bound_call : IsCallBound (setting env t bs) bound (at (paths_of bs) c) h.term is.0 h.instance = record {
       path = h.path ∙ ap (λ q. Called h.term q h.instance) is.2;
       called = h.called;
       there = h.there;
       args = all_read env t bs done bound k is.0 h.called.arg_tys (subst (λ q. ArePathsOf env t q h.called.arg_tys) is.2 h.args) (subst (AllStandOn done) is.2 h.stand);
-      partial = h.partial;
+      kind = h.kind;
       external = h.external;
     } in
-    subst (IsBindable env t bs bound (at (paths_of bs) c)) (sym is.1) bound_call
+    subst (IsBindable (setting env t bs) bound (at (paths_of bs) c)) (sym is.1) bound_call
 
-inner_bound : (env : Environment) (t : Term) (bs : List Binding) (done : List Path) (bound : List ℕ) (c b : BindingId) → (h : IsReadyCall env t (paths_of bs) done (at (paths_of bs) c)) → h.partial ≡ true
-    → slice_get bs b.0 ≡ Some (binding.MatchSome c) → at (paths_of bs) b ≡ Inner (at (paths_of bs) c) → Contains bound c.0 → IsBindable env t bs bound (at (paths_of bs) b) (slice_get bs b.0)
+option_kind : (kind : ReturnKind) → may_be_nothing kind ≡ true → kind ≡ return_kind.Option
+option_kind return_kind.Option e = refl
+option_kind return_kind.Plain e = cc
+option_kind return_kind.Iterator e = cc
+
+inner_bound : (env : Environment) (t : Term) (bs : List Binding) (done : List Path) (bound : List ℕ) (c b : BindingId) → (h : IsReadyCall env t (paths_of bs) done (at (paths_of bs) c)) → may_be_nothing h.kind ≡ true
+    → slice_get bs b.0 ≡ Some (binding.MatchSome c) → at (paths_of bs) b ≡ Inner (at (paths_of bs) c) → Contains bound c.0 → IsBindable (setting env t bs) bound (at (paths_of bs) b) (slice_get bs b.0)
 inner_bound env t bs done bound c b h is there path k =
-    let external : IsCall true (calling env h.term) = subst (λ x. IsCall x (calling env h.term)) is h.external in
+    let external : IsCall return_kind.Option (calling env h.term) = subst (λ x. IsCall x (calling env h.term)) (option_kind h.kind is) h.external in
     let typed : IsSomeAnd (slice_get env.terms h.term.0) (λ (x : Term). (x.ret_ty ≡ h.called.ret_ty) × ArePathsOf env t h.parameters x.arg_tys) =
     subst (λ o. IsSomeAnd o (λ (x : Term). (x.ret_ty ≡ h.called.ret_ty) × ArePathsOf env t h.parameters x.arg_tys)) (sym h.there) (refl, h.args) in
-    let bound_inner : IsInnerBound env t bs bound (at (paths_of bs) b) c = record {
+    let bound_inner : IsInnerBound (setting env t bs) bound (at (paths_of bs) b) c = record {
       path = path;
       ty = h.called.ret_ty;
       option = subst (λ q. IsOptionOf env t q h.called.ret_ty) (sym h.path) (external, typed);
       bound' = k;
-      partial = h.fits is;
+      fits = h.fits is;
     } in
-    subst (IsBindable env t bs bound (at (paths_of bs) b)) (sym there) bound_inner
+    subst (IsBindable (setting env t bs) bound (at (paths_of bs) b)) (sym there) bound_inner
 
 -- ---- calls in order
 
@@ -147,13 +159,13 @@ stands_more done more h p s = tt
 
 -- a bind order may stand there, and behind it these calls were made
 pub record BindsAll (env : Environment) (t : Term) (bs : List Binding) (bound : List ℕ) (made : List Path) (order : List BindingId) : Type 0 where
-  pub bindable : AreBindable env t bs bound order
+  pub bindable : AreBindable (setting env t bs) bound order
   pub behind : IsBehind (paths_of bs) made (bound_by bound order)
 
 one_binds : (env : Environment) (t : Term) (bs : List Binding) (inners : ℕ → Option BindingId) (done made : List Path) (bound : List ℕ) (c : BindingId) (rest : List BindingId) → EachOnce (paths_of bs) → IsBehind (paths_of bs) done bound
     → (h : IsReadyCall env t (paths_of bs) done (at (paths_of bs) c))
     → ((bound' : List ℕ) → IsBehind (paths_of bs) (at (paths_of bs) c ∷ done) bound' → BindsAll env t bs bound' made rest)
-    → (partial : Bool) → h.partial ≡ partial → HasInner bs inners c partial → BindsAll env t bs bound made (with_inner (inners c.0) c rest)
+    → (partial : Bool) → may_be_nothing h.kind ≡ partial → HasInner bs inners c partial → BindsAll env t bs bound made (with_inner (inners c.0) c rest)
 one_binds env t bs inners done made bound c rest once k h go false is (has_none e without) =
     let there : IsThere (at (paths_of bs) c) = subst IsThere (sym h.path) tt in
     let r = go (bound ++ c.0 ∷ []) (behind_call (paths_of bs) done bound c once there without k) in
@@ -174,4 +186,4 @@ binds_all env t bs inners f once [] done bound k h = record { bindable = tt; beh
 binds_all env t bs inners f once (c ∷ cs) done bound k h =
     one_binds env t bs inners done (made_behind (at (paths_of bs) c ∷ done) (map (at (paths_of bs)) cs)) bound c (binds inners cs) once k h.0
     (λ bound' k'. binds_all env t bs inners f once cs (at (paths_of bs) c ∷ done) bound' k' h.1)
-    h.0.partial refl (has_inner env t bs inners done c f once h.0)
+    (may_be_nothing h.0.kind) refl (has_inner env t bs inners done c f once h.0)

@@ -1,6 +1,7 @@
 -- A chain gives what its rules give.
 use Rattle.std.proofs.Common.{◌≡◌, ℕ, List, [], ◌∷◌, ◌++◌, Bool, true, false, cond, ◌&&◌, Option, Some, map, refl, ap, ◌∙◌}
 use Rattle.std.specs.List.{AllByRecursion}
+use Rattle.isle_core.specs.declared.types.ReturnKind.{ReturnKind}
 use Rattle.isle_core.specs.declared.BindingId.{BindingId}
 use Rattle.isle_core.specs.declared.rule_sets.Binding.{Binding}
 use Rattle.isle_core.specs.declared.rule_sets.Constraint.{Constraint}
@@ -31,7 +32,7 @@ if_inside true c x y z e = e
 if_inside false c x y z e = refl
 
 -- what a step does at first
-abbrev step_run : Environment → Meaning → List Value → List Path → SeenStep → Went
+abbrev pub step_run : Environment → Meaning → List Value → List Path → SeenStep → Went
 step_run env m args ps s = then_go (bind_all env m args ps s.0 nothing_known []) (control_run env m args ps s.1)
 
 -- a step does y where tests hold, and goes on elsewhere
@@ -58,7 +59,7 @@ last_runs : (env : Environment) (t : Term) (m : Meaning) (args : List Value) (bs
     → step_run env m args (paths_of bs) (last_step inners f) ≡ flat_run env m args (paths_of bs) f
 last_runs env t m args bs inners f found once h = ap (λ w. then_go w (returns env m args (at (paths_of bs) f.result))) (binds_run env t m args bs inners found once f.ordered [] h.calls nothing_known [])
 
-rule_does : (env : Environment) (t : Term) (m : Meaning) (args : List Value) (bs : List Binding) (inners : ℕ → Option BindingId) (f : FlatRule) → FindsInners bs inners → EachOnce (paths_of bs) → IsReadyRule env t (paths_of bs) f
+pub rule_does : (env : Environment) (t : Term) (m : Meaning) (args : List Value) (bs : List Binding) (inners : ℕ → Option BindingId) (f : FlatRule) → FindsInners bs inners → EachOnce (paths_of bs) → IsReadyRule env t (paths_of bs) f
     → DoesWhere env m args (paths_of bs) (rule_step inners f) (flat_tests (paths_of bs) f) (flat_run env m args (paths_of bs) f)
 rule_does env t m args bs inners f found once h =
     let ps = paths_of bs in
@@ -67,7 +68,7 @@ rule_does env t m args bs inners f found once h =
     ∙ ap (λ w. cond (all_hold env (value_at env m args nothing_known) (map (equal_test ps) f.equals)) w (Goes nothing_known [])) (last_runs env t m args bs inners f found once h))
 
 -- a rule without tests holds
-untested_holds : (cs : List (BindingId × Constraint)) (es : List (BindingId × BindingId)) (env : Environment) (m : Meaning) (args : List Value) (ps : List Path) → no_tests cs es ≡ true → all_hold env (value_at env m args nothing_known) (map (is_test ps) cs ++ map (equal_test ps) es) ≡ true
+pub untested_holds : (cs : List (BindingId × Constraint)) (es : List (BindingId × BindingId)) (env : Environment) (m : Meaning) (args : List Value) (ps : List Path) → no_tests cs es ≡ true → all_hold env (value_at env m args nothing_known) (map (is_test ps) cs ++ map (equal_test ps) es) ≡ true
 untested_holds [] [] env m args ps e = refl
 untested_holds [] (x ∷ es) env m args ps e = cc
 untested_holds (x ∷ cs) es env m args ps e = cc
@@ -77,24 +78,24 @@ result_ends : (w : Went) (env : Environment) (m : Meaning) (args : List Value) (
 result_ends (Goes known made) env m args p more = refl
 result_ends (Ends o) env m args p more = refl
 
-chain_gives : (env : Environment) (t : Term) (m : Meaning) (args : List Value) (bs : List Binding) (inners : ℕ → Option BindingId) (partial : Bool) → FindsInners bs inners → EachOnce (paths_of bs)
+chain_gives : (env : Environment) (t : Term) (m : Meaning) (args : List Value) (bs : List Binding) (inners : ℕ → Option BindingId) (kind : ReturnKind) → FindsInners bs inners → EachOnce (paths_of bs)
     → (fs : List FlatRule) → AllByRecursion (IsReadyRule env t (paths_of bs)) fs
-    → gave partial (block_run env m args (paths_of bs) (block_of (chain_steps inners fs)) nothing_known []) ≡ given env m args (paths_of bs) partial (first (flat_holds env m args (paths_of bs)) fs)
-chain_gives env t m args bs inners partial found once [] h = refl
-chain_gives env t m args bs inners partial found once (f ∷ fs) h =
-    ap (λ w. gave partial (then_go w (block_run env m args (paths_of bs) (block_of (cond (no_tests f.constraints f.equals) [] (chain_steps inners fs)))))) (rule_does env t m args bs inners f found once h.0)
-    ∙ pick (flat_holds env m args (paths_of bs) f) (no_tests f.constraints f.equals) (untested_holds f.constraints f.equals env m args (paths_of bs)) (chain_gives env t m args bs inners partial found once fs h.1)
+    → gave kind (block_run env m args (paths_of bs) (block_of (chain_steps inners fs)) nothing_known []) ≡ given env m args (paths_of bs) kind (first (flat_holds env m args (paths_of bs)) fs)
+chain_gives env t m args bs inners kind found once [] h = refl
+chain_gives env t m args bs inners kind found once (f ∷ fs) h =
+    ap (λ w. gave kind (then_go w (block_run env m args (paths_of bs) (block_of (cond (no_tests f.constraints f.equals) [] (chain_steps inners fs)))))) (rule_does env t m args bs inners f found once h.0)
+    ∙ pick (flat_holds env m args (paths_of bs) f) (no_tests f.constraints f.equals) (untested_holds f.constraints f.equals env m args (paths_of bs)) (chain_gives env t m args bs inners kind found once fs h.1)
   where
     ps : List Path
     ps = paths_of bs
 
-    pick : (holds untested : Bool) → (untested ≡ true → holds ≡ true) → gave partial (block_run env m args ps (block_of (chain_steps inners fs)) nothing_known []) ≡ given env m args ps partial (first (flat_holds env m args ps) fs)
-        → gave partial (then_go (cond holds (flat_run env m args ps f) (Goes nothing_known [])) (block_run env m args ps (block_of (cond untested [] (chain_steps inners fs))))) ≡ given env m args ps partial (cond holds (Some f) (first (flat_holds env m args ps) fs))
-    pick true untested k e = ap (gave partial) (result_ends (run_calls env m args (map (at ps) f.ordered) nothing_known []) env m args (at ps f.result) (block_run env m args ps (block_of (cond untested [] (chain_steps inners fs)))))
+    pick : (holds untested : Bool) → (untested ≡ true → holds ≡ true) → gave kind (block_run env m args ps (block_of (chain_steps inners fs)) nothing_known []) ≡ given env m args ps kind (first (flat_holds env m args ps) fs)
+        → gave kind (then_go (cond holds (flat_run env m args ps f) (Goes nothing_known [])) (block_run env m args ps (block_of (cond untested [] (chain_steps inners fs))))) ≡ given env m args ps kind (cond holds (Some f) (first (flat_holds env m args ps) fs))
+    pick true untested k e = ap (gave kind) (result_ends (run_calls env m args (map (at ps) f.ordered) nothing_known []) env m args (at ps f.result) (block_run env m args ps (block_of (cond untested [] (chain_steps inners fs)))))
     pick false false k e = e
     pick false true k e = let bad = k refl in cc
 
-pub chain_means : (env : Environment) (t : Term) (m : Meaning) (args : List Value) (bs : List Binding) (inners : ℕ → Option BindingId) (partial : Bool) → FindsInners bs inners → EachOnce (paths_of bs)
-    → (fs : List FlatRule) → AllByRecursion (IsReadyRule env t (paths_of bs)) fs → block_outcome env m args (paths_of bs) (chain inners fs) partial ≡ set_outcome env m args (paths_of bs) fs partial
-chain_means env t m args bs inners partial found once fs h =
-    chain_gives env t m args bs inners partial found once (by_priority fs) (all_in_order (IsReadyRule env t (paths_of bs)) fs h) ∙ ap (given env m args (paths_of bs) partial) (first_is_highest (flat_holds env m args (paths_of bs)) fs)
+pub chain_means : (env : Environment) (t : Term) (m : Meaning) (args : List Value) (bs : List Binding) (inners : ℕ → Option BindingId) (kind : ReturnKind) → FindsInners bs inners → EachOnce (paths_of bs)
+    → (fs : List FlatRule) → AllByRecursion (IsReadyRule env t (paths_of bs)) fs → block_outcome env m args (paths_of bs) (chain inners fs) kind ≡ set_outcome env m args (paths_of bs) fs kind
+chain_means env t m args bs inners kind found once fs h =
+    chain_gives env t m args bs inners kind found once (by_priority fs) (all_in_order (IsReadyRule env t (paths_of bs)) fs h) ∙ ap (given env m args (paths_of bs) kind) (first_is_highest (flat_holds env m args (paths_of bs)) fs)

@@ -5,4 +5,5 @@ pub mod LawFirst
 pub mod LawBinds
 pub mod LawBound
 pub mod LawChain
+pub mod LawPositions
 pub mod LawReady

@@ -1,16 +1,21 @@
-ghost use Rattle.std.specs.Prelude.{◌≡◌, IfOk, Bool, [], false, map, List as ListOf};
+ghost use Rattle.std.specs.Prelude.{◌≡◌, IfOk, [], false, map, List as ListOf};
 ghost use Rattle.std.specs.Ordering.{nat_cmp};
 ghost use Rattle.std.specs.BTreeMap.{get};
+ghost use Rattle.isle_core.specs.declared.types.ReturnKind.{ReturnKind};
 ghost use Rattle.isle_core.specs.declared.types.Term.{Term};
 ghost use Rattle.isle_core.specs.Value.{Value};
 ghost use Rattle.isle_core.specs.Meaning.{Meaning};
 ghost use Rattle.isle_core.specs.Rule.{Environment};
 ghost use Rattle.isle_core.specs.Path.{paths_of};
+ghost use Rattle.isle_core.specs.Held.{nothing_known};
+ghost use Rattle.isle_core.specs.ReturnPosition.{block_position, set_position};
 ghost use Rattle.isle_core.specs.RuleSet.{set_outcome};
 ghost use Rattle.isle_core.specs.BlockViews as BlockViews;
 ghost use Rattle.isle_core.specs.BlockRun.{block_outcome};
 ghost use Rattle.isle_core.specs.BlockLawful.{IsLawfulBlock};
 ghost use Rattle.isle_core.specs.Ready.{IsReady};
+ghost use Rattle.isle_core.specs.Setting.{setting};
+ghost use Rattle.isle_core.specs.SingleArms.{HasSingleArms};
 ghost use Rattle.isle_blocks.specs.Chain as Chain;
 
 use crate::inners::inner_values;
@@ -66,9 +71,12 @@ fn chained(
 /// block is built.
 pub fn serialize(alloc: Global, rules: &RuleSet, iterator: bool) -> Result<Block, OutOfMemory>
     requires { iterator ≡ false }
-    ensures means { IfOk result (λ b. (env : Environment) (m : Meaning) (t : Term) (args : ListOf Value) (partial : Bool) → IsReady env t rules.now →
-        block_outcome env m args (paths_of rules.now.bindings) (BlockViews.block b) partial ≡ set_outcome env m args (paths_of rules.now.bindings) rules.now.rules partial) }
-    ensures lawful { IfOk result (λ b. (env : Environment) (t : Term) → IsReady env t rules.now → IsLawfulBlock env t rules.now.bindings [] (BlockViews.block b)) }
+    ensures means { IfOk result (λ b. (env : Environment) (m : Meaning) (t : Term) (args : ListOf Value) (kind : ReturnKind) → IsReady env t rules.now →
+        block_outcome env m args (paths_of rules.now.bindings) (BlockViews.block b) kind ≡ set_outcome env m args (paths_of rules.now.bindings) rules.now.rules kind) }
+    ensures positions { IfOk result (λ b. (env : Environment) (m : Meaning) (t : Term) (args : ListOf Value) → IsReady env t rules.now →
+        block_position env m args (paths_of rules.now.bindings) (BlockViews.block b) nothing_known [] ≡ set_position env m args (paths_of rules.now.bindings) rules.now.rules) }
+    ensures lawful { IfOk result (λ b. (env : Environment) (t : Term) → IsReady env t rules.now → IsLawfulBlock (setting env t rules.now.bindings) (BlockViews.block b)) }
+    ensures single { IfOk result (λ b. HasSingleArms (BlockViews.block b)) }
 {
     let inners = inner_values(alloc, rules.bindings.as_slice())?;
     Ok(chained(alloc, &inners, rules.rules.as_slice())?)

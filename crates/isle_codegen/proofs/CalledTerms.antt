@@ -1,6 +1,7 @@
 -- The calls among the bindings of a rule set are of terms that its rules call.
 use Rattle.std.proofs.Common.{◌≡◌, ⊎_elim, ℕ, zero, suc, ◌+◌, List, [], ◌∷◌, ◌++◌, Bool, true, false, cond, Option, Some, None, refl, sym, ◌∙◌, subst}
 use Rattle.std.specs.Prelude.{Contains, slice_get}
+use Rattle.std.specs.List.{AllByRecursion}
 use Rattle.std.proofs.lemmas.List.Elements.{Contains-append_left, Contains-append_right, Contains-append_cases}
 use Rattle.isle_core.specs.declared.TermId.{TermId}
 use Rattle.isle_core.specs.declared.rule_sets.Binding.{Binding}
@@ -10,12 +11,18 @@ use Rattle.isle_core.specs.Meaning.{Meaning}
 use Rattle.isle_core.specs.Calling.{calling, is_fallible, instance_of, impure, impure_all}
 use Rattle.isle_core.specs.Expr as expr
 use Rattle.isle_core.specs.Expr.{Expr, Exprs, NoExpr, AnExpr}
-use Rattle.isle_core.specs.Lawful.{called_by, called_by_all, called_in, called, AnswersFit, IsLawful}
+use Rattle.isle_core.specs.BuiltRule.{CallsImpure, AllCallImpure, IsImpureRule}
+use Rattle.isle_core.specs.CalledTerms.{CalledTerm, Constructor, unless_made, called_by, called_by_all, extracted_in, called_in_iflets, called_in, called}
+use Rattle.isle_core.specs.Lawful.{AnswersFit, IsLawful}
 use Rattle.isle_core.specs.Path.{Path, Nowhere, Arg, Called, Inner, Paths, paths_of}
 use Rattle.isle_core.specs.Pattern.{Pattern}
 use Rattle.isle_core.specs.Rule.{Environment, Rule, rules_of}
-use Rattle.isle_core.specs.StandsFor.{rules_paths, StandsFor}
-use Rattle.isle_core.specs.Tests.{Places, no_places, arg_paths, path_or, call_path, paths as all_paths, with_inner, expr_paths, exprs_paths, rule_places, rule_paths}
+use Rattle.isle_core.specs.RulePaths.{rules_paths}
+use Rattle.isle_core.specs.StandsFor.{StandsFor}
+use Rattle.isle_core.specs.RightSide.{path_or, call_path, paths as all_paths}
+use Rattle.isle_core.specs.RulePaths.{arg_paths, with_inner, expr_paths, exprs_paths, rule_paths}
+use Rattle.isle_core.specs.Tests.{Places, no_places, rule_places}
+use Rattle.isle_core.proofs.TurnKinds.{called_here}
 use Rattle.isle_core.proofs.Contained.{head_contained, tail_contained, contained_cases, none_contained}
 use Rattle.isle_blocks.proofs.BindingPaths.{path_before}
 use Rattle.isle_emission.specs.Emitted.{AnswersBindings}
@@ -23,18 +30,22 @@ use Rattle.isle_sema.proofs.ReadyRules.{IsArgument, args_argument}
 
 -- ---- the calls among paths
 
--- the calls among paths are of these terms
-abbrev AreOf : List TermId → List Path → Type 0
-AreOf terms ps = (term : TermId) (qs : Paths) (k : ℕ) → Contains ps (Called term qs k) → Contains terms term
+-- a term as a constructor
+abbrev constructed : TermId → CalledTerm
+constructed term = record { term = term; role = Constructor }
 
-none_of : (terms : List TermId) (p : Path) → ((term : TermId) (qs : Paths) (k : ℕ) → p ≡ Called term qs k → ⊥) → AreOf terms (p ∷ [])
+-- the calls among paths are of these terms
+abbrev AreOf : List CalledTerm → List Path → Type 0
+AreOf terms ps = (term : TermId) (qs : Paths) (k : ℕ) → Contains ps (Called term qs k) → Contains terms (constructed term)
+
+none_of : (terms : List CalledTerm) (p : Path) → ((term : TermId) (qs : Paths) (k : ℕ) → p ≡ Called term qs k → ⊥) → AreOf terms (p ∷ [])
 none_of terms p apart term qs k c = absurd (⊎_elim (λ e. apart term qs k e) (λ d. none_contained (Called term qs k) d) (contained_cases p [] (Called term qs k) c))
 
-both_of : (terms : List TermId) (xs ys : List Path) → AreOf terms xs → AreOf terms ys → AreOf terms (xs ++ ys)
+both_of : (terms : List CalledTerm) (xs ys : List Path) → AreOf terms xs → AreOf terms ys → AreOf terms (xs ++ ys)
 both_of terms xs ys h l term qs k c = ⊎_elim (h term qs k) (l term qs k) (Contains-append_cases xs ys (Called term qs k) c)
 
-wider : (terms more : List TermId) (ps : List Path) → ((t : TermId) → Contains terms t → Contains more t) → AreOf terms ps → AreOf more ps
-wider terms more ps among h term qs k c = among term (h term qs k c)
+wider : (terms more : List CalledTerm) (ps : List Path) → ((t : CalledTerm) → Contains terms t → Contains more t) → AreOf terms ps → AreOf more ps
+wider terms more ps among h term qs k c = among (constructed term) (h term qs k c)
 
 argument_apart : (o : Option Path) → IsArgument o → (term : TermId) (qs : Paths) (k : ℕ) → path_or o ≡ Called term qs k → ⊥
 argument_apart None h term qs k e = cc
@@ -46,43 +57,48 @@ same_term a b ps qs j k e = cc
 inner_apart : (p : Path) (b : TermId) (qs : Paths) (k : ℕ) → Inner p ≡ Called b qs k → ⊥
 inner_apart p b qs k e = cc
 
-call_of : (b : Bool) (terms : List TermId) (term : TermId) (ps : Paths) (j : ℕ) → Contains terms term → AreOf terms (cond b (Called term ps j ∷ Inner (Called term ps j) ∷ []) (Called term ps j ∷ []))
+call_of : (b : Bool) (terms : List CalledTerm) (term : TermId) (ps : Paths) (j : ℕ) → Contains terms (constructed term) → AreOf terms (cond b (Called term ps j ∷ Inner (Called term ps j) ∷ []) (Called term ps j ∷ []))
 call_of true terms term ps j here other qs k c =
-    ⊎_elim (λ e. subst (Contains terms) (same_term term other ps qs j k e) here)
+    ⊎_elim (λ e. subst (λ x. Contains terms (constructed x)) (same_term term other ps qs j k e) here)
     (λ d. none_of terms (Inner (Called term ps j)) (inner_apart (Called term ps j)) other qs k d) (contained_cases (Called term ps j) (Inner (Called term ps j) ∷ []) (Called other qs k) c)
 call_of false terms term ps j here other qs k c =
-    ⊎_elim (λ e. subst (Contains terms) (same_term term other ps qs j k e) here) (λ d. absurd (none_contained (Called other qs k) d)) (contained_cases (Called term ps j) [] (Called other qs k) c)
+    ⊎_elim (λ e. subst (λ x. Contains terms (constructed x)) (same_term term other ps qs j k e) here) (λ d. absurd (none_contained (Called other qs k) d)) (contained_cases (Called term ps j) [] (Called other qs k) c)
 
 mutual
-  expr_of : (e : Expr) (env : Environment) (places : Places) (n : ℕ) → ((y : ℕ) → IsArgument (places y)) → AreOf (called_by e) (expr_paths env e places n)
-  expr_of (expr.Var of x) env places n h = none_of [] (path_or (places x.0)) (argument_apart (places x.0) (h x.0))
-  expr_of (expr.ConstBool b) env places n h = none_of [] _ (λ term qs k e. cc)
-  expr_of (expr.ConstInt of v) env places n h = none_of [] _ (λ term qs k e. cc)
-  expr_of (expr.Term of term es) env places n h =
-      both_of (called_by_all es ++ term ∷ []) (exprs_paths env es places n) (with_inner (calling env term) (call_path env term (all_paths env es places n) (n + impure_all env es)))
-      (wider (called_by_all es) (called_by_all es ++ term ∷ []) (exprs_paths env es places n) (λ t c. Contains-append_left (called_by_all es) (term ∷ []) t c) (exprs_of es env places n h))
-      (call_of (is_fallible (calling env term)) (called_by_all es ++ term ∷ []) term (all_paths env es places n) (instance_of (calling env term) (n + impure_all env es)) (Contains-append_right (called_by_all es) (term ∷ []) term (head_contained term [])))
-  expr_of (expr.ConstPrim of name) env places n h = none_of [] Nowhere (λ term qs k e. cc)
-  expr_of (expr.Let of bindings inner) env places n h = none_of [] Nowhere (λ term qs k e. cc)
+  expr_of : (e : Expr) (env : Environment) (places : Places) (n : ℕ) → CallsImpure env.terms e → ((y : ℕ) → IsArgument (places y)) → AreOf (called_by env e) (expr_paths env e places n)
+  expr_of (expr.Var of x) env places n i h = none_of [] (path_or (places x.0)) (argument_apart (places x.0) (h x.0))
+  expr_of (expr.ConstBool b) env places n i h = none_of [] _ (λ term qs k e. cc)
+  expr_of (expr.ConstInt of v) env places n i h = none_of [] _ (λ term qs k e. cc)
+  expr_of (expr.Term of term es) env places n i h =
+      let own = unless_made env Constructor term in
+      both_of (called_by_all env es ++ own) (exprs_paths env es places n) (with_inner (calling env term) (call_path env term (all_paths env es places n) (n + impure_all env es)))
+      (wider (called_by_all env es) (called_by_all env es ++ own) (exprs_paths env es places n) (λ t c. Contains-append_left (called_by_all env es) own t c) (exprs_of es env places n i.1 h))
+      (call_of (is_fallible (calling env term)) (called_by_all env es ++ own) term (all_paths env es places n) (instance_of (calling env term) (n + impure_all env es)) (Contains-append_right (called_by_all env es) own (constructed term) (called_here env term i.0)))
+  expr_of (expr.ConstPrim of name) env places n i h = none_of [] Nowhere (λ term qs k e. cc)
+  expr_of (expr.Let of bindings inner) env places n i h = none_of (called_by env (expr.Let of bindings inner)) Nowhere (λ term qs k e. cc)
 
-  exprs_of : (es : Exprs) (env : Environment) (places : Places) (n : ℕ) → ((y : ℕ) → IsArgument (places y)) → AreOf (called_by_all es) (exprs_paths env es places n)
-  exprs_of NoExpr env places n h term qs k c = absurd (none_contained (Called term qs k) c)
-  exprs_of (AnExpr e es) env places n h term qs k c =
-      both_of (called_by e ++ called_by_all es) (expr_paths env e places n) (exprs_paths env es places (n + impure env e))
-      (wider (called_by e) (called_by e ++ called_by_all es) (expr_paths env e places n) (λ t d. Contains-append_left (called_by e) (called_by_all es) t d) (expr_of e env places n h))
-      (wider (called_by_all es) (called_by e ++ called_by_all es) (exprs_paths env es places (n + impure env e)) (λ t d. Contains-append_right (called_by e) (called_by_all es) t d) (exprs_of es env places (n + impure env e) h)) term qs k c
+  exprs_of : (es : Exprs) (env : Environment) (places : Places) (n : ℕ) → AllCallImpure env.terms es → ((y : ℕ) → IsArgument (places y)) → AreOf (called_by_all env es) (exprs_paths env es places n)
+  exprs_of NoExpr env places n i h term qs k c = absurd (none_contained (Called term qs k) c)
+  exprs_of (AnExpr e es) env places n i h term qs k c =
+      both_of (called_by env e ++ called_by_all env es) (expr_paths env e places n) (exprs_paths env es places (n + impure env e))
+      (wider (called_by env e) (called_by env e ++ called_by_all env es) (expr_paths env e places n) (λ t d. Contains-append_left (called_by env e) (called_by_all env es) t d) (expr_of e env places n i.0 h))
+      (wider (called_by_all env es) (called_by env e ++ called_by_all env es) (exprs_paths env es places (n + impure env e)) (λ t d. Contains-append_right (called_by env e) (called_by_all env es) t d) (exprs_of es env places (n + impure env e) i.1 h)) term qs k c
 
-args_of : (terms : List TermId) (qs : List Pattern) (i : ℕ) → AreOf terms (arg_paths qs i)
+args_of : (terms : List CalledTerm) (qs : List Pattern) (i : ℕ) → AreOf terms (arg_paths qs i)
 args_of terms [] i term ps k c = absurd (none_contained (Called term ps k) c)
 args_of terms (q ∷ qs) i term ps k c = ⊎_elim (λ e. let bad : Arg i ≡ Called term ps k = e in cc) (args_of terms qs (suc i) term ps k) (contained_cases (Arg i) (arg_paths qs (suc i)) (Called term ps k) c)
 
-rules_of_called : (rules : List Rule) (env : Environment) (n : ℕ) → AreOf (called rules) (rules_paths env rules n)
-rules_of_called [] env n term qs k c = absurd (none_contained (Called term qs k) c)
-rules_of_called (r ∷ rules) env n term qs k c =
-    both_of (called (r ∷ rules)) (rule_paths env r n) (rules_paths env rules (n + impure env r.rhs))
-    (both_of (called (r ∷ rules)) (arg_paths r.args 0) (expr_paths env r.rhs (rule_places r) n) (args_of (called (r ∷ rules)) r.args 0)
-    (wider (called_in r) (called (r ∷ rules)) (expr_paths env r.rhs (rule_places r) n) (λ t d. Contains-append_left (called_in r) (called rules) t d) (expr_of r.rhs env (rule_places r) n (args_argument r.args 0 no_places (λ z. tt)))))
-    (wider (called rules) (called (r ∷ rules)) (rules_paths env rules (n + impure env r.rhs)) (λ t d. Contains-append_right (called_in r) (called rules) t d) (rules_of_called rules env (n + impure env r.rhs))) term qs k c
+rules_of_called : (rules : List Rule) (env : Environment) (n : ℕ) → AllByRecursion (IsImpureRule env.terms) rules → AreOf (called env rules) (rules_paths env rules n)
+rules_of_called [] env n i term qs k c = absurd (none_contained (Called term qs k) c)
+rules_of_called (r ∷ rules) env n i term qs k c =
+    let all = called env (r ∷ rules) in
+    let before = extracted_in env r.args ++ called_in_iflets env r.iflets in
+    both_of all (rule_paths env r n) (rules_paths env rules (n + impure env r.rhs))
+    (both_of all (arg_paths r.args 0) (expr_paths env r.rhs (rule_places env r) n) (args_of all r.args 0)
+    (wider (called_by env r.rhs) all (expr_paths env r.rhs (rule_places env r) n)
+    (λ t d. Contains-append_left (called_in env r) (called env rules) t (Contains-append_right before (called_by env r.rhs) t d))
+    (expr_of r.rhs env (rule_places env r) n i.0 (args_argument env r.args 0 no_places (λ z. tt)))))
+    (wider (called env rules) all (rules_paths env rules (n + impure env r.rhs)) (λ t d. Contains-append_right (called_in env r) (called env rules) t d) (rules_of_called rules env (n + impure env r.rhs) i.1)) term qs k c
 
 -- ---- bindings
 
@@ -97,7 +113,7 @@ answers_each env m (binding.Constructor term parameters k ∷ bs) h = (h 0 term 
 answers_each env m (b ∷ bs) h = answers_each env m bs (λ i x ps j e. h (suc i) x ps j e)
 
 -- a meaning that is lawful for a term answers the calls of its rule set
-pub bindings_answered : (env : Environment) (id : TermId) (m : Meaning) (s : RuleSet) → StandsFor env s (rules_of env id) → IsLawful env id m → AnswersBindings env m s.bindings
-bindings_answered env id m s stands lawful = answers_each env m s.bindings (λ i term parameters k e.
+pub bindings_answered : (env : Environment) (id : TermId) (m : Meaning) (s : RuleSet) → StandsFor env s (rules_of env id) → AllByRecursion (IsImpureRule env.terms) (rules_of env id) → IsLawful env id m → AnswersBindings env m s.bindings
+bindings_answered env id m s stands impures lawful = answers_each env m s.bindings (λ i term parameters k e.
     let at_i = path_before s.bindings i (binding.Constructor term parameters k) e in
-    lawful.answers term (rules_of_called (rules_of env id) env 0 term _ k ((stands.paths _).0 (place_contained (paths_of s.bindings) i _ at_i))))
+    lawful.answers (constructed term) (rules_of_called (rules_of env id) env 0 impures term _ k ((stands.paths _).0 (place_contained (paths_of s.bindings) i _ at_i))))

@@ -11,6 +11,8 @@ use Rattle.isle_core.specs.Block.{Block}
 use Rattle.isle_core.specs.BlockLawful.{IsLawfulBlock}
 use Rattle.isle_core.specs.Rule.{Environment}
 use Rattle.isle_core.specs.Ready.{IsReady}
+use Rattle.isle_core.specs.Setting.{setting}
+use Rattle.isle_core.specs.SingleArms.{HasSingleArms}
 use Rattle.isle_tree.specs.Program.{Function}
 use Rattle.isle_emission.specs.TermFunction.{term_function}
 use Rattle.isle_codegen.specs.Emits.{MeansSet, CanEmit, IsEmitted, AreEmitted}
@@ -24,12 +26,13 @@ at_place ts i x t is e = slice_get-get_or ts i x (slice_get_within ts i t e) ∙
 
 -- the function of a block of the rule set is emitted for it
 pub is_emitted : (files : Files) (env : Environment) (id : TermId) (s : RuleSet) (t : Term) (b : Block) (f : Function) → CanEmit files env (id, s) → slice_get env.terms id.0 ≡ Some t
-    → ((u : Term) → IsReady env u s → IsLawfulBlock env u s.bindings [] b) → MeansSet env s b → f ≡ term_function files env t s.bindings b → IsEmitted files env id s f
-is_emitted files env id s t b f h there lawful means given = record {
+    → ((u : Term) → IsReady env u s → IsLawfulBlock (setting env u s.bindings) b) → HasSingleArms b → MeansSet env s b → f ≡ term_function files env t s.bindings b → IsEmitted files env id s f
+is_emitted files env id s t b f h there lawful single means given = record {
   term = h.term;
   there = h.there;
   block = b;
   lawful = lawful h.term h.ready;
+  single = single;
   means = means;
   given = given ∙ ap (λ (u : Term). term_function files env u s.bindings b) (some_one t h.term (sym there ∙ h.there));
 }

@@ -36,7 +36,7 @@ are_declared files env (s ∷ sets) (f ∷ fs) h = (
   record {
     term = h.0.term;
     there = h.0.there;
-    of_term = subst (IsOfTerm files env h.0.term) (sym h.0.given) (of_its_term files env h.0.term s.1.bindings h.0.block h.0.lawful);
+    of_term = subst (IsOfTerm files env h.0.term) (sym h.0.given) (of_its_term files env h.0.term s.1.bindings h.0.block h.0.lawful h.0.single);
   },
   are_declared files env sets fs h.1,
 )
@@ -51,7 +51,7 @@ are_well_formed : (files : Files) (env : Environment) (p : Program) (sets : List
 are_well_formed files env p [] [] same c h = tt
 are_well_formed files env p (s ∷ sets) (f ∷ fs) same c h =
     let e : IsEmittable env h.0.term = subst (IsEmittable env) (some_same c.0.term h.0.term (sym c.0.there ∙ h.0.there)) c.0.emittable in (
-      subst (IsFunction p) (sym h.0.given) (emitted_well_formed files env h.0.term s.1.bindings h.0.block e h.0.lawful c.0.fns p same),
+      subst (IsFunction p) (sym h.0.given) (emitted_well_formed files env h.0.term s.1.bindings h.0.block e h.0.lawful h.0.single c.0.fns p same),
       are_well_formed files env p sets fs same c.1 h.1,
     )
 are_well_formed files env p [] (f ∷ fs) same c h = absurd h

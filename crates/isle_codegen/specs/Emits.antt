@@ -1,5 +1,6 @@
 -- When functions are emitted for rule sets.
 use Rattle.std.specs.Prelude.{◌≡◌, List, [], ◌∷◌, Bool, Some, slice_get}
+use Rattle.isle_core.specs.declared.types.ReturnKind.{ReturnKind}
 use Rattle.isle_core.specs.declared.TermId.{TermId}
 use Rattle.isle_core.specs.declared.files.Files.{Files}
 use Rattle.isle_core.specs.declared.rule_sets.RuleSet.{RuleSet}
@@ -14,6 +15,8 @@ use Rattle.isle_core.specs.BlockLawful.{IsLawfulBlock}
 use Rattle.isle_core.specs.Places.{LiesIn}
 use Rattle.isle_core.specs.Rule.{Environment}
 use Rattle.isle_core.specs.Ready.{IsReady}
+use Rattle.isle_core.specs.Setting.{setting}
+use Rattle.isle_core.specs.SingleArms.{HasSingleArms}
 use Rattle.isle_tree.specs.Program.{Function}
 use Rattle.isle_emission.specs.TermFunction.{term_function}
 use Rattle.isle_emission.specs.Emitted.{IsEmittable}
@@ -31,14 +34,15 @@ pub record CanEmit (files : Files) (env : Environment) (s : TermId × RuleSet) :
 
 -- the block means the rule set
 abbrev pub MeansSet : Environment → RuleSet → Block → Type 0
-MeansSet env s b = (m : Meaning) (args : List Value) (partial : Bool) → block_outcome env m args (paths_of s.bindings) b partial ≡ set_outcome env m args (paths_of s.bindings) s.rules partial
+MeansSet env s b = (m : Meaning) (args : List Value) (kind : ReturnKind) → block_outcome env m args (paths_of s.bindings) b kind ≡ set_outcome env m args (paths_of s.bindings) s.rules kind
 
--- the function of the term, from a block that is lawful for its rule set and means it
+-- the function of the term, from a block that is lawful for its rule set, has one arm in each Match and means the set
 pub record IsEmitted (files : Files) (env : Environment) (id : TermId) (s : RuleSet) (f : Function) : Type 0 where
   pub term : Term
   pub there : slice_get env.terms id.0 ≡ Some term
   pub block : Block
-  pub lawful : IsLawfulBlock env term s.bindings [] block
+  pub lawful : IsLawfulBlock (setting env term s.bindings) block
+  pub single : HasSingleArms block
   pub means : MeansSet env s block
   pub given : f ≡ term_function files env term s.bindings block
 

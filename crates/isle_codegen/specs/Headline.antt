@@ -1,5 +1,5 @@
 -- What an emitted text is to the definitions that it was made from.
-use Rattle.std.specs.Prelude.{◌≡◌, ℕ, List, map, filter, Bool, Contains, slice_get, IsSomeAnd}
+use Rattle.std.specs.Prelude.{◌≡◌, ℕ, List, [], map, filter, Bool, Contains, slice_get, IsSomeAnd}
 use Rattle.isle_base.specs.declared.ids.TermId.{TermId}
 use Rattle.isle_core.specs.declared.types.Term.{Term}
 use Rattle.isle_core.specs.declared.options.CodegenOptions.{CodegenOptions}
@@ -8,7 +8,7 @@ use Rattle.isle_core.specs.Value.{Value, Made, Ran}
 use Rattle.isle_core.specs.Meaning.{Meaning}
 use Rattle.isle_core.specs.HasType.{HaveTypes}
 use Rattle.isle_core.specs.Lawful.{IsLawful}
-use Rattle.isle_core.specs.Outcome.{Prescription, Prescribed, is_partial}
+use Rattle.isle_core.specs.Outcome.{Prescription, Prescribed, kind_of}
 use Rattle.isle_core.specs.Rule.{Environment, rules_of}
 use Rattle.isle_core.specs.Terms.{with_rules, term_name, is_impure}
 use Rattle.isle_syntax.specs.Tree.{Def}
@@ -18,6 +18,7 @@ use Rattle.isle_target.specs.Reading.{SpellsOnly}
 use Rattle.isle_tree.specs.Run.{run}
 use Rattle.isle_codegen.specs.Emission.{IsFrame}
 use Rattle.isle_emission.specs.Ends.{end_of}
+use Rattle.isle_emission.specs.Partial.{is_partial}
 use Rattle.isle_emission.specs.OfTerm.{AreDeclared}
 
 -- the calls of impure terms
@@ -32,8 +33,8 @@ pub record GivesAs (env : Environment) (partial : Bool) (o : Prescription) (r : 
 -- the run of the term's function gives the one outcome that its rules prescribe
 pub record GivesOutcome (env : Environment) (p : Program) (id : TermId) (t : Term) (args : List Value) (m : Meaning) : Type 0 where
   pub outcome : Prescription
-  pub prescribed : Prescribed env m args (rules_of env id) (is_partial t.kind) outcome
-  pub only : (other : Prescription) → Prescribed env m args (rules_of env id) (is_partial t.kind) other → other ≡ outcome
+  pub prescribed : Prescribed env m args (rules_of env id) (kind_of t.kind) [] outcome
+  pub only : (other : Prescription) → Prescribed env m args (rules_of env id) (kind_of t.kind) [] other → other ≡ outcome
   pub given : IsSomeAnd (run p (term_name env id) args m) (GivesAs env (is_partial t.kind) outcome)
 
 -- it does so on all well-typed arguments and under every lawful meaning

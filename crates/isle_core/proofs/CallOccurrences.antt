@@ -8,7 +8,9 @@ use Rattle.isle_core.specs.Calling.{Calling, ByTurns, ByCases, NoCall, calling, 
 use Rattle.isle_core.specs.Expr as expr
 use Rattle.isle_core.specs.Expr.{Expr, Exprs, NoExpr, AnExpr}
 use Rattle.isle_core.specs.Path.{Path, Called, Paths}
-use Rattle.isle_core.specs.Tests.{Places, paths, if_ordered, calls, calls_all}
+use Rattle.isle_core.specs.OrderedCalls.{if_ordered, calls, calls_all}
+use Rattle.isle_core.specs.RightSide.{paths}
+use Rattle.isle_core.specs.Tests.{Places}
 use Rattle.isle_core.specs.StandsFor.{AreFirsts, no_more, again, first}
 use Rattle.isle_core.specs.Rule.{Environment}
 use Rattle.isle_core.proofs.Contained.{contained_cases, none_contained}
@@ -26,11 +28,11 @@ AreRising n (p ∷ ps) = (occurrence p ≡ suc n) × AreRising (suc n) ps
 
 term_rising : (c : Calling) (m : Meaning) (n k : ℕ) (term : TermId) (ps : Paths) (cs more : List Path) → TakesTurns m c → ((after : List Path) → AreRising (n + k) after → AreRising n (cs ++ after)) → AreRising (n + one_more c k) more
     → AreRising n ((cs ++ if_ordered c (Called term ps (instance_of c (n + k)))) ++ more)
-term_rising (ByTurns callee partial) m n k term ps cs more t h r =
+term_rising (ByTurns callee kind) m n k term ps cs more t h r =
     let p = Called term ps (suc (n + k)) in
     let last : n + suc k ≡ suc (n + k) = omega arith in
     subst (AreRising n) (sym (append_assoc cs (p ∷ []) more)) (h (p ∷ more) (refl, subst (λ j. AreRising j more) last r))
-term_rising (ByCases callee partial) m n k term ps cs more t h r = absurd t
+term_rising (ByCases callee kind) m n k term ps cs more t h r = absurd t
 term_rising NoCall m n k term ps cs more t h r = absurd t
 
 none_rising : (n : ℕ) (more : List Path) → AreRising (n + 0) more → AreRising n more

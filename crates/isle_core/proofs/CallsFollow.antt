@@ -4,17 +4,21 @@ use Rattle.std.proofs.Math.Dec.{eqb_refl}
 use Rattle.std.proofs.lemmas.Bool.{ne_eqb}
 use Rattle.isle_base.specs.declared.ids.TermId.{TermId}
 use Rattle.isle_core.specs.declared.values.Callee.{Callee}
+use Rattle.isle_core.specs.declared.types.ReturnKind.{ReturnKind}
+use Rattle.isle_core.specs.declared.types.ReturnKind.TheVariants as return_kind
 use Rattle.isle_core.specs.Value.{Value, Answer, Made}
 use Rattle.isle_core.specs.Meaning.{Meaning, turn}
 use Rattle.isle_core.specs.Answered.{Held, One, answer_held}
-use Rattle.isle_core.specs.Calling.{Calling, ByTurns, ByCases, NoCall, calling, is_fallible, instance_of, one_more, impure, impure_all}
+use Rattle.isle_core.specs.Calling.{Calling, ByTurns, ByCases, NoCall, calling, may_be_nothing, is_fallible, instance_of, one_more, impure, impure_all}
 use Rattle.isle_core.specs.Expr as expr
 use Rattle.isle_core.specs.Expr.{Expr, Exprs, NoExpr, AnExpr}
 use Rattle.isle_core.specs.Match.{Names, with}
 use Rattle.isle_core.specs.Eval.{Evaluated, Answered, Failed, EvaluatedAll, AllAnswered, OneFailed, named, then_all, before, then_one, answered, called_with, evaluated, evaluated_all}
 use Rattle.isle_core.specs.Outcome.{Failure}
 use Rattle.isle_core.specs.Path.{Path, Called, Paths, APath}
-use Rattle.isle_core.specs.Tests.{Places, path_or, answer_path, path, paths, if_ordered, calls, calls_all}
+use Rattle.isle_core.specs.OrderedCalls.{if_ordered, calls, calls_all}
+use Rattle.isle_core.specs.RightSide.{path_or, answer_path, path, paths}
+use Rattle.isle_core.specs.Tests.{Places}
 use Rattle.isle_core.specs.Held.{Known, held_of, inner_held, value_before, call_held, value_at, values_at}
 use Rattle.isle_core.specs.CallRun.{Went, Goes, Ends, then_go, take_turn, make_call, check_call, unless_nothing, run_call, run_calls}
 use Rattle.isle_core.specs.Rule.{Environment}
@@ -121,16 +125,17 @@ with_else : (known : Known) (k j : ℕ) (a : Answer) → (k ≡ j → ⊥) → w
 with_else known k j a ne = ap (λ b. cond b (Some a) (known j)) (ne_eqb k j ne)
 
 -- an answer of the term's kind gives a value, or it is nothing
-answer_follows : (env : Environment) (m : Meaning) (args : List Value) (n n' : ℕ) (known known' : Known) (made : List Made) (callee : Callee) (p : Path) (partial : Bool) (h : Held) → IsOfKind partial h → value_at env m args known' p ≡ h → Kept n known known' → Fresh n' known'
-    → Follows env m args n n' known (answer_path (ByTurns callee partial) p) (answered h made) (cond partial (unless_nothing h known' made) (Goes known' made))
-answer_follows env m args n n' known known' made callee p false h (v, e) is k f = rw e (record { held = is ∙ e; kept = k; fresh = f }, refl)
-answer_follows env m args n n' known known' made callee p true h (None, e) is k f = rw e refl
-answer_follows env m args n n' known known' made callee p true h (Some v, e) is k f = rw e (record { held = ap inner_held (is ∙ e); kept = k; fresh = f }, refl)
+answer_follows : (env : Environment) (m : Meaning) (args : List Value) (n n' : ℕ) (known known' : Known) (made : List Made) (callee : Callee) (p : Path) (kind : ReturnKind) (h : Held) → IsOfKind kind h → value_at env m args known' p ≡ h → Kept n known known' → Fresh n' known'
+    → Follows env m args n n' known (answer_path (ByTurns callee kind) p) (answered h made) (cond (may_be_nothing kind) (unless_nothing h known' made) (Goes known' made))
+answer_follows env m args n n' known known' made callee p return_kind.Plain h (v, e) is k f = rw e (record { held = is ∙ e; kept = k; fresh = f }, refl)
+answer_follows env m args n n' known known' made callee p return_kind.Option h (None, e) is k f = rw e refl
+answer_follows env m args n n' known known' made callee p return_kind.Option h (Some v, e) is k f = rw e (record { held = ap inner_held (is ∙ e); kept = k; fresh = f }, refl)
+answer_follows env m args n n' known known' made callee p return_kind.Iterator h i is k f = absurd i
 
-turn_follows : (env : Environment) (m : Meaning) (args : List Value) (n n' : ℕ) (known : Known) (made : List Made) (term : TermId) (ps : Paths) (callee : Callee) (partial : Bool) (vs : List Value) → calling env term ≡ ByTurns callee partial → n' ≡ suc n → IsOfKind partial (answer_held (turn m callee made)) → Fresh n known
+turn_follows : (env : Environment) (m : Meaning) (args : List Value) (n n' : ℕ) (known : Known) (made : List Made) (term : TermId) (ps : Paths) (callee : Callee) (kind : ReturnKind) (vs : List Value) → calling env term ≡ ByTurns callee kind → n' ≡ suc n → IsOfKind kind (answer_held (turn m callee made)) → Fresh n known
     → values_at env m args known ps ≡ Some vs
-    → Follows env m args n n' known (answer_path (ByTurns callee partial) (Called term ps (suc n))) (called_with m (ByTurns callee partial) vs made) (run_call env m args (Called term ps (suc n)) known made)
-turn_follows env m args n n' known made term ps callee partial vs e next kind fr is =
+    → Follows env m args n n' known (answer_path (ByTurns callee kind) (Called term ps (suc n))) (called_with m (ByTurns callee kind) vs made) (run_call env m args (Called term ps (suc n)) known made)
+turn_follows env m args n n' known made term ps callee kind vs e next of_kind fr is =
     let a = turn m callee made in
     let known' = with known (suc n) a in
     let made' = made ++ record { callee = callee; args = vs } ∷ [] in
@@ -140,27 +145,27 @@ turn_follows env m args n n' known made term ps callee partial vs e next kind fr
     ap (λ c. then_go (make_call m c (suc n) (values_at env m args known ps) known made) (check_call env m args p)) e
     ∙ ap (λ o. then_go (take_turn m callee (suc n) (known (suc n)) o known made) (check_call env m args p)) is
     ∙ ap (λ o. then_go (take_turn m callee (suc n) o (Some vs) known made) (check_call env m args p)) (fr.by (suc n) (omega arith)) in
-    let checked : check_call env m args p known' made' ≡ cond partial (unless_nothing (answer_held a) known' made') (Goes known' made') =
+    let checked : check_call env m args p known' made' ≡ cond (may_be_nothing kind) (unless_nothing (answer_held a) known' made') (Goes known' made') =
     ap (λ c. cond (is_fallible c) (unless_nothing (call_held m c (known' (suc n)) (values_at env m args known' ps)) known' made') (Goes known' made')) e
-    ∙ ap (λ o. cond partial (unless_nothing (held_of o) known' made') (Goes known' made')) here in
+    ∙ ap (λ o. cond (may_be_nothing kind) (unless_nothing (held_of o) known' made') (Goes known' made')) here in
     let held : value_at env m args known' p ≡ answer_held a = ap (λ c. call_held m c (known' (suc n)) (values_at env m args known' ps)) e ∙ ap held_of here in
-    subst (λ f. Follows env m args n n' known (answer_path (ByTurns callee partial) p) (called_with m (ByTurns callee partial) vs made) f) (sym (made_now ∙ checked))
-    (answer_follows env m args n n' known known' made' callee p partial (answer_held a) kind held
+    subst (λ f. Follows env m args n n' known (answer_path (ByTurns callee kind) p) (called_with m (ByTurns callee kind) vs made) f) (sym (made_now ∙ checked))
+    (answer_follows env m args n n' known known' made' callee p kind (answer_held a) of_kind held
     (record { by = λ j low. with_else known (suc n) j a (λ (q : suc n ≡ j). let bad : ⊥ = omega arith in bad) })
     (record { by = λ j lt. with_else known (suc n) j a (λ (q : suc n ≡ j). let bad : ⊥ = omega arith in bad) ∙ fr.by j (omega arith) }))
 
 -- the calls of the arguments, then that of the term
 term_follows : (c : Calling) (env : Environment) (m : Meaning) (args : List Value) (n k : ℕ) (known : Known) (made : List Made) (term : TermId) (ps : Paths) (cs : List Path) (r : EvaluatedAll) → calling env term ≡ c → TakesTurns m c → FollowsAll env m args n (n + k) known ps r (run_calls env m args cs known made)
     → Follows env m args n (n + one_more c k) known (answer_path c (Called term ps (instance_of c (n + k)))) (then_one r (called_with m c)) (run_calls env m args (cs ++ if_ordered c (Called term ps (instance_of c (n + k)))) known made)
-term_follows (ByTurns callee partial) env m args n k known made term ps cs r e t h =
-    let c = ByTurns callee partial in
+term_follows (ByTurns callee kind) env m args n k known made term ps cs r e t h =
+    let c = ByTurns callee kind in
     let p = Called term ps (suc (n + k)) in
     let le : n ≤ n + k = omega arith in
     let last : n + suc k ≡ suc (n + k) = omega arith in
     subst (λ f. Follows env m args n (n + suc k) known (answer_path c p) (then_one r (called_with m c)) f) (sym (run_last env m args cs p known made))
     (args_follow env m args n (n + k) (n + suc k) known ps (answer_path c p) r (run_calls env m args cs known made) (called_with m c) (run_call env m args p) le h
-    (λ vs known' made' a. turn_follows env m args (n + k) (n + suc k) known' made' term ps callee partial vs e last (t made') a.fresh a.held))
-term_follows (ByCases callee partial) env m args n k known made term ps cs r e t h = absurd t
+    (λ vs known' made' a. turn_follows env m args (n + k) (n + suc k) known' made' term ps callee kind vs e last (t made') a.fresh a.held))
+term_follows (ByCases callee kind) env m args n k known made term ps cs r e t h = absurd t
 term_follows NoCall env m args n k known made term ps cs r e t h = absurd t
 
 -- ---- expressions

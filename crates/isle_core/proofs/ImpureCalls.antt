@@ -8,10 +8,11 @@ use Rattle.isle_base.specs.declared.ids.TermId.{TermId}
 use Rattle.isle_core.specs.declared.types.Term.{Term}
 use Rattle.isle_core.specs.declared.values.Callee.{Callee}
 use Rattle.isle_core.specs.declared.values.Callee.TheVariants.{External, Internal}
+use Rattle.isle_core.specs.declared.types.ReturnKind.{ReturnKind}
 use Rattle.isle_core.specs.Value.{Value, Made}
 use Rattle.isle_core.specs.Answered.{Held, Absent, One, Optional, answer_held}
 use Rattle.isle_core.specs.Meaning.{Meaning, turn, case}
-use Rattle.isle_core.specs.Calling.{Calling, ByTurns, ByCases, NoCall, calling, calling_of, calling_by, pure_callee, is_partial}
+use Rattle.isle_core.specs.Calling.{Calling, ByTurns, ByCases, NoCall, calling, calling_of, calling_by, pure_callee, kind_of}
 use Rattle.isle_core.specs.Match.{Names}
 use Rattle.isle_core.specs.Expr as expr
 use Rattle.isle_core.specs.Expr.{Expr, Exprs, NoExpr, AnExpr}
@@ -32,7 +33,7 @@ one_more env (d ∷ made) c h k = (h.0, one_more env made c h.1 k)
 same_bytes : (xs : List ℕ) → bytes_eq xs xs ≡ true
 same_bytes xs = (bytes_eq-Decides xs xs).1 refl
 
-goes_there : (callee : Callee) → goes_to callee (Some callee) ≡ true
+pub goes_there : (callee : Callee) → goes_to callee (Some callee) ≡ true
 goes_there (External name) = same_bytes name
 goes_there (Internal name) = same_bytes name
 
@@ -50,19 +51,19 @@ any_there env callee (u ∷ ts) zero t e h =
     ap (λ b. b || list_any (λ (x : Term). goes_to callee (impure_callee env x x.kind)) ts) here
 any_there env callee (u ∷ ts) (suc i) t e h = or_true (goes_to callee (impure_callee env u u.kind)) _ (any_there env callee ts i t e h)
 
-by_turns : (partial : Bool) (o p : Option Callee) (callee : Callee) (b : Bool) → calling_by partial o p ≡ ByTurns callee b → o ≡ Some callee
-by_turns partial (Some c) p callee b e = cc
-by_turns partial None (Some c) callee b e = cc
-by_turns partial None None callee b e = cc
+by_turns : (kind : ReturnKind) (o p : Option Callee) (callee : Callee) (other : ReturnKind) → calling_by kind o p ≡ ByTurns callee other → o ≡ Some callee
+by_turns kind (Some c) p callee b e = cc
+by_turns kind None (Some c) callee b e = cc
+by_turns kind None None callee b e = cc
 
 -- what takes turns is impure
-turned_impure : (env : Environment) (term : TermId) (callee : Callee) (partial : Bool) → calling env term ≡ ByTurns callee partial → is_impure env callee ≡ true
-turned_impure env term callee partial e = one (slice_get env.terms term.0) refl
+turned_impure : (env : Environment) (term : TermId) (callee : Callee) (kind : ReturnKind) → calling env term ≡ ByTurns callee kind → is_impure env callee ≡ true
+turned_impure env term callee kind e = one (slice_get env.terms term.0) refl
   where
     one : (o : Option Term) → slice_get env.terms term.0 ≡ o → is_impure env callee ≡ true
-    one None at_term = let bad : NoCall ≡ ByTurns callee partial = sym (ap (calling_of env) at_term) ∙ e in cc
+    one None at_term = let bad : NoCall ≡ ByTurns callee kind = sym (ap (calling_of env) at_term) ∙ e in cc
     one (Some t) at_term =
-        let goes = by_turns (is_partial t.kind) (impure_callee env t t.kind) (pure_callee env t t.kind) callee partial (sym (ap (calling_of env) at_term) ∙ e) in
+        let goes = by_turns (kind_of t.kind) (impure_callee env t t.kind) (pure_callee env t t.kind) callee kind (sym (ap (calling_of env) at_term) ∙ e) in
         any_there env callee env.terms term.0 t at_term (ap (goes_to callee) goes ∙ goes_there callee)
 
 -- ---- evaluation
@@ -87,10 +88,10 @@ answered_impure env (Optional (Some v)) made k = k
 answered_impure env (Optional None) made k = k
 answered_impure env Absent made k = k
 
-called_impure : (env : Environment) (m : Meaning) (c : Calling) (vs : List Value) (made : List Made) → ((callee : Callee) (partial : Bool) → c ≡ ByTurns callee partial → is_impure env callee ≡ true) → AreImpure env made → AreImpure env (calls_in (called_with m c vs made))
+called_impure : (env : Environment) (m : Meaning) (c : Calling) (vs : List Value) (made : List Made) → ((callee : Callee) (kind : ReturnKind) → c ≡ ByTurns callee kind → is_impure env callee ≡ true) → AreImpure env made → AreImpure env (calls_in (called_with m c vs made))
 unfolding calls_in
-called_impure env m (ByTurns callee partial) vs made h k = answered_impure env (answer_held (turn m callee made)) (made ++ record { callee = callee; args = vs } ∷ []) (one_more env made (record { callee = callee; args = vs }) k (h callee partial refl))
-called_impure env m (ByCases callee partial) vs made h k = answered_impure env (answer_held (case m callee vs)) made k
+called_impure env m (ByTurns callee kind) vs made h k = answered_impure env (answer_held (turn m callee made)) (made ++ record { callee = callee; args = vs } ∷ []) (one_more env made (record { callee = callee; args = vs }) k (h callee kind refl))
+called_impure env m (ByCases callee kind) vs made h k = answered_impure env (answer_held (case m callee vs)) made k
 called_impure env m NoCall vs made h k = k
 
 then_impure : (env : Environment) (r : EvaluatedAll) (go : List Value → List Made → Evaluated) → AreImpure env (calls_in_all r) → ((vs : List Value) (made : List Made) → AreImpure env made → AreImpure env (calls_in (go vs made))) → AreImpure env (calls_in (then_one r go))
@@ -132,13 +133,13 @@ unfolding calls_in
 prescribed_impure env (Answered v made) h = h
 prescribed_impure env (Failed made) h = h
 
-given_impure : (env : Environment) (m : Meaning) (partial : Bool) (o : Option (Rule × Names)) → AreImpure env (given_by env m partial o).calls
-given_impure env m partial None = tt
-given_impure env m partial (Some o) = prescribed_impure env (evaluated env m o.0.rhs o.1 []) (expr_impure o.0.rhs env m o.1 [] tt)
+given_impure : (env : Environment) (m : Meaning) (kind : ReturnKind) (o : Option (Rule × Names)) (made : List Made) → AreImpure env made → AreImpure env (given_by env m kind o made).calls
+given_impure env m kind None made h = h
+given_impure env m kind (Some o) made h = prescribed_impure env (evaluated env m o.0.rhs o.1 made) (expr_impure o.0.rhs env m o.1 made h)
 
--- the calls of an outcome
-pub outcome_impure : (env : Environment) (m : Meaning) (args : List Value) (rules : List Rule) (partial : Bool) → AreImpure env (outcome_of env m args rules partial).calls
-outcome_impure env m args rules partial = given_impure env m partial (highest_match env m args rules)
+-- the calls of an outcome, where those made before are
+pub outcome_impure : (env : Environment) (m : Meaning) (args : List Value) (rules : List Rule) (kind : ReturnKind) (made : List Made) → AreImpure env made → AreImpure env (outcome_of env m args rules kind made).calls
+outcome_impure env m args rules kind made h = given_impure env m kind (highest_match env m args rules) made h
 
 -- none of them is left out
 pub all_kept : (env : Environment) (calls : List Made) → AreImpure env calls → filter (λ (c : Made). is_impure env c.callee) calls ≡ calls

@@ -4,6 +4,7 @@ use Rattle.std.proofs.lemmas.Bool.{eqb-true}
 use Rattle.isle_core.specs.Pattern.{Pattern, Var}
 use Rattle.isle_core.specs.Path.{Path, Arg}
 use Rattle.isle_core.specs.Tests.{Places, met_after, after, args_after}
+use Rattle.isle_core.specs.Rule.{Environment}
 
 met_keeps : (o : Option Path) (x y : ℕ) (p q : Path) (places : Places) → places x ≡ o → places y ≡ Some q → met_after o x p places y ≡ Some q
 met_keeps (Some r) x y p q places e h = h
@@ -13,11 +14,11 @@ met_keeps None x y p q places e h = pick (eqb x y) refl
     pick true t = let same : x ≡ y = eqb-true x y t in let bad : None ≡ Some q = sym e ∙ ap places same ∙ h in cc
     pick false t = h
 
-after_keeps : (r : Pattern) (p : Path) (places : Places) (y : ℕ) (q : Path) → places y ≡ Some q → after r p places y ≡ Some q
-after_keeps (Var ty x) p places y q h = met_keeps (places x.0) x.0 y p q places refl h
-after_keeps r p places y q h = h
+after_keeps : (env : Environment) (r : Pattern) (p : Path) (places : Places) (y : ℕ) (q : Path) → places y ≡ Some q → after env r p places y ≡ Some q
+after_keeps env (Var ty x) p places y q h = met_keeps (places x.0) x.0 y p q places refl h
+after_keeps env r p places y q h = h
 
 -- a place stays behind more patterns
-pub args_keep : (qs : List Pattern) (n : ℕ) (places : Places) (y : ℕ) (q : Path) → places y ≡ Some q → args_after qs n places y ≡ Some q
-args_keep [] n places y q h = h
-args_keep (r ∷ qs) n places y q h = args_keep qs (suc n) (after r (Arg n) places) y q (after_keeps r (Arg n) places y q h)
+pub args_keep : (env : Environment) (qs : List Pattern) (n : ℕ) (places : Places) (y : ℕ) (q : Path) → places y ≡ Some q → args_after env qs n places y ≡ Some q
+args_keep env [] n places y q h = h
+args_keep env (r ∷ qs) n places y q h = args_keep env qs (suc n) (after env r (Arg n) places) y q (after_keeps env r (Arg n) places y q h)

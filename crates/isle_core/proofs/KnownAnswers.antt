@@ -8,7 +8,8 @@ use Rattle.isle_core.specs.Expr as expr
 use Rattle.isle_core.specs.Expr.{Expr, Exprs, NoExpr, AnExpr}
 use Rattle.isle_core.specs.Match.{Names}
 use Rattle.isle_core.specs.Path.{Path, Arg, Called, Inner, Paths, NoPath, APath}
-use Rattle.isle_core.specs.Tests.{Places, no_places, met_after, after, args_after, path_or, call_path, answer_path, path, paths}
+use Rattle.isle_core.specs.RightSide.{path_or, call_path, answer_path, path, paths}
+use Rattle.isle_core.specs.Tests.{Places, no_places, met_after, after, args_after}
 use Rattle.isle_core.specs.Held.{Known, nothing_known, inner_held, value_before, call_held, value_at, values_at}
 use Rattle.isle_core.specs.Rule.{Environment}
 use Rattle.isle_core.proofs.PatternTests.{StandsAt, Agree}
@@ -108,14 +109,14 @@ met_up_to : (o : Option Path) (n x i : ℕ) (places : Places) → PlacesUpTo n p
 met_up_to None n x i places b = record { by = λ y. place_with (eqb x y) n (Arg i) (places y) tt (b.by y) }
 met_up_to (Some q) n x i places b = b
 
-after_up_to : (q : Pattern) (n i : ℕ) (places : Places) → PlacesUpTo n places → PlacesUpTo n (after q (Arg i) places)
-after_up_to (Var ty x) n i places b = met_up_to (places x.0) n x.0 i places b
-after_up_to q n i places b = b
+after_up_to : (env : Environment) (q : Pattern) (n i : ℕ) (places : Places) → PlacesUpTo n places → PlacesUpTo n (after env q (Arg i) places)
+after_up_to env (Var ty x) n i places b = met_up_to (places x.0) n x.0 i places b
+after_up_to env q n i places b = b
 
 -- those of a rule's patterns stand on no call
-pub args_up_to : (qs : List Pattern) (n i : ℕ) (places : Places) → PlacesUpTo n places → PlacesUpTo n (args_after qs i places)
-args_up_to [] n i places b = b
-args_up_to (q ∷ qs) n i places b = args_up_to qs n (suc i) (after q (Arg i) places) (after_up_to q n i places b)
+pub args_up_to : (env : Environment) (qs : List Pattern) (n i : ℕ) (places : Places) → PlacesUpTo n places → PlacesUpTo n (args_after env qs i places)
+args_up_to env [] n i places b = b
+args_up_to env (q ∷ qs) n i places b = args_up_to env qs n (suc i) (after env q (Arg i) places) (after_up_to env q n i places b)
 
 -- before all patterns there is no place
 pub none_up_to : (n : ℕ) → PlacesUpTo n no_places
@@ -141,18 +142,18 @@ answer_up_to c n p b = pick (is_fallible c)
     pick false = b
 
 instance_up_to : (c : Calling) (n : ℕ) → instance_of c n ≤ one_more c n
-instance_up_to (ByTurns callee partial) n = omega arith
-instance_up_to (ByCases callee partial) n = omega arith
+instance_up_to (ByTurns callee kind) n = omega arith
+instance_up_to (ByCases callee kind) n = omega arith
 instance_up_to NoCall n = omega arith
 
 one_more_up : (c : Calling) (n k : ℕ) → one_more c (n + k) ≡ n + one_more c k
-one_more_up (ByTurns callee partial) n k = omega arith
-one_more_up (ByCases callee partial) n k = refl
+one_more_up (ByTurns callee kind) n k = omega arith
+one_more_up (ByCases callee kind) n k = refl
 one_more_up NoCall n k = refl
 
 less_one : (c : Calling) (n : ℕ) → n ≤ one_more c n
-less_one (ByTurns callee partial) n = omega arith
-less_one (ByCases callee partial) n = omega arith
+less_one (ByTurns callee kind) n = omega arith
+less_one (ByCases callee kind) n = omega arith
 less_one NoCall n = omega arith
 
 mutual

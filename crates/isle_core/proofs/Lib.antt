@@ -2,6 +2,7 @@ pub mod OutcomeOnce
 pub mod Prefixes
 pub mod InputLaws
 pub mod SameValueLaws
+pub mod RunEquality
 pub mod Contained
 pub mod OutcomeOf
 pub mod PatternTests
@@ -12,8 +13,13 @@ pub mod KnownAnswers
 pub mod CallsFollow
 pub mod CallOccurrences
 pub mod PlacedVariables
+pub mod ScopeLaws
 pub mod SetMeans
 pub mod AnsweredByTurn
 pub mod SeesRules
 pub mod SeesBlocks
 pub mod ImpureCalls
+pub mod ListLaws
+pub mod Entries
+pub mod LawfulExists
+pub mod Inhabited

@@ -5,7 +5,8 @@ use Rattle.std.specs.declared.cmp.Ordering.TheVariants.{Less, Equal, Greater}
 use Rattle.std.specs.Ordering.{int_cmp, is_lt, MatchOrdering}
 use Rattle.std.specs.Cmp.{int_ranks}
 use Rattle.std.proofs.lemmas.Int.{ints}
-use Rattle.isle_core.specs.Value.{Value}
+use Rattle.isle_core.specs.declared.types.ReturnKind.{ReturnKind}
+use Rattle.isle_core.specs.Value.{Value, Made}
 use Rattle.isle_core.specs.Meaning.{Meaning}
 use Rattle.isle_core.specs.Match.{Names}
 use Rattle.isle_core.specs.Outcome.{Prescribed, no_rule, one_rule, IsHighest, NoneMatches, rule_names}
@@ -88,14 +89,14 @@ highest_of env m args rules o e h t = record {
   above = λ q others c f. ⊎_elim (λ p. inl (h.one o.0 q o.1 others e c f p)) (λ p. inr p) (lower q.prio o.0.prio (t.above q others c f));
 }
 
-prescribed_by : (env : Environment) (m : Meaning) (args : List Value) (rules : List Rule) (partial : Bool) (o : Option (Rule × Names)) → highest_match env m args rules ≡ o → HighestIsOne env m args rules → Found env m args rules o
-    → Prescribed env m args rules partial (given_by env m partial o)
-prescribed_by env m args rules partial None e h f = no_rule f
-prescribed_by env m args rules partial (Some o) e h f = one_rule o.0 o.1 (highest_of env m args rules o e h f)
+prescribed_by : (env : Environment) (m : Meaning) (args : List Value) (rules : List Rule) (kind : ReturnKind) (made : List Made) (o : Option (Rule × Names)) → highest_match env m args rules ≡ o → HighestIsOne env m args rules → Found env m args rules o
+    → Prescribed env m args rules kind made (given_by env m kind o made)
+prescribed_by env m args rules kind made None e h f = no_rule f
+prescribed_by env m args rules kind made (Some o) e h f = one_rule o.0 o.1 (highest_of env m args rules o e h f)
 
 -- what the highest rule gives is prescribed, where no other has its priority
-pub outcome_prescribed : (env : Environment) (m : Meaning) (args : List Value) (rules : List Rule) (partial : Bool) → HighestIsOne env m args rules → Prescribed env m args rules partial (outcome_of env m args rules partial)
-outcome_prescribed env m args rules partial h = prescribed_by env m args rules partial (highest_match env m args rules) refl h (found env m args rules)
+pub outcome_prescribed : (env : Environment) (m : Meaning) (args : List Value) (rules : List Rule) (kind : ReturnKind) (made : List Made) → HighestIsOne env m args rules → Prescribed env m args rules kind made (outcome_of env m args rules kind made)
+outcome_prescribed env m args rules kind made h = prescribed_by env m args rules kind made (highest_match env m args rules) refl h (found env m args rules)
 
 -- two rules of a list of at most one are one
 only_rule : (rules : List Rule) (r q : Rule) → length rules ≤ 1 → Contains rules r → Contains rules q → q ≡ r
@@ -110,7 +111,7 @@ tops_among env m args rules o None e f = cc
 tops_among env m args rules o (Some p) e f = subst (λ (x : Rule × Names). Contains rules x.0) (some_pair p o e) f.among
 
 -- of at most one rule it always is
-pub outcome_of_one : (env : Environment) (m : Meaning) (args : List Value) (rules : List Rule) (partial : Bool) → length rules ≤ 1 → Prescribed env m args rules partial (outcome_of env m args rules partial)
-outcome_of_one env m args rules partial le =
-    outcome_prescribed env m args rules partial
+pub outcome_of_one : (env : Environment) (m : Meaning) (args : List Value) (rules : List Rule) (kind : ReturnKind) (made : List Made) → length rules ≤ 1 → Prescribed env m args rules kind made (outcome_of env m args rules kind made)
+outcome_of_one env m args rules kind made le =
+    outcome_prescribed env m args rules kind made
     (record { one = λ r q names others e c f p. only_rule rules r q le (tops_among env m args rules (r, names) (highest_match env m args rules) e (found env m args rules)) c })

@@ -1,8 +1,9 @@
 -- The rules of a term prescribe at most one outcome.
-use Rattle.std.proofs.Common.{◌≡◌, ℤ, List, Bool, Some, None, [], refl, sym, ap, ◌∙◌, ⊎_elim, arith}
+use Rattle.std.proofs.Common.{◌≡◌, ℤ, List, Bool, Some, None, refl, sym, ap, ◌∙◌, ⊎_elim, arith}
 use Rattle.std.specs.Prelude.{◌<ℤ◌}
 use Rattle.std.proofs.lemmas.Int.{ints}
-use Rattle.isle_core.specs.Value.{Value}
+use Rattle.isle_core.specs.declared.types.ReturnKind.{ReturnKind}
+use Rattle.isle_core.specs.Value.{Value, Made}
 use Rattle.isle_core.specs.Meaning.{Meaning}
 use Rattle.isle_core.specs.Match.{Names}
 use Rattle.isle_core.specs.Eval.{evaluated}
@@ -27,12 +28,12 @@ none_some : (a : Names) → None ≡ Some a → ⊥
 none_some a e = cc
 
 -- at most one outcome is prescribed
-pub prescribed_once : {env : Environment} {m : Meaning} {args : List Value} {rules : List Rule} {partial : Bool} {o p : Prescription}
-    → Prescribed env m args rules partial o → Prescribed env m args rules partial p → o ≡ p
+pub prescribed_once : {env : Environment} {m : Meaning} {args : List Value} {rules : List Rule} {kind : ReturnKind} {made : List Made} {o p : Prescription}
+    → Prescribed env m args rules kind made o → Prescribed env m args rules kind made p → o ≡ p
 prescribed_once (no_rule h) (no_rule k) = refl
 prescribed_once (no_rule h) (one_rule r names k) = absurd (none_some names (sym (h r k.among) ∙ k.matched))
 prescribed_once (one_rule r names h) (no_rule k) = absurd (none_some names (sym (k r h.among) ∙ h.matched))
-prescribed_once {env = env} {m = m} {args = args} (one_rule r names h) (one_rule q others k) =
+prescribed_once {env = env} {m = m} {args = args} {made = made} (one_rule r names h) (one_rule q others k) =
     let e : q ≡ r = same_rule h k in
     let n : names ≡ others = some_names names others (sym h.matched ∙ ap (rule_names env m args) (sym e) ∙ k.matched) in
-    ap (λ (x : Rule). prescription_of (evaluated env m x.rhs names [])) (sym e) ∙ ap (λ (x : Names). prescription_of (evaluated env m q.rhs x [])) n
+    ap (λ (x : Rule). prescription_of (evaluated env m x.rhs names made)) (sym e) ∙ ap (λ (x : Names). prescription_of (evaluated env m q.rhs x made)) n

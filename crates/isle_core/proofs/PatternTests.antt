@@ -64,7 +64,7 @@ met_both env val None (Some q) x v p names places h e a = absurd h
 met_both env val (Some u) None x v p names places h e a = absurd h
 
 pattern_both : (p : Pattern) (env : Environment) (m : Meaning) (val : Values) (at : Path) (v : Value) (names : Names) (places : Places) → IsBuiltPattern p → val at ≡ One v → Agree val names places
-    → Both val (matches env m p v names) (all_hold env val (tests p at places)) (after p at places)
+    → Both val (matches env m p v names) (all_hold env val (tests env p at places)) (after env p at places)
 pattern_both (Var ty x) env m val at v names places h e a = met_both env val (names x.0) (places x.0) x.0 v at names places (a.by x.0) e a
 pattern_both (ConstBool b) env m val at v names places h e a = both_test val (same_value v (Truth b)) (meets env (constraint.ConstBool b) (val at)) names places (rw e refl) a
 pattern_both (ConstInt ty n) env m val at v names places h e a = both_test val (same_value v (int_value env ty n)) (meets env (constraint.ConstInt n ty) (val at)) names places (rw e refl) a
@@ -73,13 +73,13 @@ pattern_both p env m val at v names places h e a = absurd h
 
 -- patterns against the arguments from the i-th on
 pub patterns_both : (qs : List Pattern) (vs : List Value) (env : Environment) (m : Meaning) (val : Values) (i : ℕ) (names : Names) (places : Places) → AllByRecursion IsBuiltPattern qs → length qs ≡ length vs
-    → ((j : ℕ) → val (Arg (j + i)) ≡ held (slice_get vs j)) → Agree val names places → Both val (matches_all env m qs vs names) (all_hold env val (args_tests qs i places)) (args_after qs i places)
+    → ((j : ℕ) → val (Arg (j + i)) ≡ held (slice_get vs j)) → Agree val names places → Both val (matches_all env m qs vs names) (all_hold env val (args_tests env qs i places)) (args_after env qs i places)
 patterns_both [] [] env m val i names places h l e a = (refl, a)
 patterns_both (q ∷ qs) (v ∷ vs) env m val i names places h l e a =
-    subst (λ b. Both val (matches_all env m (q ∷ qs) (v ∷ vs) names) b (args_after (q ∷ qs) i places)) (sym (list_all-append (holds env val) (tests q (Arg i) places) (args_tests qs (suc i) (after q (Arg i) places))))
-    (both_then val (matches env m q v names) (all_hold env val (tests q (Arg i) places)) (all_hold env val (args_tests qs (suc i) (after q (Arg i) places))) (after q (Arg i) places) (args_after (q ∷ qs) i places) (matches_all env m qs vs)
+    subst (λ b. Both val (matches_all env m (q ∷ qs) (v ∷ vs) names) b (args_after env (q ∷ qs) i places)) (sym (list_all-append (holds env val) (tests env q (Arg i) places) (args_tests env qs (suc i) (after env q (Arg i) places))))
+    (both_then val (matches env m q v names) (all_hold env val (tests env q (Arg i) places)) (all_hold env val (args_tests env qs (suc i) (after env q (Arg i) places))) (after env q (Arg i) places) (args_after env (q ∷ qs) i places) (matches_all env m qs vs)
     (pattern_both q env m val (Arg i) v names places h.0 (subst (λ n. val (Arg n) ≡ One v) here (e 0)) a)
-    (λ names' a'. patterns_both qs vs env m val (suc i) names' (after q (Arg i) places) h.1 (omega arith) (λ j. subst (λ n. val (Arg n) ≡ held (slice_get vs j)) (next j) (e (suc j))) a'))
+    (λ names' a'. patterns_both qs vs env m val (suc i) names' (after env q (Arg i) places) h.1 (omega arith) (λ j. subst (λ n. val (Arg n) ≡ held (slice_get vs j)) (next j) (e (suc j))) a'))
   where
     here : 0 + i ≡ i
     here = omega arith

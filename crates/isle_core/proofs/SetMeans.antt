@@ -1,12 +1,12 @@
 -- A rule set that stands for rules gives what they give.
-use Rattle.std.proofs.Common.{◌≡◌, ⊎_elim, ℕ, ◌+◌, List, [], ◌∷◌, Bool, true, false, cond, length, get_or, map, Option, Some, None, refl, sym, ap, ◌∙◌, subst, arith}
+use Rattle.std.proofs.Common.{◌≡◌, ⊎_elim, ℕ, ◌+◌, List, [], ◌∷◌, ◌++◌, Bool, true, false, cond, length, get_or, map, Option, Some, None, refl, sym, ap, ◌∙◌, subst, arith}
 use Rattle.std.specs.Prelude.{Contains, All, option_and_then}
 use Rattle.std.specs.Ordering.{int_cmp, is_lt}
 use Rattle.std.specs.List.{list_all, AllByRecursion}
 use Rattle.std.proofs.lemmas.List.Elements.{All-contains, recursion_from_All, Contains-get_or, Contains-append_left, Contains-append_right}
 use Rattle.std.proofs.lemmas.List.Sums.{AllPass-from_list_all, list_all-from_AllPass}
-use Rattle.isle_base.specs.declared.ids.TermId.{TermId}
 use Rattle.isle_core.specs.declared.rule_sets.FlatRule.{FlatRule}
+use Rattle.isle_core.specs.declared.types.ReturnKind.{ReturnKind}
 use Rattle.isle_core.specs.Value.{Value}
 use Rattle.isle_core.specs.Meaning.{Meaning}
 use Rattle.isle_core.specs.Calling.{impure}
@@ -15,18 +15,23 @@ use Rattle.isle_core.specs.Eval.{Evaluated, Answered, Failed, evaluated, iflets_
 use Rattle.isle_core.specs.Outcome.{prescription_of, rule_names}
 use Rattle.isle_core.specs.HighestMatch.{better, or_later, highest_match, given_by, outcome_of}
 use Rattle.isle_core.specs.Path.{Path, Arg, at}
-use Rattle.isle_core.specs.Tests.{no_places, args_after, rule_tests, rule_places, rule_calls, rule_result}
+use Rattle.isle_core.specs.OrderedCalls.{rule_calls}
+use Rattle.isle_core.specs.RightSide.{rule_result}
+use Rattle.isle_core.specs.Tests.{no_places, args_tests, args_after, iflets_tests, rule_tests, rule_places}
 use Rattle.isle_core.specs.Held.{Known, nothing_known, value_at, holds, all_hold}
 use Rattle.isle_core.specs.CallRun.{Went, Goes, Ends, then_go, returns, run_calls}
 use Rattle.isle_core.specs.RuleSet.{flat_tests, flat_holds, gave, flat_run, higher, highest, given, set_outcome}
 use Rattle.isle_core.specs.StandsFor.{IsFlat, AreFlat}
-use Rattle.isle_core.specs.Lawful.{AnswersFit, called_in, called}
-use Rattle.isle_core.specs.BuiltRule.{IsBuiltPattern, IsBuiltRule, IsImpureRule, IsBoundRule}
+use Rattle.isle_core.specs.Lawful.{CalledTermFits}
+use Rattle.isle_core.specs.CalledTerms.{CalledTerm, extracted_in, called_in_iflets, called_by, called_in, called}
+use Rattle.isle_core.specs.BuiltRule.{IsBuiltPattern, IsBuiltRule, IsImpureRule}
 use Rattle.isle_core.specs.Rule.{Environment, IfLet, Rule}
 use Rattle.isle_core.proofs.NotTrivial.{no_trivial}
 use Rattle.isle_core.proofs.PatternTests.{Agree, Both, none_agrees, patterns_both}
-use Rattle.isle_core.proofs.TurnKinds.{CallsByTurns, calls_by_turns}
+use Rattle.isle_core.proofs.TurnKinds.{IsPlaced, CallsByTurns, calls_by_turns}
 use Rattle.isle_core.proofs.PlacedVariables.{args_placed}
+use Rattle.isle_core.proofs.ScopeLaws.{variable_of, rhs_in_scope}
+use Rattle.isle_core.specs.Scope.{all_variables, IsScopedRule}
 use Rattle.isle_core.proofs.KnownAnswers.{nothing_fresh, none_up_to, args_up_to}
 use Rattle.isle_core.proofs.CallsFollow.{Follows, expr_follows}
 use Rattle.isle_core.proofs.CallOccurrences.{calls_are_rising, rising_firsts}
@@ -47,10 +52,10 @@ all_from p xs h = list_all-from_AllPass p xs (λ k d lt. h (get_or xs k d) (Cont
 all_same : {A : Type 0} (p : A → Bool) (xs ys : List A) → ((x : A) → Contains xs x → Contains ys x) → ((x : A) → Contains ys x → Contains xs x) → list_all p xs ≡ list_all p ys
 all_same p xs ys h k = iff_same (list_all p xs) (list_all p ys) (λ e. all_from p ys (λ x c. all_at p xs e x (k x c))) (λ e. all_from p xs (λ x c. all_at p ys e x (h x c)))
 
-flat_same : (env : Environment) (m : Meaning) (args : List Value) (ps : List Path) (r : Rule) (n : ℕ) (f : FlatRule) → IsFlat env ps r n f → flat_holds env m args ps f ≡ all_hold env (value_at env m args nothing_known) (rule_tests r)
+flat_same : (env : Environment) (m : Meaning) (args : List Value) (ps : List Path) (r : Rule) (n : ℕ) (f : FlatRule) → IsFlat env ps r n f → flat_holds env m args ps f ≡ all_hold env (value_at env m args nothing_known) (rule_tests env r)
 flat_same env m args ps r n f h =
-    all_same (holds env (value_at env m args nothing_known)) (flat_tests ps f) (rule_tests r) (λ t c. (h.no_other t c).0)
-    (λ t c. ⊎_elim (λ d. d) (λ e. absurd (no_trivial r t c e)) (h.tested t c))
+    all_same (holds env (value_at env m args nothing_known)) (flat_tests ps f) (rule_tests env r) (λ t c. (h.no_other t c).0)
+    (λ t c. ⊎_elim (λ d. d) (λ e. absurd (no_trivial env r t c e)) (h.tested t c))
 
 -- ---- one rule
 
@@ -58,23 +63,31 @@ no_iflets : (env : Environment) (m : Meaning) (is : List IfLet) (o : Option Name
 no_iflets env m is None e = refl
 no_iflets env m is (Some names) e = rw e refl
 
+-- the tests of a rule without conditions are those of its patterns
+pub without_iflets : (env : Environment) (r : Rule) → r.iflets ≡ [] → rule_tests env r ≡ args_tests env r.args 0 no_places
+without_iflets env r e = ap (λ is. iflets_tests is ++ args_tests env r.args 0 no_places) e
+
 -- a rule matches exactly where its tests hold
 pub rule_both : (env : Environment) (m : Meaning) (args : List Value) (r : Rule) → IsBuiltRule r → length r.args ≡ length args
-    → Both (value_at env m args nothing_known) (rule_names env m args r) (all_hold env (value_at env m args nothing_known) (rule_tests r)) (args_after r.args 0 no_places)
+    → Both (value_at env m args nothing_known) (rule_names env m args r) (all_hold env (value_at env m args nothing_known) (rule_tests env r)) (args_after env r.args 0 no_places)
 rule_both env m args r b l =
     let val = value_at env m args nothing_known in
-    subst (λ o. Both val o (all_hold env val (rule_tests r)) (args_after r.args 0 no_places)) (sym (no_iflets env m r.iflets (matches_all env m r.args args no_names) b.iflets))
-    (patterns_both r.args args env m val 0 no_names no_places (recursion_from_All IsBuiltPattern r.args b.args) l (λ j. ap (λ n. val (Arg n)) (from_zero j)) (none_agrees val))
+    subst (λ ts. Both val (rule_names env m args r) (all_hold env val ts) (args_after env r.args 0 no_places)) (sym (without_iflets env r b.iflets))
+    (subst (λ o. Both val o (all_hold env val (args_tests env r.args 0 no_places)) (args_after env r.args 0 no_places)) (sym (no_iflets env m r.iflets (matches_all env m r.args args no_names) b.iflets))
+    (patterns_both r.args args env m val 0 no_names no_places (recursion_from_All IsBuiltPattern r.args b.args) l (λ j. ap (λ n. val (Arg n)) (from_zero j)) (none_agrees val)))
   where
     from_zero : (j : ℕ) → j + 0 ≡ j
     from_zero j = omega arith
 
 -- a rule's calls take turns
 abbrev RuleByTurns : Environment → Meaning → Rule → Type 0
-RuleByTurns env m r = CallsByTurns env m (rule_places r) r.rhs
+RuleByTurns env m r = CallsByTurns env m (rule_places env r) r.rhs
 
-rule_by_turns : (env : Environment) (m : Meaning) (r : Rule) → IsBuiltRule r → IsBoundRule r → IsImpureRule env.terms r → ((c : TermId) → Contains (called_in r) c → AnswersFit env m c) → RuleByTurns env m r
-rule_by_turns env m r b v i h = calls_by_turns r.rhs env m r.args (rule_places r) (λ ty x c. args_placed r.args 0 no_places ty x c) b.rhs v i h
+rule_by_turns : (env : Environment) (m : Meaning) (r : Rule) → IsBuiltRule r → IsScopedRule r → IsImpureRule env.terms r → ((o : CalledTerm) → Contains (called_in env r) o → CalledTermFits env m o) → RuleByTurns env m r
+rule_by_turns env m r b v i h = calls_by_turns r.rhs env m (all_variables r.args) (rule_places env r) placed b.rhs (rhs_in_scope r b v) i (λ o k. h o (Contains-append_right (extracted_in env r.args ++ called_in_iflets env r.iflets) (called_by env r.rhs) o k))
+  where
+    placed : (x : ℕ) → Contains (all_variables r.args) x → IsPlaced (rule_places env r x)
+    placed x c = let k = variable_of r.args x (recursion_from_All IsBuiltPattern r.args b.args) c in subst (λ n. IsPlaced (rule_places env r n)) k.is (args_placed env r.args 0 no_places k.ty k.var k.among)
 
 follows_returns : (env : Environment) (m : Meaning) (args : List Value) (n n' : ℕ) (known : Known) (p : Path) (r : Evaluated) (w : Went) → Follows env m args n n' known p r w → then_go w (returns env m args p) ≡ Ends (prescription_of r)
 follows_returns env m args n n' known p (Answered v made) (Goes known' made') h = rw (h.0.held, h.1) refl
@@ -83,13 +96,13 @@ follows_returns env m args n n' known p (Answered v made) (Ends o) h = absurd h
 follows_returns env m args n n' known p (Failed made) (Goes known' made') h = absurd h
 
 -- a flat rule's calls and result are what the evaluation of its right side gives
-flat_gives : (env : Environment) (m : Meaning) (args : List Value) (ps : List Path) (r : Rule) (n : ℕ) (f : FlatRule) (names : Names) → RuleByTurns env m r → IsFlat env ps r n f → Agree (value_at env m args nothing_known) names (rule_places r)
+flat_gives : (env : Environment) (m : Meaning) (args : List Value) (ps : List Path) (r : Rule) (n : ℕ) (f : FlatRule) (names : Names) → RuleByTurns env m r → IsFlat env ps r n f → Agree (value_at env m args nothing_known) names (rule_places env r)
     → flat_run env m args ps f ≡ Ends (prescription_of (evaluated env m r.rhs names []))
 flat_gives env m args ps r n f names t h a =
-    ap (λ cs. then_go (run_calls env m args cs nothing_known []) (returns env m args (at ps f.result))) (rising_firsts n (rule_calls env r n) (map (at ps) f.ordered) (calls_are_rising r.rhs env m (rule_places r) n t) h.ordered)
+    ap (λ cs. then_go (run_calls env m args cs nothing_known []) (returns env m args (at ps f.result))) (rising_firsts n (rule_calls env r n) (map (at ps) f.ordered) (calls_are_rising r.rhs env m (rule_places env r) n t) h.ordered)
     ∙ ap (λ p. then_go (run_calls env m args (rule_calls env r n) nothing_known []) (returns env m args p)) h.result
     ∙ follows_returns env m args n (n + impure env r.rhs) nothing_known (rule_result env r n) (evaluated env m r.rhs names []) (run_calls env m args (rule_calls env r n) nothing_known [])
-    (expr_follows r.rhs env m args n nothing_known names (rule_places r) [] t a (args_up_to r.args n 0 no_places (none_up_to n)) (nothing_fresh n))
+    (expr_follows r.rhs env m args n nothing_known names (rule_places env r) [] t a (args_up_to env r.args n 0 no_places (none_up_to n)) (nothing_fresh n))
 
 -- ---- the highest
 
@@ -114,36 +127,36 @@ alike_higher env m args ps r names f None (Some p) h k = absurd k
 alike_higher env m args ps r names f (Some g) None h k = absurd k
 
 alike_more : (env : Environment) (m : Meaning) (args : List Value) (ps : List Path) (r : Rule) (n : ℕ) (f : FlatRule) (b : Bool) (here : Option Names) (later : Option FlatRule) (best : Option (Rule × Names)) → RuleByTurns env m r → IsFlat env ps r n f
-    → Both (value_at env m args nothing_known) here b (rule_places r) → Alike env m args ps later best → Alike env m args ps (cond b (Some (higher f later)) later) (or_later r here best)
+    → Both (value_at env m args nothing_known) here b (rule_places env r) → Alike env m args ps later best → Alike env m args ps (cond b (Some (higher f later)) later) (or_later r here best)
 alike_more env m args ps r n f b None later best t h k s = subst (λ x. Alike env m args ps (cond x (Some (higher f later)) later) best) (sym k) s
 alike_more env m args ps r n f b (Some names) later best t h k s =
     subst (λ x. Alike env m args ps (cond x (Some (higher f later)) later) (Some (better r names best))) (sym k.0) (alike_higher env m args ps r names f later best (h.prio, flat_gives env m args ps r n f names t h k.1) s)
 
-highest_alike : (rules : List Rule) (fs : List FlatRule) (env : Environment) (m : Meaning) (args : List Value) (ps : List Path) (n : ℕ) → AllByRecursion IsBuiltRule rules → AllByRecursion IsBoundRule rules → AllByRecursion (IsImpureRule env.terms) rules
-    → ((c : TermId) → Contains (called rules) c → AnswersFit env m c) → AllByRecursion (λ (r : Rule). length r.args ≡ length args) rules → AreFlat env ps rules n fs
+highest_alike : (rules : List Rule) (fs : List FlatRule) (env : Environment) (m : Meaning) (args : List Value) (ps : List Path) (n : ℕ) → AllByRecursion IsBuiltRule rules → AllByRecursion IsScopedRule rules → AllByRecursion (IsImpureRule env.terms) rules
+    → ((o : CalledTerm) → Contains (called env rules) o → CalledTermFits env m o) → AllByRecursion (λ (r : Rule). length r.args ≡ length args) rules → AreFlat env ps rules n fs
     → Alike env m args ps (highest (flat_holds env m args ps) fs) (highest_match env m args rules)
 highest_alike [] [] env m args ps n b v i c l h = tt
 highest_alike (r ∷ rs) (f ∷ fs) env m args ps n b v i c l h =
     let val = value_at env m args nothing_known in
     alike_more env m args ps r n f (flat_holds env m args ps f) (rule_names env m args r) (highest (flat_holds env m args ps) fs) (highest_match env m args rs)
-    (rule_by_turns env m r b.0 v.0 i.0 (λ t k. c t (Contains-append_left (called_in r) (called rs) t k))) h.0
-    (subst (λ x. Both val (rule_names env m args r) x (rule_places r)) (sym (flat_same env m args ps r n f h.0)) (rule_both env m args r b.0 l.0))
-    (highest_alike rs fs env m args ps (n + impure env r.rhs) b.1 v.1 i.1 (λ t k. c t (Contains-append_right (called_in r) (called rs) t k)) l.1 h.1)
+    (rule_by_turns env m r b.0 v.0 i.0 (λ t k. c t (Contains-append_left (called_in env r) (called env rs) t k))) h.0
+    (subst (λ x. Both val (rule_names env m args r) x (rule_places env r)) (sym (flat_same env m args ps r n f h.0)) (rule_both env m args r b.0 l.0))
+    (highest_alike rs fs env m args ps (n + impure env r.rhs) b.1 v.1 i.1 (λ t k. c t (Contains-append_right (called_in env r) (called env rs) t k)) l.1 h.1)
 highest_alike [] (f ∷ fs) env m args ps n b v i c l h = absurd h
 highest_alike (r ∷ rs) [] env m args ps n b v i c l h = absurd h
 
-alike_given : (env : Environment) (m : Meaning) (args : List Value) (ps : List Path) (partial : Bool) (o : Option FlatRule) (best : Option (Rule × Names)) → Alike env m args ps o best → given env m args ps partial o ≡ given_by env m partial best
-alike_given env m args ps partial None None h = refl
-alike_given env m args ps partial (Some f) (Some o) h = ap (gave partial) h.1
-alike_given env m args ps partial None (Some o) h = absurd h
-alike_given env m args ps partial (Some f) None h = absurd h
+alike_given : (env : Environment) (m : Meaning) (args : List Value) (ps : List Path) (kind : ReturnKind) (o : Option FlatRule) (best : Option (Rule × Names)) → Alike env m args ps o best → given env m args ps kind o ≡ given_by env m kind best []
+alike_given env m args ps kind None None h = refl
+alike_given env m args ps kind (Some f) (Some o) h = ap (gave kind) h.1
+alike_given env m args ps kind None (Some o) h = absurd h
+alike_given env m args ps kind (Some f) None h = absurd h
 
 -- flat rules that are the rules give what the rules give
-pub set_means : (env : Environment) (m : Meaning) (args : List Value) (ps : List Path) (rules : List Rule) (fs : List FlatRule) (partial : Bool)
-    → All IsBuiltRule rules → All IsBoundRule rules → All (IsImpureRule env.terms) rules → ((c : TermId) → Contains (called rules) c → AnswersFit env m c)
+pub set_means : (env : Environment) (m : Meaning) (args : List Value) (ps : List Path) (rules : List Rule) (fs : List FlatRule) (kind : ReturnKind)
+    → All IsBuiltRule rules → All IsScopedRule rules → All (IsImpureRule env.terms) rules → ((o : CalledTerm) → Contains (called env rules) o → CalledTermFits env m o)
     → All (λ (r : Rule). length r.args ≡ length args) rules → AreFlat env ps rules 0 fs
-    → set_outcome env m args ps fs partial ≡ outcome_of env m args rules partial
-set_means env m args ps rules fs partial b v i c l h =
-    alike_given env m args ps partial (highest (flat_holds env m args ps) fs) (highest_match env m args rules)
-    (highest_alike rules fs env m args ps 0 (recursion_from_All IsBuiltRule rules b) (recursion_from_All IsBoundRule rules v) (recursion_from_All (IsImpureRule env.terms) rules i) c
+    → set_outcome env m args ps fs kind ≡ outcome_of env m args rules kind []
+set_means env m args ps rules fs kind b v i c l h =
+    alike_given env m args ps kind (highest (flat_holds env m args ps) fs) (highest_match env m args rules)
+    (highest_alike rules fs env m args ps 0 (recursion_from_All IsBuiltRule rules b) (recursion_from_All IsScopedRule rules v) (recursion_from_All (IsImpureRule env.terms) rules i) c
     (recursion_from_All (λ (r : Rule). length r.args ≡ length args) rules l) h)

@@ -1,26 +1,28 @@
 -- A lawful impure term is answered by turns of its kind.
-use Rattle.std.proofs.Common.{◌≡◌, ℕ, zero, suc, List, [], ◌∷◌, Bool, true, false, Option, Some, None, refl}
+use Rattle.std.proofs.Common.{◌≡◌, ℕ, zero, suc, List, [], ◌∷◌, Bool, true, false, Option, Some, None, refl, sym, subst, cond}
 use Rattle.std.specs.Prelude.{IsSomeAnd, All, slice_get, slice_index_or, Contains}
 use Rattle.std.specs.List.{AllByRecursion}
-use Rattle.std.proofs.lemmas.List.Elements.{recursion_from_All, Contains-append_left, Contains-append_right, Contains-push}
+use Rattle.std.proofs.lemmas.List.Elements.{recursion_from_All, Contains-append_left, Contains-append_right}
+use Rattle.isle_core.proofs.Contained.{head_contained}
 use Rattle.isle_base.specs.declared.ids.TermId.{TermId}
 use Rattle.isle_base.specs.declared.ids.TypeId.{TypeId}
-use Rattle.isle_base.specs.declared.ids.VarId.{VarId}
 use Rattle.isle_core.specs.declared.types.Term.{Term}
 use Rattle.isle_core.specs.declared.types.TermKind.{TermKind}
-use Rattle.isle_core.specs.declared.types.TermKind.TheVariants as kind
+use Rattle.isle_core.specs.declared.types.TermKind.TheVariants as term_kind
 use Rattle.isle_core.specs.declared.types.ConstructorKind.TheVariants as constructor
 use Rattle.isle_core.specs.declared.values.Callee.{Callee}
 use Rattle.isle_core.specs.declared.values.Callee.TheVariants.{External, Internal}
-use Rattle.isle_core.specs.Value.{Value, Answer, Plain, Found, Nothing, Made}
+use Rattle.isle_core.specs.declared.types.ReturnKind.{ReturnKind}
+use Rattle.isle_core.specs.declared.types.ReturnKind.TheVariants as return_kind
+use Rattle.isle_core.specs.Value.{Value, Answer, Plain, Found, Nothing, Several, Made}
 use Rattle.isle_core.specs.Meaning.{Meaning, TurnAnswers, turns_of, turn_at, times, turn}
 use Rattle.isle_core.specs.Answered.{Held, One, Optional, answer_held}
-use Rattle.isle_core.specs.Calling.{Calling, ByTurns, is_partial, pure_callee, calling_by, calling_of, calling}
+use Rattle.isle_core.specs.Calling.{Calling, ByTurns, kind_of, kind_by, pure_callee, calling_by, calling_of, calling}
 use Rattle.isle_core.specs.Terms.{sym_text, impure_callee}
-use Rattle.isle_core.specs.Lawful.{Fits, all_turns, CallingFits, AnswersFit, called_by, called_by_all}
-use Rattle.isle_core.specs.BuiltRule.{IsBuiltExpr, AreBuiltExprs, IsImpureKind, CallsImpure, AllCallImpure, IsBoundIn, AreBoundIn}
-use Rattle.isle_core.specs.Pattern as pattern
-use Rattle.isle_core.specs.Pattern.{Pattern}
+use Rattle.isle_core.specs.Lawful.{Fits, all_turns, CallingFits, AnswersFit, CalledTermFits}
+use Rattle.isle_core.specs.CalledTerms.{Constructor, CalledTerm, is_made_kind, is_made_term, unless_made, called_by, called_by_all}
+use Rattle.isle_core.specs.BuiltRule.{IsBuiltExpr, AreBuiltExprs, IsImpureKind, CallsImpure, AllCallImpure}
+use Rattle.isle_core.specs.Scope.{IsInScope, AreInScope}
 use Rattle.isle_core.specs.Expr as expr
 use Rattle.isle_core.specs.Expr.{Expr, Exprs, NoExpr, AnExpr}
 use Rattle.isle_core.specs.Path.{Path}
@@ -30,47 +32,73 @@ use Rattle.isle_core.specs.Rule.{Environment}
 -- ---- a turn
 
 -- what the answer of a term holds: a value, or an option of one where the term is partial
-abbrev pub IsOfKind : Bool → Held → Type 0
-IsOfKind false h = (v : Value) × (h ≡ One v)
-IsOfKind true h = (o : Option Value) × (h ≡ Optional o)
+abbrev pub IsOfKind : ReturnKind → Held → Type 0
+IsOfKind return_kind.Plain h = (v : Value) × (h ≡ One v)
+IsOfKind return_kind.Option h = (o : Option Value) × (h ≡ Optional o)
+IsOfKind return_kind.Iterator h = ⊥
 
-fits_kind : (env : Environment) (partial : Bool) (ty : TypeId) (a : Answer) → Fits env partial ty a → IsOfKind partial (answer_held a)
-fits_kind env true ty (Found (v ∷ [])) h = (Some v, refl)
-fits_kind env true ty Nothing h = (None, refl)
-fits_kind env false ty (Plain (v ∷ [])) h = (v, refl)
-fits_kind env partial ty a h = absurd h
+fits_kind : (env : Environment) (kind : ReturnKind) (ty : TypeId) (a : Answer) → Fits env kind (ty ∷ []) a → IsOfKind kind (answer_held a)
+fits_kind env return_kind.Option ty (Found (v ∷ [])) h = (Some v, refl)
+fits_kind env return_kind.Option ty Nothing h = (None, refl)
+fits_kind env return_kind.Plain ty (Plain (v ∷ [])) h = (v, refl)
+fits_kind env return_kind.Option ty (Found []) h = absurd h
+fits_kind env return_kind.Option ty (Found (v ∷ w ∷ vs)) h = absurd h.1
+fits_kind env return_kind.Option ty (Plain vs) h = absurd h
+fits_kind env return_kind.Option ty (Several items) h = absurd h
+fits_kind env return_kind.Plain ty (Plain []) h = absurd h
+fits_kind env return_kind.Plain ty (Plain (v ∷ w ∷ vs)) h = absurd h.1
+fits_kind env return_kind.Plain ty (Found vs) h = absurd h
+fits_kind env return_kind.Plain ty Nothing h = absurd h
+fits_kind env return_kind.Plain ty (Several items) h = absurd h
+fits_kind env return_kind.Iterator ty a h = absurd h
 
 turn_in : (P : Answer → Type 0) (turns : List Answer) (n : ℕ) (rest : Answer) → P rest → AllByRecursion P turns → P (slice_index_or turns n rest)
 turn_in P [] n rest h k = h
 turn_in P (a ∷ turns) zero rest h k = k.0
 turn_in P (a ∷ turns) (suc n) rest h k = turn_in P turns n rest h k.1
 
-turn_at_fits : (env : Environment) (ty : TypeId) (partial : Bool) (o : Option TurnAnswers) (n : ℕ) → IsSomeAnd o (λ a. All (Fits env partial ty) (all_turns a)) → IsOfKind partial (answer_held (turn_at o n))
-turn_at_fits env ty partial None n h = absurd h
-turn_at_fits env ty partial (Some a) n h =
-    let each = recursion_from_All (Fits env partial ty) (all_turns a) h in
-    fits_kind env partial ty (slice_index_or a.turns n a.rest) (turn_in (Fits env partial ty) a.turns n a.rest each.0 each.1)
+turn_at_fits : (env : Environment) (ty : TypeId) (kind : ReturnKind) (o : Option TurnAnswers) (n : ℕ) → IsSomeAnd o (λ a. All (Fits env kind (ty ∷ [])) (all_turns a)) → IsOfKind kind (answer_held (turn_at o n))
+turn_at_fits env ty kind None n h = absurd h
+turn_at_fits env ty kind (Some a) n h =
+    let each = recursion_from_All (Fits env kind (ty ∷ [])) (all_turns a) h in
+    fits_kind env kind ty (slice_index_or a.turns n a.rest) (turn_in (Fits env kind (ty ∷ [])) a.turns n a.rest each.0 each.1)
 
 -- the term takes turns, and each is of its kind
 abbrev pub TakesTurns : Meaning → Calling → Type 0
-TakesTurns m (ByTurns callee partial) = (made : List Made) → IsOfKind partial (answer_held (turn m callee made))
+TakesTurns m (ByTurns callee kind) = (made : List Made) → IsOfKind kind (answer_held (turn m callee made))
 TakesTurns m c = ⊥
 
 -- turns that fit are of the term's kind
-pub turns_fit : (env : Environment) (m : Meaning) (ty : TypeId) (callee : Callee) (partial : Bool) → CallingFits env m ty (ByTurns callee partial) → TakesTurns m (ByTurns callee partial)
-turns_fit env m ty callee partial h made = turn_at_fits env ty partial (turns_of m callee) (times callee made) h
+pub turns_fit : (env : Environment) (m : Meaning) (ty : TypeId) (callee : Callee) (kind : ReturnKind) → CallingFits env m (ty ∷ []) (ByTurns callee kind) → TakesTurns m (ByTurns callee kind)
+turns_fit env m ty callee kind h made = turn_at_fits env ty kind (turns_of m callee) (times callee made) h
 
 -- ---- a term
 
 kind_takes : (env : Environment) (m : Meaning) (ty : TypeId) (t : Term) (k : TermKind) → IsImpureKind k
-    → CallingFits env m ty (calling_by (is_partial k) (impure_callee env t k) (pure_callee env t k)) → TakesTurns m (calling_by (is_partial k) (impure_callee env t k) (pure_callee env t k))
-kind_takes env m ty t (kind.Decl false multi partial recursive constructor.Internal extractor) i h = turns_fit env m ty (Internal (sym_text env t.name)) partial h
-kind_takes env m ty t (kind.Decl false multi partial recursive (constructor.External func) extractor) i h = turns_fit env m ty (External (sym_text env func)) partial h
+    → CallingFits env m (ty ∷ []) (calling_by (kind_of k) (impure_callee env t k) (pure_callee env t k)) → TakesTurns m (calling_by (kind_of k) (impure_callee env t k) (pure_callee env t k))
+kind_takes env m ty t (term_kind.Decl false multi partial recursive constructor.Internal extractor) i h = turns_fit env m ty (Internal (sym_text env t.name)) (kind_by multi partial) h
+kind_takes env m ty t (term_kind.Decl false multi partial recursive (constructor.External func) extractor) i h = turns_fit env m ty (External (sym_text env func)) (kind_by multi partial) h
 kind_takes env m ty t k i h = absurd i
 
-term_takes : (env : Environment) (m : Meaning) (o : Option Term) → IsSomeAnd o (λ (t : Term). IsImpureKind t.kind) → IsSomeAnd o (λ (t : Term). CallingFits env m t.ret_ty (calling_of env o)) → TakesTurns m (calling_of env o)
+term_takes : (env : Environment) (m : Meaning) (o : Option Term) → IsSomeAnd o (λ (t : Term). IsImpureKind t.kind) → IsSomeAnd o (λ (t : Term). CallingFits env m (t.ret_ty ∷ []) (calling_of env o)) → TakesTurns m (calling_of env o)
 term_takes env m None i h = absurd i
 term_takes env m (Some t) i h = kind_takes env m t.ret_ty t t.kind i h
+
+-- a term with a constructor is not made
+not_made : (o : Option Term) → IsSomeAnd o (λ (t : Term). IsImpureKind t.kind) → is_made_term o ≡ false
+not_made None i = absurd i
+not_made (Some t) i = of_kind t.kind i
+  where
+    of_kind : (k : TermKind) → IsImpureKind k → is_made_kind k ≡ false
+    of_kind (term_kind.Decl pure multi partial recursive constructor extractor) h = refl
+    of_kind (term_kind.Variant ty variant) h = absurd h
+    of_kind (term_kind.Struct ty) h = absurd h
+
+-- so it is called where it stands
+pub called_here : (env : Environment) (term : TermId) → IsSomeAnd (slice_get env.terms term.0) (λ (t : Term). IsImpureKind t.kind) → Contains {X = CalledTerm} (unless_made env Constructor term) (record { term = term; role = Constructor })
+called_here env term i =
+    let o : CalledTerm = record { term = term; role = Constructor } in
+    subst (λ b. Contains (cond b [] (o ∷ [])) o) (sym (not_made (slice_get env.terms term.0) i)) (head_contained o [])
 
 -- ---- an expression
 
@@ -95,23 +123,23 @@ abbrev mutual
 
 mutual
   -- impure terms that are answered lawfully take turns
-  pub calls_by_turns : (e : Expr) (env : Environment) (m : Meaning) (args : List Pattern) (places : Places) → ((ty : TypeId) (x : VarId) → Contains args (pattern.Var ty x) → IsPlaced (places x.0))
-      → IsBuiltExpr e → IsBoundIn args e → CallsImpure env.terms e → ((c : TermId) → Contains (called_by e) c → AnswersFit env m c) → CallsByTurns env m places e
-  calls_by_turns (expr.Var ty x) env m args places p b v i h = p v.0 x v.1
-  calls_by_turns (expr.ConstBool c) env m args places p b v i h = tt
-  calls_by_turns (expr.ConstInt ty n) env m args places p b v i h = tt
-  calls_by_turns (expr.Term ty term es) env m args places p b v i h = (
-    term_takes env m (slice_get env.terms term.0) i.0 (h term (Contains-push (called_by_all es) term)),
-    all_call_by_turns es env m args places p b v i.1 (λ c k. h c (Contains-append_left (called_by_all es) (term ∷ []) c k)),
+  pub calls_by_turns : (e : Expr) (env : Environment) (m : Meaning) (scope : List ℕ) (places : Places) → ((x : ℕ) → Contains scope x → IsPlaced (places x))
+      → IsBuiltExpr e → IsInScope scope e → CallsImpure env.terms e → ((o : CalledTerm) → Contains (called_by env e) o → CalledTermFits env m o) → CallsByTurns env m places e
+  calls_by_turns (expr.Var ty x) env m scope places p b v i h = p x.0 v
+  calls_by_turns (expr.ConstBool c) env m scope places p b v i h = tt
+  calls_by_turns (expr.ConstInt ty n) env m scope places p b v i h = tt
+  calls_by_turns (expr.Term ty term es) env m scope places p b v i h = (
+    term_takes env m (slice_get env.terms term.0) i.0 (h (record { term = term; role = Constructor }) (Contains-append_right (called_by_all env es) (unless_made env Constructor term) (record { term = term; role = Constructor }) (called_here env term i.0))),
+    all_call_by_turns es env m scope places p b v i.1 (λ o k. h o (Contains-append_left (called_by_all env es) (unless_made env Constructor term) o k)),
   )
-  calls_by_turns (expr.ConstPrim ty name) env m args places p b v i h = absurd b
-  calls_by_turns (expr.Let ty bindings inner) env m args places p b v i h = absurd b
+  calls_by_turns (expr.ConstPrim ty name) env m scope places p b v i h = absurd b
+  calls_by_turns (expr.Let ty bindings inner) env m scope places p b v i h = absurd b
 
   -- so of expressions in order
-  pub all_call_by_turns : (es : Exprs) (env : Environment) (m : Meaning) (args : List Pattern) (places : Places) → ((ty : TypeId) (x : VarId) → Contains args (pattern.Var ty x) → IsPlaced (places x.0))
-      → AreBuiltExprs es → AreBoundIn args es → AllCallImpure env.terms es → ((c : TermId) → Contains (called_by_all es) c → AnswersFit env m c) → AllCallByTurns env m places es
-  all_call_by_turns NoExpr env m args places p b v i h = tt
-  all_call_by_turns (AnExpr e es) env m args places p b v i h = (
-    calls_by_turns e env m args places p b.0 v.0 i.0 (λ c k. h c (Contains-append_left (called_by e) (called_by_all es) c k)),
-    all_call_by_turns es env m args places p b.1 v.1 i.1 (λ c k. h c (Contains-append_right (called_by e) (called_by_all es) c k)),
+  pub all_call_by_turns : (es : Exprs) (env : Environment) (m : Meaning) (scope : List ℕ) (places : Places) → ((x : ℕ) → Contains scope x → IsPlaced (places x))
+      → AreBuiltExprs es → AreInScope scope es → AllCallImpure env.terms es → ((o : CalledTerm) → Contains (called_by_all env es) o → CalledTermFits env m o) → AllCallByTurns env m places es
+  all_call_by_turns NoExpr env m scope places p b v i h = tt
+  all_call_by_turns (AnExpr e es) env m scope places p b v i h = (
+    calls_by_turns e env m scope places p b.0 v.0 i.0 (λ o k. h o (Contains-append_left (called_by env e) (called_by_all env es) o k)),
+    all_call_by_turns es env m scope places p b.1 v.1 i.1 (λ o k. h o (Contains-append_right (called_by env e) (called_by_all env es) o k)),
   )

@@ -1,13 +1,14 @@
 -- What a block does.
-use Rattle.std.specs.Prelude.{List, [], ◌∷◌, Bool, if◌then◌else◌}
+use Rattle.std.specs.Prelude.{List, [], ◌∷◌, if◌then◌else◌}
 use Rattle.isle_base.specs.declared.ids.BindingId.{BindingId}
+use Rattle.isle_core.specs.declared.types.ReturnKind.{ReturnKind}
 use Rattle.isle_core.specs.Value.{Value, Made}
 use Rattle.isle_core.specs.Meaning.{Meaning}
 use Rattle.isle_core.specs.Outcome.{Prescription}
 use Rattle.isle_core.specs.Path.{Path, Inner, at}
 use Rattle.isle_core.specs.Answered.{Held}
 use Rattle.isle_core.specs.Held.{Known, nothing_known, value_at, meets, equal_held}
-use Rattle.isle_core.specs.CallRun.{Went, Goes, Ends, then_go, returns, make, unless_nothing}
+use Rattle.isle_core.specs.CallRun.{Went, Goes, then_go, returns, make, unless_nothing}
 use Rattle.isle_core.specs.RuleSet.{gave}
 use Rattle.isle_core.specs.Block.{Block, Stop, Step, Control, Match, Equal, Loop, Return, Arms, NoArm, Arm}
 use Rattle.isle_core.specs.Rule.{Environment}
@@ -44,5 +45,5 @@ abbrev mutual
   arms_run env m args ps (Arm c places body arms) h known made = if meets env c h then block_run env m args ps body known made else arms_run env m args ps arms h known made
 
 -- what a block gives whose bindings have these paths
-abbrev pub block_outcome : Environment → Meaning → List Value → List Path → Block → Bool → Prescription
-block_outcome env m args ps b partial = gave partial (block_run env m args ps b nothing_known [])
+abbrev pub block_outcome : Environment → Meaning → List Value → List Path → Block → ReturnKind → Prescription
+block_outcome env m args ps b kind = gave kind (block_run env m args ps b nothing_known [])

@@ -1,10 +1,9 @@
 -- The forms of rules that are built.
-use Rattle.std.specs.Prelude.{◌≡◌, List, [], false, All, Contains, IsSomeAnd, slice_get}
+use Rattle.std.specs.Prelude.{◌≡◌, List, [], false, All, IsSomeAnd, slice_get}
 use Rattle.isle_core.specs.declared.types.Term.{Term}
 use Rattle.isle_core.specs.declared.types.TermKind.{TermKind}
 use Rattle.isle_core.specs.declared.types.TermKind.TheVariants as kind
 use Rattle.isle_core.specs.declared.types.ConstructorKind.TheVariants as constructor
-use Rattle.isle_base.specs.declared.ids.TypeId.{TypeId}
 use Rattle.isle_core.specs.Pattern as pattern
 use Rattle.isle_core.specs.Pattern.{Pattern}
 use Rattle.isle_core.specs.Expr as expr
@@ -61,21 +60,3 @@ abbrev mutual
 -- so of a rule
 abbrev pub IsImpureRule : List Term → Rule → Type 0
 IsImpureRule terms r = CallsImpure terms r.rhs
-
--- ---- variables
-
--- each variable of an expression stands in a pattern
-abbrev mutual
-  pub IsBoundIn : List Pattern → Expr → Type 0
-  IsBoundIn args (expr.Var ty x) = (of : TypeId) × Contains args (pattern.Var of x)
-  IsBoundIn args (expr.Term ty term es) = AreBoundIn args es
-  IsBoundIn args e = Unit {0}
-
-  -- so of expressions in order
-  pub AreBoundIn : List Pattern → Exprs → Type 0
-  AreBoundIn args NoExpr = Unit {0}
-  AreBoundIn args (AnExpr e es) = IsBoundIn args e × AreBoundIn args es
-
--- so of a rule
-abbrev pub IsBoundRule : Rule → Type 0
-IsBoundRule r = IsBoundIn r.args r.rhs

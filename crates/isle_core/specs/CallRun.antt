@@ -1,10 +1,10 @@
 -- Running calls in order, with the answers known and the calls made so far.
-use Rattle.std.specs.Prelude.{ℕ, List, [], ◌∷◌, ◌++◌, Bool, Option, Some, None, if◌then◌else◌}
+use Rattle.std.specs.Prelude.{ℕ, List, [], ◌∷◌, ◌++◌, Option, Some, None, if◌then◌else◌}
 use Rattle.isle_core.specs.declared.values.Callee.{Callee}
 use Rattle.isle_core.specs.Value.{Value, Answer, Made}
 use Rattle.isle_core.specs.Meaning.{Meaning, turn}
 use Rattle.isle_core.specs.Calling.{Calling, ByTurns, ByCases, NoCall, calling, is_fallible}
-use Rattle.isle_core.specs.Answered.{Held, Absent, One, Optional}
+use Rattle.isle_core.specs.Answered.{Held, One, Optional}
 use Rattle.isle_core.specs.Match.{with}
 use Rattle.isle_core.specs.Outcome.{Result, Value', Failure, Prescription}
 use Rattle.isle_core.specs.Path.{Path, Called}
@@ -38,8 +38,8 @@ take_turn m callee instance None None known made = Goes known made
 
 -- a call with these arguments: a pure one has its answer anyway
 abbrev pub make_call : Meaning → Calling → ℕ → Option (List Value) → Known → List Made → Went
-make_call m (ByTurns callee partial) instance vs known made = take_turn m callee instance (known instance) vs known made
-make_call m (ByCases callee partial) instance vs known made = Goes known made
+make_call m (ByTurns callee kind) instance vs known made = take_turn m callee instance (known instance) vs known made
+make_call m (ByCases callee kind) instance vs known made = Goes known made
 make_call m NoCall instance vs known made = Goes known made
 
 -- the call at a path

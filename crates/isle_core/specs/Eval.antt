@@ -48,8 +48,8 @@ answered Absent made = Failed made
 
 -- a call with these arguments: an impure one takes its turn and is made
 abbrev pub called_with : Meaning → Calling → List Value → List Made → Evaluated
-called_with m (ByTurns callee partial) vs made = answered (answer_held (turn m callee made)) (made ++ record { callee = callee; args = vs } ∷ [])
-called_with m (ByCases callee partial) vs made = answered (answer_held (case m callee vs)) made
+called_with m (ByTurns callee kind) vs made = answered (answer_held (turn m callee made)) (made ++ record { callee = callee; args = vs } ∷ [])
+called_with m (ByCases callee kind) vs made = answered (answer_held (case m callee vs)) made
 called_with m NoCall vs made = Failed made
 
 -- the evaluation of an expression, after the calls made before, arguments first; a named constant and a `let` are not built

@@ -1,7 +1,6 @@
 -- When a meaning has the answers of another one, as those of a file.
 use Rattle.std.specs.Prelude.{◌≡◌, ℕ, List, All, Option, Some, None, find, option_map}
 use Rattle.std.specs.Str.{bytes_eq}
-use Rattle.isle_core.specs.declared.values.Callee.{Callee}
 use Rattle.isle_core.specs.Value.{Value}
 use Rattle.isle_core.specs.Meaning.{PureAnswers, TurnAnswers, Meaning, turns_of, cases_of}
 

@@ -3,14 +3,14 @@ use Rattle.std.specs.Prelude.{ℕ, List, [], ◌∷◌, Bool, false, Option, Som
 use Rattle.std.specs.List.{list_all}
 use Rattle.isle_core.specs.declared.rule_sets.Constraint.{Constraint}
 use Rattle.isle_core.specs.declared.rule_sets.Constraint.TheVariants as constraint
-use Rattle.isle_core.specs.Value.{Value, Truth, Answer, Plain, Found, Nothing}
+use Rattle.isle_core.specs.Value.{Value, Truth, Answer}
 use Rattle.isle_core.specs.SameValue.{same_value}
 use Rattle.isle_core.specs.Constants.{int_value}
 use Rattle.isle_core.specs.Meaning.{Meaning, case}
 use Rattle.isle_core.specs.Calling.{Calling, ByTurns, ByCases, NoCall, calling}
 pub use Rattle.isle_core.specs.Answered.{Held, Absent, One, Optional, answer_held}
 use Rattle.isle_core.specs.Path.{Path, Arg, ConstBool, ConstInt, Called, Inner, Paths, NoPath, APath}
-use Rattle.isle_core.specs.Tests.{Test, Is, Equal}
+use Rattle.isle_core.specs.Tests.{Test, Is, Equal, Never}
 use Rattle.isle_core.specs.Rule.{Environment}
 
 -- what the impure calls that were made have answered, by occurrence
@@ -43,13 +43,13 @@ value_before h vs = None
 
 -- what a pure call answers to its arguments, where all are there
 abbrev pub case_held : Meaning → Calling → Option (List Value) → Held
-case_held m (ByCases callee partial) (Some vs) = answer_held (case m callee vs)
+case_held m (ByCases callee kind) (Some vs) = answer_held (case m callee vs)
 case_held m c vs = Absent
 
 -- what stands at the path of a call: an impure one was answered by its turn
 abbrev pub call_held : Meaning → Calling → Option Answer → Option (List Value) → Held
-call_held m (ByTurns callee partial) known vs = held_of known
-call_held m (ByCases callee partial) known vs = case_held m (ByCases callee partial) vs
+call_held m (ByTurns callee kind) known vs = held_of known
+call_held m (ByCases callee kind) known vs = case_held m (ByCases callee kind) vs
 call_held m NoCall known vs = Absent
 
 -- what stands at a path, under the arguments and the answers known so far; only arguments, constants, calls and inner values are built
@@ -82,6 +82,7 @@ equal_held g h = false
 abbrev pub holds : Environment → (Path → Held) → Test → Bool
 holds env at (Is p c) = meets env c (at p)
 holds env at (Equal p q) = equal_held (at p) (at q)
+holds env at Never = false
 
 -- all tests hold
 abbrev pub all_hold : Environment → (Path → Held) → List Test → Bool

@@ -1,7 +1,8 @@
 -- The matching rule of highest priority, and what it gives.
-use Rattle.std.specs.Prelude.{◌≡◌, List, [], ◌∷◌, Bool, Option, Some, None, if◌then◌else◌, Contains}
+use Rattle.std.specs.Prelude.{◌≡◌, List, [], ◌∷◌, Option, Some, None, if◌then◌else◌, Contains}
 use Rattle.std.specs.Ordering.{int_cmp, is_lt}
-use Rattle.isle_core.specs.Value.{Value}
+use Rattle.isle_core.specs.declared.types.ReturnKind.{ReturnKind}
+use Rattle.isle_core.specs.Value.{Value, Made}
 use Rattle.isle_core.specs.Meaning.{Meaning}
 use Rattle.isle_core.specs.Match.{Names}
 use Rattle.isle_core.specs.Eval.{evaluated}
@@ -23,14 +24,14 @@ abbrev pub highest_match : Environment → Meaning → List Value → List Rule 
 highest_match env m args [] = None
 highest_match env m args (r ∷ rs) = or_later r (rule_names env m args r) (highest_match env m args rs)
 
--- what the highest rule gives, or that none matches
-abbrev pub given_by : Environment → Meaning → Bool → Option (Rule × Names) → Prescription
-given_by env m partial None = record { result = unmatched partial; calls = [] }
-given_by env m partial (Some o) = prescription_of (evaluated env m o.0.rhs o.1 [])
+-- what the highest rule gives after the calls made before, or that none matches
+abbrev pub given_by : Environment → Meaning → ReturnKind → Option (Rule × Names) → List Made → Prescription
+given_by env m kind None made = record { result = unmatched kind; calls = made }
+given_by env m kind (Some o) made = prescription_of (evaluated env m o.0.rhs o.1 made)
 
--- what the rules of a term give
-abbrev pub outcome_of : Environment → Meaning → List Value → List Rule → Bool → Prescription
-outcome_of env m args rules partial = given_by env m partial (highest_match env m args rules)
+-- what the rules of a term give after the calls made before
+abbrev pub outcome_of : Environment → Meaning → List Value → List Rule → ReturnKind → List Made → Prescription
+outcome_of env m args rules kind made = given_by env m kind (highest_match env m args rules) made
 
 -- no other rule that matches has the priority of the highest
 pub record HighestIsOne (env : Environment) (m : Meaning) (args : List Value) (rules : List Rule) : Type 0 where

@@ -1,8 +1,10 @@
 -- What the rules of a term prescribe.
-use Rattle.std.specs.Prelude.{◌≡◌, ◌<ℤ◌, ◌⊎◌, List, [], Option, Some, None, Bool, true, false, Contains, option_and_then}
+use Rattle.std.specs.Prelude.{◌≡◌, ◌<ℤ◌, ◌⊎◌, List, Option, Some, None, Contains, option_and_then}
+use Rattle.isle_core.specs.declared.types.ReturnKind.{ReturnKind}
+use Rattle.isle_core.specs.declared.types.ReturnKind.TheVariants as return_kind
 use Rattle.isle_core.specs.Value.{Value, Made}
 use Rattle.isle_core.specs.Meaning.{Meaning}
-pub use Rattle.isle_core.specs.Calling.{is_partial}
+pub use Rattle.isle_core.specs.Calling.{kind_of}
 use Rattle.isle_core.specs.Match.{Names, no_names, matches_all}
 use Rattle.isle_core.specs.Eval.{Evaluated, Answered, Failed, evaluated, iflets_names}
 use Rattle.isle_core.specs.Rule.{Environment, Rule}
@@ -13,7 +15,7 @@ pub data Result : Type 0 where
   Failure : Result
   Unmatched : Result
 
--- the result, and the impure calls in order
+-- the result, and all impure calls so far, in order
 pub record Prescription : Type 0 where
   pub result : Result
   pub calls : List Made
@@ -32,17 +34,18 @@ pub record IsHighest (env : Environment) (m : Meaning) (args : List Value) (rule
   pub matched : rule_names env m args r ≡ Some names
   pub above : (q : Rule) (others : Names) → Contains rules q → rule_names env m args q ≡ Some others → (q ≡ r) ⊎ (q.prio <ℤ r.prio)
 
--- where no rule matches
-abbrev pub unmatched : Bool → Result
-unmatched true = Failure
-unmatched false = Unmatched
+-- where no rule matches: a term that must answer is not to be called so, any other one gives nothing
+abbrev pub unmatched : ReturnKind → Result
+unmatched return_kind.Plain = Unmatched
+unmatched return_kind.Option = Failure
+unmatched return_kind.Iterator = Failure
 
 -- what the evaluation of a right side gives
 abbrev pub prescription_of : Evaluated → Prescription
 prescription_of (Answered v calls) = record { result = Value' v; calls = calls }
 prescription_of (Failed calls) = record { result = Failure; calls = calls }
 
--- what the rules of a term without `multi` prescribe: no rule matches, or the one highest that does answers or fails
-pub data Prescribed (env : Environment) (m : Meaning) (args : List Value) (rules : List Rule) (partial : Bool) : Prescription → Type 0 where
-  no_rule : NoneMatches env m args rules → Prescribed env m args rules partial (record { result = unmatched partial; calls = [] })
-  one_rule : (r : Rule) (names : Names) → IsHighest env m args rules r names → Prescribed env m args rules partial (prescription_of (evaluated env m r.rhs names []))
+-- what the rules of a term without `multi` prescribe, after the calls made before: no rule matches, or the one highest that does answers or fails
+pub data Prescribed (env : Environment) (m : Meaning) (args : List Value) (rules : List Rule) (kind : ReturnKind) (made : List Made) : Prescription → Type 0 where
+  no_rule : NoneMatches env m args rules → Prescribed env m args rules kind made (record { result = unmatched kind; calls = made })
+  one_rule : (r : Rule) (names : Names) → IsHighest env m args rules r names → Prescribed env m args rules kind made (prescription_of (evaluated env m r.rhs names made))

@@ -8,10 +8,15 @@ use Rattle.isle_core.specs.declared.rule_sets.Constraint.{Constraint}
 use Rattle.isle_core.specs.declared.rule_sets.FlatRule.{FlatRule}
 use Rattle.isle_core.specs.declared.rule_sets.RuleSet.{RuleSet}
 use Rattle.isle_core.specs.declared.types.Term.{Term}
-use Rattle.isle_core.specs.Calling.{calling, is_partial}
+use Rattle.isle_core.specs.declared.types.ReturnKind.{ReturnKind}
+use Rattle.isle_core.specs.Calling.{calling, kind_of, may_be_nothing}
 use Rattle.isle_core.specs.Path.{Path, Called, Inner, Paths, NoPath, APath, at, paths_of}
 use Rattle.isle_core.specs.StandsFor.{EachOnce}
-use Rattle.isle_core.specs.BlockLawful.{IsPathOf, ArePathsOf, IsConstraintOf, IsInPlace, IsCall, occurrences}
+use Rattle.isle_core.specs.ConstraintType.{IsConstraintOf}
+use Rattle.isle_core.specs.ExternalCall.{IsCall}
+use Rattle.isle_core.specs.Occurrences.{occurrences}
+use Rattle.isle_core.specs.PathType.{IsPathOf, ArePathsOf}
+use Rattle.isle_core.specs.Readable.{IsInPlace}
 use Rattle.isle_core.specs.Rule.{Environment}
 
 -- ---- tests
@@ -55,10 +60,10 @@ pub record IsReadyCall (env : Environment) (t : Term) (ps done : List Path) (p :
   pub there : slice_get env.terms term.0 ≡ Some called
   pub args : ArePathsOf env t parameters called.arg_tys
   pub stand : AllStandOn done parameters
-  pub partial : Bool
-  pub external : IsCall partial (calling env term)
-  pub inner : IsTrue partial ↔ Contains ps (Inner p)
-  pub fits : IsTrue partial → is_partial t.kind ≡ true
+  pub kind : ReturnKind
+  pub external : IsCall kind (calling env term)
+  pub inner : IsTrue (may_be_nothing kind) ↔ Contains ps (Inner p)
+  pub fits : IsTrue (may_be_nothing kind) → may_be_nothing (kind_of t.kind) ≡ true
 
 -- calls in order, behind those that were made
 abbrev pub AreReadyCalls : Environment → Term → (ps done : List Path) → List Path → Type 0

@@ -4,6 +4,7 @@ use Rattle.std.specs.Ordering.{int_cmp, is_lt}
 use Rattle.isle_base.specs.declared.ids.BindingId.{BindingId}
 use Rattle.isle_core.specs.declared.rule_sets.Constraint.{Constraint}
 use Rattle.isle_core.specs.declared.rule_sets.FlatRule.{FlatRule}
+use Rattle.isle_core.specs.declared.types.ReturnKind.{ReturnKind}
 use Rattle.isle_core.specs.Value.{Value}
 use Rattle.isle_core.specs.Meaning.{Meaning}
 use Rattle.isle_core.specs.Outcome.{Prescription, unmatched}
@@ -30,9 +31,9 @@ abbrev pub flat_holds : Environment → Meaning → List Value → List Path →
 flat_holds env m args ps f = all_hold env (value_at env m args nothing_known) (flat_tests ps f)
 
 -- what a run gives; one that goes on behind the last step matched nothing
-abbrev pub gave : Bool → Went → Prescription
-gave partial (Goes known made) = record { result = unmatched partial; calls = made }
-gave partial (Ends o) = o
+abbrev pub gave : ReturnKind → Went → Prescription
+gave kind (Goes known made) = record { result = unmatched kind; calls = made }
+gave kind (Ends o) = o
 
 -- the ordered calls of a flat rule, a failure ending them, then its result
 abbrev pub flat_run : Environment → Meaning → List Value → List Path → FlatRule → Went
@@ -49,10 +50,10 @@ highest ok [] = None
 highest ok (f ∷ fs) = if ok f then Some (higher f (highest ok fs)) else highest ok fs
 
 -- what a rule gives, or that none holds
-abbrev pub given : Environment → Meaning → List Value → List Path → Bool → Option FlatRule → Prescription
-given env m args ps partial None = record { result = unmatched partial; calls = [] }
-given env m args ps partial (Some f) = gave partial (flat_run env m args ps f)
+abbrev pub given : Environment → Meaning → List Value → List Path → ReturnKind → Option FlatRule → Prescription
+given env m args ps kind None = record { result = unmatched kind; calls = [] }
+given env m args ps kind (Some f) = gave kind (flat_run env m args ps f)
 
 -- what the rules of a set give whose bindings have these paths
-abbrev pub set_outcome : Environment → Meaning → List Value → List Path → List FlatRule → Bool → Prescription
-set_outcome env m args ps fs partial = given env m args ps partial (highest (flat_holds env m args ps) fs)
+abbrev pub set_outcome : Environment → Meaning → List Value → List Path → List FlatRule → ReturnKind → Prescription
+set_outcome env m args ps fs kind = given env m args ps kind (highest (flat_holds env m args ps) fs)

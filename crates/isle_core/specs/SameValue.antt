@@ -34,9 +34,29 @@ unfoldable mutual
   same_value (Opaque of a) (Opaque ty b) = bytes_eq of ty && int_eq a b
   same_value (Variant of a fs) (Variant ty b gs) = bytes_eq of ty && bytes_eq a b && same_fields fs gs
   same_value (Struct of fs) (Struct ty gs) = bytes_eq of ty && same_fields fs gs
-  same_value v w = false
+  same_value (Truth a) (Int ty b) = false
+  same_value (Truth a) (Opaque ty b) = false
+  same_value (Truth a) (Variant ty b gs) = false
+  same_value (Truth a) (Struct ty gs) = false
+  same_value (Int of a) (Truth b) = false
+  same_value (Int of a) (Opaque ty b) = false
+  same_value (Int of a) (Variant ty b gs) = false
+  same_value (Int of a) (Struct ty gs) = false
+  same_value (Opaque of a) (Truth b) = false
+  same_value (Opaque of a) (Int ty b) = false
+  same_value (Opaque of a) (Variant ty b gs) = false
+  same_value (Opaque of a) (Struct ty gs) = false
+  same_value (Variant of a fs) (Truth b) = false
+  same_value (Variant of a fs) (Int ty b) = false
+  same_value (Variant of a fs) (Opaque ty b) = false
+  same_value (Variant of a fs) (Struct ty gs) = false
+  same_value (Struct of fs) (Truth b) = false
+  same_value (Struct of fs) (Int ty b) = false
+  same_value (Struct of fs) (Opaque ty b) = false
+  same_value (Struct of fs) (Variant ty b gs) = false
 
   pub same_fields : FieldValues → FieldValues → Bool
   same_fields NoField NoField = true
   same_fields (Field name v fs) (Field other w gs) = bytes_eq name other && same_value v w && same_fields fs gs
-  same_fields fs gs = false
+  same_fields NoField (Field other w gs) = false
+  same_fields (Field name v fs) NoField = false

@@ -1,10 +1,13 @@
 -- When a rule set stands for rules.
-use Rattle.std.specs.Prelude.{◌≡◌, ◌↔◌, ◌⊎◌, ℕ, ◌+◌, List, [], ◌∷◌, ◌++◌, Contains, map}
+use Rattle.std.specs.Prelude.{◌≡◌, ◌↔◌, ◌⊎◌, ℕ, ◌+◌, List, [], ◌∷◌, Contains, map}
 use Rattle.isle_core.specs.declared.rule_sets.FlatRule.{FlatRule}
 use Rattle.isle_core.specs.declared.rule_sets.RuleSet.{RuleSet}
 use Rattle.isle_core.specs.Path.{Path, at, paths_of}
-use Rattle.isle_core.specs.Tests.{Test, Is, Equal, rule_tests, rule_calls, rule_result, rule_paths}
+use Rattle.isle_core.specs.OrderedCalls.{rule_calls}
+use Rattle.isle_core.specs.RightSide.{rule_result}
+use Rattle.isle_core.specs.Tests.{Test, Is, Equal, Never, rule_tests}
 use Rattle.isle_core.specs.Calling.{impure}
+use Rattle.isle_core.specs.RulePaths.{rules_paths}
 use Rattle.isle_core.specs.RuleSet.{flat_tests}
 use Rattle.isle_core.specs.Rule.{Environment, Rule}
 
@@ -17,6 +20,7 @@ EachOnce (x ∷ xs) = (Contains xs x → ⊥) × EachOnce xs
 abbrev pub IsTrivial : Test → Type 0
 IsTrivial (Is p c) = ⊥
 IsTrivial (Equal p q) = p ≡ q
+IsTrivial Never = ⊥
 
 -- the firsts of items behind those seen: each where it stands first
 pub data AreFirsts {A : Type 0} : List A → List A → List A → Type 0 where
@@ -27,8 +31,8 @@ pub data AreFirsts {A : Type 0} : List A → List A → List A → Type 0 where
 -- a flat rule has the rule's tests but the trivial ones, each once, its priority, its position, its calls in order, each
 -- once, and its result, behind n impure calls of the rules before; no choice is built
 pub record IsFlat (env : Environment) (ps : List Path) (r : Rule) (n : ℕ) (f : FlatRule) : Type 0 where
-  pub tested : (t : Test) → Contains (rule_tests r) t → Contains (flat_tests ps f) t ⊎ IsTrivial t
-  pub no_other : (t : Test) → Contains (flat_tests ps f) t → Contains (rule_tests r) t × (IsTrivial t → ⊥)
+  pub tested : (t : Test) → Contains (rule_tests env r) t → Contains (flat_tests ps f) t ⊎ IsTrivial t
+  pub no_other : (t : Test) → Contains (flat_tests ps f) t → Contains (rule_tests env r) t × (IsTrivial t → ⊥)
   pub once : EachOnce (flat_tests ps f)
   pub prio : f.prio ≡ r.prio
   pub pos : f.pos ≡ r.pos
@@ -42,11 +46,6 @@ AreFlat env ps [] n [] = Unit {0}
 AreFlat env ps (r ∷ rs) n (f ∷ fs) = IsFlat env ps r n f × AreFlat env ps rs (n + impure env r.rhs) fs
 AreFlat env ps [] n (f ∷ fs) = ⊥
 AreFlat env ps (r ∷ rs) n [] = ⊥
-
--- the paths of rules behind n impure calls
-abbrev pub rules_paths : Environment → List Rule → ℕ → List Path
-rules_paths env [] n = []
-rules_paths env (r ∷ rs) n = rule_paths env r n ++ rules_paths env rs (n + impure env r.rhs)
 
 -- the bindings are the paths of the rules, each once, and the flat rules are the rules
 pub record StandsFor (env : Environment) (s : RuleSet) (rules : List Rule) : Type 0 where

@@ -3,6 +3,8 @@ use Rattle.std.proofs.Common.{◌≡◌, ◌⊎◌, inl, inr, ℕ, zero, suc, Li
 use Rattle.std.specs.Prelude.{Contains, slice_get}
 use Rattle.std.proofs.lemmas.Bool.{eq-eqb, eqb-true}
 use Rattle.std.proofs.lemmas.List.Elements.{Contains-append_left, Contains-append_right}
+use Rattle.isle_core.specs.declared.types.ReturnKind.{ReturnKind}
+use Rattle.isle_core.specs.declared.types.ReturnKind.TheVariants as return_kind
 use Rattle.isle_core.specs.declared.BindingId.{BindingId}
 use Rattle.isle_core.specs.declared.TermId.{TermId}
 use Rattle.isle_core.specs.declared.TypeId.{TypeId}
@@ -13,7 +15,8 @@ use Rattle.isle_core.specs.declared.values.Callee.{Callee}
 use Rattle.isle_core.specs.Value.{Value, Answer, Made}
 use Rattle.isle_core.specs.Meaning.{Meaning, turn}
 use Rattle.isle_core.specs.Answered.{answer_held}
-use Rattle.isle_core.specs.Calling.{Calling, ByTurns, ByCases, NoCall, calling, is_partial}
+use Rattle.isle_core.specs.Calling.{Calling, ByTurns, ByCases, NoCall, calling}
+use Rattle.isle_emission.specs.Partial.{is_partial}
 use Rattle.isle_core.specs.Match.{with}
 use Rattle.isle_core.specs.Outcome.{Failure}
 use Rattle.isle_core.specs.HasType.{HaveTypes}
@@ -24,8 +27,13 @@ use Rattle.isle_core.specs.CallRun as went
 use Rattle.isle_core.specs.CallRun.{Went, then_go, take_turn, make_call, unless_nothing}
 use Rattle.isle_core.specs.BlockRun.{bind_one, bind_all}
 use Rattle.isle_core.specs.StandsFor.{EachOnce}
-use Rattle.isle_core.specs.BlockLawful.{IsOptionOf, IsInPlace, IsCall, IsPlain, IsBindable, AreBindable, AreReadAs, bound_by, occurrence, occurrence_at, occurrences}
+use Rattle.isle_core.specs.Bindable.{IsPlain, IsBindable, AreBindable, bound_by}
+use Rattle.isle_core.specs.ExternalCall.{IsCall}
+use Rattle.isle_core.specs.Occurrences.{occurrence, occurrence_at, occurrences}
+use Rattle.isle_core.specs.PathType.{IsOptionOf}
+use Rattle.isle_core.specs.Readable.{IsInPlace, AreReadAs}
 use Rattle.isle_core.specs.Rule.{Environment}
+use Rattle.isle_core.specs.Setting.{setting}
 use Rattle.isle_core.proofs.Contained.{head_contained, contained_cases, none_contained}
 use Rattle.isle_core.proofs.AnsweredByTurn.{turn_is, turn_held}
 use Rattle.isle_core.proofs.TurnKinds as turn_kind
@@ -36,7 +44,7 @@ use Rattle.isle_tree.specs.Program.{Body}
 use Rattle.isle_tree.specs.Run.{Env, bind, value_of, read_values, Goes, Ends, then_run, run_bind, run_call, run_try, run_let, run_body}
 use Rattle.isle_emission.specs.Ends.{end_of}
 use Rattle.isle_emission.specs.Emitted.{AnswersBindings}
-use Rattle.isle_emission.specs.Operands.{in_place, operand_of}
+use Rattle.isle_emission.specs.Operands.{written_place, written_operand}
 use Rattle.isle_emission.specs.Statements.{callee_of, reads, bound_expr, lets}
 use Rattle.isle_emission.proofs.BoundTests.{found}
 use Rattle.isle_emission.proofs.HeldStays.{IsThere, Grows}
@@ -46,8 +54,8 @@ use Rattle.isle_emission.proofs.LocalsAgree.{IsOfKind, Agree, agree_later, bind_
 -- ---- occurrences
 
 -- none of these was answered
-abbrev pub AreNew : Known → List ℕ → Type 0
-AreNew known ks = (k : ℕ) → Contains ks k → known k ≡ None
+abbrev pub AreUnanswered : Known → List ℕ → Type 0
+AreUnanswered known ks = (k : ℕ) → Contains ks k → known k ≡ None
 
 -- all others stay as they are
 abbrev pub Keeps : List ℕ → (known later : Known) → Type 0
@@ -89,10 +97,10 @@ no_option env t (ConstInt of n) ty h k = k
 no_option env t p ty h k = absurd h
 
 plain_binds : (env : Environment) (m : Meaning) (args : List Value) (t : Term) (n : ℕ) (p : Path) (known : Known) (made : List Made) (locals : Env) → HaveTypes env args t.arg_tys → IsPlain env t p
-    → BindsOne env m args t n (expr.Read (read.Plain (in_place env p))) p known made locals (bind_one env m args p known made)
+    → BindsOne env m args t n (expr.Read (read.Plain (written_place env p))) p known made locals (bind_one env m args p known made)
 plain_binds env m args t n p known made locals h k =
     let r = path_reads env m args t p k.1.0 h k.1.1 k.0 in
-    subst (BindsOne env m args t n (expr.Read (read.Plain (in_place env p))) p known made locals) (sym (plain_run env m args p known made k.0))
+    subst (BindsOne env m args t n (expr.Read (read.Plain (written_place env p))) p known made locals) (sym (plain_run env m args p known made k.0))
     (One r.0, ap (λ x. run_bind n x locals made) (r.1.place locals), r.1.held known, record { there = tt; value = λ ty of. (r.0, refl); option = λ ty of. absurd (no_option env t p ty k.0 of) }, same_known known, λ j c. refl)
 
 -- ---- a call
@@ -114,15 +122,16 @@ with_keeps : (known : Known) (k : ℕ) (a : Answer) → Keeps (k ∷ []) known (
 with_keeps known k a j not_k = with_else known k j a (λ (same : k ≡ j). not_k (subst (Contains (k ∷ [])) same (head_contained k [])))
 
 -- what is held of the kind that a call says
-held_kind : (partial : Bool) (h : Held) → turn_kind.IsOfKind partial h → (env : Environment) (t : Term) (term : TermId) (callee : Callee) → calling env term ≡ ByTurns callee partial → (ps : _) (k : ℕ) → IsOfKind env t (Called term ps k) h
-held_kind false h is env t term callee c ps k = record {
+held_kind : (kind : ReturnKind) (h : Held) → turn_kind.IsOfKind kind h → (env : Environment) (t : Term) (term : TermId) (callee : Callee) → calling env term ≡ ByTurns callee kind → (ps : _) (k : ℕ) → IsOfKind env t (Called term ps k) h
+held_kind return_kind.Iterator h is env t term callee c ps k = absurd is
+held_kind return_kind.Plain h is env t term callee c ps k = record {
   there = subst IsThere (sym is.1) tt;
   value = λ ty of. is;
-  option = λ ty of. absurd (let call : IsCall true (ByTurns callee false) = subst (IsCall true) c of.0 in cc);
+  option = λ ty of. absurd (let call : IsCall return_kind.Option (ByTurns callee return_kind.Plain) = subst (IsCall return_kind.Option) c of.0 in cc);
 }
-held_kind true h is env t term callee c ps k = record {
+held_kind return_kind.Option h is env t term callee c ps k = record {
   there = subst IsThere (sym is.1) tt;
-  value = λ ty of. absurd (let call : IsCall false (ByTurns callee true) = subst (IsCall false) c of.0 in cc);
+  value = λ ty of. absurd (let call : IsCall return_kind.Plain (ByTurns callee return_kind.Option) = subst (IsCall return_kind.Plain) c of.0 in cc);
   option = λ ty of. is;
 }
 
@@ -132,25 +141,25 @@ bind_there n (One v) locals made t = refl
 bind_there n (Optional o) locals made t = refl
 
 -- a call whose occurrence is new takes its turn, here and there
-call_run : (env : Environment) (m : Meaning) (args : List Value) (term : TermId) (ps : _) (k : ℕ) (callee : Callee) (partial : Bool) (vs : List Value) (known : Known) (made : List Made) → calling env term ≡ ByTurns callee partial → known k ≡ None → values_at env m args known ps ≡ Some vs
+call_run : (env : Environment) (m : Meaning) (args : List Value) (term : TermId) (ps : _) (k : ℕ) (callee : Callee) (kind : ReturnKind) (vs : List Value) (known : Known) (made : List Made) → calling env term ≡ ByTurns callee kind → known k ≡ None → values_at env m args known ps ≡ Some vs
     → bind_one env m args (Called term ps k) known made ≡ went.Goes (with known k (turn m callee made)) (made ++ record { callee = callee; args = vs } ∷ [])
-call_run env m args term ps k callee partial vs known made c new held = rw (c, new, held) refl
+call_run env m args term ps k callee kind vs known made c new held = rw (c, new, held) refl
 
-call_binds : (env : Environment) (m : Meaning) (args : List Value) (t : Term) (bs : List Binding) (bound : List ℕ) (n : ℕ) (term : TermId) (parameters : List BindingId) (k : ℕ) (callee : Callee) (partial : Bool) (called : Term) (known : Known) (made : List Made) (locals : Env)
-    → HaveTypes env args t.arg_tys → Agree env m args t bs bound known locals → calling env term ≡ ByTurns callee partial → AreReadAs env t bs bound parameters called.arg_tys → AnswersFit env m term → known k ≡ None
+call_binds : (env : Environment) (m : Meaning) (args : List Value) (t : Term) (bs : List Binding) (bound : List ℕ) (n : ℕ) (term : TermId) (parameters : List BindingId) (k : ℕ) (callee : Callee) (kind : ReturnKind) (called : Term) (known : Known) (made : List Made) (locals : Env)
+    → HaveTypes env args t.arg_tys → Agree env m args t bs bound known locals → calling env term ≡ ByTurns callee kind → AreReadAs (setting env t bs) bound parameters called.arg_tys → AnswersFit env m term → known k ≡ None
     → BindsOne env m args t n (expr.Call false (record { callee = callee_of (calling env term); args = reads env bs bound parameters })) (Called term (at_all (paths_of bs) parameters) k) known made locals (bind_one env m args (Called term (at_all (paths_of bs) parameters) k) known made)
-call_binds env m args t bs bound n term parameters k callee partial called known made locals h a c r fit new =
+call_binds env m args t bs bound n term parameters k callee kind called known made locals h a c r fit new =
     let l = operands_read env m args t bs bound known locals parameters called.arg_tys h a r in
     let ps = at_all (paths_of bs) parameters in
     let answered = answer_held (turn m callee made) in
-    let is = turn_held env m term callee partial fit c made in
-    let of_kind = held_kind partial answered is env t term callee c ps k in
+    let is = turn_held env m term callee kind fit c made in
+    let of_kind = held_kind kind answered is env t term callee c ps k in
     let held : value_at env m args (with known k (turn m callee made)) (Called term ps k) ≡ answered = rw (c, with_here known k (turn m callee made)) refl in
-    subst (BindsOne env m args t n (expr.Call false (record { callee = callee_of (calling env term); args = reads env bs bound parameters })) (Called term ps k) known made locals) (sym (call_run env m args term ps k callee partial l.vs known made c new l.held)) (
+    subst (BindsOne env m args t n (expr.Call false (record { callee = callee_of (calling env term); args = reads env bs bound parameters })) (Called term ps k) known made locals) (sym (call_run env m args term ps k callee kind l.vs known made c new l.held)) (
       answered,
       ap (λ d. run_call m n (callee_of d) (read_values args locals (reads env bs bound parameters)) locals made) c
           ∙ ap (λ vs. run_call m n callee vs locals made) l.places
-          ∙ ap (λ x. run_bind n (answer_held x) locals (made ++ record { callee = callee; args = l.vs } ∷ [])) (turn_is env m term callee partial fit c l.vs made)
+          ∙ ap (λ x. run_bind n (answer_held x) locals (made ++ record { callee = callee; args = l.vs } ∷ [])) (turn_is env m term callee kind fit c l.vs made)
           ∙ bind_there n answered locals (made ++ record { callee = callee; args = l.vs } ∷ []) of_kind.there,
       held,
       of_kind,
@@ -162,7 +171,7 @@ call_binds env m args t bs bound n term parameters k callee partial called known
 
 inner_binds : (env : Environment) (m : Meaning) (args : List Value) (t : Term) (bs : List Binding) (bound : List ℕ) (n : ℕ) (source : BindingId) (ty : TypeId) (known : Known) (made : List Made) (locals : Env)
     → Agree env m args t bs bound known locals → IsOptionOf env t (at (paths_of bs) source) ty → Contains bound source.0 → is_partial t.kind ≡ true
-    → BindsOne env m args t n (expr.Try (operand_of env bs bound source) false) (Inner (at (paths_of bs) source)) known made locals (bind_one env m args (Inner (at (paths_of bs) source)) known made)
+    → BindsOne env m args t n (expr.Try (written_operand env bs bound source) false) (Inner (at (paths_of bs) source)) known made locals (bind_one env m args (Inner (at (paths_of bs) source)) known made)
 inner_binds env m args t bs bound n source ty known made locals a of c partial =
     let is = found bound source.0 c in
     let s = a.by source is in
@@ -173,9 +182,9 @@ inner_binds env m args t bs bound n source ty known made locals a of c partial =
     q = at (paths_of bs) source
 
     e : TExpr
-    e = expr.Try (operand_of env bs bound source) false
+    e = expr.Try (written_operand env bs bound source) false
 
-    one : (o : Option Value) → value_at env m args known q ≡ Optional o → value_of args locals (operand_of env bs bound source) ≡ value_at env m args known q → BindsOne env m args t n e (Inner q) known made locals (bind_one env m args (Inner q) known made)
+    one : (o : Option Value) → value_at env m args known q ≡ Optional o → value_of args locals (written_operand env bs bound source) ≡ value_at env m args known q → BindsOne env m args t n e (Inner q) known made locals (bind_one env m args (Inner q) known made)
     one None held place =
         subst (BindsOne env m args t n e (Inner q) known made locals) (sym (ap (λ h. unless_nothing h known made) held))
         (ap (λ h. run_try n h locals made) (place ∙ held) ∙ ap (λ x. Ends (end_of x Failure) made) (sym partial))
@@ -197,27 +206,27 @@ binding_answers env m (binding.Constructor x qs j ∷ bs) (suc i) term parameter
 binding_answers env m (b ∷ bs) (suc i) term parameters k h e = binding_answers env m bs i term parameters k h e
 
 in_place_binds : (env : Environment) (m : Meaning) (args : List Value) (t : Term) (bs : List Binding) (bound : List ℕ) (b : BindingId) (p : Path) (known : Known) (made : List Made) (locals : Env) → at (paths_of bs) b ≡ p → HaveTypes env args t.arg_tys → IsPlain env t p
-    → BindsOne env m args t b.0 (expr.Read (read.Plain (in_place env (at (paths_of bs) b)))) p known made locals (bind_one env m args p known made)
+    → BindsOne env m args t b.0 (expr.Read (read.Plain (written_place env (at (paths_of bs) b)))) p known made locals (bind_one env m args p known made)
 in_place_binds env m args t bs bound b p known made locals at_p h is =
-    subst (λ q. BindsOne env m args t b.0 (expr.Read (read.Plain (in_place env q))) p known made locals (bind_one env m args p known made)) (sym at_p) (plain_binds env m args t b.0 p known made locals h is)
+    subst (λ q. BindsOne env m args t b.0 (expr.Read (read.Plain (written_place env q))) p known made locals (bind_one env m args p known made)) (sym at_p) (plain_binds env m args t b.0 p known made locals h is)
 
 -- a binding that may be bound
 bound_binds : (env : Environment) (m : Meaning) (args : List Value) (t : Term) (bs : List Binding) (bound : List ℕ) (b : BindingId) (p : Path) (o : Option Binding) (known : Known) (made : List Made) (locals : Env)
-    → at (paths_of bs) b ≡ p → slice_get bs b.0 ≡ o → HaveTypes env args t.arg_tys → AnswersBindings env m bs → Agree env m args t bs bound known locals → AreNew known (occurrence_at env p) → IsBindable env t bs bound p o
+    → at (paths_of bs) b ≡ p → slice_get bs b.0 ≡ o → HaveTypes env args t.arg_tys → AnswersBindings env m bs → Agree env m args t bs bound known locals → AreUnanswered known (occurrence_at env p) → IsBindable (setting env t bs) bound p o
     → BindsOne env m args t b.0 (bound_expr env bs bound b o) p known made locals (bind_one env m args p known made)
 bound_binds env m args t bs bound b p (Some (binding.Constructor term parameters k)) known made locals at_p at_b h answers a new is = one (calling env term) refl is.external
   where
-    one : (c : Calling) → calling env term ≡ c → IsCall is.partial c → BindsOne env m args t b.0 (bound_expr env bs bound b (Some (binding.Constructor term parameters k))) p known made locals (bind_one env m args p known made)
+    one : (c : Calling) → calling env term ≡ c → IsCall is.kind c → BindsOne env m args t b.0 (bound_expr env bs bound b (Some (binding.Constructor term parameters k))) p known made locals (bind_one env m args p known made)
     one (ByTurns callee partial) c of =
         let q = Called term (at_all (paths_of bs) parameters) k in
-        let none : known k ≡ None = subst (AreNew known) (ap (occurrence_at env) is.path ∙ ap (λ d. occurrence d k) c) new k (head_contained k []) in
+        let none : known k ≡ None = subst (AreUnanswered known) (ap (occurrence_at env) is.path ∙ ap (λ d. occurrence d k) c) new k (head_contained k []) in
         subst (λ x. BindsOne env m args t b.0 (bound_expr env bs bound b (Some (binding.Constructor term parameters k))) x known made locals (bind_one env m args x known made)) (sym is.path)
         (call_binds env m args t bs bound b.0 term parameters k callee partial is.called known made locals h a c is.args (binding_answers env m bs b.0 term parameters k answers at_b) none)
     one (ByCases callee partial) c of = absurd of
     one NoCall c of = absurd of
 bound_binds env m args t bs bound b p (Some (binding.MatchSome source)) known made locals at_p at_b h answers a new is =
     subst (λ x. BindsOne env m args t b.0 (bound_expr env bs bound b (Some (binding.MatchSome source))) x known made locals (bind_one env m args x known made)) (sym is.path)
-    (inner_binds env m args t bs bound b.0 source is.ty known made locals a is.option is.bound' is.partial)
+    (inner_binds env m args t bs bound b.0 source is.ty known made locals a is.option is.bound' is.fits)
 bound_binds env m args t bs bound b p (Some (binding.Argument index)) known made locals at_p at_b h answers a new is = in_place_binds env m args t bs bound b p known made locals at_p h is
 bound_binds env m args t bs bound b p (Some (binding.ConstBool val ty)) known made locals at_p at_b h answers a new is = in_place_binds env m args t bs bound b p known made locals at_p h is
 bound_binds env m args t bs bound b p (Some (binding.ConstInt val ty)) known made locals at_p at_b h answers a new is = in_place_binds env m args t bs bound b p known made locals at_p h is
@@ -248,7 +257,7 @@ lets_then env m args t bs bound b binds known made locals (went.Goes later calls
     one (went.Ends o) h = λ more. first more ∙ h more
 
 pub lets_run : (env : Environment) (m : Meaning) (args : List Value) (t : Term) (bs : List Binding) (bound : List ℕ) (binds : List BindingId) (known : Known) (made : List Made) (locals : Env)
-    → HaveTypes env args t.arg_tys → AnswersBindings env m bs → AreBindable env t bs bound binds → EachOnce (occurrences env (paths_of bs) binds) → AreNew known (occurrences env (paths_of bs) binds) → Agree env m args t bs bound known locals
+    → HaveTypes env args t.arg_tys → AnswersBindings env m bs → AreBindable (setting env t bs) bound binds → EachOnce (occurrences env (paths_of bs) binds) → AreUnanswered known (occurrences env (paths_of bs) binds) → Agree env m args t bs bound known locals
     → LetsRun env m args t bs bound binds known made locals (bind_all env m args (paths_of bs) binds known made)
 lets_run env m args t bs bound [] known made locals h answers is once new a = (locals, λ more. refl, a, λ k not_k. refl)
 lets_run env m args t bs bound (b ∷ binds) known made locals h answers is once new a =

@@ -5,18 +5,22 @@ use Rattle.isle_core.specs.declared.types.ReturnKind.{ReturnKind}
 use Rattle.isle_core.specs.declared.types.Term.{Term}
 use Rattle.isle_core.specs.declared.rule_sets.Binding.{Binding}
 use Rattle.isle_core.specs.declared.rule_sets.Binding.TheVariants as binding
-use Rattle.isle_core.specs.Calling.{is_partial}
+use Rattle.isle_emission.specs.Partial.{is_partial}
 use Rattle.isle_core.specs.Path.{Path, at, paths_of}
 use Rattle.isle_core.specs.Block as block
 use Rattle.isle_core.specs.Block.{Block, Stop, Step, Control}
-use Rattle.isle_core.specs.BlockLawful.{IsBindable, AreBindable, IsLawfulBlock, IsLawfulControl, bound_by}
+use Rattle.isle_core.specs.Bindable.{IsBindable, AreBindable, bound_by}
+use Rattle.isle_core.specs.BlockLawful.{IsLawfulFrom, IsLawfulControl, IsLawfulBlock}
 use Rattle.isle_core.specs.Rule.{Environment}
+use Rattle.isle_core.specs.SingleArms.{HasSingleArms, IsSingle}
+use Rattle.isle_core.specs.Setting.{setting}
 use Rattle.isle_tree.specs.declared.tree.Operand.{Operand}
 use Rattle.isle_tree.specs.Program.{Stmt, Let, Tail, Body, Done, Then}
 use Rattle.isle_tree.specs.WellFormed.{FitsLet, IsReturned, FitsStmt, FitsBody, FitsFunction}
-use Rattle.isle_emission.specs.Operands.{operand_of}
+use Rattle.isle_emission.specs.Operands.{written_operand}
 use Rattle.isle_emission.specs.Statements.{bound_expr, lets, returned, block_body, control_stmt}
 use Rattle.isle_emission.specs.TermFunction.{kind_of, ends_in_return, mark_of, tail_of}
+use Rattle.isle_emission.proofs.ArmBodies.{arm_body}
 
 returned_fits : (partial : Bool) (o : Operand) → IsReturned (returned partial o)
 returned_fits true o = tt
@@ -25,31 +29,32 @@ returned_fits false o = tt
 -- ---- inside a function
 
 -- ? stands only in a function that may answer nothing
-bound_fits : (env : Environment) (t : Term) (bs : List Binding) (bound : List ℕ) (b : BindingId) (p : Path) (o : Option Binding) → IsBindable env t bs bound p o → FitsLet (kind_of (is_partial t.kind)) (bound_expr env bs bound b o)
+bound_fits : (env : Environment) (t : Term) (bs : List Binding) (bound : List ℕ) (b : BindingId) (p : Path) (o : Option Binding) → IsBindable (setting env t bs) bound p o → FitsLet (kind_of (is_partial t.kind)) (bound_expr env bs bound b o)
 bound_fits env t bs bound b p (Some (binding.Constructor term parameters k)) is = tt
-bound_fits env t bs bound b p (Some (binding.MatchSome source)) is = ap kind_of is.partial
+bound_fits env t bs bound b p (Some (binding.MatchSome source)) is = ap kind_of is.fits
 bound_fits env t bs bound b p (Some (binding.Argument index)) is = tt
 bound_fits env t bs bound b p (Some (binding.ConstBool val ty)) is = tt
 bound_fits env t bs bound b p (Some (binding.ConstInt val ty)) is = tt
 bound_fits env t bs bound b p o is = absurd is
 
-lets_fit : (env : Environment) (t : Term) (bs : List Binding) (bound : List ℕ) (binds : List BindingId) (more : Body) → AreBindable env t bs bound binds → FitsBody (kind_of (is_partial t.kind)) more → FitsBody (kind_of (is_partial t.kind)) (lets env bs bound binds more)
+lets_fit : (env : Environment) (t : Term) (bs : List Binding) (bound : List ℕ) (binds : List BindingId) (more : Body) → AreBindable (setting env t bs) bound binds → FitsBody (kind_of (is_partial t.kind)) more → FitsBody (kind_of (is_partial t.kind)) (lets env bs bound binds more)
 lets_fit env t bs bound [] more k h = h
 lets_fit env t bs bound (b ∷ binds) more k h = (bound_fits env t bs bound b (at (paths_of bs) b) (slice_get bs b.0) k.0, lets_fit env t bs (bound ++ b.0 ∷ []) binds more k.1 h)
 
 mutual
-  block_fits : (b : Block) (env : Environment) (t : Term) (bs : List Binding) (bound : List ℕ) → IsLawfulBlock env t bs bound b → FitsBody (kind_of (is_partial t.kind)) (block_body env bs (is_partial t.kind) bound b Done)
-  block_fits Stop env t bs bound k = tt
-  block_fits (Step binds c more) env t bs bound k =
+  block_fits : (b : Block) (env : Environment) (t : Term) (bs : List Binding) (bound made : List ℕ) → IsLawfulFrom (setting env t bs) bound made b → HasSingleArms b → FitsBody (kind_of (is_partial t.kind)) (block_body env bs (is_partial t.kind) bound b Done)
+  block_fits Stop env t bs bound made k o = tt
+  block_fits (Step binds c more) env t bs bound made k o =
       lets_fit env t bs bound binds (Then (control_stmt env bs (is_partial t.kind) (bound_by bound binds) c) (block_body env bs (is_partial t.kind) (bound_by bound binds) more Done)) k.0
-      (control_fits c more env t bs (bound_by bound binds) k.2, block_fits more env t bs (bound_by bound binds) k.3)
+      (control_fits c more env t bs (bound_by bound binds) _ k.2 o.0, block_fits more env t bs (bound_by bound binds) _ k.3 o.1)
 
-  control_fits : (c : Control) (more : Block) (env : Environment) (t : Term) (bs : List Binding) (bound : List ℕ) → IsLawfulControl env t bs bound c more → FitsStmt (kind_of (is_partial t.kind)) (control_stmt env bs (is_partial t.kind) bound c)
-  control_fits (block.Match source (block.Arm c places body arms)) more env t bs bound k = block_fits body env t bs bound k.2.2
-  control_fits (block.Match source block.NoArm) more env t bs bound k = absurd k.2
-  control_fits (block.Equal x y body) more env t bs bound k = block_fits body env t bs bound k.1
-  control_fits (block.Loop result body) more env t bs bound k = absurd k
-  control_fits (block.Return pos result) more env t bs bound k = returned_fits (is_partial t.kind) (operand_of env bs bound result)
+  control_fits : (c : Control) (more : Block) (env : Environment) (t : Term) (bs : List Binding) (bound made : List ℕ) → IsLawfulControl (setting env t bs) bound made c more → IsSingle c → FitsStmt (kind_of (is_partial t.kind)) (control_stmt env bs (is_partial t.kind) bound c)
+  control_fits (block.Match source (block.Arm c places body block.NoArm)) more env t bs bound made k o = block_fits body env t bs bound made (arm_body (setting env t bs) bound made source c places body block.NoArm k.1.0 k.1.2) o
+  control_fits (block.Match source (block.Arm c places body (block.Arm d others inside arms))) more env t bs bound made k o = absurd o
+  control_fits (block.Match source block.NoArm) more env t bs bound made k o = absurd o
+  control_fits (block.Equal x y body) more env t bs bound made k o = block_fits body env t bs bound made k.1 o
+  control_fits (block.Loop result body) more env t bs bound made k o = absurd k
+  control_fits (block.Return pos result) more env t bs bound made k o = returned_fits (is_partial t.kind) (written_operand env bs bound result)
 
 -- ---- a whole function
 
@@ -58,44 +63,44 @@ fits_more : (kind : ReturnKind) (s : Stmt) (ss : Body) → FitsStmt kind s → F
 fits_more kind s Done h k = absurd k
 fits_more kind s (Then u ss) h k = (h, k)
 
-lets_before : (env : Environment) (t : Term) (bs : List Binding) (bound : List ℕ) (binds : List BindingId) (more : Body) → AreBindable env t bs bound binds → FitsFunction (kind_of (is_partial t.kind)) more → FitsFunction (kind_of (is_partial t.kind)) (lets env bs bound binds more)
+lets_before : (env : Environment) (t : Term) (bs : List Binding) (bound : List ℕ) (binds : List BindingId) (more : Body) → AreBindable (setting env t bs) bound binds → FitsFunction (kind_of (is_partial t.kind)) more → FitsFunction (kind_of (is_partial t.kind)) (lets env bs bound binds more)
 lets_before env t bs bound [] more k h = h
 lets_before env t bs bound (b ∷ binds) more k h =
     fits_more (kind_of (is_partial t.kind)) (Let b.0 (bound_expr env bs bound b (slice_get bs b.0))) (lets env bs (bound ++ b.0 ∷ []) binds more)
     (bound_fits env t bs bound b (at (paths_of bs) b) (slice_get bs b.0) k.0) (lets_before env t bs (bound ++ b.0 ∷ []) binds more k.1 h)
 
 -- a block before an end that fits
-block_before : (b : Block) (env : Environment) (t : Term) (bs : List Binding) (bound : List ℕ) (end : Body)
-    → IsLawfulBlock env t bs bound b → FitsFunction (kind_of (is_partial t.kind)) end → FitsFunction (kind_of (is_partial t.kind)) (block_body env bs (is_partial t.kind) bound b end)
-block_before Stop env t bs bound end k h = h
-block_before (Step binds c more) env t bs bound end k h =
+block_before : (b : Block) (env : Environment) (t : Term) (bs : List Binding) (bound made : List ℕ) (end : Body)
+    → IsLawfulFrom (setting env t bs) bound made b → HasSingleArms b → FitsFunction (kind_of (is_partial t.kind)) end → FitsFunction (kind_of (is_partial t.kind)) (block_body env bs (is_partial t.kind) bound b end)
+block_before Stop env t bs bound made end k o h = h
+block_before (Step binds c more) env t bs bound made end k o h =
     lets_before env t bs bound binds (Then (control_stmt env bs (is_partial t.kind) (bound_by bound binds) c) (block_body env bs (is_partial t.kind) (bound_by bound binds) more end)) k.0
     (fits_more (kind_of (is_partial t.kind)) (control_stmt env bs (is_partial t.kind) (bound_by bound binds) c) (block_body env bs (is_partial t.kind) (bound_by bound binds) more end)
-    (control_fits c more env t bs (bound_by bound binds) k.2) (block_before more env t bs (bound_by bound binds) end k.3 h))
+    (control_fits c more env t bs (bound_by bound binds) _ k.2 o.0) (block_before more env t bs (bound_by bound binds) _ end k.3 o.1 h))
 
 -- a block whose last step is a Return
-return_last : (b : Block) (env : Environment) (t : Term) (bs : List Binding) (bound : List ℕ)
-    → IsLawfulBlock env t bs bound b → ends_in_return b ≡ true → FitsFunction (kind_of (is_partial t.kind)) (block_body env bs (is_partial t.kind) bound b Done)
-return_last Stop env t bs bound k e = cc
-return_last (Step binds (block.Return pos result) Stop) env t bs bound k e =
-    lets_before env t bs bound binds (Then (control_stmt env bs (is_partial t.kind) (bound_by bound binds) (block.Return pos result)) Done) k.0 (returned_fits (is_partial t.kind) (operand_of env bs (bound_by bound binds) result))
-return_last (Step binds (block.Match source arms) Stop) env t bs bound k e = cc
-return_last (Step binds (block.Equal x y body) Stop) env t bs bound k e = cc
-return_last (Step binds (block.Loop result body) Stop) env t bs bound k e = cc
-return_last (Step binds c (Step ds d more)) env t bs bound k e =
+return_last : (b : Block) (env : Environment) (t : Term) (bs : List Binding) (bound made : List ℕ)
+    → IsLawfulFrom (setting env t bs) bound made b → HasSingleArms b → ends_in_return b ≡ true → FitsFunction (kind_of (is_partial t.kind)) (block_body env bs (is_partial t.kind) bound b Done)
+return_last Stop env t bs bound made k o e = cc
+return_last (Step binds (block.Return pos result) Stop) env t bs bound made k o e =
+    lets_before env t bs bound binds (Then (control_stmt env bs (is_partial t.kind) (bound_by bound binds) (block.Return pos result)) Done) k.0 (returned_fits (is_partial t.kind) (written_operand env bs (bound_by bound binds) result))
+return_last (Step binds (block.Match source arms) Stop) env t bs bound made k o e = cc
+return_last (Step binds (block.Equal x y body) Stop) env t bs bound made k o e = cc
+return_last (Step binds (block.Loop result body) Stop) env t bs bound made k o e = cc
+return_last (Step binds c (Step ds d more)) env t bs bound made k o e =
     lets_before env t bs bound binds (Then (control_stmt env bs (is_partial t.kind) (bound_by bound binds) c) (block_body env bs (is_partial t.kind) (bound_by bound binds) (Step ds d more) Done)) k.0
     (fits_more (kind_of (is_partial t.kind)) (control_stmt env bs (is_partial t.kind) (bound_by bound binds) c) (block_body env bs (is_partial t.kind) (bound_by bound binds) (Step ds d more) Done)
-    (control_fits c (Step ds d more) env t bs (bound_by bound binds) k.2) (return_last (Step ds d more) env t bs (bound_by bound binds) k.3 e))
+    (control_fits c (Step ds d more) env t bs (bound_by bound binds) _ k.2 o.0) (return_last (Step ds d more) env t bs (bound_by bound binds) _ k.3 o.1 e))
 
 tail_fits : (partial : Bool) (name place : List ℕ) → FitsFunction (kind_of partial) (Then (Tail (mark_of partial name place)) Done)
 tail_fits true name place = tt
 tail_fits false name place = tt
 
 -- a lawful block with the tail of its kind
-pub function_fits : (b : Block) (env : Environment) (t : Term) (bs : List Binding) (name place : List ℕ) → IsLawfulBlock env t bs [] b
+pub function_fits : (b : Block) (env : Environment) (t : Term) (bs : List Binding) (name place : List ℕ) → IsLawfulBlock (setting env t bs) b → HasSingleArms b
     → FitsFunction (kind_of (is_partial t.kind)) (block_body env bs (is_partial t.kind) [] b (tail_of (is_partial t.kind) name place b))
-function_fits b env t bs name place k = one (ends_in_return b) refl
+function_fits b env t bs name place k o = one (ends_in_return b) refl
   where
     one : (x : Bool) → ends_in_return b ≡ x → FitsFunction (kind_of (is_partial t.kind)) (block_body env bs (is_partial t.kind) [] b (tail_of (is_partial t.kind) name place b))
-    one true is = rw is (return_last b env t bs [] k is)
-    one false is = rw is (block_before b env t bs [] _ k (tail_fits (is_partial t.kind) name place))
+    one true is = rw is (return_last b env t bs [] [] k o is)
+    one false is = rw is (block_before b env t bs [] [] _ k o (tail_fits (is_partial t.kind) name place))

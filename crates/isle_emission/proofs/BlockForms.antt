@@ -17,35 +17,42 @@ use Rattle.isle_core.specs.declared.rule_sets.Binding.TheVariants as binding
 use Rattle.isle_core.specs.Path.{Path, Arg, ConstBool, ConstInt, at, paths_of}
 use Rattle.isle_core.specs.Block as block
 use Rattle.isle_core.specs.Block.{Block, Stop, Step, Control}
-use Rattle.isle_core.specs.BlockLawful.{IsPathOf, IsConstraintOf, IsInPlace, IsReadAs, AreReadAs, IsBindable, AreBindable, IsLawfulBlock, IsLawfulControl, bound_by}
+use Rattle.isle_core.specs.Bindable.{IsBindable, AreBindable, bound_by}
+use Rattle.isle_core.specs.BlockLawful.{IsLawfulFrom, IsLawfulControl, IsLawfulBlock}
+use Rattle.isle_core.specs.ConstraintType.{IsConstraintOf}
+use Rattle.isle_core.specs.PathType.{IsPathOf}
+use Rattle.isle_core.specs.Readable.{IsInPlace, IsReadAs, AreReadAs}
 use Rattle.isle_core.specs.Rule.{Environment}
+use Rattle.isle_core.specs.SingleArms.{HasSingleArms, IsSingle}
+use Rattle.isle_core.specs.Setting.{setting}
 use Rattle.isle_tree.specs.declared.tree.Operand.{Operand}
 use Rattle.isle_tree.specs.Program.{Body, Done, Then}
 use Rattle.isle_tree.specs.WellFormed.{IsOperand, IsRead, IsExpr, IsStmt, IsBody}
-use Rattle.isle_emission.specs.Operands.{constant, in_place, tested, is_bound, operand_of}
+use Rattle.isle_emission.specs.Operands.{written_constant, written_place, written_test, is_bound, written_operand}
 use Rattle.isle_emission.specs.Statements.{reads, bound_expr, lets, returned, block_body, control_stmt}
 use Rattle.isle_emission.specs.TraitFns.{HasFnNames}
+use Rattle.isle_emission.proofs.ArmBodies.{arm_body}
 use Rattle.isle_emission.proofs.BoundTests.{found}
 use Rattle.isle_emission.proofs.ExternalTerms.{callee_is}
 
-number_is : (o : Option TypeDef) (n : ℤ) → IsSomeAnd o (λ d. IsOfDef d (int_of_def o n)) → IsOperand (constant (int_of_def o n))
+number_is : (o : Option TypeDef) (n : ℤ) → IsSomeAnd o (λ d. IsOfDef d (int_of_def o n)) → IsOperand (written_constant (int_of_def o n))
 number_is (Some (def.Builtin (builtin.Int ty))) n h = h.1
 number_is (Some (def.Builtin builtin.Bool)) n h = absurd h
 number_is None n h = absurd h
 number_is (Some d) n h = absurd h
 
-typed_number_is : (env : Environment) (of ty : TypeId) (n : ℤ) → of ≡ ty → HasType env (int_value env ty n) ty → IsOperand (constant (int_value env of n))
+typed_number_is : (env : Environment) (of ty : TypeId) (n : ℤ) → of ≡ ty → HasType env (int_value env ty n) ty → IsOperand (written_constant (int_value env of n))
 typed_number_is env of ty n e h = rw e (number_is (slice_get env.types.types ty.0) n h)
 
 -- a path of a type that is read in place
-in_place_is : (env : Environment) (t : Term) (p : Path) (ty : TypeId) → IsPathOf env t p ty → IsInPlace p → IsOperand (in_place env p)
+in_place_is : (env : Environment) (t : Term) (p : Path) (ty : TypeId) → IsPathOf env t p ty → IsInPlace p → IsOperand (written_place env p)
 in_place_is env t (Arg i) ty h k = tt
 in_place_is env t (ConstBool of b) ty h k = tt
 in_place_is env t (ConstInt of n) ty h k = typed_number_is env of ty n h.0 h.1
 in_place_is env t p ty h k = absurd k
 
 -- a constraint of a type
-tested_is : (env : Environment) (c : Constraint) (ty : TypeId) → IsConstraintOf env c ty → IsOperand (tested env c)
+tested_is : (env : Environment) (c : Constraint) (ty : TypeId) → IsConstraintOf env c ty → IsOperand (written_test env c)
 tested_is env (constraint.ConstBool val) ty h = tt
 tested_is env (constraint.ConstInt val of) ty h = typed_number_is env of ty val h.0 h.1
 tested_is env c ty h = absurd h
@@ -53,24 +60,24 @@ tested_is env c ty h = absurd h
 not_bound : (bound : List ℕ) (b : BindingId) → Contains bound b.0 → is_bound bound b ≡ false → ⊥
 not_bound bound b c e = let t = found bound b.0 c in cc
 
-operand_is : (env : Environment) (t : Term) (bs : List Binding) (bound : List ℕ) (b : BindingId) (ty : TypeId) → IsReadAs env t bs bound b ty → IsOperand (operand_of env bs bound b)
+operand_is : (env : Environment) (t : Term) (bs : List Binding) (bound : List ℕ) (b : BindingId) (ty : TypeId) → IsReadAs (setting env t bs) bound b ty → IsOperand (written_operand env bs bound b)
 operand_is env t bs bound b ty h = one (is_bound bound b) refl
   where
-    one : (x : Bool) → is_bound bound b ≡ x → IsOperand (operand_of env bs bound b)
+    one : (x : Bool) → is_bound bound b ≡ x → IsOperand (written_operand env bs bound b)
     one true is = rw is tt
     one false is = rw is (⊎_elim (λ k. in_place_is env t (at (paths_of bs) b) ty h.path k) (λ c. absurd (not_bound bound b c is)) h.read)
 
-reads_are : (env : Environment) (t : Term) (bs : List Binding) (bound : List ℕ) (parameters : List BindingId) (tys : List TypeId) → AreReadAs env t bs bound parameters tys → AllByRecursion IsRead (reads env bs bound parameters)
+reads_are : (env : Environment) (t : Term) (bs : List Binding) (bound : List ℕ) (parameters : List BindingId) (tys : List TypeId) → AreReadAs (setting env t bs) bound parameters tys → AllByRecursion IsRead (reads env bs bound parameters)
 reads_are env t bs bound [] [] h = tt
 reads_are env t bs bound (b ∷ more) (ty ∷ tys) h = (operand_is env t bs bound b ty h.0, reads_are env t bs bound more tys h.1)
 reads_are env t bs bound [] (ty ∷ tys) h = absurd h
 reads_are env t bs bound (b ∷ more) [] h = absurd h
 
 -- the local of a bound source is read
-source_is : (env : Environment) (bs : List Binding) (bound : List ℕ) (b : BindingId) → Contains bound b.0 → IsOperand (operand_of env bs bound b)
+source_is : (env : Environment) (bs : List Binding) (bound : List ℕ) (b : BindingId) → Contains bound b.0 → IsOperand (written_operand env bs bound b)
 source_is env bs bound b c = one (is_bound bound b) refl
   where
-    one : (x : Bool) → is_bound bound b ≡ x → IsOperand (operand_of env bs bound b)
+    one : (x : Bool) → is_bound bound b ≡ x → IsOperand (written_operand env bs bound b)
     one true is = rw is tt
     one false is = absurd (not_bound bound b c is)
 
@@ -79,32 +86,36 @@ returned_is true o h = h
 returned_is false o h = h
 
 -- what is computed for a binding that may be bound
-bound_is : (env : Environment) (t : Term) (bs : List Binding) (bound : List ℕ) (b : BindingId) (p : Path) (o : Option Binding) → HasFnNames env → at (paths_of bs) b ≡ p → IsBindable env t bs bound p o → IsExpr (bound_expr env bs bound b o)
-bound_is env t bs bound b p (Some (binding.Constructor term parameters k)) names e is = (refl, record { callee = callee_is env term is.called is.partial names is.there is.external; args = reads_are env t bs bound parameters is.called.arg_tys is.args })
+bound_is : (env : Environment) (t : Term) (bs : List Binding) (bound : List ℕ) (b : BindingId) (p : Path) (o : Option Binding) → HasFnNames env → at (paths_of bs) b ≡ p → IsBindable (setting env t bs) bound p o → IsExpr (bound_expr env bs bound b o)
+bound_is env t bs bound b p (Some (binding.Constructor term parameters k)) names e is = (refl, record { callee = callee_is env term is.called is.kind names is.there is.external; args = reads_are env t bs bound parameters is.called.arg_tys is.args })
 bound_is env t bs bound b p (Some (binding.MatchSome source)) names e is = (refl, source_is env bs bound source is.bound')
-bound_is env t bs bound b p (Some (binding.Argument index)) names e is = subst (λ q. IsOperand (in_place env q)) (sym e) (in_place_is env t p is.1.0 is.1.1 is.0)
-bound_is env t bs bound b p (Some (binding.ConstBool val ty)) names e is = subst (λ q. IsOperand (in_place env q)) (sym e) (in_place_is env t p is.1.0 is.1.1 is.0)
-bound_is env t bs bound b p (Some (binding.ConstInt val ty)) names e is = subst (λ q. IsOperand (in_place env q)) (sym e) (in_place_is env t p is.1.0 is.1.1 is.0)
+bound_is env t bs bound b p (Some (binding.Argument index)) names e is = subst (λ q. IsOperand (written_place env q)) (sym e) (in_place_is env t p is.1.0 is.1.1 is.0)
+bound_is env t bs bound b p (Some (binding.ConstBool val ty)) names e is = subst (λ q. IsOperand (written_place env q)) (sym e) (in_place_is env t p is.1.0 is.1.1 is.0)
+bound_is env t bs bound b p (Some (binding.ConstInt val ty)) names e is = subst (λ q. IsOperand (written_place env q)) (sym e) (in_place_is env t p is.1.0 is.1.1 is.0)
 bound_is env t bs bound b p o names e is = absurd is
 
-lets_are : (env : Environment) (t : Term) (bs : List Binding) (bound : List ℕ) (binds : List BindingId) (more : Body) → HasFnNames env → AreBindable env t bs bound binds → IsBody more → IsBody (lets env bs bound binds more)
+lets_are : (env : Environment) (t : Term) (bs : List Binding) (bound : List ℕ) (binds : List BindingId) (more : Body) → HasFnNames env → AreBindable (setting env t bs) bound binds → IsBody more → IsBody (lets env bs bound binds more)
 lets_are env t bs bound [] more names k h = h
 lets_are env t bs bound (b ∷ binds) more names k h = (bound_is env t bs bound b (at (paths_of bs) b) (slice_get bs b.0) names refl k.0, lets_are env t bs (bound ++ b.0 ∷ []) binds more names k.1 h)
 
 mutual
   -- the statements of a lawful block
-  pub block_is : (b : Block) (env : Environment) (t : Term) (bs : List Binding) (partial : Bool) (bound : List ℕ) (end : Body) → HasFnNames env → IsLawfulBlock env t bs bound b → IsBody end → IsBody (block_body env bs partial bound b end)
-  block_is Stop env t bs partial bound end names k h = h
-  block_is (Step binds c more) env t bs partial bound end names k h =
+  pub block_is : (b : Block) (env : Environment) (t : Term) (bs : List Binding) (partial : Bool) (bound made : List ℕ) (end : Body) → HasFnNames env → IsLawfulFrom (setting env t bs) bound made b → HasSingleArms b → IsBody end → IsBody (block_body env bs partial bound b end)
+  block_is Stop env t bs partial bound made end names k o h = h
+  block_is (Step binds c more) env t bs partial bound made end names k o h =
       lets_are env t bs bound binds (Then (control_stmt env bs partial (bound_by bound binds) c) (block_body env bs partial (bound_by bound binds) more end)) names k.0
-      (control_is c more env t bs partial (bound_by bound binds) names k.2, block_is more env t bs partial (bound_by bound binds) end names k.3 h)
+      (control_is c more env t bs partial (bound_by bound binds) _ names k.2 o.0, block_is more env t bs partial (bound_by bound binds) _ end names k.3 o.1 h)
 
-  control_is : (c : Control) (more : Block) (env : Environment) (t : Term) (bs : List Binding) (partial : Bool) (bound : List ℕ) → HasFnNames env → IsLawfulControl env t bs bound c more → IsStmt (control_stmt env bs partial bound c)
-  control_is (block.Match source (block.Arm c places body arms)) more env t bs partial bound names k =
-      (operand_is env t bs bound source k.0 k.1, tested_is env c k.0 k.2.0, block_is body env t bs partial bound Done names k.2.2 tt)
-  control_is (block.Match source block.NoArm) more env t bs partial bound names k = absurd k.2
-  control_is (block.Equal x y body) more env t bs partial bound names k =
-      (operand_is env t bs bound x k.0.0 k.0.1, operand_is env t bs bound y k.0.0 k.0.2, block_is body env t bs partial bound Done names k.1 tt)
-  control_is (block.Loop result body) more env t bs partial bound names k = absurd k
-  control_is (block.Return pos result) more env t bs partial bound names k =
-      returned_is partial (operand_of env bs bound result) (operand_is env t bs bound result t.ret_ty k.0)
+  control_is : (c : Control) (more : Block) (env : Environment) (t : Term) (bs : List Binding) (partial : Bool) (bound made : List ℕ) → HasFnNames env → IsLawfulControl (setting env t bs) bound made c more → IsSingle c → IsStmt (control_stmt env bs partial bound c)
+  control_is (block.Match source (block.Arm c places body block.NoArm)) more env t bs partial bound made names k o = (
+      operand_is env t bs bound source k.1.0 k.1.1,
+      tested_is env c k.1.0 k.1.2.0,
+      block_is body env t bs partial bound made Done names (arm_body (setting env t bs) bound made source c places body block.NoArm k.1.0 k.1.2) o tt,
+  )
+  control_is (block.Match source (block.Arm c places body (block.Arm d others inside arms))) more env t bs partial bound made names k o = absurd o
+  control_is (block.Match source block.NoArm) more env t bs partial bound made names k o = absurd o
+  control_is (block.Equal x y body) more env t bs partial bound made names k o =
+      (operand_is env t bs bound x k.0.0 k.0.1, operand_is env t bs bound y k.0.0 k.0.2, block_is body env t bs partial bound made Done names k.1 o tt)
+  control_is (block.Loop result body) more env t bs partial bound made names k o = absurd k
+  control_is (block.Return pos result) more env t bs partial bound made names k o =
+      returned_is partial (written_operand env bs bound result) (operand_is env t bs bound result t.ret_ty k.0)

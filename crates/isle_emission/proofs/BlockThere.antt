@@ -6,6 +6,9 @@ use Rattle.std.proofs.lemmas.List.{length-map}
 use Rattle.std.proofs.lemmas.List.Folds.{list_any-append}
 use Rattle.std.proofs.lemmas.List.Sums.{fold_push}
 use Rattle.std.proofs.lemmas.Option.{slice_get_within}
+use Rattle.isle_core.specs.declared.types.ReturnKind.{ReturnKind}
+use Rattle.isle_core.specs.declared.types.ReturnKind.TheVariants as return_kind
+use Rattle.isle_core.specs.Calling.{may_be_nothing}
 use Rattle.isle_core.specs.declared.BindingId.{BindingId}
 use Rattle.isle_core.specs.declared.TypeId.{TypeId}
 use Rattle.isle_core.specs.declared.rule_sets.Binding.{Binding}
@@ -13,29 +16,38 @@ use Rattle.isle_core.specs.declared.rule_sets.Binding.TheVariants as binding
 use Rattle.isle_core.specs.declared.rule_sets.Constraint.{Constraint}
 use Rattle.isle_core.specs.declared.rule_sets.Constraint.TheVariants as constraint
 use Rattle.isle_core.specs.declared.types.Term.{Term}
-use Rattle.isle_core.specs.Calling.{Calling, ByTurns, ByCases, NoCall, calling, is_partial}
+use Rattle.isle_core.specs.Calling.{Calling, ByTurns, ByCases, NoCall, calling}
+use Rattle.isle_emission.specs.Partial.{is_partial}
 use Rattle.isle_core.specs.Value.{Value, Truth, Int, Opaque, Variant, Struct}
 use Rattle.isle_core.specs.Constants.{int_value}
 use Rattle.isle_core.specs.Path.{Path, Arg, ConstBool, ConstInt, Called, at, paths_of}
 use Rattle.isle_core.specs.Block as block
 use Rattle.isle_core.specs.Block.{Block, Stop, Step, Control}
-use Rattle.isle_core.specs.BlockLawful.{IsPathOf, IsOptionOf, IsConstraintOf, IsInPlace, IsCall, IsPlain, IsReadAs, AreReadAs, IsBindable, AreBindable, IsLawfulBlock, IsLawfulControl, bound_by}
+use Rattle.isle_core.specs.Bindable.{IsPlain, IsBindable, AreBindable, bound_by}
+use Rattle.isle_core.specs.BlockLawful.{IsLawfulFrom, IsLawfulControl, IsLawfulBlock}
+use Rattle.isle_core.specs.ConstraintType.{IsConstraintOf}
+use Rattle.isle_core.specs.ExternalCall.{IsCall}
+use Rattle.isle_core.specs.PathType.{IsPathOf, IsOptionOf}
+use Rattle.isle_core.specs.Readable.{IsInPlace, IsReadAs, AreReadAs}
 use Rattle.isle_core.specs.Rule.{Environment}
+use Rattle.isle_core.specs.SingleArms.{HasSingleArms, IsSingle}
+use Rattle.isle_core.specs.Setting.{setting}
 use Rattle.isle_tree.specs.declared.holds.Holds.{Holds}
 use Rattle.isle_tree.specs.declared.holds.Holds.TheVariants as holds
 use Rattle.isle_tree.specs.declared.tree.Operand.{Operand}
 use Rattle.isle_tree.specs.Program.{Body, Done, Then}
 use Rattle.isle_tree.specs.WellFormed.{Locals, newer, local_holds, operand_holds, is_value, are_values, kind_holds, call_holds, callee_holds, inner_holds, expr_holds, GivesKind, behind_let, IsBodyThere}
-use Rattle.isle_emission.specs.Operands.{constant, in_place, tested, is_bound, operand_of}
+use Rattle.isle_emission.specs.Operands.{written_constant, written_place, written_test, is_bound, written_operand}
 use Rattle.isle_emission.specs.Statements.{callee_of, reads, bound_expr, lets, returned, block_body, control_stmt}
 use Rattle.isle_emission.specs.TermFunction.{parameter, kind_of}
 use Rattle.isle_emission.specs.TraitFns.{trait_fns_of, HasFnNames}
+use Rattle.isle_emission.proofs.ArmBodies.{arm_body}
 use Rattle.isle_emission.proofs.BoundTests.{found}
 use Rattle.isle_emission.proofs.ExternalTerms.{external_term, term_fn_found}
 
 -- ---- operands
 
-constant_holds : (v : Value) (params : ℕ) (locals : Locals) → operand_holds params locals (constant v) ≡ Some holds.One
+constant_holds : (v : Value) (params : ℕ) (locals : Locals) → operand_holds params locals (written_constant v) ≡ Some holds.One
 constant_holds (Truth b) params locals = refl
 constant_holds (Int ty n) params locals = refl
 constant_holds (Opaque ty n) params locals = refl
@@ -43,14 +55,14 @@ constant_holds (Variant ty name fields) params locals = refl
 constant_holds (Struct ty fields) params locals = refl
 
 -- a path of a type that is read in place holds a value
-in_place_holds : (env : Environment) (t : Term) (p : Path) (ty : TypeId) (locals : Locals) → IsPathOf env t p ty → IsInPlace p → operand_holds (length t.arg_tys) locals (in_place env p) ≡ Some holds.One
+in_place_holds : (env : Environment) (t : Term) (p : Path) (ty : TypeId) (locals : Locals) → IsPathOf env t p ty → IsInPlace p → operand_holds (length t.arg_tys) locals (written_place env p) ≡ Some holds.One
 in_place_holds env t (Arg i) ty locals h k = ap (λ b. cond b (Some holds.One) None) (lt-ltb i (length t.arg_tys) (slice_get_within t.arg_tys i ty h))
 in_place_holds env t (ConstBool of b) ty locals h k = refl
 in_place_holds env t (ConstInt of n) ty locals h k = constant_holds (int_value env of n) (length t.arg_tys) locals
 in_place_holds env t p ty locals h k = absurd k
 
 -- a constraint is tested for a value
-tested_holds : (env : Environment) (c : Constraint) (ty : TypeId) (params : ℕ) (locals : Locals) → IsConstraintOf env c ty → operand_holds params locals (tested env c) ≡ Some holds.One
+tested_holds : (env : Environment) (c : Constraint) (ty : TypeId) (params : ℕ) (locals : Locals) → IsConstraintOf env c ty → operand_holds params locals (written_test env c) ≡ Some holds.One
 tested_holds env (constraint.ConstBool val) ty params locals h = refl
 tested_holds env (constraint.ConstInt val of) ty params locals h = constant_holds (int_value env of val) params locals
 tested_holds env c ty params locals h = absurd h
@@ -87,17 +99,17 @@ more_hold env t bs bound locals b h l here = record {
 not_bound : (bound : List ℕ) (b : BindingId) → Contains bound b.0 → is_bound bound b ≡ false → ⊥
 not_bound bound b c e = let t = found bound b.0 c in cc
 
-operand_one : (env : Environment) (t : Term) (bs : List Binding) (bound : List ℕ) (locals : Locals) (b : BindingId) (ty : TypeId) → LocalsHold env t bs bound locals → IsReadAs env t bs bound b ty → operand_holds (length t.arg_tys) locals (operand_of env bs bound b) ≡ Some holds.One
+operand_one : (env : Environment) (t : Term) (bs : List Binding) (bound : List ℕ) (locals : Locals) (b : BindingId) (ty : TypeId) → LocalsHold env t bs bound locals → IsReadAs (setting env t bs) bound b ty → operand_holds (length t.arg_tys) locals (written_operand env bs bound b) ≡ Some holds.One
 operand_one env t bs bound locals b ty l h = one (is_bound bound b) refl
   where
-    one : (x : Bool) → is_bound bound b ≡ x → operand_holds (length t.arg_tys) locals (operand_of env bs bound b) ≡ Some holds.One
+    one : (x : Bool) → is_bound bound b ≡ x → operand_holds (length t.arg_tys) locals (written_operand env bs bound b) ≡ Some holds.One
     one true is = rw is ((l.by b is).value ty h.path)
     one false is = rw is (⊎_elim (λ k. in_place_holds env t (at (paths_of bs) b) ty locals h.path k) (λ c. absurd (not_bound bound b c is)) h.read)
 
 is_one : (o : Option Holds) → o ≡ Some holds.One → IsTrue (is_value o)
 is_one o e = subst (λ x. IsTrue (is_value x)) (sym e) refl
 
-reads_hold : (env : Environment) (t : Term) (bs : List Binding) (bound : List ℕ) (locals : Locals) (parameters : List BindingId) (tys : List TypeId) → LocalsHold env t bs bound locals → AreReadAs env t bs bound parameters tys
+reads_hold : (env : Environment) (t : Term) (bs : List Binding) (bound : List ℕ) (locals : Locals) (parameters : List BindingId) (tys : List TypeId) → LocalsHold env t bs bound locals → AreReadAs (setting env t bs) bound parameters tys
     → (are_values (length t.arg_tys) locals (reads env bs bound parameters) ≡ true) × (length (reads env bs bound parameters) ≡ length tys)
 reads_hold env t bs bound locals [] [] l h = (refl, refl)
 reads_hold env t bs bound locals (b ∷ more) (ty ∷ tys) l h =
@@ -122,8 +134,8 @@ plain_holds env t (ConstInt of n) k = record { value = λ ty h. refl; option = �
 plain_holds env t p k = absurd k.0
 
 in_place_let : (env : Environment) (t : Term) (bs : List Binding) (bound : List ℕ) (locals : Locals) (b : BindingId) (p : Path) → at (paths_of bs) b ≡ p → IsPlain env t p
-    → (operand_holds (length t.arg_tys) locals (in_place env (at (paths_of bs) b)) ≡ Some holds.One) × HoldsAs env t p (Some holds.One)
-in_place_let env t bs bound locals b p e k = (ap (λ q. operand_holds (length t.arg_tys) locals (in_place env q)) e ∙ in_place_holds env t p k.1.0 locals k.1.1 k.0, plain_holds env t p k)
+    → (operand_holds (length t.arg_tys) locals (written_place env (at (paths_of bs) b)) ≡ Some holds.One) × HoldsAs env t p (Some holds.One)
+in_place_let env t bs bound locals b p e k = (ap (λ q. operand_holds (length t.arg_tys) locals (written_place env q)) e ∙ in_place_holds env t p k.1.0 locals k.1.1 k.0, plain_holds env t p k)
 
 -- what the answer of a term's function holds
 abbrev answer_holds : Bool → Holds
@@ -134,28 +146,29 @@ kind_of_holds : (partial : Bool) → kind_holds (kind_of partial) ≡ Some (answ
 kind_of_holds true = refl
 kind_of_holds false = refl
 
-call_as : (env : Environment) (t : Term) (term : _) (ps : _) (k : ℕ) (partial : Bool) (c : Calling) → calling env term ≡ c → IsCall partial c → HoldsAs env t (Called term ps k) (Some (answer_holds partial))
-call_as env t term ps k true (ByTurns callee p) e h = record { value = λ ty of. absurd (let bad : IsCall false (ByTurns callee p) = subst (IsCall false) e of.0 in let q = h.0 in let r = bad.0 in cc); option = λ ty of. refl }
-call_as env t term ps k false (ByTurns callee p) e h = record { value = λ ty of. refl; option = λ ty of. absurd (let bad : IsCall true (ByTurns callee p) = subst (IsCall true) e of.0 in let q = h.0 in let r = bad.0 in cc) }
-call_as env t term ps k partial (ByCases callee p) e h = absurd h
-call_as env t term ps k partial NoCall e h = absurd h
+call_as : (env : Environment) (t : Term) (term : _) (ps : _) (k : ℕ) (of : ReturnKind) (c : Calling) → calling env term ≡ c → IsCall of c → HoldsAs env t (Called term ps k) (Some (answer_holds (may_be_nothing of)))
+call_as env t term ps k return_kind.Option (ByTurns callee p) e h = record { value = λ ty of. absurd (let bad : IsCall return_kind.Plain (ByTurns callee p) = subst (IsCall return_kind.Plain) e of.0 in let q = h.0 in let r = bad.0 in cc); option = λ ty of. refl }
+call_as env t term ps k return_kind.Plain (ByTurns callee p) e h = record { value = λ ty of. refl; option = λ ty of. absurd (let bad : IsCall return_kind.Option (ByTurns callee p) = subst (IsCall return_kind.Option) e of.0 in let q = h.0 in let r = bad.0 in cc) }
+call_as env t term ps k return_kind.Iterator (ByTurns callee p) e h = record { value = λ ty of. refl; option = λ ty of. absurd (let bad : IsCall return_kind.Option (ByTurns callee p) = subst (IsCall return_kind.Option) e of.0 in let q = h.0 in let r = bad.0 in cc) }
+call_as env t term ps k of (ByCases callee p) e h = absurd h
+call_as env t term ps k of NoCall e h = absurd h
 
 same_count : (n m : ℕ) → n ≡ m → eqb n m ≡ true
 same_count n m e = eq-eqb n m e
 
-let_holds : (env : Environment) (t : Term) (bs : List Binding) (bound : List ℕ) (locals : Locals) (b : BindingId) (p : Path) (o : Option Binding) → HasFnNames env → at (paths_of bs) b ≡ p → LocalsHold env t bs bound locals → IsBindable env t bs bound p o → LetHolds env t bs bound locals b p o
+let_holds : (env : Environment) (t : Term) (bs : List Binding) (bound : List ℕ) (locals : Locals) (b : BindingId) (p : Path) (o : Option Binding) → HasFnNames env → at (paths_of bs) b ≡ p → LocalsHold env t bs bound locals → IsBindable (setting env t bs) bound p o → LetHolds env t bs bound locals b p o
 let_holds env t bs bound locals b p (Some (binding.Constructor term parameters k)) names e l is =
-    let x = external_term env term is.called is.partial is.there is.external in
+    let x = external_term env term is.called is.kind is.there is.external in
     let args = reads_hold env t bs bound locals parameters is.called.arg_tys l is.args in
     record {
-      h = answer_holds is.partial;
+      h = answer_holds (may_be_nothing is.kind);
       is =
           ap (λ y. cond y (callee_holds (trait_fns_of env) (callee_of (calling env term)) (length (reads env bs bound parameters))) None) args.0
           ∙ ap (λ y. callee_holds (trait_fns_of env) y (length (reads env bs bound parameters))) x.callee
-          ∙ ap (λ y. call_holds y (length (reads env bs bound parameters))) (term_fn_found env term is.called is.partial names is.there x)
+          ∙ ap (λ y. call_holds y (length (reads env bs bound parameters))) (term_fn_found env term is.called (may_be_nothing is.kind) names is.there x)
           ∙ ap (λ y. cond y (kind_holds (kind_of (is_partial is.called.kind))) None) (same_count (length (map (parameter env) is.called.arg_tys)) (length (reads env bs bound parameters)) (length-map is.called.arg_tys (parameter env) ∙ sym args.1))
-          ∙ ap (λ y. kind_holds (kind_of y)) x.partial' ∙ kind_of_holds is.partial;
-      kept = subst (λ q. HoldsAs env t q (Some (answer_holds is.partial))) (sym is.path) (call_as env t term _ k is.partial (calling env term) refl is.external);
+          ∙ ap (λ y. kind_holds (kind_of y)) x.partial' ∙ kind_of_holds (may_be_nothing is.kind);
+      kept = subst (λ q. HoldsAs env t q (Some (answer_holds (may_be_nothing is.kind)))) (sym is.path) (call_as env t term _ k is.kind (calling env term) refl is.external);
     }
 let_holds env t bs bound locals b p (Some (binding.MatchSome source)) names e l is =
     record {
@@ -168,7 +181,7 @@ let_holds env t bs bound locals b p (Some (binding.ConstBool val ty)) names e l 
 let_holds env t bs bound locals b p (Some (binding.ConstInt val ty)) names e l is = let k = in_place_let env t bs bound locals b p e is in record { h = holds.One; is = k.0; kept = k.1 }
 let_holds env t bs bound locals b p o names e l is = absurd is
 
-lets_there : (env : Environment) (t : Term) (bs : List Binding) (bound : List ℕ) (locals : Locals) (binds : List BindingId) (more : Body) → HasFnNames env → LocalsHold env t bs bound locals → AreBindable env t bs bound binds
+lets_there : (env : Environment) (t : Term) (bs : List Binding) (bound : List ℕ) (locals : Locals) (binds : List BindingId) (more : Body) → HasFnNames env → LocalsHold env t bs bound locals → AreBindable (setting env t bs) bound binds
     → ((after : Locals) → LocalsHold env t bs (bound_by bound binds) after → IsBodyThere (trait_fns_of env) (kind_of (is_partial t.kind)) (length t.arg_tys) after more)
     → IsBodyThere (trait_fns_of env) (kind_of (is_partial t.kind)) (length t.arg_tys) locals (lets env bs bound binds more)
 lets_there env t bs bound locals [] more names l k h = h locals l
@@ -187,27 +200,35 @@ returned_there false o env params locals e = rw e tt
 
 mutual
   -- what a lawful block reads, where what follows reads what is there whatever is bound
-  block_there : (b : Block) (env : Environment) (t : Term) (bs : List Binding) (bound : List ℕ) (locals : Locals) (end : Body) → HasFnNames env → LocalsHold env t bs bound locals → IsLawfulBlock env t bs bound b
+  block_there : (b : Block) (env : Environment) (t : Term) (bs : List Binding) (bound made : List ℕ) (locals : Locals) (end : Body) → HasFnNames env → LocalsHold env t bs bound locals → IsLawfulFrom (setting env t bs) bound made b → HasSingleArms b
       → ((after : Locals) → IsBodyThere (trait_fns_of env) (kind_of (is_partial t.kind)) (length t.arg_tys) after end)
       → IsBodyThere (trait_fns_of env) (kind_of (is_partial t.kind)) (length t.arg_tys) locals (block_body env bs (is_partial t.kind) bound b end)
-  block_there Stop env t bs bound locals end names l k h = h locals
-  block_there (Step binds c more) env t bs bound locals end names l k h =
+  block_there Stop env t bs bound made locals end names l k o h = h locals
+  block_there (Step binds c more) env t bs bound made locals end names l k o h =
       lets_there env t bs bound locals binds (Then (control_stmt env bs (is_partial t.kind) (bound_by bound binds) c) (block_body env bs (is_partial t.kind) (bound_by bound binds) more end)) names l k.0
-      (λ after held. control_there c more env t bs (bound_by bound binds) after (block_body env bs (is_partial t.kind) (bound_by bound binds) more end) names held k.2 (block_there more env t bs (bound_by bound binds) after end names held k.3 h))
+      (λ after held. control_there c more env t bs (bound_by bound binds) _ after (block_body env bs (is_partial t.kind) (bound_by bound binds) more end) names held k.2 o.0 (block_there more env t bs (bound_by bound binds) _ after end names held k.3 o.1 h))
 
-  control_there : (c : Control) (more : Block) (env : Environment) (t : Term) (bs : List Binding) (bound : List ℕ) (locals : Locals) (ss : Body) → HasFnNames env → LocalsHold env t bs bound locals → IsLawfulControl env t bs bound c more
+  control_there : (c : Control) (more : Block) (env : Environment) (t : Term) (bs : List Binding) (bound made : List ℕ) (locals : Locals) (ss : Body) → HasFnNames env → LocalsHold env t bs bound locals → IsLawfulControl (setting env t bs) bound made c more → IsSingle c
       → IsBodyThere (trait_fns_of env) (kind_of (is_partial t.kind)) (length t.arg_tys) locals ss → IsBodyThere (trait_fns_of env) (kind_of (is_partial t.kind)) (length t.arg_tys) locals (Then (control_stmt env bs (is_partial t.kind) bound c) ss)
-  control_there (block.Match source (block.Arm c places body arms)) more env t bs bound locals ss names l k h =
-      ((is_one _ (operand_one env t bs bound locals source k.0 l k.1), is_one _ (tested_holds env c k.0 (length t.arg_tys) locals k.2.0), block_there body env t bs bound locals Done names l k.2.2 (λ after. tt)), h)
-  control_there (block.Match source block.NoArm) more env t bs bound locals ss names l k h = absurd k.2
-  control_there (block.Equal x y body) more env t bs bound locals ss names l k h =
-      ((is_one _ (operand_one env t bs bound locals x k.0.0 l k.0.1), is_one _ (operand_one env t bs bound locals y k.0.0 l k.0.2), block_there body env t bs bound locals Done names l k.1 (λ after. tt)), h)
-  control_there (block.Loop result body) more env t bs bound locals ss names l k h = absurd k
-  control_there (block.Return pos result) more env t bs bound locals ss names l k h =
-      (returned_there (is_partial t.kind) (operand_of env bs bound result) env (length t.arg_tys) locals (operand_one env t bs bound locals result t.ret_ty l k.0), h)
+  control_there (block.Match source (block.Arm c places body block.NoArm)) more env t bs bound made locals ss names l k o h =
+      (
+          (
+              is_one _ (operand_one env t bs bound locals source k.1.0 l k.1.1),
+              is_one _ (tested_holds env c k.1.0 (length t.arg_tys) locals k.1.2.0),
+              block_there body env t bs bound made locals Done names l (arm_body (setting env t bs) bound made source c places body block.NoArm k.1.0 k.1.2) o (λ after. tt),
+          ),
+          h,
+      )
+  control_there (block.Match source (block.Arm c places body (block.Arm d others inside arms))) more env t bs bound made locals ss names l k o h = absurd o
+  control_there (block.Match source block.NoArm) more env t bs bound made locals ss names l k o h = absurd o
+  control_there (block.Equal x y body) more env t bs bound made locals ss names l k o h =
+      ((is_one _ (operand_one env t bs bound locals x k.0.0 l k.0.1), is_one _ (operand_one env t bs bound locals y k.0.0 l k.0.2), block_there body env t bs bound made locals Done names l k.1 o (λ after. tt)), h)
+  control_there (block.Loop result body) more env t bs bound made locals ss names l k o h = absurd k
+  control_there (block.Return pos result) more env t bs bound made locals ss names l k o h =
+      (returned_there (is_partial t.kind) (written_operand env bs bound result) env (length t.arg_tys) locals (operand_one env t bs bound locals result t.ret_ty l k.0), h)
 
 -- what the block of a function reads
-pub root_there : (b : Block) (env : Environment) (t : Term) (bs : List Binding) (end : Body) → HasFnNames env → IsLawfulBlock env t bs [] b
+pub root_there : (b : Block) (env : Environment) (t : Term) (bs : List Binding) (end : Body) → HasFnNames env → IsLawfulBlock (setting env t bs) b → HasSingleArms b
     → ((after : Locals) → IsBodyThere (trait_fns_of env) (kind_of (is_partial t.kind)) (length t.arg_tys) after end)
     → IsBodyThere (trait_fns_of env) (kind_of (is_partial t.kind)) (length t.arg_tys) [] (block_body env bs (is_partial t.kind) [] b end)
-root_there b env t bs end names k h = block_there b env t bs [] [] end names (none_hold env t bs) k h
+root_there b env t bs end names k o h = block_there b env t bs [] [] [] end names (none_hold env t bs) k o h

@@ -5,8 +5,8 @@ use Rattle.isle_core.specs.declared.files.Files.{Files}
 use Rattle.isle_core.specs.declared.types.Term.{Term}
 use Rattle.isle_core.specs.Block.{Block}
 use Rattle.isle_core.specs.declared.rule_sets.Binding.{Binding}
-use Rattle.isle_core.specs.Path.{paths_of}
 use Rattle.isle_core.specs.Rule.{Environment}
+use Rattle.isle_core.specs.Setting.{setting}
 use Rattle.isle_tree.specs.Program.{Program, Function}
 use Rattle.isle_tree.specs.WellFormed.{IsFunction}
 use Rattle.isle_emission.specs.Emitted.{RunsAsBlock}
@@ -33,13 +33,13 @@ at_item (y ∷ ys) zero x P Q h is q = subst Q is q
 at_item (y ∷ ys) (suc i) x P Q h is q = at_item ys i x P Q h is q
 
 pub is_well_formed : (files : Files) (env : Environment) (bs : List Binding) (b : Block) (o : Option Term) (f : Function) → IsSomeAnd o (λ t. MayEmit files env t bs b) → IsOf files env bs b o f → (p : Program) → p.trait_fns ≡ trait_fns_of env → IsFunction p f
-is_well_formed files env bs b (Some t) f h e p fns = subst (IsFunction p) (sym e) (emitted_well_formed files env t bs b h.emittable h.lawful h.fns p fns)
+is_well_formed files env bs b (Some t) f h e p fns = subst (IsFunction p) (sym e) (emitted_well_formed files env t bs b h.emittable h.lawful h.single h.fns p fns)
 is_well_formed files env bs b None f h e p fns = absurd h
 
-pub is_shaped : (files : Files) (env : Environment) (bs : List Binding) (b : Block) (o : Option Term) (f : Function) → IsSomeAnd o (λ t. MayEmit files env t bs b) → IsOf files env bs b o f → HasShape env (paths_of bs) f.body b
-is_shaped files env bs b (Some t) f h e = subst (λ (g : Function). HasShape env (paths_of bs) g.body b) (sym e) (has_shape files env t bs b h.lawful)
+pub is_shaped : (files : Files) (env : Environment) (bs : List Binding) (b : Block) (o : Option Term) (f : Function) → IsSomeAnd o (λ t. MayEmit files env t bs b) → IsOf files env bs b o f → IsSomeAnd o (λ t. HasShape (setting env t bs) f.body b)
+is_shaped files env bs b (Some t) f h e = subst (λ (g : Function). HasShape (setting env t bs) g.body b) (sym e) (has_shape files env t bs b h.lawful h.single)
 is_shaped files env bs b None f h e = absurd h
 
 pub is_run : (files : Files) (env : Environment) (bs : List Binding) (b : Block) (o : Option Term) (f : Function) → IsSomeAnd o (λ t. MayEmit files env t bs b) → IsOf files env bs b o f → IsSomeAnd o (λ t. RunsAsBlock env t bs b f)
-is_run files env bs b (Some t) f h e = subst (RunsAsBlock env t bs b) (sym e) (runs_as_block files env t bs b h.lawful)
+is_run files env bs b (Some t) f h e = subst (RunsAsBlock env t bs b) (sym e) (runs_as_block files env t bs b h.lawful h.single)
 is_run files env bs b None f h e = absurd h

@@ -6,6 +6,7 @@ use Rattle.std.specs.List.{IsDistinct}
 use Rattle.std.specs.Str.{bytes_eq}
 use Rattle.std.specs.Cmp.Lexicographic.{nat_list_eq_equiv}
 use Rattle.std.proofs.lemmas.List.Elements.{All-contains, All-from_recursion}
+use Rattle.isle_core.specs.declared.types.ReturnKind.{ReturnKind}
 use Rattle.isle_base.specs.declared.ids.Sym.{Sym}
 use Rattle.isle_core.specs.declared.TermId.{TermId}
 use Rattle.isle_core.specs.declared.types.ConstructorKind.TheVariants as constructor
@@ -13,9 +14,10 @@ use Rattle.isle_core.specs.declared.types.Term.{Term}
 use Rattle.isle_core.specs.declared.types.TermKind.{TermKind}
 use Rattle.isle_core.specs.declared.types.TermKind.TheVariants as kind
 use Rattle.isle_core.specs.declared.values.Callee.TheVariants.{External}
-use Rattle.isle_core.specs.Calling.{Calling, calling, calling_of, calling_by, pure_callee, is_partial}
+use Rattle.isle_core.specs.Calling.{Calling, calling, calling_of, calling_by, pure_callee, kind_of, may_be_nothing}
+use Rattle.isle_emission.specs.Partial.{is_partial}
 use Rattle.isle_core.specs.Terms.{sym_text, impure_callee}
-use Rattle.isle_core.specs.BlockLawful.{IsCall}
+use Rattle.isle_core.specs.ExternalCall.{IsCall}
 use Rattle.isle_core.specs.Rule.{Environment}
 use Rattle.isle_core.proofs.Contained.{head_contained, tail_contained, contained_cases, none_contained}
 use Rattle.isle_tree.specs.declared.tree.TraitFn.{TraitFn}
@@ -31,21 +33,21 @@ pub record IsExternalTerm (env : Environment) (t : Term) (partial : Bool) (c : C
   pub callee : callee_of c ≡ External (sym_text env func)
   pub partial' : is_partial t.kind ≡ partial
 
-by_kind : (env : Environment) (t : Term) (k : TermKind) (partial : Bool) → t.kind ≡ k → IsCall partial (calling_by (is_partial k) (impure_callee env t k) (pure_callee env t k)) → IsExternalTerm env t partial (calling_by (is_partial k) (impure_callee env t k) (pure_callee env t k))
-by_kind env t (kind.Decl false multi p recursive (constructor.External func) extractor) partial e h = record { func = func; fn = ap (λ x. option_map (fn_for env t) (func_of x)) e; callee = refl; partial' = ap is_partial e ∙ h.0 }
-by_kind env t (kind.Decl false multi p recursive constructor.Internal extractor) partial e h = absurd h.1
-by_kind env t (kind.Decl false multi p recursive constructor.Absent extractor) partial e h = absurd h
-by_kind env t (kind.Decl true multi p recursive (constructor.External func) extractor) partial e h = absurd h
-by_kind env t (kind.Decl true multi p recursive constructor.Internal extractor) partial e h = absurd h
-by_kind env t (kind.Decl true multi p recursive constructor.Absent extractor) partial e h = absurd h
-by_kind env t (kind.Variant ty variant) partial e h = absurd h
-by_kind env t (kind.Struct ty) partial e h = absurd h
+by_kind : (env : Environment) (t : Term) (k : TermKind) (of : ReturnKind) → t.kind ≡ k → IsCall of (calling_by (kind_of k) (impure_callee env t k) (pure_callee env t k)) → IsExternalTerm env t (may_be_nothing of) (calling_by (kind_of k) (impure_callee env t k) (pure_callee env t k))
+by_kind env t (kind.Decl false multi p recursive (constructor.External func) extractor) of e h = record { func = func; fn = ap (λ x. option_map (fn_for env t) (func_of x)) e; callee = refl; partial' = ap is_partial e ∙ ap may_be_nothing h.0 }
+by_kind env t (kind.Decl false multi p recursive constructor.Internal extractor) of e h = absurd h.1
+by_kind env t (kind.Decl false multi p recursive constructor.Absent extractor) of e h = absurd h
+by_kind env t (kind.Decl true multi p recursive (constructor.External func) extractor) of e h = absurd h
+by_kind env t (kind.Decl true multi p recursive constructor.Internal extractor) of e h = absurd h
+by_kind env t (kind.Decl true multi p recursive constructor.Absent extractor) of e h = absurd h
+by_kind env t (kind.Variant ty variant) of e h = absurd h
+by_kind env t (kind.Struct ty) of e h = absurd h
 
 -- a call of an external term
-pub external_term : (env : Environment) (term : TermId) (t : Term) (partial : Bool) → slice_get env.terms term.0 ≡ Some t → IsCall partial (calling env term) → IsExternalTerm env t partial (calling env term)
-external_term env term t partial there h =
+pub external_term : (env : Environment) (term : TermId) (t : Term) (of : ReturnKind) → slice_get env.terms term.0 ≡ Some t → IsCall of (calling env term) → IsExternalTerm env t (may_be_nothing of) (calling env term)
+external_term env term t of there h =
     let is : calling env term ≡ calling_of env (Some t) = ap (calling_of env) there in
-    subst (IsExternalTerm env t partial) (sym is) (by_kind env t t.kind partial refl (subst (IsCall partial) is h))
+    subst (IsExternalTerm env t (may_be_nothing of)) (sym is) (by_kind env t t.kind of refl (subst (IsCall of) is h))
 
 -- ---- functions of the trait by their names
 
@@ -102,8 +104,8 @@ pub term_fn_found : (env : Environment) (term : TermId) (t : Term) (partial : Bo
 term_fn_found env term t partial names there x = fn_found (trait_fns_of env) (fn_for env t x.func) names.distinct (fn_contained env env.terms term.0 t (fn_for env t x.func) there x.fn)
 
 -- what an external term's call goes to has a name of Rust
-pub callee_is : (env : Environment) (term : TermId) (t : Term) (partial : Bool) → HasFnNames env → slice_get env.terms term.0 ≡ Some t → IsCall partial (calling env term) → IsCallee (callee_of (calling env term))
-callee_is env term t partial names there call =
-    let x = external_term env term t partial there call in
+pub callee_is : (env : Environment) (term : TermId) (t : Term) (of : ReturnKind) → HasFnNames env → slice_get env.terms term.0 ≡ Some t → IsCall of (calling env term) → IsCallee (callee_of (calling env term))
+callee_is env term t of names there call =
+    let x = external_term env term t of there call in
     subst IsCallee (sym x.callee)
     (All-contains (λ (f : TraitFn). IsIdentifier f.name) (trait_fns_of env) (fn_for env t x.func) (All-from_recursion (λ (f : TraitFn). IsIdentifier f.name) (trait_fns_of env) names.identifiers) (fn_contained env env.terms term.0 t (fn_for env t x.func) there x.fn))

@@ -13,6 +13,7 @@ pub mod Simulation
 pub mod Shapes
 pub mod TermNames
 pub mod ExternalTerms
+pub mod ArmBodies
 pub mod BlockForms
 pub mod BlockThere
 pub mod BlockFits

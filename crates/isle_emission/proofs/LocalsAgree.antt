@@ -13,10 +13,12 @@ use Rattle.isle_core.specs.Meaning.{Meaning}
 use Rattle.isle_core.specs.HasType.{HaveTypes}
 use Rattle.isle_core.specs.Path.{Path, at, at_all, paths_of}
 use Rattle.isle_core.specs.Held.{Held, Absent, One, Optional, Known, value_before, value_at, values_at}
-use Rattle.isle_core.specs.BlockLawful.{IsPathOf, IsOptionOf, IsReadAs, AreReadAs}
+use Rattle.isle_core.specs.PathType.{IsPathOf, IsOptionOf}
+use Rattle.isle_core.specs.Readable.{IsReadAs, AreReadAs}
 use Rattle.isle_core.specs.Rule.{Environment}
+use Rattle.isle_core.specs.Setting.{setting}
 use Rattle.isle_tree.specs.Run.{Env, newer, look, bind, value_of, read_values}
-use Rattle.isle_emission.specs.Operands.{is_bound, operand_of}
+use Rattle.isle_emission.specs.Operands.{is_bound, written_operand}
 use Rattle.isle_emission.specs.Statements.{reads}
 use Rattle.isle_emission.proofs.BoundTests.{found}
 use Rattle.isle_emission.proofs.HeldStays.{IsThere, Grows, held_stays}
@@ -79,14 +81,14 @@ bind_agrees env m args t bs bound known locals b h a at_b kind = record {
 -- the value that an operand stands for, in the function and at the path
 pub record ReadsAs (env : Environment) (m : Meaning) (args : List Value) (bs : List Binding) (bound : List ℕ) (known : Known) (locals : Env) (b : BindingId) : Type 0 where
   pub v : Value
-  pub place : value_of args locals (operand_of env bs bound b) ≡ One v
+  pub place : value_of args locals (written_operand env bs bound b) ≡ One v
   pub held : value_at env m args known (at (paths_of bs) b) ≡ One v
 
 not_bound : (bound : List ℕ) (n : ℕ) → Contains bound n → is_bound bound (record { 0 = n }) ≡ false → ⊥
 not_bound bound n c e = let t = found bound n c in cc
 
 pub operand_reads : (env : Environment) (m : Meaning) (args : List Value) (t : Term) (bs : List Binding) (bound : List ℕ) (known : Known) (locals : Env) (b : BindingId) (ty : TypeId)
-    → HaveTypes env args t.arg_tys → Agree env m args t bs bound known locals → IsReadAs env t bs bound b ty → ReadsAs env m args bs bound known locals b
+    → HaveTypes env args t.arg_tys → Agree env m args t bs bound known locals → IsReadAs (setting env t bs) bound b ty → ReadsAs env m args bs bound known locals b
 operand_reads env m args t bs bound known locals b ty h a r = one (is_bound bound b) refl
   where
     one : (x : Bool) → is_bound bound b ≡ x → ReadsAs env m args bs bound known locals b
@@ -106,7 +108,7 @@ pub record ReadAll (env : Environment) (m : Meaning) (args : List Value) (bs : L
   pub held : values_at env m args known (at_all (paths_of bs) parameters) ≡ Some vs
 
 pub operands_read : (env : Environment) (m : Meaning) (args : List Value) (t : Term) (bs : List Binding) (bound : List ℕ) (known : Known) (locals : Env) (parameters : List BindingId) (tys : List TypeId)
-    → HaveTypes env args t.arg_tys → Agree env m args t bs bound known locals → AreReadAs env t bs bound parameters tys → ReadAll env m args bs bound known locals parameters
+    → HaveTypes env args t.arg_tys → Agree env m args t bs bound known locals → AreReadAs (setting env t bs) bound parameters tys → ReadAll env m args bs bound known locals parameters
 operands_read env m args t bs bound known locals [] [] h a r = record { vs = []; places = refl; held = refl }
 operands_read env m args t bs bound known locals (b ∷ more) (ty ∷ tys) h a r =
     let k = operand_reads env m args t bs bound known locals b ty h a r.0 in

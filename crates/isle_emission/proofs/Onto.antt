@@ -6,7 +6,7 @@ use Rattle.isle_tree.specs.Program.{Body, Done, Then}
 use Rattle.isle_tree.specs.Views.{stmt, body_of}
 use Rattle.isle_tree.specs.Program.{Stmt}
 use Rattle.isle_emission.specs.BodyOnto.{body_onto}
-use Rattle.isle_core.specs.BlockLawful.{bound_by}
+use Rattle.isle_core.specs.Bindable.{bound_by}
 
 pub onto_pushed : (xs : List CodeStmt) (x : CodeStmt) (end : Body) → body_onto (map stmt (xs ++ x ∷ [])) end ≡ body_onto (map stmt xs) (Then (stmt x) end)
 onto_pushed [] x end = refl

@@ -15,19 +15,21 @@ use Rattle.isle_core.specs.HasType.{IsOfDef, HasType, HaveTypes}
 use Rattle.isle_core.specs.Constants.{int_of_def, int_value}
 use Rattle.isle_core.specs.Path.{Path, Arg, ConstBool, ConstInt}
 use Rattle.isle_core.specs.Held.{One, Known, held, value_at, meets}
-use Rattle.isle_core.specs.BlockLawful.{IsPathOf, IsConstraintOf, IsInPlace}
+use Rattle.isle_core.specs.ConstraintType.{IsConstraintOf}
+use Rattle.isle_core.specs.PathType.{IsPathOf}
+use Rattle.isle_core.specs.Readable.{IsInPlace}
 use Rattle.isle_core.specs.Rule.{Environment}
 use Rattle.isle_tree.specs.Run.{Env, value_of}
-use Rattle.isle_emission.specs.Operands.{constant, in_place, tested}
+use Rattle.isle_emission.specs.Operands.{written_constant, written_place, written_test}
 
 -- the path has this value, where it is read in place and where a block runs
 pub record Reads (env : Environment) (m : Meaning) (args : List Value) (p : Path) (v : Value) : Type 0 where
-  pub place : (locals : Env) → value_of args locals (in_place env p) ≡ One v
+  pub place : (locals : Env) → value_of args locals (written_place env p) ≡ One v
   pub held : (known : Known) → value_at env m args known p ≡ One v
 
 -- the constraint tests for this value
 pub record TestsFor (env : Environment) (c : Constraint) (w : Value) : Type 0 where
-  pub place : (args : List Value) (locals : Env) → value_of args locals (tested env c) ≡ One w
+  pub place : (args : List Value) (locals : Env) → value_of args locals (written_test env c) ≡ One w
   pub met : (v : Value) → meets env c (One v) ≡ same_value v w
 
 -- an argument of a type is there
@@ -39,13 +41,13 @@ argument_there env [] (of ∷ tys) i ty h e = absurd h
 argument_there env (v ∷ args) [] i ty h e = absurd h
 
 -- a number of an integer type is spelled by its operand
-number_there : (o : Option TypeDef) (n : ℤ) (args : List Value) (locals : Env) → IsSomeAnd o (λ d. IsOfDef d (int_of_def o n)) → value_of args locals (constant (int_of_def o n)) ≡ One (int_of_def o n)
+number_there : (o : Option TypeDef) (n : ℤ) (args : List Value) (locals : Env) → IsSomeAnd o (λ d. IsOfDef d (int_of_def o n)) → value_of args locals (written_constant (int_of_def o n)) ≡ One (int_of_def o n)
 number_there (Some (def.Builtin (builtin.Int ty))) n args locals h = refl
 number_there (Some (def.Builtin builtin.Bool)) n args locals h = absurd h
 number_there None n args locals h = absurd h
 number_there (Some d) n args locals h = absurd h
 
-typed_number : (env : Environment) (of ty : TypeId) (n : ℤ) (args : List Value) (locals : Env) → of ≡ ty → HasType env (int_value env ty n) ty → value_of args locals (constant (int_value env of n)) ≡ One (int_value env of n)
+typed_number : (env : Environment) (of ty : TypeId) (n : ℤ) (args : List Value) (locals : Env) → of ≡ ty → HasType env (int_value env ty n) ty → value_of args locals (written_constant (int_value env of n)) ≡ One (int_value env of n)
 typed_number env of ty n args locals e h = rw e (number_there (slice_get env.types.types ty.0) n args locals h)
 
 -- a path of a type that is read in place has a value

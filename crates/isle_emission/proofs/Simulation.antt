@@ -1,6 +1,7 @@
 -- The function of a term runs as its block.
-use Rattle.std.proofs.Common.{◌≡◌, ℕ, List, [], Bool, true, false, cond, Some, None, refl, sym, ap, ◌∙◌, subst}
+use Rattle.std.proofs.Common.{◌≡◌, ℕ, List, [], ◌++◌, Bool, true, false, cond, Some, None, refl, sym, ap, ◌∙◌, subst}
 use Rattle.std.specs.Prelude.{Contains}
+use Rattle.std.proofs.lemmas.List.Elements.{Contains-append_left, Contains-append_right}
 use Rattle.isle_core.specs.declared.BindingId.{BindingId}
 use Rattle.isle_core.specs.declared.files.Files.{Files}
 use Rattle.isle_core.specs.declared.rule_sets.Binding.{Binding}
@@ -9,7 +10,7 @@ use Rattle.isle_core.specs.Value.{Value, Made}
 use Rattle.isle_core.specs.SameValue.{same_value}
 use Rattle.isle_core.specs.Meaning.{Meaning}
 use Rattle.isle_core.specs.HasType.{HaveTypes}
-use Rattle.isle_core.specs.Calling.{is_partial}
+use Rattle.isle_emission.specs.Partial.{is_partial}
 use Rattle.isle_core.specs.Outcome.{Value', Prescription}
 use Rattle.isle_core.specs.Path.{paths_of}
 use Rattle.isle_core.specs.Held.{One, Known, nothing_known, meets}
@@ -20,23 +21,26 @@ use Rattle.isle_core.specs.CallRun as went
 use Rattle.isle_core.specs.CallRun.{Went, then_go}
 use Rattle.isle_core.specs.RuleSet.{gave}
 use Rattle.isle_core.specs.BlockRun.{bind_all, block_run, control_run}
-use Rattle.isle_core.specs.StandsFor.{EachOnce}
-use Rattle.isle_core.specs.BlockLawful.{bound_by, occurrences, MakesOnce, IsLawfulBlock, IsLawfulControl}
+use Rattle.isle_core.specs.Bindable.{bound_by}
+use Rattle.isle_core.specs.BlockLawful.{IsLawfulFrom, IsLawfulControl, IsLawfulBlock}
+use Rattle.isle_core.specs.Occurrences.{AreNew, occurrences, after_block, after_control}
 use Rattle.isle_core.specs.Terms.{sym_text}
 use Rattle.isle_core.specs.Rule.{Environment}
-use Rattle.isle_core.proofs.Contained.{none_contained}
+use Rattle.isle_core.specs.Setting.{setting}
+use Rattle.isle_core.specs.SingleArms.{HasSingleArms, IsSingle}
 use Rattle.isle_tree.specs.declared.tree.Operand.{Operand}
 use Rattle.isle_tree.specs.Program.{Tail, Body, Done, Then}
 use Rattle.isle_tree.specs.Run.{Env, value_of, Flow, Goes, Ends, then_run, behind, run_return, run_stmt, run_body, ended, function_run}
 use Rattle.isle_emission.specs.Ends.{end_of}
-use Rattle.isle_emission.specs.Operands.{operand_of}
+use Rattle.isle_emission.specs.Operands.{written_operand}
 use Rattle.isle_emission.specs.Statements.{returned, block_body, control_stmt}
-use Rattle.isle_emission.specs.TermFunction.{ends_in_return, mark_of, tail_of, term_function}
+use Rattle.isle_emission.specs.TermFunction.{kind_of, ends_in_return, mark_of, tail_of, term_function}
 use Rattle.isle_emission.specs.Emitted.{AnswersBindings, RunsAsBlock}
+use Rattle.isle_emission.proofs.ArmBodies.{arm_body}
 use Rattle.isle_emission.proofs.HeldStays.{Grows}
 use Rattle.isle_emission.proofs.PathValues.{constraint_tests}
 use Rattle.isle_emission.proofs.LocalsAgree.{Agree, none_agree, agree_later, operand_reads}
-use Rattle.isle_emission.proofs.BindsRun.{Keeps, LetsRun, lets_run}
+use Rattle.isle_emission.proofs.BindsRun.{AreUnanswered, Keeps, LetsRun, lets_run}
 
 -- ---- ends
 
@@ -58,140 +62,167 @@ return_back : (args : List Value) (partial : Bool) (o : Operand) (v : Value) (lo
 return_back args true o v locals made e = rw e refl
 return_back args false o v locals made e = rw e refl
 
--- ---- before a Return no impure call was made
+-- ---- what is known along a way
 
-abbrev IsNothing : Known → Type 0
-IsNothing known = (k : ℕ) → known k ≡ None
+-- only these calls may have been answered
+abbrev KnowsOnly : (made : List ℕ) → Known → Type 0
+KnowsOnly made known = (k : ℕ) → (Contains made k → ⊥) → known k ≡ None
 
-abbrev StaysNothing : Went → Type 0
-StaysNothing (went.Goes known made) = IsNothing known
-StaysNothing (went.Ends o) = Unit {0}
+-- what is known stays, and only these calls may have been answered
+record IsLater (known : Known) (made : List ℕ) (later : Known) : Type 0 where
+  grows : Grows known later
+  only : KnowsOnly made later
 
--- only a step that returns may have made one
-abbrev NothingFor : Control → Known → Type 0
-NothingFor (block.Return pos result) known = Unit {0}
-NothingFor (block.Match source arms) known = IsNothing known
-NothingFor (block.Equal a b body) known = IsNothing known
-NothingFor (block.Loop result body) known = IsNothing known
+-- so where a run goes on
+abbrev WentOn : Known → (made : List ℕ) → Went → Type 0
+WentOn known made (went.Goes later calls) = IsLater known made later
+WentOn known made (went.Ends o) = Unit {0}
 
-grows_from : (known later : Known) → IsNothing known → Grows known later
-grows_from known later h = record { by = λ k a e. let bad : None ≡ Some a = sym (h k) ∙ e in cc }
+grows_twice : (known later last : Known) → Grows known later → Grows later last → Grows known last
+grows_twice known later last g h = record { by = λ k a e. h.by k a (g.by k a e) }
 
-kept_nothing : (ks : List ℕ) (known later : Known) → ks ≡ [] → IsNothing known → Keeps ks known later → IsNothing later
-kept_nothing ks known later e h keeps k = keeps k (λ c. none_contained k (subst (λ xs. Contains xs k) e c)) ∙ h k
+-- answers to calls that are new
+kept_grows : (ks : List ℕ) (known later : Known) → AreUnanswered known ks → Keeps ks known later → Grows known later
+kept_grows ks known later new keeps = record { by = λ k a e. keeps k (λ c. let bad : None ≡ Some a = sym (new k c) ∙ e in cc) ∙ e }
 
-nothing_for : (c : Control) (ks : List ℕ) (known later : Known) → MakesOnce c ks → IsNothing known → Keeps ks known later → NothingFor c later
-nothing_for (block.Return pos result) ks known later once h keeps = tt
-nothing_for (block.Match source arms) ks known later none h keeps = kept_nothing ks known later none h keeps
-nothing_for (block.Equal a b body) ks known later none h keeps = kept_nothing ks known later none h keeps
-nothing_for (block.Loop result body) ks known later none h keeps = kept_nothing ks known later none h keeps
+kept_only : (made ks : List ℕ) (known later : Known) → KnowsOnly made known → Keeps ks known later → KnowsOnly (made ++ ks) later
+kept_only made ks known later only keeps k apart = keeps k (λ c. apart (Contains-append_right made ks k c)) ∙ only k (λ c. apart (Contains-append_left made ks k c))
 
-made_once : (c : Control) (ks : List ℕ) → MakesOnce c ks → EachOnce ks
-made_once (block.Return pos result) ks once = once
-made_once (block.Match source arms) ks none = subst EachOnce (sym none) tt
-made_once (block.Equal a b body) ks none = subst EachOnce (sym none) tt
-made_once (block.Loop result body) ks none = subst EachOnce (sym none) tt
+-- the calls of a bind order, where they are new
+new_unanswered : (made ks : List ℕ) (known : Known) → KnowsOnly made known → AreNew made ks → AreUnanswered known ks
+new_unanswered made ks known only new k c = only k (λ d. new.apart k d c)
+
+-- more calls may have been answered
+on_left : (made more : List ℕ) (known later : Known) → IsLater known made later → IsLater known (made ++ more) later
+on_left made more known later h = record { grows = h.grows; only = λ k apart. h.only k (λ c. apart (Contains-append_left made more k c)) }
+
+on_right : (made more : List ℕ) (known : Known) (w : Went) → WentOn known more w → WentOn known (made ++ more) w
+on_right made more known (went.Goes later calls) h = record { grows = h.grows; only = λ k apart. h.only k (λ c. apart (Contains-append_right made more k c)) }
+on_right made more known (went.Ends o) h = tt
+
+on_first : (more others : List ℕ) (known : Known) (w : Went) → WentOn known more w → WentOn known (more ++ others) w
+on_first more others known (went.Goes later calls) h = on_left more others known later h
+on_first more others known (went.Ends o) h = tt
 
 -- ---- blocks
 
 module _ (env : Environment) (m : Meaning) (args : List Value) (t : Term) (bs : List Binding) (typed : HaveTypes env args t.arg_tys) (answers : AnswersBindings env m bs) where
   -- the statements of a block go as the block, whatever follows them
-  record Runs (bound : List ℕ) (b : Block) (locals : Env) (known : Known) (made : List Made) : Type 0 where
+  record Runs (bound made : List ℕ) (b : Block) (locals : Env) (known : Known) (calls : List Made) : Type 0 where
     after : Env
-    runs : (end : Body) → run_body m args (block_body env bs (is_partial t.kind) bound b end) locals made ≡ then_run (back (is_partial t.kind) after (block_run env m args (paths_of bs) b known made)) (run_body m args end)
-    stays : StaysNothing (block_run env m args (paths_of bs) b known made)
+    runs : (end : Body) → run_body m args (block_body env bs (is_partial t.kind) bound b end) locals calls ≡ then_run (back (is_partial t.kind) after (block_run env m args (paths_of bs) b known calls)) (run_body m args end)
+    goes : WentOn known (after_block env (paths_of bs) made b) (block_run env m args (paths_of bs) b known calls)
 
   -- a step's statement goes as what it does
-  record Does (bound : List ℕ) (c : Control) (locals : Env) (known : Known) (made : List Made) : Type 0 where
-    runs : run_stmt m args (control_stmt env bs (is_partial t.kind) bound c) locals made ≡ back (is_partial t.kind) locals (control_run env m args (paths_of bs) c known made)
-    stays : StaysNothing (control_run env m args (paths_of bs) c known made)
+  record Does (bound made : List ℕ) (c : Control) (locals : Env) (known : Known) (calls : List Made) : Type 0 where
+    runs : run_stmt m args (control_stmt env bs (is_partial t.kind) bound c) locals calls ≡ back (is_partial t.kind) locals (control_run env m args (paths_of bs) c known calls)
+    goes : WentOn known (after_control env (paths_of bs) made c) (control_run env m args (paths_of bs) c known calls)
 
-  -- what stands behind a step
-  record RunsBehind (bound : List ℕ) (w : Went) (more : Block) (locals : Env) : Type 0 where
+  -- what stands after a step that went so
+  record RunsAfter (bound made : List ℕ) (known : Known) (w : Went) (more : Block) (locals : Env) : Type 0 where
     after : Env
     runs : (end : Body) → then_run (back (is_partial t.kind) locals w) (run_body m args (block_body env bs (is_partial t.kind) bound more end)) ≡ then_run (back (is_partial t.kind) after (then_go w (block_run env m args (paths_of bs) more))) (run_body m args end)
-    stays : StaysNothing (then_go w (block_run env m args (paths_of bs) more))
+    goes : WentOn known (after_block env (paths_of bs) made more) (then_go w (block_run env m args (paths_of bs) more))
 
-  runs_behind : (bound : List ℕ) (w : Went) (more : Block) (locals : Env) → StaysNothing w → ((known : Known) (made : List Made) → IsNothing known → Runs bound more locals known made) → RunsBehind bound w more locals
-  runs_behind bound (went.Goes known made) more locals nothing h = let r = h known made nothing in record { after = r.after; runs = r.runs; stays = r.stays }
-  runs_behind bound (went.Ends o) more locals nothing h = record { after = locals; runs = λ end. refl; stays = tt }
+  -- what is known before a step stays to the end
+  goes_twice : (known later : Known) (made : List ℕ) (w : Went) → Grows known later → WentOn later made w → WentOn known made w
+  goes_twice known later made (went.Goes last all) g h = record { grows = grows_twice known later last g h.grows; only = h.only }
+  goes_twice known later made (went.Ends o) g h = tt
 
-  -- a step, behind its lets
-  step_runs : (bound : List ℕ) (binds : List BindingId) (c : Control) (more : Block) (locals : Env) (known : Known) (made : List Made) (w : Went) → bind_all env m args (paths_of bs) binds known made ≡ w → LetsRun env m args t bs bound binds known made locals w
-      → ((later : Known) (calls : List Made) (after : Env) → Keeps (occurrences env (paths_of bs) binds) known later → Agree env m args t bs (bound_by bound binds) later after
-      → (d : Does (bound_by bound binds) c after later calls) × ((last : Known) (all : List Made) → IsNothing last → Runs (bound_by bound binds) more after last all))
-      → Runs bound (Step binds c more) locals known made
-  step_runs bound binds c more locals known made (went.Ends o) e is rest = record {
+  runs_after : (bound made : List ℕ) (known : Known) (w : Went) (more : Block) (locals : Env) → WentOn known made w → ((last : Known) (all : List Made) → IsLater known made last → Runs bound made more locals last all) → RunsAfter bound made known w more locals
+  runs_after bound made known (went.Goes last all) more locals is h =
+      let r = h last all is in
+      record { after = r.after; runs = r.runs; goes = goes_twice known last (after_block env (paths_of bs) made more) (block_run env m args (paths_of bs) more last all) is.grows r.goes }
+  runs_after bound made known (went.Ends o) more locals is h = record { after = locals; runs = λ end. refl; goes = tt }
+
+  -- a step, after its lets
+  step_runs : (bound made : List ℕ) (binds : List BindingId) (c : Control) (more : Block) (locals : Env) (known : Known) (calls : List Made) (w : Went) → bind_all env m args (paths_of bs) binds known calls ≡ w → AreUnanswered known (occurrences env (paths_of bs) binds)
+      → LetsRun env m args t bs bound binds known calls locals w
+      → ((later : Known) (those : List Made) (after : Env) → Keeps (occurrences env (paths_of bs) binds) known later → Agree env m args t bs (bound_by bound binds) later after
+      → Does (bound_by bound binds) (made ++ occurrences env (paths_of bs) binds) c after later those
+      × ((last : Known) (all : List Made) → IsLater later (after_control env (paths_of bs) (made ++ occurrences env (paths_of bs) binds) c) last → Runs (bound_by bound binds) (after_control env (paths_of bs) (made ++ occurrences env (paths_of bs) binds) c) more after last all))
+      → Runs bound made (Step binds c more) locals known calls
+  step_runs bound made binds c more locals known calls (went.Ends o) e new is rest = record {
     after = locals;
     runs = λ end. is (Then (control_stmt env bs (is_partial t.kind) (bound_by bound binds) c) (block_body env bs (is_partial t.kind) (bound_by bound binds) more end)) ∙ ap (λ x. then_run (back (is_partial t.kind) locals (then_go (then_go x (control_run env m args (paths_of bs) c)) (block_run env m args (paths_of bs) more))) (run_body m args end)) (sym e);
-    stays = subst (λ x. StaysNothing (then_go (then_go x (control_run env m args (paths_of bs) c)) (block_run env m args (paths_of bs) more))) (sym e) tt;
+    goes = subst (λ x. WentOn known (after_block env (paths_of bs) made (Step binds c more)) (then_go (then_go x (control_run env m args (paths_of bs) c)) (block_run env m args (paths_of bs) more))) (sym e) tt;
   }
-  step_runs bound binds c more locals known made (went.Goes later calls) e is rest =
-      let k = rest later calls is.0 is.3 is.2 in
-      let r = runs_behind (bound_by bound binds) (control_run env m args (paths_of bs) c later calls) more is.0 k.0.stays k.1 in
+  step_runs bound made binds c more locals known calls (went.Goes later those) e new is rest =
+      let ps = paths_of bs in
+      let ks = occurrences env ps binds in
+      let k = rest later those is.0 is.3 is.2 in
+      let r = runs_after (bound_by bound binds) (after_control env ps (made ++ ks) c) later (control_run env m args ps c later those) more is.0 k.0.goes k.1 in
       record {
         after = r.after;
         runs = λ end.
             is.1 (Then (control_stmt env bs (is_partial t.kind) (bound_by bound binds) c) (block_body env bs (is_partial t.kind) (bound_by bound binds) more end))
             ∙ ap (λ f. then_run f (run_body m args (block_body env bs (is_partial t.kind) (bound_by bound binds) more end))) k.0.runs
             ∙ r.runs end
-            ∙ ap (λ x. then_run (back (is_partial t.kind) r.after (then_go (then_go x (control_run env m args (paths_of bs) c)) (block_run env m args (paths_of bs) more))) (run_body m args end)) (sym e);
-        stays = subst (λ x. StaysNothing (then_go (then_go x (control_run env m args (paths_of bs) c)) (block_run env m args (paths_of bs) more))) (sym e) r.stays;
+            ∙ ap (λ x. then_run (back (is_partial t.kind) r.after (then_go (then_go x (control_run env m args ps c)) (block_run env m args ps more))) (run_body m args end)) (sym e);
+        goes = subst (λ x. WentOn known (after_block env ps made (Step binds c more)) (then_go (then_go x (control_run env m args ps c)) (block_run env m args ps more))) (sym e)
+            (goes_twice known later (after_block env ps made (Step binds c more)) (then_go (control_run env m args ps c later those) (block_run env m args ps more)) (kept_grows ks known later new is.3) r.goes);
       }
 
-  if_stays : (x : Bool) (w : Went) (known : Known) (made : List Made) → IsNothing known → StaysNothing w → StaysNothing (cond x w (went.Goes known made))
-  if_stays true w known made h k = k
-  if_stays false w known made h k = h
+  if_goes : (x : Bool) (w : Went) (known : Known) (calls : List Made) (made : List ℕ) → IsLater known made known → WentOn known made w → WentOn known made (cond x w (went.Goes known calls))
+  if_goes true w known calls made h k = k
+  if_goes false w known calls made h k = h
 
-  -- the steps behind a step that goes on
-  behind_runs : (c : Control) (more : Block) (bound : List ℕ) (locals : Env) (known last : Known) (made : List Made) → IsNothing last → IsLawfulControl env t bs bound c more → NothingFor c known → Agree env m args t bs bound known locals
-      → (Agree env m args t bs bound last locals → Runs bound more locals last made) → Runs bound more locals last made
-  behind_runs (block.Return pos result) more bound locals known last made none k nothing a go = rw k.1 (record { after = locals; runs = λ end. refl; stays = none })
-  behind_runs (block.Match source arms) more bound locals known last made none k nothing a go = go (agree_later env m args t bs bound known last locals (grows_from known last nothing) a)
-  behind_runs (block.Equal x y body) more bound locals known last made none k nothing a go = go (agree_later env m args t bs bound known last locals (grows_from known last nothing) a)
-  behind_runs (block.Loop result body) more bound locals known last made none k nothing a go = absurd k
+  -- the same is known as before
+  same_later : (known : Known) (made : List ℕ) → KnowsOnly made known → IsLater known made known
+  same_later known made only = record { grows = record { by = λ k a e. e }; only = only }
+
+  -- a body goes as its block, and behind it stand the outer locals
+  body_back : (bound made : List ℕ) (body : Block) (locals : Env) (known : Known) (calls : List Made) → Runs bound made body locals known calls
+      → behind locals (run_body m args (block_body env bs (is_partial t.kind) bound body Done) locals calls) ≡ back (is_partial t.kind) locals (block_run env m args (paths_of bs) body known calls)
+  body_back bound made body locals known calls r = ap (behind locals) (r.runs Done) ∙ behind_back m args (is_partial t.kind) locals r.after (block_run env m args (paths_of bs) body known calls)
 
   mutual
-    block_runs : (b : Block) (bound : List ℕ) (locals : Env) (known : Known) (made : List Made) → IsNothing known → IsLawfulBlock env t bs bound b → Agree env m args t bs bound known locals → Runs bound b locals known made
-    block_runs Stop bound locals known made nothing k a = record { after = locals; runs = λ end. refl; stays = nothing }
-    block_runs (Step binds c more) bound locals known made nothing k a =
+    block_runs : (b : Block) (bound made : List ℕ) (locals : Env) (known : Known) (calls : List Made) → KnowsOnly made known → IsLawfulFrom (setting env t bs) bound made b → HasSingleArms b → Agree env m args t bs bound known locals → Runs bound made b locals known calls
+    block_runs Stop bound made locals known calls only k o a = record { after = locals; runs = λ end. refl; goes = same_later known made only }
+    block_runs (Step binds c more) bound made locals known calls only k o a =
         let ks = occurrences env (paths_of bs) binds in
-        step_runs bound binds c more locals known made (bind_all env m args (paths_of bs) binds known made) refl
-        (lets_run env m args t bs bound binds known made locals typed answers k.0 (made_once c ks k.1) (λ j d. nothing j) a)
-        (λ later calls after keeps agree. (
-          control_runs c more (bound_by bound binds) after later calls (nothing_for c ks known later k.1 nothing keeps) k.2 agree,
-          λ last all none. behind_runs c more (bound_by bound binds) after later last all none k.2 (nothing_for c ks known later k.1 nothing keeps) agree
-              (λ still. block_runs more (bound_by bound binds) after last all none k.3 still),
+        let new = new_unanswered made ks known only k.1 in
+        step_runs bound made binds c more locals known calls (bind_all env m args (paths_of bs) binds known calls) refl new
+        (lets_run env m args t bs bound binds known calls locals typed answers k.0 k.1.once new a)
+        (λ later those after keeps agree. (
+          control_runs c more (bound_by bound binds) (made ++ ks) after later those (kept_only made ks known later only keeps) k.2 o.0 agree,
+          λ last all is. block_runs more (bound_by bound binds) (after_control env (paths_of bs) (made ++ ks) c) after last all is.only k.3 o.1 (agree_later env m args t bs (bound_by bound binds) later last after is.grows agree),
         ))
 
-    control_runs : (c : Control) (more : Block) (bound : List ℕ) (locals : Env) (known : Known) (made : List Made) → NothingFor c known → IsLawfulControl env t bs bound c more → Agree env m args t bs bound known locals → Does bound c locals known made
-    control_runs (block.Match source (block.Arm c places body arms)) more bound locals known made nothing k a =
-        let v = operand_reads env m args t bs bound known locals source k.0 typed a k.1 in
-        let w = constraint_tests env c k.0 k.2.0 in
-        let r = block_runs body bound locals known made nothing k.2.2 a in
+    control_runs : (c : Control) (more : Block) (bound made : List ℕ) (locals : Env) (known : Known) (calls : List Made) → KnowsOnly made known → IsLawfulControl (setting env t bs) bound made c more → IsSingle c → Agree env m args t bs bound known locals
+        → Does bound made c locals known calls
+    control_runs (block.Match source (block.Arm c places body block.NoArm)) more bound made locals known calls only k o a =
+        let v = operand_reads env m args t bs bound known locals source k.1.0 typed a k.1.1 in
+        let w = constraint_tests env c k.1.0 k.1.2.0 in
+        let r = block_runs body bound made locals known calls only (arm_body (setting env t bs) bound made source c places body block.NoArm k.1.0 k.1.2) o a in
+        let after = after_block env (paths_of bs) made body in
         record {
           runs =
-              rw (v.place, w.1.place args locals, v.held, w.1.met v.v, k.2.3)
-              (if_back (is_partial t.kind) (same_value v.v w.0) locals (run_body m args (block_body env bs (is_partial t.kind) bound body Done) locals made) (block_run env m args (paths_of bs) body known made) known made
-              (ap (behind locals) (r.runs Done) ∙ behind_back m args (is_partial t.kind) locals r.after (block_run env m args (paths_of bs) body known made)));
-          stays = rw k.2.3 (if_stays (meets env c _) (block_run env m args (paths_of bs) body known made) known made nothing r.stays);
+              rw (v.place, w.1.place args locals, v.held, w.1.met v.v)
+              (if_back (is_partial t.kind) (same_value v.v w.0) locals (run_body m args (block_body env bs (is_partial t.kind) bound body Done) locals calls) (block_run env m args (paths_of bs) body known calls) known calls
+              (body_back bound made body locals known calls r));
+          goes = if_goes (meets env c _) (block_run env m args (paths_of bs) body known calls) known calls (made ++ (after ++ [])) (on_left made (after ++ []) known known (same_later known made only))
+              (on_right made (after ++ []) known (block_run env m args (paths_of bs) body known calls) (on_first after [] known (block_run env m args (paths_of bs) body known calls) r.goes));
         }
-    control_runs (block.Match source block.NoArm) more bound locals known made nothing k a = absurd k.2
-    control_runs (block.Equal x y body) more bound locals known made nothing k a =
+    control_runs (block.Match source (block.Arm c places body (block.Arm d others inside arms))) more bound made locals known calls only k o a = absurd o
+    control_runs (block.Match source block.NoArm) more bound made locals known calls only k o a = absurd o
+    control_runs (block.Equal x y body) more bound made locals known calls only k o a =
         let v = operand_reads env m args t bs bound known locals x k.0.0 typed a k.0.1 in
         let w = operand_reads env m args t bs bound known locals y k.0.0 typed a k.0.2 in
-        let r = block_runs body bound locals known made nothing k.1 a in
+        let r = block_runs body bound made locals known calls only k.1 o a in
+        let after = after_block env (paths_of bs) made body in
         record {
           runs =
               rw (v.place, w.place, v.held, w.held)
-              (if_back (is_partial t.kind) (same_value v.v w.v) locals (run_body m args (block_body env bs (is_partial t.kind) bound body Done) locals made) (block_run env m args (paths_of bs) body known made) known made
-              (ap (behind locals) (r.runs Done) ∙ behind_back m args (is_partial t.kind) locals r.after (block_run env m args (paths_of bs) body known made)));
-          stays = if_stays _ (block_run env m args (paths_of bs) body known made) known made nothing r.stays;
+              (if_back (is_partial t.kind) (same_value v.v w.v) locals (run_body m args (block_body env bs (is_partial t.kind) bound body Done) locals calls) (block_run env m args (paths_of bs) body known calls) known calls
+              (body_back bound made body locals known calls r));
+          goes = if_goes _ (block_run env m args (paths_of bs) body known calls) known calls (made ++ after) (on_left made after known known (same_later known made only))
+              (on_right made after known (block_run env m args (paths_of bs) body known calls) r.goes);
         }
-    control_runs (block.Loop result body) more bound locals known made nothing k a = absurd k
-    control_runs (block.Return pos result) more bound locals known made nothing k a =
+    control_runs (block.Loop result body) more bound made locals known calls only k o a = absurd k
+    control_runs (block.Return pos result) more bound made locals known calls only k o a =
         let v = operand_reads env m args t bs bound known locals result t.ret_ty typed a k.0 in
-        record { runs = rw v.held (return_back args (is_partial t.kind) (operand_of env bs bound result) v.v locals made v.place); stays = tt }
+        record { runs = rw v.held (return_back args (is_partial t.kind) (written_operand env bs bound result) v.v locals calls v.place); goes = tt }
 
 -- ---- functions
 
@@ -215,19 +246,19 @@ returns (Step binds c (Step ds d more)) env m args bs known made e =
 
 -- behind a block that goes on stands the tail of its kind
 tail_runs : (m : Meaning) (args : List Value) (partial x : Bool) (name place : List ℕ) (locals : Env) (w : Went) → (x ≡ true → (o : Prescription) × (w ≡ went.Ends o))
-    → ended (then_run (back partial locals w) (run_body m args (cond x Done (Then (Tail (mark_of partial name place)) Done)))) ≡ Some (record { end = end_of partial (gave partial w).result; calls = (gave partial w).calls })
+    → ended (then_run (back partial locals w) (run_body m args (cond x Done (Then (Tail (mark_of partial name place)) Done)))) ≡ Some (record { end = end_of partial (gave (kind_of partial) w).result; calls = (gave (kind_of partial) w).calls })
 tail_runs m args partial x name place locals (went.Ends o) h = refl
 tail_runs m args partial true name place locals (went.Goes known made) h = let k = h refl in cc
 tail_runs m args true false name place locals (went.Goes known made) h = refl
 tail_runs m args false false name place locals (went.Goes known made) h = refl
 
 -- the function of a term whose block is lawful runs as the block
-pub runs_as_block : (files : Files) (env : Environment) (t : Term) (bs : List Binding) (b : Block) → IsLawfulBlock env t bs [] b → RunsAsBlock env t bs b (term_function files env t bs b)
-runs_as_block files env t bs b h p args m e k answers =
+pub runs_as_block : (files : Files) (env : Environment) (t : Term) (bs : List Binding) (b : Block) → IsLawfulBlock (setting env t bs) b → HasSingleArms b → RunsAsBlock env t bs b (term_function files env t bs b)
+runs_as_block files env t bs b h o p args m e k answers =
     let partial = is_partial t.kind in
     let name = sym_text env t.name in
     let place = place_in files t.decl_pos in
-    let r = block_runs env m args t bs k answers b [] [] nothing_known [] (λ j. refl) h (none_agree env m args t bs nothing_known) in
+    let r = block_runs env m args t bs k answers b [] [] [] nothing_known [] (λ j apart. refl) h o (none_agree env m args t bs nothing_known) in
     ap (function_run m args) e
     ∙ ap ended (r.runs (tail_of partial name place b))
     ∙ tail_runs m args partial (ends_in_return b) name place r.after (block_run env m args (paths_of bs) b nothing_known []) (λ x. returns b env m args bs nothing_known [] x)

@@ -7,7 +7,7 @@ use Rattle.isle_core.specs.declared.blocks.MatchArm.{MatchArm as CodeArm}
 use Rattle.isle_core.specs.declared.rule_sets.Binding.{Binding}
 use Rattle.isle_core.specs.Block.{Block, Step}
 use Rattle.isle_core.specs.BlockViews.{SeenStep, SeenArm, block_of, arms_of, step, arm}
-use Rattle.isle_core.specs.BlockLawful.{bound_by}
+use Rattle.isle_core.specs.Bindable.{bound_by}
 use Rattle.isle_core.specs.Rule.{Environment}
 use Rattle.isle_tree.specs.declared.tree.Operand.{Operand}
 use Rattle.isle_tree.specs.declared.tree.TExpr.{TExpr}
@@ -17,7 +17,7 @@ use Rattle.isle_tree.specs.Program.{Let, IfEq, Body, Done, Then}
 use Rattle.isle_tree.specs.Views.{stmt, body}
 use Rattle.isle_tree.proofs.Sees.{stmt-let, stmt-if_eq}
 use Rattle.isle_emission.specs.BodyOnto.{body_onto}
-use Rattle.isle_emission.specs.Operands.{tested}
+use Rattle.isle_emission.specs.Operands.{written_test}
 use Rattle.isle_emission.specs.Statements.{bound_expr, lets, block_body, control_stmt, arms_stmt}
 use Rattle.isle_emission.proofs.Onto.{onto_pushed, onto_done}
 
@@ -85,9 +85,9 @@ inside o q p r ss b is_o is_q is =
     stmt-if_eq o q ss ∙ ap (λ x. IfEq x q (body ss)) is_o ∙ ap (λ x. IfEq p x (body ss)) is_q ∙ ap (IfEq p r) (sym (onto_done (map stmt ss)) ∙ is)
 
 pub first_arm : (env : Environment) (bs : List Binding) (partial : Bool) (bound : List ℕ) (o q : Operand) (ss : List CodeStmt) (xs : List CodeArm) (x : CodeArm) (seen : SeenArm)
-    → false ≡ eqb (length xs) 0 → x ≡ get_or xs 0 x → arm x ≡ seen → q ≡ tested env seen.0 → body_onto (map stmt ss) Done ≡ block_body env bs partial bound seen.2 Done
+    → false ≡ eqb (length xs) 0 → x ≡ get_or xs 0 x → arm x ≡ seen → q ≡ written_test env seen.0 → body_onto (map stmt ss) Done ≡ block_body env bs partial bound seen.2 Done
     → stmt (code.IfEq o q ss) ≡ arms_stmt env bs partial bound o (arms_of (map arm xs))
 first_arm env bs partial bound o q ss [] x seen some item seen_x is_q is = absurd cc
 first_arm env bs partial bound o q ss (y ∷ ys) x seen some item seen_x is_q is =
-    inside o q o (tested env seen.0) ss (block_body env bs partial bound seen.2 Done) refl is_q is
+    inside o q o (written_test env seen.0) ss (block_body env bs partial bound seen.2 Done) refl is_q is
     ∙ ap (λ k. arms_stmt env bs partial bound o (arms_of (k ∷ map arm ys))) (sym seen_x ∙ ap arm item)

@@ -3,13 +3,15 @@ use Rattle.std.proofs.Common.{◌≡◌, ℕ, List, [], length, map, Bool, true,
 use Rattle.std.proofs.lemmas.List.{length-map}
 use Rattle.isle_core.specs.declared.files.Files.{Files}
 use Rattle.isle_core.specs.declared.types.Term.{Term}
-use Rattle.isle_core.specs.Calling.{is_partial}
+use Rattle.isle_emission.specs.Partial.{is_partial}
 use Rattle.isle_core.specs.declared.rule_sets.Binding.{Binding}
 use Rattle.isle_core.specs.Places.{place_in}
 use Rattle.isle_core.specs.Block.{Block}
 use Rattle.isle_core.specs.BlockLawful.{IsLawfulBlock}
 use Rattle.isle_core.specs.Terms.{sym_text}
 use Rattle.isle_core.specs.Rule.{Environment}
+use Rattle.isle_core.specs.Setting.{setting}
+use Rattle.isle_core.specs.SingleArms.{HasSingleArms}
 use Rattle.isle_tree.specs.Program.{Tail, Done, Then, Program}
 use Rattle.isle_tree.specs.WellFormed.{Locals, IsBody, IsBodyThere, IsKind, IsFunction}
 use Rattle.isle_tree.specs.declared.tree.TraitFn.{TraitFn}
@@ -35,8 +37,8 @@ tail_there mark true fns kind params locals = tt
 tail_there mark false fns kind params locals = (tt, tt)
 
 -- the function of a term that may be emitted and whose block is lawful, in a program with the functions of the trait
-pub emitted_well_formed : (files : Files) (env : Environment) (t : Term) (bs : List Binding) (b : Block) → IsEmittable env t → IsLawfulBlock env t bs [] b → HasFnNames env → (p : Program) → p.trait_fns ≡ trait_fns_of env → IsFunction p (term_function files env t bs b)
-emitted_well_formed files env t bs b h k fns p same =
+pub emitted_well_formed : (files : Files) (env : Environment) (t : Term) (bs : List Binding) (b : Block) → IsEmittable env t → IsLawfulBlock (setting env t bs) b → HasSingleArms b → HasFnNames env → (p : Program) → p.trait_fns ≡ trait_fns_of env → IsFunction p (term_function files env t bs b)
+emitted_well_formed files env t bs b h k o fns p same =
     let partial = is_partial t.kind in
     let name = sym_text env t.name in
     let place = place_in files t.decl_pos in
@@ -45,9 +47,9 @@ emitted_well_formed files env t bs b h k fns p same =
     record {
       names = has_names files env t bs b h;
       kind = kind_is partial;
-      forms = block_is b env t bs partial [] (tail_of partial name place b) fns k (tail_is mark (ends_in_return b));
+      forms = block_is b env t bs partial [] [] (tail_of partial name place b) fns k o (tail_is mark (ends_in_return b));
       there = subst (λ (ts : List TraitFn). IsBodyThere ts (kind_of partial) (length (map (parameter env) t.arg_tys)) [] body) (sym same)
           (subst (λ n. IsBodyThere (trait_fns_of env) (kind_of partial) n [] body) (sym (length-map t.arg_tys (parameter env)))
-          (root_there b env t bs (tail_of partial name place b) fns k (λ locals. tail_there mark (ends_in_return b) (trait_fns_of env) (kind_of partial) (length t.arg_tys) locals)));
-      fits = function_fits b env t bs name place k;
+          (root_there b env t bs (tail_of partial name place b) fns k o (λ locals. tail_there mark (ends_in_return b) (trait_fns_of env) (kind_of partial) (length t.arg_tys) locals)));
+      fits = function_fits b env t bs name place k o;
     }

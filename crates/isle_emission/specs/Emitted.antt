@@ -2,6 +2,7 @@
 use Rattle.std.specs.Prelude.{◌≡◌, List, [], ◌∷◌, IsTrue, Some}
 use Rattle.std.specs.List.{AllByRecursion, list_all}
 use Rattle.isle_printer.specs.Token.{is_word_byte}
+use Rattle.isle_emission.specs.TermFunction.{kind_of}
 use Rattle.isle_core.specs.declared.types.Term.{Term}
 use Rattle.isle_core.specs.Value.{Value, Ran}
 use Rattle.isle_core.specs.Meaning.{Meaning}
@@ -9,7 +10,7 @@ use Rattle.isle_core.specs.HasType.{HaveTypes}
 use Rattle.isle_core.specs.declared.rule_sets.Binding.{Binding}
 use Rattle.isle_core.specs.declared.rule_sets.Binding.TheVariants as binding
 use Rattle.isle_core.specs.Lawful.{AnswersFit}
-use Rattle.isle_core.specs.Calling.{is_partial}
+use Rattle.isle_emission.specs.Partial.{is_partial}
 use Rattle.isle_core.specs.Outcome.{Prescription}
 use Rattle.isle_core.specs.Path.{paths_of}
 use Rattle.isle_core.specs.Block.{Block}
@@ -40,4 +41,4 @@ AnswersBindings env m (b ∷ bs) = AnswersBindings env m bs
 -- meaning that answers its calls
 abbrev pub RunsAsBlock : Environment → Term → List Binding → Block → Function → Type 0
 RunsAsBlock env t bs b f = (p : Program) (args : List Value) (m : Meaning) → function_of (sym_text env t.name) p.fns ≡ Some f → HaveTypes env args t.arg_tys → AnswersBindings env m bs
-    → run p (sym_text env t.name) args m ≡ Some (ran_of env t (block_outcome env m args (paths_of bs) b (is_partial t.kind)))
+    → run p (sym_text env t.name) args m ≡ Some (ran_of env t (block_outcome env m args (paths_of bs) b (kind_of (is_partial t.kind))))

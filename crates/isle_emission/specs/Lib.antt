@@ -3,9 +3,11 @@ pub mod Ends
 pub mod Built
 pub mod Operands
 pub mod Statements
+pub mod Partial
 pub mod TermFunction
 pub mod TraitFns
 pub mod OfTerm
+pub mod Bare
 pub mod Shape
 pub mod Emitted
 pub mod Contexts

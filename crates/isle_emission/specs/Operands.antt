@@ -1,5 +1,5 @@
 -- What stands for the values of paths in a function.
-use Rattle.std.specs.Prelude.{ℕ, pos, List, Bool, ◌==◌, if◌then◌else◌}
+use Rattle.std.specs.Prelude.{ℕ, pos, List, Bool, ◌==◌, if◌then◌else◌, Option, Some, None}
 use Rattle.std.specs.List.{list_any}
 use Rattle.isle_core.specs.declared.BindingId.{BindingId}
 use Rattle.isle_core.specs.declared.rule_sets.Constraint.{Constraint}
@@ -13,30 +13,52 @@ use Rattle.isle_tree.specs.declared.tree.Operand.{Operand}
 use Rattle.isle_tree.specs.declared.tree.Operand.TheVariants as operand
 
 -- the operand that spells a value; of a variant or struct none is built
-abbrev pub constant : Value → Operand
-constant (Truth b) = operand.Bool b
-constant (Int ty n) = operand.Int ty n
-constant (Opaque ty n) = operand.Raw n
-constant (Variant ty name fields) = operand.Raw (pos 0)
-constant (Struct ty fields) = operand.Raw (pos 0)
+abbrev pub constant : Value → Option Operand
+constant (Truth b) = Some (operand.Bool b)
+constant (Int ty n) = Some (operand.Int ty n)
+constant (Opaque ty n) = Some (operand.Raw n)
+constant (Variant ty name fields) = None
+constant (Struct ty fields) = None
 
--- the operand of a path that is read in place: an argument or a constant; no other is built
-abbrev pub in_place : Environment → Path → Operand
-in_place env (Arg i) = operand.Arg i
-in_place env (ConstBool ty b) = operand.Bool b
+-- the operand of a path that is read in place: an argument or a constant; a named constant and made values are not built
+abbrev pub in_place : Environment → Path → Option Operand
+in_place env (Arg i) = Some (operand.Arg i)
+in_place env (ConstBool ty b) = Some (operand.Bool b)
 in_place env (ConstInt ty n) = constant (int_value env ty n)
-in_place env p = operand.Raw (pos 0)
+in_place env p = None
 
--- the operand that a constraint tests for; only constants are built
-abbrev pub tested : Environment → Constraint → Operand
-tested env (constraint.ConstBool val) = operand.Bool val
+-- the operand that a constraint tests for; a named constant is not built, and the others are no tests of a value
+abbrev pub tested : Environment → Constraint → Option Operand
+tested env (constraint.ConstBool val) = Some (operand.Bool val)
 tested env (constraint.ConstInt val ty) = constant (int_value env ty val)
-tested env c = operand.Raw (pos 0)
+tested env (constraint.ConstPrim val) = None
+tested env (constraint.Variant ty variant) = None
+tested env (constraint.Struct ty) = None
+tested env constraint.Some = None
 
 -- the local is bound
 abbrev pub is_bound : List ℕ → BindingId → Bool
 is_bound bound b = list_any (λ (n : ℕ). n == b.0) bound
 
 -- the operand of a binding: its local where it is bound, or else what is read in place
-abbrev pub operand_of : Environment → List Binding → List ℕ → BindingId → Operand
-operand_of env bs bound b = if is_bound bound b then operand.Local b.0 else in_place env (at (paths_of bs) b)
+abbrev pub operand_of : Environment → List Binding → List ℕ → BindingId → Option Operand
+operand_of env bs bound b = if is_bound bound b then Some (operand.Local b.0) else in_place env (at (paths_of bs) b)
+
+-- ---- what the code writes, which has no lawful block without an operand
+
+-- the operand, where there is one
+abbrev pub written : Option Operand → Operand
+written (Some o) = o
+written None = operand.Raw (pos 0)
+
+abbrev pub written_constant : Value → Operand
+written_constant v = written (constant v)
+
+abbrev pub written_place : Environment → Path → Operand
+written_place env p = written (in_place env p)
+
+abbrev pub written_test : Environment → Constraint → Operand
+written_test env c = written (tested env c)
+
+abbrev pub written_operand : Environment → List Binding → List ℕ → BindingId → Operand
+written_operand env bs bound b = if is_bound bound b then operand.Local b.0 else written_place env (at (paths_of bs) b)

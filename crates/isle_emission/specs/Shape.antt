@@ -1,41 +1,63 @@
 -- When statements have the shape of a block.
-use Rattle.std.specs.Prelude.{◌≡◌, ◌⊎◌, List}
+use Rattle.std.specs.Prelude.{◌≡◌, ℕ, List, [], Bool, true, false, Some}
 use Rattle.isle_core.specs.declared.BindingId.{BindingId}
-use Rattle.isle_core.specs.Path.{Path, at}
+use Rattle.isle_core.specs.ArmPlaces.{bound_within}
+use Rattle.isle_core.specs.Bindable.{bound_by}
 use Rattle.isle_core.specs.Block as block
 use Rattle.isle_core.specs.Block.{Block, Control}
-use Rattle.isle_core.specs.Rule.{Environment}
+use Rattle.isle_emission.specs.Partial.{is_partial}
+use Rattle.isle_core.specs.Setting.{Setting}
 use Rattle.isle_tree.specs.declared.tree.Operand.{Operand}
-use Rattle.isle_tree.specs.declared.tree.Operand.TheVariants as operand
 use Rattle.isle_tree.specs.declared.tree.Read.TheVariants as read
 use Rattle.isle_tree.specs.declared.tree.TExpr.{TExpr}
 use Rattle.isle_tree.specs.declared.tree.TExpr.TheVariants as expr
-use Rattle.isle_tree.specs.Program.{Stmt, Let, IfEq, Return, Tail, Body, Done, Then}
-use Rattle.isle_emission.specs.Operands.{in_place, tested}
+use Rattle.isle_tree.specs.Program.{Stmt, Let, LetList, IfEq, IfLet, Match, Loop, Return, Extend, Overflow, Log, Split, Tail, Body, Done, Then}
+use Rattle.isle_emission.specs.Bare.{bare}
+use Rattle.isle_emission.specs.Operands.{tested, operand_of}
 
--- the operand of a binding: its local, or what is read in place
-abbrev pub IsOperandOf : Environment → List Path → BindingId → Operand → Type 0
-IsOperandOf env ps b o = (o ≡ operand.Local b.0) ⊎ (o ≡ in_place env (at ps b))
+-- the operand is that of the binding, where these are bound
+abbrev pub IsOperandOf : Setting → List ℕ → BindingId → Operand → Type 0
+IsOperandOf s bound b o = operand_of s.env s.bindings bound b ≡ Some o
 
--- the operand of a binding, or an option of it
-abbrev pub IsResultOf : Environment → List Path → BindingId → TExpr → Type 0
-IsResultOf env ps b (expr.Read (read.Plain o)) = IsOperandOf env ps b o
-IsResultOf env ps b (expr.Some (read.Plain o)) = IsOperandOf env ps b o
-IsResultOf env ps b e = ⊥
+-- the operand of a binding, or in a function that may answer nothing an option of it
+abbrev pub IsResultOf : Setting → List ℕ → (partial : Bool) → BindingId → TExpr → Type 0
+IsResultOf s bound false b (expr.Read (read.Plain o)) = IsOperandOf s bound b o
+IsResultOf s bound true b (expr.Some (read.Plain o)) = IsOperandOf s bound b o
+IsResultOf s bound partial b e = ⊥
 
--- the statements are the block's steps in order, lets and tails aside; each tests the operand of its binding
+-- the bare statements are the block's steps in order, and each tests or returns the operand of its binding
 abbrev mutual
-  pub HasShape : Environment → List Path → Body → Block → Type 0
-  HasShape env ps Done block.Stop = Unit {0}
-  HasShape env ps Done (block.Step bs c more) = ⊥
-  HasShape env ps (Then (Let n e) ss) b = HasShape env ps ss b
-  HasShape env ps (Then (Tail mark) ss) b = HasShape env ps ss b
-  HasShape env ps (Then s ss) block.Stop = ⊥
-  HasShape env ps (Then s ss) (block.Step bs c more) = DoesControl env ps s c × HasShape env ps ss more
+  pub AreSteps : Setting → List ℕ → Body → Block → Type 0
+  AreSteps s bound Done block.Stop = Unit {0}
+  AreSteps s bound (Then st ss) (block.Step binds c more) = DoesControl s (bound_by bound binds) st c × AreSteps s (bound_by bound binds) ss more
+  AreSteps s bound Done (block.Step binds c more) = ⊥
+  AreSteps s bound (Then st ss) block.Stop = ⊥
 
-  -- the statement does what the step does
-  pub DoesControl : Environment → List Path → Stmt → Control → Type 0
-  DoesControl env ps (IfEq o q inside) (block.Match source (block.Arm c places body block.NoArm)) = IsOperandOf env ps source o × (q ≡ tested env c) × HasShape env ps inside body
-  DoesControl env ps (IfEq o q inside) (block.Equal a b body) = IsOperandOf env ps a o × IsOperandOf env ps b q × HasShape env ps inside body
-  DoesControl env ps (Return e) (block.Return pos result) = IsResultOf env ps result e
-  DoesControl env ps s c = ⊥
+  -- the statement does what the step does; those of several arms, of parts, of loops and of several results are not built,
+  -- and the others are not bare
+  pub DoesControl : Setting → List ℕ → Stmt → Control → Type 0
+  DoesControl s bound (IfEq o q inside) (block.Match source (block.Arm c places body block.NoArm)) =
+      IsOperandOf s bound source o × (tested s.env c ≡ Some q) × AreSteps s (bound_within bound places) inside body
+  DoesControl s bound (IfEq o q inside) (block.Match source (block.Arm c places body (block.Arm d others more arms))) = ⊥
+  DoesControl s bound (IfEq o q inside) (block.Match source block.NoArm) = ⊥
+  DoesControl s bound (IfEq o q inside) (block.Equal a b body) = IsOperandOf s bound a o × IsOperandOf s bound b q × AreSteps s bound inside body
+  DoesControl s bound (IfEq o q inside) (block.Loop result body) = ⊥
+  DoesControl s bound (IfEq o q inside) (block.Return pos result) = ⊥
+  DoesControl s bound (Return e) (block.Return pos result) = IsResultOf s bound (is_partial s.term.kind) result e
+  DoesControl s bound (Return e) (block.Match source arms) = ⊥
+  DoesControl s bound (Return e) (block.Equal a b body) = ⊥
+  DoesControl s bound (Return e) (block.Loop result body) = ⊥
+  DoesControl s bound (IfLet pat read inside) c = ⊥
+  DoesControl s bound (Match read arms) c = ⊥
+  DoesControl s bound (Loop list item inside) c = ⊥
+  DoesControl s bound (Extend read) c = ⊥
+  DoesControl s bound (Let local e) c = ⊥
+  DoesControl s bound (LetList local call) c = ⊥
+  DoesControl s bound (Overflow inside) c = ⊥
+  DoesControl s bound (Log term place) c = ⊥
+  DoesControl s bound (Split inside within) c = ⊥
+  DoesControl s bound (Tail mark) c = ⊥
+
+-- the body of a function, where nothing is bound yet
+abbrev pub HasShape : Setting → Body → Block → Type 0
+HasShape s body b = AreSteps s [] (bare body) b

@@ -11,7 +11,7 @@ use Rattle.isle_core.specs.declared.types.Term.{Term}
 use Rattle.isle_core.specs.declared.rule_sets.Binding.{Binding}
 use Rattle.isle_core.specs.Places.{place_in}
 use Rattle.isle_core.specs.Block.{Block, Stop, Step, Control, Match, Equal, Loop, Return}
-use Rattle.isle_core.specs.Calling.{is_partial}
+use Rattle.isle_emission.specs.Partial.{is_partial}
 use Rattle.isle_core.specs.Terms.{sym_text}
 use Rattle.isle_core.specs.Rule.{Environment}
 use Rattle.isle_tree.specs.declared.tree.Ty.{Ty}

@@ -1,7 +1,7 @@
 //! What the statements of a term are made from.
 
 ghost use Rattle.std.specs.Prelude.{◌≡◌};
-ghost use Rattle.isle_core.specs.Calling.{is_partial};
+ghost use Rattle.isle_emission.specs.Partial.{is_partial};
 
 use isle_core::{Binding, TermEnv, TermKind, TypeEnv};
 
@@ -14,12 +14,17 @@ pub struct Context<'a> {
     pub partial: bool,
 }
 
-/// Whether a term of this kind may answer nothing.
+/// Whether the single answer of a term of this kind may be nothing.
 pub fn is_partial(kind: &TermKind) -> bool
     ensures { result ≡ is_partial kind.now }
 {
     match kind {
-        TermKind::Decl { partial, .. } => *partial,
+        TermKind::Decl { multi: true, .. } => false,
+        TermKind::Decl {
+            multi: false,
+            partial,
+            ..
+        } => *partial,
         TermKind::Variant { .. } | TermKind::Struct { .. } => false,
     }
 }

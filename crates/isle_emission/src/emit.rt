@@ -2,10 +2,10 @@
 
 ghost use Rattle.std.specs.Prelude.{◌≡◌, map, IfOk};
 ghost use Rattle.isle_core.specs.BlockViews as BlockViews;
-ghost use Rattle.isle_core.specs.Calling.{is_partial};
-ghost use Rattle.isle_core.specs.Path.{paths_of};
+ghost use Rattle.isle_emission.specs.Partial.{is_partial};
 ghost use Rattle.isle_core.specs.Places.{LiesIn};
 ghost use Rattle.isle_core.specs.RuleViews.{environment};
+ghost use Rattle.isle_core.specs.Setting.{setting};
 ghost use Rattle.isle_tree.specs.Program.{Program};
 ghost use Rattle.isle_tree.specs.Views as Views;
 ghost use Rattle.isle_tree.specs.WellFormed.{IsFunction};
@@ -76,7 +76,7 @@ pub fn emit_term(
     requires options { IsBuilt options.now }
     ensures emitted { IfOk result (λ f. AtTerm (environment typeenv.now termenv.now) term (λ t. Views.function f ≡ TermFunction.term_function files.now (environment typeenv.now termenv.now) t rules.now.bindings (BlockViews.block block.now))) }
     ensures well_formed { IfOk result (λ f. (p : Program) → p.trait_fns ≡ trait_fns_of (environment typeenv.now termenv.now) → IsFunction p (Views.function f)) }
-    ensures shape { IfOk result (λ f. HasShape (environment typeenv.now termenv.now) (paths_of rules.now.bindings) (Views.body f.body) (BlockViews.block block.now)) }
+    ensures shape { IfOk result (λ f. AtTerm (environment typeenv.now termenv.now) term (λ t. HasShape (setting (environment typeenv.now termenv.now) t rules.now.bindings) (Views.body f.body) (BlockViews.block block.now))) }
     ensures run { IfOk result (λ f. AtTerm (environment typeenv.now termenv.now) term (λ t. RunsAsBlock (environment typeenv.now termenv.now) t rules.now.bindings (BlockViews.block block.now) (Views.function f))) }
 {
     let starts = LineStarts::new(alloc, files)?;

@@ -13,7 +13,7 @@ use isle_tree::Operand;
 
 /// A number as an operand of a type.
 fn number(typeenv: &TypeEnv, ty: TypeId, val: i128) -> Operand
-    ensures { result ≡ Operands.constant (int_of_def (slice_get typeenv.now.types ty.0) val) }
+    ensures { result ≡ Operands.written_constant (int_of_def (slice_get typeenv.now.types ty.0) val) }
 {
     match typeenv.types.as_slice().get(ty.index()) {
         Some(TypeDef::Builtin(BuiltinType::Int(ty))) => Operand::Int(*ty, val),
@@ -27,7 +27,7 @@ fn number(typeenv: &TypeEnv, ty: TypeId, val: i128) -> Operand
 
 /// What is read in place for a binding.
 fn of_binding(context: &Context<'_>, binding: &Binding) -> Operand
-    ensures { (ps : ListOf Path) → result ≡ Operands.in_place (env_of context.now) (path_over ps binding.now) }
+    ensures { (ps : ListOf Path) → result ≡ Operands.written_place (env_of context.now) (path_over ps binding.now) }
 {
     match binding {
         Binding::Argument { index } => Operand::Arg(*index),
@@ -49,7 +49,7 @@ fn of_binding(context: &Context<'_>, binding: &Binding) -> Operand
 
 /// What is read in place for the binding of this number.
 pub fn in_place(context: &Context<'_>, binding: BindingId) -> Operand
-    ensures { result ≡ Operands.in_place (env_of context.now) (at (paths_of (bindings_in context.now)) binding) }
+    ensures { result ≡ Operands.written_place (env_of context.now) (at (paths_of (bindings_in context.now)) binding) }
 {
     match context.bindings.get(binding.index()) {
         Some(binding) => of_binding(context, binding),
@@ -59,7 +59,7 @@ pub fn in_place(context: &Context<'_>, binding: BindingId) -> Operand
 
 /// What a constraint tests for.
 pub fn tested(context: &Context<'_>, constraint: Constraint) -> Operand
-    ensures { result ≡ Operands.tested (env_of context.now) constraint }
+    ensures { result ≡ Operands.written_test (env_of context.now) constraint }
 {
     match constraint {
         Constraint::ConstBool { val } => Operand::Bool(val),
@@ -80,7 +80,7 @@ fn is_bound(bound: &Bound, binding: BindingId) -> bool
 
 /// The binding's local where it is bound, or else what is read in place.
 pub fn operand_of(context: &Context<'_>, bound: &Bound, binding: BindingId) -> Operand
-    ensures { result ≡ Operands.operand_of (env_of context.now) (bindings_in context.now) bound.now binding }
+    ensures { result ≡ Operands.written_operand (env_of context.now) (bindings_in context.now) bound.now binding }
 {
     if is_bound(bound, binding) {
         Operand::Local(binding.index())

@@ -1,7 +1,7 @@
 //! The statements of a block.
 
 ghost use Rattle.std.specs.Prelude.{◌≡◌, map, IfOk, OnOk};
-ghost use Rattle.isle_core.specs.BlockLawful.{bound_by};
+ghost use Rattle.isle_core.specs.Bindable.{bound_by};
 ghost use Rattle.isle_core.specs.BlockViews as BlockViews;
 ghost use Rattle.isle_tree.specs.Program.{Body};
 ghost use Rattle.isle_tree.specs.Views.{stmt};

@@ -3,6 +3,7 @@ use Rattle.std.proofs.Common.{◌≡◌, ⊎_elim, Bool, ℕ, suc, ◌<◌, ◌�
 use Rattle.std.specs.Prelude.{Contains}
 use Rattle.std.specs.List.{AllByRecursion}
 use Rattle.std.proofs.lemmas.List.Elements.{All-contains, All-from_recursion}
+use Rattle.isle_core.specs.declared.types.ReturnKind.{ReturnKind}
 use Rattle.isle_core.specs.declared.TermId.{TermId}
 use Rattle.isle_core.specs.declared.types.Term.{Term}
 use Rattle.isle_core.specs.declared.values.Callee.{Callee}
@@ -10,7 +11,9 @@ use Rattle.isle_core.specs.Expr as expr
 use Rattle.isle_core.specs.Expr.{Expr, Exprs, NoExpr, AnExpr}
 use Rattle.isle_core.specs.Path.{Path, Paths, Called}
 use Rattle.isle_core.specs.Calling.{Calling, ByTurns, calling, instance_of, one_more, impure, impure_all}
-use Rattle.isle_core.specs.Tests.{Places, calls, calls_all, paths, if_ordered, rule_places, rule_calls}
+use Rattle.isle_core.specs.OrderedCalls.{calls, calls_all, if_ordered, rule_calls}
+use Rattle.isle_core.specs.RightSide.{paths}
+use Rattle.isle_core.specs.Tests.{Places, rule_places}
 use Rattle.isle_core.specs.StandsFor.{EachOnce, AreFirsts, no_more, first}
 use Rattle.isle_core.specs.BuiltRule.{IsBuiltExpr, AreBuiltExprs, CallsImpure, AllCallImpure}
 use Rattle.isle_core.specs.Rule.{Environment, Rule}
@@ -78,8 +81,8 @@ no_calls n = record { rise = rise; within = tt; once = tt }
     rise : n ≤ n + 0
     rise = omega arith
 
-last_call : (callee : Callee) (partial : Bool) (term : TermId) (ps : Paths) (n : ℕ) → AreCalls n (suc n) (if_ordered (ByTurns callee partial) (Called term ps (suc n)))
-last_call callee partial term ps n = record { rise = rise; within = ((low, high), tt); once = (none_contained (Called term ps (suc n)), tt) }
+last_call : (callee : Callee) (kind : ReturnKind) (term : TermId) (ps : Paths) (n : ℕ) → AreCalls n (suc n) (if_ordered (ByTurns callee kind) (Called term ps (suc n)))
+last_call callee kind term ps n = record { rise = rise; within = ((low, high), tt); once = (none_contained (Called term ps (suc n)), tt) }
   where
     rise : n ≤ suc n
     rise = omega arith
@@ -91,11 +94,11 @@ last_call callee partial term ps n = record { rise = rise; within = ((low, high)
     high = omega arith
 
 -- a call behind its arguments
-call_then : (c : Calling) (callee : Callee) (partial : Bool) (term : TermId) (ps : Paths) (m n : ℕ) (cs : List Path) → c ≡ ByTurns callee partial → AreCalls n (n + m) cs
+call_then : (c : Calling) (callee : Callee) (kind : ReturnKind) (term : TermId) (ps : Paths) (m n : ℕ) (cs : List Path) → c ≡ ByTurns callee kind → AreCalls n (n + m) cs
     → AreCalls n (n + one_more c m) (cs ++ if_ordered c (Called term ps (instance_of c (n + m))))
-call_then c callee partial term ps m n cs is h =
+call_then c callee kind term ps m n cs is h =
     subst (λ d. AreCalls n (n + one_more d m) (cs ++ if_ordered d (Called term ps (instance_of d (n + m))))) (sym is)
-    (subst (λ k. AreCalls n k (cs ++ Called term ps (suc (n + m)) ∷ [])) (up n m) (then_calls n (n + m) (suc (n + m)) cs (Called term ps (suc (n + m)) ∷ []) h (last_call callee partial term ps (n + m))))
+    (subst (λ k. AreCalls n k (cs ++ Called term ps (suc (n + m)) ∷ [])) (up n m) (then_calls n (n + m) (suc (n + m)) cs (Called term ps (suc (n + m)) ∷ []) h (last_call callee kind term ps (n + m))))
   where
     up : (a b : ℕ) → suc (a + b) ≡ a + suc b
     up a b = omega arith
@@ -128,4 +131,4 @@ firsts_of seen (x ∷ xs) h k =
 
 -- the calls of a rule are their own firsts
 pub rule_firsts : (env : Environment) (terms : List Term) (r : Rule) (n : ℕ) → env.terms ≡ terms → IsBuiltExpr r.rhs → CallsImpure terms r.rhs → AreFirsts [] (rule_calls env r n) (rule_calls env r n)
-rule_firsts env terms r n same b h = firsts_of [] (rule_calls env r n) (expr_calls env terms (rule_places r) r.rhs n same b h).once (λ x c d. none_contained x c)
+rule_firsts env terms r n same b h = firsts_of [] (rule_calls env r n) (expr_calls env terms (rule_places env r) r.rhs n same b h).once (λ x c d. none_contained x c)

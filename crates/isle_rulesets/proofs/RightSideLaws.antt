@@ -10,6 +10,7 @@ use Rattle.isle_core.specs.declared.BindingId.{BindingId}
 use Rattle.isle_core.specs.declared.TermId.{TermId}
 use Rattle.isle_core.specs.declared.TypeId.{TypeId}
 use Rattle.isle_core.specs.declared.VarId.{VarId}
+use Rattle.isle_core.specs.declared.types.ReturnKind.{ReturnKind}
 use Rattle.isle_core.specs.declared.types.Term.{Term}
 use Rattle.isle_core.specs.declared.types.TermKind.{TermKind}
 use Rattle.isle_core.specs.declared.types.TermKind.TheVariants as kind
@@ -22,10 +23,13 @@ use Rattle.isle_core.specs.Expr as expr
 use Rattle.isle_core.specs.Expr.{Expr, Exprs, NoExpr, AnExpr}
 use Rattle.isle_core.specs.RuleViews.{expr as seen, exprs_of}
 use Rattle.isle_core.specs.BuiltRule.{IsImpureKind, CallsImpure, AllCallImpure}
-use Rattle.isle_core.specs.Calling.{Calling, ByTurns, ByCases, NoCall, is_partial, pure_callee, calling_by, calling_of, calling, instance_of, one_more, impure, impure_all}
+use Rattle.isle_core.specs.Calling.{Calling, ByTurns, ByCases, NoCall, kind_of, may_be_nothing, pure_callee, calling_by, calling_of, calling, instance_of, one_more, impure, impure_all}
 use Rattle.isle_core.specs.Path as path
 use Rattle.isle_core.specs.Path.{Path, Paths, NoPath, APath, at, at_all, paths_of}
-use Rattle.isle_core.specs.Tests.{Places, path as path_of, paths, path_or, bool_type, calls as calls_of, calls_all, expr_paths, exprs_paths, call_path, with_inner, if_ordered}
+use Rattle.isle_core.specs.OrderedCalls.{calls as calls_of, calls_all, if_ordered}
+use Rattle.isle_core.specs.RightSide.{path as path_of, paths, path_or, bool_type, call_path}
+use Rattle.isle_core.specs.RulePaths.{expr_paths, exprs_paths, with_inner}
+use Rattle.isle_core.specs.Tests.{Places}
 use Rattle.isle_core.specs.Rule.{Environment}
 use Rattle.isle_core.proofs.Contained.{head_contained, contained_cases, none_contained}
 use Rattle.isle_rulesets.specs.Numbering.{Numbered, Extends, Numbers, next_call, Calls}
@@ -115,8 +119,8 @@ all_at ps [] (APath q qs) h = absurd h
 all_at ps (b ∷ bs) NoPath h = absurd h
 
 one_behind : (c : Calling) (n : ℕ) → n + one_more c 0 ≡ one_more c n
-one_behind (ByTurns callee partial) n = omega arith
-one_behind (ByCases callee partial) n = omega arith
+one_behind (ByTurns callee kind) n = omega arith
+one_behind (ByCases callee kind) n = omega arith
 one_behind NoCall n = omega arith
 
 -- a call behind its arguments
@@ -147,13 +151,13 @@ some_there P [] i x h e = absurd h
 some_there P (y ∷ xs) zero x h e = ap Some (sym e)
 some_there P (y ∷ xs) (suc i) x h e = some_there P xs i x h e
 
-turns_by : (env : Environment) (t : Term) (k : TermKind) → IsImpureKind k → (callee : Callee) × (calling_by (is_partial k) (impure_callee env t k) (pure_callee env t k) ≡ ByTurns callee (is_partial k))
+turns_by : (env : Environment) (t : Term) (k : TermKind) → IsImpureKind k → (callee : Callee) × (calling_by (kind_of k) (impure_callee env t k) (pure_callee env t k) ≡ ByTurns callee (kind_of k))
 turns_by env t (kind.Decl false multi partial recursive constructor.Internal extractor) h = (Internal (sym_text env t.name), refl)
 turns_by env t (kind.Decl false multi partial recursive (constructor.External func) extractor) h = (External (sym_text env func), refl)
 turns_by env t k h = absurd h
 
 -- an impure term is called by turns
-pub called_by_turns : (env : Environment) (terms : List Term) (term : TermId) (t : Term) → env.terms ≡ terms → slice_get terms term.0 ≡ Some t → IsImpureKind t.kind → (callee : Callee) × (calling env term ≡ ByTurns callee (is_partial t.kind))
+pub called_by_turns : (env : Environment) (terms : List Term) (term : TermId) (t : Term) → env.terms ≡ terms → slice_get terms term.0 ≡ Some t → IsImpureKind t.kind → (callee : Callee) × (calling env term ≡ ByTurns callee (kind_of t.kind))
 called_by_turns env terms term t same there h =
     let k = turns_by env t t.kind h in
     (k.0, ap (λ ts. calling_of env (slice_get ts term.0)) same ∙ ap (calling_of env) there ∙ k.1)
@@ -163,30 +167,32 @@ some_item : {A : Type 0} (P : A → Type 0) (o : Option A) → IsSomeAnd o P →
 some_item P None h = absurd h
 some_item P (Some x) h = (x, refl, h)
 
-pub turns_of : (env : Environment) (terms : List Term) (term : TermId) → env.terms ≡ terms → IsSomeAnd (slice_get terms term.0) (λ (x : Term). IsImpureKind x.kind) → (callee : Callee) × (partial : Bool) × (calling env term ≡ ByTurns callee partial)
+pub turns_of : (env : Environment) (terms : List Term) (term : TermId) → env.terms ≡ terms → IsSomeAnd (slice_get terms term.0) (λ (x : Term). IsImpureKind x.kind) → (callee : Callee) × (kind : ReturnKind) × (calling env term ≡ ByTurns callee kind)
 turns_of env terms term same h =
     let t = some_item (λ (x : Term). IsImpureKind x.kind) (slice_get terms term.0) h in
     let k = called_by_turns env terms term t.0 same t.1 t.2 in
-    (k.0, is_partial t.0.kind, k.1)
+    (k.0, kind_of t.0.kind, k.1)
 
 -- a call that was added
 pub call_given : (old new : Numbered) (before after : List BindingId) (terms : List Term) (term : TermId) (t : Term) (partial : Bool) (bs : List BindingId) (call value : BindingId) → IsSomeAnd (slice_get terms term.0) (λ (x : Term). IsImpureKind x.kind) → t ≡ get_or terms term.0 t
-    → partial ≡ is_partial t.kind → Calls old new (next_call old term bs) partial call value → after ≡ before ++ call ∷ []
+    → partial ≡ may_be_nothing (kind_of t.kind) → Calls old new (next_call old term bs) partial call value → after ≡ before ++ call ∷ []
     → (env : Environment) → env.terms ≡ terms → GivesCall old new before after (calling env term) (call_path env term (at_all (paths_of old.bindings) bs) old.calls) value
 call_given old new before after terms term t partial bs call value h here of k more env same =
-    subst (λ c. GivesCall old new before after c (path.Called term (at_all (paths_of old.bindings) bs) (instance_of c old.calls)) value) (sym (turns.1 ∙ ap (ByTurns turns.0) (sym of)))
+    let fallible = may_be_nothing (kind_of t.kind) in
+    let added : Calls old new (next_call old term bs) fallible call value = subst (λ b. Calls old new (next_call old term bs) b call value) of k in
+    subst (λ c. GivesCall old new before after c (path.Called term (at_all (paths_of old.bindings) bs) (instance_of c old.calls)) value) (sym turns.1)
     (record {
       grows = record {
-        extends = k.extends;
-        only = k.only;
-        all = all partial k;
-        ordered = λ qs x. ap (map (at qs)) more ∙ map-append (at qs) before (call ∷ []) ∙ ap (λ q. map (at qs) before ++ q ∷ []) (at_kept (paths_of new.bindings) qs call p x k.there);
-        calls = k.calls ∙ one_more_is;
+        extends = added.extends;
+        only = added.only;
+        all = all fallible added;
+        ordered = λ qs x. ap (map (at qs)) more ∙ map-append (at qs) before (call ∷ []) ∙ ap (λ q. map (at qs) before ++ q ∷ []) (at_kept (paths_of new.bindings) qs call p x added.there);
+        calls = added.calls ∙ one_more_is;
       };
-      there = k.value;
+      there = added.value;
     })
   where
-    turns : (callee : Callee) × (calling env term ≡ ByTurns callee (is_partial t.kind))
+    turns : (callee : Callee) × (calling env term ≡ ByTurns callee (kind_of t.kind))
     turns = called_by_turns env terms term t same (some_there (λ (x : Term). IsImpureKind x.kind) terms term.0 t h here) (some_at (λ (x : Term). IsImpureKind x.kind) terms term.0 t h here)
 
     p : Path

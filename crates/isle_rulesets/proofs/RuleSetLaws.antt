@@ -4,6 +4,7 @@ use Rattle.std.specs.Prelude.{◌↔◌, Contains, All, IsSome, filter, slice_ge
 use Rattle.std.specs.Ordering.{nat_cmp}
 use Rattle.std.specs.BTreeMap.{get}
 use Rattle.std.proofs.lemmas.List.{map_more, length-map, get_or-map, take_all}
+use Rattle.std.specs.List.{AllByRecursion}
 use Rattle.std.proofs.lemmas.List.Elements.{Contains-append_left, Contains-append_right, Contains-append_cases}
 use Rattle.isle_core.specs.declared.BindingId.{BindingId}
 use Rattle.isle_core.specs.declared.rule_sets.Binding.{Binding}
@@ -16,13 +17,19 @@ use Rattle.isle_core.specs.Expr as expr
 use Rattle.isle_core.specs.Expr.{Expr, Exprs, NoExpr, AnExpr}
 use Rattle.isle_core.specs.Path.{Path, Nowhere, Arg, at, paths_of}
 use Rattle.isle_core.specs.Calling.{impure}
-use Rattle.isle_core.specs.Tests.{no_places, args_after, arg_paths, expr_paths, rule_places, rule_tests, rule_calls, rule_paths}
+use Rattle.isle_core.specs.OrderedCalls.{rule_calls}
+use Rattle.isle_core.specs.RulePaths.{arg_paths, expr_paths, rule_paths}
+use Rattle.isle_core.specs.Tests.{no_places, args_tests, args_after, rule_places, rule_tests}
 use Rattle.isle_core.specs.RuleSet.{is_test, equal_test, flat_tests}
 use Rattle.isle_core.specs.RuleViews.{rule, rules}
-use Rattle.isle_core.specs.StandsFor.{EachOnce, AreFirsts, IsFlat, AreFlat, rules_paths, StandsFor}
-use Rattle.isle_core.specs.BuiltRule.{IsBuiltExpr, AreBuiltExprs, IsBuiltRule, IsBoundIn, AreBoundIn, IsBoundRule, IsImpureRule}
+use Rattle.isle_core.specs.RulePaths.{rules_paths}
+use Rattle.isle_core.specs.StandsFor.{EachOnce, AreFirsts, IsFlat, AreFlat, StandsFor}
+use Rattle.isle_core.specs.BuiltRule.{IsBuiltExpr, AreBuiltExprs, IsBuiltRule, IsBuiltPattern, IsImpureRule}
 use Rattle.isle_core.specs.Rule.{Environment, Rule}
 use Rattle.isle_core.proofs.NotTrivial.{no_trivial}
+use Rattle.isle_core.proofs.ScopeLaws.{variable_of}
+use Rattle.isle_core.proofs.SetMeans.{without_iflets}
+use Rattle.isle_core.specs.Scope.{all_variables, IsInScope, AreInScope, IsScopedRule}
 use Rattle.isle_rulesets.specs.declared.draft.Draft.{Draft}
 use Rattle.isle_rulesets.specs.Numbering.{Numbered, Extends}
 use Rattle.isle_rulesets.specs.Drafts.{is_constraint, path_at, Drafted}
@@ -30,7 +37,7 @@ use Rattle.isle_rulesets.specs.RightSides.{StandsAt, Stand, IsKnown, AreKnown, G
 use Rattle.isle_rulesets.specs.FlatRules.{Adds, rules_impure, Covers}
 use Rattle.isle_rulesets.proofs.NumberingLaws.{extends_self, extends_more}
 use Rattle.isle_rulesets.proofs.DraftLaws.{at_get, contains_kept}
-use Rattle.isle_rulesets.proofs.RuleTests.{rule_once, parted, parted_keeps, parted_from, parted_once, stands_at, place_is_arg}
+use Rattle.isle_rulesets.proofs.RuleTests.{rule_can, rule_once, parted, parted_keeps, parted_from, parted_once, stands_at, place_is_arg}
 use Rattle.isle_rulesets.proofs.RightSideLaws.{Given}
 use Rattle.isle_rulesets.proofs.CallsOnce.{rule_firsts}
 
@@ -40,20 +47,25 @@ is_there : (ps : List Path) (o : Option BindingId) (p : Path) → path_at ps o �
 is_there ps None p e = cc
 is_there ps (Some b) p e = refl
 
--- an expression that is built and bound has numbers for its variables
-mutual
-  pub expr_known : (old new : Numbered) (args : List Pattern) (d : Draft) (e : Expr) → Drafted old new args d → IsBuiltExpr e → IsBoundIn args e → IsKnown d.variables e
-  expr_known old new args d (expr.Var ty x) h b k =
-      let s = stands_at args k.0 x k.1 in
-      is_there (paths_of new.bindings) (get nat_cmp d.variables x.0) s.0 ((h.draws (paths_of new.bindings) (extends_self (paths_of new.bindings))).knows.by x.0 ∙ s.1)
-  expr_known old new args d (expr.ConstBool v) h b k = tt
-  expr_known old new args d (expr.ConstInt ty v) h b k = tt
-  expr_known old new args d (expr.Term ty term es) h b k = exprs_known old new args d es h b k
-  expr_known old new args d e h b k = absurd b
+-- an environment of nothing: what is known of a draft is so of each
+pub no_env : Environment
+no_env = record { types = record { syms = []; types = []; consts = [] }; terms = []; rules = []; converters = [] }
 
-  exprs_known : (old new : Numbered) (args : List Pattern) (d : Draft) (es : Exprs) → Drafted old new args d → AreBuiltExprs es → AreBoundIn args es → AreKnown d.variables es
-  exprs_known old new args d NoExpr h b k = tt
-  exprs_known old new args d (AnExpr e es) h b k = (expr_known old new args d e h b.0 k.0, exprs_known old new args d es h b.1 k.1)
+-- an expression that is built and in scope has numbers for its variables
+mutual
+  pub expr_known : (env : Environment) (old new : Numbered) (args : List Pattern) (d : Draft) (e : Expr) → Drafted env old new args d → AllByRecursion IsBuiltPattern args → IsBuiltExpr e → IsInScope (all_variables args) e → IsKnown d.variables e
+  expr_known env old new args d (expr.Var ty x) h a b k =
+      let v = variable_of args x.0 a k in
+      let s = stands_at env args v.ty v.var v.among in
+      is_there (paths_of new.bindings) (get nat_cmp d.variables x.0) s.0 ((h.draws (paths_of new.bindings) (extends_self (paths_of new.bindings))).knows.by x.0 ∙ ap (args_after env args 0 no_places) (sym v.is) ∙ s.1)
+  expr_known env old new args d (expr.ConstBool v) h a b k = tt
+  expr_known env old new args d (expr.ConstInt ty v) h a b k = tt
+  expr_known env old new args d (expr.Term ty term es) h a b k = exprs_known env old new args d es h a b k
+  expr_known env old new args d e h a b k = absurd b
+
+  exprs_known : (env : Environment) (old new : Numbered) (args : List Pattern) (d : Draft) (es : Exprs) → Drafted env old new args d → AllByRecursion IsBuiltPattern args → AreBuiltExprs es → AreInScope (all_variables args) es → AreKnown d.variables es
+  exprs_known env old new args d NoExpr h a b k = tt
+  exprs_known env old new args d (AnExpr e es) h a b k = (expr_known env old new args d e h a b.0 k.0, exprs_known env old new args d es h a b.1 k.1)
 
 at_there : (ps : List Path) (b : ℕ) (i : ℕ) → get_or ps b Nowhere ≡ Arg i → slice_get ps b ≡ Some (Arg i)
 at_there [] b i e = cc
@@ -73,9 +85,9 @@ var_stands ps None (Some p) e h = cc
 var_stands ps (Some b) None e h = cc
 
 -- the variables' numbers stand for their paths
-draft_stands : (old new : Numbered) (args : List Pattern) (d : Draft) → Drafted old new args d → Stand (paths_of new.bindings) d.variables (args_after args 0 no_places)
-draft_stands old new args d h = record {
-  by = λ x. var_stands (paths_of new.bindings) (get nat_cmp d.variables x) (args_after args 0 no_places x) ((h.draws (paths_of new.bindings) (extends_self (paths_of new.bindings))).knows.by x) (place_is_arg args x);
+draft_stands : (env : Environment) (old new : Numbered) (args : List Pattern) (d : Draft) → Drafted env old new args d → Stand (paths_of new.bindings) d.variables (args_after env args 0 no_places)
+draft_stands env old new args d h = record {
+  by = λ x. var_stands (paths_of new.bindings) (get nat_cmp d.variables x) (args_after env args 0 no_places x) ((h.draws (paths_of new.bindings) (extends_self (paths_of new.bindings))).knows.by x) (place_is_arg env args x);
 }
 
 -- ---- a rule
@@ -90,33 +102,37 @@ pub record IsMade (r : Rule) (d : Draft) (calls : List BindingId) (b : BindingId
   pub ordered : f.ordered ≡ calls
   pub result : f.result ≡ b
 
-pub rule_added : (terms : List Term) (old mid new : Numbered) (r : Rule) (d : Draft) (none calls : List BindingId) (b : BindingId) (f : FlatRule) → IsBuiltRule r → IsBoundRule r → IsImpureRule terms r → Drafted old mid r.args d → none ≡ []
+pub rule_added : (terms : List Term) (old mid new : Numbered) (r : Rule) (d : Draft) (none calls : List BindingId) (b : BindingId) (f : FlatRule) → IsBuiltRule r → IsScopedRule r → IsImpureRule terms r → ((env : Environment) → Drafted env old mid r.args d) → none ≡ []
     → Given terms d.variables mid new none calls r.rhs b → IsMade r d calls b f → (env : Environment) → env.terms ≡ terms → Adds env old new r f
-rule_added terms old mid new r d none calls b f built bound impure_terms h start given is env same = record {
-  extends = extends_more (paths_of old.bindings) (paths_of mid.bindings) (paths_of new.bindings) h.extends g.grows.extends;
-  only = λ p c. ⊎_elim (λ k. ⊎_elim (λ x. inl x) (λ x. inr (Contains-append_left (arg_paths r.args 0) (expr_paths env r.rhs (rule_places r) old.calls) p x)) (h.only p k))
-      (λ k. inr (Contains-append_right (arg_paths r.args 0) (expr_paths env r.rhs (rule_places r) old.calls) p k)) (g.grows.only p c);
-  all = λ p c. ⊎_elim (λ k. contains_kept (paths_of mid.bindings) (paths_of new.bindings) p g.grows.extends (h.all p k)) (λ k. g.grows.all p k) (Contains-append_cases (arg_paths r.args 0) (expr_paths env r.rhs (rule_places r) old.calls) p c);
+rule_added terms old mid new r d none calls b f built bound impure_terms drafted start given is env same = record {
+  extends = extends_more (paths_of old.bindings) (paths_of mid.bindings) (paths_of new.bindings) (drafted env).extends g.grows.extends;
+  only = λ p c. ⊎_elim (λ k. ⊎_elim (λ x. inl x) (λ x. inr (Contains-append_left (arg_paths r.args 0) (expr_paths env r.rhs (rule_places env r) old.calls) p x)) ((drafted env).only p k))
+      (λ k. inr (Contains-append_right (arg_paths r.args 0) (expr_paths env r.rhs (rule_places env r) old.calls) p k)) (g.grows.only p c);
+  all = λ p c. ⊎_elim (λ k. contains_kept (paths_of mid.bindings) (paths_of new.bindings) p g.grows.extends ((drafted env).all p k)) (λ k. g.grows.all p k) (Contains-append_cases (arg_paths r.args 0) (expr_paths env r.rhs (rule_places env r) old.calls) p c);
   flat = λ ps x. flat ps x;
   calls = g.grows.calls;
 }
   where
-    g : Gives env (rule_places r) (record { bindings = mid.bindings; calls = old.calls }) new [] calls r.rhs b
+    h : Drafted env old mid r.args d
+    h = drafted env
+
+    g : Gives env (rule_places env r) (record { bindings = mid.bindings; calls = old.calls }) new [] calls r.rhs b
     g =
-        let first = given env (rule_places r) same (draft_stands old mid r.args d h) in
-        let second = subst (λ ms. Gives env (rule_places r) mid new ms calls r.rhs b) start first in
-        subst (λ n. Gives env (rule_places r) (record { bindings = mid.bindings; calls = n }) new [] calls r.rhs b) h.calls second
+        let first = given env (rule_places env r) same (draft_stands env old mid r.args d h) in
+        let second = subst (λ ms. Gives env (rule_places env r) mid new ms calls r.rhs b) start first in
+        subst (λ n. Gives env (rule_places env r) (record { bindings = mid.bindings; calls = n }) new [] calls r.rhs b) h.calls second
 
     flat : (ps : List Path) → Extends (paths_of new.bindings) ps → IsFlat env ps r old.calls f
     flat ps x =
         let dr = h.draws ps (extends_more (paths_of mid.bindings) (paths_of new.bindings) ps g.grows.extends x) in
-        let tests : flat_tests ps f ≡ parted (rule_tests r) =
+        let ts = args_tests env r.args 0 no_places in
+        let tests : flat_tests ps f ≡ parted (rule_tests env r) =
         ap (λ cs. map (is_test ps) cs ++ map (equal_test ps) f.equals) is.constraints ∙ ap (λ es. map (is_test ps) d.constraints.items ++ map (equal_test ps) es) is.equals
-        ∙ ap (λ ts. ts ++ map (equal_test ps) d.equals.items) dr.constraints ∙ ap (λ ts. filter is_constraint (rule_tests r) ++ ts) dr.equals in
+        ∙ ap (λ ts. ts ++ map (equal_test ps) d.equals.items) dr.constraints ∙ ap (λ us. filter is_constraint ts ++ us) dr.equals ∙ ap parted (sym (without_iflets env r built.iflets)) in
         record {
-          tested = λ t c. inl (subst (λ ts. Contains ts t) (sym tests) (parted_keeps (rule_tests r) t c));
-          no_other = λ t c. let k = parted_from (rule_tests r) t (subst (λ ts. Contains ts t) tests c) in (k, no_trivial r t k);
-          once = subst EachOnce (sym tests) (parted_once (rule_tests r) (rule_once r));
+          tested = λ t c. inl (subst (λ ts. Contains ts t) (sym tests) (parted_keeps (rule_tests env r) t (rule_can env r t built c) c));
+          no_other = λ t c. let k = parted_from (rule_tests env r) t (subst (λ ts. Contains ts t) tests c) in (k, no_trivial env r t k);
+          once = subst EachOnce (sym tests) (parted_once (rule_tests env r) (rule_once env r built));
           prio = is.prio;
           pos = is.pos;
           iterators = is.iterators;

@@ -3,14 +3,17 @@ use Rattle.std.proofs.Common.{◌≡◌, ◌⊎◌, inl, inr, ⊎_elim, ℕ, ◌
 use Rattle.std.specs.Prelude.{Contains, filter}
 use Rattle.std.specs.List.{AllByRecursion}
 use Rattle.std.proofs.lemmas.Bool.{eqb-true, eq-eqb, false≢true}
-use Rattle.std.proofs.lemmas.List.Elements.{All-contains, All-from_recursion, Contains-append_left, Contains-append_right, Contains-append_cases}
+use Rattle.std.proofs.lemmas.List.Elements.{All-contains, All-from_recursion, recursion_from_All, Contains-append_left, Contains-append_right, Contains-append_cases}
 use Rattle.isle_core.specs.declared.TypeId.{TypeId}
 use Rattle.isle_core.specs.declared.VarId.{VarId}
-use Rattle.isle_core.specs.Pattern.{Pattern, Var, ConstBool, ConstInt}
+use Rattle.isle_core.specs.Pattern.{Pattern, Var, ConstBool, ConstInt, Wildcard}
 use Rattle.isle_core.specs.Path.{Path, Arg}
-use Rattle.isle_core.specs.Tests.{Test, Is, Equal, Places, no_places, met_tests, met_after, tests, after, args_tests, args_after, arg_paths, rule_tests}
+use Rattle.isle_core.specs.RulePaths.{arg_paths}
+use Rattle.isle_core.specs.Tests.{Test, Is, Equal, Never, Places, no_places, met_tests, met_after, tests, after, args_tests, args_after, rule_tests}
 use Rattle.isle_core.specs.StandsFor.{EachOnce}
-use Rattle.isle_core.specs.Rule.{Rule}
+use Rattle.isle_core.specs.BuiltRule.{IsBuiltPattern, IsBuiltRule}
+use Rattle.isle_core.proofs.SetMeans.{without_iflets}
+use Rattle.isle_core.specs.Rule.{Environment, Rule}
 use Rattle.isle_core.proofs.Contained.{head_contained, tail_contained, contained_cases, none_contained}
 use Rattle.isle_rulesets.specs.Drafts.{is_constraint, is_equality}
 
@@ -24,6 +27,7 @@ IsArgFrom n p = (j : ℕ) × (n ≤ j) × (p ≡ Arg j)
 abbrev IsFrom : ℕ → Test → Type 0
 IsFrom n (Is p c) = IsArgFrom n p
 IsFrom n (Equal p q) = IsArgFrom n q
+IsFrom n Never = ⊥
 
 arg_more : (n : ℕ) (p : Path) → IsArgFrom (suc n) p → IsArgFrom n p
 arg_more n p h = let le : n ≤ h.0 = omega arith in (h.0, le, h.2)
@@ -40,6 +44,7 @@ not_arg n h = let same : n ≡ h.0 = arg_same h.0 n h.2 in omega arith
 from_more : (n : ℕ) (t : Test) → IsFrom (suc n) t → IsFrom n t
 from_more n (Is p c) h = arg_more n p h
 from_more n (Equal p q) h = arg_more n q h
+from_more n Never h = absurd h
 
 -- the tests of a pattern on the n-th argument: none, or one of that argument
 abbrev AreAt : ℕ → List Test → Type 0
@@ -50,11 +55,12 @@ met_at : (n : ℕ) (o : Option Path) → AreAt n (met_tests o (Arg n))
 met_at n None = tt
 met_at n (Some q) = (arg_here n, not_arg n, refl)
 
-tests_at : (q : Pattern) (n : ℕ) (places : Places) → AreAt n (tests q (Arg n) places)
-tests_at (Var ty x) n places = met_at n (places x.0)
-tests_at (ConstBool b) n places = (arg_here n, not_arg n, refl)
-tests_at (ConstInt ty v) n places = (arg_here n, not_arg n, refl)
-tests_at q n places = tt
+tests_at : (env : Environment) (q : Pattern) (n : ℕ) (places : Places) → IsBuiltPattern q → AreAt n (tests env q (Arg n) places)
+tests_at env (Var ty x) n places h = met_at n (places x.0)
+tests_at env (ConstBool b) n places h = (arg_here n, not_arg n, refl)
+tests_at env (ConstInt ty v) n places h = (arg_here n, not_arg n, refl)
+tests_at env (Wildcard ty) n places h = tt
+tests_at env q n places h = absurd h
 
 all_more : (n : ℕ) (ts : List Test) → AllByRecursion (IsFrom (suc n)) ts → AllByRecursion (IsFrom n) ts
 all_more n [] h = tt
@@ -64,22 +70,53 @@ at_then : (n : ℕ) (ts us : List Test) → AreAt n ts → AllByRecursion (IsFro
 at_then n [] us h k = all_more n us k
 at_then n (t ∷ ts) us h k = (h.0, subst (λ xs. AllByRecursion (IsFrom n) (xs ++ us)) (sym h.2) (all_more n us k))
 
-args_from : (qs : List Pattern) (n : ℕ) (places : Places) → AllByRecursion (IsFrom n) (args_tests qs n places)
-args_from [] n places = tt
-args_from (q ∷ qs) n places = at_then n (tests q (Arg n) places) (args_tests qs (suc n) (after q (Arg n) places)) (tests_at q n places) (args_from qs (suc n) (after q (Arg n) places))
+args_from : (env : Environment) (qs : List Pattern) (n : ℕ) (places : Places) → AllByRecursion IsBuiltPattern qs → AllByRecursion (IsFrom n) (args_tests env qs n places)
+args_from env [] n places h = tt
+args_from env (q ∷ qs) n places h = at_then n (tests env q (Arg n) places) (args_tests env qs (suc n) (after env q (Arg n) places)) (tests_at env q n places h.0) (args_from env qs (suc n) (after env q (Arg n) places) h.1)
 
 once_then : (n : ℕ) (ts us : List Test) → AreAt n ts → AllByRecursion (IsFrom (suc n)) us → EachOnce us → EachOnce (ts ++ us)
 once_then n [] us h k e = e
 once_then n (t ∷ ts) us h k e =
     subst (λ xs. EachOnce (t ∷ xs ++ us)) (sym h.2) (λ c. h.1 (All-contains (IsFrom (suc n)) us t (All-from_recursion (IsFrom (suc n)) us k) c), e)
 
-args_once : (qs : List Pattern) (n : ℕ) (places : Places) → EachOnce (args_tests qs n places)
-args_once [] n places = tt
-args_once (q ∷ qs) n places = once_then n (tests q (Arg n) places) (args_tests qs (suc n) (after q (Arg n) places)) (tests_at q n places) (args_from qs (suc n) (after q (Arg n) places)) (args_once qs (suc n) (after q (Arg n) places))
+args_once : (env : Environment) (qs : List Pattern) (n : ℕ) (places : Places) → AllByRecursion IsBuiltPattern qs → EachOnce (args_tests env qs n places)
+args_once env [] n places h = tt
+args_once env (q ∷ qs) n places h = once_then n (tests env q (Arg n) places) (args_tests env qs (suc n) (after env q (Arg n) places)) (tests_at env q n places h.0) (args_from env qs (suc n) (after env q (Arg n) places) h.1) (args_once env qs (suc n) (after env q (Arg n) places) h.1)
 
 -- no test of a rule stands twice
-pub rule_once : (r : Rule) → EachOnce (rule_tests r)
-rule_once r = args_once r.args 0 no_places
+pub rule_once : (env : Environment) (r : Rule) → IsBuiltRule r → EachOnce (rule_tests env r)
+rule_once env r b = subst EachOnce (sym (without_iflets env r b.iflets)) (args_once env r.args 0 no_places (recursion_from_All IsBuiltPattern r.args b.args))
+
+-- a test that some value passes
+abbrev pub CanHold : Test → Type 0
+CanHold (Is p c) = Unit {0}
+CanHold (Equal p q) = Unit {0}
+CanHold Never = ⊥
+
+met_can : (o : Option Path) (p : Path) → AllByRecursion CanHold (met_tests o p)
+met_can None p = tt
+met_can (Some q) p = (tt, tt)
+
+all_both : (ts us : List Test) → AllByRecursion CanHold ts → AllByRecursion CanHold us → AllByRecursion CanHold (ts ++ us)
+all_both [] us h k = k
+all_both (t ∷ ts) us h k = (h.0, all_both ts us h.1 k)
+
+tests_can : (env : Environment) (q : Pattern) (p : Path) (places : Places) → IsBuiltPattern q → AllByRecursion CanHold (tests env q p places)
+tests_can env (Var ty x) p places h = met_can (places x.0) p
+tests_can env (ConstBool b) p places h = (tt, tt)
+tests_can env (ConstInt ty v) p places h = (tt, tt)
+tests_can env (Wildcard ty) p places h = tt
+tests_can env q p places h = absurd h
+
+args_can : (env : Environment) (qs : List Pattern) (n : ℕ) (places : Places) → AllByRecursion IsBuiltPattern qs → AllByRecursion CanHold (args_tests env qs n places)
+args_can env [] n places h = tt
+args_can env (q ∷ qs) n places h = all_both (tests env q (Arg n) places) (args_tests env qs (suc n) (after env q (Arg n) places)) (tests_can env q (Arg n) places h.0) (args_can env qs (suc n) (after env q (Arg n) places) h.1)
+
+-- each test of a rule of built forms is one
+pub rule_can : (env : Environment) (r : Rule) (t : Test) → IsBuiltRule r → Contains (rule_tests env r) t → CanHold t
+rule_can env r t b c =
+    let ts = args_tests env r.args 0 no_places in
+    All-contains CanHold ts t (All-from_recursion CanHold ts (args_can env r.args 0 no_places (recursion_from_All IsBuiltPattern r.args b.args))) (subst (λ us. Contains us t) (without_iflets env r b.iflets) c)
 
 -- ---- constraints, and then equalities
 
@@ -119,9 +156,10 @@ append_once (x ∷ xs) ys h k apart =
 abbrev pub parted : List Test → List Test
 parted ts = filter is_constraint ts ++ filter is_equality ts
 
-pub parted_keeps : (ts : List Test) (t : Test) → Contains ts t → Contains (parted ts) t
-parted_keeps ts (Is p c) h = Contains-append_left (filter is_constraint ts) (filter is_equality ts) (Is p c) (filter_keeps is_constraint ts (Is p c) refl h)
-parted_keeps ts (Equal p q) h = Contains-append_right (filter is_constraint ts) (filter is_equality ts) (Equal p q) (filter_keeps is_equality ts (Equal p q) refl h)
+pub parted_keeps : (ts : List Test) (t : Test) → CanHold t → Contains ts t → Contains (parted ts) t
+parted_keeps ts (Is p c) can h = Contains-append_left (filter is_constraint ts) (filter is_equality ts) (Is p c) (filter_keeps is_constraint ts (Is p c) refl h)
+parted_keeps ts (Equal p q) can h = Contains-append_right (filter is_constraint ts) (filter is_equality ts) (Equal p q) (filter_keeps is_equality ts (Equal p q) refl h)
+parted_keeps ts Never can h = absurd can
 
 pub parted_from : (ts : List Test) (t : Test) → Contains (parted ts) t → Contains ts t
 parted_from ts t c = ⊎_elim (λ d. (filter_cases is_constraint ts t d).0) (λ d. (filter_cases is_equality ts t d).0) (Contains-append_cases (filter is_constraint ts) (filter is_equality ts) t c)
@@ -129,6 +167,7 @@ parted_from ts t c = ⊎_elim (λ d. (filter_cases is_constraint ts t d).0) (λ 
 one_kind : (t : Test) → is_constraint t ≡ true → is_equality t ≡ true → ⊥
 one_kind (Is p c) e f = cc
 one_kind (Equal p q) e f = cc
+one_kind Never e f = cc
 
 pub parted_once : (ts : List Test) → EachOnce ts → EachOnce (parted ts)
 parted_once ts h =
@@ -145,30 +184,30 @@ met_keeps None x y p q places e h = pick (eqb x y) refl
     pick true t = let same : x ≡ y = eqb-true x y t in let bad : None ≡ Some q = sym e ∙ ap places same ∙ h in cc
     pick false t = h
 
-after_keeps : (r : Pattern) (p : Path) (places : Places) (y : ℕ) (q : Path) → places y ≡ Some q → after r p places y ≡ Some q
-after_keeps (Var ty x) p places y q h = met_keeps (places x.0) x.0 y p q places refl h
-after_keeps r p places y q h = h
+after_keeps : (env : Environment) (r : Pattern) (p : Path) (places : Places) (y : ℕ) (q : Path) → places y ≡ Some q → after env r p places y ≡ Some q
+after_keeps env (Var ty x) p places y q h = met_keeps (places x.0) x.0 y p q places refl h
+after_keeps env r p places y q h = h
 
 -- a place stays behind more patterns
-pub args_keep : (qs : List Pattern) (n : ℕ) (places : Places) (y : ℕ) (q : Path) → places y ≡ Some q → args_after qs n places y ≡ Some q
-args_keep [] n places y q h = h
-args_keep (r ∷ qs) n places y q h = args_keep qs (suc n) (after r (Arg n) places) y q (after_keeps r (Arg n) places y q h)
+pub args_keep : (env : Environment) (qs : List Pattern) (n : ℕ) (places : Places) (y : ℕ) (q : Path) → places y ≡ Some q → args_after env qs n places y ≡ Some q
+args_keep env [] n places y q h = h
+args_keep env (r ∷ qs) n places y q h = args_keep env qs (suc n) (after env r (Arg n) places) y q (after_keeps env r (Arg n) places y q h)
 
 -- a variable stands at an argument, or stood there before
-record PlacedAt (qs : List Pattern) (n : ℕ) (places : Places) (x : ℕ) : Type 0 where
+record PlacedAt (env : Environment) (qs : List Pattern) (n : ℕ) (places : Places) (x : ℕ) : Type 0 where
   p : Path
-  is : args_after qs n places x ≡ Some p
+  is : args_after env qs n places x ≡ Some p
   among : Contains (arg_paths qs n) p ⊎ (places x ≡ Some p)
 
-var_here : (o : Option Path) (of : TypeId) (x : VarId) (qs : List Pattern) (n : ℕ) (places : Places) → places x.0 ≡ o → PlacedAt (Var of x ∷ qs) n places x.0
-var_here (Some q) of x qs n places e = record { p = q; is = args_keep (Var of x ∷ qs) n places x.0 q e; among = inr e }
-var_here None of x qs n places e = record {
+var_here : (env : Environment) (o : Option Path) (of : TypeId) (x : VarId) (qs : List Pattern) (n : ℕ) (places : Places) → places x.0 ≡ o → PlacedAt env (Var of x ∷ qs) n places x.0
+var_here env (Some q) of x qs n places e = record { p = q; is = args_keep env (Var of x ∷ qs) n places x.0 q e; among = inr e }
+var_here env None of x qs n places e = record {
   p = Arg n;
-  is = args_keep qs (suc n) (after (Var of x) (Arg n) places) x.0 (Arg n) new;
+  is = args_keep env qs (suc n) (after env (Var of x) (Arg n) places) x.0 (Arg n) new;
   among = inl (head_contained (Arg n) (arg_paths qs (suc n)));
 }
   where
-    new : after (Var of x) (Arg n) places x.0 ≡ Some (Arg n)
+    new : after env (Var of x) (Arg n) places x.0 ≡ Some (Arg n)
     new = ap (λ o. met_after o x.0 (Arg n) places x.0) e ∙ ap (λ b. cond b (Some (Arg n)) (places x.0)) (eq-eqb x.0 x.0 refl)
 
 with_from : (b : Bool) (n : ℕ) (o : Option Path) (p : Path) → cond b (Some (Arg n)) o ≡ Some p → (Arg n ≡ p) ⊎ (o ≡ Some p)
@@ -179,36 +218,36 @@ met_from : (o : Option Path) (x n y : ℕ) (places : Places) (p : Path) → met_
 met_from (Some q) x n y places p e = inr e
 met_from None x n y places p e = with_from (eqb x y) n (places y) p e
 
-after_from : (q : Pattern) (n y : ℕ) (places : Places) (p : Path) → after q (Arg n) places y ≡ Some p → (Arg n ≡ p) ⊎ (places y ≡ Some p)
-after_from (Var ty x) n y places p e = met_from (places x.0) x.0 n y places p e
-after_from q n y places p e = inr e
+after_from : (env : Environment) (q : Pattern) (n y : ℕ) (places : Places) (p : Path) → after env q (Arg n) places y ≡ Some p → (Arg n ≡ p) ⊎ (places y ≡ Some p)
+after_from env (Var ty x) n y places p e = met_from (places x.0) x.0 n y places p e
+after_from env q n y places p e = inr e
 
-var_behind : (q : Pattern) (qs : List Pattern) (n x : ℕ) (places : Places) → PlacedAt qs (suc n) (after q (Arg n) places) x → PlacedAt (q ∷ qs) n places x
-var_behind q qs n x places h = record {
+var_behind : (env : Environment) (q : Pattern) (qs : List Pattern) (n x : ℕ) (places : Places) → PlacedAt env qs (suc n) (after env q (Arg n) places) x → PlacedAt env (q ∷ qs) n places x
+var_behind env q qs n x places h = record {
   p = h.p;
   is = h.is;
   among = ⊎_elim (λ c. inl (tail_contained (Arg n) (arg_paths qs (suc n)) h.p c))
-      (λ e. ⊎_elim (λ (s : Arg n ≡ h.p). inl (subst (Contains (arg_paths (q ∷ qs) n)) s (head_contained (Arg n) (arg_paths qs (suc n))))) (λ k. inr k) (after_from q n x places h.p e)) h.among;
+      (λ e. ⊎_elim (λ (s : Arg n ≡ h.p). inl (subst (Contains (arg_paths (q ∷ qs) n)) s (head_contained (Arg n) (arg_paths qs (suc n))))) (λ k. inr k) (after_from env q n x places h.p e)) h.among;
 }
 
-var_placed : (qs : List Pattern) (n : ℕ) (places : Places) (of : TypeId) (x : VarId) → Contains qs (Var of x) → PlacedAt qs n places x.0
-var_placed [] n places of x c = absurd (none_contained (Var of x) c)
-var_placed (q ∷ qs) n places of x c =
-    ⊎_elim (λ (s : q ≡ Var of x). subst (λ r. PlacedAt (r ∷ qs) n places x.0) (sym s) (var_here (places x.0) of x qs n places refl))
-    (λ d. var_behind q qs n x.0 places (var_placed qs (suc n) (after q (Arg n) places) of x d)) (contained_cases q qs (Var of x) c)
+var_placed : (env : Environment) (qs : List Pattern) (n : ℕ) (places : Places) (of : TypeId) (x : VarId) → Contains qs (Var of x) → PlacedAt env qs n places x.0
+var_placed env [] n places of x c = absurd (none_contained (Var of x) c)
+var_placed env (q ∷ qs) n places of x c =
+    ⊎_elim (λ (s : q ≡ Var of x). subst (λ r. PlacedAt env (r ∷ qs) n places x.0) (sym s) (var_here env (places x.0) of x qs n places refl))
+    (λ d. var_behind env q qs n x.0 places (var_placed env qs (suc n) (after env q (Arg n) places) of x d)) (contained_cases q qs (Var of x) c)
 
 none_there : (p : Path) → None ≡ Some p → ⊥
 none_there p e = cc
 
 -- a variable of patterns stands at an argument
-pub stands_at : (qs : List Pattern) (of : TypeId) (x : VarId) → Contains qs (Var of x) → (p : Path) × (args_after qs 0 no_places x.0 ≡ Some p) × Contains (arg_paths qs 0) p
-stands_at qs of x c = let h = var_placed qs 0 no_places of x c in (h.p, h.is, ⊎_elim (λ d. d) (λ e. absurd (none_there h.p e)) h.among)
+pub stands_at : (env : Environment) (qs : List Pattern) (of : TypeId) (x : VarId) → Contains qs (Var of x) → (p : Path) × (args_after env qs 0 no_places x.0 ≡ Some p) × Contains (arg_paths qs 0) p
+stands_at env qs of x c = let h = var_placed env qs 0 no_places of x c in (h.p, h.is, ⊎_elim (λ d. d) (λ e. absurd (none_there h.p e)) h.among)
 
 -- the place of a variable of patterns is an argument
-is_arg : (qs : List Pattern) (n x : ℕ) (places : Places) (p : Path) → args_after qs n places x ≡ Some p → ((i : ℕ) × (p ≡ Arg i)) ⊎ (places x ≡ Some p)
-is_arg [] n x places p e = inr e
-is_arg (q ∷ qs) n x places p e =
-    ⊎_elim (λ h. inl h) (λ k. ⊎_elim (λ (s : Arg n ≡ p). inl (n, sym s)) (λ l. inr l) (after_from q n x places p k)) (is_arg qs (suc n) x (after q (Arg n) places) p e)
+is_arg : (env : Environment) (qs : List Pattern) (n x : ℕ) (places : Places) (p : Path) → args_after env qs n places x ≡ Some p → ((i : ℕ) × (p ≡ Arg i)) ⊎ (places x ≡ Some p)
+is_arg env [] n x places p e = inr e
+is_arg env (q ∷ qs) n x places p e =
+    ⊎_elim (λ h. inl h) (λ k. ⊎_elim (λ (s : Arg n ≡ p). inl (n, sym s)) (λ l. inr l) (after_from env q n x places p k)) (is_arg env qs (suc n) x (after env q (Arg n) places) p e)
 
-pub place_is_arg : (qs : List Pattern) (x : ℕ) (p : Path) → args_after qs 0 no_places x ≡ Some p → (i : ℕ) × (p ≡ Arg i)
-place_is_arg qs x p e = ⊎_elim (λ h. h) (λ k. absurd (none_there p k)) (is_arg qs 0 x no_places p e)
+pub place_is_arg : (env : Environment) (qs : List Pattern) (x : ℕ) (p : Path) → args_after env qs 0 no_places x ≡ Some p → (i : ℕ) × (p ≡ Arg i)
+place_is_arg env qs x p e = ⊎_elim (λ h. h) (λ k. absurd (none_there p k)) (is_arg env qs 0 x no_places p e)

@@ -5,8 +5,10 @@ use Rattle.std.specs.BTreeMap.{BTreeMap, get}
 use Rattle.isle_core.specs.declared.BindingId.{BindingId}
 use Rattle.isle_core.specs.Pattern.{Pattern}
 use Rattle.isle_core.specs.Path.{Path, at, paths_of}
-use Rattle.isle_core.specs.Tests.{Test, Is, Equal, Places, no_places, args_tests, args_after, arg_paths}
+use Rattle.isle_core.specs.RulePaths.{arg_paths}
+use Rattle.isle_core.specs.Tests.{Test, Is, Equal, Never, Places, no_places, args_tests, args_after}
 use Rattle.isle_core.specs.RuleSet.{is_test, equal_test}
+use Rattle.isle_core.specs.Rule.{Environment}
 use Rattle.isle_rulesets.specs.declared.draft.Draft.{Draft}
 use Rattle.isle_rulesets.specs.Numbering.{Extends, Numbered}
 
@@ -14,10 +16,12 @@ use Rattle.isle_rulesets.specs.Numbering.{Extends, Numbered}
 abbrev pub is_constraint : Test → Bool
 is_constraint (Is p c) = true
 is_constraint (Equal p q) = false
+is_constraint Never = false
 
 abbrev pub is_equality : Test → Bool
 is_equality (Is p c) = false
 is_equality (Equal p q) = true
+is_equality Never = false
 
 -- the path of a number, where there is one
 abbrev pub path_at : List Path → Option BindingId → Option Path
@@ -35,9 +39,9 @@ pub record Draws (ps : List Path) (places : Places) (ts : List Test) (d : Draft)
   pub equals : map (equal_test ps) d.equals.items ≡ filter is_equality ts
 
 -- the arguments of the patterns are numbered, nothing else was, and the draft has the patterns' tests
-pub record Drafted (old new : Numbered) (patterns : List Pattern) (d : Draft) : Type 0 where
+pub record Drafted (env : Environment) (old new : Numbered) (patterns : List Pattern) (d : Draft) : Type 0 where
   pub extends : Extends (paths_of old.bindings) (paths_of new.bindings)
   pub only : (p : Path) → Contains (paths_of new.bindings) p → Contains (paths_of old.bindings) p ⊎ Contains (arg_paths patterns 0) p
   pub all : (p : Path) → Contains (arg_paths patterns 0) p → Contains (paths_of new.bindings) p
-  pub draws : (ps : List Path) → Extends (paths_of new.bindings) ps → Draws ps (args_after patterns 0 no_places) (args_tests patterns 0 no_places) d
+  pub draws : (ps : List Path) → Extends (paths_of new.bindings) ps → Draws ps (args_after env patterns 0 no_places) (args_tests env patterns 0 no_places) d
   pub calls : new.calls ≡ old.calls

@@ -3,8 +3,9 @@ use Rattle.std.specs.Prelude.{◌≡◌, ◌⊎◌, ℕ, ◌+◌, List, [], ◌�
 use Rattle.isle_core.specs.declared.rule_sets.FlatRule.{FlatRule}
 use Rattle.isle_core.specs.Path.{Path, paths_of}
 use Rattle.isle_core.specs.Calling.{impure}
-use Rattle.isle_core.specs.Tests.{rule_paths}
-use Rattle.isle_core.specs.StandsFor.{IsFlat, AreFlat, rules_paths}
+use Rattle.isle_core.specs.RulePaths.{rule_paths}
+use Rattle.isle_core.specs.RulePaths.{rules_paths}
+use Rattle.isle_core.specs.StandsFor.{IsFlat, AreFlat}
 use Rattle.isle_core.specs.Rule.{Environment, Rule}
 use Rattle.isle_rulesets.specs.Numbering.{Numbered, Extends}
 

@@ -8,7 +8,7 @@ use Rattle.isle_core.specs.declared.rule_sets.Binding.{Binding}
 use Rattle.isle_core.specs.declared.rule_sets.Binding.TheVariants as binding
 use Rattle.isle_core.specs.Path as path
 use Rattle.isle_core.specs.Path.{Path, Called, Inner, at_all, paths_of}
-use Rattle.isle_core.specs.Tests.{bool_type}
+use Rattle.isle_core.specs.RightSide.{bool_type}
 use Rattle.isle_core.specs.StandsFor.{EachOnce}
 use Rattle.isle_rulesets.specs.declared.numbering.Key.{Key}
 use Rattle.isle_rulesets.specs.declared.numbering.Key.TheVariants as key

@@ -7,7 +7,10 @@ use Rattle.isle_core.specs.Expr as expr
 use Rattle.isle_core.specs.Expr.{Expr, Exprs, NoExpr, AnExpr}
 use Rattle.isle_core.specs.Path.{Path, Paths, NoPath, APath, at, paths_of}
 use Rattle.isle_core.specs.Calling.{Calling, one_more, impure, impure_all}
-use Rattle.isle_core.specs.Tests.{Places, path, paths, calls, calls_all, expr_paths, exprs_paths, answer_path, with_inner, if_ordered}
+use Rattle.isle_core.specs.OrderedCalls.{calls, calls_all, if_ordered}
+use Rattle.isle_core.specs.RightSide.{path, paths, answer_path}
+use Rattle.isle_core.specs.RulePaths.{expr_paths, exprs_paths, with_inner}
+use Rattle.isle_core.specs.Tests.{Places}
 use Rattle.isle_core.specs.Rule.{Environment}
 use Rattle.isle_rulesets.specs.Numbering.{Numbered, Extends}
 

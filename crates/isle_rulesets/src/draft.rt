@@ -2,6 +2,7 @@ ghost use Rattle.std.specs.Prelude.{◌++◌, List, [], IfOk, OnOk, map, All};
 ghost use Rattle.isle_core.specs.Path.{Path, at};
 ghost use Rattle.isle_core.specs.Tests.{Places, Test, tests, after, met_tests, met_after, no_places};
 ghost use Rattle.isle_core.specs.RuleViews.{pattern as seen};
+ghost use Rattle.isle_core.specs.Rule.{Environment};
 ghost use Rattle.isle_core.specs.BuiltRule.{IsBuiltPattern};
 ghost use Rattle.isle_rulesets.specs.Drafts.{Draws, Drafted};
 
@@ -52,8 +53,8 @@ fn number_pattern(
     argument: BindingId,
 ) -> Result<(), AllocError>
     requires { IsBuiltPattern (seen pattern.now) }
-    ensures { OnOk result ((ps : List Path) (places : Places) (ts : List Test) → Draws ps places ts draft.old
-        → Draws ps (after (seen pattern.now) (at ps argument) places) (ts ++ tests (seen pattern.now) (at ps argument) places) draft.new) }
+    ensures { OnOk result ((env : Environment) (ps : List Path) (places : Places) (ts : List Test) → Draws ps places ts draft.old
+        → Draws ps (after env (seen pattern.now) (at ps argument) places) (ts ++ tests env (seen pattern.now) (at ps argument) places) draft.new) }
 {
     match pattern {
         Pattern::Var(_, var) => meet(draft, *var, argument)?,
@@ -80,7 +81,7 @@ pub fn number_arguments(
     patterns: &[Pattern],
 ) -> Result<Draft, AllocError>
     requires { All IsBuiltPattern (map seen patterns.now) }
-    ensures { IfOk result (λ d. Drafted numbering.old numbering.new (map seen patterns.now) d) }
+    ensures { IfOk result (λ d. (env : Environment) → Drafted env numbering.old numbering.new (map seen patterns.now) d) }
 {
     let mut draft = Draft::new(alloc);
     for (index, pattern) in patterns.iter().enumerate() {

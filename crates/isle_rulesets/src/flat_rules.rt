@@ -1,6 +1,7 @@
 ghost use Rattle.std.specs.Prelude.{◌≡◌, IfOk, All};
 ghost use Rattle.isle_core.specs.RuleViews.{rule as seen, rules as seen_all};
-ghost use Rattle.isle_core.specs.BuiltRule.{IsBuiltRule, IsBoundRule, IsImpureRule};
+ghost use Rattle.isle_core.specs.BuiltRule.{IsBuiltRule, IsImpureRule};
+ghost use Rattle.isle_core.specs.Scope.{IsScopedRule};
 ghost use Rattle.isle_core.specs.StandsFor.{StandsFor};
 ghost use Rattle.isle_core.specs.Rule.{Environment};
 ghost use Rattle.isle_rulesets.specs.FlatRules.{Adds};
@@ -19,7 +20,7 @@ fn flat_rule(
     rule: &Rule,
 ) -> Result<FlatRule, AllocError>
     requires built { IsBuiltRule (seen rule.now) }
-    requires bound { IsBoundRule (seen rule.now) }
+    requires bound { IsScopedRule (seen rule.now) }
     requires impure { IsImpureRule terms.now (seen rule.now) }
     ensures { IfOk result (λ f. (env : Environment) → env.terms ≡ terms.now → Adds env numbering.old numbering.new (seen rule.now) f) }
 {
@@ -49,7 +50,7 @@ fn flat_rule(
 /// The rule set that stands for rules of one term.
 pub fn rule_set(alloc: Global, terms: &[Term], rules: &[&Rule]) -> Result<RuleSet, AllocError>
     requires built { All IsBuiltRule (seen_all rules.now) }
-    requires bound { All IsBoundRule (seen_all rules.now) }
+    requires bound { All IsScopedRule (seen_all rules.now) }
     requires impure { All (IsImpureRule terms.now) (seen_all rules.now) }
     ensures { IfOk result (λ s. (env : Environment) → env.terms ≡ terms.now → StandsFor env s (seen_all rules.now)) }
 {

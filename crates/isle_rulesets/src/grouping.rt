@@ -1,7 +1,8 @@
 ghost use Rattle.std.specs.Prelude.{◌≡◌, length, IfOk, All, map, []};
 ghost use Rattle.isle_core.specs.declared.types.TypeEnv.{TypeEnv};
 ghost use Rattle.isle_core.specs.RuleViews.{rule as seen, environment};
-ghost use Rattle.isle_core.specs.BuiltRule.{IsBuiltRule, IsBoundRule, IsImpureRule};
+ghost use Rattle.isle_core.specs.BuiltRule.{IsBuiltRule, IsImpureRule};
+ghost use Rattle.isle_core.specs.Scope.{IsScopedRule};
 ghost use Rattle.isle_rulesets.specs.Grouping.{AreGroups, AreRuleSets};
 
 use crate::flat_rules::rule_set;
@@ -40,7 +41,7 @@ fn group<'a>(
 /// The terms with rules, in order of ids, each with the rule set of its rules.
 pub fn rule_sets(alloc: Global, terms: &TermEnv) -> Result<Vec<(TermId, RuleSet)>, AllocError>
     requires built { All IsBuiltRule (map seen terms.now.rules) }
-    requires bound { All IsBoundRule (map seen terms.now.rules) }
+    requires bound { All IsScopedRule (map seen terms.now.rules) }
     requires impure { All (IsImpureRule terms.now.terms) (map seen terms.now.rules) }
     ensures { IfOk result (λ sets. (types : TypeEnv) → AreRuleSets (environment types terms.now) sets.items) }
 {

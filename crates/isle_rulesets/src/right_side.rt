@@ -2,9 +2,10 @@ ghost use Rattle.std.specs.Prelude.{◌≡◌, IfOk, IsSomeAnd, map, slice_get};
 ghost use Rattle.isle_core.specs.declared.types.Term.{Term as CodeTerm};
 ghost use Rattle.isle_core.specs.RuleViews.{expr as seen, exprs_of};
 ghost use Rattle.isle_core.specs.BuiltRule.{IsImpureKind, CallsImpure, AllCallImpure};
-ghost use Rattle.isle_core.specs.Calling.{is_partial as partial, calling};
+ghost use Rattle.isle_core.specs.Calling.{may_be_nothing, kind_of, calling};
 ghost use Rattle.isle_core.specs.Path.{at_all, paths_of};
-ghost use Rattle.isle_core.specs.Tests.{Places, call_path};
+ghost use Rattle.isle_core.specs.RightSide.{call_path};
+ghost use Rattle.isle_core.specs.Tests.{Places};
 ghost use Rattle.isle_core.specs.Rule.{Environment};
 ghost use Rattle.isle_rulesets.specs.RightSides.{IsKnown, AreKnown, Stand, Gives, GivesAll, GivesCall};
 
@@ -20,13 +21,18 @@ pub struct Scope<'a> {
     pub variables: &'a BTreeMap<usize, BindingId>,
 }
 
-/// Whether the term may answer nothing.
+/// Whether the single answer of the term may be nothing.
 fn is_partial(kind: &TermKind) -> bool
-    ensures { result ≡ partial kind.now }
+    ensures { result ≡ may_be_nothing (kind_of kind.now) }
 {
     match kind {
         TermKind::Variant { .. } | TermKind::Struct { .. } => false,
-        TermKind::Decl { partial, .. } => *partial,
+        TermKind::Decl { multi: true, .. } => false,
+        TermKind::Decl {
+            multi: false,
+            partial,
+            ..
+        } => *partial,
     }
 }
 

@@ -10,7 +10,7 @@ use Rattle.isle_core.specs.Meaning.{Meaning}
 use Rattle.isle_core.specs.Having.{HasAnswers}
 use Rattle.isle_core.specs.HasType.{HaveTypes}
 use Rattle.isle_core.specs.Lawful.{IsLawful}
-use Rattle.isle_core.specs.Outcome.{is_partial}
+use Rattle.isle_emission.specs.Partial.{is_partial}
 use Rattle.isle_core.specs.Rule.{Environment}
 use Rattle.isle_core.specs.Terms.{term_name, with_rules}
 use Rattle.isle_tree.specs.Program.{Program, Function}

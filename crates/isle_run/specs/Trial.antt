@@ -1,5 +1,5 @@
 -- The lines that a run of a compiled term gives.
-use Rattle.std.specs.Prelude.{◌≡◌, ℕ, List, Bool, true, Some, slice_get}
+use Rattle.std.specs.Prelude.{◌≡◌, ℕ, List, [], Bool, true, Some, slice_get}
 use Rattle.isle_core.specs.declared.TermId.{TermId}
 use Rattle.isle_core.specs.declared.options.CodegenOptions.{CodegenOptions}
 use Rattle.isle_core.specs.declared.files.Files.{Files}
@@ -9,7 +9,7 @@ use Rattle.isle_core.specs.Meaning.{Meaning}
 use Rattle.isle_core.specs.Having.{HasAnswers}
 use Rattle.isle_core.specs.HasType.{HaveTypes}
 use Rattle.isle_core.specs.Lawful.{IsLawful}
-use Rattle.isle_core.specs.Outcome.{Prescription, Prescribed, is_partial}
+use Rattle.isle_core.specs.Outcome.{Prescription, Prescribed, kind_of}
 use Rattle.isle_core.specs.Rule.{Environment, rules_of}
 use Rattle.isle_values.specs.Written.{Writtens}
 use Rattle.isle_answers.specs.Form.{Form}
@@ -22,6 +22,7 @@ use Rattle.isle_tree.specs.Run.{run}
 use Rattle.isle_interpreter.specs.Judged.{Runs}
 use Rattle.isle_interpreter.specs.Lines.{run_lines}
 use Rattle.isle_emission.specs.Ends.{end_of}
+use Rattle.isle_emission.specs.Partial.{is_partial}
 use Rattle.isle_codegen.specs.Checked.{IsChecked}
 use Rattle.isle_codegen.specs.Headline.{impure_calls}
 use Rattle.isle_run.specs.Conforming.{Conforms}
@@ -41,8 +42,8 @@ shown_outcome partial o = record { end = end_of partial o.result; calls = o.call
 -- the lines are those of the one outcome that the term's rules prescribe
 pub record AreOutcome (env : Environment) (id : TermId) (t : Term) (args : List Value) (m : Meaning) (lines : List ℕ) : Type 0 where
   pub outcome : Prescription
-  pub prescribed : Prescribed env m args (rules_of env id) (is_partial t.kind) outcome
-  pub only : (other : Prescription) → Prescribed env m args (rules_of env id) (is_partial t.kind) other → other ≡ outcome
+  pub prescribed : Prescribed env m args (rules_of env id) (kind_of t.kind) [] outcome
+  pub only : (other : Prescription) → Prescribed env m args (rules_of env id) (kind_of t.kind) [] other → other ≡ outcome
   pub shown : lines ≡ run_lines (shown_outcome (is_partial t.kind) outcome)
 
 -- the lines of a run of the term at these arguments, under answers: under every lawful meaning that has the answers they

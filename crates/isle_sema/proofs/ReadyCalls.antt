@@ -3,6 +3,8 @@ use Rattle.std.proofs.Common.{◌≡◌, ⊎_elim, ℕ, suc, ◌+◌, ◌≤◌,
 use Rattle.std.specs.Prelude.{Contains, IsSomeAnd, IsTrue, slice_get}
 use Rattle.std.proofs.lemmas.List.{append-nil, append_assoc}
 use Rattle.std.proofs.lemmas.List.Elements.{Contains-append_left, Contains-append_right}
+use Rattle.isle_core.specs.declared.types.ReturnKind.{ReturnKind}
+use Rattle.isle_core.specs.declared.types.ReturnKind.TheVariants as return_kind
 use Rattle.isle_core.specs.declared.BindingId.{BindingId}
 use Rattle.isle_core.specs.declared.TermId.{TermId}
 use Rattle.isle_core.specs.declared.TypeId.{TypeId}
@@ -13,8 +15,10 @@ use Rattle.isle_core.specs.declared.types.TermKind.{TermKind}
 use Rattle.isle_core.specs.declared.types.TermKind.TheVariants as kind
 use Rattle.isle_core.specs.declared.values.Callee.{Callee}
 use Rattle.isle_core.specs.declared.values.Callee.TheVariants.{External}
-use Rattle.isle_core.specs.BlockLawful.{IsPathOf, ArePathsOf, IsCall, occurrence, occurrence_at, occurrences}
-use Rattle.isle_core.specs.Calling.{Calling, ByTurns, ByCases, NoCall, calling, calling_of, calling_by, pure_callee, is_partial, is_fallible, instance_of, one_more, impure, impure_all}
+use Rattle.isle_core.specs.ExternalCall.{IsCall}
+use Rattle.isle_core.specs.Occurrences.{occurrence, occurrence_at, occurrences}
+use Rattle.isle_core.specs.PathType.{IsPathOf, ArePathsOf}
+use Rattle.isle_core.specs.Calling.{Calling, ByTurns, ByCases, NoCall, calling, calling_of, calling_by, pure_callee, kind_of, may_be_nothing, AnswersOnce, is_fallible, instance_of, one_more, impure, impure_all}
 use Rattle.isle_core.specs.Expr as expr
 use Rattle.isle_core.specs.Expr.{Expr, Exprs, NoExpr, AnExpr}
 use Rattle.isle_core.specs.Path.{Path, Arg, Called, Inner, Paths, at}
@@ -24,7 +28,10 @@ use Rattle.isle_core.specs.Ready.{StandsOn, AllStandOn, IsReadyCall, AreReadyCal
 use Rattle.isle_core.specs.Rule.{Environment}
 use Rattle.isle_core.specs.StandsFor.{EachOnce}
 use Rattle.isle_core.specs.Terms.{sym_text, impure_callee}
-use Rattle.isle_core.specs.Tests.{Places, path_or, call_path, answer_path, path, paths as all_paths, if_ordered, calls, calls_all, with_inner, expr_paths, exprs_paths}
+use Rattle.isle_core.specs.OrderedCalls.{if_ordered, calls, calls_all}
+use Rattle.isle_core.specs.RightSide.{path_or, call_path, answer_path, path, paths as all_paths}
+use Rattle.isle_core.specs.RulePaths.{with_inner, expr_paths, exprs_paths}
+use Rattle.isle_core.specs.Tests.{Places}
 use Rattle.isle_core.proofs.CallOccurrences.{AreRising, occurrence as occurrence_of}
 use Rattle.isle_core.proofs.Contained.{head_contained, tail_contained, contained_cases, none_contained}
 use Rattle.isle_sema.specs.TypedRule.{IsExternalKind, IsExprOf, AreExprsOf}
@@ -38,15 +45,17 @@ some_of (Some x) P h = (x, refl, h)
 -- a call of an external term takes turns
 record TakesTurns (env : Environment) (allowed : Bool) (term : TermId) (t : Term) : Type 0 where
   name : List ℕ
-  is : calling env term ≡ ByTurns (External name) (is_partial t.kind)
-  fits : IsTrue (is_partial t.kind) → IsTrue allowed
+  is : calling env term ≡ ByTurns (External name) (kind_of t.kind)
+  fits : IsTrue (may_be_nothing (kind_of t.kind)) → IsTrue allowed
+  once : AnswersOnce (kind_of t.kind)
 
-by_kind : (env : Environment) (allowed : Bool) (t : Term) (k : TermKind) → IsExternalKind allowed k → (name : List ℕ) × (calling_by (is_partial k) (impure_callee env t k) (pure_callee env t k) ≡ ByTurns (External name) (is_partial k)) × (IsTrue (is_partial k) → IsTrue allowed)
-by_kind env allowed t (kind.Decl false false partial false (constructor.External func) extractor) h = (sym_text env func, refl, h)
+by_kind : (env : Environment) (allowed : Bool) (t : Term) (k : TermKind) → IsExternalKind allowed k → (name : List ℕ) × (calling_by (kind_of k) (impure_callee env t k) (pure_callee env t k) ≡ ByTurns (External name) (kind_of k)) × (IsTrue (may_be_nothing (kind_of k)) → IsTrue allowed) × AnswersOnce (kind_of k)
+by_kind env allowed t (kind.Decl false false true false (constructor.External func) extractor) h = (sym_text env func, refl, h, tt)
+by_kind env allowed t (kind.Decl false false false false (constructor.External func) extractor) h = (sym_text env func, refl, h, tt)
 by_kind env allowed t k h = absurd h
 
 turns : (env : Environment) (allowed : Bool) (term : TermId) (t : Term) → slice_get env.terms term.0 ≡ Some t → IsExternalKind allowed t.kind → TakesTurns env allowed term t
-turns env allowed term t there h = let k = by_kind env allowed t t.kind h in record { name = k.0; is = ap (calling_of env) there ∙ k.1; fits = k.2 }
+turns env allowed term t there h = let k = by_kind env allowed t t.kind h in record { name = k.0; is = ap (calling_of env) there ∙ k.1; fits = k.2; once = k.3 }
 
 -- ---- in which places variables stand
 
@@ -57,12 +66,13 @@ ArePlacedAs t args places = (of : TypeId) (x : VarId) → Contains args (pattern
 -- ---- paths of right sides
 
 module _ (env : Environment) (t : Term) (allowed : Bool) (args : List Pattern) (places : Places) (placed : ArePlacedAs t args places) where
-  answer_typed : (partial : Bool) (term : TermId) (c : Term) (name : List ℕ) (ps : Paths) (k : ℕ) (ty : TypeId) → calling env term ≡ ByTurns (External name) partial → slice_get env.terms term.0 ≡ Some c → c.ret_ty ≡ ty → ArePathsOf env t ps c.arg_tys
-      → IsPathOf env t (answer_path (ByTurns (External name) partial) (Called term ps k)) ty
-  answer_typed true term c name ps k ty is there ret are =
-      (subst (IsCall true) (sym is) (refl, tt), subst (λ o. IsSomeAnd o (λ (x : Term). (x.ret_ty ≡ ty) × ArePathsOf env t ps x.arg_tys)) (sym there) (ret, are))
-  answer_typed false term c name ps k ty is there ret are =
-      (subst (IsCall false) (sym is) (refl, tt), subst (λ o. IsSomeAnd o (λ (x : Term). (x.ret_ty ≡ ty) × ArePathsOf env t ps x.arg_tys)) (sym there) (ret, are))
+  answer_typed : (kind : ReturnKind) → AnswersOnce kind → (term : TermId) (c : Term) (name : List ℕ) (ps : Paths) (k : ℕ) (ty : TypeId) → calling env term ≡ ByTurns (External name) kind → slice_get env.terms term.0 ≡ Some c → c.ret_ty ≡ ty → ArePathsOf env t ps c.arg_tys
+      → IsPathOf env t (answer_path (ByTurns (External name) kind) (Called term ps k)) ty
+  answer_typed return_kind.Option once term c name ps k ty is there ret are =
+      (subst (IsCall return_kind.Option) (sym is) (refl, tt), subst (λ o. IsSomeAnd o (λ (x : Term). (x.ret_ty ≡ ty) × ArePathsOf env t ps x.arg_tys)) (sym there) (ret, are))
+  answer_typed return_kind.Plain once term c name ps k ty is there ret are =
+      (subst (IsCall return_kind.Plain) (sym is) (refl, tt), subst (λ o. IsSomeAnd o (λ (x : Term). (x.ret_ty ≡ ty) × ArePathsOf env t ps x.arg_tys)) (sym there) (ret, are))
+  answer_typed return_kind.Iterator once term c name ps k ty is there ret are = absurd once
 
   mutual
     -- the path of a typed expression has its type
@@ -74,7 +84,7 @@ module _ (env : Environment) (t : Term) (allowed : Bool) (args : List Pattern) (
         let c = some_of (slice_get env.terms term.0) _ h.1 in
         let k = turns env allowed term c.0 c.1 c.2.0 in
         subst (λ d. IsPathOf env t (answer_path d (call_path env term (all_paths env es places n) (n + impure_all env es))) ty) (sym k.is)
-        (answer_typed (is_partial c.0.kind) term c.0 k.name (all_paths env es places n) _ ty k.is c.1 c.2.1 (paths_typed es n c.0.arg_tys c.2.2))
+        (answer_typed (kind_of c.0.kind) k.once term c.0 k.name (all_paths env es places n) _ ty k.is c.1 c.2.1 (paths_typed es n c.0.arg_tys c.2.2))
     path_typed (expr.ConstPrim of name) n ty h = absurd h
     path_typed (expr.Let of bindings inner) n ty h = absurd h
 
@@ -89,9 +99,10 @@ module _ (env : Environment) (t : Term) (allowed : Bool) (args : List Pattern) (
   abbrev Among : List Path → List Path → Type 0
   Among xs ys = (p : Path) → Contains xs p → Contains ys p
 
-  stands_by : (partial : Bool) (callee : Callee) (done : List Path) (term : TermId) (ps : Paths) (k : ℕ) → Contains done (Called term ps k) → StandsOn done (answer_path (ByTurns callee partial) (Called term ps k))
-  stands_by true callee done term ps k c = c
-  stands_by false callee done term ps k c = c
+  stands_by : (kind : ReturnKind) (callee : Callee) (done : List Path) (term : TermId) (ps : Paths) (k : ℕ) → Contains done (Called term ps k) → StandsOn done (answer_path (ByTurns callee kind) (Called term ps k))
+  stands_by return_kind.Plain callee done term ps k c = c
+  stands_by return_kind.Option callee done term ps k c = c
+  stands_by return_kind.Iterator callee done term ps k c = c
 
   arg_stands : (done : List Path) (o : Option Path) (k : ℕ) → o ≡ Some (Arg k) → StandsOn done (path_or o)
   arg_stands done o k e = subst (λ x. StandsOn done (path_or x)) (sym e) tt
@@ -106,7 +117,7 @@ module _ (env : Environment) (t : Term) (allowed : Bool) (args : List Pattern) (
         let k = turns env allowed term c.0 c.1 c.2.0 in
         let q = call_path env term (all_paths env es places n) (n + impure_all env es) in
         let among : Contains (calls_all env es places n ++ if_ordered (calling env term) q) q = Contains-append_right (calls_all env es places n) (if_ordered (calling env term) q) q (subst (λ d. Contains (if_ordered d q) q) (sym k.is) (head_contained q [])) in
-        subst (λ d. StandsOn done (answer_path d q)) (sym k.is) (stands_by (is_partial c.0.kind) (External k.name) done term (all_paths env es places n) _ (a q among))
+        subst (λ d. StandsOn done (answer_path d q)) (sym k.is) (stands_by (kind_of c.0.kind) (External k.name) done term (all_paths env es places n) _ (a q among))
     path_stands (expr.ConstPrim of name) n ty done h a = absurd h
     path_stands (expr.Let of bindings inner) n ty done h a = absurd h
 
@@ -130,12 +141,13 @@ module _ (env : Environment) (t : Term) (allowed : Bool) (args : List Pattern) (
   ready_more ps done [] ys h go = go done (λ p c. c) (λ p c. absurd (none_contained p c))
   ready_more ps done (x ∷ xs) ys h go = (h.0, ready_more ps (x ∷ done) xs ys h.1 (λ later a b. go later (λ p c. a p (tail_contained x done p c)) (λ p c. ⊎_elim (λ (e : x ≡ p). a p (subst (Contains (x ∷ done)) e (head_contained x done))) (b p) (contained_cases x xs p c))))
 
-  inner_of : (partial : Bool) (callee : Callee) (q : Path) (ps : List Path) → Among (with_inner (ByTurns callee partial) q) ps → IsTrue partial → Contains ps (Inner q)
-  inner_of true callee q ps a h = a (Inner q) (tail_contained q (Inner q ∷ []) (Inner q) (head_contained (Inner q) []))
-  inner_of false callee q ps a h = cc
+  inner_of : (kind : ReturnKind) (callee : Callee) (q : Path) (ps : List Path) → Among (with_inner (ByTurns callee kind) q) ps → IsTrue (may_be_nothing kind) → Contains ps (Inner q)
+  inner_of return_kind.Option callee q ps a h = a (Inner q) (tail_contained q (Inner q ∷ []) (Inner q) (head_contained (Inner q) []))
+  inner_of return_kind.Plain callee q ps a h = cc
+  inner_of return_kind.Iterator callee q ps a h = cc
 
-  one_ready : (ps done : List Path) (term : TermId) (c : Term) (k : TakesTurns env allowed term c) (qs : Paths) (j : ℕ) → slice_get env.terms term.0 ≡ Some c → ArePathsOf env t qs c.arg_tys → AllStandOn done qs → allowed ≡ is_partial t.kind → InnersFit ps
-      → Among (with_inner (ByTurns (External k.name) (is_partial c.kind)) (Called term qs j)) ps → IsReadyCall env t ps done (Called term qs j)
+  one_ready : (ps done : List Path) (term : TermId) (c : Term) (k : TakesTurns env allowed term c) (qs : Paths) (j : ℕ) → slice_get env.terms term.0 ≡ Some c → ArePathsOf env t qs c.arg_tys → AllStandOn done qs → allowed ≡ may_be_nothing (kind_of t.kind) → InnersFit ps
+      → Among (with_inner (ByTurns (External k.name) (kind_of c.kind)) (Called term qs j)) ps → IsReadyCall env t ps done (Called term qs j)
   one_ready ps done term c k qs j there are stand same fit a = record {
     term = term;
     parameters = qs;
@@ -145,14 +157,14 @@ module _ (env : Environment) (t : Term) (allowed : Bool) (args : List Pattern) (
     there = there;
     args = are;
     stand = stand;
-    partial = is_partial c.kind;
-    external = subst (IsCall (is_partial c.kind)) (sym k.is) (refl, tt);
-    inner = (inner_of (is_partial c.kind) (External k.name) (Called term qs j) ps a, λ d. sym (ap is_fallible k.is) ∙ fit term qs j d);
+    kind = kind_of c.kind;
+    external = subst (IsCall (kind_of c.kind)) (sym k.is) (refl, tt);
+    inner = (inner_of (kind_of c.kind) (External k.name) (Called term qs j) ps a, λ d. sym (ap is_fallible k.is) ∙ fit term qs j d);
     fits = λ h. sym same ∙ k.fits h;
   }
 
   mutual
-    pub calls_ready : (e : Expr) (n : ℕ) (ty : TypeId) (ps done : List Path) → IsExprOf env allowed args ty e → allowed ≡ is_partial t.kind → InnersFit ps → Among (expr_paths env e places n) ps → AreReadyCalls env t ps done (calls env e places n)
+    pub calls_ready : (e : Expr) (n : ℕ) (ty : TypeId) (ps done : List Path) → IsExprOf env allowed args ty e → allowed ≡ may_be_nothing (kind_of t.kind) → InnersFit ps → Among (expr_paths env e places n) ps → AreReadyCalls env t ps done (calls env e places n)
     calls_ready (expr.Var of x) n ty ps done h same fit a = tt
     calls_ready (expr.ConstBool b) n ty ps done h same fit a = tt
     calls_ready (expr.ConstInt of v) n ty ps done h same fit a = tt
@@ -171,7 +183,7 @@ module _ (env : Environment) (t : Term) (allowed : Bool) (args : List Pattern) (
     calls_ready (expr.ConstPrim of name) n ty ps done h same fit a = absurd h
     calls_ready (expr.Let of bindings inner) n ty ps done h same fit a = absurd h
 
-    all_calls_ready : (es : Exprs) (n : ℕ) (tys : List TypeId) (ps done : List Path) → AreExprsOf env allowed args tys es → allowed ≡ is_partial t.kind → InnersFit ps → Among (exprs_paths env es places n) ps → AreReadyCalls env t ps done (calls_all env es places n)
+    all_calls_ready : (es : Exprs) (n : ℕ) (tys : List TypeId) (ps done : List Path) → AreExprsOf env allowed args tys es → allowed ≡ may_be_nothing (kind_of t.kind) → InnersFit ps → Among (exprs_paths env es places n) ps → AreReadyCalls env t ps done (calls_all env es places n)
     all_calls_ready NoExpr n [] ps done h same fit a = tt
     all_calls_ready (AnExpr e es) n (ty ∷ tys) ps done h same fit a =
         let n1 = n + impure env e in
@@ -183,9 +195,9 @@ module _ (env : Environment) (t : Term) (allowed : Bool) (args : List Pattern) (
 
   -- ---- their occurrences rise
 
-  call_rises : (partial : Bool) (callee : Callee) (n k : ℕ) (term : TermId) (qs : Paths) (cs more : List Path) → ((after : List Path) → AreRising (n + k) after → AreRising n (cs ++ after)) → AreRising (n + suc k) more
-      → AreRising n ((cs ++ if_ordered (ByTurns callee partial) (Called term qs (suc (n + k)))) ++ more)
-  call_rises partial callee n k term qs cs more h r =
+  call_rises : (kind : ReturnKind) (callee : Callee) (n k : ℕ) (term : TermId) (qs : Paths) (cs more : List Path) → ((after : List Path) → AreRising (n + k) after → AreRising n (cs ++ after)) → AreRising (n + suc k) more
+      → AreRising n ((cs ++ if_ordered (ByTurns callee kind) (Called term qs (suc (n + k)))) ++ more)
+  call_rises kind callee n k term qs cs more h r =
       let p = Called term qs (suc (n + k)) in
       let last : n + suc k ≡ suc (n + k) = omega arith in
       subst (AreRising n) (sym (append_assoc cs (p ∷ []) more)) (h (p ∷ more) (refl, subst (λ j. AreRising j more) last r))
@@ -202,7 +214,7 @@ module _ (env : Environment) (t : Term) (allowed : Bool) (args : List Pattern) (
         let c = some_of (slice_get env.terms term.0) _ h.1 in
         let k = turns env allowed term c.0 c.1 c.2.0 in
         subst (λ d. AreRising n ((calls_all env es places n ++ if_ordered d (Called term (all_paths env es places n) (instance_of d (n + impure_all env es)))) ++ more)) (sym k.is)
-        (call_rises (is_partial c.0.kind) (External k.name) n (impure_all env es) term (all_paths env es places n) (calls_all env es places n) more (λ after s. all_calls_rise es n c.0.arg_tys after c.2.2 s)
+        (call_rises (kind_of c.0.kind) (External k.name) n (impure_all env es) term (all_paths env es places n) (calls_all env es places n) more (λ after s. all_calls_rise es n c.0.arg_tys after c.2.2 s)
         (subst (λ d. AreRising (n + one_more d (impure_all env es)) more) k.is r))
     calls_rise (expr.ConstPrim of name) n ty more h r = absurd h
     calls_rise (expr.Let of bindings inner) n ty more h r = absurd h
@@ -234,8 +246,8 @@ rising_occurrences env ps (b ∷ bs) n r = one (at ps b) r.0 (rising_occurrences
     one (Called term qs k) e rest = by_calling (calling env term)
       where
         by_calling : (c : Calling) → ((j : ℕ) → Contains (occurrence c k ++ others) j → suc n ≤ j) × EachOnce (occurrence c k ++ others)
-        by_calling (ByTurns callee partial) = (λ j c. ⊎_elim (λ (s : k ≡ j). let le : suc n ≤ j = omega arith in le) (λ d. let low = rest.0 j d in omega (arith, low)) (contained_cases k others j c), (λ c. let low = rest.0 k c in omega (arith, low, e), rest.1))
-        by_calling (ByCases callee partial) = (λ j c. let low = rest.0 j c in omega (arith, low), rest.1)
+        by_calling (ByTurns callee kind) = (λ j c. ⊎_elim (λ (s : k ≡ j). let le : suc n ≤ j = omega arith in le) (λ d. let low = rest.0 j d in omega (arith, low)) (contained_cases k others j c), (λ c. let low = rest.0 k c in omega (arith, low, e), rest.1))
+        by_calling (ByCases callee kind) = (λ j c. let low = rest.0 j c in omega (arith, low), rest.1)
         by_calling NoCall = (λ j c. let low = rest.0 j c in omega (arith, low), rest.1)
     one p e rest = (λ j c. let low = rest.0 j c in omega (arith, low), rest.1)
 

@@ -10,8 +10,8 @@ use Rattle.isle_core.specs.declared.VarId.{VarId}
 use Rattle.isle_core.specs.declared.rule_sets.FlatRule.{FlatRule}
 use Rattle.isle_core.specs.declared.rule_sets.RuleSet.{RuleSet}
 use Rattle.isle_core.specs.declared.types.Term.{Term}
-use Rattle.isle_core.specs.BlockLawful.{IsPathOf}
-use Rattle.isle_core.specs.Calling.{calling, is_partial, is_fallible, instance_of, impure, impure_all}
+use Rattle.isle_core.specs.PathType.{IsPathOf}
+use Rattle.isle_core.specs.Calling.{calling, kind_of, may_be_nothing, is_fallible, instance_of, impure, impure_all}
 use Rattle.isle_core.specs.Expr as expr
 use Rattle.isle_core.specs.Expr.{Expr, Exprs, NoExpr, AnExpr}
 use Rattle.isle_core.specs.Match.{with}
@@ -21,11 +21,16 @@ use Rattle.isle_core.specs.Pattern as pattern
 use Rattle.isle_core.specs.Ready.{StandsOn, AreReadyCalls, IsReadyRule, IsReady}
 use Rattle.isle_core.specs.Rule.{Rule, Environment, rules_of}
 use Rattle.isle_core.specs.RuleSet.{is_test, equal_test}
-use Rattle.isle_core.specs.StandsFor.{EachOnce, IsFlat, AreFlat, rules_paths, StandsFor}
-use Rattle.isle_core.specs.Tests.{Test, Places, no_places, met_tests, met_after, tests, after, args_tests, args_after, arg_paths, path, paths as all_paths, path_or, call_path, with_inner, expr_paths, exprs_paths, rule_tests, rule_places, rule_calls, rule_paths}
+use Rattle.isle_core.specs.RulePaths.{rules_paths}
+use Rattle.isle_core.specs.StandsFor.{EachOnce, IsFlat, AreFlat, StandsFor}
+use Rattle.isle_core.specs.OrderedCalls.{rule_calls}
+use Rattle.isle_core.specs.RightSide.{path, paths as all_paths, path_or, call_path}
+use Rattle.isle_core.specs.RulePaths.{arg_paths, with_inner, expr_paths, exprs_paths, rule_paths}
+use Rattle.isle_core.specs.Tests.{Test, Places, no_places, met_tests, met_after, tests, after, args_tests, args_after, rule_tests, rule_places}
 use Rattle.isle_core.proofs.CallOccurrences.{AreRising, rising_firsts}
 use Rattle.isle_core.proofs.Contained.{head_contained, tail_contained, contained_cases, none_contained}
 use Rattle.isle_core.proofs.KeptPlaces.{args_keep}
+use Rattle.isle_core.proofs.SetMeans.{without_iflets}
 use Rattle.isle_syntax.specs.Tree.{Def}
 use Rattle.isle_sema.specs.TypedRule.{IsPatternOf, ArePatternsOf, IsRuleOf, numbers}
 use Rattle.isle_sema.specs.ReadyRule.{IsReadyTest}
@@ -60,16 +65,16 @@ unfolding AreNew
 still_new places x p [] other h = tt
 still_new places x p (m ∷ ms) other h = (new_at (x == m) places x m p refl (λ e. other (subst (Contains (m ∷ ms)) (sym e) (head_contained m ms))) h.0, still_new places x p ms (λ c. other (tail_contained m ms x c)) h.1)
 
-new_behind : (q : Pattern) (qs : List Pattern) (p : Path) (places : Places) → EachOnce (numbers (q ∷ qs)) → AreNew places (numbers (q ∷ qs)) → AreNew (after q p places) (numbers qs)
+new_behind : (env : Environment) (q : Pattern) (qs : List Pattern) (p : Path) (places : Places) → EachOnce (numbers (q ∷ qs)) → AreNew places (numbers (q ∷ qs)) → AreNew (after env q p places) (numbers qs)
 unfolding AreNew
-new_behind (Var of x) qs p places once h = subst (λ o. AllByRecursion (λ (m : ℕ). met_after o x.0 p places m ≡ None) (numbers qs)) (sym h.0) (still_new places x.0 p (numbers qs) once.0 h.1)
-new_behind (ConstBool b) qs p places once h = h
-new_behind (ConstInt of n) qs p places once h = h
-new_behind (Wildcard of) qs p places once h = h
-new_behind (BindPattern of x q) qs p places once h = h
-new_behind (ConstPrim of name) qs p places once h = h
-new_behind (pattern.Term of term rs) qs p places once h = h
-new_behind (And of rs) qs p places once h = h
+new_behind env (Var of x) qs p places once h = subst (λ o. AllByRecursion (λ (m : ℕ). met_after o x.0 p places m ≡ None) (numbers qs)) (sym h.0) (still_new places x.0 p (numbers qs) once.0 h.1)
+new_behind env (ConstBool b) qs p places once h = h
+new_behind env (ConstInt of n) qs p places once h = h
+new_behind env (Wildcard of) qs p places once h = h
+new_behind env (BindPattern of x q) qs p places once h = h
+new_behind env (ConstPrim of name) qs p places once h = h
+new_behind env (pattern.Term of term rs) qs p places once h = h
+new_behind env (And of rs) qs p places once h = h
 
 once_behind : (q : Pattern) (qs : List Pattern) → EachOnce (numbers (q ∷ qs)) → EachOnce (numbers qs)
 once_behind (Var of x) qs once = once.1
@@ -88,7 +93,7 @@ all_both P [] ys h k = k
 all_both P (x ∷ xs) ys h k = (h.0, all_both P xs ys h.1 k)
 
 test_ready : (env : Environment) (t : Term) (ty : TypeId) (q : Pattern) (qs : List Pattern) (i : ℕ) (places : Places) → slice_get t.arg_tys i ≡ Some ty → IsPatternOf env ty q → AreNew places (numbers (q ∷ qs))
-    → AllByRecursion (IsReadyTest env t) (tests q (Arg i) places)
+    → AllByRecursion (IsReadyTest env t) (tests env q (Arg i) places)
 unfolding AreNew
 test_ready env t ty (Var of x) qs i places here h new = subst (λ o. AllByRecursion (IsReadyTest env t) (met_tests o (Arg i))) (sym new.0) tt
 test_ready env t ty (ConstBool b) qs i places here h new = (record { ty = ty; path = here; in_place = tt; constraint = h }, tt)
@@ -100,37 +105,37 @@ test_ready env t ty (pattern.Term of term rs) qs i places here h new = absurd h
 test_ready env t ty (And of rs) qs i places here h new = absurd h
 
 tests_ready : (env : Environment) (t : Term) (tys : List TypeId) (ps : List Pattern) (i : ℕ) (places : Places) → AtFrom t i tys → ArePatternsOf env tys ps → EachOnce (numbers ps) → AreNew places (numbers ps)
-    → AllByRecursion (IsReadyTest env t) (args_tests ps i places)
+    → AllByRecursion (IsReadyTest env t) (args_tests env ps i places)
 tests_ready env t [] [] i places from h once new = tt
 tests_ready env t [] (q ∷ qs) i places from h once new = absurd h
 tests_ready env t (ty ∷ tys) [] i places from h once new = absurd h
 tests_ready env t (ty ∷ tys) (q ∷ qs) i places from h once new =
-    all_both (IsReadyTest env t) (tests q (Arg i) places) (args_tests qs (suc i) (after q (Arg i) places)) (test_ready env t ty q qs i places (at_first t i ty tys from) h.0 new)
-    (tests_ready env t tys qs (suc i) (after q (Arg i) places) (at_rest t i ty tys from) h.1 (once_behind q qs once) (new_behind q qs (Arg i) places once new))
+    all_both (IsReadyTest env t) (tests env q (Arg i) places) (args_tests env qs (suc i) (after env q (Arg i) places)) (test_ready env t ty q qs i places (at_first t i ty tys from) h.0 new)
+    (tests_ready env t tys qs (suc i) (after env q (Arg i) places) (at_rest t i ty tys from) h.1 (once_behind q qs once) (new_behind env q qs (Arg i) places once new))
 
 -- ---- the result
 
 -- a variable stands at an argument of its type
-PlacedAs : Term → List Pattern → ℕ → Places → TypeId → ℕ → Type 0
-PlacedAs t ps i places of x = (k : ℕ) × (args_after ps i places x ≡ Some (Arg k)) × (slice_get t.arg_tys k ≡ Some of)
+PlacedAs : Environment → Term → List Pattern → ℕ → Places → TypeId → ℕ → Type 0
+PlacedAs env t ps i places of x = (k : ℕ) × (args_after env ps i places x ≡ Some (Arg k)) × (slice_get t.arg_tys k ≡ Some of)
 
-placed_here : (env : Environment) (t : Term) (ty of : TypeId) (x : VarId) (qs : List Pattern) (i : ℕ) (places : Places) → slice_get t.arg_tys i ≡ Some ty → IsPatternOf env ty (Var of x) → AreNew places (numbers (Var of x ∷ qs)) → PlacedAs t (Var of x ∷ qs) i places of x.0
+placed_here : (env : Environment) (t : Term) (ty of : TypeId) (x : VarId) (qs : List Pattern) (i : ℕ) (places : Places) → slice_get t.arg_tys i ≡ Some ty → IsPatternOf env ty (Var of x) → AreNew places (numbers (Var of x ∷ qs)) → PlacedAs env t (Var of x ∷ qs) i places of x.0
 unfolding PlacedAs AreNew
 placed_here env t ty of x qs i places here h new =
-    let is : after (Var of x) (Arg i) places x.0 ≡ Some (Arg i) = ap (λ o. met_after o x.0 (Arg i) places x.0) new.0 ∙ ap (λ b. cond b (Some (Arg i)) (places x.0)) (eq-eqb x.0 x.0 refl) in
-    (i, args_keep qs (suc i) (after (Var of x) (Arg i) places) x.0 (Arg i) is, here ∙ ap Some (sym h))
+    let is : after env (Var of x) (Arg i) places x.0 ≡ Some (Arg i) = ap (λ o. met_after o x.0 (Arg i) places x.0) new.0 ∙ ap (λ b. cond b (Some (Arg i)) (places x.0)) (eq-eqb x.0 x.0 refl) in
+    (i, args_keep env qs (suc i) (after env (Var of x) (Arg i) places) x.0 (Arg i) is, here ∙ ap Some (sym h))
 
 placed : (env : Environment) (t : Term) (tys : List TypeId) (ps : List Pattern) (i : ℕ) (places : Places) (of : TypeId) (x : VarId) → AtFrom t i tys → ArePatternsOf env tys ps → EachOnce (numbers ps) → AreNew places (numbers ps)
-    → Contains ps (Var of x) → PlacedAs t ps i places of x.0
+    → Contains ps (Var of x) → PlacedAs env t ps i places of x.0
 unfolding PlacedAs
 placed env t [] [] i places of x from h once new c = absurd (none_contained (Var of x) c)
 placed env t [] (q ∷ qs) i places of x from h once new c = absurd h
 placed env t (ty ∷ tys) [] i places of x from h once new c = absurd h
 placed env t (ty ∷ tys) (q ∷ qs) i places of x from h once new c =
     ⊎_elim
-    (λ (s : q ≡ Var of x). subst (λ r. PlacedAs t (r ∷ qs) i places of x.0) (sym s)
+    (λ (s : q ≡ Var of x). subst (λ r. PlacedAs env t (r ∷ qs) i places of x.0) (sym s)
     (placed_here env t ty of x qs i places (at_first t i ty tys from) (subst (IsPatternOf env ty) s h.0) (subst (λ r. AreNew places (numbers (r ∷ qs))) s new)))
-    (λ d. placed env t tys qs (suc i) (after q (Arg i) places) of x (at_rest t i ty tys from) h.1 (once_behind q qs once) (new_behind q qs (Arg i) places once new) d) (contained_cases q qs (Var of x) c)
+    (λ d. placed env t tys qs (suc i) (after env q (Arg i) places) of x (at_rest t i ty tys from) h.1 (once_behind q qs once) (new_behind env q qs (Arg i) places once new) d) (contained_cases q qs (Var of x) c)
 
 all_new : (ms : List ℕ) → AreNew no_places ms
 unfolding AreNew
@@ -142,7 +147,7 @@ unfolding AtFrom
 from_start t k ty e = let same : k ≡ 0 + k = omega arith in subst (λ n. slice_get t.arg_tys n ≡ Some ty) same e
 
 -- the variables of a rule stand at arguments of their types
-rule_placed : (env : Environment) (t : Term) (args : List Pattern) → ArePatternsOf env t.arg_tys args → EachOnce (numbers args) → ArePlacedAs t args (args_after args 0 no_places)
+rule_placed : (env : Environment) (t : Term) (args : List Pattern) → ArePatternsOf env t.arg_tys args → EachOnce (numbers args) → ArePlacedAs t args (args_after env args 0 no_places)
 unfolding PlacedAs
 rule_placed env t args h once of x c = placed env t t.arg_tys args 0 no_places of x (from_start t) h once (all_new (numbers args)) c
 
@@ -165,13 +170,13 @@ met_argument None x y k places h = one (x == y)
     one true = (k, refl)
     one false = h y
 
-after_argument : (q : Pattern) (k : ℕ) (places : Places) → ((z : ℕ) → IsArgument (places z)) → (y : ℕ) → IsArgument (after q (Arg k) places y)
-after_argument (Var of x) k places h y = met_argument (places x.0) x.0 y k places h
-after_argument q k places h y = h y
+after_argument : (env : Environment) (q : Pattern) (k : ℕ) (places : Places) → ((z : ℕ) → IsArgument (places z)) → (y : ℕ) → IsArgument (after env q (Arg k) places y)
+after_argument env (Var of x) k places h y = met_argument (places x.0) x.0 y k places h
+after_argument env q k places h y = h y
 
-pub args_argument : (qs : List Pattern) (i : ℕ) (places : Places) → ((z : ℕ) → IsArgument (places z)) → (y : ℕ) → IsArgument (args_after qs i places y)
-args_argument [] i places h = h
-args_argument (q ∷ qs) i places h = args_argument qs (suc i) (after q (Arg i) places) (after_argument q i places h)
+pub args_argument : (env : Environment) (qs : List Pattern) (i : ℕ) (places : Places) → ((z : ℕ) → IsArgument (places z)) → (y : ℕ) → IsArgument (args_after env qs i places y)
+args_argument env [] i places h = h
+args_argument env (q ∷ qs) i places h = args_argument env qs (suc i) (after env q (Arg i) places) (after_argument env q i places h)
 
 one_fallible : (env : Environment) (p : Path) → ((term : TermId) (qs : Paths) (k : ℕ) → p ≡ Inner (Called term qs k) → ⊥) → Fallible env (p ∷ [])
 one_fallible env p apart term qs k c = absurd (⊎_elim (λ e. apart term qs k e) (λ d. none_contained (Inner (Called term qs k)) d) (contained_cases p [] (Inner (Called term qs k)) c))
@@ -219,7 +224,7 @@ rules_fallible : (rules : List Rule) (env : Environment) (n : ℕ) → Fallible 
 rules_fallible [] env n term qs k c = absurd (none_contained (Inner (Called term qs k)) c)
 rules_fallible (r ∷ rules) env n term qs k c =
     both_fallible env (rule_paths env r n) (rules_paths env rules (n + impure env r.rhs))
-    (both_fallible env (arg_paths r.args 0) (expr_paths env r.rhs (rule_places r) n) (args_fallible env r.args 0) (expr_fallible r.rhs env (rule_places r) n (args_argument r.args 0 no_places (λ z. tt))))
+    (both_fallible env (arg_paths r.args 0) (expr_paths env r.rhs (rule_places env r) n) (args_fallible env r.args 0) (expr_fallible r.rhs env (rule_places env r) n (args_argument env r.args 0 no_places (λ z. tt))))
     (rules_fallible rules env (n + impure env r.rhs)) term qs k c
 
 -- ---- rule sets
@@ -236,19 +241,19 @@ module _ (env : Environment) (t : Term) (ps : List Path) (fit : Fallible env ps)
   flat_ready : (r : Rule) (n : ℕ) (f : FlatRule) → IsFlat env ps r n f → IsRuleOf env t r → ((p : Path) → Contains (rule_paths env r n) p → Contains ps p) → IsReadyRule env t ps f
   flat_ready r n f flat h among =
       let at_args = rule_placed env t r.args h.args h.once in
-      let rises = expr_rises env t (is_partial t.kind) r.args (rule_places r) at_args r.rhs n t.ret_ty h.rhs in
+      let rises = expr_rises env t (may_be_nothing (kind_of t.kind)) r.args (rule_places env r) at_args r.rhs n t.ret_ty h.rhs in
       let same : map (at ps) f.ordered ≡ rule_calls env r n = rising_firsts n (rule_calls env r n) (map (at ps) f.ordered) rises flat.ordered in
       record {
         constraints = each _ f.constraints (λ c d. let k = ready (is_test ps c) (Contains-append_left (map (is_test ps) f.constraints) (map (equal_test ps) f.equals) (is_test ps c) (contained_map (is_test ps) f.constraints c d)) in record { ty = k.ty; path = k.path; in_place = k.in_place; constraint = k.constraint });
         equals = each _ f.equals (λ e d. let k = ready (equal_test ps e) (Contains-append_right (map (is_test ps) f.constraints) (map (equal_test ps) f.equals) (equal_test ps e) (contained_map (equal_test ps) f.equals e d)) in record { ty = k.ty; left = k.left; left_in_place = k.left_in_place; right = k.right; right_in_place = k.right_in_place });
-        calls = subst (AreReadyCalls env t ps []) (sym same) (calls_ready env t (is_partial t.kind) r.args (rule_places r) at_args r.rhs n t.ret_ty ps [] h.rhs refl fit (λ p c. among p (Contains-append_right (arg_paths r.args 0) (expr_paths env r.rhs (rule_places r) n) p c)));
+        calls = subst (AreReadyCalls env t ps []) (sym same) (calls_ready env t (may_be_nothing (kind_of t.kind)) r.args (rule_places env r) at_args r.rhs n t.ret_ty ps [] h.rhs refl fit (λ p c. among p (Contains-append_right (arg_paths r.args 0) (expr_paths env r.rhs (rule_places env r) n) p c)));
         once = ordered_once env ps f.ordered n (subst (AreRising n) (sym same) rises);
-        result = subst (λ p. IsPathOf env t p t.ret_ty) (sym flat.result) (path_typed env t (is_partial t.kind) r.args (rule_places r) at_args r.rhs n t.ret_ty h.rhs);
-        stands = subst (StandsOn (map (at ps) f.ordered)) (sym flat.result) (subst (λ done. StandsOn done (path env r.rhs (rule_places r) n)) (sym same) (path_stands env t (is_partial t.kind) r.args (rule_places r) at_args r.rhs n t.ret_ty (rule_calls env r n) h.rhs (λ p c. c)));
+        result = subst (λ p. IsPathOf env t p t.ret_ty) (sym flat.result) (path_typed env t (may_be_nothing (kind_of t.kind)) r.args (rule_places env r) at_args r.rhs n t.ret_ty h.rhs);
+        stands = subst (StandsOn (map (at ps) f.ordered)) (sym flat.result) (subst (λ done. StandsOn done (path env r.rhs (rule_places env r) n)) (sym same) (path_stands env t (may_be_nothing (kind_of t.kind)) r.args (rule_places env r) at_args r.rhs n t.ret_ty (rule_calls env r n) h.rhs (λ p c. c)));
       }
     where
       ready : (x : Test) → Contains (map (is_test ps) f.constraints ++ map (equal_test ps) f.equals) x → IsReadyTest env t x
-      ready x c = All-contains (IsReadyTest env t) (rule_tests r) x (All-from_recursion (IsReadyTest env t) (rule_tests r) (tests_ready env t t.arg_tys r.args 0 no_places (from_start t) h.args h.once (all_new (numbers r.args)))) (flat.no_other x c).0
+      ready x c = All-contains (IsReadyTest env t) (rule_tests env r) x (All-from_recursion (IsReadyTest env t) (rule_tests env r) (subst (AllByRecursion (IsReadyTest env t)) (sym (without_iflets env r h.iflets)) (tests_ready env t t.arg_tys r.args 0 no_places (from_start t) h.args h.once (all_new (numbers r.args))))) (flat.no_other x c).0
 
   flats_ready : (rs : List Rule) (n : ℕ) (fs : List FlatRule) → AreFlat env ps rs n fs → AllByRecursion (IsRuleOf env t) rs → ((p : Path) → Contains (rules_paths env rs n) p → Contains ps p) → AllByRecursion (IsReadyRule env t ps) fs
   flats_ready [] n [] flat h among = tt

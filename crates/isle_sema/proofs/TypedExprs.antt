@@ -17,8 +17,10 @@ use Rattle.isle_core.specs.Expr.{Expr as CoreExpr, Exprs as CoreExprs}
 use Rattle.isle_core.specs.Rule.{Environment}
 use Rattle.isle_core.specs.Value.{Truth}
 use Rattle.isle_core.specs.HasType.{HasType, IsOfDef}
-use Rattle.isle_core.specs.Tests.{bool_type}
-use Rattle.isle_core.specs.BuiltRule.{IsBuiltExpr, AreBuiltExprs, IsImpureKind, CallsImpure, AllCallImpure, IsBoundIn, AreBoundIn}
+use Rattle.isle_core.specs.RightSide.{bool_type}
+use Rattle.isle_core.specs.BuiltRule.{IsBuiltExpr, AreBuiltExprs, IsImpureKind, CallsImpure, AllCallImpure}
+use Rattle.isle_core.specs.Scope.{all_variables, IsInScope, AreInScope}
+use Rattle.isle_core.proofs.ScopeLaws.{in_scope}
 use Rattle.isle_syntax.specs.Tree as tree
 use Rattle.isle_syntax.specs.Tree.{Pattern, Expr, Exprs, NoExpr, AnExpr, Def}
 use Rattle.isle_sema.specs.Symbols.{index_of, symbols}
@@ -164,19 +166,19 @@ mutual
   built_exprs env allowed args (ty ∷ tys) core_expr.NoExpr h = absurd h
 
 mutual
-  pub bound_expr : (env : Environment) (allowed : Bool) (args : List CorePattern) (ty : TypeId) (e : CoreExpr) → IsExprOf env allowed args ty e → IsBoundIn args e
-  bound_expr env allowed args ty (core_expr.Var of x) h = (ty, h.1)
-  bound_expr env allowed args ty (core_expr.ConstBool b) h = tt
-  bound_expr env allowed args ty (core_expr.ConstInt of n) h = tt
-  bound_expr env allowed args ty (core_expr.Term of term es) h = let c = called env allowed args ty (slice_get env.terms term.0) es h.1 in bound_exprs env allowed args c.term.arg_tys es c.takes
-  bound_expr env allowed args ty (core_expr.ConstPrim of name) h = absurd h
-  bound_expr env allowed args ty (core_expr.Let of bs e) h = absurd h
+  pub scoped_expr : (env : Environment) (allowed : Bool) (args : List CorePattern) (ty : TypeId) (e : CoreExpr) → IsExprOf env allowed args ty e → IsInScope (all_variables args) e
+  scoped_expr env allowed args ty (core_expr.Var of x) h = in_scope args ty x h.1
+  scoped_expr env allowed args ty (core_expr.ConstBool b) h = tt
+  scoped_expr env allowed args ty (core_expr.ConstInt of n) h = tt
+  scoped_expr env allowed args ty (core_expr.Term of term es) h = let c = called env allowed args ty (slice_get env.terms term.0) es h.1 in scoped_exprs env allowed args c.term.arg_tys es c.takes
+  scoped_expr env allowed args ty (core_expr.ConstPrim of name) h = absurd h
+  scoped_expr env allowed args ty (core_expr.Let of bs e) h = absurd h
 
-  bound_exprs : (env : Environment) (allowed : Bool) (args : List CorePattern) (tys : List TypeId) (es : CoreExprs) → AreExprsOf env allowed args tys es → AreBoundIn args es
-  bound_exprs env allowed args [] core_expr.NoExpr h = tt
-  bound_exprs env allowed args (ty ∷ tys) (core_expr.AnExpr e es) h = (bound_expr env allowed args ty e h.0, bound_exprs env allowed args tys es h.1)
-  bound_exprs env allowed args [] (core_expr.AnExpr e es) h = absurd h
-  bound_exprs env allowed args (ty ∷ tys) core_expr.NoExpr h = absurd h
+  scoped_exprs : (env : Environment) (allowed : Bool) (args : List CorePattern) (tys : List TypeId) (es : CoreExprs) → AreExprsOf env allowed args tys es → AreInScope (all_variables args) es
+  scoped_exprs env allowed args [] core_expr.NoExpr h = tt
+  scoped_exprs env allowed args (ty ∷ tys) (core_expr.AnExpr e es) h = (scoped_expr env allowed args ty e h.0, scoped_exprs env allowed args tys es h.1)
+  scoped_exprs env allowed args [] (core_expr.AnExpr e es) h = absurd h
+  scoped_exprs env allowed args (ty ∷ tys) core_expr.NoExpr h = absurd h
 
 impure_kind : (allowed : Bool) (k : TermKind) → IsExternalKind allowed k → IsImpureKind k
 impure_kind allowed (kind.Decl false false partial false (constructor.External func) by) h = tt

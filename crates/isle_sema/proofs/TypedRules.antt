@@ -8,11 +8,12 @@ use Rattle.std.proofs.lemmas.List.Elements.{All-from_recursion, recursion_from_A
 use Rattle.isle_core.specs.declared.TermId.{TermId}
 use Rattle.isle_core.specs.declared.TypeId.{TypeId}
 use Rattle.isle_core.specs.declared.types.Term.{Term}
-use Rattle.isle_core.specs.Calling.{is_partial}
+use Rattle.isle_core.specs.Calling.{kind_of, kind_by, may_be_nothing}
 use Rattle.isle_core.specs.Pattern as core
 use Rattle.isle_core.specs.Pattern.{Pattern as CorePattern}
 use Rattle.isle_core.specs.Rule.{Rule, Environment, rules_of}
-use Rattle.isle_core.specs.BuiltRule.{IsBuiltPattern, IsBuiltRule, IsImpureRule, IsBoundRule}
+use Rattle.isle_core.specs.BuiltRule.{IsBuiltPattern, IsBuiltRule, IsImpureRule}
+use Rattle.isle_core.specs.Scope.{all_variables, iflets_scope, IsInScope, AreIfLetsInScope, IsScopedRule}
 use Rattle.isle_syntax.specs.Tree as tree
 use Rattle.isle_syntax.specs.Tree.{Pattern, Def}
 use Rattle.isle_sema.specs.Symbols.{index_of, pattern_names, symbols}
@@ -22,12 +23,12 @@ use Rattle.isle_sema.specs.Calls.{calls_external, calls_partial}
 use Rattle.isle_sema.specs.Faults.{repeats, is_misplaced, any_misplaced, typed_vars, is_wrong, is_rhs_wrong, is_too_large, breaks, rules_fault, has_fault}
 use Rattle.isle_sema.specs.Language.{is_built_def, is_built_expr, is_built_pattern, are_none, rules_call_external, are_built}
 use Rattle.isle_sema.specs.Heads.{terms_of}
-use Rattle.isle_sema.specs.TypedRule.{IsPatternOf, ArePatternsOf, IsRuleOf, IsTypedRule}
+use Rattle.isle_sema.specs.TypedRule.{IsPatternOf, ArePatternsOf, IsExprOf, IsRuleOf, IsTypedRule}
 use Rattle.isle_sema.specs.Typing.{env_of, Typed}
 use Rattle.isle_sema.proofs.LookUps.{at_place, named_at}
 use Rattle.isle_sema.proofs.Parts.{forms, calls, sound_rules}
 use Rattle.isle_sema.proofs.TypedConstants.{type_below, integer_typed}
-use Rattle.isle_sema.proofs.TypedExprs.{truth_typed, expr_typed, built_expr, bound_expr, impure_expr}
+use Rattle.isle_sema.proofs.TypedExprs.{truth_typed, expr_typed, built_expr, scoped_expr, impure_expr}
 use Rattle.isle_sema.proofs.BoundVariables.{some_same}
 use Rattle.isle_sema.proofs.VariablesOnce.{apart_numbers}
 
@@ -54,6 +55,11 @@ args_typed defs (name ∷ names) (p ∷ ps) vars same h =
 -- ---- a rule that breaks nothing
 
 -- the right side is built, and no name of a pattern repeats
+-- a term with no other flag may answer nothing where it is partial
+same_flag : (partial : Bool) → may_be_nothing (kind_by false partial) ≡ partial
+same_flag true = refl
+same_flag false = refl
+
 is_built_rule : RuleDef → Bool
 is_built_rule r = is_built_expr r.rhs && not (repeats (flat_map pattern_names r.args))
 
@@ -77,7 +83,7 @@ rule_typed defs r n i (Some s) is built external h =
         args = args_typed defs s.args r.args [] (eqb-true (length r.args) (length s.args) (not-false (length r.args == length s.args) m.0)) m.1;
         once = (apart_numbers r.args tys [] (not-true (repeats (flat_map pattern_names r.args)) b.1)).once;
         iflets = refl;
-        rhs = expr_typed defs s.partial r.args tys s.ret r.rhs b.0 external rhs.0 rhs.1;
+        rhs = subst (λ x. IsExprOf (env_of defs) x _ _ _) (sym (same_flag s.partial)) (expr_typed defs s.partial r.args tys s.ret r.rhs b.0 external rhs.0 rhs.1);
       };
     }
 
@@ -157,15 +163,24 @@ as_many env (ty ∷ tys) [] h = absurd h
 pub typed_built : (defs : List Def) (env : Environment) → Typed defs env → All IsBuiltRule env.rules
 typed_built defs env h k d lt =
     let t = typed_ready defs env h k d lt in
-    record { args = All-from_recursion IsBuiltPattern _ (built_patterns env t.term.arg_tys _ t.typed.args); iflets = t.typed.iflets; rhs = built_expr env (is_partial t.term.kind) _ t.term.ret_ty _ t.typed.rhs }
+    record { args = All-from_recursion IsBuiltPattern _ (built_patterns env t.term.arg_tys _ t.typed.args); iflets = t.typed.iflets; rhs = built_expr env (may_be_nothing (kind_of t.term.kind)) _ t.term.ret_ty _ t.typed.rhs }
 
--- each variable of a right side is bound
-pub typed_bound : (defs : List Def) (env : Environment) → Typed defs env → All IsBoundRule env.rules
-typed_bound defs env h k d lt = let t = typed_ready defs env h k d lt in bound_expr env (is_partial t.term.kind) _ t.term.ret_ty _ t.typed.rhs
+-- each variable of a right side is in scope
+without_conditions : (r : Rule) → r.iflets ≡ [] → IsInScope (all_variables r.args) r.rhs → IsScopedRule r
+without_conditions r e h = record {
+  iflets = subst (AreIfLetsInScope (all_variables r.args)) (sym e) tt;
+  rhs = subst (λ is. IsInScope (iflets_scope (all_variables r.args) is) r.rhs) (sym e) h;
+}
+
+pub typed_scoped : (defs : List Def) (env : Environment) → Typed defs env → All IsScopedRule env.rules
+typed_scoped defs env h k d lt =
+    let t = typed_ready defs env h k d lt in
+    let rhs = scoped_expr env (may_be_nothing (kind_of t.term.kind)) _ t.term.ret_ty _ t.typed.rhs in
+    without_conditions _ t.typed.iflets rhs
 
 -- each term that a right side calls is impure, and has a constructor
 pub typed_impure : (defs : List Def) (env : Environment) → Typed defs env → All (IsImpureRule env.terms) env.rules
-typed_impure defs env h k d lt = let t = typed_ready defs env h k d lt in impure_expr env (is_partial t.term.kind) _ t.term.ret_ty _ t.typed.rhs
+typed_impure defs env h k d lt = let t = typed_ready defs env h k d lt in impure_expr env (may_be_nothing (kind_of t.term.kind)) _ t.term.ret_ty _ t.typed.rhs
 
 -- ---- the rules of a term
 

@@ -2,9 +2,11 @@
 use Rattle.isle_core.specs.declared.TypeId.{TypeId}
 use Rattle.isle_core.specs.declared.rule_sets.Constraint.{Constraint}
 use Rattle.isle_core.specs.declared.types.Term.{Term}
-use Rattle.isle_core.specs.BlockLawful.{IsPathOf, IsConstraintOf, IsInPlace}
+use Rattle.isle_core.specs.ConstraintType.{IsConstraintOf}
+use Rattle.isle_core.specs.PathType.{IsPathOf}
+use Rattle.isle_core.specs.Readable.{IsInPlace}
 use Rattle.isle_core.specs.Path.{Path}
-use Rattle.isle_core.specs.Tests.{Test, Is, Equal}
+use Rattle.isle_core.specs.Tests.{Test, Is, Equal, Never}
 use Rattle.isle_core.specs.Rule.{Environment}
 
 -- a constraint of the type of its path, which may be read in place
@@ -26,3 +28,4 @@ pub record AreReadyEqual (env : Environment) (t : Term) (p q : Path) : Type 0 wh
 abbrev pub IsReadyTest : Environment → Term → Test → Type 0
 IsReadyTest env t (Is p c) = IsReadyConstraint env t p c
 IsReadyTest env t (Equal p q) = AreReadyEqual env t p q
+IsReadyTest env t Never = ⊥

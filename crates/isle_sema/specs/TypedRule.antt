@@ -9,13 +9,13 @@ use Rattle.isle_core.specs.Expr.{Expr, Exprs, NoExpr, AnExpr}
 use Rattle.isle_core.specs.declared.types.TermKind.{TermKind}
 use Rattle.isle_core.specs.declared.types.TermKind.TheVariants as kind
 use Rattle.isle_core.specs.declared.types.ConstructorKind.TheVariants as constructor
-use Rattle.isle_core.specs.Calling.{is_partial}
+use Rattle.isle_core.specs.Calling.{kind_of, may_be_nothing}
 use Rattle.isle_core.specs.Rule.{Rule, Environment}
 use Rattle.isle_core.specs.Value.{Truth}
 use Rattle.isle_core.specs.HasType.{HasType}
 use Rattle.isle_core.specs.Constants.{int_value}
 use Rattle.isle_core.specs.StandsFor.{EachOnce}
-use Rattle.isle_core.specs.Tests.{bool_type}
+use Rattle.isle_core.specs.RightSide.{bool_type}
 
 -- a pattern of the type: a constant is one of its values
 abbrev pub IsPatternOf : Environment → TypeId → Pattern → Type 0
@@ -67,7 +67,7 @@ pub record IsRuleOf (env : Environment) (t : Term) (r : Rule) : Type 0 where
   pub args : ArePatternsOf env t.arg_tys r.args
   pub once : EachOnce (numbers r.args)
   pub iflets : r.iflets ≡ []
-  pub rhs : IsExprOf env (is_partial t.kind) r.args t.ret_ty r.rhs
+  pub rhs : IsExprOf env (may_be_nothing (kind_of t.kind)) r.args t.ret_ty r.rhs
 
 -- the rule's term is there, and the rule is one of its
 pub record IsTypedRule (env : Environment) (r : Rule) : Type 0 where

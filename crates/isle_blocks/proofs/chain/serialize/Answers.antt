@@ -5,20 +5,25 @@ use Rattle.isle_core.specs.declared.BindingId.{BindingId}
 use Rattle.isle_core.specs.Path.{paths_of}
 use Rattle.isle_core.specs.BlockViews.{block}
 use Rattle.isle_core.specs.BlockRun.{block_outcome}
+use Rattle.isle_core.specs.Held.{nothing_known}
+use Rattle.isle_core.specs.ReturnPosition.{block_position}
 use Rattle.isle_core.specs.BlockLawful.{IsLawfulBlock}
+use Rattle.isle_core.specs.Setting.{setting}
+use Rattle.isle_core.specs.SingleArms.{HasSingleArms}
 use Rattle.isle_blocks.specs.Inners.{FindsInners}
 use Rattle.isle_blocks.specs.Chain.{chain}
 use Rattle.isle_blocks.proofs.LawChain.{chain_means}
-use Rattle.isle_blocks.proofs.LawReady.{chain_lawful}
+use Rattle.isle_blocks.proofs.LawReady.{chain_lawful, chain_single}
+use Rattle.isle_blocks.proofs.LawPositions.{chain_positions}
 use Rattle.isle_blocks.proofs.chain.serialize.Goals as goal
 
 pub returns-clause-means : goal.returns-clause-means
-returns-clause-means c = λ env m t args partial h.
+returns-clause-means c = λ env m t args kind h.
     let s = c.args.rules.now in
     let inners : ℕ → Option BindingId = get nat_cmp c.in_ok-inners.inners in
     let found : FindsInners s.bindings inners = subst (λ bs. FindsInners bs inners) c.as_slice.ensures c.in_ok-inners.ensures in
     let is_chain : block c.in_ok-chained.field-0 ≡ chain inners s.rules = c.in_ok-chained.ensures ∙ ap (chain inners) c.as_slice-2.ensures in
-    ap (λ b. block_outcome env m args (paths_of s.bindings) b partial) is_chain ∙ chain_means env t m args s.bindings inners partial found h.once s.rules h.rules
+    ap (λ b. block_outcome env m args (paths_of s.bindings) b kind) is_chain ∙ chain_means env t m args s.bindings inners kind found h.once s.rules h.rules
 
 pub returns-clause-lawful : goal.returns-clause-lawful
 returns-clause-lawful c = λ env t h.
@@ -26,4 +31,18 @@ returns-clause-lawful c = λ env t h.
     let inners : ℕ → Option BindingId = get nat_cmp c.in_ok-inners.inners in
     let found : FindsInners s.bindings inners = subst (λ bs. FindsInners bs inners) c.as_slice.ensures c.in_ok-inners.ensures in
     let is_chain : block c.in_ok-chained.field-0 ≡ chain inners s.rules = c.in_ok-chained.ensures ∙ ap (chain inners) c.as_slice-2.ensures in
-    subst (IsLawfulBlock env t s.bindings []) (sym is_chain) (chain_lawful env t s.bindings inners found h.once s.rules h.rules)
+    subst (IsLawfulBlock (setting env t s.bindings)) (sym is_chain) (chain_lawful env t s.bindings inners found h.once s.rules h.rules)
+
+pub returns-clause-single : goal.returns-clause-single
+returns-clause-single c =
+    let s = c.args.rules.now in
+    let inners : ℕ → Option BindingId = get nat_cmp c.in_ok-inners.inners in
+    subst HasSingleArms (sym (c.in_ok-chained.ensures ∙ ap (chain inners) c.as_slice-2.ensures)) (chain_single inners s.rules)
+
+pub returns-clause-positions : goal.returns-clause-positions
+returns-clause-positions c = λ env m t args h.
+    let s = c.args.rules.now in
+    let inners : ℕ → Option BindingId = get nat_cmp c.in_ok-inners.inners in
+    let found : FindsInners s.bindings inners = subst (λ bs. FindsInners bs inners) c.as_slice.ensures c.in_ok-inners.ensures in
+    let is_chain : block c.in_ok-chained.field-0 ≡ chain inners s.rules = c.in_ok-chained.ensures ∙ ap (chain inners) c.as_slice-2.ensures in
+    ap (λ b. block_position env m args (paths_of s.bindings) b nothing_known []) is_chain ∙ chain_positions env t m args s.bindings inners found h.once s.rules h.rules

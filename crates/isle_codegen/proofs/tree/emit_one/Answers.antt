@@ -15,6 +15,6 @@ returns c =
     let env = environment c.args.typeenv.now c.args.termenv.now in
     if_ok c.term_function.result _ _
     (λ f e. is_emitted c.args.files.now env c.args.term c.args.rules.now x (block c.in_ok-block.block) (function f) c.requires.can (at_place terms c.args.term.0 x c.requires.can.term is c.requires.can.there)
-    (λ u r. c.in_ok-block.ensures.lawful env u r) (λ m args partial. c.in_ok-block.ensures.means env m c.requires.can.term args partial c.requires.can.ready)
+    (λ u r. c.in_ok-block.ensures.lawful env u r) c.in_ok-block.ensures.single (λ m args kind. c.in_ok-block.ensures.means env m c.requires.can.term args kind c.requires.can.ready)
     (e ∙ ap (λ bs. term_function c.args.files.now env x bs (block c.in_ok-block.block)) c.as_slice-2.ensures))
     c.term_function.ensures

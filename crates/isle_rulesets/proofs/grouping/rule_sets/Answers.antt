@@ -1,7 +1,8 @@
 use Rattle.std.proofs.Common.{rules, map, length, refl, sym, subst}
 use Rattle.std.specs.Prelude.{All}
 use Rattle.isle_core.specs.RuleViews.{rule}
-use Rattle.isle_core.specs.BuiltRule.{IsBuiltRule, IsBoundRule, IsImpureRule}
+use Rattle.isle_core.specs.BuiltRule.{IsBuiltRule, IsImpureRule}
+use Rattle.isle_core.specs.Scope.{IsScopedRule}
 use Rattle.isle_rulesets.proofs.GroupingLaws.{group_seen, group_all, sets_push, sets_skip, sets_over, not_empty, is_none}
 use Rattle.isle_rulesets.proofs.grouping.rule_sets.Goals as goal
 use Rattle.isle_rulesets.proofs.grouping.rule_sets.Goals.{then-not-is_empty+in_ok-rule_set+in_ok-push, else-not-is_empty}
@@ -14,7 +15,7 @@ rule_set-requires-clause-built c =
 
 pub rule_set-requires-clause-bound : goal.rule_set-requires-clause-bound
 rule_set-requires-clause-bound c =
-    group_all IsBoundRule (map rule c.args.terms.now.rules) c.loop-index.index c.deref.result.now
+    group_all IsScopedRule (map rule c.args.terms.now.rules) c.loop-index.index c.deref.result.now
     (group_seen c.in_ok-groups.groups.items c.deref-rules-items.result.now _ c.as_slice.result.now c.args.terms.now.rules c.loop-index.index c.rules-item.result c.deref.result.now c.in_ok-groups.ensures (search rules) c.deref-rules-items.ensures.value
     (search rules) c.rules-item.is c.deref.ensures.value) c.requires.bound
 

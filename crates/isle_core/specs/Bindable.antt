@@ -1,0 +1,56 @@
+-- Bindings that may stand in a bind order.
+use Rattle.std.specs.Prelude.{◌≡◌, ℕ, List, [], ◌∷◌, ◌++◌, true, Option, Some, Contains, slice_get}
+use Rattle.isle_base.specs.declared.ids.BindingId.{BindingId}
+use Rattle.isle_base.specs.declared.ids.TermId.{TermId}
+use Rattle.isle_base.specs.declared.ids.TypeId.{TypeId}
+use Rattle.isle_core.specs.declared.rule_sets.Binding.{Binding}
+use Rattle.isle_core.specs.declared.rule_sets.Binding.TheVariants as binding
+use Rattle.isle_core.specs.declared.types.ReturnKind.{ReturnKind}
+use Rattle.isle_core.specs.declared.types.Term.{Term}
+use Rattle.isle_core.specs.Calling.{calling, kind_of, may_be_nothing}
+use Rattle.isle_core.specs.ExternalCall.{IsCall}
+use Rattle.isle_core.specs.Path.{Path, Called, Inner, at, at_all}
+use Rattle.isle_core.specs.PathType.{IsPathOf, IsOptionOf}
+use Rattle.isle_core.specs.Readable.{IsInPlace, AreReadAs}
+use Rattle.isle_core.specs.Rule.{Environment}
+use Rattle.isle_core.specs.Setting.{Setting, paths_in}
+
+-- a call of an external term whose arguments may be read
+pub record IsCallBound (s : Setting) (bound : List ℕ) (p : Path) (term : TermId) (parameters : List BindingId) (instance : ℕ) : Type 0 where
+  pub path : p ≡ Called term (at_all (paths_in s) parameters) instance
+  pub called : Term
+  pub there : slice_get s.env.terms term.0 ≡ Some called
+  pub args : AreReadAs s bound parameters called.arg_tys
+  pub kind : ReturnKind
+  pub external : IsCall kind (calling s.env term)
+
+-- an inner value of a bound option; only in a term that may answer nothing
+pub record IsInnerBound (s : Setting) (bound : List ℕ) (p : Path) (source : BindingId) : Type 0 where
+  pub path : p ≡ Inner (at (paths_in s) source)
+  pub ty : TypeId
+  pub option : IsOptionOf s.env s.term (at (paths_in s) source) ty
+  pub bound' : Contains bound source.0
+  pub fits : may_be_nothing (kind_of s.term.kind) ≡ true
+
+-- an argument or a constant of some type
+abbrev pub IsPlain : Environment → Term → Path → Type 0
+IsPlain env t p = IsInPlace p × ((ty : TypeId) × IsPathOf env t p ty)
+
+-- a binding that may stand in a bind order, where these are bound: a call, an inner value, an argument or a constant
+abbrev pub IsBindable : Setting → List ℕ → Path → Option Binding → Type 0
+IsBindable s bound p (Some (binding.Constructor term parameters instance)) = IsCallBound s bound p term parameters instance
+IsBindable s bound p (Some (binding.MatchSome source)) = IsInnerBound s bound p source
+IsBindable s bound p (Some (binding.Argument index)) = IsPlain s.env s.term p
+IsBindable s bound p (Some (binding.ConstBool val ty)) = IsPlain s.env s.term p
+IsBindable s bound p (Some (binding.ConstInt val ty)) = IsPlain s.env s.term p
+IsBindable s bound p b = ⊥
+
+-- the bindings that are bound after a bind order
+abbrev pub bound_by : List ℕ → List BindingId → List ℕ
+bound_by bound [] = bound
+bound_by bound (b ∷ more) = bound_by (bound ++ b.0 ∷ []) more
+
+-- each binding of a bind order may stand there
+abbrev pub AreBindable : Setting → List ℕ → List BindingId → Type 0
+AreBindable s bound [] = Unit {0}
+AreBindable s bound (b ∷ more) = IsBindable s bound (at (paths_in s) b) (slice_get s.bindings b.0) × AreBindable s (bound ++ b.0 ∷ []) more

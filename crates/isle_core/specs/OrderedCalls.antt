@@ -1,0 +1,31 @@
+-- The calls of a right side whose order counts: the impure and the fallible ones, in the order of evaluation.
+use Rattle.std.specs.Prelude.{ℕ, ◌+◌, List, [], ◌∷◌, ◌++◌, if◌then◌else◌}
+use Rattle.isle_core.specs.Expr as expr
+use Rattle.isle_core.specs.Expr.{Expr, Exprs, NoExpr, AnExpr}
+use Rattle.isle_core.specs.Calling.{Calling, calling, is_ordered, impure, impure_all}
+use Rattle.isle_core.specs.Path.{Path}
+use Rattle.isle_core.specs.RightSide.{call_path, paths}
+use Rattle.isle_core.specs.Rule.{Environment, Rule}
+use Rattle.isle_core.specs.Tests.{Places, rule_places}
+
+-- a call whose place counts
+abbrev pub if_ordered : Calling → Path → List Path
+if_ordered c p = if is_ordered c then p ∷ [] else []
+
+-- those of an expression, after n impure calls; a `let`, which stands nowhere, has none
+abbrev mutual
+  pub calls : Environment → Expr → Places → ℕ → List Path
+  calls env (expr.Term ty term es) places n = calls_all env es places n ++ if_ordered (calling env term) (call_path env term (paths env es places n) (n + impure_all env es))
+  calls env (expr.ConstBool b) places n = []
+  calls env (expr.ConstInt ty k) places n = []
+  calls env (expr.Var ty x) places n = []
+  calls env (expr.ConstPrim ty name) places n = []
+  calls env (expr.Let ty bindings inner) places n = []
+
+  pub calls_all : Environment → Exprs → Places → ℕ → List Path
+  calls_all env NoExpr places n = []
+  calls_all env (AnExpr e es) places n = calls env e places n ++ calls_all env es places (n + impure env e)
+
+-- those of a rule's right side, after n impure calls of the rules before
+abbrev pub rule_calls : Environment → Rule → ℕ → List Path
+rule_calls env r n = calls env r.rhs (rule_places env r) n

@@ -1,0 +1,34 @@
+-- The types of what stands at paths.
+use Rattle.std.specs.Prelude.{◌≡◌, List, [], ◌∷◌, Some, IsSomeAnd, slice_get}
+use Rattle.isle_base.specs.declared.ids.TypeId.{TypeId}
+use Rattle.isle_core.specs.declared.types.ReturnKind.TheVariants as return_kind
+use Rattle.isle_core.specs.declared.types.Term.{Term}
+use Rattle.isle_core.specs.HasType.{HasType}
+use Rattle.isle_core.specs.Value.{Truth}
+use Rattle.isle_core.specs.Constants.{int_value}
+use Rattle.isle_core.specs.Calling.{calling}
+use Rattle.isle_core.specs.ExternalCall.{IsCall}
+use Rattle.isle_core.specs.Path.{Path, Arg, ConstBool, ConstInt, Called, Inner, Paths, NoPath, APath}
+use Rattle.isle_core.specs.Rule.{Environment}
+
+-- a path that holds a value of the type, whatever the arguments and the answers are; only arguments, constants, calls and inner values are built
+abbrev mutual
+  pub IsPathOf : Environment → Term → Path → TypeId → Type 0
+  IsPathOf env t (Arg i) ty = slice_get t.arg_tys i ≡ Some ty
+  IsPathOf env t (ConstBool of b) ty = (of ≡ ty) × HasType env (Truth b) ty
+  IsPathOf env t (ConstInt of n) ty = (of ≡ ty) × HasType env (int_value env ty n) ty
+  IsPathOf env t (Called term ps instance) ty = IsCall return_kind.Plain (calling env term) × IsSomeAnd (slice_get env.terms term.0) (λ (c : Term). (c.ret_ty ≡ ty) × ArePathsOf env t ps c.arg_tys)
+  IsPathOf env t (Inner p) ty = IsOptionOf env t p ty
+  IsPathOf env t p ty = ⊥
+
+  -- a path that holds an option of such a value
+  pub IsOptionOf : Environment → Term → Path → TypeId → Type 0
+  IsOptionOf env t (Called term ps instance) ty = IsCall return_kind.Option (calling env term) × IsSomeAnd (slice_get env.terms term.0) (λ (c : Term). (c.ret_ty ≡ ty) × ArePathsOf env t ps c.arg_tys)
+  IsOptionOf env t p ty = ⊥
+
+  -- as many paths as types, each of its type
+  pub ArePathsOf : Environment → Term → Paths → List TypeId → Type 0
+  ArePathsOf env t NoPath [] = Unit {0}
+  ArePathsOf env t (APath p ps) (ty ∷ tys) = IsPathOf env t p ty × ArePathsOf env t ps tys
+  ArePathsOf env t NoPath (ty ∷ tys) = ⊥
+  ArePathsOf env t (APath p ps) [] = ⊥
