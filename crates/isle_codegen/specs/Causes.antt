@@ -1,10 +1,10 @@
 -- What compiling files answers, and why.
-use Rattle.std.specs.Prelude.{◌≡◌, ℕ, ◌⊎◌, List, map, false, Option, IfSome}
-use Rattle.isle_outside.specs.Directory.{Files}
+use Rattle.std.specs.Prelude.{◌≡◌, ℕ, ◌⊎◌, List, length, map, false, Option, IfSome}
+use Rattle.isle_outside.specs.Directory.{Files, Counts}
 use Rattle.isle_core.specs.declared.options.CodegenOptions.{CodegenOptions}
 use Rattle.isle_core.specs.declared.files.Files.{Files as FileTexts}
 use Rattle.isle_core.specs.declared.read_error.ReadError.TheVariants as read
-use Rattle.isle_core.specs.Inputs.{AreRead, Fails}
+use Rattle.isle_core.specs.Inputs.{AreRead, Fails, IsTried}
 use Rattle.isle_core.specs.Printed.{shown}
 use Rattle.isle_syntax.specs.Tree.{Def}
 use Rattle.isle_codegen.specs.declared.file_error.FileError.{FileError}
@@ -48,10 +48,14 @@ pub record IsNotBuilt (options : CodegenOptions) (files : Files) (names : List (
   pub read : AreRead files names texts
   pub refused : IsNotOfIt (printed options names) texts
 
+-- all names were looked up, and no call of the directory failed
+abbrev pub AllTried : List (List ℕ) → Counts → Counts → Type 0
+AllTried names before after = IsTried (length names) before after × (after.faults ≡ before.faults)
+
 -- why files give no text
-abbrev pub HasCause : FileError → CodegenOptions → Option Files → List (List ℕ) → ℕ → ℕ → Type 0
+abbrev pub HasCause : FileError → CodegenOptions → Option Files → List (List ℕ) → Counts → Counts → Type 0
 HasCause (error.Io index why) options files names before after = Fails (read.Io index why) files names before after
-HasCause error.NotYet options files names before after = IfSome files (λ fs. IsNotBuilt options fs names)
+HasCause error.NotYet options files names before after = AllTried names before after × IfSome files (λ fs. IsNotBuilt options fs names)
 HasCause (error.Errors errors) options files names before after = ⊥
 HasCause (error.Name name) options files names before after = ⊥
-HasCause error.Memory options files names before after = Unit {0}
+HasCause error.Memory options files names before after = after.faults ≡ before.faults

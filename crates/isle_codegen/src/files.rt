@@ -1,6 +1,6 @@
-ghost use Rattle.std.specs.Prelude.{◌≡◌, ◌≤◌, true, length, IfOk, IfErr, IfSome};
+ghost use Rattle.std.specs.Prelude.{◌≡◌, ◌+◌, ◌-◌, ◌*◌, ◌^◌, ◌≤◌, true, length, IfOk, IfErr, IfSome};
 ghost use Rattle.std.specs.String.{string_bytes};
-ghost use Rattle.isle_core.specs.Inputs.{bytes_each};
+ghost use Rattle.isle_core.specs.Inputs.{bytes_each, IsTried};
 ghost use Rattle.isle_emission.specs.Built.{IsBuilt};
 ghost use Rattle.isle_codegen.specs.Names.{are_file_names};
 ghost use Rattle.isle_codegen.specs.Header.{HasHeader};
@@ -14,7 +14,8 @@ use isle_core::{CodegenOptions, Dir, Files, ReadError};
 use std::alloc::Global;
 
 /// The text of the program of the definitions that the files spell, in order. `NotYet` comes exactly where all were
-/// read and they are not of the language that is built, or a name as printed may not be emitted.
+/// read and they are not of the language that is built, or a name as printed may not be emitted. Each name is looked up
+/// once, none behind that of the first input that is not read, and of each input at most 2^24 + 1 bytes are taken.
 pub fn from_files<D: Dir>(
     alloc: Global,
     dir: &mut D,
@@ -26,9 +27,13 @@ pub fn from_files<D: Dir>(
     ensures header { IfOk result (λ text. HasHeader (printed options.now (bytes_each inputs.now)) (string_bytes text)) }
     ensures names { IfOk result (λ text. are_file_names (printed options.now (bytes_each inputs.now)) ≡ true) }
     ensures headline { IfOk result (λ text. IfSome (D.files dir.old) (λ files. IsCompiled options.now files (bytes_each inputs.now) (string_bytes text))) }
-    ensures err { IfErr result (λ e. HasCause e options.now (D.files dir.old) (bytes_each inputs.now) (D.faults dir.old) (D.faults dir.new)) }
+    ensures err { IfErr result (λ e. HasCause e options.now (D.files dir.old) (bytes_each inputs.now) (D.counts dir.old) (D.counts dir.new)) }
     ensures files { D.files dir.new ≡ D.files dir.old }
-    ensures later { D.faults dir.old ≤ D.faults dir.new }
+    ensures later { (D.counts dir.old).faults ≤ (D.counts dir.new).faults }
+    ensures stays { (D.counts dir.old).faults ≡ 2 ^ 64 - 1 → (D.counts dir.new).faults ≡ 2 ^ 64 - 1 }
+    ensures tried { IfOk result (λ text. IsTried (length inputs.now) (D.counts dir.old) (D.counts dir.new)) }
+    ensures steady { IfOk result (λ text. (D.counts dir.new).faults ≡ (D.counts dir.old).faults) }
+    ensures given { (D.counts dir.new).given ≤ (D.counts dir.old).given + (2 ^ 24 + 1) * length inputs.now }
 {
     match Files::from_paths(alloc, dir, inputs, options.prefixes.as_slice()) {
         Ok(files) => compiled(alloc, &files, options),

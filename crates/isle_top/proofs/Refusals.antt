@@ -2,7 +2,7 @@
 use Rattle.std.proofs.Common.{◌≡◌, ℕ, zero, suc, ◌+◌, ◌<◌, length, List, [], ◌∷◌, drop, Option, Some, Result, Ok, Err, refl, inl, inr, arith}
 use Rattle.std.specs.Prelude.{IsSomeAnd, slice_get, OnOk, OnErr}
 use Rattle.std.proofs.lemmas.List.{take-append-drop}
-use Rattle.isle_outside.specs.Directory.{Files, Rose}
+use Rattle.isle_outside.specs.Directory.{Files, Counts, Rose}
 use Rattle.isle_outside.specs.Sinks.{Took, TookPart}
 use Rattle.isle_outside.specs.declared.errors.IoCause.{IoCause}
 use Rattle.isle_command_line.specs.Asked.{Asked}
@@ -26,7 +26,7 @@ at_number (name ∷ names) zero P lt f = f name refl
 at_number (name ∷ names) (suc i) P lt f = at_number names i P (omega (arith, lt)) f
 
 -- an input that is not read
-pub unread : (asked : Asked) (files : Option Files) (before after index : ℕ) (why : IoCause) (wrote : List ℕ → Type 0) → HasCause (refusal.Unread index why) asked files before after
+pub unread : (asked : Asked) (files : Option Files) (before after : Counts) (index : ℕ) (why : IoCause) (wrote : List ℕ → Type 0) → HasCause (refusal.Unread index why) asked files before after
     → ((name : List ℕ) → slice_get (inputs_of asked) index ≡ Some name → wrote (unread_line name why)) → IsUnread asked files before after wrote
 unread asked files before after index why wrote h f = record {
   index = index;

@@ -1,6 +1,6 @@
 -- Why a line of words is not answered.
-use Rattle.std.specs.Prelude.{ℕ, ◌<◌, ◌⊎◌, List, [], ◌∷◌, length, Option, IfSome}
-use Rattle.isle_outside.specs.Directory.{Files}
+use Rattle.std.specs.Prelude.{ℕ, ◌⊎◌, List, [], ◌∷◌, Option, IfSome}
+use Rattle.isle_outside.specs.Directory.{Files, Counts}
 use Rattle.isle_core.specs.Inputs.{AreRead, Fails}
 use Rattle.isle_core.specs.declared.read_error.ReadError.TheVariants as read
 use Rattle.isle_values.specs.Written.{Writtens}
@@ -30,9 +30,9 @@ IsNotOfIt asked files = ⊥
 
 -- why a line is not answered: it is not built, or its inputs are not; it is built, and an input was not read, the first
 -- that is not, or a term is not run; or want of memory
-abbrev pub HasCause : Refusal → Asked → Option Files → (before after : ℕ) → Type 0
+abbrev pub HasCause : Refusal → Asked → Option Files → (before after : Counts) → Type 0
 HasCause refusal.NotYet asked files before after = (IsBuilt asked → ⊥) ⊎ IsNotOfIt asked files
-HasCause (refusal.Unread index why) asked files before after = IsBuilt asked × (index < length (inputs_of asked)) × Fails (read.Io index why) files (inputs_of asked) before after
+HasCause (refusal.Unread index why) asked files before after = IsBuilt asked × Fails (read.Io index why) files (inputs_of asked) before after
 HasCause (refusal.Halted h) (Run trace options from term vs answers) files before after = IsBuilt (Run trace options from term vs answers) × GivesNoLines (source_name from) term vs answers files (trial.Halted h)
 HasCause (refusal.Halted h) asked files before after = ⊥
 HasCause refusal.Memory asked files before after = Unit {0}

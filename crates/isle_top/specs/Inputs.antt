@@ -1,8 +1,8 @@
 -- What the inputs of a run are.
 use Rattle.std.specs.Prelude.{◌≡◌, ℕ, ◌<◌, List, [], ◌∷◌, length, Option, IfSome}
-use Rattle.isle_outside.specs.Directory.{Files, bytes_of}
-use Rattle.isle_outside.specs.Reading.{IsCause}
-use Rattle.isle_core.specs.Inputs.{AreRead, RoseAt}
+use Rattle.isle_outside.specs.Directory.{Files, bytes_of, Counts, raised}
+use Rattle.isle_outside.specs.Reading.{IsCause, RoseAt}
+use Rattle.isle_core.specs.Inputs.{AreRead}
 use Rattle.isle_core.specs.declared.files.Files.{Files as FileTexts}
 use Rattle.isle_core.specs.declared.read_error.ReadError.{ReadError}
 use Rattle.isle_core.specs.declared.read_error.ReadError.TheVariants as error
@@ -15,9 +15,9 @@ pub record AreInputs (name : List ℕ) (answers : Option (List ℕ)) (files : Op
   pub read : IfSome files (λ fs. AreRead fs (name ∷ []) (text ∷ []) × AreAnswers fs answers given)
 
 -- why the input of this number and name is not read
-abbrev pub FailsTo : ReadError → (index : ℕ) → Option Files → List ℕ → (before after : ℕ) → Type 0
-FailsTo error.Memory index files name before after = Unit {0}
-FailsTo (error.Io at why) index files name before after = (at ≡ index) × RoseAt why before after × IfSome files (λ fs. IsCause why (bytes_of fs name))
+abbrev pub FailsTo : ReadError → (index : ℕ) → Option Files → List ℕ → (before after : Counts) → Type 0
+FailsTo error.Memory index files name before after = after.faults ≡ before.faults
+FailsTo (error.Io at why) index files name before after = (at ≡ index) × (after.finds ≡ raised 1 before.finds) × RoseAt why before.faults after.faults × IfSome files (λ fs. IsCause why (bytes_of fs name))
 
 -- the input that is told is one of these
 abbrev pub IsOf : ReadError → List (List ℕ) → Type 0

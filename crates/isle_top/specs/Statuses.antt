@@ -1,6 +1,6 @@
 -- The statuses that a run ends with, and what each says.
 use Rattle.std.specs.Prelude.{◌≡◌, ℕ, ◌⊎◌, List, Option, IsSomeAnd, slice_get}
-use Rattle.isle_outside.specs.Directory.{Files}
+use Rattle.isle_outside.specs.Directory.{Files, Counts}
 use Rattle.isle_outside.specs.declared.errors.IoCause.{IoCause}
 use Rattle.isle_run.specs.declared.halt.Halt.{Halt}
 use Rattle.isle_command_line.specs.Asked.{Asked}
@@ -21,14 +21,14 @@ pub data IsNoLine (words : List (List ℕ)) (wrote : List ℕ → Type 0) : Type
   missing : IsMissing words → wrote missing_word_line → IsNoLine words wrote
 
 -- the first input that was not read, with its cause, and the line that says so was written
-pub record IsUnread (asked : Asked) (files : Option Files) (before after : ℕ) (wrote : List ℕ → Type 0) : Type 0 where
+pub record IsUnread (asked : Asked) (files : Option Files) (before after : Counts) (wrote : List ℕ → Type 0) : Type 0 where
   pub index : ℕ
   pub why : IoCause
   pub cause : HasCause (refusal.Unread index why) asked files before after
   pub line : IsSomeAnd (slice_get (inputs_of asked) index) (λ name. wrote (unread_line name why))
 
 -- the term is not run for this cause, and the line that says so was written
-pub record IsHalt (asked : Asked) (files : Option Files) (before after : ℕ) (wrote : List ℕ → Type 0) : Type 0 where
+pub record IsHalt (asked : Asked) (files : Option Files) (before after : Counts) (wrote : List ℕ → Type 0) : Type 0 where
   pub halt : Halt
   pub cause : HasCause (refusal.Halted halt) asked files before after
   pub line : wrote (halt_line (term_of asked) halt)

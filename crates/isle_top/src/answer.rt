@@ -1,13 +1,13 @@
 //! The text that a line asks for.
 
-ghost use Rattle.std.specs.Prelude.{◌≡◌, ◌≤◌, [], ◌∷◌, ℕ, List, Err, IfOk, IfErr, IsOkUnless, IsSomeAnd};
+ghost use Rattle.std.specs.Prelude.{◌≡◌, ◌≤◌, [], ◌∷◌, ℕ, List, Err, IfOk, IfErr, IsOkUnless, IsSomeAnd, ◌+◌, ◌*◌, ◌^◌, length, ◌-◌};
 ghost use Rattle.std.specs.Option.{option_copied};
 ghost use Rattle.std.specs.String.{string_bytes};
 ghost use Rattle.isle_outside.specs.Directory.{Rose};
 ghost use Rattle.isle_command_line.specs.Asked.{Compile};
 ghost use Rattle.isle_command_line.specs.Lines.{no_options};
 ghost use Rattle.isle_command_line.specs.Views.{seen_command};
-ghost use Rattle.isle_top.specs.Asking.{IsBuilt};
+ghost use Rattle.isle_top.specs.Asking.{IsBuilt, inputs_of};
 ghost use Rattle.isle_top.specs.Valid.{IsValid, Answers, IsAnswer};
 ghost use Rattle.isle_top.specs.Causes.{HasCause};
 
@@ -16,17 +16,20 @@ use crate::built::is_built;
 use crate::compiled::compiled;
 use crate::ran::ran;
 use crate::refusal::Refusal;
-use isle_core::{Dir, Text};
 use isle_command_line::{Command, Source};
+use isle_core::{Dir, Text};
 use std::alloc::Global;
 
 /// The text that a line asks for.
 pub fn answer<D: Dir>(alloc: Global, command: &Command, dir: &mut D) -> Result<String, Refusal>
     ensures ok { IfOk result (λ text. IsAnswer (seen_command command.now) (D.files dir.old) (string_bytes text)) }
-    ensures err { IfErr result (λ e. HasCause e (seen_command command.now) (D.files dir.old) (D.faults dir.old) (D.faults dir.new)) }
+    ensures err { IfErr result (λ e. HasCause e (seen_command command.now) (D.files dir.old) (D.counts dir.old) (D.counts dir.new)) }
     ensures not_built { (IsBuilt (seen_command command.now) → ⊥) → result ≡ Err Refusal.NotYet }
-    ensures complete { (name : List ℕ) → seen_command command.now ≡ Compile no_options (name ∷ []) → IsSomeAnd (D.files dir.old) (λ fs. IsValid fs name) → (Rose (D.faults dir.old) (D.faults dir.new) → ⊥) → IsOkUnless result Refusal.Memory }
+    ensures complete { (name : List ℕ) → seen_command command.now ≡ Compile no_options (name ∷ []) → IsSomeAnd (D.files dir.old) (λ fs. IsValid fs name) → (Rose (D.counts dir.old).faults (D.counts dir.new).faults → ⊥) → IsOkUnless result Refusal.Memory }
     ensures files { D.files dir.new ≡ D.files dir.old }
+    ensures later { (D.counts dir.old).faults ≤ (D.counts dir.new).faults }
+    ensures stays { (D.counts dir.old).faults ≡ 2 ^ 64 - 1 → (D.counts dir.new).faults ≡ 2 ^ 64 - 1 }
+    ensures given { (D.counts dir.new).given ≤ (D.counts dir.old).given + (2 ^ 24 + 1) * length (inputs_of (seen_command command.now)) }
 {
     if !is_built(command) {
         return Err(Refusal::NotYet);
@@ -48,9 +51,12 @@ fn name_of(answers: &Option<Text>) -> Option<&str>
 fn built_answer<D: Dir>(alloc: Global, command: &Command, dir: &mut D) -> Result<String, Refusal>
     requires { IsBuilt (seen_command command.now) }
     ensures ok { IfOk result (λ text. Answers (seen_command command.now) (D.files dir.old) (string_bytes text)) }
-    ensures err { IfErr result (λ e. HasCause e (seen_command command.now) (D.files dir.old) (D.faults dir.old) (D.faults dir.new)) }
-    ensures complete { (name : List ℕ) → seen_command command.now ≡ Compile no_options (name ∷ []) → IsSomeAnd (D.files dir.old) (λ fs. IsValid fs name) → (Rose (D.faults dir.old) (D.faults dir.new) → ⊥) → IsOkUnless result Refusal.Memory }
+    ensures err { IfErr result (λ e. HasCause e (seen_command command.now) (D.files dir.old) (D.counts dir.old) (D.counts dir.new)) }
+    ensures complete { (name : List ℕ) → seen_command command.now ≡ Compile no_options (name ∷ []) → IsSomeAnd (D.files dir.old) (λ fs. IsValid fs name) → (Rose (D.counts dir.old).faults (D.counts dir.new).faults → ⊥) → IsOkUnless result Refusal.Memory }
     ensures files { D.files dir.new ≡ D.files dir.old }
+    ensures later { (D.counts dir.old).faults ≤ (D.counts dir.new).faults }
+    ensures stays { (D.counts dir.old).faults ≡ 2 ^ 64 - 1 → (D.counts dir.new).faults ≡ 2 ^ 64 - 1 }
+    ensures given { (D.counts dir.new).given ≤ (D.counts dir.old).given + (2 ^ 24 + 1) * length (inputs_of (seen_command command.now)) }
 {
     match command {
         Command::Help => Ok(String::from_str(alloc, help())?),

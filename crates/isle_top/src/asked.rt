@@ -4,8 +4,8 @@ ghost use Rattle.std.specs.Prelude.{◌≡◌, ◌∷◌, ℕ, List, Some, slice
 ghost use Rattle.isle_command_line.specs.Views.{seen_command};
 ghost use Rattle.isle_top.specs.Asking.{answers_names, inputs_of, source_name, term_of};
 
-use isle_core::Text;
 use isle_command_line::{Command, Source};
+use isle_core::Text;
 
 // The name of a source.
 fn source_name(source: &Source) -> &str

@@ -6,9 +6,9 @@ ghost use Rattle.isle_command_line.specs.Lines.{no_options};
 ghost use Rattle.isle_command_line.specs.Views.{seen_command};
 ghost use Rattle.isle_top.specs.Asking.{is_plain, ArePlain, IsBuilt};
 
+use isle_command_line::{Command, Source};
 use isle_core::CodegenOptions;
 use isle_values::Written;
-use isle_command_line::{Command, Source};
 
 // Whether no option is given.
 fn are_none(options: &CodegenOptions) -> bool

@@ -1,6 +1,6 @@
 //! The text of the program of a file.
 
-ghost use Rattle.std.specs.Prelude.{◌≡◌, ◌≤◌, [], ◌∷◌, IfOk, IfErr, IsOkUnless, IsSomeAnd};
+ghost use Rattle.std.specs.Prelude.{◌≡◌, ◌≤◌, [], ◌∷◌, IfOk, IfErr, IsOkUnless, IsSomeAnd, ◌+◌, ◌*◌, ◌^◌, length, ◌-◌};
 ghost use Rattle.std.specs.String.{string_bytes};
 ghost use Rattle.isle_outside.specs.Directory.{Rose};
 ghost use Rattle.isle_command_line.specs.Asked.{Compile};
@@ -16,10 +16,12 @@ use std::alloc::Global;
 /// The text of the program of the file of the name.
 pub fn compiled<D: Dir>(alloc: Global, name: &str, dir: &mut D) -> Result<String, Refusal>
     ensures ok { IfOk result (λ text. IsProgramOf name.now (D.files dir.old) (string_bytes text)) }
-    ensures err { IfErr result (λ e. HasCause e (Compile no_options (name.now ∷ [])) (D.files dir.old) (D.faults dir.old) (D.faults dir.new)) }
-    ensures complete { IsSomeAnd (D.files dir.old) (λ fs. IsValid fs name.now) → (Rose (D.faults dir.old) (D.faults dir.new) → ⊥) → IsOkUnless result Refusal.Memory }
+    ensures err { IfErr result (λ e. HasCause e (Compile no_options (name.now ∷ [])) (D.files dir.old) (D.counts dir.old) (D.counts dir.new)) }
+    ensures complete { IsSomeAnd (D.files dir.old) (λ fs. IsValid fs name.now) → (Rose (D.counts dir.old).faults (D.counts dir.new).faults → ⊥) → IsOkUnless result Refusal.Memory }
     ensures files { D.files dir.new ≡ D.files dir.old }
-    ensures later { D.faults dir.old ≤ D.faults dir.new }
+    ensures later { (D.counts dir.old).faults ≤ (D.counts dir.new).faults }
+    ensures stays { (D.counts dir.old).faults ≡ 2 ^ 64 - 1 → (D.counts dir.new).faults ≡ 2 ^ 64 - 1 }
+    ensures given { (D.counts dir.new).given ≤ (D.counts dir.old).given + (2 ^ 24 + 1) * length (name.now ∷ []) }
 {
     let inputs = vec![in alloc; String::from_str(alloc, name)?]?;
     let options = CodegenOptions::new(alloc);

@@ -1,8 +1,8 @@
 //! The inputs of a run: its source, and its file of answers.
 
-ghost use Rattle.std.specs.Prelude.{◌≡◌, ◌≤◌, ◌∷◌, IfOk, IfErr, IfSome, IsSomeAnd};
+ghost use Rattle.std.specs.Prelude.{◌≡◌, ◌≤◌, ◌+◌, ◌-◌, ◌*◌, ◌^◌, ◌∷◌, length, IfOk, IfErr, IfSome, IsSomeAnd};
 ghost use Rattle.std.specs.Option.{option_copied};
-ghost use Rattle.isle_outside.specs.Directory.{bytes_of};
+ghost use Rattle.isle_outside.specs.Directory.{bytes_of, raised};
 ghost use Rattle.isle_outside.specs.Reading.{IsText};
 ghost use Rattle.isle_core.specs.Inputs.{Fails};
 ghost use Rattle.isle_top.specs.Asking.{answers_names};
@@ -22,9 +22,13 @@ pub struct Inputs {
 // The text of the input of this number and name.
 fn text_at<D: Dir>(alloc: Global, index: usize, name: &str, dir: &mut D) -> Result<Text, ReadError>
     ensures ok { IfOk result (λ text. IfSome (D.files dir.old) (λ fs. IsText text (bytes_of fs name.now))) }
-    ensures err { IfErr result (λ e. FailsTo e index (D.files dir.old) name.now (D.faults dir.old) (D.faults dir.new)) }
+    ensures err { IfErr result (λ e. FailsTo e index (D.files dir.old) name.now (D.counts dir.old) (D.counts dir.new)) }
     ensures files { D.files dir.new ≡ D.files dir.old }
-    ensures later { D.faults dir.old ≤ D.faults dir.new }
+    ensures later { (D.counts dir.old).faults ≤ (D.counts dir.new).faults }
+    ensures stays { (D.counts dir.old).faults ≡ 2 ^ 64 - 1 → (D.counts dir.new).faults ≡ 2 ^ 64 - 1 }
+    ensures find { IfOk result (λ text. (D.counts dir.new).finds ≡ raised 1 (D.counts dir.old).finds) }
+    ensures steady { IfOk result (λ text. (D.counts dir.new).faults ≡ (D.counts dir.old).faults) }
+    ensures given { (D.counts dir.new).given ≤ (D.counts dir.old).given + (2 ^ 24 + 1) }
 {
     match read_text(alloc, dir, name) {
         Ok(text) => Ok(Text::new(text)),
@@ -40,9 +44,11 @@ fn answers_text<D: Dir>(
     dir: &mut D,
 ) -> Result<Text, ReadError>
     ensures ok { IfOk result (λ text. IfSome (D.files dir.old) (λ fs. AreAnswers fs (option_copied answers.entry) text)) }
-    ensures err { IfErr result (λ e. IsSomeAnd (option_copied answers.entry) (λ file. FailsTo e 1 (D.files dir.old) file (D.faults dir.old) (D.faults dir.new))) }
+    ensures err { IfErr result (λ e. IsSomeAnd (option_copied answers.entry) (λ file. FailsTo e 1 (D.files dir.old) file (D.counts dir.old) (D.counts dir.new))) }
     ensures files { D.files dir.new ≡ D.files dir.old }
-    ensures later { D.faults dir.old ≤ D.faults dir.new }
+    ensures later { (D.counts dir.old).faults ≤ (D.counts dir.new).faults }
+    ensures stays { (D.counts dir.old).faults ≡ 2 ^ 64 - 1 → (D.counts dir.new).faults ≡ 2 ^ 64 - 1 }
+    ensures given { (D.counts dir.new).given ≤ (D.counts dir.old).given + (2 ^ 24 + 1) * length (answers_names (option_copied answers.entry)) }
 {
     match answers {
         Some(file) => text_at(alloc, 1, file, dir),
@@ -70,10 +76,12 @@ pub fn read_inputs<D: Dir>(
     dir: &mut D,
 ) -> Result<Inputs, ReadError>
     ensures ok { IfOk result (λ read. AreInputs source.now (option_copied answers.entry) (D.files dir.old) read.files read.answers) }
-    ensures err { IfErr result (λ e. Fails e (D.files dir.old) (source.now ∷ answers_names (option_copied answers.entry)) (D.faults dir.old) (D.faults dir.new)) }
+    ensures err { IfErr result (λ e. Fails e (D.files dir.old) (source.now ∷ answers_names (option_copied answers.entry)) (D.counts dir.old) (D.counts dir.new)) }
     ensures there { IfErr result (λ e. IsOf e (source.now ∷ answers_names (option_copied answers.entry))) }
     ensures files { D.files dir.new ≡ D.files dir.old }
-    ensures later { D.faults dir.old ≤ D.faults dir.new }
+    ensures later { (D.counts dir.old).faults ≤ (D.counts dir.new).faults }
+    ensures stays { (D.counts dir.old).faults ≡ 2 ^ 64 - 1 → (D.counts dir.new).faults ≡ 2 ^ 64 - 1 }
+    ensures given { (D.counts dir.new).given ≤ (D.counts dir.old).given + (2 ^ 24 + 1) * length (source.now ∷ answers_names (option_copied answers.entry)) }
 {
     let text = match text_at(alloc, 0, source, dir) {
         Ok(text) => text,

@@ -86,6 +86,7 @@ pub fn write_unread<S: Sink>(sink: &mut S, name: &str, cause: IoCause) -> Result
     ensures ok { OnOk result (Took (S.taken sink.old) (S.taken sink.new) (unread_line name.now cause)) }
     ensures part { OnErr result (TookPart (S.taken sink.old) (S.taken sink.new) (unread_line name.now cause)) }
     ensures failed { OnErr result (Rose (S.faults sink.old) (S.faults sink.new)) }
+    ensures later { S.faults sink.old ≤ S.faults sink.new }
 {
     match write_head(sink) {
         Ok(()) => write_name(sink, name, cause_end(cause)),
@@ -109,6 +110,7 @@ pub fn write_bad_word<S: Sink>(sink: &mut S, word: &str) -> Result<(), Failed>
     ensures ok { OnOk result (Took (S.taken sink.old) (S.taken sink.new) (bad_word_line word.now)) }
     ensures part { OnErr result (TookPart (S.taken sink.old) (S.taken sink.new) (bad_word_line word.now)) }
     ensures failed { OnErr result (Rose (S.faults sink.old) (S.faults sink.new)) }
+    ensures later { S.faults sink.old ≤ S.faults sink.new }
 {
     write_named(sink, bad_word_head(), word)
 }
@@ -118,6 +120,7 @@ pub fn write_halt<S: Sink>(sink: &mut S, term: &str, halt: Halt) -> Result<(), F
     ensures ok { OnOk result (Took (S.taken sink.old) (S.taken sink.new) (halt_line term.now halt)) }
     ensures part { OnErr result (TookPart (S.taken sink.old) (S.taken sink.new) (halt_line term.now halt)) }
     ensures failed { OnErr result (Rose (S.faults sink.old) (S.faults sink.new)) }
+    ensures later { S.faults sink.old ≤ S.faults sink.new }
 {
     match halt {
         Halt::NoTerm => write_named(sink, no_term_head(), term),

@@ -1,13 +1,13 @@
 //! The lines of a run of a term of a file.
 
-ghost use Rattle.std.specs.Prelude.{◌≡◌, ◌≤◌, false, IfOk, IfErr};
+ghost use Rattle.std.specs.Prelude.{◌≡◌, ◌≤◌, false, IfOk, IfErr, ◌+◌, ◌*◌, ◌^◌, length, ◌-◌, ◌∷◌};
 ghost use Rattle.std.specs.Option.{option_copied};
 ghost use Rattle.std.specs.String.{string_bytes};
 ghost use Rattle.isle_values.specs.Views.{seen};
 ghost use Rattle.isle_command_line.specs.Asked.{Run};
 ghost use Rattle.isle_command_line.specs.Lines.{no_options};
 ghost use Rattle.isle_command_line.specs.declared.commands.Source.TheVariants.{File};
-ghost use Rattle.isle_top.specs.Asking.{ArePlain};
+ghost use Rattle.isle_top.specs.Asking.{ArePlain, answers_names};
 ghost use Rattle.isle_top.specs.Valid.{IsRunOf};
 ghost use Rattle.isle_top.specs.Causes.{HasCause};
 
@@ -29,9 +29,11 @@ pub fn ran<D: Dir>(
 ) -> Result<String, Refusal>
     requires { ArePlain (seen values.now) }
     ensures ok { IfOk result (λ lines. IsRunOf source.now term.now (seen values.now) (option_copied answers.entry) (D.files dir.old) (string_bytes lines)) }
-    ensures err { IfErr result (λ e. HasCause e (Run false no_options (File source.now) term.now (seen values.now) (option_copied answers.entry)) (D.files dir.old) (D.faults dir.old) (D.faults dir.new)) }
+    ensures err { IfErr result (λ e. HasCause e (Run false no_options (File source.now) term.now (seen values.now) (option_copied answers.entry)) (D.files dir.old) (D.counts dir.old) (D.counts dir.new)) }
     ensures files { D.files dir.new ≡ D.files dir.old }
-    ensures later { D.faults dir.old ≤ D.faults dir.new }
+    ensures later { (D.counts dir.old).faults ≤ (D.counts dir.new).faults }
+    ensures stays { (D.counts dir.old).faults ≡ 2 ^ 64 - 1 → (D.counts dir.new).faults ≡ 2 ^ 64 - 1 }
+    ensures given { (D.counts dir.new).given ≤ (D.counts dir.old).given + (2 ^ 24 + 1) * length (source.now ∷ answers_names (option_copied answers.entry)) }
 {
     let read = match read_inputs(alloc, source, answers, dir) {
         Ok(read) => read,

@@ -1,11 +1,11 @@
-ghost use Rattle.std.specs.Prelude.{◌≡◌, ◌≢◌, ◌⊎◌, [], ◌∷◌, ℕ, List, Some, IsSomeAnd, slice_get};
+ghost use Rattle.std.specs.Prelude.{◌≡◌, ◌≢◌, ◌⊎◌, [], ◌∷◌, ℕ, List, Some, IsSomeAnd, slice_get, ◌≤◌, ◌+◌, ◌*◌, ◌^◌, length};
 ghost use Rattle.isle_outside.specs.Directory.{Rose};
 ghost use Rattle.isle_outside.specs.Sinks.{Took, TookPart};
 ghost use Rattle.isle_core.specs.Inputs.{bytes_each};
 ghost use Rattle.isle_command_line.specs.Asked.{Asked, Compile};
 ghost use Rattle.isle_command_line.specs.Lines.{LineS, no_options};
 ghost use Rattle.isle_command_line.specs.Views.{seen_command};
-ghost use Rattle.isle_top.specs.Asking.{Asks, IsBuilt};
+ghost use Rattle.isle_top.specs.Asking.{Asks, IsBuilt, inputs_of};
 ghost use Rattle.isle_top.specs.Causes.{HasCause};
 ghost use Rattle.isle_top.specs.Lines.{not_yet_line, write_fault_line, memory_line, Wrote};
 ghost use Rattle.isle_top.specs.Statuses.{IsStatus, IsNoLine, IsUnread, IsHalt};
@@ -17,8 +17,8 @@ use crate::lines::{
     MISSING_WORD, NOT_YET, OUT_OF_MEMORY, WRITE_FAULT, write_bad_word, write_halt, write_unread,
 };
 use crate::refusal::Refusal;
-use isle_core::{Dir, Sink, write_all};
 use isle_command_line::{Command, LineFail, command};
+use isle_core::{Dir, Sink, write_all};
 use std::alloc::Global;
 
 /// The status of a run: 0 done, 2 the words are no line, 5 an input was not read, 11 the output failed, 12 memory ran out,
@@ -53,16 +53,16 @@ pub fn run_words<D: Dir, O: Sink, E: Sink>(
     ensures no_line { ((asked : Asked) → LineS (bytes_each words.now) asked → ⊥) → (result.0 ≡ 2) ⊎ (result.0 ≡ 12) }
 
     // Status 14: the line is not built, or its inputs were read and are not. A line that is not built ends so, or with 12.
-    ensures not_yet { result.0 ≡ 14 → (asked : Asked) × Asks (bytes_each words.now) asked × HasCause Refusal.NotYet asked (D.files dir.old) (D.faults dir.old) (D.faults dir.new) }
+    ensures not_yet { result.0 ≡ 14 → (asked : Asked) × Asks (bytes_each words.now) asked × HasCause Refusal.NotYet asked (D.files dir.old) (D.counts dir.old) (D.counts dir.new) }
     ensures not_yet_line { result.0 ≡ 14 → Wrote (E.taken err.old) (E.taken err.new) (E.faults err.old) (E.faults err.new) not_yet_line }
     ensures not_built { (asked : Asked) → LineS (bytes_each words.now) asked → (IsBuilt asked → ⊥) → (result.0 ≡ 14) ⊎ (result.0 ≡ 12) }
 
     // Status 5: an input was not read, and the line says which and why.
-    ensures unread { result.0 ≡ 5 → (asked : Asked) × Asks (bytes_each words.now) asked × IsUnread asked (D.files dir.old) (D.faults dir.old) (D.faults dir.new)
+    ensures unread { result.0 ≡ 5 → (asked : Asked) × Asks (bytes_each words.now) asked × IsUnread asked (D.files dir.old) (D.counts dir.old) (D.counts dir.new)
         (Wrote (E.taken err.old) (E.taken err.new) (E.faults err.old) (E.faults err.new)) }
 
     // Status 13: the term is not run, and the line says why.
-    ensures halted { result.0 ≡ 13 → (asked : Asked) × Asks (bytes_each words.now) asked × IsHalt asked (D.files dir.old) (D.faults dir.old) (D.faults dir.new)
+    ensures halted { result.0 ≡ 13 → (asked : Asked) × Asks (bytes_each words.now) asked × IsHalt asked (D.files dir.old) (D.counts dir.old) (D.counts dir.new)
         (Wrote (E.taken err.old) (E.taken err.new) (E.faults err.old) (E.faults err.new)) }
 
     // Status 12: want of memory, free until writing begins.
@@ -72,8 +72,14 @@ pub fn run_words<D: Dir, O: Sink, E: Sink>(
 
     // Valid input is compiled, where nothing fails and memory suffices.
     ensures complete { (name : List ℕ) → LineS (bytes_each words.now) (Compile no_options (name ∷ [])) → IsSomeAnd (D.files dir.old) (λ fs. IsValid fs name)
-        → (Rose (D.faults dir.old) (D.faults dir.new) → ⊥) → (result.0 ≡ 0) ⊎ (result.0 ≡ 11) ⊎ (result.0 ≡ 12) }
+        → (Rose (D.counts dir.old).faults (D.counts dir.new).faults → ⊥) → (result.0 ≡ 0) ⊎ (result.0 ≡ 11) ⊎ (result.0 ≡ 12) }
     ensures files { D.files dir.new ≡ D.files dir.old }
+
+    // No count falls, and of each input at most 2^24 + 1 bytes are taken.
+    ensures later { (D.counts dir.old).faults ≤ (D.counts dir.new).faults }
+    ensures out_later { O.faults out.old ≤ O.faults out.new }
+    ensures err_later { E.faults err.old ≤ E.faults err.new }
+    ensures given { (asked : Asked) → LineS (bytes_each words.now) asked → (D.counts dir.new).given ≤ (D.counts dir.old).given + (2 ^ 24 + 1) * length (inputs_of asked) }
 {
     match command(alloc, words) {
         Ok(asked) => run_command(alloc, &asked, dir, out, err),
@@ -118,17 +124,21 @@ fn run_command<D: Dir, O: Sink, E: Sink>(
     ensures untouched { result.0 ≢ 0 → result.0 ≢ 11 → O.taken out.new ≡ O.taken out.old }
     ensures known { result.0 ≢ 2 }
     ensures not_built { (IsBuilt (seen_command asked.now) → ⊥) → result.0 ≡ 14 }
-    ensures not_yet { result.0 ≡ 14 → HasCause Refusal.NotYet (seen_command asked.now) (D.files dir.old) (D.faults dir.old) (D.faults dir.new) }
+    ensures not_yet { result.0 ≡ 14 → HasCause Refusal.NotYet (seen_command asked.now) (D.files dir.old) (D.counts dir.old) (D.counts dir.new) }
     ensures not_yet_line { result.0 ≡ 14 → Wrote (E.taken err.old) (E.taken err.new) (E.faults err.old) (E.faults err.new) not_yet_line }
-    ensures unread { result.0 ≡ 5 → IsUnread (seen_command asked.now) (D.files dir.old) (D.faults dir.old) (D.faults dir.new)
+    ensures unread { result.0 ≡ 5 → IsUnread (seen_command asked.now) (D.files dir.old) (D.counts dir.old) (D.counts dir.new)
         (Wrote (E.taken err.old) (E.taken err.new) (E.faults err.old) (E.faults err.new)) }
-    ensures halted { result.0 ≡ 13 → IsHalt (seen_command asked.now) (D.files dir.old) (D.faults dir.old) (D.faults dir.new)
+    ensures halted { result.0 ≡ 13 → IsHalt (seen_command asked.now) (D.files dir.old) (D.counts dir.old) (D.counts dir.new)
         (Wrote (E.taken err.old) (E.taken err.new) (E.faults err.old) (E.faults err.new)) }
     ensures memory_line { result.0 ≡ 12 → Wrote (E.taken err.old) (E.taken err.new) (E.faults err.old) (E.faults err.new) memory_line }
     ensures statuses { IsStatus result.0 }
     ensures complete { (name : List ℕ) → seen_command asked.now ≡ Compile no_options (name ∷ []) → IsSomeAnd (D.files dir.old) (λ fs. IsValid fs name)
-        → (Rose (D.faults dir.old) (D.faults dir.new) → ⊥) → (result.0 ≡ 0) ⊎ (result.0 ≡ 11) ⊎ (result.0 ≡ 12) }
+        → (Rose (D.counts dir.old).faults (D.counts dir.new).faults → ⊥) → (result.0 ≡ 0) ⊎ (result.0 ≡ 11) ⊎ (result.0 ≡ 12) }
     ensures files { D.files dir.new ≡ D.files dir.old }
+    ensures later { (D.counts dir.old).faults ≤ (D.counts dir.new).faults }
+    ensures out_later { O.faults out.old ≤ O.faults out.new }
+    ensures err_later { E.faults err.old ≤ E.faults err.new }
+    ensures given { (D.counts dir.new).given ≤ (D.counts dir.old).given + (2 ^ 24 + 1) * length (inputs_of (seen_command asked.now)) }
 {
     match answer(alloc, asked, dir) {
         Ok(text) => match write_all(out, text.as_bytes()) {
@@ -159,7 +169,8 @@ fn run_command<D: Dir, O: Sink, E: Sink>(
 
 /// Writes a line, as far as the sink takes it.
 fn complain<E: Sink>(err: &mut E, line: &str)
-    ensures { Wrote (E.taken err.old) (E.taken err.new) (E.faults err.old) (E.faults err.new) line.now }
+    ensures later { E.faults err.old ≤ E.faults err.new }
+    ensures wrote { Wrote (E.taken err.old) (E.taken err.new) (E.faults err.old) (E.faults err.new) line.now }
 {
     let _ = write_all(err, line.as_bytes());
 }
