@@ -23,6 +23,17 @@ use Rattle.isle_emission.specs.Emitted.{IsEmittable}
 use Rattle.isle_emission.specs.TraitFns.{trait_fns_of, HasFnNames}
 use Rattle.isle_emission.proofs.TraitFnForms.{HasBuiltinTypes, fns_are}
 use Rattle.isle_emission.specs.OfTerm.{IsOfTerm, AreDeclared}
+use Rattle.isle_core.specs.Setting.{setting}
+use Rattle.isle_emission.specs.Shape.{HasShape}
+use Rattle.isle_emission.proofs.Shapes.{has_shape}
+use Rattle.isle_core.specs.declared.TypeId.{TypeId}
+use Rattle.isle_core.specs.BuiltinType.{IsBuiltinType}
+use Rattle.isle_core.specs.HasType.{HaveTypes}
+use Rattle.isle_core.specs.Value.{Value}
+use Rattle.isle_core.proofs.Inhabited.{builtin_has_value}
+use Rattle.isle_core.proofs.LawfulExists.{lawful_with}
+use Rattle.isle_codegen.specs.FromBlock.{AreFromBlocks}
+use Rattle.isle_codegen.specs.Meant.{IsMeant}
 use Rattle.isle_codegen.specs.Headline.{FunctionsMean}
 use Rattle.isle_emission.proofs.Tails.{of_its_term}
 use Rattle.isle_codegen.proofs.EmittedNames.{emitted_names, distinct_names}
@@ -42,6 +53,35 @@ are_declared files env (s ∷ sets) (f ∷ fs) h = (
 )
 are_declared files env [] (f ∷ fs) h = absurd h
 are_declared files env (s ∷ sets) [] h = absurd h
+
+-- arguments of builtin types
+arguments_of : (env : Environment) (tys : List TypeId) → AllByRecursion (IsBuiltinType env) tys → (args : List Value) × HaveTypes env args tys
+arguments_of env [] h = ([], tt)
+arguments_of env (ty ∷ tys) h =
+    let v = builtin_has_value env ty h.0 in
+    let vs = arguments_of env tys h.1 in
+    (v.0 ∷ vs.0, (v.1, vs.1))
+
+-- each function is made from a block
+are_from_blocks : (files : Files) (env : Environment) (sets : List (TermId × RuleSet)) (fs : List Function) → AllByRecursion (λ (s : TermId × RuleSet). StandsFor env s.1 (rules_of env s.0)) sets → AreEmitted files env sets fs
+    → AreFromBlocks files env (map (λ (s : TermId × RuleSet). s.0) sets) fs
+are_from_blocks files env [] [] stand h = tt
+are_from_blocks files env (s ∷ sets) (f ∷ fs) stand h = (
+  record {
+    term = h.0.term;
+    there = h.0.there;
+    set = s.1;
+    stands = stand.0;
+    block = h.0.block;
+    lawful = h.0.lawful;
+    means = h.0.means;
+    shape = subst (λ (g : Function). HasShape (setting env h.0.term s.1.bindings) g.body h.0.block) (sym h.0.given) (has_shape files env h.0.term s.1.bindings h.0.block h.0.lawful h.0.single);
+    statements = h.0.given;
+  },
+  are_from_blocks files env sets fs stand.1 h.1,
+)
+are_from_blocks files env [] (f ∷ fs) stand h = absurd h
+are_from_blocks files env (s ∷ sets) [] stand h = absurd h
 
 some_same : (a b : Term) → Some a ≡ Some b → a ≡ b
 some_same a b e = cc
@@ -83,15 +123,28 @@ module _ (defs : List Def) (files : Files) (env : Environment) (typed : Typed de
         trait_names = subst (λ (xs : List TraitFn). IsDistinct bytes_eq (fn_names xs)) (sym a) names.distinct;
       }
 
+  -- the function of each term with rules
+  function_for : (id : TermId) → Contains (with_rules env) id → HasFunction files env fs id
+  function_for id c =
+      has_function files env sets fs id emitted (recursion_from_All (λ (s : TermId × RuleSet). StandsFor env s.1 (rules_of env s.0)) sets stand.stand) distinct
+      (subst (λ (ids : List TermId). Contains ids id) (sym stand.ids) c)
+
+  -- there is something to say of each term
+  meant_of : (id : TermId) (t : Term) → slice_get env.terms id.0 ≡ Some t → IsMeant env id
+  meant_of id t there = record {
+    term = t;
+    there = there;
+    arguments = arguments_of env t.arg_tys (typed_types defs env id.0 t typed there).1;
+    meanings = λ can none h history. lawful_with env id h can none history;
+  }
+
   -- and its functions mean the rules
   pub program_means : (p : Program) → p.fns ≡ fs → FunctionsMean files env p
   program_means p e =
       record {
         names = ap (map (λ (f : Function). f.term)) e ∙ names_of;
         declared = subst (λ (xs : List Function). AreDeclared files env (with_rules env) xs) (sym e) (subst (λ (ids : List TermId). AreDeclared files env ids fs) stand.ids (are_declared files env sets fs emitted));
-        mean = λ id c.
-            means_rules defs files env p id typed
-            (subst (λ (xs : List Function). HasFunction files env xs id) (sym e)
-            (has_function files env sets fs id emitted (recursion_from_All (λ (s : TermId × RuleSet). StandsFor env s.1 (rules_of env s.0)) sets stand.stand) distinct
-            (subst (λ (ids : List TermId). Contains ids id) (sym stand.ids) c)));
+        blocks = subst (λ (xs : List Function). AreFromBlocks files env (with_rules env) xs) (sym e) (subst (λ (ids : List TermId). AreFromBlocks files env ids fs) stand.ids (are_from_blocks files env sets fs (recursion_from_All (λ (s : TermId × RuleSet). StandsFor env s.1 (rules_of env s.0)) sets stand.stand) emitted));
+        mean = λ id c. means_rules defs files env p id typed (subst (λ (xs : List Function). HasFunction files env xs id) (sym e) (function_for id c));
+        meant = λ id c. meant_of id (function_for id c).emitted.term (function_for id c).emitted.there;
       }

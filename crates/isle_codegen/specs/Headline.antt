@@ -20,6 +20,8 @@ use Rattle.isle_codegen.specs.Emission.{IsFrame}
 use Rattle.isle_emission.specs.Ends.{end_of}
 use Rattle.isle_emission.specs.Partial.{is_partial}
 use Rattle.isle_emission.specs.OfTerm.{AreDeclared}
+use Rattle.isle_codegen.specs.FromBlock.{AreFromBlocks}
+use Rattle.isle_codegen.specs.Meant.{IsMeant}
 
 -- the calls of impure terms
 abbrev pub impure_calls : Environment → List Made → List Made
@@ -42,12 +44,14 @@ abbrev pub MeansRules : Environment → Program → TermId → Type 0
 MeansRules env p id = IsSomeAnd (slice_get env.terms id.0) (λ (t : Term).
     (args : List Value) (m : Meaning) → HaveTypes env args t.arg_tys → IsLawful env id m → GivesOutcome env p id t args m)
 
--- the functions of the program are the terms with rules, in order of ids, each as its term is declared and with the
--- meaning of its rules
+-- the functions of the program are the terms with rules, in order of ids, each as its term is declared, made from a block
+-- of its rules, and with their meaning, which says something: there are arguments and lawful meanings
 pub record FunctionsMean (files : Files) (env : Environment) (p : Program) : Type 0 where
   pub names : map (λ (f : Function). f.term) p.fns ≡ map (term_name env) (with_rules env)
   pub declared : AreDeclared files env (with_rules env) p.fns
+  pub blocks : AreFromBlocks files env (with_rules env) p.fns
   pub mean : (id : TermId) → Contains (with_rules env) id → MeansRules env p id
+  pub meant : (id : TermId) → Contains (with_rules env) id → IsMeant env id
 
 -- the text spells exactly one program, whose frame and functions are those of the environment
 pub record IsText (options : CodegenOptions) (files : Files) (env : Environment) (text : List ℕ) : Type 0 where

@@ -3,6 +3,8 @@ pub mod Header
 pub mod Source
 pub mod Emission
 pub mod Checked
+pub mod Meant
+pub mod FromBlock
 pub mod Headline
 pub mod Emits
 pub mod Causes

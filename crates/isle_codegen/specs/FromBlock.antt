@@ -1,0 +1,35 @@
+-- The functions of a program, each made from a block of its term's rules.
+use Rattle.std.specs.Prelude.{◌≡◌, List, [], ◌∷◌, Some, slice_get}
+use Rattle.isle_core.specs.declared.TermId.{TermId}
+use Rattle.isle_core.specs.declared.files.Files.{Files}
+use Rattle.isle_core.specs.declared.rule_sets.RuleSet.{RuleSet}
+use Rattle.isle_core.specs.declared.types.Term.{Term}
+use Rattle.isle_core.specs.Block.{Block}
+use Rattle.isle_core.specs.BlockLawful.{IsLawfulBlock}
+use Rattle.isle_core.specs.Rule.{Environment, rules_of}
+use Rattle.isle_core.specs.Setting.{setting}
+use Rattle.isle_core.specs.StandsFor.{StandsFor}
+use Rattle.isle_emission.specs.Shape.{HasShape}
+use Rattle.isle_emission.specs.TermFunction.{term_function}
+use Rattle.isle_tree.specs.Program.{Function}
+use Rattle.isle_codegen.specs.Emits.{MeansSet}
+
+-- the function is that of a block which is lawful for a rule set that stands for the term's rules, and means it: it has
+-- the block's shape, and its head, its statements and its tail are those of the block
+pub record IsFromBlock (files : Files) (env : Environment) (id : TermId) (f : Function) : Type 0 where
+  pub term : Term
+  pub there : slice_get env.terms id.0 ≡ Some term
+  pub set : RuleSet
+  pub stands : StandsFor env set (rules_of env id)
+  pub block : Block
+  pub lawful : IsLawfulBlock (setting env term set.bindings) block
+  pub means : MeansSet env set block
+  pub shape : HasShape (setting env term set.bindings) f.body block
+  pub statements : f ≡ term_function files env term set.bindings block
+
+-- so of each term, in order
+abbrev pub AreFromBlocks : Files → Environment → List TermId → List Function → Type 0
+AreFromBlocks files env [] [] = Unit {0}
+AreFromBlocks files env (id ∷ ids) (f ∷ fs) = IsFromBlock files env id f × AreFromBlocks files env ids fs
+AreFromBlocks files env [] (f ∷ fs) = ⊥
+AreFromBlocks files env (id ∷ ids) [] = ⊥
