@@ -8,7 +8,7 @@ use Rattle.isle_core.specs.declared.rule_sets.Binding.{Binding}
 use Rattle.isle_core.specs.declared.rule_sets.Binding.TheVariants as binding
 use Rattle.isle_core.specs.declared.rule_sets.RuleSet.{RuleSet}
 use Rattle.isle_core.specs.Meaning.{Meaning}
-use Rattle.isle_core.specs.Calling.{calling, is_fallible, instance_of, impure, impure_all}
+use Rattle.isle_core.specs.Calling.{Calling, ByTurns, ByCases, NoCall, calling, is_fallible, instance_of, impure, impure_all}
 use Rattle.isle_core.specs.Expr as expr
 use Rattle.isle_core.specs.Expr.{Expr, Exprs, NoExpr, AnExpr}
 use Rattle.isle_core.specs.BuiltRule.{CallsImpure, AllCallImpure, IsImpureRule}
@@ -25,7 +25,13 @@ use Rattle.isle_core.specs.Tests.{Places, no_places, rule_places}
 use Rattle.isle_core.proofs.TurnKinds.{called_here}
 use Rattle.isle_core.proofs.Contained.{head_contained, tail_contained, contained_cases, none_contained}
 use Rattle.isle_blocks.proofs.BindingPaths.{path_before}
+use Rattle.isle_core.specs.declared.types.ReturnKind.{ReturnKind}
+use Rattle.isle_core.specs.declared.values.Callee.{Callee}
+use Rattle.isle_core.specs.ExternalCall.{IsCall}
+use Rattle.isle_emission.proofs.BlockCalls.{IsBoundCall}
 use Rattle.isle_emission.specs.Emitted.{AnswersBindings}
+use Rattle.isle_emission.specs.Statements.{callee_of}
+use Rattle.isle_codegen.specs.CalledBy.{GoesTo, IsCalledBy}
 use Rattle.isle_sema.proofs.ReadyRules.{IsArgument, args_argument}
 
 -- ---- the calls among paths
@@ -117,3 +123,20 @@ pub bindings_answered : (env : Environment) (id : TermId) (m : Meaning) (s : Rul
 bindings_answered env id m s stands impures lawful = answers_each env m s.bindings (λ i term parameters k e.
     let at_i = path_before s.bindings i (binding.Constructor term parameters k) e in
     lawful.answers (constructed term) (rules_of_called (rules_of env id) env 0 impures term _ k ((stands.paths _).0 (place_contained (paths_of s.bindings) i _ at_i))))
+
+-- ---- the calls of a function
+
+goes_there : (kind : ReturnKind) (c : Calling) (callee : Callee) → IsCall kind c → callee_of c ≡ callee → GoesTo c callee
+goes_there kind (ByTurns to of) callee is e = e
+goes_there kind (ByCases to of) callee is e = absurd is
+goes_there kind NoCall callee is e = absurd is
+
+-- a call among the bindings of a rule set that stands for a term's rules is called by one of them
+pub bound_called : (env : Environment) (id : TermId) (s : RuleSet) (callee : Callee) → StandsFor env s (rules_of env id) → AllByRecursion (IsImpureRule env.terms) (rules_of env id) → IsBoundCall env s.bindings callee → IsCalledBy env id callee
+bound_called env id s callee stands impures b =
+    let at_place = path_before s.bindings b.place (binding.Constructor b.term b.parameters b.instance) b.bound in
+    record {
+      call = constructed b.term;
+      among = rules_of_called (rules_of env id) env 0 impures b.term _ b.instance ((stands.paths _).0 (place_contained (paths_of s.bindings) b.place _ at_place));
+      goes = goes_there b.kind (calling env b.term) callee b.external b.is;
+    }

@@ -1,9 +1,10 @@
 -- The functions of a program, each made from a block of its term's rules.
-use Rattle.std.specs.Prelude.{◌≡◌, List, [], ◌∷◌, Some, slice_get}
+use Rattle.std.specs.Prelude.{◌≡◌, List, [], ◌∷◌, Some, Contains, slice_get}
 use Rattle.isle_core.specs.declared.TermId.{TermId}
 use Rattle.isle_core.specs.declared.files.Files.{Files}
 use Rattle.isle_core.specs.declared.rule_sets.RuleSet.{RuleSet}
 use Rattle.isle_core.specs.declared.types.Term.{Term}
+use Rattle.isle_core.specs.declared.values.Callee.{Callee}
 use Rattle.isle_core.specs.Block.{Block}
 use Rattle.isle_core.specs.BlockLawful.{IsLawfulBlock}
 use Rattle.isle_core.specs.Rule.{Environment, rules_of}
@@ -11,11 +12,13 @@ use Rattle.isle_core.specs.Setting.{setting}
 use Rattle.isle_core.specs.StandsFor.{StandsFor}
 use Rattle.isle_emission.specs.Shape.{HasShape}
 use Rattle.isle_emission.specs.TermFunction.{term_function}
+use Rattle.isle_tree.specs.Calls.{body_calls}
 use Rattle.isle_tree.specs.Program.{Function}
+use Rattle.isle_codegen.specs.CalledBy.{IsCalledBy}
 use Rattle.isle_codegen.specs.Emits.{MeansSet}
 
 -- the function is that of a block which is lawful for a rule set that stands for the term's rules, and means it: it has
--- the block's shape, and its head, its statements and its tail are those of the block
+-- the block's shape, its head, its statements and its tail are those of the block, and its calls are those of the rules
 pub record IsFromBlock (files : Files) (env : Environment) (id : TermId) (f : Function) : Type 0 where
   pub term : Term
   pub there : slice_get env.terms id.0 ≡ Some term
@@ -26,6 +29,7 @@ pub record IsFromBlock (files : Files) (env : Environment) (id : TermId) (f : Fu
   pub means : MeansSet env set block
   pub shape : HasShape (setting env term set.bindings) f.body block
   pub statements : f ≡ term_function files env term set.bindings block
+  pub calls : (callee : Callee) → Contains (body_calls f.body) callee → IsCalledBy env id callee
 
 -- so of each term, in order
 abbrev pub AreFromBlocks : Files → Environment → List TermId → List Function → Type 0

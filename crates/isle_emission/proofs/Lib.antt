@@ -15,6 +15,7 @@ pub mod TermNames
 pub mod ExternalTerms
 pub mod ArmBodies
 pub mod BlockForms
+pub mod BlockCalls
 pub mod BlockThere
 pub mod BlockFits
 pub mod WellFormedFunctions
