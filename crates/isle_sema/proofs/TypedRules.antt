@@ -16,6 +16,7 @@ use Rattle.isle_core.specs.BuiltRule.{IsBuiltPattern, IsBuiltRule, IsImpureRule}
 use Rattle.isle_core.specs.Scope.{all_variables, iflets_scope, IsInScope, AreIfLetsInScope, IsScopedRule}
 use Rattle.isle_syntax.specs.Tree as tree
 use Rattle.isle_syntax.specs.Tree.{Pattern, Def}
+use Rattle.isle_sema.specs.Elaborated as elaborated
 use Rattle.isle_sema.specs.Symbols.{index_of, pattern_names, symbols}
 use Rattle.isle_sema.specs.Signatures.{Signature, RuleDef, signatures, externs, rule_defs, term_named, func_named}
 use Rattle.isle_sema.specs.Elaborated.{type_of, pattern_at, vars_behind, patterns_at, term_of, signature_named, term_or, rule_over, rules_from}
@@ -83,7 +84,7 @@ rule_typed defs r n i (Some s) is built external h =
         args = args_typed defs s.args r.args [] (eqb-true (length r.args) (length s.args) (not-false (length r.args == length s.args) m.0)) m.1;
         once = (apart_numbers r.args tys [] (not-true (repeats (flat_map pattern_names r.args)) b.1)).once;
         iflets = refl;
-        rhs = subst (λ x. IsExprOf (env_of defs) x _ _ _) (sym (same_flag s.partial)) (expr_typed defs s.partial r.args tys s.ret r.rhs b.0 external rhs.0 rhs.1);
+        rhs = subst (λ x. IsExprOf (env_of defs) x (elaborated.patterns_at tys r.args []) (type_of s.ret) (elaborated.expr_at (signatures defs) (type_of s.ret) r.rhs (elaborated.vars_of r.args []))) (sym (same_flag s.partial)) (expr_typed defs s.partial r.args tys s.ret r.rhs b.0 external rhs.0 rhs.1);
       };
     }
 
