@@ -166,13 +166,14 @@ typed_built defs env h k d lt =
     let t = typed_ready defs env h k d lt in
     record { args = All-from_recursion IsBuiltPattern _ (built_patterns env t.term.arg_tys _ t.typed.args); iflets = t.typed.iflets; rhs = built_expr env (may_be_nothing (kind_of t.term.kind)) _ t.term.ret_ty _ t.typed.rhs }
 
--- each variable of a right side is in scope
+-- a right side in scope of the patterns of a rule without conditions
 without_conditions : (r : Rule) → r.iflets ≡ [] → IsInScope (all_variables r.args) r.rhs → IsScopedRule r
 without_conditions r e h = record {
   iflets = subst (AreIfLetsInScope (all_variables r.args)) (sym e) tt;
   rhs = subst (λ is. IsInScope (iflets_scope (all_variables r.args) is) r.rhs) (sym e) h;
 }
 
+-- each variable of a right side is in scope
 pub typed_scoped : (defs : List Def) (env : Environment) → Typed defs env → All IsScopedRule env.rules
 typed_scoped defs env h k d lt =
     let t = typed_ready defs env h k d lt in
