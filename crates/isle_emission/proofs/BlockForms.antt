@@ -108,9 +108,9 @@ mutual
 
   control_is : (c : Control) (more : Block) (env : Environment) (t : Term) (bs : List Binding) (partial : Bool) (bound made : List ℕ) → HasFnNames env → IsLawfulControl (setting env t bs) bound made c more → IsSingle c → IsStmt (control_stmt env bs partial bound c)
   control_is (block.Match source (block.Arm c places body block.NoArm)) more env t bs partial bound made names k o = (
-      operand_is env t bs bound source k.1.0 k.1.1,
-      tested_is env c k.1.0 k.1.2.0,
-      block_is body env t bs partial bound made Done names (arm_body (setting env t bs) bound made source c places body block.NoArm k.1.0 k.1.2) o tt,
+    operand_is env t bs bound source k.1.0 k.1.1,
+    tested_is env c k.1.0 k.1.2.0,
+    block_is body env t bs partial bound made Done names (arm_body (setting env t bs) bound made source c places body block.NoArm k.1.0 k.1.2) o tt,
   )
   control_is (block.Match source (block.Arm c places body (block.Arm d others inside arms))) more env t bs partial bound made names k o = absurd o
   control_is (block.Match source block.NoArm) more env t bs partial bound made names k o = absurd o

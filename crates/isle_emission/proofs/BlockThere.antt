@@ -210,15 +210,14 @@ mutual
 
   control_there : (c : Control) (more : Block) (env : Environment) (t : Term) (bs : List Binding) (bound made : List ℕ) (locals : Locals) (ss : Body) → HasFnNames env → LocalsHold env t bs bound locals → IsLawfulControl (setting env t bs) bound made c more → IsSingle c
       → IsBodyThere (trait_fns_of env) (kind_of (is_partial t.kind)) (length t.arg_tys) locals ss → IsBodyThere (trait_fns_of env) (kind_of (is_partial t.kind)) (length t.arg_tys) locals (Then (control_stmt env bs (is_partial t.kind) bound c) ss)
-  control_there (block.Match source (block.Arm c places body block.NoArm)) more env t bs bound made locals ss names l k o h =
-      (
-          (
-              is_one _ (operand_one env t bs bound locals source k.1.0 l k.1.1),
-              is_one _ (tested_holds env c k.1.0 (length t.arg_tys) locals k.1.2.0),
-              block_there body env t bs bound made locals Done names l (arm_body (setting env t bs) bound made source c places body block.NoArm k.1.0 k.1.2) o (λ after. tt),
-          ),
-          h,
-      )
+  control_there (block.Match source (block.Arm c places body block.NoArm)) more env t bs bound made locals ss names l k o h = (
+    (
+      is_one _ (operand_one env t bs bound locals source k.1.0 l k.1.1),
+      is_one _ (tested_holds env c k.1.0 (length t.arg_tys) locals k.1.2.0),
+      block_there body env t bs bound made locals Done names l (arm_body (setting env t bs) bound made source c places body block.NoArm k.1.0 k.1.2) o (λ after. tt),
+    ),
+    h,
+  )
   control_there (block.Match source (block.Arm c places body (block.Arm d others inside arms))) more env t bs bound made locals ss names l k o h = absurd o
   control_there (block.Match source block.NoArm) more env t bs bound made locals ss names l k o h = absurd o
   control_there (block.Equal x y body) more env t bs bound made locals ss names l k o h =
