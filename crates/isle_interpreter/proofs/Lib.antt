@@ -1,7 +1,6 @@
 pub mod Agree
 pub mod Answering
 pub mod AnswersHold
-pub mod FieldsApart
 pub mod FindTerms
 pub mod FormPlaces
 pub mod FormTests
@@ -13,7 +12,6 @@ pub mod OneRefusal
 pub mod Progress
 pub mod Refusing
 pub mod Runs
-pub mod SeesValues
 pub mod SetNames
 pub mod SourceLaws
 pub mod Tests

@@ -1,12 +1,9 @@
 pub mod Signatures
 pub mod Forms
 pub mod Refusals
-pub mod Fields
 pub mod RunViews
 pub mod Locals
 pub mod Told
-pub mod Shown
-pub mod Lines
 pub mod Found
 pub mod SignatureViews
 pub mod Served

@@ -9,7 +9,7 @@ ghost use Rattle.isle_interpreter.specs.Sources.{source, answered_by};
 
 use crate::holding::Holding;
 use crate::source::Source;
-use crate::value::{copied, same, text_copied};
+use isle_outcomes::{copied, same, text_copied};
 use isle_core::{Answer, Callee, PureAnswers, Value};
 use std::alloc::{AllocError, Global};
 

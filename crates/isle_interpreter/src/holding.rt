@@ -2,7 +2,7 @@
 
 ghost use Rattle.std.specs.Prelude.{◌≡◌, IfOk};
 
-use crate::value::copied;
+use isle_outcomes::copied;
 use isle_core::Value;
 use std::alloc::{AllocError, Global};
 

@@ -7,13 +7,13 @@ ghost use Rattle.isle_interpreter.specs.RunViews.{held, locals};
 
 use crate::bound::Bound;
 use crate::holding::{Holding, holding_copied};
-use crate::value::copied;
+use isle_outcomes::copied;
 use isle_core::Value;
 use isle_tree::{Operand, Read};
 use std::alloc::{AllocError, Global};
 
 /// Returns what an operand holds.
-#[tactic(auto, using(crate::proofs::SeesValues::sees_values))]
+#[tactic(auto, using(isle_outcomes::proofs::SeesValues::sees_values))]
 pub fn value_of(
     alloc: Global,
     args: &[Value],

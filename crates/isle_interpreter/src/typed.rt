@@ -10,7 +10,7 @@ use isle_spelling::{int_type_named, is_same};
 use isle_tree::Ty;
 
 /// Tells whether a value is of the type of this name.
-#[tactic(auto, using(crate::proofs::SeesValues::sees_values))]
+#[tactic(auto, using(isle_outcomes::proofs::SeesValues::sees_values))]
 pub fn is_named(name: &str, given: &Value) -> bool
     ensures { IsTrue result ↔ IsNamed name.now (value given.now) }
 {
@@ -41,7 +41,7 @@ pub fn are_named(names: &[Text], given: &[Value]) -> bool
 }
 
 /// Tells whether an answer is of the kind, with values of the types of these names.
-#[tactic(auto, using(crate::proofs::SeesValues::sees_values))]
+#[tactic(auto, using(isle_outcomes::proofs::SeesValues::sees_values))]
 pub fn answer_fits(results: &[Text], kind: ReturnKind, given: &Answer) -> bool
     ensures { (params : List (List ℕ)) → IsTrue result ↔ AnswerFits (record { params = params; results = results.now; kind = kind }) (answer given.now) }
 {

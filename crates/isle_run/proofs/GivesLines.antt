@@ -22,7 +22,7 @@ use Rattle.isle_run_inputs.specs.Asked.{asked_term, asked_types, arg_types}
 use Rattle.isle_run_inputs.specs.Forms.{answers_at}
 use Rattle.isle_run_inputs.specs.Given.{values_at}
 use Rattle.isle_run_inputs.proofs.HaveTypes.{Matched, have_types}
-use Rattle.isle_interpreter.specs.Lines.{run_lines}
+use Rattle.isle_outcomes.specs.Lines.{run_lines}
 use Rattle.isle_interpreter.specs.Refusals.{MayRun}
 use Rattle.isle_interpreter.specs.Signatures.{type_names, IsNamed, AreNamed}
 use Rattle.isle_codegen.specs.Checked.{IsChecked}

@@ -15,7 +15,7 @@ use Rattle.isle_core.specs.Rule.{Environment}
 use Rattle.isle_core.specs.Terms.{term_name, with_rules}
 use Rattle.isle_tree.specs.Program.{Program, Function}
 use Rattle.isle_tree.specs.Run.{run, function_run}
-use Rattle.isle_interpreter.specs.Lines.{run_lines}
+use Rattle.isle_outcomes.specs.Lines.{run_lines}
 use Rattle.isle_interpreter.specs.Refusals.{MayRun}
 use Rattle.isle_interpreter.proofs.Agree.{same_run}
 use Rattle.isle_emission.specs.Ends.{end_of}

@@ -20,7 +20,7 @@ use Rattle.isle_run_inputs.specs.Forms.{are_built, answers_at}
 use Rattle.isle_tree.specs.Program.{Program}
 use Rattle.isle_tree.specs.Run.{run}
 use Rattle.isle_interpreter.specs.Judged.{Runs}
-use Rattle.isle_interpreter.specs.Lines.{run_lines}
+use Rattle.isle_outcomes.specs.Lines.{run_lines}
 use Rattle.isle_emission.specs.Ends.{end_of}
 use Rattle.isle_emission.specs.Partial.{is_partial}
 use Rattle.isle_codegen.specs.Checked.{IsChecked}

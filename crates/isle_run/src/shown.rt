@@ -7,12 +7,12 @@ ghost use Rattle.isle_core.specs.RuleViews.{environment};
 ghost use Rattle.isle_core.specs.ValueViews.{made, ran};
 ghost use Rattle.isle_run_inputs.specs.Asked.{answer_type};
 ghost use Rattle.isle_codegen.specs.Headline.{impure_calls};
-ghost use Rattle.isle_interpreter.specs.Lines.{call_line, call_lines, run_lines};
+ghost use Rattle.isle_outcomes.specs.Lines.{call_line, call_lines, run_lines};
 ghost use Rattle.isle_run.specs.Trial.{shown_run};
 
 use isle_core::{CallMade, OutOfMemory, Outcome, TermEnv, TypeEnv};
 use isle_run_inputs::AnswerTypes;
-use isle_interpreter::{end_line, push_call};
+use isle_outcomes::{end_line, push_call};
 use std::alloc::Global;
 
 // Appends the line of a call, where it goes to an impure term.

@@ -7,7 +7,7 @@ use Rattle.isle_core.specs.declared.values.Value.TheFolds.{fold-roll-Value}
 use Rattle.isle_core.specs.declared.values.Value.TheShapes.{former-Value-Variant-2-at-2}
 use Rattle.isle_core.specs.Value.{Value, Truth, Int, Opaque, Variant, Struct, Field}
 use Rattle.isle_core.specs.ValueViews.{value, value_step, fields_of}
-use Rattle.isle_interpreter.specs.Fields.{fields}
+use Rattle.isle_outcomes.specs.Fields.{fields}
 
 pub value-bool : (b : Bool) → value (code.Bool b) ≡ Truth b
 value-bool b = ap value (sym (code.rolls-Bool b)) ∙ fold-roll-Value Value value_step _

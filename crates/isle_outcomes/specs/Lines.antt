@@ -1,7 +1,7 @@
 -- The lines of a run: that of its end, and those of its calls.
 use Rattle.std.specs.Prelude.{ℕ, List, [], ◌∷◌, ◌++◌, codes}
 use Rattle.isle_core.specs.Value.{Value, Made, End, Gives, GivesSome, GivesNone, IsUnreachable, GivesList, Ran}
-use Rattle.isle_interpreter.specs.Shown.{value_text, callee_text}
+use Rattle.isle_outcomes.specs.Shown.{value_text, callee_text}
 
 -- values behind the first, with commas
 abbrev pub more_text : List Value → List ℕ

@@ -5,7 +5,7 @@ ghost use Rattle.std.specs.Str.{bytes_eq};
 ghost use Rattle.isle_core.specs.ValueViews.{value};
 ghost use Rattle.isle_core.specs.SameValue.{int_place, same_truth, same_value, same_fields};
 ghost use Rattle.std.specs.Ordering.{int_eq};
-ghost use Rattle.isle_interpreter.specs.Fields.{fields};
+ghost use Rattle.isle_outcomes.specs.Fields.{fields};
 
 use isle_core::{IntType, List, Text, Value};
 use std::alloc::{AllocError, Global};

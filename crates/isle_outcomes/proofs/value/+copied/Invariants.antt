@@ -1,5 +1,5 @@
 use Rattle.std.proofs.Common.{◌≡◌, take}
-use Rattle.isle_interpreter.proofs.value.+copied.Given as goal
+use Rattle.isle_outcomes.proofs.value.+copied.Given as goal
 
 abbrev pub invariant-loop-field : goal.invariant-loop-field
 invariant-loop-field l = l.copies.items ≡ take l.field-index l.field-items

@@ -4,7 +4,7 @@ use Rattle.std.specs.Str.{bytes_eq}
 use Rattle.isle_core.specs.declared.values.Value.{Value as CodeValue}
 use Rattle.isle_core.specs.SameValue.{same_value, same_fields}
 use Rattle.isle_core.specs.ValueViews.{value}
-use Rattle.isle_interpreter.specs.Fields.{fields}
+use Rattle.isle_outcomes.specs.Fields.{fields}
 
 and_false : (b : Bool) → (b && false) ≡ false
 and_false true = refl

@@ -1,7 +1,7 @@
 use Rattle.std.proofs.Common.{◌≡◌, length, drop}
 use Rattle.isle_core.specs.SameValue.{same_fields}
-use Rattle.isle_interpreter.specs.Fields.{fields}
-use Rattle.isle_interpreter.proofs.value.+equality.Given as goal
+use Rattle.isle_outcomes.specs.Fields.{fields}
+use Rattle.isle_outcomes.proofs.value.+equality.Given as goal
 
 abbrev pub invariant-same_fields-loop-index : goal.invariant-same_fields-loop-index
 invariant-same_fields-loop-index l =

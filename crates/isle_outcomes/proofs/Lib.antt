@@ -1,0 +1,2 @@
+pub mod SeesValues
+pub mod FieldsApart
