@@ -138,7 +138,7 @@ flag_kind : (partial : Bool) (by : ConstructorKind) → function_kind (is_partia
 flag_kind true by = refl
 flag_kind false by = refl
 
-typed_answers : (defs : List Def) (env : Environment) (i : ℕ) (t : Term) → Typed defs env → slice_get env.terms i ≡ Some t → function_kind (is_partial t.kind) ≡ kind_of t.kind
+pub typed_answers : (defs : List Def) (env : Environment) (i : ℕ) (t : Term) → Typed defs env → slice_get env.terms i ≡ Some t → function_kind (is_partial t.kind) ≡ kind_of t.kind
 typed_answers defs env i t typed at = let k = typed_kind defs env i t typed at in subst (λ x. function_kind (is_partial x) ≡ kind_of x) k.2 (flag_kind k.0 k.1)
 
 module _ (defs : List Def) (files : Files) (env : Environment) (p : Program) (id : TermId) (typed : Typed defs env) (h : HasFunction files env p.fns id) where

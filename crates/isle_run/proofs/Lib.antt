@@ -5,3 +5,8 @@ pub mod Halting
 pub mod Refusing
 pub mod GivesLines
 pub mod ImpureSteps
+pub mod AskedTerms
+pub mod NamedTypes
+pub mod ServedCallees
+pub mod RightForms
+pub mod Complete

@@ -3,3 +3,4 @@ pub mod Trial
 pub mod Stopped
 pub mod Ran
 pub mod Told
+pub mod Valid

@@ -1,6 +1,6 @@
 //! The run of a term of a source.
 
-ghost use Rattle.std.specs.Prelude.{◌≡◌, length, IfOk, IfErr};
+ghost use Rattle.std.specs.Prelude.{◌≡◌, length, IfOk, IfErr, IsOkUnless};
 ghost use Rattle.std.specs.String.{string_bytes};
 ghost use Rattle.isle_core.specs.RuleViews.{environment};
 ghost use Rattle.isle_rulesets.specs.Grouping.{AreRuleSets};
@@ -9,6 +9,7 @@ ghost use Rattle.isle_emission.specs.Built.{IsBuilt};
 ghost use Rattle.isle_codegen.specs.Checked.{IsChecked};
 ghost use Rattle.isle_run.specs.Trial.{IsTrial};
 ghost use Rattle.isle_run.specs.Stopped.{HasNoLines};
+ghost use Rattle.isle_run.specs.Valid.{CanRun};
 
 use crate::checked::of_checked;
 use crate::trial_error::TrialError;
@@ -20,8 +21,26 @@ use std::alloc::Global;
 /// Returns the lines of a run of the term of this name, of the source that the files' texts are, at the values, under
 /// the answers that a text spells: the line of the end, and one for each call of an impure term, in order. There are as
 /// many names as texts. The refusals come in this order: the source, the term, the number of arguments, their types,
-/// the answers.
+/// the answers. Where the term can be run (`specs/Valid.antt`), the only one is want of memory.
 pub fn trial(
+    alloc: Global,
+    files: &Files,
+    options: &CodegenOptions,
+    term: &str,
+    given: &[Written],
+    answers: &str,
+) -> Result<String, TrialError>
+    requires count { length files.now.file_texts ≡ length files.now.file_names }
+    requires options { IsBuilt options.now }
+    ensures ok { IfOk result (λ lines. IsTrial options.now files.now term.now (seen given.now) answers.now (string_bytes lines)) }
+    ensures err { IfErr result (λ e. HasNoLines options.now files.now term.now (seen given.now) answers.now e) }
+    ensures complete { CanRun files.now term.now (seen given.now) answers.now → IsOkUnless result TrialError.Memory }
+{
+    tried(alloc, files, options, term, given, answers)
+}
+
+// The lines of the run, or why there are none.
+fn tried(
     alloc: Global,
     files: &Files,
     options: &CodegenOptions,

@@ -10,9 +10,10 @@ use Rattle.isle_codegen.specs.Source.{InLanguage}
 use Rattle.isle_codegen.specs.Header.{HasHeader}
 use Rattle.isle_codegen.specs.Headline.{SpellsOne}
 use Rattle.isle_codegen.specs.Causes.{IsCompiled, printed}
-use Rattle.isle_command_line.specs.Asked.{Asked, Help, Version, Compile, Run}
+use Rattle.isle_command_line.specs.Asked.{Asked, Help, Version, Compile, Build, Prelude, Units, Isa, Run}
 use Rattle.isle_command_line.specs.Lines.{no_options}
 use Rattle.isle_run.specs.Trial.{IsTrial}
+use Rattle.isle_run.specs.Valid.{CanRun}
 use Rattle.isle_top.specs.About.{help_text, version_text}
 use Rattle.isle_top.specs.Asking.{source_name, IsBuilt}
 
@@ -46,6 +47,31 @@ pub record IsRunOf (name term : List ℕ) (vs : Writtens) (answers : Option (Lis
   pub given : List ℕ
   pub read : IfSome files (λ fs. AreRead fs (name ∷ []) (source ∷ []) × AreAnswers fs answers given)
   pub trial : IsTrial no_options (one_file name source) term vs given lines
+
+-- a source and answers under which the term can be run at the values
+pub record IsValidRun (files : Files) (name term : List ℕ) (vs : Writtens) (answers : Option (List ℕ)) : Type 0 where
+  pub source : List ℕ
+  pub given : List ℕ
+  pub there : IsText source (bytes_of files name)
+  pub answered : AreAnswers files answers given
+  pub can : CanRun (one_file name source) term vs given
+
+-- the one name of a `compile` is that of a valid file
+abbrev pub AreValid : List (List ℕ) → Files → Type 0
+AreValid [] files = ⊥
+AreValid (name ∷ []) files = IsValid files name
+AreValid (name ∷ other ∷ names) files = ⊥
+
+-- a line that is built, and whose inputs are valid; the others are not built
+abbrev pub IsValidLine : Asked → Files → Type 0
+IsValidLine Help files = Unit {0}
+IsValidLine Version files = Unit {0}
+IsValidLine (Compile options names) files = (options ≡ no_options) × AreValid names files
+IsValidLine (Build options unit) files = ⊥
+IsValidLine (Prelude kind) files = ⊥
+IsValidLine Units files = ⊥
+IsValidLine (Isa target) files = ⊥
+IsValidLine (Run trace options from term vs answers) files = IsBuilt (Run trace options from term vs answers) × IsValidRun files (source_name from) term vs answers
 
 -- what the names of a `compile` are answered
 abbrev pub compile_answer : List (List ℕ) → Option Files → List ℕ → Type 0

@@ -4,11 +4,9 @@ ghost use Rattle.std.specs.Prelude.{◌≡◌, ◌≤◌, [], ◌∷◌, ℕ, Li
 ghost use Rattle.std.specs.Option.{option_copied};
 ghost use Rattle.std.specs.String.{string_bytes};
 ghost use Rattle.isle_outside.specs.Directory.{Rose};
-ghost use Rattle.isle_command_line.specs.Asked.{Compile};
-ghost use Rattle.isle_command_line.specs.Lines.{no_options};
 ghost use Rattle.isle_command_line.specs.Views.{seen_command};
 ghost use Rattle.isle_top.specs.Asking.{IsBuilt, inputs_of};
-ghost use Rattle.isle_top.specs.Valid.{IsValid, Answers, IsAnswer};
+ghost use Rattle.isle_top.specs.Valid.{Answers, IsAnswer, IsValidLine};
 ghost use Rattle.isle_top.specs.Causes.{HasCause};
 
 use crate::about::{help, version};
@@ -20,12 +18,25 @@ use isle_command_line::{Command, Source};
 use isle_core::{Dir, Text};
 use std::alloc::Global;
 
-/// The text that a line asks for.
+/// Answers a line. Where it is valid and no call of the directory fails, the only refusal is want of memory.
 pub fn answer<D: Dir>(alloc: Global, command: &Command, dir: &mut D) -> Result<String, Refusal>
     ensures ok { IfOk result (λ text. IsAnswer (seen_command command.now) (D.files dir.old) (string_bytes text)) }
     ensures err { IfErr result (λ e. HasCause e (seen_command command.now) (D.files dir.old) (D.counts dir.old) (D.counts dir.new)) }
     ensures not_built { (IsBuilt (seen_command command.now) → ⊥) → result ≡ Err Refusal.NotYet }
-    ensures complete { (name : List ℕ) → seen_command command.now ≡ Compile no_options (name ∷ []) → IsSomeAnd (D.files dir.old) (λ fs. IsValid fs name) → (Rose (D.counts dir.old).faults (D.counts dir.new).faults → ⊥) → IsOkUnless result Refusal.Memory }
+    ensures complete { IsSomeAnd (D.files dir.old) (IsValidLine (seen_command command.now)) → (Rose (D.counts dir.old).faults (D.counts dir.new).faults → ⊥) → IsOkUnless result Refusal.Memory }
+    ensures files { D.files dir.new ≡ D.files dir.old }
+    ensures later { (D.counts dir.old).faults ≤ (D.counts dir.new).faults }
+    ensures stays { (D.counts dir.old).faults ≡ 2 ^ 64 - 1 → (D.counts dir.new).faults ≡ 2 ^ 64 - 1 }
+    ensures given { (D.counts dir.new).given ≤ (D.counts dir.old).given + (2 ^ 24 + 1) * length (inputs_of (seen_command command.now)) }
+{
+    answer_or_cause(alloc, command, dir)
+}
+
+// The text that a line asks for, or why there is none.
+fn answer_or_cause<D: Dir>(alloc: Global, command: &Command, dir: &mut D) -> Result<String, Refusal>
+    ensures ok { IfOk result (λ text. IsAnswer (seen_command command.now) (D.files dir.old) (string_bytes text)) }
+    ensures err { IfErr result (λ e. HasCause e (seen_command command.now) (D.files dir.old) (D.counts dir.old) (D.counts dir.new)) }
+    ensures not_built { (IsBuilt (seen_command command.now) → ⊥) → result ≡ Err Refusal.NotYet }
     ensures files { D.files dir.new ≡ D.files dir.old }
     ensures later { (D.counts dir.old).faults ≤ (D.counts dir.new).faults }
     ensures stays { (D.counts dir.old).faults ≡ 2 ^ 64 - 1 → (D.counts dir.new).faults ≡ 2 ^ 64 - 1 }
@@ -52,7 +63,6 @@ fn built_answer<D: Dir>(alloc: Global, command: &Command, dir: &mut D) -> Result
     requires { IsBuilt (seen_command command.now) }
     ensures ok { IfOk result (λ text. Answers (seen_command command.now) (D.files dir.old) (string_bytes text)) }
     ensures err { IfErr result (λ e. HasCause e (seen_command command.now) (D.files dir.old) (D.counts dir.old) (D.counts dir.new)) }
-    ensures complete { (name : List ℕ) → seen_command command.now ≡ Compile no_options (name ∷ []) → IsSomeAnd (D.files dir.old) (λ fs. IsValid fs name) → (Rose (D.counts dir.old).faults (D.counts dir.new).faults → ⊥) → IsOkUnless result Refusal.Memory }
     ensures files { D.files dir.new ≡ D.files dir.old }
     ensures later { (D.counts dir.old).faults ≤ (D.counts dir.new).faults }
     ensures stays { (D.counts dir.old).faults ≡ 2 ^ 64 - 1 → (D.counts dir.new).faults ≡ 2 ^ 64 - 1 }

@@ -1,11 +1,10 @@
 //! The text of the program of a file.
 
-ghost use Rattle.std.specs.Prelude.{◌≡◌, ◌≤◌, [], ◌∷◌, IfOk, IfErr, IsOkUnless, IsSomeAnd, ◌+◌, ◌*◌, ◌^◌, length, ◌-◌};
+ghost use Rattle.std.specs.Prelude.{◌≡◌, ◌≤◌, [], ◌∷◌, IfOk, IfErr, ◌+◌, ◌*◌, ◌^◌, length, ◌-◌};
 ghost use Rattle.std.specs.String.{string_bytes};
-ghost use Rattle.isle_outside.specs.Directory.{Rose};
 ghost use Rattle.isle_command_line.specs.Asked.{Compile};
 ghost use Rattle.isle_command_line.specs.Lines.{no_options};
-ghost use Rattle.isle_top.specs.Valid.{IsValid, IsProgramOf};
+ghost use Rattle.isle_top.specs.Valid.{IsProgramOf};
 ghost use Rattle.isle_top.specs.Causes.{HasCause};
 
 use crate::refusal::Refusal;
@@ -17,7 +16,6 @@ use std::alloc::Global;
 pub fn compiled<D: Dir>(alloc: Global, name: &str, dir: &mut D) -> Result<String, Refusal>
     ensures ok { IfOk result (λ text. IsProgramOf name.now (D.files dir.old) (string_bytes text)) }
     ensures err { IfErr result (λ e. HasCause e (Compile no_options (name.now ∷ [])) (D.files dir.old) (D.counts dir.old) (D.counts dir.new)) }
-    ensures complete { IsSomeAnd (D.files dir.old) (λ fs. IsValid fs name.now) → (Rose (D.counts dir.old).faults (D.counts dir.new).faults → ⊥) → IsOkUnless result Refusal.Memory }
     ensures files { D.files dir.new ≡ D.files dir.old }
     ensures later { (D.counts dir.old).faults ≤ (D.counts dir.new).faults }
     ensures stays { (D.counts dir.old).faults ≡ 2 ^ 64 - 1 → (D.counts dir.new).faults ≡ 2 ^ 64 - 1 }

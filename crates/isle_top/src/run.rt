@@ -9,7 +9,7 @@ ghost use Rattle.isle_top.specs.Asking.{Asks, IsBuilt, inputs_of};
 ghost use Rattle.isle_top.specs.Causes.{HasCause};
 ghost use Rattle.isle_top.specs.Lines.{not_yet_line, write_fault_line, memory_line, Wrote};
 ghost use Rattle.isle_top.specs.Statuses.{IsStatus, IsNoLine, IsUnread, IsHalt};
-ghost use Rattle.isle_top.specs.Valid.{IsValid, IsAnswer};
+ghost use Rattle.isle_top.specs.Valid.{IsAnswer, IsValidLine};
 
 use crate::answer::answer;
 use crate::asked::{input_name, term_of};
@@ -70,8 +70,8 @@ pub fn run_words<D: Dir, O: Sink, E: Sink>(
 
     ensures statuses { IsStatus result.0 }
 
-    // Valid input is compiled, where nothing fails and memory suffices.
-    ensures complete { (name : List ℕ) → LineS (bytes_each words.now) (Compile no_options (name ∷ [])) → IsSomeAnd (D.files dir.old) (λ fs. IsValid fs name)
+    // A valid line is answered, where nothing fails and memory suffices.
+    ensures complete { (asked : Asked) → LineS (bytes_each words.now) asked → IsSomeAnd (D.files dir.old) (IsValidLine asked)
         → (Rose (D.counts dir.old).faults (D.counts dir.new).faults → ⊥) → (result.0 ≡ 0) ⊎ (result.0 ≡ 11) ⊎ (result.0 ≡ 12) }
     ensures files { D.files dir.new ≡ D.files dir.old }
 
@@ -132,7 +132,7 @@ fn run_command<D: Dir, O: Sink, E: Sink>(
         (Wrote (E.taken err.old) (E.taken err.new) (E.faults err.old) (E.faults err.new)) }
     ensures memory_line { result.0 ≡ 12 → Wrote (E.taken err.old) (E.taken err.new) (E.faults err.old) (E.faults err.new) memory_line }
     ensures statuses { IsStatus result.0 }
-    ensures complete { (name : List ℕ) → seen_command asked.now ≡ Compile no_options (name ∷ []) → IsSomeAnd (D.files dir.old) (λ fs. IsValid fs name)
+    ensures complete { IsSomeAnd (D.files dir.old) (IsValidLine (seen_command asked.now))
         → (Rose (D.counts dir.old).faults (D.counts dir.new).faults → ⊥) → (result.0 ≡ 0) ⊎ (result.0 ≡ 11) ⊎ (result.0 ≡ 12) }
     ensures files { D.files dir.new ≡ D.files dir.old }
     ensures later { (D.counts dir.old).faults ≤ (D.counts dir.new).faults }

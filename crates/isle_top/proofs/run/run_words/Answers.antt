@@ -1,8 +1,10 @@
-use Rattle.std.proofs.Common.{sym, ap, ◌∷◌, [], Err}
+use Rattle.std.proofs.Common.{sym, ap, inl, subst, Err}
+use Rattle.std.specs.Prelude.{IsSomeAnd}
 use Rattle.isle_core.specs.Inputs.{bytes_each}
-use Rattle.isle_command_line.specs.Asked.{Compile}
-use Rattle.isle_command_line.specs.Lines.{no_options}
+use Rattle.isle_command_line.specs.Asked.{Asked}
 use Rattle.isle_command_line.specs.Views.{seen_command}
+use Rattle.isle_top.specs.Asking.{IsBuilt}
+use Rattle.isle_top.specs.Valid.{IsValidLine}
 use Rattle.isle_top.proofs.Refusals.{bad_word, no_bad_word, wrote}
 use Rattle.isle_top.proofs.run.run_words.Goals as goal
 
@@ -14,5 +16,15 @@ returns-in-Err-Bad-clause-bad g c = λ _.
     bad_word (bytes_each c.args.words.now) c.in-Err-Bad.index _ (c.in-Err-Bad.ensures.bad c.in-Err-Bad.index (ap Err c.in-Err-Bad.field-0-is))
     (λ word at. rw (sym (c.word_at.ensures word (rw c.in-Err-Bad.index-is at))) (wrote c.write_bad_word.result _ _ _ _ _ c.write_bad_word.ensures.ok c.write_bad_word.ensures.part c.write_bad_word.ensures.failed))
 
+pub returns-in-Err-Bad-clause-not_built : goal.returns-in-Err-Bad-clause-not_built
+returns-in-Err-Bad-clause-not_built g c = λ asked line never. absurd (no_bad_word (bytes_each c.args.words.now) c.in-Err-Bad.index asked (c.in-Err-Bad.ensures.bad c.in-Err-Bad.index (ap Err c.in-Err-Bad.field-0-is)) line)
+
 pub returns-in-Err-Bad-clause-complete : goal.returns-in-Err-Bad-clause-complete
-returns-in-Err-Bad-clause-complete g c = λ name line valid calm. absurd (no_bad_word (bytes_each c.args.words.now) c.in-Err-Bad.index (Compile no_options (name ∷ [])) (c.in-Err-Bad.ensures.bad c.in-Err-Bad.index (ap Err c.in-Err-Bad.field-0-is)) line)
+returns-in-Err-Bad-clause-complete g c = λ asked line valid calm. absurd (no_bad_word (bytes_each c.args.words.now) c.in-Err-Bad.index asked (c.in-Err-Bad.ensures.bad c.in-Err-Bad.index (ap Err c.in-Err-Bad.field-0-is)) line)
+
+pub returns-in-Ok-clause-not_built : goal.returns-in-Ok-clause-not_built
+returns-in-Ok-clause-not_built g c = λ asked line never. inl (c.run_command.ensures.not_built (λ built. never (subst IsBuilt (sym (c.in-Ok.ensures.only asked line)) built)))
+
+pub returns-in-Ok-clause-complete : goal.returns-in-Ok-clause-complete
+returns-in-Ok-clause-complete g c = λ asked line valid calm.
+    c.run_command.ensures.complete (subst (λ (a : Asked). IsSomeAnd (g.D.Dir.files c.args.dir.now) (IsValidLine a)) (c.in-Ok.ensures.only asked line) valid) calm

@@ -1,0 +1,139 @@
+-- Where a term can be run there are lines, or memory ran out.
+use Rattle.std.proofs.Common.{◌≡◌, ℕ, List, [], ◌∷◌, map, Bool, true, false, Some, ⊎_elim, refl, sym, ap, ◌∙◌, subst}
+use Rattle.std.specs.Prelude.{slice_get, Result, Ok, Err, IfErr, IsOkUnless}
+use Rattle.std.specs.List.{AllByRecursion}
+use Rattle.std.proofs.lemmas.List.{map-map}
+use Rattle.isle_core.specs.declared.TypeId.{TypeId}
+use Rattle.isle_core.specs.declared.files.Files.{Files}
+use Rattle.isle_core.specs.declared.options.CodegenOptions.{CodegenOptions}
+use Rattle.isle_core.specs.declared.types.Term.{Term}
+use Rattle.isle_core.specs.declared.values.Callee.{Callee}
+use Rattle.isle_core.specs.HasType.{HaveTypes}
+use Rattle.isle_core.specs.Meaning.{Meaning}
+use Rattle.isle_core.specs.Rule.{Environment}
+use Rattle.isle_core.specs.Terms.{with_rules}
+use Rattle.isle_core.specs.Value.{Value}
+use Rattle.isle_answers.specs.Form.{Form}
+use Rattle.isle_answers.specs.Spelling.{SpellsForms}
+use Rattle.isle_answers.proofs.FaultOnce.{fault_unspelt}
+use Rattle.isle_answers.proofs.Files.{forms_once}
+use Rattle.isle_syntax.specs.Tree.{Def}
+use Rattle.isle_sema.specs.Typing.{Typed}
+use Rattle.isle_sema.proofs.TypedTerms.{typed_types}
+use Rattle.isle_values.specs.Written.{Writtens}
+use Rattle.isle_tree.specs.declared.tree.Ty.{Ty}
+use Rattle.isle_tree.specs.Program.{Program}
+use Rattle.isle_interpreter.specs.Refusals as refusal
+use Rattle.isle_interpreter.specs.Refusals.{MayRun, IsRefused}
+use Rattle.isle_interpreter.specs.Signatures.{type_names, AreNamed}
+use Rattle.isle_interpreter.specs.declared.run_error.RunError.TheVariants as error
+use Rattle.isle_interpreter.proofs.OneRefusal.{not_refused}
+use Rattle.isle_emission.specs.TermFunction.{parameter, type_text}
+use Rattle.isle_run_inputs.specs.Forms.{are_built, answers_at, turns_at}
+use Rattle.isle_codegen.specs.Causes.{IsNotOfIt}
+use Rattle.isle_codegen.specs.Checked.{IsChecked}
+use Rattle.isle_codegen.specs.Source.{InLanguage}
+use Rattle.isle_run.specs.declared.trial_error.TrialError.{TrialError}
+use Rattle.isle_run.specs.declared.trial_error.TrialError.TheVariants as trial
+use Rattle.isle_run.specs.Conforming.{Conforms}
+use Rattle.isle_run.specs.Stopped as stop
+use Rattle.isle_run.specs.Stopped.{IsHalted, IsStopped, HasNoLines}
+use Rattle.isle_run.specs.Trial.{args_given}
+use Rattle.isle_run.specs.Valid.{CanRun}
+use Rattle.isle_run.proofs.AskedTerms.{HasFunction, asked_function}
+use Rattle.isle_run.proofs.NamedTypes.{are_named}
+use Rattle.isle_run.proofs.RightForms.{all_right, answered_back}
+
+-- ---- the source
+
+in_language : (files : Files) (env : Environment) → IsChecked files env → InLanguage files.file_texts
+in_language files env c = (c.defs, env, c.source, record { typed = c.typed.typed; names = c.given.compilable.names; fns = c.given.compilable.fns })
+
+not_of_it : (files : Files) (env : Environment) → IsChecked files env → IsNotOfIt files.file_names files.file_texts → ⊥
+not_of_it files env c h = ⊎_elim (λ never. never (in_language files env c)) (λ bad. let same : true ≡ false = sym c.names ∙ bad in cc) h
+
+-- files that are checked have one environment
+same_env : (files : Files) (a b : Environment) → IsChecked files a → IsChecked files b → b ≡ a
+same_env files a b c d = c.typed.only b (subst (λ (ds : List Def). Typed ds b) (c.once d.defs d.source) d.typed.typed)
+
+-- ---- the answers
+
+forms_same : (text : List ℕ) (fs gs : List Form) → SpellsForms text fs → SpellsForms text gs → fs ≡ gs
+forms_same text fs gs s t = forms_once _ fs gs s.tokens t.tokens
+
+-- ---- the function
+
+names_of : (env : Environment) (tys : List TypeId) → map (type_text env) tys ≡ type_names (map (parameter env) tys)
+names_of env [] = refl
+names_of env (ty ∷ tys) = ap (λ ns. type_text env ty ∷ ns) (names_of env tys)
+
+-- refusals before any answer is looked at are the same under all answers
+no_term_of : (p : Program) (term : List ℕ) (args : List Value) (m n : Meaning) → IsRefused p term args m error.NoTerm → IsRefused p term args n error.NoTerm
+no_term_of p term args m n (refusal.no_term e) = refusal.no_term e
+
+count_of : (p : Program) (term : List ℕ) (args : List Value) (m n : Meaning) → IsRefused p term args m error.ArgCount → IsRefused p term args n error.ArgCount
+count_of p term args m n (refusal.arg_count f e k) = refusal.arg_count f e k
+
+type_of : (p : Program) (term : List ℕ) (args : List Value) (m n : Meaning) (i : ℕ) → IsRefused p term args m (error.ArgType i) → IsRefused p term args n (error.ArgType i)
+type_of p term args m n i (refusal.arg_type f i e k w) = refusal.arg_type f i e k w
+
+module _ (options : CodegenOptions) (files : Files) (term : List ℕ) (ws : Writtens) (text : List ℕ) (c : CanRun files term ws text) (p : Program) (conforms : Conforms options files c.env p) where
+  typed : Typed c.checked.defs c.env
+  typed = c.checked.typed.typed
+
+  answers : Meaning
+  answers = answers_at c.env c.forms
+
+  args : List Value
+  args = args_given c.env term ws
+
+  the_function : HasFunction files c.env term p.fns c.id
+  the_function = asked_function files c.env term (with_rules c.env) p.fns c.id conforms.functions.declared conforms.functions.blocks c.asked
+
+  some_same : (a b : Term) → Some a ≡ Some b → a ≡ b
+  some_same a b e = cc
+
+  named : AreNamed (type_names the_function.function.params) args
+  named =
+      let tys = c.declared.arg_tys in
+      let is : the_function.declared.term ≡ c.declared = some_same the_function.declared.term c.declared (sym the_function.declared.there ∙ c.there) in
+      let params : the_function.function.params ≡ map (parameter c.env) tys = the_function.declared.of_term.params ∙ ap (λ (t : Term). map (parameter c.env) t.arg_tys) is in
+      subst (λ (ps : List Ty). AreNamed (type_names ps) args) (sym params)
+      (subst (λ ns. AreNamed ns args) (names_of c.env tys) (are_named c.env tys args (typed_types c.checked.defs c.env c.id.0 c.declared typed c.there).1 c.typed))
+
+  may : MayRun p term args answers the_function.function
+  may = record {
+    there = the_function.found;
+    typed = named;
+    right = all_right options files c.checked.defs c.env typed p conforms [] (turns_at c.env c.forms) c.right;
+    answered = λ callee k none. c.answered callee (the_function.block.calls callee k) (answered_back callee (turns_at c.env c.forms) none);
+  }
+
+  -- such a run isn't refused
+  pub not_halted : (e : TrialError) → IsHalted p c.env term args text e → ⊥
+  not_halted _ (stop.no_term m h) = not_refused p term args answers the_function.function _ may (no_term_of p term args m answers h)
+  not_halted _ (stop.arg_count m h) = not_refused p term args answers the_function.function _ may (count_of p term args m answers h)
+  not_halted _ (stop.arg_type m i h) = not_refused p term args answers the_function.function _ may (type_of p term args m answers i h)
+  not_halted _ (stop.fault at takes h) = fault_unspelt text at c.forms h c.spelt
+  not_halted _ (stop.unbuilt forms takes spelt bad) =
+      let same : true ≡ false = sym c.built ∙ ap are_built (forms_same text c.forms forms c.spelt spelt) ∙ bad in
+      absurd cc
+  not_halted _ (stop.wrong forms i spelt built h) =
+      not_refused p term args answers the_function.function _ may (subst (λ fs. IsRefused p term args (answers_at c.env fs) (error.BadAnswers i)) (forms_same text forms c.forms spelt c.spelt) h)
+
+not_stopped : (options : CodegenOptions) (files : Files) (term : List ℕ) (ws : Writtens) (text : List ℕ) (e : TrialError) (c : CanRun files term ws text) → IsStopped options files term ws text e → ⊥
+not_stopped options files term ws text e c s =
+    let same : s.env ≡ c.env = same_env files c.env s.env c.checked s.checked in
+    not_halted options files term ws text c s.program (subst (λ env. Conforms options files env s.program) same s.conforms) e
+    (subst (λ env. IsHalted s.program env term (args_given env term ws) text e) same s.halted)
+
+-- where it can be run, only memory is wanting
+pub only_memory : (options : CodegenOptions) (files : Files) (term : List ℕ) (ws : Writtens) (text : List ℕ) (e : TrialError) → CanRun files term ws text → HasNoLines options files term ws text e → e ≡ trial.Memory
+only_memory options files term ws text _ c (stop.not_of_it h) = absurd (not_of_it files c.env c.checked h)
+only_memory options files term ws text _ c (stop.stopped e s) = absurd (not_stopped options files term ws text e c s)
+only_memory options files term ws text _ c stop.memory = refl
+
+-- so there are lines, unless memory is wanting
+pub ok_unless : {T : Type 0} (options : CodegenOptions) (files : Files) (term : List ℕ) (ws : Writtens) (text : List ℕ) (r : Result T TrialError) → IfErr r (λ e. HasNoLines options files term ws text e) → CanRun files term ws text → IsOkUnless r trial.Memory
+ok_unless options files term ws text (Ok x) h can = tt
+ok_unless options files term ws text (Err e) h can = only_memory options files term ws text e can h

@@ -1,0 +1,62 @@
+-- When a term of a source may be run under the answers of a text.
+use Rattle.std.specs.Prelude.{◌≡◌, ℕ, List, [], ◌∷◌, ◌++◌, Some, true, false, slice_get}
+use Rattle.std.specs.List.{AllByRecursion}
+use Rattle.isle_core.specs.declared.Sym.{Sym}
+use Rattle.isle_core.specs.declared.TermId.{TermId}
+use Rattle.isle_core.specs.declared.files.Files.{Files}
+use Rattle.isle_core.specs.declared.types.Term.{Term}
+use Rattle.isle_core.specs.declared.values.Callee.{Callee}
+use Rattle.isle_core.specs.declared.values.Callee.TheVariants as callee
+use Rattle.isle_core.specs.Calling.{kind_of}
+use Rattle.isle_core.specs.HasType.{HaveTypes}
+use Rattle.isle_core.specs.Lawful.{Fits}
+use Rattle.isle_core.specs.Meaning.{TurnAnswers}
+use Rattle.isle_core.specs.Rule.{Environment}
+use Rattle.isle_core.specs.Terms.{sym_text, goes_to}
+use Rattle.isle_answers.specs.Form.{Form}
+use Rattle.isle_answers.specs.Spelling.{SpellsForms}
+use Rattle.isle_values.specs.Written.{Writtens}
+use Rattle.isle_emission.specs.TraitFns.{func_of}
+use Rattle.isle_run_inputs.specs.Asked.{asked_term}
+use Rattle.isle_run_inputs.specs.Forms.{are_built, turns_at}
+use Rattle.isle_codegen.specs.CalledBy.{IsCalledBy}
+use Rattle.isle_codegen.specs.Checked.{IsChecked}
+use Rattle.isle_run.specs.Trial.{args_given}
+
+-- what calls go to: the external constructor of a term, or a term with rules
+pub data IsServed (env : Environment) : Callee → Term → Type 0 where
+  external : (i : ℕ) (t : Term) (func : Sym) → slice_get env.terms i ≡ Some t → func_of t.kind ≡ Some func → IsServed env (callee.External (sym_text env func)) t
+  internal : (name : List ℕ) (id : TermId) (t : Term) → asked_term env name ≡ Some id → slice_get env.terms id.0 ≡ Some t → IsServed env (callee.Internal name) t
+
+-- no turns of these are the callee's
+abbrev pub HasNoTurns : Callee → List TurnAnswers → Type 0
+HasNoTurns c = AllByRecursion (λ (a : TurnAnswers). goes_to c (Some a.callee) ≡ false)
+
+-- turns behind these are right: their callee is there, none of these is its, and each answer is of its kind and type
+pub record AreRightTurns (env : Environment) (earlier : List TurnAnswers) (a : TurnAnswers) : Type 0 where
+  pub term : Term
+  pub served : IsServed env a.callee term
+  pub first : HasNoTurns a.callee earlier
+  pub turns : AllByRecursion (Fits env (kind_of term.kind) (term.ret_ty ∷ [])) a.turns
+  pub rest : Fits env (kind_of term.kind) (term.ret_ty ∷ []) a.rest
+
+-- so of each
+abbrev pub AllRight : Environment → (earlier later : List TurnAnswers) → Type 0
+AllRight env earlier [] = Unit {0}
+AllRight env earlier (a ∷ more) = AreRightTurns env earlier a × AllRight env (earlier ++ a ∷ []) more
+
+-- the source was checked, the term has rules, the values are of its types, and the text spells forms that are built and
+-- right, one for each callee of the term's rules
+pub record CanRun (files : Files) (term : List ℕ) (ws : Writtens) (text : List ℕ) : Type 0 where
+  pub env : Environment
+  pub checked : IsChecked files env
+  pub id : TermId
+  pub asked : asked_term env term ≡ Some id
+  pub declared : Term
+  pub there : slice_get env.terms id.0 ≡ Some declared
+  pub typed : HaveTypes env (args_given env term ws) declared.arg_tys
+  pub forms : List Form
+  pub spelt : SpellsForms text forms
+  pub built : are_built forms ≡ true
+  pub right : AllRight env [] (turns_at env forms)
+  pub answered : (c : Callee) → IsCalledBy env id c → HasNoTurns c (turns_at env forms) → ⊥
