@@ -1,9 +1,9 @@
 -- The parts of a right side: which rows they break.
-use Rattle.std.proofs.Common.{◌≡◌, ℕ, suc, ◌+◌, ◌<◌, Bool, true, false, cond, List, [], ◌∷◌, ◌++◌, length, map, Option, Some, None, refl, sym, ap, ◌∙◌, subst, arith}
+use Rattle.std.proofs.Common.{◌≡◌, ℕ, suc, ◌+◌, ◌<◌, Bool, true, false, List, [], ◌∷◌, ◌++◌, length, map, Option, Some, None, refl, sym, ap, ◌∙◌, subst, arith}
 use Rattle.std.specs.Prelude.{◌==◌, ◌&&◌, ◌||◌, not, is_some, option_map}
-use Rattle.std.specs.List.{AllByRecursion, list_any}
+use Rattle.std.specs.List.{list_any}
 use Rattle.std.proofs.lemmas.Bool.{or_parts, or_from, and_parts, and_from, not-false, eqb-true}
-use Rattle.std.proofs.lemmas.List.{length-append, length-map}
+use Rattle.std.proofs.lemmas.List.{length-append}
 use Rattle.isle_core.specs.declared.TypeId.{TypeId}
 use Rattle.isle_syntax.specs.Tree as tree
 use Rattle.isle_syntax.specs.Tree.{Expr, Exprs, NoExpr, AnExpr, Def}
@@ -24,7 +24,7 @@ use Rattle.isle_sema.specs.Context.{on}
 use Rattle.isle_sema.specs.Environment.{whole_of}
 use Rattle.isle_sema.proofs.Firsts.{any_parts, any_from}
 use Rattle.isle_sema.proofs.TypedConstants.{type_below}
-use Rattle.isle_sema.proofs.TypesNamed.{IsBelow, all_below, HasTypesOf, has_types, found_keeps, integers_at, truths_only, lifted, bound_lifted}
+use Rattle.isle_sema.proofs.TypesNamed.{has_types, found_keeps, integers_at, truths_only, lifted, bound_lifted}
 use Rattle.isle_sema.proofs.TypedExprs.{named_is}
 
 -- the parts of an expression over these variables

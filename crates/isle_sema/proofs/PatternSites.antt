@@ -1,30 +1,22 @@
 -- The parts of a rule's patterns: which rows they break, the variables after them, and their trees.
-use Rattle.std.proofs.Common.{◌≡◌, ℕ, suc, ◌<◌, Bool, true, false, List, [], ◌∷◌, ◌++◌, length, map, Option, Some, None, refl, sym, ap, ◌∙◌, subst, arith}
-use Rattle.std.specs.Prelude.{ℤ, ◌==◌, ◌||◌, not, is_some, option_map, flat_map}
+use Rattle.std.proofs.Common.{◌≡◌, ℕ, suc, Bool, false, List, [], ◌∷◌, ◌++◌, length, map, Option, Some, None, refl, sym, ap, ◌∙◌, arith}
+use Rattle.std.specs.Prelude.{◌==◌, ◌||◌, not, is_some, option_map, flat_map}
 use Rattle.std.specs.List.{AllByRecursion, list_any}
 use Rattle.std.proofs.lemmas.Bool.{or_parts, or_from}
 use Rattle.std.proofs.lemmas.List.{append-nil, append_assoc}
 use Rattle.isle_core.specs.declared.TypeId.{TypeId}
-use Rattle.isle_core.specs.declared.VarId.{VarId}
-use Rattle.isle_core.specs.Pattern as core_pattern
-use Rattle.isle_core.specs.Pattern.{Pattern as CorePattern}
 use Rattle.isle_syntax.specs.Tree as tree
 use Rattle.isle_syntax.specs.Tree.{Pattern, Def}
-use Rattle.isle_sema.specs.Symbols.{index_of, added, number_or, pattern_names}
-use Rattle.isle_sema.specs.Reduced.{reduced_at, typed_integer}
-use Rattle.isle_sema.specs.Elaborated.{patterns_at}
+use Rattle.isle_sema.specs.Symbols.{index_of, pattern_names}
 use Rattle.isle_sema.specs.Refused.{repeats_after, any_misplaced, typed_vars, type_in}
 use Rattle.isle_sema.specs.Resolved.{names_of}
-use Rattle.isle_sema.specs.Language.{is_built_pattern}
-use Rattle.isle_sema.specs.Scope.{Scope, scope_names, bound_at, met, met_by, variable, variable_by}
+use Rattle.isle_sema.specs.Scope.{Scope, bound_at, met, met_by}
 use Rattle.isle_sema.specs.Site.{Site, IntegerAt, TruthAt, WildcardAt, MetAt, NotBuiltAt}
 use Rattle.isle_sema.specs.Whole.{Whole}
-use Rattle.isle_sema.specs.PatternPass.{patterns_pass, tree_before}
+use Rattle.isle_sema.specs.PatternPass.{patterns_pass}
 use Rattle.isle_sema.specs.RuleRows.{is_misplaced, is_met_otherwise, is_other_type}
-use Rattle.isle_sema.specs.Environment.{whole_of, types_of}
-use Rattle.isle_sema.proofs.SymbolLaws.{index_of_new}
-use Rattle.isle_sema.proofs.BoundVariables.{none_of}
-use Rattle.isle_sema.proofs.TypesNamed.{IsBelow, integers_at, truths_only, integer_is, lifted, bound_lifted, names_lifted, lifted_more}
+use Rattle.isle_sema.specs.Environment.{whole_of}
+use Rattle.isle_sema.proofs.TypesNamed.{IsBelow, integers_at, truths_only, lifted, bound_lifted, lifted_more}
 use Rattle.isle_sema.proofs.Resolving.{same_there}
 
 -- the pass over patterns where these types are expected

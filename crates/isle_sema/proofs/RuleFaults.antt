@@ -25,11 +25,11 @@ use Rattle.isle_sema.specs.RuleRows.{is_misplaced, is_met_otherwise, is_unknown,
 use Rattle.isle_sema.specs.Context.{on}
 use Rattle.isle_sema.specs.Fault.{OfRules, broken_in, fault_after}
 use Rattle.isle_sema.specs.Environment.{whole_of}
-use Rattle.isle_sema.proofs.Firsts.{later_none, none_later, any_parts, any_from}
+use Rattle.isle_sema.proofs.Firsts.{later_none, none_later, any_from}
 use Rattle.isle_sema.proofs.TypedConstants.{type_below}
 use Rattle.isle_sema.proofs.TypesNamed.{all_below, HasTypesOf, has_types, found_keeps, lifted}
 use Rattle.isle_sema.proofs.PatternSites.{IsQuiet, sites_in, patterns_misplaced, patterns_quiet, patterns_count, patterns_once, patterns_scope}
-use Rattle.isle_sema.proofs.ExprSites.{parts, calls_made, AreKept, kept_parts, kept_both, IsTaken, expr_taken, expr_kept, is_partial_call, partial_parts, IsCalm, expr_calm, expr_count}
+use Rattle.isle_sema.proofs.ExprSites.{parts, calls_made, AreKept, kept_parts, kept_both, expr_taken, expr_kept, is_partial_call, partial_parts, IsCalm, expr_calm, expr_count}
 use Rattle.isle_sema.proofs.TermFaults.{is_headless}
 
 -- ---- the tests of a rule

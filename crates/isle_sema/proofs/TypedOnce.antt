@@ -1,5 +1,5 @@
 -- Definitions give at most one environment.
-use Rattle.std.proofs.Common.{◌≡◌, List, [], Some, sym, ap, ◌∙◌}
+use Rattle.std.proofs.Common.{◌≡◌, List, [], sym, ap, ◌∙◌}
 use Rattle.std.proofs.lemmas.Option.{same_Some}
 use Rattle.isle_core.specs.Rule.{Environment}
 use Rattle.isle_syntax.specs.Tree.{Def}

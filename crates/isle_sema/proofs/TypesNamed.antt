@@ -1,6 +1,6 @@
 -- Names of declared types, and what may stand at them.
-use Rattle.std.proofs.Common.{◌≡◌, ℕ, ◌<◌, Bool, true, false, cond, List, [], ◌∷◌, ◌++◌, map, Option, Some, None, refl, sym, ap, ◌∙◌, subst, arith}
-use Rattle.std.specs.Prelude.{ℤ, ◌==◌, ◌&&◌, ◌||◌, not, is_some, option_map, slice_get}
+use Rattle.std.proofs.Common.{◌≡◌, ℕ, ◌<◌, Bool, true, false, cond, List, [], ◌∷◌, ◌++◌, map, Option, Some, None, refl, sym, ap, ◌∙◌, subst}
+use Rattle.std.specs.Prelude.{ℤ, ◌==◌, ◌&&◌, not, is_some, option_map, slice_get}
 use Rattle.std.specs.List.{AllByRecursion, list_all, list_any}
 use Rattle.std.specs.Option.{option_map_or}
 use Rattle.std.specs.Str.{bytes_eq}
@@ -9,7 +9,6 @@ use Rattle.std.proofs.lemmas.List.{map-append}
 use Rattle.isle_core.specs.declared.TypeId.{TypeId}
 use Rattle.isle_core.specs.declared.types.TypeDef.{TypeDef}
 use Rattle.isle_syntax.specs.Tree.{Def}
-use Rattle.isle_sema.specs.Symbols.{index_of}
 use Rattle.isle_sema.specs.Builtins.{builtins, builtin_named}
 use Rattle.isle_sema.specs.Reduced.{reduced_at, integer_by, reduced_by, typed_integer}
 use Rattle.isle_sema.specs.Signatures.{Signature, signature_named}
@@ -17,7 +16,7 @@ use Rattle.isle_sema.specs.Elaborated.{type_of, type_or}
 use Rattle.isle_sema.specs.Refused.{names_no_type, type_in}
 use Rattle.isle_sema.specs.Resolved.{names_of}
 use Rattle.isle_sema.specs.TypeNames.{is_integer_def, is_bool_def, takes_integers, takes_truths}
-use Rattle.isle_sema.specs.Scope.{Scope, scope_names, bound_at, met}
+use Rattle.isle_sema.specs.Scope.{Scope, scope_names, bound_at}
 use Rattle.isle_sema.specs.Context.{on}
 use Rattle.isle_sema.specs.Environment.{types_of}
 use Rattle.isle_sema.proofs.TypedConstants.{integer_at, type_below}

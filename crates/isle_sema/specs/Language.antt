@@ -4,7 +4,7 @@ use Rattle.std.specs.List.{list_all, list_any}
 use Rattle.isle_syntax.specs.Tree as tree
 use Rattle.isle_syntax.specs.Tree.{Pattern, Expr, Exprs, NoExpr, AnExpr, IfLet, Def, Decl, ExternConstructor, Rule}
 use Rattle.isle_sema.specs.Symbols.{pattern_names}
-use Rattle.isle_sema.specs.Signatures.{Extern, RuleDef, externs, rule_defs}
+use Rattle.isle_sema.specs.Signatures.{Extern, RuleDef, rule_defs}
 use Rattle.isle_sema.specs.Calls.{calls_external, calls_ruled}
 use Rattle.isle_sema.specs.Refused.{repeats}
 

@@ -1,5 +1,5 @@
 -- The rows of rules, one definition each, over the parts of a rule where they stand.
-use Rattle.std.specs.Prelude.{ℕ, List, length, Bool, true, false, ◌==◌, ◌&&◌, ◌||◌, not, Option, Some, None, is_some, nat_le}
+use Rattle.std.specs.Prelude.{ℕ, length, Bool, true, false, ◌==◌, ◌&&◌, ◌||◌, not, Option, Some, None, is_some, nat_le}
 use Rattle.std.specs.List.{list_any}
 use Rattle.isle_core.specs.declared.TypeId.{TypeId}
 use Rattle.isle_syntax.specs.Tree.{Def}

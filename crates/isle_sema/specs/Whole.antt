@@ -1,5 +1,5 @@
 -- All definitions of a program over the types that they give, and what names mean in them.
-use Rattle.std.specs.Prelude.{ℕ, List, [], Bool, ◌||◌, Option, Some, None, is_some, map, option_map, option_and_then}
+use Rattle.std.specs.Prelude.{ℕ, List, [], Bool, ◌||◌, Option, Some, None, is_some, map}
 use Rattle.isle_core.specs.declared.TypeId.{TypeId}
 use Rattle.isle_core.specs.declared.types.TypeEnv.{TypeEnv}
 use Rattle.isle_syntax.specs.Tree.{Def}
