@@ -10,7 +10,7 @@ use Rattle.isle_syntax.specs.Tree as tree
 use Rattle.isle_syntax.specs.Tree.{Pattern}
 use Rattle.isle_sema.specs.Symbols.{index_of, added, number_or}
 use Rattle.isle_sema.specs.Elaborated.{var_of, pattern_at, vars_behind, patterns_at, vars_of}
-use Rattle.isle_sema.specs.Faults.{typed_vars, type_in}
+use Rattle.isle_sema.specs.Refused.{typed_vars, type_in}
 use Rattle.isle_sema.proofs.SymbolLaws.{index_of_new}
 
 -- ---- a name keeps its place

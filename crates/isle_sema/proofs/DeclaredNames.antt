@@ -14,9 +14,9 @@ use Rattle.isle_syntax.specs.Tree.{Def}
 use Rattle.isle_sema.specs.Symbols.{index_of, added, number_or, def_names, symbols}
 use Rattle.isle_sema.specs.Signatures.{Signature, Extern, RuleDef, signatures, externs, rule_defs}
 use Rattle.isle_sema.specs.Elaborated.{term_of}
-use Rattle.isle_sema.specs.Faults.{repeats, repeats_after}
+use Rattle.isle_sema.specs.Refused.{repeats, repeats_after}
 use Rattle.isle_sema.specs.Heads.{terms_of}
-use Rattle.isle_sema.specs.Typing.{env_of}
+use Rattle.isle_sema.proofs.Decided.{env_made}
 use Rattle.isle_sema.proofs.SymbolLaws.{index_of_more}
 use Rattle.isle_sema.proofs.BoundVariables.{none_of, stays_at, met}
 
@@ -109,13 +109,13 @@ are_among (tree.Passed head items pos ∷ defs) names = are_among defs names
 text_of : (syms : List (List ℕ)) (name : List ℕ) (n : ℕ) → index_of syms name ≡ Some n → get_or syms (number_or (index_of syms name)) [] ≡ name
 text_of syms name n e = ap (λ o. get_or syms (number_or o) []) e ∙ stands syms name n e
 
-texts_of : (defs : List Def) (xs : List Extern) (rules : List RuleDef) (sigs : List Signature) → AreAmong (symbols defs) sigs → map (λ (t : Term). sym_text (env_of defs) t.name) (map (term_of (symbols defs) xs rules) sigs) ≡ terms_of sigs
+texts_of : (defs : List Def) (xs : List Extern) (rules : List RuleDef) (sigs : List Signature) → AreAmong (symbols defs) sigs → map (λ (t : Term). sym_text (env_made defs) t.name) (map (term_of (symbols defs) xs rules) sigs) ≡ terms_of sigs
 unfolding AreAmong
 texts_of defs xs rules [] h = refl
 texts_of defs xs rules (s ∷ sigs) h =
     let rest = texts_of defs xs rules sigs h.1 in
-    ap (λ name. name ∷ map (λ (t : Term). sym_text (env_of defs) t.name) (map (term_of (symbols defs) xs rules) sigs)) (text_of (symbols defs) s.term h.0.0 h.0.1) ∙ ap (λ names. s.term ∷ names) rest
+    ap (λ name. name ∷ map (λ (t : Term). sym_text (env_made defs) t.name) (map (term_of (symbols defs) xs rules) sigs)) (text_of (symbols defs) s.term h.0.0 h.0.1) ∙ ap (λ names. s.term ∷ names) rest
 
 -- the names of the terms are the declared names
-pub declared_names : (defs : List Def) → map (λ (t : Term). sym_text (env_of defs) t.name) (env_of defs).terms ≡ terms_of (signatures defs)
+pub declared_names : (defs : List Def) → map (λ (t : Term). sym_text (env_made defs) t.name) (env_made defs).terms ≡ terms_of (signatures defs)
 declared_names defs = texts_of defs (externs defs) (rule_defs defs) (signatures defs) (are_among defs [])

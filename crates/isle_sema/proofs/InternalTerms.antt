@@ -17,11 +17,12 @@ use Rattle.isle_core.specs.Rule.{Rule, Environment}
 use Rattle.isle_core.specs.Terms.{term_ids, has_rules, with_rules}
 use Rattle.isle_syntax.specs.Tree.{Def}
 use Rattle.isle_sema.specs.Symbols.{index_of, symbols}
-use Rattle.isle_sema.specs.Signatures.{Signature, Extern, RuleDef, signatures, externs, rule_defs, term_named, func_named, has_rule}
-use Rattle.isle_sema.specs.Elaborated.{constructor_of, signature_named, term_or, rules_from}
-use Rattle.isle_sema.specs.Faults.{breaks, rules_fault}
+use Rattle.isle_sema.specs.Signatures.{Signature, Extern, RuleDef, signatures, externs, rule_defs, term_named, func_named, has_rule, signature_named}
+use Rattle.isle_sema.specs.Elaborated.{constructor_of, term_or, rules_from}
+use Rattle.isle_sema.specs.Refused.{breaks, rules_fault}
 use Rattle.isle_sema.specs.Heads.{terms_of}
 use Rattle.isle_sema.specs.Typing.{Typed}
+use Rattle.isle_sema.proofs.Deciding.{decided}
 use Rattle.isle_sema.proofs.LookUps.{at_place, named_at}
 use Rattle.isle_sema.proofs.Parts.{sound_rules}
 use Rattle.isle_sema.proofs.TypedExprs.{named_is}
@@ -84,6 +85,6 @@ typed_internal defs env id t h among at =
     let d = declared defs env id.0 t h at in
     let s = d.0 in
     let has : has_rules env id ≡ true = All-contains (λ (x : TermId). has_rules env x ≡ true) (with_rules env) id (All-from_recursion (λ (x : TermId). has_rules env x ≡ true) (with_rules env) (keeps (has_rules env) (term_ids env))) among in
-    let r = ruled (symbols defs) (signatures defs) (externs defs) id.0 s 0 (rule_defs defs) d.1 (sound_rules defs h.sound) (ap (λ (e : Environment). has_rules e id) (sym h.given) ∙ has) in
+    let r = ruled (symbols defs) (signatures defs) (externs defs) id.0 s 0 (rule_defs defs) d.1 (sound_rules defs (decided h).sound) (ap (λ (e : Environment). has_rules e id) (sym (decided h).given) ∙ has) in
     let by = internal (symbols defs) (func_named (externs defs) s.term) (has_rule (rule_defs defs) s.term) r.0 r.1 in
     (s.partial, ap (λ (c : ConstructorKind). kind.Decl false false s.partial false c extractor.Absent) (sym by) ∙ ap (λ (u : Term). u.kind) d.2)

@@ -1,5 +1,5 @@
+pub mod Decided
 pub mod Parts
-pub mod TypedOnce
 pub mod SymbolLaws
 pub mod Sees
 pub mod MetVariables
@@ -9,6 +9,17 @@ pub mod TypedConstants
 pub mod BoundVariables
 pub mod VariablesOnce
 pub mod TypedExprs
+pub mod Firsts
+pub mod TermFaults
+pub mod TypesNamed
+pub mod Resolving
+pub mod PatternSites
+pub mod ExprSites
+pub mod RuleFaults
+pub mod RuleTrees
+pub mod Soundness
+pub mod Deciding
+pub mod TypedOnce
 pub mod TypedRules
 pub mod OneRule
 pub mod DeclaredNames
@@ -26,6 +37,4 @@ pub mod KnownLaws
 pub mod VariableLaws
 pub mod Steps
 pub mod Placing
-pub mod Resolving
-pub mod Soundness
 pub mod TermEnvs

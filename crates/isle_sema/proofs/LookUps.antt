@@ -8,8 +8,7 @@ use Rattle.std.specs.Str.{bytes_eq}
 use Rattle.std.proofs.lemmas.Option.{slice_get_past, slice_get_read, slice_get_within, get_or_from_slice_get}
 use Rattle.std.proofs.lemmas.List.{drop_more}
 use Rattle.isle_sema.specs.Symbols.{index_of}
-use Rattle.isle_sema.specs.Signatures.{Signature, Extern, func_named}
-use Rattle.isle_sema.specs.Elaborated.{signature_named}
+use Rattle.isle_sema.specs.Signatures.{Signature, Extern, func_named, signature_named}
 use Rattle.isle_sema.specs.Heads.{terms_of, extern_terms}
 
 -- what stands at a place, if there is one

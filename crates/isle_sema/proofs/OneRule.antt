@@ -8,11 +8,12 @@ use Rattle.isle_core.specs.declared.TermId.{TermId}
 use Rattle.isle_core.specs.Rule.{Rule, Environment, rules_of}
 use Rattle.isle_syntax.specs.Tree.{Def}
 use Rattle.isle_sema.specs.Symbols.{index_of, symbols}
-use Rattle.isle_sema.specs.Signatures.{Signature, Extern, RuleDef, signatures, externs, rule_defs, term_named, func_named}
-use Rattle.isle_sema.specs.Elaborated.{signature_named, term_or, rule_over, rules_from}
-use Rattle.isle_sema.specs.Faults.{repeats_after, breaks, rules_fault}
+use Rattle.isle_sema.specs.Signatures.{Signature, Extern, RuleDef, signatures, externs, rule_defs, term_named, func_named, signature_named}
+use Rattle.isle_sema.specs.Elaborated.{term_or, rule_over, rules_from}
+use Rattle.isle_sema.specs.Refused.{repeats_after, breaks, rules_fault}
 use Rattle.isle_sema.specs.Heads.{terms_of, heads_of}
 use Rattle.isle_sema.specs.Typing.{Typed}
+use Rattle.isle_sema.proofs.Deciding.{decided}
 use Rattle.isle_sema.proofs.Parts.{heads_apart, sound_rules}
 use Rattle.isle_sema.proofs.SymbolLaws.{index_of_new}
 use Rattle.isle_sema.proofs.LookUps.{at_place, named_at}
@@ -114,5 +115,5 @@ one_left syms sigs before n i (r ∷ rules) h are =
 -- a term has at most one rule
 pub typed_one : (defs : List Def) (env : Environment) (id : TermId) → Typed defs env → length (rules_of env id) ≤ 1
 typed_one defs env id h =
-    subst (λ (e : Environment). length (rules_of e id) ≤ 1) (sym h.given)
-    (one_left (symbols defs) (signatures defs) [] id.0 0 (rule_defs defs) (heads_apart defs h.built) (rooted (signatures defs) (externs defs) (rule_defs defs) (sound_rules defs h.sound)))
+    subst (λ (e : Environment). length (rules_of e id) ≤ 1) (sym (decided h).given)
+    (one_left (symbols defs) (signatures defs) [] id.0 0 (rule_defs defs) (heads_apart defs (decided h).built) (rooted (signatures defs) (externs defs) (rule_defs defs) (sound_rules defs (decided h).sound)))

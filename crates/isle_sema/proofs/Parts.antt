@@ -5,27 +5,28 @@ use Rattle.std.specs.List.{list_all, list_any}
 use Rattle.std.proofs.lemmas.Bool.{or_parts, and_parts, not-true}
 use Rattle.isle_syntax.specs.Tree.{Def}
 use Rattle.isle_sema.specs.Signatures.{signatures, externs, rule_defs}
-use Rattle.isle_sema.specs.Faults.{repeats, names_no_type, has_too_many, signatures_fault, externs_fault, rules_fault, has_fault}
-use Rattle.isle_sema.specs.Language.{is_built_def, rules_call_external, are_built}
+use Rattle.isle_sema.specs.Refused.{repeats, names_no_type, has_too_many, signatures_fault, externs_fault, rules_fault, has_fault}
+use Rattle.isle_sema.specs.Language.{is_built_def, rules_call_external}
+use Rattle.isle_sema.proofs.Decided.{are_external}
 use Rattle.isle_sema.specs.Heads.{terms_of, heads_of}
 
 -- ---- what is built
 
-forms_and_heads : (defs : List Def) → are_built defs ≡ true → (list_all is_built_def defs ≡ true) × (not (repeats (heads_of (rule_defs defs))) ≡ true)
+forms_and_heads : (defs : List Def) → are_external defs ≡ true → (list_all is_built_def defs ≡ true) × (not (repeats (heads_of (rule_defs defs))) ≡ true)
 forms_and_heads defs h =
     let k = and_parts (list_all is_built_def defs && not (repeats (heads_of (rule_defs defs)))) (rules_call_external (externs defs) (rule_defs defs)) h in
     and_parts (list_all is_built_def defs) (not (repeats (heads_of (rule_defs defs)))) k.0
 
 -- each definition is
-pub forms : (defs : List Def) → are_built defs ≡ true → list_all is_built_def defs ≡ true
+pub forms : (defs : List Def) → are_external defs ≡ true → list_all is_built_def defs ≡ true
 forms defs h = (forms_and_heads defs h).0
 
 -- no term has two rules
-pub heads_apart : (defs : List Def) → are_built defs ≡ true → repeats (heads_of (rule_defs defs)) ≡ false
+pub heads_apart : (defs : List Def) → are_external defs ≡ true → repeats (heads_of (rule_defs defs)) ≡ false
 heads_apart defs h = not-true (repeats (heads_of (rule_defs defs))) (forms_and_heads defs h).1
 
 -- only terms with external constructors are called
-pub calls : (defs : List Def) → are_built defs ≡ true → rules_call_external (externs defs) (rule_defs defs) ≡ true
+pub calls : (defs : List Def) → are_external defs ≡ true → rules_call_external (externs defs) (rule_defs defs) ≡ true
 calls defs h = (and_parts (list_all is_built_def defs && not (repeats (heads_of (rule_defs defs)))) (rules_call_external (externs defs) (rule_defs defs)) h).1
 
 -- ---- what has no fault

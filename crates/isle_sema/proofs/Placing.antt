@@ -7,9 +7,8 @@ use Rattle.std.proofs.lemmas.Option.{same_Some, slice_get-map, slice_get-get_or}
 use Rattle.std.proofs.lemmas.List.{drop_more, take_more, map-append}
 use Rattle.isle_sema.specs.declared.collected.Extern.{Extern as CodeExtern}
 use Rattle.isle_sema.specs.Symbols.{index_of, number_or}
-use Rattle.isle_sema.specs.Signatures.{Signature, Extern, RuleDef, func_named, has_rule}
+use Rattle.isle_sema.specs.Signatures.{Signature, Extern, RuleDef, func_named, has_rule, signature_named}
 use Rattle.isle_sema.specs.Collected.{extern}
-use Rattle.isle_sema.specs.Elaborated.{signature_named}
 use Rattle.isle_sema.specs.Heads.{terms_of, extern_terms, heads_of}
 use Rattle.isle_sema.specs.Numbered.{AreNumbered, place_in}
 use Rattle.isle_sema.specs.Sound.{has_undeclared}

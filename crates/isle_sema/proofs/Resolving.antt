@@ -16,10 +16,10 @@ use Rattle.isle_syntax.specs.Tree as tree
 use Rattle.isle_syntax.specs.Tree.{Pattern, Expr, Exprs, NoExpr, AnExpr}
 use Rattle.isle_sema.specs.Symbols.{index_of, added, number_or, sym_of, pattern_names}
 use Rattle.isle_sema.specs.Reduced.{reduced_at}
-use Rattle.isle_sema.specs.Signatures.{Signature, RuleDef, term_named, func_named}
-use Rattle.isle_sema.specs.Elaborated.{type_of, patterns_at, vars_of, signature_named, arg_types, term_or, expr_at, exprs_at, rule_over, rules_from}
-use Rattle.isle_sema.specs.Calls.{calls_external, all_call_external, is_partial_named, calls_partial, any_calls_partial}
-use Rattle.isle_sema.specs.Faults.{repeats_after, any_misplaced, typed_vars, type_in, is_other, is_miscalled, count_of, is_wrong, any_wrong, is_rhs_wrong, is_too_large, breaks}
+use Rattle.isle_sema.specs.Signatures.{Signature, RuleDef, term_named, func_named, signature_named}
+use Rattle.isle_sema.specs.Elaborated.{type_of, patterns_at, vars_of, arg_types, term_or, expr_at, exprs_at, rule_over, rules_from}
+use Rattle.isle_sema.specs.Calls.{calls_external, all_call_external, is_partial_named, calls_partial, any_calls_partial, count_of}
+use Rattle.isle_sema.specs.Refused.{repeats_after, any_misplaced, typed_vars, type_in, is_other, is_miscalled, is_wrong, any_wrong, is_rhs_wrong, is_too_large, breaks}
 use Rattle.isle_sema.specs.Sound.{binds_twice}
 use Rattle.isle_sema.specs.Resolved.{Names, Called, called_as, names_of, pattern_then, patterns_in, var_with, variable_in, call_of, expr_then, expr_in, exprs_in, rule_on, rule_with, rule_of, rule_then, rules_in}
 use Rattle.isle_sema.proofs.SymbolLaws.{index_of_new}
@@ -85,7 +85,7 @@ bound_names : (name : List ℕ) (ty : TypeId) (ps : List Pattern) (tys : List Ty
 bound_names name ty ps tys before new h = ap (λ b. vars_of ps (cond b before (before ++ name ∷ []))) new ∙ h ∙ append_assoc before (name ∷ []) (names_of (typed_vars ps tys))
 
 -- the variables of patterns that bind none twice are those with types
-typed_names : (ps : List Pattern) (tys : List TypeId) (before : List (List ℕ)) → length ps ≡ length tys → repeats_after before (flat_map pattern_names ps) ≡ false → vars_of ps before ≡ before ++ names_of (typed_vars ps tys)
+pub typed_names : (ps : List Pattern) (tys : List TypeId) (before : List (List ℕ)) → length ps ≡ length tys → repeats_after before (flat_map pattern_names ps) ≡ false → vars_of ps before ≡ before ++ names_of (typed_vars ps tys)
 typed_names [] [] before same h = sym (append-nil before)
 typed_names [] (ty ∷ tys) before same h = absurd (omega arith)
 typed_names (p ∷ ps) [] before same h = absurd (omega arith)
@@ -118,7 +118,7 @@ same_first false ty None t h = h
 same_first false ty (Some n) t h = h
 
 -- a variable has a number where it has a type
-same_there : (vars : List (List ℕ × TypeId)) (name : List ℕ) → is_some (index_of (names_of vars) name) ≡ is_some (type_in vars name)
+pub same_there : (vars : List (List ℕ × TypeId)) (name : List ℕ) → is_some (index_of (names_of vars) name) ≡ is_some (type_in vars name)
 same_there [] name = refl
 same_there (v ∷ vars) name = same_first (bytes_eq v.0 name) v.1 (index_of (names_of vars) name) (type_in vars name) (same_there vars name)
 

@@ -13,15 +13,16 @@ use Rattle.isle_sema.specs.declared.collected.RuleDef.{RuleDef as CodeRule}
 use Rattle.isle_sema.specs.Symbols.{symbols}
 use Rattle.isle_sema.specs.Builtins.{builtins}
 use Rattle.isle_sema.specs.Collected.{signature, extern, rule, AreCollected}
-use Rattle.isle_sema.specs.Typing.{types_of, Typed}
+use Rattle.isle_sema.specs.Environment.{types_of}
 use Rattle.isle_syntax.specs.Tree as tree
 use Rattle.isle_syntax.specs.Tree.{Def}
 use Rattle.isle_sema.specs.Signatures.{Signature, Extern, RuleDef, signatures, externs, rule_defs}
 use Rattle.isle_sema.specs.Calls.{calls_external}
 use Rattle.isle_sema.specs.Elaborated.{term_of, rules_from}
-use Rattle.isle_sema.specs.Faults.{repeats, names_no_type, has_too_many, signatures_fault, externs_fault, rules_fault, has_fault}
+use Rattle.isle_sema.specs.Refused.{repeats, names_no_type, has_too_many, signatures_fault, externs_fault, rules_fault, has_fault}
 use Rattle.isle_sema.specs.Heads.{terms_of, extern_terms, heads_of}
-use Rattle.isle_sema.specs.Language.{is_built_pattern, are_none, is_built_expr, is_built_def, rules_call_external, are_built}
+use Rattle.isle_sema.specs.Language.{is_built_pattern, are_none, is_built_expr, is_built_def, rules_call_external}
+use Rattle.isle_sema.proofs.Decided.{are_external, IsDecided}
 use Rattle.isle_sema.specs.Forms.{is_built_form}
 use Rattle.isle_sema.specs.Resolved.{Names, rules_in}
 use Rattle.isle_sema.specs.Sound.{binds_twice, is_misdeclared, has_undeclared, are_sound, HasTermEnv}
@@ -157,7 +158,7 @@ other_bools false a b = refl
 pub built_forms : (defs : List Def) → list_all is_built_def defs ≡ list_all is_built_form defs && not (list_any binds_twice (rule_defs defs))
 built_forms [] = refl
 built_forms (tree.Rule name prio term args iflets rhs pos ∷ defs) =
-    let r : RuleDef = record { name = name; prio = prio; term = term; args = args; rhs = rhs; pos = pos } in
+    let r : RuleDef = record { name = name; prio = prio; term = term; args = args; iflets = iflets; rhs = rhs; pos = pos } in
     ap (λ b. ((list_all is_built_pattern args && are_none iflets && is_built_expr rhs) && not (binds_twice r)) && b) (built_forms defs)
     ∙ form_bools (list_all is_built_pattern args && are_none iflets && is_built_expr rhs) (binds_twice r) (list_all is_built_form defs) (list_any binds_twice (rule_defs defs))
 built_forms (tree.Decl term pure multi partial recursive args ret pos ∷ defs) =
@@ -180,7 +181,7 @@ sound_bools true true true true S = refl
 sound_bools true true true false S = refl
 
 -- definitions are built and have no fault where their forms are built and they are sound
-pub sound_defs : (defs : List Def) → list_all is_built_form defs && are_sound (signatures defs) (externs defs) (rule_defs defs) ≡ are_built defs && not (has_fault defs)
+pub sound_defs : (defs : List Def) → list_all is_built_form defs && are_sound (signatures defs) (externs defs) (rule_defs defs) ≡ are_external defs && not (has_fault defs)
 sound_defs defs =
     let rules = rule_defs defs in
     sound_bools (list_all is_built_form defs) (not (repeats (heads_of rules))) (rules_call_external (externs defs) rules) (not (list_any binds_twice rules)) (has_fault defs)
@@ -219,11 +220,11 @@ sound_all defs syms sigs xs rules k =
 
 -- the environment of collected definitions
 pub typed_from : (defs : List Def) (syms : List (List ℕ)) (sigs : List CodeSignature) (xs : List CodeExtern) (rules : List CodeRule) (t : TermEnv) (types : TypeEnv) → AreCollected defs syms sigs xs rules → list_all is_built_form defs ≡ true
-    → HasTermEnv syms (map signature sigs) (map extern xs) (map rule rules) t → types ≡ types_of defs → Typed defs (environment types t)
+    → HasTermEnv syms (map signature sigs) (map extern xs) (map rule rules) t → types ≡ types_of defs → IsDecided defs (environment types t)
 unfolding made
 typed_from defs syms sigs xs rules t types k forms h is =
     let all : list_all is_built_form defs && are_sound (signatures defs) (externs defs) (rule_defs defs) ≡ true = and_from _ _ forms (sound_all defs syms sigs xs rules k ∙ h.sound) in
-    let p = and_parts (are_built defs) (not (has_fault defs)) (sym (sound_defs defs) ∙ all) in
+    let p = and_parts (are_external defs) (not (has_fault defs)) (sym (sound_defs defs) ∙ all) in
     record {
       built = p.0;
       sound = not-true (has_fault defs) p.1;
@@ -237,11 +238,11 @@ typed_from defs syms sigs xs rules t types k forms h is =
 
 -- definitions that are not sound give none
 pub untyped_from : (defs : List Def) (syms : List (List ℕ)) (sigs : List CodeSignature) (xs : List CodeExtern) (rules : List CodeRule) → AreCollected defs syms sigs xs rules → are_sound (map signature sigs) (map extern xs) (map rule rules) ≡ false
-    → (env : Environment) → Typed defs env → ⊥
+    → (env : Environment) → IsDecided defs env → ⊥
 untyped_from defs syms sigs xs rules k unsound env t =
     let all : list_all is_built_form defs && are_sound (signatures defs) (externs defs) (rule_defs defs) ≡ true = sound_defs defs ∙ and_from _ _ t.built (ap not t.sound) in
     both (and_parts (list_all is_built_form defs) (are_sound (signatures defs) (externs defs) (rule_defs defs)) all).1 (sound_all defs syms sigs xs rules k ∙ unsound)
 
 -- nor do definitions of other forms
-pub untyped_forms : (defs : List Def) → list_all is_built_form defs ≡ false → (env : Environment) → Typed defs env → ⊥
+pub untyped_forms : (defs : List Def) → list_all is_built_form defs ≡ false → (env : Environment) → IsDecided defs env → ⊥
 untyped_forms defs f env t = unformed defs f (forms defs t.built)

@@ -60,7 +60,7 @@ are_integers : AllByRecursion IsInteger integers
 unfolding IsInteger integers
 are_integers = ((U8, refl), ((U16, refl), ((U32, refl), ((U64, refl), ((U128, refl), ((USize, refl), ((I8, refl), ((I16, refl), ((I32, refl), ((I64, refl), ((I128, refl), ((ISize, refl), tt))))))))))))
 
-integer_at : (n : ℕ) → n < 13 → n == 0 ≡ false → (ty : IntType) × (slice_get builtins n ≡ Some (Builtin (Int ty)))
+pub integer_at : (n : ℕ) → n < 13 → n == 0 ≡ false → (ty : IntType) × (slice_get builtins n ≡ Some (Builtin (Int ty)))
 unfolding IsInteger integers
 integer_at zero lt e = cc
 integer_at (suc n) lt e =

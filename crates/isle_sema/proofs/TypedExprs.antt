@@ -25,14 +25,14 @@ use Rattle.isle_syntax.specs.Tree as tree
 use Rattle.isle_syntax.specs.Tree.{Pattern, Expr, Exprs, NoExpr, AnExpr, Def}
 use Rattle.isle_sema.specs.Symbols.{index_of, symbols}
 use Rattle.isle_sema.specs.Builtins.{builtins, type_id}
-use Rattle.isle_sema.specs.Signatures.{Signature, signatures, externs, rule_defs, func_named, has_rule}
-use Rattle.isle_sema.specs.Elaborated.{type_of, patterns_at, vars_of, expr_at, exprs_at, constructor_of, term_of, signature_named, arg_types, term_or}
-use Rattle.isle_sema.specs.Calls.{calls_external, all_call_external, is_partial_named, calls_partial, any_calls_partial}
-use Rattle.isle_sema.specs.Faults.{typed_vars, type_in, is_other, is_miscalled, count_of, is_wrong, any_wrong}
+use Rattle.isle_sema.specs.Signatures.{Signature, signatures, externs, rule_defs, func_named, has_rule, signature_named}
+use Rattle.isle_sema.specs.Elaborated.{type_of, patterns_at, vars_of, expr_at, exprs_at, constructor_of, term_of, arg_types, term_or}
+use Rattle.isle_sema.specs.Calls.{calls_external, all_call_external, is_partial_named, calls_partial, any_calls_partial, count_of}
+use Rattle.isle_sema.specs.Refused.{typed_vars, type_in, is_other, is_miscalled, is_wrong, any_wrong}
 use Rattle.isle_sema.specs.Language.{is_built_expr, are_built_exprs}
 use Rattle.isle_sema.specs.Heads.{terms_of}
 use Rattle.isle_sema.specs.TypedRule.{IsExternalKind, IsExprOf, AreExprsOf}
-use Rattle.isle_sema.specs.Typing.{env_of}
+use Rattle.isle_sema.proofs.Decided.{env_made}
 use Rattle.isle_sema.proofs.LookUps.{at_place, named_at}
 use Rattle.isle_sema.proofs.TypedConstants.{type_below, integer_typed}
 use Rattle.isle_sema.proofs.BoundVariables.{bound_in}
@@ -42,7 +42,7 @@ use Rattle.isle_sema.proofs.BoundVariables.{bound_in}
 is_bool : (ty : TypeId) → not (ty.0 == 0) ≡ false → ty ≡ bool_type
 is_bool ty h = ap type_id (eqb-true ty.0 0 (not-false (ty.0 == 0) h))
 
-pub truth_typed : (defs : List Def) (b : Bool) (ty : TypeId) → not (ty.0 == 0) ≡ false → HasType (env_of defs) (Truth b) ty
+pub truth_typed : (defs : List Def) (b : Bool) (ty : TypeId) → not (ty.0 == 0) ≡ false → HasType (env_made defs) (Truth b) ty
 truth_typed defs b ty h =
     let is : ty.0 ≡ 0 = eqb-true ty.0 0 (not-false (ty.0 == 0) h) in
     subst (λ n. IsSomeAnd (slice_get builtins n) (λ d. IsOfDef d (Truth b))) (sym is) tt
@@ -51,7 +51,7 @@ same_type : (of ty : TypeId) → is_other (Some of) ty ≡ false → of ≡ ty
 same_type of ty h = ap type_id (eqb-true of.0 ty.0 (not-false (of.0 == ty.0) h))
 
 variable_typed : (defs : List Def) (allowed : Bool) (ty : TypeId) (ps : List Pattern) (tys : List TypeId) (x : List ℕ) (o : Option TypeId) → type_in (typed_vars ps tys) x ≡ o → is_other o ty ≡ false
-    → IsExprOf (env_of defs) allowed (patterns_at tys ps []) ty (expr_at (signatures defs) ty (tree.Name x) (vars_of ps []))
+    → IsExprOf (env_made defs) allowed (patterns_at tys ps []) ty (expr_at (signatures defs) ty (tree.Name x) (vars_of ps []))
 variable_typed defs allowed ty ps tys x None e h = cc
 variable_typed defs allowed ty ps tys x (Some of) e h = (refl, bound_in ps tys [] x ty (e ∙ ap Some (same_type of ty h)))
 
@@ -78,19 +78,19 @@ external_kind syms allowed partial has (Some func) some h = h
 -- a call of what is found, on arguments that are typed where it is found
 call_typed : (defs : List Def) (allowed : Bool) (args : List CorePattern) (vars : List (List ℕ)) (ty : TypeId) (f : List ℕ) (es : Exprs) (o : Option ℕ) (x : Option Signature)
     → at_place (signatures defs) o ≡ x → ((s : Signature) → x ≡ Some s → s.term ≡ f) → is_some (func_named (externs defs) f) ≡ true → is_miscalled x (count_of es) ty ≡ false → not allowed && is_partial_named x ≡ false
-    → ((s : Signature) → x ≡ Some s → count_of es ≡ length s.args → AreExprsOf (env_of defs) allowed args (map type_of s.args) (exprs_at (signatures defs) (map type_of s.args) es vars))
-    → IsExprOf (env_of defs) allowed args ty (core_expr.Term ty (term_or (option_map (λ (n : ℕ). record { 0 = n }) o)) (exprs_at (signatures defs) (arg_types x) es vars))
+    → ((s : Signature) → x ≡ Some s → count_of es ≡ length s.args → AreExprsOf (env_made defs) allowed args (map type_of s.args) (exprs_at (signatures defs) (map type_of s.args) es vars))
+    → IsExprOf (env_made defs) allowed args ty (core_expr.Term ty (term_or (option_map (λ (n : ℕ). record { 0 = n }) o)) (exprs_at (signatures defs) (arg_types x) es vars))
 call_typed defs allowed args vars ty f es o None at named external called partial typed = cc
 call_typed defs allowed args vars ty f es None (Some s) at named external called partial typed = cc
 call_typed defs allowed args vars ty f es (Some n) (Some s) at named external called partial typed =
     let of = term_of (symbols defs) (externs defs) (rule_defs defs) in
     let k = or_parts (not (count_of es == length s.args)) (is_other (Some (type_of s.ret)) ty) called in
     let count = eqb-true (count_of es) (length s.args) (not-false (count_of es == length s.args) k.0) in
-    let there : slice_get (env_of defs).terms n ≡ Some (of s) = slice_get-map of (signatures defs) n ∙ ap (option_map of) at in
+    let there : slice_get (env_made defs).terms n ≡ Some (of s) = slice_get-map of (signatures defs) n ∙ ap (option_map of) at in
     let func = ap (λ name. is_some (func_named (externs defs) name)) (named s refl) ∙ external in
     let kind_is = external_kind (symbols defs) allowed s.partial (has_rule (rule_defs defs) s.term) (func_named (externs defs) s.term) func (allowed_where allowed s.partial partial) in (
       refl,
-      subst (λ (u : Option Term). IsSomeAnd u (λ (c : Term). IsExternalKind allowed c.kind × (c.ret_ty ≡ ty) × AreExprsOf (env_of defs) allowed args c.arg_tys (exprs_at (signatures defs) (map type_of s.args) es vars))) (sym there)
+      subst (λ (u : Option Term). IsSomeAnd u (λ (c : Term). IsExternalKind allowed c.kind × (c.ret_ty ≡ ty) × AreExprsOf (env_made defs) allowed args c.arg_tys (exprs_at (signatures defs) (map type_of s.args) es vars))) (sym there)
           (kind_is, same_type (type_of s.ret) ty k.1, typed s refl count),
     )
 
@@ -104,7 +104,7 @@ mutual
   -- an expression that is built, calls external terms, and is not wrong
   pub expr_typed : (defs : List Def) (allowed : Bool) (ps : List Pattern) (tys : List TypeId) (name : List ℕ) (e : Expr) → is_built_expr e ≡ true → calls_external (externs defs) e ≡ true
       → is_wrong (signatures defs) (typed_vars ps tys) e (type_of name) ≡ false → not allowed && calls_partial (signatures defs) e ≡ false
-      → IsExprOf (env_of defs) allowed (patterns_at tys ps []) (type_of name) (expr_at (signatures defs) (type_of name) e (vars_of ps []))
+      → IsExprOf (env_made defs) allowed (patterns_at tys ps []) (type_of name) (expr_at (signatures defs) (type_of name) e (vars_of ps []))
   expr_typed defs allowed ps tys name (tree.Number n) built external h partial = (refl, integer_typed (type_of name).0 n (type_below name) h)
   expr_typed defs allowed ps tys name (tree.Fact b) built external h partial = (sym (is_bool (type_of name) h), truth_typed defs b (type_of name) h)
   expr_typed defs allowed ps tys name (tree.Name x) built external h partial = variable_typed defs allowed (type_of name) ps tys x (type_in (typed_vars ps tys) x) refl h
@@ -123,7 +123,7 @@ mutual
   -- so of expressions in order
   pub exprs_typed : (defs : List Def) (allowed : Bool) (ps : List Pattern) (tys : List TypeId) (names : List (List ℕ)) (es : Exprs) → count_of es ≡ length names → are_built_exprs es ≡ true → all_call_external (externs defs) es ≡ true
       → any_wrong (signatures defs) (typed_vars ps tys) es (map type_of names) ≡ false → not allowed && any_calls_partial (signatures defs) es ≡ false
-      → AreExprsOf (env_of defs) allowed (patterns_at tys ps []) (map type_of names) (exprs_at (signatures defs) (map type_of names) es (vars_of ps []))
+      → AreExprsOf (env_made defs) allowed (patterns_at tys ps []) (map type_of names) (exprs_at (signatures defs) (map type_of names) es (vars_of ps []))
   exprs_typed defs allowed ps tys [] NoExpr count built external h partial = tt
   exprs_typed defs allowed ps tys [] (AnExpr e es) count built external h partial = absurd (omega arith)
   exprs_typed defs allowed ps tys (name ∷ names) NoExpr count built external h partial = absurd (omega arith)

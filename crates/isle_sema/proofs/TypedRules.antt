@@ -18,14 +18,17 @@ use Rattle.isle_syntax.specs.Tree as tree
 use Rattle.isle_syntax.specs.Tree.{Pattern, Def}
 use Rattle.isle_sema.specs.Elaborated as elaborated
 use Rattle.isle_sema.specs.Symbols.{index_of, pattern_names, symbols}
-use Rattle.isle_sema.specs.Signatures.{Signature, RuleDef, signatures, externs, rule_defs, term_named, func_named}
-use Rattle.isle_sema.specs.Elaborated.{type_of, pattern_at, vars_behind, patterns_at, term_of, signature_named, term_or, rule_over, rules_from}
+use Rattle.isle_sema.specs.Signatures.{Signature, RuleDef, signatures, externs, rule_defs, term_named, func_named, signature_named}
+use Rattle.isle_sema.specs.Elaborated.{type_of, pattern_at, vars_behind, patterns_at, term_of, term_or, rule_over, rules_from}
 use Rattle.isle_sema.specs.Calls.{calls_external, calls_partial}
-use Rattle.isle_sema.specs.Faults.{repeats, is_misplaced, any_misplaced, typed_vars, is_wrong, is_rhs_wrong, is_too_large, breaks, rules_fault, has_fault}
-use Rattle.isle_sema.specs.Language.{is_built_def, is_built_expr, is_built_pattern, are_none, rules_call_external, are_built}
+use Rattle.isle_sema.specs.Refused.{repeats, is_misplaced, any_misplaced, typed_vars, is_wrong, is_rhs_wrong, is_too_large, breaks, rules_fault, has_fault}
+use Rattle.isle_sema.specs.Language.{is_built_def, is_built_expr, is_built_pattern, are_none, rules_call_external}
+use Rattle.isle_sema.proofs.Decided.{are_external}
 use Rattle.isle_sema.specs.Heads.{terms_of}
 use Rattle.isle_sema.specs.TypedRule.{IsPatternOf, ArePatternsOf, IsExprOf, IsRuleOf, IsTypedRule}
-use Rattle.isle_sema.specs.Typing.{env_of, Typed}
+use Rattle.isle_sema.specs.Typing.{Typed}
+use Rattle.isle_sema.proofs.Deciding.{decided}
+use Rattle.isle_sema.proofs.Decided.{env_made}
 use Rattle.isle_sema.proofs.LookUps.{at_place, named_at}
 use Rattle.isle_sema.proofs.Parts.{forms, calls, sound_rules}
 use Rattle.isle_sema.proofs.TypedConstants.{type_below, integer_typed}
@@ -35,7 +38,7 @@ use Rattle.isle_sema.proofs.VariablesOnce.{apart_numbers}
 
 -- ---- patterns
 
-pattern_typed : (defs : List Def) (name : List ℕ) (p : Pattern) (vars : List (List ℕ)) → is_misplaced p (type_of name) ≡ false → IsPatternOf (env_of defs) (type_of name) (pattern_at (type_of name) p vars)
+pattern_typed : (defs : List Def) (name : List ℕ) (p : Pattern) (vars : List (List ℕ)) → is_misplaced p (type_of name) ≡ false → IsPatternOf (env_made defs) (type_of name) (pattern_at (type_of name) p vars)
 pattern_typed defs name (tree.Int n) vars h = (refl, integer_typed (type_of name).0 n (type_below name) h)
 pattern_typed defs name (tree.Truth b) vars h = truth_typed defs b (type_of name) h
 pattern_typed defs name (tree.Var x) vars h = refl
@@ -46,7 +49,7 @@ pattern_typed defs name (tree.And ps) vars h = refl
 pattern_typed defs name (tree.Term t ps) vars h = refl
 
 args_typed : (defs : List Def) (names : List (List ℕ)) (ps : List Pattern) (vars : List (List ℕ)) → length ps ≡ length names → any_misplaced ps (map type_of names) ≡ false
-    → ArePatternsOf (env_of defs) (map type_of names) (patterns_at (map type_of names) ps vars)
+    → ArePatternsOf (env_made defs) (map type_of names) (patterns_at (map type_of names) ps vars)
 args_typed defs [] ps vars same h = tt
 args_typed defs (name ∷ names) [] vars same h = absurd (omega arith)
 args_typed defs (name ∷ names) (p ∷ ps) vars same h =
@@ -65,7 +68,7 @@ is_built_rule : RuleDef → Bool
 is_built_rule r = is_built_expr r.rhs && not (repeats (flat_map pattern_names r.args))
 
 rule_typed : (defs : List Def) (r : RuleDef) (n i : ℕ) (x : Option Signature) → slice_get (signatures defs) n ≡ x → is_built_rule r ≡ true → calls_external (externs defs) r.rhs ≡ true → breaks (signatures defs) r x ≡ false
-    → IsTypedRule (env_of defs) (rule_over (symbols defs) (signatures defs) (record { 0 = n }) x i r)
+    → IsTypedRule (env_made defs) (rule_over (symbols defs) (signatures defs) (record { 0 = n }) x i r)
 unfolding is_built_rule
 rule_typed defs r n i None is built external h = cc
 rule_typed defs r n i (Some s) is built external h =
@@ -89,12 +92,12 @@ rule_typed defs r n i (Some s) is built external h =
     }
 
 rule_at : (defs : List Def) (r : RuleDef) (i : ℕ) (o : Option ℕ) → is_built_rule r ≡ true → calls_external (externs defs) r.rhs ≡ true → breaks (signatures defs) r (at_place (signatures defs) o) ≡ false
-    → IsTypedRule (env_of defs) (rule_over (symbols defs) (signatures defs) (term_or (option_map (λ (n : ℕ). record { 0 = n }) o)) (at_place (signatures defs) o) i r)
+    → IsTypedRule (env_made defs) (rule_over (symbols defs) (signatures defs) (term_or (option_map (λ (n : ℕ). record { 0 = n }) o)) (at_place (signatures defs) o) i r)
 rule_at defs r i None built external h = cc
 rule_at defs r i (Some n) built external h = rule_typed defs r n i (slice_get (signatures defs) n) refl built external h
 
 rules_typed : (defs : List Def) (i : ℕ) (rules : List RuleDef) → list_all is_built_rule rules ≡ true → rules_call_external (externs defs) rules ≡ true → rules_fault (signatures defs) (externs defs) rules ≡ false
-    → AllByRecursion (IsTypedRule (env_of defs)) (rules_from (symbols defs) (signatures defs) i rules)
+    → AllByRecursion (IsTypedRule (env_made defs)) (rules_from (symbols defs) (signatures defs) i rules)
 rules_typed defs i [] built external h = tt
 rules_typed defs i (r ∷ rules) built external h =
     let sigs = signatures defs in
@@ -105,7 +108,7 @@ rules_typed defs i (r ∷ rules) built external h =
     let is = named_at sigs r.term in
     let o = index_of (terms_of sigs) r.term in
     let here = rule_at defs r i o b.0 x.0 (ap (breaks sigs r) (sym is) ∙ l.1) in (
-      subst (λ y. IsTypedRule (env_of defs) (rule_over (symbols defs) sigs (term_or (term_named sigs r.term)) y i r)) (sym is) here,
+      subst (λ y. IsTypedRule (env_made defs) (rule_over (symbols defs) sigs (term_or (term_named sigs r.term)) y i r)) (sym is) here,
       rules_typed defs (i + 1) rules b.1 x.1 k.1,
     )
 
@@ -128,13 +131,13 @@ built_rules (tree.Extractor term params template pos ∷ defs) h = cc
 built_rules (tree.Converter from to term pos ∷ defs) h = cc
 built_rules (tree.Passed head items pos ∷ defs) h = cc
 
-env_typed : (defs : List Def) → are_built defs ≡ true → has_fault defs ≡ false → All (IsTypedRule (env_of defs)) (env_of defs).rules
+env_typed : (defs : List Def) → are_external defs ≡ true → has_fault defs ≡ false → All (IsTypedRule (env_made defs)) (env_made defs).rules
 env_typed defs built sound =
-    All-from_recursion (IsTypedRule (env_of defs)) (env_of defs).rules (rules_typed defs 0 (rule_defs defs) (built_rules defs (forms defs built)) (calls defs built) (sound_rules defs sound))
+    All-from_recursion (IsTypedRule (env_made defs)) (env_made defs).rules (rules_typed defs 0 (rule_defs defs) (built_rules defs (forms defs built)) (calls defs built) (sound_rules defs sound))
 
 -- the rules of an environment are typed
 pub typed_ready : (defs : List Def) (env : Environment) → Typed defs env → All (IsTypedRule env) env.rules
-typed_ready defs env h = subst (λ (e : Environment). All (IsTypedRule e) e.rules) (sym h.given) (env_typed defs h.built h.sound)
+typed_ready defs env h = subst (λ (e : Environment). All (IsTypedRule e) e.rules) (sym (decided h).given) (env_typed defs (decided h).built (decided h).sound)
 
 -- ---- what typed rules are
 

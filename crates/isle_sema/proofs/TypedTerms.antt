@@ -21,7 +21,9 @@ use Rattle.isle_sema.specs.Builtins.{builtins, IsBuiltinDef, IsBuiltinType}
 use Rattle.isle_sema.specs.Signatures.{Signature, signatures, externs, rule_defs, func_named, has_rule}
 use Rattle.isle_sema.specs.Elaborated.{type_of, constructor_of, term_of}
 use Rattle.isle_sema.specs.Heads.{terms_of}
-use Rattle.isle_sema.specs.Typing.{env_of, Typed}
+use Rattle.isle_sema.specs.Typing.{Typed}
+use Rattle.isle_sema.proofs.Deciding.{decided}
+use Rattle.isle_sema.proofs.Decided.{env_made}
 use Rattle.isle_sema.proofs.Parts.{names_apart}
 use Rattle.isle_sema.proofs.TypedConstants.{type_below}
 use Rattle.isle_sema.proofs.DeclaredNames.{declared_names, distinct_names}
@@ -35,7 +37,7 @@ some_term f (Some s) t e = (s, refl, same_Some (f s) t e)
 pub declared : (defs : List Def) (env : Environment) (i : ℕ) (t : Term) → Typed defs env → slice_get env.terms i ≡ Some t → (s : Signature) × (slice_get (signatures defs) i ≡ Some s) × (term_of (symbols defs) (externs defs) (rule_defs defs) s ≡ t)
 declared defs env i t h at =
     let f = term_of (symbols defs) (externs defs) (rule_defs defs) in
-    some_term f (slice_get (signatures defs) i) t (sym (slice_get-map f (signatures defs) i) ∙ ap (λ (e : Environment). slice_get e.terms i) (sym h.given) ∙ at)
+    some_term f (slice_get (signatures defs) i) t (sym (slice_get-map f (signatures defs) i) ∙ ap (λ (e : Environment). slice_get e.terms i) (sym (decided h).given) ∙ at)
 
 -- ---- its types
 
@@ -47,10 +49,10 @@ is_at P (x ∷ xs) (suc n) h lt = is_at P xs n h.1 (omega arith)
 are_builtin : AllByRecursion IsBuiltinDef builtins
 are_builtin = (tt, (tt, (tt, (tt, (tt, (tt, (tt, (tt, (tt, (tt, (tt, (tt, (tt, tt)))))))))))))
 
-name_built : (defs : List Def) (name : List ℕ) → IsBuiltinType (env_of defs) (type_of name)
+name_built : (defs : List Def) (name : List ℕ) → IsBuiltinType (env_made defs) (type_of name)
 name_built defs name = is_at IsBuiltinDef builtins (type_of name).0 are_builtin (type_below name)
 
-names_built : (defs : List Def) (names : List (List ℕ)) → AllByRecursion (IsBuiltinType (env_of defs)) (map type_of names)
+names_built : (defs : List Def) (names : List (List ℕ)) → AllByRecursion (IsBuiltinType (env_made defs)) (map type_of names)
 names_built defs [] = tt
 names_built defs (name ∷ names) = (name_built defs name, names_built defs names)
 
@@ -59,7 +61,7 @@ pub typed_types : (defs : List Def) (env : Environment) (i : ℕ) (t : Term) →
 typed_types defs env i t h at =
     let d = declared defs env i t h at in
     subst (λ (u : Term). AllByRecursion (IsBuiltinType env) (u.ret_ty ∷ u.arg_tys)) d.2
-    (subst (λ (e : Environment). AllByRecursion (IsBuiltinType e) (type_of d.0.ret ∷ map type_of d.0.args)) (sym h.given) (name_built defs d.0.ret, names_built defs d.0.args))
+    (subst (λ (e : Environment). AllByRecursion (IsBuiltinType e) (type_of d.0.ret ∷ map type_of d.0.args)) (sym (decided h).given) (name_built defs d.0.ret, names_built defs d.0.args))
 
 -- ---- its kind
 
@@ -87,7 +89,7 @@ first_is d defs here s at e = (d, head_contained d defs, at ∙ ap (λ (x : Sign
 stands_in : (defs : List Def) (i : ℕ) (s : Signature) → slice_get (signatures defs) i ≡ Some s → StandsIn defs s
 stands_in [] i s e = absurd cc
 stands_in (tree.Decl term pure multi partial recursive args ret pos ∷ defs) zero s e =
-    first_is (tree.Decl term pure multi partial recursive args ret pos) defs (record { term = term; partial = partial; args = args; ret = ret; pos = pos }) s refl e
+    first_is (tree.Decl term pure multi partial recursive args ret pos) defs (record { term = term; pure = pure; multi = multi; partial = partial; recursive = recursive; args = args; ret = ret; pos = pos }) s refl e
 stands_in (tree.Decl term pure multi partial recursive args ret pos ∷ defs) (suc i) s e = later (tree.Decl term pure multi partial recursive args ret pos) defs s (stands_in defs i s e)
 stands_in (tree.Rule name prio term args iflets rhs pos ∷ defs) i s e = later (tree.Rule name prio term args iflets rhs pos) defs s (stands_in defs i s e)
 stands_in (tree.TypeDecl name is_extern is_nodebug body pos ∷ defs) i s e = later (tree.TypeDecl name is_extern is_nodebug body pos) defs s (stands_in defs i s e)
@@ -129,5 +131,5 @@ typed_there defs env id h among =
 -- the declared names don't repeat
 pub typed_names : (defs : List Def) (env : Environment) → Typed defs env → IsDistinct bytes_eq (map (λ (t : Term). sym_text env t.name) env.terms)
 typed_names defs env h =
-    subst (λ (e : Environment). IsDistinct bytes_eq (map (λ (t : Term). sym_text e t.name) e.terms)) (sym h.given)
-    (subst (IsDistinct bytes_eq) (sym (declared_names defs)) (distinct_names (terms_of (signatures defs)) (names_apart defs h.sound)))
+    subst (λ (e : Environment). IsDistinct bytes_eq (map (λ (t : Term). sym_text e t.name) e.terms)) (sym (decided h).given)
+    (subst (IsDistinct bytes_eq) (sym (declared_names defs)) (distinct_names (terms_of (signatures defs)) (names_apart defs (decided h).sound)))

@@ -6,7 +6,7 @@ use Rattle.std.specs.Str.{bytes_eq}
 use Rattle.std.proofs.lemmas.Option.{same_Some}
 use Rattle.isle_core.specs.declared.TypeId.{TypeId}
 use Rattle.isle_sema.specs.Symbols.{index_of, added}
-use Rattle.isle_sema.specs.Faults.{type_in}
+use Rattle.isle_sema.specs.Refused.{type_in}
 use Rattle.isle_sema.specs.Resolved.{names_of, var_with, var_named}
 use Rattle.isle_sema.proofs.LookUps.{at_place, at_later}
 use Rattle.isle_sema.proofs.SymbolLaws.{index_of_new}

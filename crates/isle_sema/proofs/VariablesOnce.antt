@@ -11,7 +11,7 @@ use Rattle.isle_syntax.specs.Tree as tree
 use Rattle.isle_syntax.specs.Tree.{Pattern}
 use Rattle.isle_sema.specs.Symbols.{index_of, added, pattern_names, number_or}
 use Rattle.isle_sema.specs.Elaborated.{patterns_at}
-use Rattle.isle_sema.specs.Faults.{repeats_after}
+use Rattle.isle_sema.specs.Refused.{repeats_after}
 use Rattle.isle_sema.specs.TypedRule.{numbers}
 use Rattle.isle_sema.proofs.SymbolLaws.{index_of_new}
 use Rattle.isle_sema.proofs.BoundVariables.{none_of}

@@ -24,9 +24,9 @@ builtin_names =
 abbrev pub type_id : ℕ → TypeId
 type_id n = record { 0 = n }
 
--- the type of a name; no declared type is built
-abbrev pub type_named : List ℕ → Option TypeId
-type_named name = option_map type_id (index_of builtin_names name)
+-- the builtin type of a name
+abbrev pub builtin_named : List ℕ → Option TypeId
+builtin_named name = option_map type_id (index_of builtin_names name)
 
 -- the definition of a builtin type
 abbrev pub IsBuiltinDef : TypeDef → Type 0

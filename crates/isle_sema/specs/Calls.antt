@@ -2,8 +2,12 @@
 use Rattle.std.specs.Prelude.{ℕ, suc, ◌+◌, List, Bool, true, false, ◌&&◌, ◌||◌, Option, Some, None, is_some}
 use Rattle.isle_syntax.specs.Tree as tree
 use Rattle.isle_syntax.specs.Tree.{Expr, Exprs, NoExpr, AnExpr}
-use Rattle.isle_sema.specs.Signatures.{Signature, Extern, func_named}
-use Rattle.isle_sema.specs.Elaborated.{signature_named}
+use Rattle.isle_sema.specs.Signatures.{Signature, Extern, RuleDef, func_named, has_rule, signature_named}
+
+-- how many expressions there are
+abbrev pub count_of : Exprs → ℕ
+count_of NoExpr = 0
+count_of (AnExpr e es) = suc (count_of es)
 
 -- each term that is called has an external constructor
 abbrev mutual
@@ -14,6 +18,20 @@ abbrev mutual
   pub all_call_external : List Extern → Exprs → Bool
   all_call_external xs NoExpr = true
   all_call_external xs (AnExpr e es) = calls_external xs e && all_call_external xs es
+
+-- a term is called that has a rule
+abbrev mutual
+  pub calls_ruled : List RuleDef → Expr → Bool
+  calls_ruled rules (tree.Number n) = false
+  calls_ruled rules (tree.Fact b) = false
+  calls_ruled rules (tree.Name name) = false
+  calls_ruled rules (tree.Call name es) = has_rule rules name || any_calls_ruled rules es
+  calls_ruled rules (tree.Constant name) = false
+  calls_ruled rules (tree.Let ls inner) = false
+
+  pub any_calls_ruled : List RuleDef → Exprs → Bool
+  any_calls_ruled rules NoExpr = false
+  any_calls_ruled rules (AnExpr e es) = calls_ruled rules e || any_calls_ruled rules es
 
 -- a declared term that may answer nothing
 abbrev pub is_partial_named : Option Signature → Bool

@@ -1,7 +1,7 @@
 -- What contracts see of the collected declarations and rules.
 use Rattle.std.specs.Prelude.{◌≡◌, ℕ, List, [], ◌∷◌, map, option_map, option_to_list}
 use Rattle.isle_syntax.specs.Tree.{Def}
-use Rattle.isle_syntax.specs.Views.{pattern, expr}
+use Rattle.isle_syntax.specs.Views.{pattern, expr, iflet}
 use Rattle.isle_sema.specs.declared.collected.Signature.{Signature as CodeSignature}
 use Rattle.isle_sema.specs.declared.collected.RuleDef.{RuleDef as CodeRule}
 use Rattle.isle_sema.specs.declared.collected.Extern.{Extern as CodeExtern}
@@ -13,7 +13,7 @@ use Rattle.isle_sema.specs.Numbered.{AreNumbered}
 
 -- a declaration
 abbrev pub signature : CodeSignature → Signature
-signature s = record { term = s.term.now; partial = s.partial; args = s.args.now; ret = s.ret.now; pos = s.pos }
+signature s = record { term = s.term.now; pure = s.pure; multi = s.multi; partial = s.partial; recursive = s.recursive; args = s.args.now; ret = s.ret.now; pos = s.pos }
 
 -- an external constructor
 abbrev pub extern : CodeExtern → Extern
@@ -21,7 +21,7 @@ extern x = record { term = x.term.now; func = x.func.now }
 
 -- a rule
 abbrev pub rule : CodeRule → RuleDef
-rule r = record { name = option_map (λ n. n.now) r.name; prio = r.prio; term = r.term.now; args = map pattern r.args.now; rhs = expr r.rhs.now; pos = r.pos }
+rule r = record { name = option_map (λ n. n.now) r.name; prio = r.prio; term = r.term.now; args = map pattern r.args.now; iflets = map iflet r.iflets.now; rhs = expr r.rhs.now; pos = r.pos }
 
 -- the declaration that an item is
 abbrev pub item_signatures : Item → List CodeSignature

@@ -1,6 +1,5 @@
 -- Terms and rules with types in them, their names as symbols and variables as numbers.
-use Rattle.std.specs.Prelude.{ℕ, ◌+◌, List, [], ◌∷◌, Bool, true, false, Option, Some, None, map, option_map, find}
-use Rattle.std.specs.Str.{bytes_eq}
+use Rattle.std.specs.Prelude.{ℕ, ◌+◌, List, [], ◌∷◌, Bool, true, false, Option, Some, None, map, option_map}
 use Rattle.isle_core.specs.declared.TermId.{TermId}
 use Rattle.isle_core.specs.declared.TypeId.{TypeId}
 use Rattle.isle_core.specs.declared.VarId.{VarId}
@@ -17,9 +16,9 @@ use Rattle.isle_core.specs.Rule.{Rule as CoreRule}
 use Rattle.isle_syntax.specs.Tree as tree
 use Rattle.isle_syntax.specs.Tree.{Pattern, Expr, Exprs, NoExpr, AnExpr}
 use Rattle.isle_sema.specs.Symbols.{index_of, added, number_or, sym_of}
-use Rattle.isle_sema.specs.Builtins.{type_id, type_named}
+use Rattle.isle_sema.specs.Builtins.{type_id, builtin_named}
 use Rattle.isle_sema.specs.Reduced.{reduced_at}
-use Rattle.isle_sema.specs.Signatures.{Signature, Extern, RuleDef, term_named, func_named, has_rule}
+use Rattle.isle_sema.specs.Signatures.{Signature, Extern, RuleDef, signature_named, term_named, func_named, has_rule}
 
 -- a type, or bool
 abbrev pub type_or : Option TypeId → TypeId
@@ -28,7 +27,7 @@ type_or (Some ty) = ty
 
 -- the type of a name, or bool
 abbrev pub type_of : List ℕ → TypeId
-type_of name = type_or (type_named name)
+type_of name = type_or (builtin_named name)
 
 -- a variable's number among the variables so far
 abbrev pub var_of : List (List ℕ) → List ℕ → VarId
@@ -56,10 +55,6 @@ patterns_at (ty ∷ tys) [] vars = []
 abbrev pub vars_of : List Pattern → List (List ℕ) → List (List ℕ)
 vars_of [] vars = vars
 vars_of (p ∷ ps) vars = vars_of ps (vars_behind p vars)
-
--- the declaration of a name
-abbrev pub signature_named : List Signature → List ℕ → Option Signature
-signature_named sigs name = find (λ (s : Signature). bytes_eq s.term name) sigs
 
 -- the types of a declaration's arguments
 abbrev pub arg_types : Option Signature → List TypeId

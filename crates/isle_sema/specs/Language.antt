@@ -1,12 +1,12 @@
 -- The definitions that are built.
 use Rattle.std.specs.Prelude.{List, [], ◌∷◌, Bool, true, false, ◌&&◌, not, flat_map, map}
-use Rattle.std.specs.List.{list_all}
+use Rattle.std.specs.List.{list_all, list_any}
 use Rattle.isle_syntax.specs.Tree as tree
 use Rattle.isle_syntax.specs.Tree.{Pattern, Expr, Exprs, NoExpr, AnExpr, IfLet, Def, Decl, ExternConstructor, Rule}
 use Rattle.isle_sema.specs.Symbols.{pattern_names}
-use Rattle.isle_sema.specs.Signatures.{Extern, RuleDef, externs, rule_defs}
-use Rattle.isle_sema.specs.Calls.{calls_external}
-use Rattle.isle_sema.specs.Faults.{repeats}
+use Rattle.isle_sema.specs.Signatures.{Extern, RuleDef, rule_defs}
+use Rattle.isle_sema.specs.Calls.{calls_external, calls_ruled}
+use Rattle.isle_sema.specs.Refused.{repeats}
 
 -- an integer, a truth, a wildcard or a variable
 abbrev pub is_built_pattern : Pattern → Bool
@@ -47,6 +47,10 @@ is_built_def d = false
 abbrev pub rules_call_external : List Extern → List RuleDef → Bool
 rules_call_external xs rules = list_all (λ (r : RuleDef). calls_external xs r.rhs) rules
 
--- each is built, no term has two rules, and only terms with external constructors are called
+-- rules call no term that has a rule
+abbrev pub rules_call_ruled : List RuleDef → List RuleDef → Bool
+rules_call_ruled all rules = list_any (λ (r : RuleDef). calls_ruled all r.rhs) rules
+
+-- each is built, no term has two rules, and no term that has a rule is called
 abbrev pub are_built : List Def → Bool
-are_built defs = list_all is_built_def defs && not (repeats (map (λ (r : RuleDef). r.term) (rule_defs defs))) && rules_call_external (externs defs) (rule_defs defs)
+are_built defs = list_all is_built_def defs && not (repeats (map (λ (r : RuleDef). r.term) (rule_defs defs))) && not (rules_call_ruled (rule_defs defs) (rule_defs defs))

@@ -12,9 +12,10 @@ use Rattle.isle_syntax.specs.Tree as tree
 use Rattle.isle_syntax.specs.Tree.{Pattern, Expr, Exprs, NoExpr, AnExpr}
 use Rattle.isle_sema.specs.Symbols.{index_of, sym_of}
 use Rattle.isle_sema.specs.Reduced.{reduced_at}
-use Rattle.isle_sema.specs.Signatures.{Signature, Extern, RuleDef, term_named, func_named}
-use Rattle.isle_sema.specs.Elaborated.{type_of, signature_named, term_or}
-use Rattle.isle_sema.specs.Faults.{count_of, is_too_large, type_in}
+use Rattle.isle_sema.specs.Signatures.{Signature, Extern, RuleDef, term_named, func_named, signature_named}
+use Rattle.isle_sema.specs.Elaborated.{type_of, term_or}
+use Rattle.isle_sema.specs.Refused.{is_too_large, type_in}
+use Rattle.isle_sema.specs.Calls.{count_of}
 
 -- the names of definitions, the declarations and the external constructors
 pub record Names : Type 0 where

@@ -4,13 +4,16 @@ use Rattle.std.specs.List.{list_any}
 use Rattle.std.specs.Str.{bytes_eq}
 use Rattle.isle_core.specs.declared.position.Pos.{Pos}
 use Rattle.isle_core.specs.declared.TermId.{TermId}
-use Rattle.isle_syntax.specs.Tree.{Pattern, Expr, Def, Decl, ExternConstructor, Rule}
+use Rattle.isle_syntax.specs.Tree.{Pattern, Expr, IfLet, Def, TypeDecl, Decl, ExternConstructor, ExternExtractor, ExternConst, Extractor, Converter, Rule, Passed}
 use Rattle.isle_sema.specs.Symbols.{index_of}
 
--- a declaration with at most the flag `partial`
+-- a declaration
 pub record Signature : Type 0 where
   pub term : List ℕ
+  pub pure : Bool
+  pub multi : Bool
   pub partial : Bool
+  pub recursive : Bool
   pub args : List (List ℕ)
   pub ret : List ℕ
   pub pos : Pos
@@ -20,29 +23,51 @@ pub record Extern : Type 0 where
   pub term : List ℕ
   pub func : List ℕ
 
--- a rule without conditions
+-- a rule
 pub record RuleDef : Type 0 where
   pub name : Option (List ℕ)
   pub prio : ℤ
   pub term : List ℕ
   pub args : List Pattern
+  pub iflets : List IfLet
   pub rhs : Expr
   pub pos : Pos
 
 -- the declaration that a definition is
 abbrev pub signature_of : Def → Option Signature
-signature_of (Decl term pure multi partial recursive args ret pos) = Some (record { term = term; partial = partial; args = args; ret = ret; pos = pos })
-signature_of d = None
+signature_of (Decl term pure multi partial recursive args ret pos) = Some (record { term = term; pure = pure; multi = multi; partial = partial; recursive = recursive; args = args; ret = ret; pos = pos })
+signature_of (TypeDecl name is_extern is_nodebug body pos) = None
+signature_of (ExternConstructor term func pos) = None
+signature_of (ExternExtractor term func infallible pos) = None
+signature_of (ExternConst name ty pos) = None
+signature_of (Extractor term params template pos) = None
+signature_of (Converter from to term pos) = None
+signature_of (Rule name prio term args iflets rhs pos) = None
+signature_of (Passed head items pos) = None
 
 -- the external constructor that a definition is
 abbrev pub extern_of : Def → Option Extern
 extern_of (ExternConstructor term func pos) = Some (record { term = term; func = func })
-extern_of d = None
+extern_of (TypeDecl name is_extern is_nodebug body pos) = None
+extern_of (Decl term pure multi partial recursive args ret pos) = None
+extern_of (ExternExtractor term func infallible pos) = None
+extern_of (ExternConst name ty pos) = None
+extern_of (Extractor term params template pos) = None
+extern_of (Converter from to term pos) = None
+extern_of (Rule name prio term args iflets rhs pos) = None
+extern_of (Passed head items pos) = None
 
 -- the rule that a definition is
 abbrev pub rule_of : Def → Option RuleDef
-rule_of (Rule name prio term args iflets rhs pos) = Some (record { name = name; prio = prio; term = term; args = args; rhs = rhs; pos = pos })
-rule_of d = None
+rule_of (Rule name prio term args iflets rhs pos) = Some (record { name = name; prio = prio; term = term; args = args; iflets = iflets; rhs = rhs; pos = pos })
+rule_of (TypeDecl name is_extern is_nodebug body pos) = None
+rule_of (Decl term pure multi partial recursive args ret pos) = None
+rule_of (ExternConstructor term func pos) = None
+rule_of (ExternExtractor term func infallible pos) = None
+rule_of (ExternConst name ty pos) = None
+rule_of (Extractor term params template pos) = None
+rule_of (Converter from to term pos) = None
+rule_of (Passed head items pos) = None
 
 -- the declarations, in order
 abbrev pub signatures : List Def → List Signature
@@ -55,6 +80,10 @@ externs = filter_map extern_of
 -- the rules, in order
 abbrev pub rule_defs : List Def → List RuleDef
 rule_defs = filter_map rule_of
+
+-- the declaration of a name
+abbrev pub signature_named : List Signature → List ℕ → Option Signature
+signature_named sigs name = find (λ (s : Signature). bytes_eq s.term name) sigs
 
 -- the term that a declaration names
 abbrev pub term_named : List Signature → List ℕ → Option TermId

@@ -5,9 +5,9 @@ use Rattle.isle_core.specs.declared.types.TypeEnv.{TypeEnv}
 use Rattle.isle_core.specs.declared.types.TermEnv.{TermEnv}
 use Rattle.isle_core.specs.RuleViews.{environment}
 use Rattle.isle_sema.specs.Symbols.{pattern_names}
-use Rattle.isle_sema.specs.Signatures.{Signature, Extern, RuleDef}
-use Rattle.isle_sema.specs.Elaborated.{signature_named, term_of, rules_from}
-use Rattle.isle_sema.specs.Faults.{repeats, names_no_type, has_too_many, signatures_fault, externs_fault, rules_fault}
+use Rattle.isle_sema.specs.Signatures.{Signature, Extern, RuleDef, signature_named}
+use Rattle.isle_sema.specs.Elaborated.{term_of, rules_from}
+use Rattle.isle_sema.specs.Refused.{repeats, names_no_type, has_too_many, signatures_fault, externs_fault, rules_fault}
 use Rattle.isle_sema.specs.Heads.{heads_of}
 use Rattle.isle_sema.specs.Language.{rules_call_external}
 

@@ -1,14 +1,14 @@
 //! The types that are there before any definition, by their names.
 
 ghost use Rattle.std.specs.Prelude.{◌≡◌};
-ghost use Rattle.isle_sema.specs.Builtins.{type_named};
+ghost use Rattle.isle_sema.specs.Builtins.{builtin_named};
 ghost use Rattle.isle_sema.specs.Elaborated.{type_of};
 
 use isle_core::{Text, TypeId};
 
 /// The type of a name.
 pub fn type_named(name: &str) -> Option<TypeId>
-    ensures { result ≡ type_named name.now }
+    ensures { result ≡ builtin_named name.now }
 {
     let number = match name {
         "bool" => 0,

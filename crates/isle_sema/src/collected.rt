@@ -5,15 +5,18 @@ ghost use Rattle.isle_sema.specs.Collected.{item_signatures, item_externs, item_
 
 use crate::symbols::Symbols;
 use isle_core::{Pos, Text};
-use isle_syntax::{AstExpr, AstPattern};
+use isle_syntax::{AstExpr, AstIfLet, AstPattern};
 use std::alloc::AllocError;
 
-/// A declaration with at most the flag `partial`, and the number of its name.
+/// A declaration, and the number of its name.
 #[derive(Clone, Copy)]
 pub struct Signature<'d> {
     pub number: usize,
     pub term: &'d Text,
+    pub pure: bool,
+    pub multi: bool,
     pub partial: bool,
+    pub recursive: bool,
     pub args: &'d [Text],
     pub ret: &'d Text,
     pub pos: Pos,
@@ -28,7 +31,7 @@ pub struct Extern<'d> {
     pub func: &'d Text,
 }
 
-/// A rule without conditions, and the number of its term's name.
+/// A rule, and the number of its term's name.
 #[derive(Clone, Copy)]
 pub struct RuleDef<'d> {
     pub name: Option<&'d Text>,
@@ -36,6 +39,7 @@ pub struct RuleDef<'d> {
     pub number: usize,
     pub term: &'d Text,
     pub args: &'d [AstPattern],
+    pub iflets: &'d [AstIfLet],
     pub rhs: &'d AstExpr,
     pub pos: Pos,
 }

@@ -3,9 +3,9 @@
 ghost use Rattle.std.specs.Prelude.{◌≡◌, IfOk, map, option_map};
 ghost use Rattle.isle_syntax.specs.Views.{expr, exprs_of};
 ghost use Rattle.isle_core.specs.RuleViews.{expr as elaborated, exprs_of as elaborated_of};
-ghost use Rattle.isle_sema.specs.Faults.{count_of};
 ghost use Rattle.isle_sema.specs.Known.{seen_called};
 ghost use Rattle.isle_sema.specs.Resolved.{is_refused, var_named, variable_in, called, call_of, expr_in, exprs_in};
+ghost use Rattle.isle_sema.specs.Calls.{count_of};
 
 use crate::known::{Called, Known};
 use crate::reduced::reduced_at;

@@ -147,17 +147,22 @@ fn intern_def<'d>(names: &mut Symbols<'d>, given: &'d Def) -> Result<Item<'d>, A
     match given {
         Def::Decl {
             term,
+            pure,
+            multi,
             partial,
+            recursive,
             args,
             ret,
             pos,
-            ..
         } => {
             let number = intern_decl(names, term, args.as_slice(), ret)?;
             Ok(Item::Declared(Signature {
                 number,
                 term,
+                pure: *pure,
+                multi: *multi,
                 partial: *partial,
+                recursive: *recursive,
                 args: args.as_slice(),
                 ret,
                 pos: *pos,
@@ -177,9 +182,9 @@ fn intern_def<'d>(names: &mut Symbols<'d>, given: &'d Def) -> Result<Item<'d>, A
             prio,
             term,
             args,
+            iflets,
             rhs,
             pos,
-            ..
         } => {
             let number = intern_rule(names, name, term, args.as_slice(), rhs)?;
             Ok(Item::Rule(RuleDef {
@@ -188,6 +193,7 @@ fn intern_def<'d>(names: &mut Symbols<'d>, given: &'d Def) -> Result<Item<'d>, A
                 number,
                 term,
                 args: args.as_slice(),
+                iflets: iflets.as_slice(),
                 rhs,
                 pos: *pos,
             }))

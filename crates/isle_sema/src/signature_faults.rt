@@ -2,7 +2,7 @@
 
 ghost use Rattle.std.specs.Prelude.{◌≡◌, ℕ, List, map, is_some};
 ghost use Rattle.std.specs.List.{list_all, list_any};
-ghost use Rattle.isle_sema.specs.Builtins.{type_named};
+ghost use Rattle.isle_sema.specs.Builtins.{builtin_named};
 ghost use Rattle.isle_sema.specs.Collected.{signature as seen};
 ghost use Rattle.isle_sema.specs.Sound.{is_misdeclared};
 
@@ -12,7 +12,7 @@ use isle_core::Text;
 
 /// Whether each of the names is that of a type.
 fn are_types(names: &[Text]) -> bool
-    ensures { result ≡ list_all (λ (n : List ℕ). is_some (type_named n)) names.now }
+    ensures { result ≡ list_all (λ (n : List ℕ). is_some (builtin_named n)) names.now }
 {
     for name in names {
         if type_named(name.as_str()).is_none() {

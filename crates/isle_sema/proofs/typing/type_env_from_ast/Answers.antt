@@ -1,9 +1,11 @@
-use Rattle.std.proofs.Common.{◌≡◌, rules, true, false, map, ap, sym, ◌∙◌}
+use Rattle.std.proofs.Common.{◌≡◌, rules, true, false, [], map, ap, sym, ◌∙◌}
 use Rattle.std.specs.List.{list_all, list_any}
 use Rattle.isle_syntax.specs.Views.{defs as seen}
 use Rattle.isle_sema.specs.Collected.{rule}
 use Rattle.isle_sema.specs.Forms.{is_built_form}
 use Rattle.isle_sema.specs.Sound.{binds_twice}
+use Rattle.isle_sema.specs.Environment.{whole_of}
+use Rattle.isle_sema.proofs.TermFaults.{types_none}
 use Rattle.isle_sema.proofs.Soundness.{unformed, bound_twice, built_from, types_from}
 use Rattle.isle_sema.proofs.typing.type_env_from_ast.Goals as goal
 
@@ -25,5 +27,6 @@ returns-clause-ok c =
     let once : list_any binds_twice (map rule c.in_ok-collected.collected.rules.items) ≡ false = search rules in
     record {
       built = built_from (seen c.args.defs.now) forms (ap (list_any binds_twice) (sym c.in_ok-collected.ensures.ruled) ∙ once);
+      sound = types_none (whole_of (seen c.args.defs.now)) [] (seen c.args.defs.now);
       given = c.in_ok-types_over.ensures ∙ types_from (seen c.args.defs.now) c.in_ok-collected.collected.symbols c.in_ok-collected.collected.signatures.items c.in_ok-collected.collected.externs.items c.in_ok-collected.collected.rules.items c.in_ok-collected.ensures;
     }

@@ -1,15 +1,15 @@
--- What is wrong with declarations and rules, row by row.
-use Rattle.std.specs.Prelude.{ℕ, suc, ◌+◌, List, [], ◌∷◌, ◌++◌, length, Bool, true, false, ◌==◌, ◌&&◌, ◌||◌, not, Option, Some, None, is_some, map, nat_le, if◌then◌else◌}
+-- What the code refuses of declarations and rules, whole lists at once: the rows of the typing table that built forms can break.
+use Rattle.std.specs.Prelude.{ℕ, ◌+◌, List, [], ◌∷◌, ◌++◌, length, Bool, true, false, ◌==◌, ◌&&◌, ◌||◌, not, Option, Some, None, is_some, map, nat_le, if◌then◌else◌}
 use Rattle.std.specs.List.{list_all, list_any}
 use Rattle.std.specs.Str.{bytes_eq}
 use Rattle.isle_core.specs.declared.TypeId.{TypeId}
 use Rattle.isle_syntax.specs.Tree as tree
 use Rattle.isle_syntax.specs.Tree.{Pattern, Expr, Exprs, NoExpr, AnExpr, Def}
 use Rattle.isle_sema.specs.Symbols.{index_of}
-use Rattle.isle_sema.specs.Builtins.{type_named}
-use Rattle.isle_sema.specs.Signatures.{Signature, Extern, RuleDef, signatures, externs, func_named, rule_defs}
-use Rattle.isle_sema.specs.Elaborated.{type_of, signature_named, arg_types}
-use Rattle.isle_sema.specs.Calls.{calls_partial, nodes}
+use Rattle.isle_sema.specs.Builtins.{builtin_named}
+use Rattle.isle_sema.specs.Signatures.{Signature, Extern, RuleDef, signatures, externs, func_named, rule_defs, signature_named}
+use Rattle.isle_sema.specs.Elaborated.{type_of, arg_types}
+use Rattle.isle_sema.specs.Calls.{count_of, calls_partial, nodes}
 
 -- a name repeats an earlier one, or one of these
 abbrev pub repeats_after : List (List ℕ) → List (List ℕ) → Bool
@@ -22,7 +22,7 @@ repeats names = repeats_after [] names
 
 -- a declaration names a type that is not declared
 abbrev pub names_no_type : Signature → Bool
-names_no_type s = not (is_some (type_named s.ret) && list_all (λ (n : List ℕ). is_some (type_named n)) s.args)
+names_no_type s = not (is_some (builtin_named s.ret) && list_all (λ (n : List ℕ). is_some (builtin_named n)) s.args)
 
 -- a declaration has more than 256 arguments
 abbrev pub has_too_many : Signature → Bool
@@ -60,11 +60,6 @@ is_other (Some of) ty = not (of.0 == ty.0)
 abbrev pub is_miscalled : Option Signature → ℕ → TypeId → Bool
 is_miscalled None count ty = true
 is_miscalled (Some s) count ty = not (count == length s.args) || is_other (Some (type_of s.ret)) ty
-
--- how many expressions there are
-abbrev pub count_of : Exprs → ℕ
-count_of NoExpr = 0
-count_of (AnExpr e es) = suc (count_of es)
 
 -- an integer stands at a bool, a truth at an integer, a variable is not bound or has another type, or a call is wrong or
 -- has such an argument

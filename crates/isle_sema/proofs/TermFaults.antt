@@ -1,0 +1,195 @@
+-- The rows of declarations, external constructors and heads are kept where the code takes them.
+use Rattle.std.proofs.Common.{◌≡◌, Bool, true, false, cond, List, [], ◌∷◌, ◌++◌, Some, None, refl, sym, ap, ◌∙◌}
+use Rattle.std.specs.Prelude.{◌&&◌, ◌||◌, not, is_some}
+use Rattle.std.specs.List.{list_all, list_any}
+use Rattle.std.proofs.lemmas.Bool.{or_parts, or_from, and_parts}
+use Rattle.isle_syntax.specs.Tree as tree
+use Rattle.isle_syntax.specs.Tree.{Def}
+use Rattle.isle_sema.specs.Symbols.{index_of}
+use Rattle.isle_sema.specs.Signatures.{Signature, Extern, RuleDef, signature_of, extern_of, signatures, externs, rule_defs, signature_named, func_named}
+use Rattle.isle_sema.specs.Heads.{terms_of, extern_terms}
+use Rattle.isle_sema.specs.Refused.{repeats_after, names_no_type, has_too_many}
+use Rattle.isle_sema.specs.Forms.{is_built_form}
+use Rattle.isle_sema.specs.Sound.{has_undeclared}
+use Rattle.isle_sema.specs.Row as row
+use Rattle.isle_sema.specs.Row.{Row}
+use Rattle.isle_sema.specs.Whole.{Whole}
+use Rattle.isle_sema.specs.Fault.{OfTypes, OfTerms, OfExtractors, broken_in, fault_after}
+use Rattle.isle_sema.specs.Environment.{whole_of}
+use Rattle.isle_sema.proofs.Firsts.{first_none, none_first, later_none, none_later, grown, unchanged}
+
+-- ---- types
+
+-- no definition breaks a row of types
+pub types_none : (w : Whole) (before ds : List Def) → fault_after OfTypes w before ds ≡ None
+types_none w before [] = refl
+types_none w before (d ∷ ds) = types_none w (before ++ d ∷ []) ds
+
+-- ---- extractors
+
+-- nor one of extractors, of which none is built
+pub extractors_none : (w : Whole) (before ds : List Def) → list_all is_built_form ds ≡ true → fault_after OfExtractors w before ds ≡ None
+extractors_none w before [] f = refl
+extractors_none w before (tree.Decl term pure multi partial recursive args ret pos ∷ ds) f =
+    extractors_none w (before ++ tree.Decl term pure multi partial recursive args ret pos ∷ []) ds (and_parts (is_built_form (tree.Decl term pure multi partial recursive args ret pos)) (list_all is_built_form ds) f).1
+extractors_none w before (tree.ExternConstructor term func pos ∷ ds) f = extractors_none w (before ++ tree.ExternConstructor term func pos ∷ []) ds f
+extractors_none w before (tree.Rule name prio term args iflets rhs pos ∷ ds) f =
+    extractors_none w (before ++ tree.Rule name prio term args iflets rhs pos ∷ []) ds (and_parts (is_built_form (tree.Rule name prio term args iflets rhs pos)) (list_all is_built_form ds) f).1
+extractors_none w before (tree.TypeDecl name is_extern is_nodebug body pos ∷ ds) f = absurd cc
+extractors_none w before (tree.ExternExtractor term func infallible pos ∷ ds) f = absurd cc
+extractors_none w before (tree.ExternConst name ty pos ∷ ds) f = absurd cc
+extractors_none w before (tree.Extractor term params template pos ∷ ds) f = absurd cc
+extractors_none w before (tree.Converter from to term pos ∷ ds) f = absurd cc
+extractors_none w before (tree.Passed head items pos ∷ ds) f = absurd cc
+
+-- ---- terms
+
+-- a rule whose head is not declared, or has an external constructor
+abbrev pub is_headless : List Def → RuleDef → Bool
+is_headless all r = not (is_some (signature_named (signatures all) r.term)) || is_some (func_named (externs all) r.term)
+
+-- each test of these definitions, which stand behind those
+pub record TermParts (all before ds : List Def) : Type 0 where
+  pub apart : repeats_after (terms_of (signatures before)) (terms_of (signatures ds)) ≡ false
+  pub typed : list_any names_no_type (signatures ds) ≡ false
+  pub few : list_any has_too_many (signatures ds) ≡ false
+  pub externs_apart : repeats_after (extern_terms (externs before)) (extern_terms (externs ds)) ≡ false
+  pub known : has_undeclared (signatures all) (externs ds) ≡ false
+  pub heads : list_any (is_headless all) (rule_defs ds) ≡ false
+
+-- the tests of a declaration
+decl_kept : (a b c d : Bool)
+    → cond a (Some row.DeclarationRepeats) (cond b (Some row.TypeMissing) (cond c (Some row.ManyArguments) (cond d (Some row.MultiAndPartial) None))) ≡ None → (a ≡ false) × (b ≡ false) × (c ≡ false)
+decl_kept true b c d h = absurd cc
+decl_kept false true c d h = absurd cc
+decl_kept false false true d h = absurd cc
+decl_kept false false false d h = (refl, refl, refl)
+
+decl_from : (a b c d : Bool) → a ≡ false → b ≡ false → c ≡ false → d ≡ false
+    → cond a (Some row.DeclarationRepeats) (cond b (Some row.TypeMissing) (cond c (Some row.ManyArguments) (cond d (Some row.MultiAndPartial) None))) ≡ None
+decl_from true b c d ha hb hc hd = absurd cc
+decl_from false true c d ha hb hc hd = absurd cc
+decl_from false false true d ha hb hc hd = absurd cc
+decl_from false false false true ha hb hc hd = absurd cc
+decl_from false false false false ha hb hc hd = refl
+
+-- a declaration that is built is not `multi`
+single : (pure multi recursive partial : Bool) → not pure && not multi && not recursive ≡ true → multi && partial ≡ false
+single true multi recursive partial h = absurd cc
+single false true recursive partial h = absurd cc
+single false false recursive partial h = refl
+
+-- the rows of terms are kept: each test fails
+pub terms_kept : (all before ds : List Def) → list_all is_built_form ds ≡ true → fault_after OfTerms (whole_of all) before ds ≡ None → TermParts all before ds
+terms_kept all before [] f h = record { apart = refl; typed = refl; few = refl; externs_apart = refl; known = refl; heads = refl }
+terms_kept all before (tree.Decl term pure multi partial recursive args ret pos ∷ ds) f h =
+    let d = tree.Decl term pure multi partial recursive args ret pos in
+    let s : Signature = record { term = term; pure = pure; multi = multi; partial = partial; recursive = recursive; args = args; ret = ret; pos = pos } in
+    let g = and_parts (is_built_form d) (list_all is_built_form ds) f in
+    let l = later_none (λ (r : Row). (r, pos)) (broken_in OfTerms (record { whole = whole_of all; before = before }) d) (fault_after OfTerms (whole_of all) (before ++ d ∷ []) ds) h in
+    let k = decl_kept (is_some (index_of (terms_of (signatures before)) term)) (names_no_type s) (has_too_many s) (multi && partial) l.0 in
+    let rest = terms_kept all (before ++ d ∷ []) ds g.1 l.1 in
+    record {
+      apart = or_from (is_some (index_of (terms_of (signatures before)) term)) (repeats_after (terms_of (signatures before) ++ term ∷ []) (terms_of (signatures ds))) k.0
+          (ap (λ ns. repeats_after ns (terms_of (signatures ds))) (sym (grown signature_of (λ (x : Signature). x.term) before d)) ∙ rest.apart);
+      typed = or_from (names_no_type s) (list_any names_no_type (signatures ds)) k.1 rest.typed;
+      few = or_from (has_too_many s) (list_any has_too_many (signatures ds)) k.2 rest.few;
+      externs_apart = ap (λ ns. repeats_after ns (extern_terms (externs ds))) (sym (unchanged extern_of (λ (x : Extern). x.term) before d refl)) ∙ rest.externs_apart;
+      known = rest.known;
+      heads = rest.heads;
+    }
+terms_kept all before (tree.ExternConstructor term func pos ∷ ds) f h =
+    let d = tree.ExternConstructor term func pos in
+    let l = later_none (λ (r : Row). (r, pos)) (broken_in OfTerms (record { whole = whole_of all; before = before }) d) (fault_after OfTerms (whole_of all) (before ++ d ∷ []) ds) h in
+    let again = is_some (index_of (extern_terms (externs before)) term) in
+    let k = first_none (not (is_some (signature_named (signatures all) term))) row.TermUndeclared (cond again (Some row.SecondOfTerm) None) l.0 in
+    let m = first_none again row.SecondOfTerm None k.1 in
+    let rest = terms_kept all (before ++ d ∷ []) ds f l.1 in
+    record {
+      apart = ap (λ ns. repeats_after ns (terms_of (signatures ds))) (sym (unchanged signature_of (λ (x : Signature). x.term) before d refl)) ∙ rest.apart;
+      typed = rest.typed;
+      few = rest.few;
+      externs_apart = or_from again (repeats_after (extern_terms (externs before) ++ term ∷ []) (extern_terms (externs ds))) m.0
+          (ap (λ ns. repeats_after ns (extern_terms (externs ds))) (sym (grown extern_of (λ (x : Extern). x.term) before d)) ∙ rest.externs_apart);
+      known = or_from (not (is_some (signature_named (signatures all) term))) (has_undeclared (signatures all) (externs ds)) k.0 rest.known;
+      heads = rest.heads;
+    }
+terms_kept all before (tree.Rule name prio term args iflets rhs pos ∷ ds) f h =
+    let d = tree.Rule name prio term args iflets rhs pos in
+    let r : RuleDef = record { name = name; prio = prio; term = term; args = args; iflets = iflets; rhs = rhs; pos = pos } in
+    let g = and_parts (is_built_form d) (list_all is_built_form ds) f in
+    let l = later_none (λ (r : Row). (r, pos)) (broken_in OfTerms (record { whole = whole_of all; before = before }) d) (fault_after OfTerms (whole_of all) (before ++ d ∷ []) ds) h in
+    let k = first_none (is_headless all r) row.HeadMisfit None l.0 in
+    let rest = terms_kept all (before ++ d ∷ []) ds g.1 l.1 in
+    record {
+      apart = ap (λ ns. repeats_after ns (terms_of (signatures ds))) (sym (unchanged signature_of (λ (x : Signature). x.term) before d refl)) ∙ rest.apart;
+      typed = rest.typed;
+      few = rest.few;
+      externs_apart = ap (λ ns. repeats_after ns (extern_terms (externs ds))) (sym (unchanged extern_of (λ (x : Extern). x.term) before d refl)) ∙ rest.externs_apart;
+      known = rest.known;
+      heads = or_from (is_headless all r) (list_any (is_headless all) (rule_defs ds)) k.0 rest.heads;
+    }
+terms_kept all before (tree.TypeDecl name is_extern is_nodebug body pos ∷ ds) f h = absurd cc
+terms_kept all before (tree.ExternExtractor term func infallible pos ∷ ds) f h = absurd cc
+terms_kept all before (tree.ExternConst name ty pos ∷ ds) f h = absurd cc
+terms_kept all before (tree.Extractor term params template pos ∷ ds) f h = absurd cc
+terms_kept all before (tree.Converter from to term pos ∷ ds) f h = absurd cc
+terms_kept all before (tree.Passed head items pos ∷ ds) f h = absurd cc
+
+-- and where each fails, the rows are kept
+pub terms_none : (all before ds : List Def) → list_all is_built_form ds ≡ true → TermParts all before ds → fault_after OfTerms (whole_of all) before ds ≡ None
+terms_none all before [] f p = refl
+terms_none all before (tree.Decl term pure multi partial recursive args ret pos ∷ ds) f p =
+    let d = tree.Decl term pure multi partial recursive args ret pos in
+    let s : Signature = record { term = term; pure = pure; multi = multi; partial = partial; recursive = recursive; args = args; ret = ret; pos = pos } in
+    let g = and_parts (is_built_form d) (list_all is_built_form ds) f in
+    let again = is_some (index_of (terms_of (signatures before)) term) in
+    let a = or_parts again (repeats_after (terms_of (signatures before) ++ term ∷ []) (terms_of (signatures ds))) p.apart in
+    let t = or_parts (names_no_type s) (list_any names_no_type (signatures ds)) p.typed in
+    let m = or_parts (has_too_many s) (list_any has_too_many (signatures ds)) p.few in
+    let rest = terms_none all (before ++ d ∷ []) ds g.1 (record {
+      apart = ap (λ ns. repeats_after ns (terms_of (signatures ds))) (grown signature_of (λ (x : Signature). x.term) before d) ∙ a.1;
+      typed = t.1;
+      few = m.1;
+      externs_apart = ap (λ ns. repeats_after ns (extern_terms (externs ds))) (unchanged extern_of (λ (x : Extern). x.term) before d refl) ∙ p.externs_apart;
+      known = p.known;
+      heads = p.heads;
+    }) in
+    none_later (λ (r : Row). (r, pos)) (broken_in OfTerms (record { whole = whole_of all; before = before }) d) (fault_after OfTerms (whole_of all) (before ++ d ∷ []) ds)
+    (decl_from again (names_no_type s) (has_too_many s) (multi && partial) a.0 t.0 m.0 (single pure multi recursive partial g.0)) rest
+terms_none all before (tree.ExternConstructor term func pos ∷ ds) f p =
+    let d = tree.ExternConstructor term func pos in
+    let again = is_some (index_of (extern_terms (externs before)) term) in
+    let a = or_parts again (repeats_after (extern_terms (externs before) ++ term ∷ []) (extern_terms (externs ds))) p.externs_apart in
+    let k = or_parts (not (is_some (signature_named (signatures all) term))) (has_undeclared (signatures all) (externs ds)) p.known in
+    let rest = terms_none all (before ++ d ∷ []) ds f (record {
+      apart = ap (λ ns. repeats_after ns (terms_of (signatures ds))) (unchanged signature_of (λ (x : Signature). x.term) before d refl) ∙ p.apart;
+      typed = p.typed;
+      few = p.few;
+      externs_apart = ap (λ ns. repeats_after ns (extern_terms (externs ds))) (grown extern_of (λ (x : Extern). x.term) before d) ∙ a.1;
+      known = k.1;
+      heads = p.heads;
+    }) in
+    none_later (λ (r : Row). (r, pos)) (broken_in OfTerms (record { whole = whole_of all; before = before }) d) (fault_after OfTerms (whole_of all) (before ++ d ∷ []) ds)
+    (none_first (not (is_some (signature_named (signatures all) term))) row.TermUndeclared (cond again (Some row.SecondOfTerm) None) k.0 (none_first again row.SecondOfTerm None a.0 refl)) rest
+terms_none all before (tree.Rule name prio term args iflets rhs pos ∷ ds) f p =
+    let d = tree.Rule name prio term args iflets rhs pos in
+    let r : RuleDef = record { name = name; prio = prio; term = term; args = args; iflets = iflets; rhs = rhs; pos = pos } in
+    let g = and_parts (is_built_form d) (list_all is_built_form ds) f in
+    let k = or_parts (is_headless all r) (list_any (is_headless all) (rule_defs ds)) p.heads in
+    let rest = terms_none all (before ++ d ∷ []) ds g.1 (record {
+      apart = ap (λ ns. repeats_after ns (terms_of (signatures ds))) (unchanged signature_of (λ (x : Signature). x.term) before d refl) ∙ p.apart;
+      typed = p.typed;
+      few = p.few;
+      externs_apart = ap (λ ns. repeats_after ns (extern_terms (externs ds))) (unchanged extern_of (λ (x : Extern). x.term) before d refl) ∙ p.externs_apart;
+      known = p.known;
+      heads = k.1;
+    }) in
+    none_later (λ (r : Row). (r, pos)) (broken_in OfTerms (record { whole = whole_of all; before = before }) d) (fault_after OfTerms (whole_of all) (before ++ d ∷ []) ds)
+    (none_first (is_headless all r) row.HeadMisfit None k.0 refl) rest
+terms_none all before (tree.TypeDecl name is_extern is_nodebug body pos ∷ ds) f p = absurd cc
+terms_none all before (tree.ExternExtractor term func infallible pos ∷ ds) f p = absurd cc
+terms_none all before (tree.ExternConst name ty pos ∷ ds) f p = absurd cc
+terms_none all before (tree.Extractor term params template pos ∷ ds) f p = absurd cc
+terms_none all before (tree.Converter from to term pos ∷ ds) f p = absurd cc
+terms_none all before (tree.Passed head items pos ∷ ds) f p = absurd cc

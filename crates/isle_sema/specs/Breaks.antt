@@ -1,0 +1,51 @@
+-- Whether a definition breaks a row of the typing table.
+use Rattle.std.specs.Prelude.{Bool, false, Option, Some, None}
+use Rattle.isle_syntax.specs.Tree.{Def}
+use Rattle.isle_sema.specs.Row as row
+use Rattle.isle_sema.specs.Row.{Row}
+use Rattle.isle_sema.specs.Context.{Context}
+use Rattle.isle_sema.specs.DeclarationRows.{declaration_repeats, type_missing, many_arguments, multi_and_partial, term_undeclared, second_of_term, head_misfit}
+use Rattle.isle_sema.specs.RuleRows.{pattern_term_misfit, literal_misfit, variable_type_misfit, expr_name_misfit, expr_type_misfit, partial_call, impure_call, multi_call, many_nodes}
+
+-- what a row refuses; nothing is said yet of the rows that no definition of a built form can break
+abbrev pub judge : Row → Option (Context → Def → Bool)
+judge row.TypeRepeats = None
+judge row.FieldRepeats = None
+judge row.FieldTypeMissing = None
+judge row.ManyFields = None
+judge row.MadeTermRepeats = None
+judge row.ConstantMisfit = None
+judge row.DeclarationRepeats = Some declaration_repeats
+judge row.TypeMissing = Some type_missing
+judge row.ManyArguments = Some many_arguments
+judge row.MultiAndPartial = Some multi_and_partial
+judge row.TermUndeclared = Some term_undeclared
+judge row.SecondOfTerm = Some second_of_term
+judge row.InfallibleMulti = None
+judge row.ParametersMisfit = None
+judge row.ConverterMisfit = None
+judge row.HeadMisfit = Some head_misfit
+judge row.ExtractorReachesItself = None
+judge row.TemplateMisfit = None
+judge row.PatternTermMisfit = Some pattern_term_misfit
+judge row.PatternTypeMisfit = None
+judge row.LiteralMisfit = Some literal_misfit
+judge row.ConstantUndeclared = None
+judge row.VariableTypeMisfit = Some variable_type_misfit
+judge row.MultiExtractor = None
+judge row.ExprNameMisfit = Some expr_name_misfit
+judge row.ExprTypeMisfit = Some expr_type_misfit
+judge row.ImpureCondition = None
+judge row.PartialCall = Some partial_call
+judge row.ImpureCall = Some impure_call
+judge row.MultiCall = Some multi_call
+judge row.ManyNodes = Some many_nodes
+
+-- the row says something, and refuses the definition
+abbrev pub breaks_by : Option (Context → Def → Bool) → Context → Def → Bool
+breaks_by None c d = false
+breaks_by (Some refuses) c d = refuses c d
+
+-- a definition breaks a row
+abbrev pub breaks : Row → Context → Def → Bool
+breaks r c d = breaks_by (judge r) c d

@@ -1,0 +1,50 @@
+-- The rows of declarations, external constructors and heads, one definition each.
+use Rattle.std.specs.Prelude.{ℕ, List, length, Bool, ◌&&◌, ◌||◌, not, Option, Some, None, is_some, nat_le}
+use Rattle.std.specs.List.{list_all}
+use Rattle.isle_syntax.specs.Tree.{Def, TypeDecl, Decl, ExternConstructor, ExternExtractor, ExternConst, Extractor, Converter, Rule, Passed}
+use Rattle.isle_sema.specs.Symbols.{index_of}
+use Rattle.isle_sema.specs.Signatures.{Signature, Extern, RuleDef, signature_of, extern_of, rule_of, signatures, externs, func_named}
+use Rattle.isle_sema.specs.Heads.{terms_of, extern_terms}
+use Rattle.isle_sema.specs.TypeNames.{type_named}
+use Rattle.isle_sema.specs.Whole.{declared}
+use Rattle.isle_sema.specs.Context.{Context, on}
+
+-- a declaration's name is that of an earlier declaration; made terms are not built
+abbrev pub declaration_repeats : Context → Def → Bool
+declaration_repeats c d = on (signature_of d) (λ (s : Signature). is_some (index_of (terms_of (signatures c.before)) s.term))
+
+-- the type of its result or of an argument is not declared
+abbrev pub type_missing : Context → Def → Bool
+type_missing c d = on (signature_of d) (λ (s : Signature). not (is_some (type_named c.whole.types s.ret) && list_all (λ (n : List ℕ). is_some (type_named c.whole.types n)) s.args))
+
+-- it has more than 256 arguments
+abbrev pub many_arguments : Context → Def → Bool
+many_arguments c d = on (signature_of d) (λ (s : Signature). not (nat_le (length s.args) 256))
+
+-- it is `multi` and `partial`
+abbrev pub multi_and_partial : Context → Def → Bool
+multi_and_partial c d = on (signature_of d) (λ (s : Signature). s.multi && s.partial)
+
+-- the term that an external constructor, an extractor of either kind or a converter names
+abbrev pub named_by : Def → Option (List ℕ)
+named_by (TypeDecl name is_extern is_nodebug body pos) = None
+named_by (Decl term pure multi partial recursive args ret pos) = None
+named_by (ExternConstructor term func pos) = Some term
+named_by (ExternExtractor term func infallible pos) = Some term
+named_by (ExternConst name ty pos) = None
+named_by (Extractor term params template pos) = Some term
+named_by (Converter from to term pos) = Some term
+named_by (Rule name prio term args iflets rhs pos) = None
+named_by (Passed head items pos) = None
+
+-- it names a term that is not declared
+abbrev pub term_undeclared : Context → Def → Bool
+term_undeclared c d = on (named_by d) (λ (name : List ℕ). not (is_some (declared c.whole name)))
+
+-- an external constructor's term has an earlier one; extractors are not built
+abbrev pub second_of_term : Context → Def → Bool
+second_of_term c d = on (extern_of d) (λ (x : Extern). is_some (index_of (extern_terms (externs c.before)) x.term))
+
+-- a rule's head is not declared, or its term has an external constructor
+abbrev pub head_misfit : Context → Def → Bool
+head_misfit c d = on (rule_of d) (λ (r : RuleDef). not (is_some (declared c.whole r.term)) || is_some (func_named (externs c.whole.defs) r.term))

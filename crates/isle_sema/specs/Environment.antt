@@ -1,0 +1,57 @@
+-- The environment that definitions give.
+use Rattle.std.specs.Prelude.{ℕ, List, [], ◌∷◌, Option, Some, option_map, option_and_then}
+use Rattle.isle_core.specs.declared.TypeId.{TypeId}
+use Rattle.isle_core.specs.declared.types.Term.{Term}
+use Rattle.isle_core.specs.declared.types.TermKind.TheVariants as kind
+use Rattle.isle_core.specs.declared.types.ExtractorKind.TheVariants as extractor
+use Rattle.isle_core.specs.declared.types.TypeEnv.{TypeEnv}
+use Rattle.isle_core.specs.Rule.{Rule as CoreRule, Environment}
+use Rattle.isle_syntax.specs.Tree.{Def}
+use Rattle.isle_sema.specs.Symbols.{symbols, sym_of}
+use Rattle.isle_sema.specs.Builtins.{builtins}
+use Rattle.isle_sema.specs.Signatures.{Signature, signatures, externs, rule_defs, func_named, has_rule}
+use Rattle.isle_sema.specs.Elaborated.{constructor_of}
+use Rattle.isle_sema.specs.TypeNames.{type_named}
+use Rattle.isle_sema.specs.Whole.{Whole}
+use Rattle.isle_sema.specs.PatternPass.{tree_before}
+use Rattle.isle_sema.specs.RulePass.{rules_pass}
+
+-- the symbols, types and constants of definitions; of types and constants none is built
+abbrev pub types_of : List Def → TypeEnv
+types_of defs = record { syms = symbols defs; types = builtins; consts = [] }
+
+-- the definitions over their types
+abbrev pub whole_of : List Def → Whole
+whole_of defs = record { types = types_of defs; defs = defs }
+
+-- the types of names, where all are declared
+abbrev pub types_named : TypeEnv → List (List ℕ) → Option (List TypeId)
+types_named types [] = Some []
+types_named types (name ∷ names) = tree_before (type_named types name) (types_named types names)
+
+-- the term of a declaration, on arguments of these types; extractors are not built
+abbrev pub term_from : Whole → Signature → List TypeId → TypeId → Term
+term_from w s args ret = record {
+  name = sym_of w.types.syms s.term;
+  decl_pos = s.pos;
+  arg_tys = args;
+  ret_ty = ret;
+  kind = kind.Decl s.pure s.multi s.partial s.recursive (constructor_of w.types.syms (func_named (externs w.defs) s.term) (has_rule (rule_defs w.defs) s.term)) extractor.Absent;
+}
+
+-- the term of a declaration, where its types are declared
+abbrev pub term_pass : Whole → Signature → Option Term
+term_pass w s = option_and_then (λ (args : List TypeId). option_map (term_from w s args) (type_named w.types s.ret)) (types_named w.types s.args)
+
+-- the terms of declarations, in order
+abbrev pub terms_pass : Whole → List Signature → Option (List Term)
+terms_pass w [] = Some []
+terms_pass w (s ∷ sigs) = tree_before (term_pass w s) (terms_pass w sigs)
+
+-- types, terms and rules
+abbrev pub env_over : TypeEnv → List Term → List CoreRule → Environment
+env_over types terms rules = record { types = types; terms = terms; rules = rules; converters = [] }
+
+-- the environment of definitions, where their forms are built and their types are known
+abbrev pub env_of : List Def → Option Environment
+env_of defs = option_and_then (λ (terms : List Term). option_map (env_over (types_of defs) terms) (rules_pass (whole_of defs) 0 (rule_defs defs))) (terms_pass (whole_of defs) (signatures defs))

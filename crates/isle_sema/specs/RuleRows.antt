@@ -1,0 +1,113 @@
+-- The rows of rules, one definition each, over the parts of a rule where they stand.
+use Rattle.std.specs.Prelude.{ℕ, length, Bool, true, false, ◌==◌, ◌&&◌, ◌||◌, not, Option, Some, None, is_some, nat_le}
+use Rattle.std.specs.List.{list_any}
+use Rattle.isle_core.specs.declared.TypeId.{TypeId}
+use Rattle.isle_syntax.specs.Tree.{Def}
+use Rattle.isle_sema.specs.Signatures.{Signature, RuleDef, rule_of}
+use Rattle.isle_sema.specs.TypeNames.{type_named, takes_integers, takes_truths}
+use Rattle.isle_sema.specs.Whole.{Whole, declared, has_constructor}
+use Rattle.isle_sema.specs.Site.{Site, IntegerAt, TruthAt, WildcardAt, MetAt, UsedAt, CalledAt, NotBuiltAt}
+use Rattle.isle_sema.specs.RulePass.{right_side_of, sites_of}
+use Rattle.isle_sema.specs.Context.{Context, on}
+
+-- two types, both known, that differ; no converter is built
+abbrev pub differ : Option TypeId → Option TypeId → Bool
+differ None expected = false
+differ (Some ty) None = false
+differ (Some ty) (Some expected) = not (ty.0 == expected.0)
+
+-- a rule's head has another number of arguments than its term; terms in patterns are not built
+abbrev pub pattern_term_misfit : Context → Def → Bool
+pattern_term_misfit c d = on (rule_of d) (λ (r : RuleDef). on (declared c.whole r.term) (λ (s : Signature). not (length r.args == length s.args)))
+
+-- an integer where no type of integers is expected, or `true` or `false` where another type than bool is
+abbrev pub is_misplaced : Whole → Site → Bool
+is_misplaced w (IntegerAt expected) = not (takes_integers w.types expected)
+is_misplaced w (TruthAt expected) = not (takes_truths w.types expected)
+is_misplaced w WildcardAt = false
+is_misplaced w (MetAt expected bound) = false
+is_misplaced w (UsedAt expected bound) = false
+is_misplaced w (CalledAt expected callee count) = false
+is_misplaced w NotBuiltAt = false
+
+-- one stands so in a rule
+abbrev pub literal_misfit : Context → Def → Bool
+literal_misfit c d = on (rule_of d) (λ (r : RuleDef). list_any (is_misplaced c.whole) (sites_of c.whole r))
+
+-- a type that differs from the one that is expected, where there is one
+abbrev pub is_other_type : Option (Option TypeId) → Option TypeId → Bool
+is_other_type None expected = false
+is_other_type (Some ty) expected = differ ty expected
+
+-- a variable of a pattern that was bound at another type
+abbrev pub is_met_otherwise : Site → Bool
+is_met_otherwise (IntegerAt expected) = false
+is_met_otherwise (TruthAt expected) = false
+is_met_otherwise WildcardAt = false
+is_met_otherwise (MetAt expected bound) = is_other_type bound expected
+is_met_otherwise (UsedAt expected bound) = false
+is_met_otherwise (CalledAt expected callee count) = false
+is_met_otherwise NotBuiltAt = false
+
+-- a variable that is met again has another type
+abbrev pub variable_type_misfit : Context → Def → Bool
+variable_type_misfit c d = on (rule_of d) (λ (r : RuleDef). list_any is_met_otherwise (sites_of c.whole r))
+
+-- a call of a term that is not declared, has another number of arguments, or has no constructor
+abbrev pub is_call_misfit : Whole → Option Signature → ℕ → Bool
+is_call_misfit w None count = true
+is_call_misfit w (Some s) count = not (count == length s.args) || not (has_constructor w s.term)
+
+-- an expression's variable that is not bound, or such a call
+abbrev pub is_unknown : Whole → Site → Bool
+is_unknown w (IntegerAt expected) = false
+is_unknown w (TruthAt expected) = false
+is_unknown w WildcardAt = false
+is_unknown w (MetAt expected bound) = false
+is_unknown w (UsedAt expected bound) = not (is_some bound)
+is_unknown w (CalledAt expected callee count) = is_call_misfit w callee count
+is_unknown w NotBuiltAt = false
+
+-- one stands in a rule
+abbrev pub expr_name_misfit : Context → Def → Bool
+expr_name_misfit c d = on (rule_of d) (λ (r : RuleDef). list_any (is_unknown c.whole) (sites_of c.whole r))
+
+-- an expression's variable or call that has another type than the one expected
+abbrev pub is_mistyped : Whole → Site → Bool
+is_mistyped w (IntegerAt expected) = false
+is_mistyped w (TruthAt expected) = false
+is_mistyped w WildcardAt = false
+is_mistyped w (MetAt expected bound) = false
+is_mistyped w (UsedAt expected bound) = is_other_type bound expected
+is_mistyped w (CalledAt expected callee count) = on callee (λ (s : Signature). differ (type_named w.types s.ret) expected)
+is_mistyped w NotBuiltAt = false
+
+-- one stands in a rule; `let` is not built
+abbrev pub expr_type_misfit : Context → Def → Bool
+expr_type_misfit c d = on (rule_of d) (λ (r : RuleDef). list_any (is_mistyped c.whole) (sites_of c.whole r))
+
+-- a call of a declared term of which this holds
+abbrev pub is_call_of : (Signature → Bool) → Site → Bool
+is_call_of test (IntegerAt expected) = false
+is_call_of test (TruthAt expected) = false
+is_call_of test WildcardAt = false
+is_call_of test (MetAt expected bound) = false
+is_call_of test (UsedAt expected bound) = false
+is_call_of test (CalledAt expected callee count) = on callee test
+is_call_of test NotBuiltAt = false
+
+-- a right side calls a partial term in a term that is not `partial`
+abbrev pub partial_call : Context → Def → Bool
+partial_call c d = on (rule_of d) (λ (r : RuleDef). on (declared c.whole r.term) (λ (s : Signature). not s.partial && list_any (is_call_of (λ (t : Signature). t.partial)) (right_side_of c.whole r).sites))
+
+-- a right side calls a term that is not `pure` in a `pure` term
+abbrev pub impure_call : Context → Def → Bool
+impure_call c d = on (rule_of d) (λ (r : RuleDef). on (declared c.whole r.term) (λ (s : Signature). s.pure && list_any (is_call_of (λ (t : Signature). not t.pure)) (right_side_of c.whole r).sites))
+
+-- an expression calls a `multi` term in a rule of a term without `multi`
+abbrev pub multi_call : Context → Def → Bool
+multi_call c d = on (rule_of d) (λ (r : RuleDef). on (declared c.whole r.term) (λ (s : Signature). not s.multi && list_any (is_call_of (λ (t : Signature). t.multi)) (sites_of c.whole r)))
+
+-- a rule has more than 4,096 nodes: each of its parts is one, and none is replaced by a template yet
+abbrev pub many_nodes : Context → Def → Bool
+many_nodes c d = on (rule_of d) (λ (r : RuleDef). not (nat_le (length (sites_of c.whole r)) 4096))

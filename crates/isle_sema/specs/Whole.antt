@@ -1,0 +1,30 @@
+-- All definitions of a program over the types that they give, and what names mean in them.
+use Rattle.std.specs.Prelude.{ℕ, List, [], Bool, ◌||◌, Option, Some, None, is_some, map}
+use Rattle.isle_core.specs.declared.TypeId.{TypeId}
+use Rattle.isle_core.specs.declared.types.TypeEnv.{TypeEnv}
+use Rattle.isle_syntax.specs.Tree.{Def}
+use Rattle.isle_sema.specs.Signatures.{Signature, signatures, externs, rule_defs, signature_named, func_named, has_rule}
+use Rattle.isle_sema.specs.TypeNames.{type_named}
+
+-- the definitions, and the symbols, types and constants that they give
+pub record Whole : Type 0 where
+  pub types : TypeEnv
+  pub defs : List Def
+
+-- the declaration of a name
+abbrev pub declared : Whole → List ℕ → Option Signature
+declared w name = signature_named (signatures w.defs) name
+
+-- a term of the name has an external constructor or a rule
+abbrev pub has_constructor : Whole → List ℕ → Bool
+has_constructor w name = is_some (func_named (externs w.defs) name) || has_rule (rule_defs w.defs) name
+
+-- the types that are expected of a term's arguments: of a term that is not there, none
+abbrev pub arg_types : Whole → Option Signature → List (Option TypeId)
+arg_types w None = []
+arg_types w (Some s) = map (type_named w.types) s.args
+
+-- the type that a term gives
+abbrev pub ret_type : Whole → Option Signature → Option TypeId
+ret_type w None = None
+ret_type w (Some s) = type_named w.types s.ret
