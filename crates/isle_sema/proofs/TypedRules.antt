@@ -87,7 +87,7 @@ rule_typed defs r n i (Some s) is built external h =
         args = args_typed defs s.args r.args [] (eqb-true (length r.args) (length s.args) (not-false (length r.args == length s.args) m.0)) m.1;
         once = (apart_numbers r.args tys [] (not-true (repeats (flat_map pattern_names r.args)) b.1)).once;
         iflets = refl;
-        rhs = subst (λ x. IsExprOf (env_of defs) x (elaborated.patterns_at tys r.args []) (type_of s.ret) (elaborated.expr_at (signatures defs) (type_of s.ret) r.rhs (elaborated.vars_of r.args []))) (sym (same_flag s.partial)) (expr_typed defs s.partial r.args tys s.ret r.rhs b.0 external rhs.0 rhs.1);
+        rhs = subst (λ x. IsExprOf (env_made defs) x (elaborated.patterns_at tys r.args []) (type_of s.ret) (elaborated.expr_at (signatures defs) (type_of s.ret) r.rhs (elaborated.vars_of r.args []))) (sym (same_flag s.partial)) (expr_typed defs s.partial r.args tys s.ret r.rhs b.0 external rhs.0 rhs.1);
       };
     }
 
