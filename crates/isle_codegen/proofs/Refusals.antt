@@ -1,18 +1,20 @@
--- Failures that are passed on.
-use Rattle.std.proofs.Common.{◌≡◌, List, Result, Err, ap}
-use Rattle.isle_core.specs.Rule.{Environment}
-use Rattle.isle_core.specs.declared.types.TypeEnv.{TypeEnv}
-use Rattle.isle_syntax.specs.Tree.{Def}
-use Rattle.isle_sema.specs.declared.typing.EnvError.{EnvError}
-use Rattle.isle_sema.specs.declared.typing.EnvError.TheVariants as env_error
-use Rattle.isle_sema.specs.Typing.{TypesFrom}
-use Rattle.isle_codegen.specs.Source.{IsCompilable}
-use Rattle.isle_sema.proofs.TypedOnce.{typed_types}
+-- Refusals of the texts of files.
+use Rattle.std.proofs.Common.{◌≡◌, ℕ, List, Result, Ok, Err, Option, Some, None, subst}
+use Rattle.std.specs.Prelude.{IfErr, IfSome}
+use Rattle.isle_outside.specs.Directory.{Files, Counts}
+use Rattle.isle_core.specs.declared.options.CodegenOptions.{CodegenOptions}
+use Rattle.isle_core.specs.Inputs.{AreRead}
+use Rattle.isle_codegen.specs.declared.file_error.FileError.{FileError}
+use Rattle.isle_codegen.specs.declared.file_error.FileError.TheVariants as error
+use Rattle.isle_codegen.specs.Causes.{printed, IsNotOfIt, IsRefusal, AllTried, HasCause}
 
-inner : {T E : Type 0} (a b : E) → (let r : Result T E = Err a in r) ≡ Err b → a ≡ b
-inner a b e = cc
-
--- definitions whose types are not built are not typed
-pub not_typed : {T : Type 0} (ds : List Def) (fail : EnvError) → (let r : Result TypeEnv EnvError = Err fail in r ≡ Err env_error.NotYet → (env : TypeEnv) → TypesFrom ds env → ⊥)
-    → (let r : Result T EnvError = Err fail in r ≡ Err env_error.NotYet) → (env : Environment) → IsCompilable ds env → ⊥
-not_typed ds fail h e env t = h (ap Err (inner fail env_error.NotYet e)) env.types (typed_types t.typed)
+-- behind inputs that were read, a refusal of their texts is one of the files
+pub read_causes : {T : Type 0} (r : Result T FileError) (options : CodegenOptions) (files : Option Files) (inputs names texts : List (List ℕ)) (before after : Counts) → names ≡ printed options inputs
+    → AllTried inputs before after → IfSome files (λ fs. AreRead fs inputs texts) → IfErr r (λ e. IsRefusal e names texts) → IfErr r (λ e. HasCause e options files inputs before after)
+read_causes (Ok x) options files inputs names texts before after is tried read h = tt
+read_causes (Err error.NotYet) options (Some fs) inputs names texts before after is tried read h = (tried, record { texts = texts; read = read; refused = subst (λ (ns : List (List ℕ)). IsNotOfIt ns texts) is h })
+read_causes (Err error.NotYet) options None inputs names texts before after is tried read h = (tried, tt)
+read_causes (Err error.Memory) options files inputs names texts before after is tried read h = tried.1
+read_causes (Err (error.Io index why)) options files inputs names texts before after is tried read h = absurd h
+read_causes (Err (error.Errors errors)) options files inputs names texts before after is tried read h = absurd h
+read_causes (Err (error.Name name)) options files inputs names texts before after is tried read h = absurd h
