@@ -32,7 +32,7 @@ unread asked files before after index why wrote h f = record {
   index = index;
   why = why;
   cause = h;
-  line = at_number (inputs_of asked) index (λ name. wrote (unread_line name why)) h.0 f;
+  line = at_number (inputs_of asked) index (λ name. wrote (unread_line name why)) h.1.0 f;
 }
 
 -- a word with which no line goes on

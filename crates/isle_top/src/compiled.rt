@@ -25,7 +25,7 @@ pub fn compiled<D: Dir>(alloc: Global, name: &str, dir: &mut D) -> Result<String
     let options = CodegenOptions::new(alloc);
     match from_files(alloc, dir, inputs.as_slice(), &options) {
         Ok(text) => Ok(text),
-        Err(FileError::Io { cause, .. }) => Err(Refusal::Unread(0, cause)),
+        Err(FileError::Io { index, cause }) => Err(Refusal::Unread(index, cause)),
         Err(FileError::Memory) => Err(Refusal::Memory),
         Err(_) => Err(Refusal::NotYet),
     }
