@@ -78,9 +78,9 @@ mutual
       ⊎_elim
       (λ d. inl d)
       (λ d. ⊎_elim
-          (λ x. inl (control_calls k more env t bs partial (bound_by bound binds) _ callee h.2 o.0 x))
-          (λ x. block_calls more env t bs partial (bound_by bound binds) _ end callee h.3 o.1 x)
-          (Contains-append_cases (stmt_calls (control_stmt env bs partial (bound_by bound binds) k)) (body_calls (block_body env bs partial (bound_by bound binds) more end)) callee d))
+      (λ x. inl (control_calls k more env t bs partial (bound_by bound binds) _ callee h.2 o.0 x))
+      (λ x. block_calls more env t bs partial (bound_by bound binds) _ end callee h.3 o.1 x)
+      (Contains-append_cases (stmt_calls (control_stmt env bs partial (bound_by bound binds) k)) (body_calls (block_body env bs partial (bound_by bound binds) more end)) callee d))
       (lets_calls env t bs bound binds (Then (control_stmt env bs partial (bound_by bound binds) k) (block_body env bs partial (bound_by bound binds) more end)) callee h.0 c)
 
   control_calls : (k : Control) (more : Block) (env : Environment) (t : Term) (bs : List Binding) (partial : Bool) (bound made : List ℕ) (callee : Callee) → IsLawfulControl (setting env t bs) bound made k more → IsSingle k

@@ -9,8 +9,8 @@ ghost use Rattle.isle_interpreter.specs.Sources.{source, answered_by};
 
 use crate::holding::Holding;
 use crate::source::Source;
-use isle_outcomes::{copied, same, text_copied};
 use isle_core::{Answer, Callee, PureAnswers, Value};
+use isle_outcomes::{copied, same, text_copied};
 use std::alloc::{AllocError, Global};
 
 /// Copies what a call goes to.

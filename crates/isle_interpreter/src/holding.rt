@@ -2,8 +2,8 @@
 
 ghost use Rattle.std.specs.Prelude.{◌≡◌, IfOk};
 
-use isle_outcomes::copied;
 use isle_core::Value;
+use isle_outcomes::copied;
 use std::alloc::{AllocError, Global};
 
 /// What a place holds: nothing that there is, a value, or an option of one.

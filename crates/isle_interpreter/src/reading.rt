@@ -7,8 +7,8 @@ ghost use Rattle.isle_interpreter.specs.RunViews.{held, locals};
 
 use crate::bound::Bound;
 use crate::holding::{Holding, holding_copied};
-use isle_outcomes::copied;
 use isle_core::Value;
+use isle_outcomes::copied;
 use isle_tree::{Operand, Read};
 use std::alloc::{AllocError, Global};
 

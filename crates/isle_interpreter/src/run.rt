@@ -15,8 +15,8 @@ use crate::flow::Flow;
 use crate::frame::Frame;
 use crate::holding::Holding;
 use crate::reading::{read_value, read_values, value_of};
-use isle_outcomes::same;
 use isle_core::{End, Value};
+use isle_outcomes::same;
 use isle_tree::{Operand, Stmt, TCall, TExpr};
 use std::alloc::{AllocError, Global};
 

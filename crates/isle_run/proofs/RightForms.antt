@@ -51,18 +51,18 @@ fits_signature env t s a is b h =
     let kinds = subst (λ k. AnswerFits (record { params = s.params; results = map (type_text env) (t.ret_ty ∷ []); kind = k }) a) (sym is.kind) by in
     subst (λ rs. AnswerFits (record { params = s.params; results = rs; kind = s.kind }) a) (sym is.results) kinds
 
-all_fit : (env : Environment) (t : Term) (s : Signature) (as : List Answer) → IsSignatureOf env t s → AllByRecursion (IsBuiltinType env) (t.ret_ty ∷ []) → AllByRecursion (Fits env (kind_of t.kind) (t.ret_ty ∷ [])) as → AllByRecursion (AnswerFits s) as
+all_fit : (env : Environment) (t : Term) (s : Signature) (given : List Answer) → IsSignatureOf env t s → AllByRecursion (IsBuiltinType env) (t.ret_ty ∷ []) → AllByRecursion (Fits env (kind_of t.kind) (t.ret_ty ∷ [])) given → AllByRecursion (AnswerFits s) given
 all_fit env t s [] is b h = tt
-all_fit env t s (a ∷ as) is b h = (fits_signature env t s a is b h.0, all_fit env t s as is b h.1)
+all_fit env t s (a ∷ given) is b h = (fits_signature env t s a is b h.0, all_fit env t s given is b h.1)
 
 -- no turns of a callee is no form of it
-unanswered : (c : Callee) (as : List TurnAnswers) → HasNoTurns c as → IsUnanswered c (map Turns as)
+unanswered : (c : Callee) (given : List TurnAnswers) → HasNoTurns c given → IsUnanswered c (map Turns given)
 unanswered c [] h = tt
-unanswered c (a ∷ as) h = (h.0, unanswered c as h.1)
+unanswered c (a ∷ given) h = (h.0, unanswered c given h.1)
 
-pub answered_back : (c : Callee) (as : List TurnAnswers) → IsUnanswered c (map Turns as) → HasNoTurns c as
+pub answered_back : (c : Callee) (given : List TurnAnswers) → IsUnanswered c (map Turns given) → HasNoTurns c given
 answered_back c [] h = tt
-answered_back c (a ∷ as) h = (h.0, answered_back c as h.1)
+answered_back c (a ∷ given) h = (h.0, answered_back c given h.1)
 
 some_with : {A : Type 0} (P : A → Type 0) (o : Option A) (x : A) → o ≡ Some x → P x → IsSomeAnd o P
 some_with P o x e h = subst (λ z. IsSomeAnd z P) (sym e) h

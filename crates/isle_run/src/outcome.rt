@@ -18,8 +18,8 @@ use crate::halt::Halt;
 use crate::trial_error::TrialError;
 use isle_answers::{AnswersFail, Form, forms};
 use isle_core::{Outcome, TermEnv, TypeEnv, Value};
-use isle_run_inputs::{answers_at, are_built, place_at};
 use isle_interpreter::{RunError, run_term, takes};
+use isle_run_inputs::{answers_at, are_built, place_at};
 use isle_tree::Program;
 use std::alloc::Global;
 

@@ -11,8 +11,8 @@ ghost use Rattle.isle_outcomes.specs.Lines.{call_line, call_lines, run_lines};
 ghost use Rattle.isle_run.specs.Trial.{shown_run};
 
 use isle_core::{CallMade, OutOfMemory, Outcome, TermEnv, TypeEnv};
-use isle_run_inputs::AnswerTypes;
 use isle_outcomes::{end_line, push_call};
+use isle_run_inputs::AnswerTypes;
 use std::alloc::Global;
 
 // Appends the line of a call, where it goes to an impure term.

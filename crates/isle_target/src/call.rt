@@ -6,9 +6,9 @@ ghost use Rattle.isle_target.specs.Spelling.{call_head, args_tokens, call_tokens
 ghost use Rattle.isle_tree.specs.WellFormed.{IsCall};
 
 use crate::operand::print_read;
-use isle_tree::{Read, TCall};
 use isle_core::Callee;
 use isle_printer::Printer;
+use isle_tree::{Read, TCall};
 use std::alloc::{AllocError, Global};
 
 // Prints `C::F(ctx`.

@@ -7,9 +7,9 @@ ghost use Rattle.isle_tree.specs.WellFormed.{AreResults, IsTy, IsTraitFn};
 ghost use Rattle.isle_target.specs.Spelling.{trait_head, self_param, trait_fn_head, comma, typed_tokens, joined_tokens, results_tokens, trait_result, trait_fn_tokens, trait_fns_tokens, trait_tokens};
 
 use crate::function::{print_gives, print_result, print_typed};
-use isle_tree::{TraitFn, Ty};
 use isle_core::{ReturnKind, Text};
 use isle_printer::Printer;
+use isle_tree::{TraitFn, Ty};
 use std::alloc::{AllocError, Global};
 
 // Prints `(&mut self,`.

@@ -4,8 +4,8 @@ ghost use Rattle.std.specs.Prelude.{◌↔◌, IsTrue};
 ghost use Rattle.isle_tree.specs.Views.{stmt, body};
 ghost use Rattle.isle_tree.specs.WellFormed.{FitsLet, IsReturned, FitsStmt, FitsBody, FitsLast, FitsFunction};
 
-use isle_tree::{Stmt, TExpr};
 use isle_core::ReturnKind;
+use isle_tree::{Stmt, TExpr};
 
 // Whether a `let` may compute it in a function of the kind.
 fn fits_let(kind: ReturnKind, e: &TExpr) -> bool

@@ -7,15 +7,13 @@ ghost use Rattle.isle_tree.specs.Views.{program, function};
 ghost use Rattle.isle_tree.specs.WellFormed.{IsFunction, IsWellFormed};
 
 use crate::bound::Bound;
-use isle_tree::Callees;
-use isle_tree::{are_apart, are_distinct};
 use crate::fits::fits_function;
 use crate::names::{has_names, is_kind};
 use crate::shapes::is_body;
 use crate::there::is_body_there;
 use crate::trait_fns::are_trait_fns;
-use isle_tree::{Function, Program};
 use isle_core::OutOfMemory;
+use isle_tree::{Callees, Function, Program, are_apart, are_distinct};
 use std::alloc::Global;
 
 // Whether a function is well formed in a program with these functions of the trait, whatever else is in it.

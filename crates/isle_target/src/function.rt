@@ -8,9 +8,9 @@ ghost use Rattle.isle_tree.specs.WellFormed.{IsTermName, IsBuiltin, IsTy, IsBody
 ghost use Rattle.isle_target.specs.Spelling.{constructor_word, generics, context_param, function_head, typed_tokens, param_tokens, params_tokens, result_tokens, result_part, function_tokens};
 
 use crate::statement::print_body;
-use isle_tree::{Function, Ty};
 use isle_core::ReturnKind;
 use isle_printer::Printer;
+use isle_tree::{Function, Ty};
 use std::alloc::{AllocError, Global};
 
 // Prints `pub fn`.

@@ -4,10 +4,8 @@ ghost use Rattle.std.specs.Prelude.{◌≡◌, Some, []};
 ghost use Rattle.isle_tree.specs.WellFormed.{operand_holds, read_holds, is_value, are_values, kind_holds, call_holds, callee_holds, inner_holds, expr_holds};
 
 use crate::bound::Bound;
-use isle_tree::Callees;
-use isle_tree::Holds;
-use isle_tree::{Operand, Read, TCall, TExpr, TraitFn};
 use isle_core::{Callee, ReturnKind};
+use isle_tree::{Callees, Holds, Operand, Read, TCall, TExpr, TraitFn};
 
 /// Returns what an operand holds, where it is there.
 pub fn operand_holds(bound: &Bound, params: usize, o: &Operand) -> Option<Holds>

@@ -19,4 +19,5 @@ mod there;
 mod trait_fns;
 
 pub use forms::well_formed;
+pub use isle_spelling::rust_int_literal;
 pub use print::print_program;

@@ -5,9 +5,9 @@ ghost use Rattle.isle_target.specs.Spelling.{operand_tokens, read_tokens, expr_t
 ghost use Rattle.isle_tree.specs.WellFormed.{IsExpr};
 
 use crate::call::print_call;
+use isle_printer::Printer;
 use isle_spelling::print_literal;
 use isle_tree::{Operand, Read, TExpr};
-use isle_printer::Printer;
 use std::alloc::{AllocError, Global};
 
 /// Prints an operand. What is printed after an error is left open.

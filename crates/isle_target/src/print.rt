@@ -9,11 +9,11 @@ ghost use Rattle.isle_target.specs.Spelling.{allow_part, functions_tokens, progr
 ghost use Rattle.isle_target.specs.Reading.{SpellsOnly};
 
 use crate::context::print_trait;
-use isle_spelling::{print_allow, print_fixed, print_uses};
 use crate::function::print_function;
-use isle_tree::Program;
 use isle_core::OutOfMemory;
 use isle_printer::Printer;
+use isle_spelling::{print_allow, print_fixed, print_uses};
+use isle_tree::Program;
 use std::alloc::{AllocError, Global};
 
 // The allow lines, where they are wanted, and the uses.

@@ -7,9 +7,9 @@ ghost use Rattle.isle_tree.specs.WellFormed.{IsExpr, IsStmt, IsBody};
 ghost use Rattle.isle_target.specs.Spelling.{let_tokens, return_tokens, if_eq_head, no_rule, unreachable_head, tail_tokens, stmt_tokens, body_tokens};
 
 use crate::operand::{print_expr, print_operand};
-use isle_tree::{Operand, Stmt, TExpr};
 use isle_core::Text;
 use isle_printer::Printer;
+use isle_tree::{Operand, Stmt, TExpr};
 use std::alloc::{AllocError, Global};
 
 /// What a run says that no rule matched in.

@@ -1,8 +1,8 @@
 //! What no line of words shows: trees that emission never makes, and numbers that are wrapped.
 
-use isle_tree::{Function, Operand, Program, Read, Stmt, TExpr, Ty};
 use crate::{rust_int_literal, well_formed};
 use isle_core::{IntType, List, ReturnKind, Text};
+use isle_tree::{Function, Operand, Program, Read, Stmt, TExpr, Ty};
 use std::alloc::{AllocError, Global};
 use std::test::Fail;
 

@@ -5,11 +5,9 @@ ghost use Rattle.isle_tree.specs.Views.{stmt, body};
 ghost use Rattle.isle_tree.specs.WellFormed.{expr_holds, GivesKind, behind_let, IsStmtThere, IsBodyThere, bound_behind};
 
 use crate::bound::Bound;
-use isle_tree::Callees;
 use crate::held::{expr_holds, is_value, operand_holds};
-use isle_tree::Holds;
-use isle_tree::Stmt;
 use isle_core::ReturnKind;
+use isle_tree::{Callees, Holds, Stmt};
 use std::alloc::AllocError;
 
 // Whether a return in a function of the kind may give it.

@@ -4,10 +4,10 @@ ghost use Rattle.std.specs.Prelude.{◌↔◌, IsTrue};
 ghost use Rattle.std.specs.List.{AllByRecursion};
 ghost use Rattle.isle_tree.specs.WellFormed.{AreResults, IsTraitFn};
 
-use isle_spelling::is_identifier;
 use crate::names::{are_tys, is_builtin, is_kind};
-use isle_tree::TraitFn;
 use isle_core::Text;
+use isle_spelling::is_identifier;
+use isle_tree::TraitFn;
 
 // Whether there is one result, of a builtin type.
 fn are_results(names: &[Text]) -> bool
