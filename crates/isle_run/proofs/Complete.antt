@@ -2,7 +2,6 @@
 use Rattle.std.proofs.Common.{◌≡◌, ℕ, List, [], ◌∷◌, map, Bool, true, false, Some, ⊎_elim, refl, sym, ap, ◌∙◌, subst}
 use Rattle.std.specs.Prelude.{slice_get, Result, Ok, Err, IfErr, IsOkUnless}
 use Rattle.std.specs.List.{AllByRecursion}
-use Rattle.std.proofs.lemmas.List.{map-map}
 use Rattle.isle_core.specs.declared.TypeId.{TypeId}
 use Rattle.isle_core.specs.declared.files.Files.{Files}
 use Rattle.isle_core.specs.declared.options.CodegenOptions.{CodegenOptions}
@@ -75,19 +74,19 @@ count_of : (p : Program) (term : List ℕ) (args : List Value) (m n : Meaning) �
 count_of p term args m n (refusal.arg_count f e k) = refusal.arg_count f e k
 
 type_of : (p : Program) (term : List ℕ) (args : List Value) (m n : Meaning) (i : ℕ) → IsRefused p term args m (error.ArgType i) → IsRefused p term args n (error.ArgType i)
-type_of p term args m n i (refusal.arg_type f i e k w) = refusal.arg_type f i e k w
+type_of p term args m n _ (refusal.arg_type f i e k w) = refusal.arg_type f i e k w
 
 module _ (options : CodegenOptions) (files : Files) (term : List ℕ) (ws : Writtens) (text : List ℕ) (c : CanRun files term ws text) (p : Program) (conforms : Conforms options files c.env p) where
-  typed : Typed c.checked.defs c.env
+  abbrev typed : Typed c.checked.defs c.env
   typed = c.checked.typed.typed
 
-  answers : Meaning
+  abbrev answers : Meaning
   answers = answers_at c.env c.forms
 
-  args : List Value
+  abbrev args : List Value
   args = args_given c.env term ws
 
-  the_function : HasFunction files c.env term p.fns c.id
+  abbrev the_function : HasFunction files c.env term p.fns c.id
   the_function = asked_function files c.env term (with_rules c.env) p.fns c.id conforms.functions.declared conforms.functions.blocks c.asked
 
   some_same : (a b : Term) → Some a ≡ Some b → a ≡ b

@@ -3,7 +3,7 @@ use Rattle.std.proofs.Common.{◌≡◌, ℕ, List, [], ◌∷◌, ◌++◌, map
 use Rattle.std.specs.Prelude.{IsSomeAnd, slice_get, option_map}
 use Rattle.std.specs.List.{AllByRecursion, IsDistinct}
 use Rattle.std.specs.Str.{bytes_eq}
-use Rattle.std.proofs.lemmas.List.{map-append, map-map}
+use Rattle.std.proofs.lemmas.List.{map-append}
 use Rattle.isle_core.specs.declared.TypeId.{TypeId}
 use Rattle.isle_core.specs.declared.files.Files.{Files}
 use Rattle.isle_core.specs.declared.options.CodegenOptions.{CodegenOptions}
@@ -74,12 +74,12 @@ module _ (options : CodegenOptions) (files : Files) (defs : List Def) (env : Env
 
   -- the signature of what is served
   served_signature : (c : Callee) (t : Term) → IsServed env c t → (s : Signature) × (signature_of p c ≡ Some s) × IsSignatureOf env t s
-  served_signature (callee.External name) t (external i t func at e) = (
+  served_signature _ _ (external i t func at e) = (
     trait_signature (fn_for env t func),
     ap (option_map trait_signature) (ap (λ (fs : List TraitFn). trait_fn fs (sym_text env func)) conforms.frame.trait_fns ∙ served_fn env env.terms i t func distinct_names at e),
     record { results = refl; kind = typed_answers defs env i t typed at },
   )
-  served_signature (callee.Internal name) t (internal name id t asked at) =
+  served_signature _ _ (internal name id t asked at) =
       let h = asked_function files env name (with_rules env) p.fns id conforms.functions.declared conforms.functions.blocks asked in
       let same : h.declared.term ≡ t = some_same h.declared.term t (sym h.declared.there ∙ at) in (
         term_signature h.function,
@@ -94,8 +94,8 @@ module _ (options : CodegenOptions) (files : Files) (defs : List Def) (env : Env
       some_same a b e = cc
 
   builtin_result : (c : Callee) (t : Term) → IsServed env c t → AllByRecursion (IsBuiltinType env) (t.ret_ty ∷ [])
-  builtin_result c t (external i t func at e) = ((typed_types defs env i t typed at).0, tt)
-  builtin_result c t (internal name id t asked at) = ((typed_types defs env id.0 t typed at).0, tt)
+  builtin_result _ _ (external i t func at e) = ((typed_types defs env i t typed at).0, tt)
+  builtin_result _ _ (internal name id t asked at) = ((typed_types defs env id.0 t typed at).0, tt)
 
   turns_right : (earlier : List TurnAnswers) (a : TurnAnswers) → AreRightTurns env earlier a → IsRight p (map Turns earlier) (Turns a)
   turns_right earlier a h =

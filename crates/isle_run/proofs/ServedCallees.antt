@@ -3,7 +3,7 @@ use Rattle.std.proofs.Common.{◌≡◌, ℕ, zero, suc, List, [], ◌∷◌, ma
 use Rattle.std.specs.Prelude.{Contains, find, filter_map, slice_get, option_map}
 use Rattle.std.specs.List.{AllByRecursion, IsDistinct, cons_option}
 use Rattle.std.specs.Str.{bytes_eq}
-use Rattle.std.proofs.lemmas.Bool.Decides.{bytes_eq-Decides}
+use Rattle.std.proofs.lemmas.Slice.Eq.{bytes_eq-Decides}
 use Rattle.isle_core.specs.declared.Sym.{Sym}
 use Rattle.isle_core.specs.declared.types.Term.{Term}
 use Rattle.isle_core.specs.Rule.{Environment}
@@ -52,11 +52,12 @@ served_fn env (u ∷ ts) zero t func d at e = let same : u ≡ t = cc in by (fun
   where
     by : (o : Option Sym) → o ≡ Some func → u ≡ t → trait_fn (cons_option (option_map (fn_for env u) o) (trait_fns_in env ts)) (sym_text env func) ≡ Some (fn_for env t func)
     by o is same = rw (is, (bytes_eq-Decides (sym_text env func) (sym_text env func)).1 refl) (ap (λ (x : Term). Some (fn_for env x func)) same)
-served_fn env (u ∷ ts) (suc i) t func d at e = by (func_of u.kind) d
+served_fn env (u ∷ ts) (suc i) t func d at e = by (func_of u.kind) d (λ k. served_fn env ts i t func k at e)
   where
     by : (o : Option Sym) → IsDistinct bytes_eq (fn_names (cons_option (option_map (fn_for env u) o) (trait_fns_in env ts)))
+        → (IsDistinct bytes_eq (names_in env ts) → trait_fn (trait_fns_in env ts) (sym_text env func) ≡ Some (fn_for env t func))
         → trait_fn (cons_option (option_map (fn_for env u) o) (trait_fns_in env ts)) (sym_text env func) ≡ Some (fn_for env t func)
-    by None d = served_fn env ts i t func d at e
-    by (Some other) d =
+    by None d go = go d
+    by (Some other) d go =
         rw (apart (sym_text env other) (sym_text env func) (of_each (λ y. bytes_eq (sym_text env other) y ≡ false) (names_in env ts) (sym_text env func) d.0 (among env ts i t func at e)))
-        (served_fn env ts i t func d.1 at e)
+        (go d.1)

@@ -1,9 +1,9 @@
-use Rattle.std.proofs.Common.{sym, ap, inl, subst, Err}
+use Rattle.std.proofs.Common.{◌≤◌, ◌+◌, ◌*◌, ◌^◌, length, sym, ap, inl, subst, Err}
 use Rattle.std.specs.Prelude.{IsSomeAnd}
 use Rattle.isle_core.specs.Inputs.{bytes_each}
 use Rattle.isle_command_line.specs.Asked.{Asked}
 use Rattle.isle_command_line.specs.Views.{seen_command}
-use Rattle.isle_top.specs.Asking.{IsBuilt}
+use Rattle.isle_top.specs.Asking.{IsBuilt, inputs_of}
 use Rattle.isle_top.specs.Valid.{IsValidLine}
 use Rattle.isle_top.proofs.Refusals.{bad_word, no_bad_word, wrote}
 use Rattle.isle_top.proofs.run.run_words.Goals as goal
@@ -28,3 +28,7 @@ returns-in-Ok-clause-not_built g c = λ asked line never. inl (c.run_command.ens
 pub returns-in-Ok-clause-complete : goal.returns-in-Ok-clause-complete
 returns-in-Ok-clause-complete g c = λ asked line valid calm.
     c.run_command.ensures.complete (subst (λ (a : Asked). IsSomeAnd (g.D.Dir.files c.args.dir.now) (IsValidLine a)) (c.in-Ok.ensures.only asked line) valid) calm
+
+pub returns-in-Ok-clause-given : goal.returns-in-Ok-clause-given
+returns-in-Ok-clause-given g c = λ asked line.
+    subst (λ (a : Asked). (g.D.Dir.counts c.run_command.new.dir).given ≤ (g.D.Dir.counts c.args.dir.now).given + (2 ^ 24 + 1) * length (inputs_of a)) (sym (c.in-Ok.ensures.only asked line)) c.run_command.ensures.given
