@@ -1,6 +1,6 @@
 -- A valid line has no refusal but want of memory, where no call of the directory fails.
 use Rattle.std.proofs.Common.{◌≡◌, ◌⊎◌, ⊎_elim, ℕ, ◌<◌, ◌≤◌, zero, suc, List, [], ◌∷◌, length, true, false, Option, Some, None, Result, Ok, Err, refl, sym, ap, ◌∙◌, subst, arith}
-use Rattle.std.specs.Prelude.{IsSomeAnd, IfErr, IsOkUnless, IsUtf8, slice_get}
+use Rattle.std.specs.Prelude.{◌^◌, IsSomeAnd, IfErr, IsOkUnless, IsUtf8, slice_get}
 use Rattle.isle_outside.specs.Directory.{Files, bytes_of, Rose, Counts}
 use Rattle.isle_outside.specs.Reading.{IsText, IsCause, RoseAt}
 use Rattle.isle_outside.specs.declared.errors.IoCause.{IoCause}
