@@ -44,17 +44,6 @@ pub fn copied(alloc: Global, given: &Value) -> Result<Value, AllocError>
     }
 }
 
-/// Copies values in order.
-pub fn all_copied(alloc: Global, given: &[Value]) -> Result<Vec<Value>, AllocError>
-    ensures { IfOk result (λ copies. copies.items ≡ given.now) }
-{
-    let mut copies = Vec::new(alloc);
-    for value in given {
-        copies.push(copied(alloc, value)?)?;
-    }
-    Ok(copies)
-}
-
 // The place of an integer type among all.
 fn place(ty: IntType) -> u8
     ensures { result ≡ int_place ty }
@@ -89,8 +78,8 @@ fn same_number(one: i128, other: i128) -> bool
     one == other
 }
 
-/// Tells whether two names are one.
-pub fn same_name(one: &str, other: &str) -> bool
+// Whether two names are one.
+fn same_name(one: &str, other: &str) -> bool
     ensures { result ≡ bytes_eq one.now other.now }
 {
     one == other

@@ -23,6 +23,7 @@ pub fn answer<D: Dir>(alloc: Global, command: &Command, dir: &mut D) -> Result<S
     ensures ok { IfOk result (λ text. IsAnswer (seen_command command.now) (D.files dir.old) (string_bytes text)) }
     ensures err { IfErr result (λ e. HasCause e (seen_command command.now) (D.files dir.old) (D.counts dir.old) (D.counts dir.new)) }
     ensures not_built { (IsBuilt (seen_command command.now) → ⊥) → result ≡ Err Refusal.NotYet }
+    ensures untried { (IsBuilt (seen_command command.now) → ⊥) → D.counts dir.new ≡ D.counts dir.old }
     ensures complete { IsSomeAnd (D.files dir.old) (IsValidLine (seen_command command.now)) → (Rose (D.counts dir.old).faults (D.counts dir.new).faults → ⊥) → IsOkUnless result Refusal.Memory }
     ensures files { D.files dir.new ≡ D.files dir.old }
     ensures later { (D.counts dir.old).faults ≤ (D.counts dir.new).faults }
@@ -37,6 +38,7 @@ fn answer_or_cause<D: Dir>(alloc: Global, command: &Command, dir: &mut D) -> Res
     ensures ok { IfOk result (λ text. IsAnswer (seen_command command.now) (D.files dir.old) (string_bytes text)) }
     ensures err { IfErr result (λ e. HasCause e (seen_command command.now) (D.files dir.old) (D.counts dir.old) (D.counts dir.new)) }
     ensures not_built { (IsBuilt (seen_command command.now) → ⊥) → result ≡ Err Refusal.NotYet }
+    ensures untried { (IsBuilt (seen_command command.now) → ⊥) → D.counts dir.new ≡ D.counts dir.old }
     ensures files { D.files dir.new ≡ D.files dir.old }
     ensures later { (D.counts dir.old).faults ≤ (D.counts dir.new).faults }
     ensures stays { (D.counts dir.old).faults ≡ 2 ^ 64 - 1 → (D.counts dir.new).faults ≡ 2 ^ 64 - 1 }

@@ -75,7 +75,8 @@ pub fn run_words<D: Dir, O: Sink, E: Sink>(
         → (Rose (D.counts dir.old).faults (D.counts dir.new).faults → ⊥) → (result.0 ≡ 0) ⊎ (result.0 ≡ 11) ⊎ (result.0 ≡ 12) }
     ensures files { D.files dir.new ≡ D.files dir.old }
 
-    // No count falls, and of each input at most 2^24 + 1 bytes are taken.
+    // No count falls, of each input at most 2^24 + 1 bytes are taken, and for words that are no built line nothing is read.
+    ensures untried { ((asked : Asked) → LineS (bytes_each words.now) asked → IsBuilt asked → ⊥) → D.counts dir.new ≡ D.counts dir.old }
     ensures later { (D.counts dir.old).faults ≤ (D.counts dir.new).faults }
     ensures out_later { O.faults out.old ≤ O.faults out.new }
     ensures err_later { E.faults err.old ≤ E.faults err.new }
@@ -124,6 +125,7 @@ fn run_command<D: Dir, O: Sink, E: Sink>(
     ensures untouched { result.0 ≢ 0 → result.0 ≢ 11 → O.taken out.new ≡ O.taken out.old }
     ensures known { result.0 ≢ 2 }
     ensures not_built { (IsBuilt (seen_command asked.now) → ⊥) → result.0 ≡ 14 }
+    ensures untried { (IsBuilt (seen_command asked.now) → ⊥) → D.counts dir.new ≡ D.counts dir.old }
     ensures not_yet { result.0 ≡ 14 → HasCause Refusal.NotYet (seen_command asked.now) (D.files dir.old) (D.counts dir.old) (D.counts dir.new) }
     ensures not_yet_line { result.0 ≡ 14 → Wrote (E.taken err.old) (E.taken err.new) (E.faults err.old) (E.faults err.new) not_yet_line }
     ensures unread { result.0 ≡ 5 → IsUnread (seen_command asked.now) (D.files dir.old) (D.counts dir.old) (D.counts dir.new)

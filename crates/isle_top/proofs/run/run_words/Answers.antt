@@ -32,3 +32,6 @@ returns-in-Ok-clause-complete g c = λ asked line valid calm.
 pub returns-in-Ok-clause-given : goal.returns-in-Ok-clause-given
 returns-in-Ok-clause-given g c = λ asked line.
     subst (λ (a : Asked). (g.D.Dir.counts c.run_command.new.dir).given ≤ (g.D.Dir.counts c.args.dir.now).given + (2 ^ 24 + 1) * length (inputs_of a)) (sym (c.in-Ok.ensures.only asked line)) c.run_command.ensures.given
+
+pub returns-in-Ok-clause-untried : goal.returns-in-Ok-clause-untried
+returns-in-Ok-clause-untried g c = λ never. c.run_command.ensures.untried (λ built. never (seen_command c.in-Ok.asked) c.in-Ok.ensures.line built)
