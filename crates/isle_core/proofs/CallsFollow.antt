@@ -8,7 +8,7 @@ use Rattle.isle_core.specs.declared.types.ReturnKind.{ReturnKind}
 use Rattle.isle_core.specs.declared.types.ReturnKind.TheVariants as return_kind
 use Rattle.isle_core.specs.Value.{Value, Answer, Made}
 use Rattle.isle_core.specs.Meaning.{Meaning, turn}
-use Rattle.isle_core.specs.Answered.{Held, One, answer_held}
+use Rattle.isle_core.specs.Answered.{Held, a_value, answer_held}
 use Rattle.isle_core.specs.Calling.{Calling, ByTurns, ByCases, NoCall, calling, may_be_nothing, is_fallible, instance_of, one_more, impure, impure_all}
 use Rattle.isle_core.specs.Expr as expr
 use Rattle.isle_core.specs.Expr.{Expr, Exprs, NoExpr, AnExpr}
@@ -30,7 +30,7 @@ use Rattle.isle_core.proofs.KnownAnswers.{IsUpTo, Kept, Fresh, kept_on, kept_sel
 
 -- a value that was reached stands at its path, and no call but the next ones was made
 pub record Reached (env : Environment) (m : Meaning) (args : List Value) (n n' : ℕ) (known known' : Known) (p : Path) (v : Value) : Type 0 where
-  pub held : value_at env m args known' p ≡ One v
+  pub held : value_at env m args known' p ≡ a_value v
   pub kept : Kept n known known'
   pub fresh : Fresh n' known'
 
@@ -94,7 +94,7 @@ args_follow env m args n n1 n2 known ps q (OneFailed made) (Goes known' made') g
 before_follows : (env : Environment) (m : Meaning) (args : List Value) (n n1 n2 : ℕ) (known known' : Known) (p : Path) (ps : Paths) (v : Value) (r : EvaluatedAll) (f : Went) → n ≤ n1 → IsUpTo n1 p → Reached env m args n n1 known known' p v → FollowsAll env m args n1 n2 known' ps r f → FollowsAll env m args n n2 known (APath p ps) (before v r) f
 before_follows env m args n n1 n2 known known' p ps v (AllAnswered vs made) (Goes known'' made') le b h k = (
   record {
-    held = ap (λ x. value_before x (values_at env m args known'' ps)) (stable p env m args n1 known' known'' b k.0.kept ∙ h.held) ∙ ap (value_before (One v)) k.0.held;
+    held = ap (λ x. value_before x (values_at env m args known'' ps)) (stable p env m args n1 known' known'' b k.0.kept ∙ h.held) ∙ ap (value_before (a_value v)) k.0.held;
     kept = kept_on n n1 known known' known'' le h.kept k.0.kept;
     fresh = k.0.fresh;
   },

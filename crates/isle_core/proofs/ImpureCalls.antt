@@ -10,7 +10,7 @@ use Rattle.isle_core.specs.declared.values.Callee.{Callee}
 use Rattle.isle_core.specs.declared.values.Callee.TheVariants.{External, Internal}
 use Rattle.isle_core.specs.declared.types.ReturnKind.{ReturnKind}
 use Rattle.isle_core.specs.Value.{Value, Made}
-use Rattle.isle_core.specs.Answered.{Held, Absent, One, Optional, answer_held}
+use Rattle.isle_core.specs.Answered.{AValue, ATuple, Held, Absent, One, Optional, Listed, answer_held}
 use Rattle.isle_core.specs.Meaning.{Meaning, turn, case}
 use Rattle.isle_core.specs.Calling.{Calling, ByTurns, ByCases, NoCall, calling, calling_of, calling_by, pure_callee, kind_of}
 use Rattle.isle_core.specs.Match.{Names}
@@ -83,10 +83,13 @@ named_impure env (Some v) made h = h
 
 answered_impure : (env : Environment) (h : Held) (made : List Made) → AreImpure env made → AreImpure env (calls_in (answered h made))
 unfolding calls_in
-answered_impure env (One v) made k = k
-answered_impure env (Optional (Some v)) made k = k
+answered_impure env (One (AValue v)) made k = k
+answered_impure env (One (ATuple vs)) made k = k
+answered_impure env (Optional (Some (AValue v))) made k = k
+answered_impure env (Optional (Some (ATuple vs))) made k = k
 answered_impure env (Optional None) made k = k
 answered_impure env Absent made k = k
+answered_impure env (Listed is) made k = k
 
 called_impure : (env : Environment) (m : Meaning) (c : Calling) (vs : List Value) (made : List Made) → ((callee : Callee) (kind : ReturnKind) → c ≡ ByTurns callee kind → is_impure env callee ≡ true) → AreImpure env made → AreImpure env (calls_in (called_with m c vs made))
 unfolding calls_in

@@ -12,7 +12,7 @@ use Rattle.isle_core.specs.Pattern.{Pattern, Var, ConstBool, ConstInt, Wildcard}
 use Rattle.isle_core.specs.Match.{Names, no_names, with, if_holds, met, matches, matches_all}
 use Rattle.isle_core.specs.Path.{Path, Arg}
 use Rattle.isle_core.specs.Tests.{Places, no_places, met_tests, met_after, tests, after, args_tests, args_after}
-use Rattle.isle_core.specs.Held.{Held, One, held, meets, equal_held, holds, all_hold}
+use Rattle.isle_core.specs.Held.{Held, a_value, held, meets, equal_held, holds, all_hold}
 use Rattle.isle_core.specs.BuiltRule.{IsBuiltPattern}
 use Rattle.isle_core.specs.Rule.{Environment}
 
@@ -23,7 +23,7 @@ Values = Path → Held
 -- a name's value stands at its place
 abbrev pub StandsAt : Values → Option Value → Option Path → Type 0
 StandsAt val None None = Unit {0}
-StandsAt val (Some v) (Some p) = val p ≡ One v
+StandsAt val (Some v) (Some p) = val p ≡ a_value v
 StandsAt val None (Some p) = ⊥
 StandsAt val (Some v) None = ⊥
 
@@ -39,11 +39,11 @@ Both val (Some names) b places = (b ≡ true) × Agree val names places
 pub none_agrees : (val : Values) → Agree val no_names no_places
 none_agrees val = record { by = λ x. tt }
 
-stands_with : (val : Values) (b : Bool) (v : Value) (p : Path) (o : Option Value) (q : Option Path) → val p ≡ One v → StandsAt val o q → StandsAt val (cond b (Some v) o) (cond b (Some p) q)
+stands_with : (val : Values) (b : Bool) (v : Value) (p : Path) (o : Option Value) (q : Option Path) → val p ≡ a_value v → StandsAt val o q → StandsAt val (cond b (Some v) o) (cond b (Some p) q)
 stands_with val true v p o q e h = e
 stands_with val false v p o q e h = h
 
-with_agrees : (val : Values) (names : Names) (places : Places) (x : ℕ) (v : Value) (p : Path) → val p ≡ One v → Agree val names places → Agree val (with names x v) (with places x p)
+with_agrees : (val : Values) (names : Names) (places : Places) (x : ℕ) (v : Value) (p : Path) → val p ≡ a_value v → Agree val names places → Agree val (with names x v) (with places x p)
 with_agrees val names places x v p e a = record { by = λ k. stands_with val (eqb x k) v p (names k) (places k) e (a.by k) }
 
 -- one test
@@ -56,14 +56,14 @@ both_then : (val : Values) (o : Option Names) (b c : Bool) (mid end : Places) (g
 both_then val None b c mid end go h k = ap (λ x. x && c) h
 both_then val (Some names) b c mid end go h k = subst (λ x. Both val (go names) (x && c) end) (sym h.0) (k names h.1)
 
-met_both : (env : Environment) (val : Values) (o : Option Value) (q : Option Path) (x : ℕ) (v : Value) (p : Path) (names : Names) (places : Places) → StandsAt val o q → val p ≡ One v → Agree val names places
+met_both : (env : Environment) (val : Values) (o : Option Value) (q : Option Path) (x : ℕ) (v : Value) (p : Path) (names : Names) (places : Places) → StandsAt val o q → val p ≡ a_value v → Agree val names places
     → Both val (met o x v names) (all_hold env val (met_tests q p)) (met_after q x p places)
 met_both env val None None x v p names places h e a = (refl, with_agrees val names places x v p e a)
 met_both env val (Some u) (Some q) x v p names places h e a = both_test val (same_value u v) (equal_held (val q) (val p)) names places (rw (h, e) refl) a
 met_both env val None (Some q) x v p names places h e a = absurd h
 met_both env val (Some u) None x v p names places h e a = absurd h
 
-pattern_both : (p : Pattern) (env : Environment) (m : Meaning) (val : Values) (at : Path) (v : Value) (names : Names) (places : Places) → IsBuiltPattern p → val at ≡ One v → Agree val names places
+pattern_both : (p : Pattern) (env : Environment) (m : Meaning) (val : Values) (at : Path) (v : Value) (names : Names) (places : Places) → IsBuiltPattern p → val at ≡ a_value v → Agree val names places
     → Both val (matches env m p v names) (all_hold env val (tests env p at places)) (after env p at places)
 pattern_both (Var ty x) env m val at v names places h e a = met_both env val (names x.0) (places x.0) x.0 v at names places (a.by x.0) e a
 pattern_both (ConstBool b) env m val at v names places h e a = both_test val (same_value v (Truth b)) (meets env (constraint.ConstBool b) (val at)) names places (rw e refl) a
@@ -78,7 +78,7 @@ patterns_both [] [] env m val i names places h l e a = (refl, a)
 patterns_both (q ∷ qs) (v ∷ vs) env m val i names places h l e a =
     subst (λ b. Both val (matches_all env m (q ∷ qs) (v ∷ vs) names) b (args_after env (q ∷ qs) i places)) (sym (list_all-append (holds env val) (tests env q (Arg i) places) (args_tests env qs (suc i) (after env q (Arg i) places))))
     (both_then val (matches env m q v names) (all_hold env val (tests env q (Arg i) places)) (all_hold env val (args_tests env qs (suc i) (after env q (Arg i) places))) (after env q (Arg i) places) (args_after env (q ∷ qs) i places) (matches_all env m qs vs)
-    (pattern_both q env m val (Arg i) v names places h.0 (subst (λ n. val (Arg n) ≡ One v) here (e 0)) a)
+    (pattern_both q env m val (Arg i) v names places h.0 (subst (λ n. val (Arg n) ≡ a_value v) here (e 0)) a)
     (λ names' a'. patterns_both qs vs env m val (suc i) names' (after env q (Arg i) places) h.1 (omega arith) (λ j. subst (λ n. val (Arg n) ≡ held (slice_get vs j)) (next j) (e (suc j))) a'))
   where
     here : 0 + i ≡ i

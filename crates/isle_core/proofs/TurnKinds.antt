@@ -16,7 +16,7 @@ use Rattle.isle_core.specs.declared.types.ReturnKind.{ReturnKind}
 use Rattle.isle_core.specs.declared.types.ReturnKind.TheVariants as return_kind
 use Rattle.isle_core.specs.Value.{Value, Answer, Plain, Found, Nothing, Several, Made}
 use Rattle.isle_core.specs.Meaning.{Meaning, TurnAnswers, turns_of, turn_at, times, turn}
-use Rattle.isle_core.specs.Answered.{Held, One, Optional, answer_held}
+use Rattle.isle_core.specs.Answered.{Held, a_value, an_option, answer_held}
 use Rattle.isle_core.specs.Calling.{Calling, ByTurns, kind_of, kind_by, pure_callee, calling_by, calling_of, calling}
 use Rattle.isle_core.specs.Terms.{sym_text, impure_callee}
 use Rattle.isle_core.specs.Lawful.{Fits, all_turns, CallingFits, AnswersFit, CalledTermFits}
@@ -33,8 +33,8 @@ use Rattle.isle_core.specs.Rule.{Environment}
 
 -- what the answer of a term holds: a value, or an option of one where the term is partial
 abbrev pub IsOfKind : ReturnKind → Held → Type 0
-IsOfKind return_kind.Plain h = (v : Value) × (h ≡ One v)
-IsOfKind return_kind.Option h = (o : Option Value) × (h ≡ Optional o)
+IsOfKind return_kind.Plain h = (v : Value) × (h ≡ a_value v)
+IsOfKind return_kind.Option h = (o : Option Value) × (h ≡ an_option o)
 IsOfKind return_kind.Iterator h = ⊥
 
 fits_kind : (env : Environment) (kind : ReturnKind) (ty : TypeId) (a : Answer) → Fits env kind (ty ∷ []) a → IsOfKind kind (answer_held a)

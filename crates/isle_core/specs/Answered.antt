@@ -1,21 +1,41 @@
 -- What a call is answered, and what its answer holds.
-use Rattle.std.specs.Prelude.{List, [], ◌∷◌, Option, Some, None}
+use Rattle.std.specs.Prelude.{List, [], ◌∷◌, Option, Some, None, map, option_map}
 use Rattle.isle_core.specs.declared.values.Callee.{Callee}
-use Rattle.isle_core.specs.Value.{Value, Answer, Plain, Found, Nothing, Made}
+use Rattle.isle_core.specs.Value.{Value, Answer, Plain, Found, Nothing, Several, Made}
 use Rattle.isle_core.specs.Meaning.{TurnAnswers, Meaning, turns_of, turn_at, times, case}
 
--- what a place holds: nothing that there is, a value, or an option of one; other answers are not built
+-- an item: one value, or a tuple of values
+pub data Item : Type 0 where
+  AValue : Value → Item
+  ATuple : List Value → Item
+
+-- what a place holds: nothing that there is, an item, an option of one, or a list of items
 pub data Held : Type 0 where
   Absent : Held
-  One : Value → Held
-  Optional : Option Value → Held
+  One : Item → Held
+  Optional : Option Item → Held
+  Listed : List Item → Held
 
--- what an answer holds: its one result, or an option of it
+-- a place that holds this value
+abbrev pub a_value : Value → Held
+a_value v = One (AValue v)
+
+-- a place that holds an option of a value
+abbrev pub an_option : Option Value → Held
+an_option o = Optional (option_map AValue o)
+
+-- the results of an answer: a single one is a value, none or several are a tuple
+abbrev pub item : List Value → Item
+item [] = ATuple []
+item (v ∷ []) = AValue v
+item (v ∷ w ∷ vs) = ATuple (v ∷ w ∷ vs)
+
+-- what an answer holds
 abbrev pub answer_held : Answer → Held
-answer_held (Plain (v ∷ [])) = One v
-answer_held (Found (v ∷ [])) = Optional (Some v)
+answer_held (Plain vs) = One (item vs)
+answer_held (Found vs) = Optional (Some (item vs))
 answer_held Nothing = Optional None
-answer_held a = Absent
+answer_held (Several items) = Listed (map item items)
 
 -- a callee that has turns takes the next; any other one is answered by its cases
 abbrev pub answer_by : Option TurnAnswers → Meaning → Callee → List Value → List Made → Answer

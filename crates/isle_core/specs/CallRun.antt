@@ -4,7 +4,7 @@ use Rattle.isle_core.specs.declared.values.Callee.{Callee}
 use Rattle.isle_core.specs.Value.{Value, Answer, Made}
 use Rattle.isle_core.specs.Meaning.{Meaning, turn}
 use Rattle.isle_core.specs.Calling.{Calling, ByTurns, ByCases, NoCall, calling, is_fallible}
-use Rattle.isle_core.specs.Answered.{Held, One, Optional}
+use Rattle.isle_core.specs.Answered.{AValue, ATuple, Held, Absent, One, Optional, Listed}
 use Rattle.isle_core.specs.Match.{with}
 use Rattle.isle_core.specs.Outcome.{Result, Value', Failure, Prescription}
 use Rattle.isle_core.specs.Path.{Path, Called}
@@ -23,8 +23,11 @@ then_go (Ends o) go = Ends o
 
 -- what stands at a result's path
 abbrev pub result_of : Held → Result
-result_of (One v) = Value' v
-result_of h = Failure
+result_of (One (AValue v)) = Value' v
+result_of (One (ATuple vs)) = Failure
+result_of Absent = Failure
+result_of (Optional o) = Failure
+result_of (Listed is) = Failure
 
 -- the run ends with what stands at a path
 abbrev pub returns : Environment → Meaning → List Value → Path → Known → List Made → Went
@@ -50,7 +53,10 @@ make env m args p known made = Goes known made
 -- nothing in place of a value is a failure
 abbrev pub unless_nothing : Held → Known → List Made → Went
 unless_nothing (Optional None) known made = Ends (record { result = Failure; calls = made })
-unless_nothing h known made = Goes known made
+unless_nothing (Optional (Some i)) known made = Goes known made
+unless_nothing Absent known made = Goes known made
+unless_nothing (One i) known made = Goes known made
+unless_nothing (Listed is) known made = Goes known made
 
 -- a call that may be answered by nothing fails there
 abbrev pub check_call : Environment → Meaning → List Value → Path → Known → List Made → Went

@@ -3,7 +3,7 @@ use Rattle.std.specs.Prelude.{List, [], ◌∷◌, ◌++◌, Option, Some, None,
 use Rattle.isle_core.specs.Value.{Value, Truth, Made}
 use Rattle.isle_core.specs.Constants.{int_value}
 use Rattle.isle_core.specs.Meaning.{Meaning, turn, case}
-use Rattle.isle_core.specs.Answered.{Held, Absent, One, Optional, answer_held}
+use Rattle.isle_core.specs.Answered.{AValue, ATuple, Held, Absent, One, Optional, Listed, answer_held}
 use Rattle.isle_core.specs.Calling.{Calling, ByTurns, ByCases, NoCall, calling}
 use Rattle.isle_core.specs.Expr.{Expr, Exprs, NoExpr, AnExpr, Term, Var, ConstBool, ConstInt, ConstPrim, Let}
 use Rattle.isle_core.specs.Match.{Names, matches}
@@ -39,12 +39,16 @@ abbrev pub then_one : EvaluatedAll → (List Value → List Made → Evaluated) 
 then_one (AllAnswered vs made) go = go vs made
 then_one (OneFailed made) go = Failed made
 
--- what a call's answer gives: a value, or that of an option; nothing is a failure
+-- what a call's answer gives: a value, or that of an option; nothing is a failure. No constructor answers a tuple, and what
+-- follows each item of a list is not built
 abbrev pub answered : Held → List Made → Evaluated
-answered (One v) made = Answered v made
-answered (Optional (Some v)) made = Answered v made
+answered (One (AValue v)) made = Answered v made
+answered (One (ATuple vs)) made = Failed made
+answered (Optional (Some (AValue v))) made = Answered v made
+answered (Optional (Some (ATuple vs))) made = Failed made
 answered (Optional None) made = Failed made
 answered Absent made = Failed made
+answered (Listed is) made = Failed made
 
 -- a call with these arguments: an impure one takes its turn and is made
 abbrev pub called_with : Meaning → Calling → List Value → List Made → Evaluated

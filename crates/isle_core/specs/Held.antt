@@ -1,15 +1,15 @@
 -- The values of paths, and when tests hold.
-use Rattle.std.specs.Prelude.{ℕ, List, [], ◌∷◌, Bool, false, Option, Some, None, slice_get}
+use Rattle.std.specs.Prelude.{ℕ, List, [], ◌∷◌, Bool, true, false, ◌&&◌, Option, Some, None, slice_get}
 use Rattle.std.specs.List.{list_all}
 use Rattle.isle_core.specs.declared.rule_sets.Constraint.{Constraint}
 use Rattle.isle_core.specs.declared.rule_sets.Constraint.TheVariants as constraint
 use Rattle.isle_core.specs.Value.{Value, Truth, Answer}
 use Rattle.isle_core.specs.SameValue.{same_value}
 use Rattle.isle_core.specs.Constants.{int_value}
-use Rattle.isle_core.specs.Meaning.{Meaning, case}
+use Rattle.isle_core.specs.Meaning.{Meaning, same_values, case}
 use Rattle.isle_core.specs.Calling.{Calling, ByTurns, ByCases, NoCall, calling}
-pub use Rattle.isle_core.specs.Answered.{Held, Absent, One, Optional, answer_held}
-use Rattle.isle_core.specs.Path.{Path, Arg, ConstBool, ConstInt, Called, Inner, Paths, NoPath, APath}
+pub use Rattle.isle_core.specs.Answered.{Item, AValue, ATuple, Held, Absent, One, Optional, Listed, a_value, an_option, answer_held}
+use Rattle.isle_core.specs.Path.{Path, Nowhere, Arg, ConstBool, ConstInt, ConstPrim, Extracted, Called, Chosen, MadeVariant, MadeStruct, VariantField, StructField, Wrapped, Inner, Part, Paths, NoPath, APath}
 use Rattle.isle_core.specs.Tests.{Test, Is, Equal, Never}
 use Rattle.isle_core.specs.Rule.{Environment}
 
@@ -24,27 +24,36 @@ nothing_known instance = None
 -- a value, where there is one
 abbrev pub held : Option Value → Held
 held None = Absent
-held (Some v) = One v
+held (Some v) = a_value v
 
 -- what the answer of a call holds, where it is known
 abbrev pub held_of : Option Answer → Held
 held_of None = Absent
 held_of (Some a) = answer_held a
 
--- the value within an option
+-- what is within an option
 abbrev pub inner_held : Held → Held
-inner_held (Optional (Some v)) = One v
-inner_held h = Absent
+inner_held (Optional (Some i)) = One i
+inner_held (Optional None) = Absent
+inner_held Absent = Absent
+inner_held (One i) = Absent
+inner_held (Listed is) = Absent
 
 -- a value before others, where all are there
 abbrev pub value_before : Held → Option (List Value) → Option (List Value)
-value_before (One v) (Some vs) = Some (v ∷ vs)
-value_before h vs = None
+value_before (One (AValue v)) (Some vs) = Some (v ∷ vs)
+value_before (One (AValue v)) None = None
+value_before (One (ATuple ws)) o = None
+value_before Absent o = None
+value_before (Optional i) o = None
+value_before (Listed is) o = None
 
 -- what a pure call answers to its arguments, where all are there
 abbrev pub case_held : Meaning → Calling → Option (List Value) → Held
 case_held m (ByCases callee kind) (Some vs) = answer_held (case m callee vs)
-case_held m c vs = Absent
+case_held m (ByCases callee kind) None = Absent
+case_held m (ByTurns callee kind) vs = Absent
+case_held m NoCall vs = Absent
 
 -- what stands at the path of a call: an impure one was answered by its turn
 abbrev pub call_held : Meaning → Calling → Option Answer → Option (List Value) → Held
@@ -52,31 +61,95 @@ call_held m (ByTurns callee kind) known vs = held_of known
 call_held m (ByCases callee kind) known vs = case_held m (ByCases callee kind) vs
 call_held m NoCall known vs = Absent
 
--- what stands at a path, under the arguments and the answers known so far; only arguments, constants, calls and inner values are built
+-- what stands at a path, under the arguments and the answers known so far. Named constants, extractors, chosen items, made
+-- values, fields, options that are made and parts are not built: nothing stands there
 abbrev mutual
   pub value_at : Environment → Meaning → List Value → Known → Path → Held
   value_at env m args known (Arg i) = held (slice_get args i)
-  value_at env m args known (ConstBool ty b) = One (Truth b)
-  value_at env m args known (ConstInt ty n) = One (int_value env ty n)
+  value_at env m args known (ConstBool ty b) = a_value (Truth b)
+  value_at env m args known (ConstInt ty n) = a_value (int_value env ty n)
   value_at env m args known (Called term ps instance) = call_held m (calling env term) (known instance) (values_at env m args known ps)
   value_at env m args known (Inner p) = inner_held (value_at env m args known p)
-  value_at env m args known p = Absent
+  value_at env m args known Nowhere = Absent
+  value_at env m args known (ConstPrim name) = Absent
+  value_at env m args known (Extracted term p) = Absent
+  value_at env m args known (Chosen p) = Absent
+  value_at env m args known (MadeVariant ty variant ps) = Absent
+  value_at env m args known (MadeStruct ty ps) = Absent
+  value_at env m args known (VariantField variant field p) = Absent
+  value_at env m args known (StructField field p) = Absent
+  value_at env m args known (Wrapped p) = Absent
+  value_at env m args known (Part part p) = Absent
 
   -- the values at paths in order, where all are there
   pub values_at : Environment → Meaning → List Value → Known → Paths → Option (List Value)
   values_at env m args known NoPath = Some []
   values_at env m args known (APath p ps) = value_before (value_at env m args known p) (values_at env m args known ps)
 
--- a value meets a constraint; only constants are built
-abbrev pub meets : Environment → Constraint → Held → Bool
-meets env (constraint.ConstBool val) (One v) = same_value v (Truth val)
-meets env (constraint.ConstInt val ty) (One v) = same_value v (int_value env ty val)
-meets env c h = false
+-- a place holds this value
+abbrev pub is_value : Value → Held → Bool
+is_value w (One (AValue v)) = same_value v w
+is_value w (One (ATuple vs)) = false
+is_value w Absent = false
+is_value w (Optional o) = false
+is_value w (Listed is) = false
 
--- two paths hold equal values
+-- a place holds an option of something
+abbrev pub is_found : Held → Bool
+is_found (Optional (Some i)) = true
+is_found (Optional None) = false
+is_found Absent = false
+is_found (One i) = false
+is_found (Listed is) = false
+
+-- what a place holds meets a constraint; variants, structs and named constants are not built: nothing meets them
+abbrev pub meets : Environment → Constraint → Held → Bool
+meets env (constraint.ConstBool val) h = is_value (Truth val) h
+meets env (constraint.ConstInt val ty) h = is_value (int_value env ty val) h
+meets env constraint.Some h = is_found h
+meets env (constraint.ConstPrim val) h = false
+meets env (constraint.Variant ty variant) h = false
+meets env (constraint.Struct ty) h = false
+
+-- two items are equal
+abbrev pub equal_item : Item → Item → Bool
+equal_item (AValue v) (AValue w) = same_value v w
+equal_item (ATuple vs) (ATuple ws) = same_values vs ws
+equal_item (AValue v) (ATuple ws) = false
+equal_item (ATuple vs) (AValue w) = false
+
+-- items are equal, in order
+abbrev pub equal_items : List Item → List Item → Bool
+equal_items [] [] = true
+equal_items (i ∷ is) (j ∷ js) = equal_item i j && equal_items is js
+equal_items [] (j ∷ js) = false
+equal_items (i ∷ is) [] = false
+
+-- two options are equal
+abbrev pub equal_option : Option Item → Option Item → Bool
+equal_option None None = true
+equal_option (Some i) (Some j) = equal_item i j
+equal_option None (Some j) = false
+equal_option (Some i) None = false
+
+-- two paths hold the same: nothing as well, equal items, options or lists
 abbrev pub equal_held : Held → Held → Bool
-equal_held (One v) (One w) = same_value v w
-equal_held g h = false
+equal_held Absent Absent = true
+equal_held (One i) (One j) = equal_item i j
+equal_held (Optional o) (Optional p) = equal_option o p
+equal_held (Listed is) (Listed js) = equal_items is js
+equal_held Absent (One j) = false
+equal_held Absent (Optional p) = false
+equal_held Absent (Listed js) = false
+equal_held (One i) Absent = false
+equal_held (One i) (Optional p) = false
+equal_held (One i) (Listed js) = false
+equal_held (Optional o) Absent = false
+equal_held (Optional o) (One j) = false
+equal_held (Optional o) (Listed js) = false
+equal_held (Listed is) Absent = false
+equal_held (Listed is) (One j) = false
+equal_held (Listed is) (Optional p) = false
 
 -- a test holds where the paths have these values
 abbrev pub holds : Environment → (Path → Held) → Test → Bool
