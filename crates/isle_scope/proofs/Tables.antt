@@ -1,8 +1,8 @@
--- What a table beside a scope has where a local is bound last.
-use Rattle.std.proofs.Common.{◌≡◌, ℕ, zero, suc, List, [], ◌∷◌, ◌++◌, take, drop, fold, Bool, true, false, cond, Option, Some, None, refl, sym, ap, ◌∙◌, length, arith}
+-- What a table has where a local is bound last.
+use Rattle.std.proofs.Common.{◌≡◌, ℕ, zero, suc, List, [], ◌∷◌, ◌++◌, take, drop, fold, Bool, true, false, Option, Some, None, refl, ap, ◌∙◌, length, arith}
 use Rattle.std.specs.Prelude.{◌==◌, slice_get, if◌then◌else◌, zip}
 use Rattle.isle_scope.specs.Scope.{last_from, last_place}
-use Rattle.isle_scope.specs.Table.{at_place, newest}
+use Rattle.isle_scope.specs.Table.{at_place, newest, held}
 
 drop_tail : {A : Type 0} (i : ℕ) (xs : List A) (x : A) (ys : List A) → drop i xs ≡ x ∷ ys → drop (suc i) xs ≡ ys
 drop_tail zero [] x ys e = absurd cc
@@ -35,7 +35,7 @@ reads_from xs (l ∷ ls) (x ∷ rest) place known n e same =
     ∙ ap (λ o. fold (newest n) o (zip ls rest)) (read_next xs place known l x n (at_drop place xs x rest e))
 
 -- what stands where a local is bound last is what it holds
-pub reads_last : {A : Type 0} (ls : List ℕ) (xs : List A) (n : ℕ) → length ls ≡ length xs → at_place xs (last_place ls n) ≡ fold (newest n) None (zip ls xs)
+pub reads_last : {A : Type 0} (ls : List ℕ) (xs : List A) (n : ℕ) → length ls ≡ length xs → at_place xs (last_place ls n) ≡ held (zip ls xs) n
 reads_last ls xs n same = reads_from xs ls xs 0 None n refl same
 
 -- ---- both lists grow and shrink together

@@ -6,13 +6,13 @@ ghost use Rattle.isle_tree.specs.Program.{Program as Target};
 ghost use Rattle.isle_tree.specs.Views.{program, function};
 ghost use Rattle.isle_tree.specs.WellFormed.{IsFunction, IsWellFormed};
 
-use crate::bound::Bound;
 use crate::fits::fits_function;
 use crate::names::{has_names, is_kind};
 use crate::shapes::is_body;
 use crate::there::is_body_there;
 use crate::trait_fns::are_trait_fns;
 use isle_core::OutOfMemory;
+use isle_scope::Table;
 use isle_tree::{Callees, Function, Program, are_apart, are_distinct};
 use std::alloc::Global;
 
@@ -33,7 +33,7 @@ fn is_function(alloc: Global, callees: &Callees, f: &Function) -> Result<bool, O
     if !fits_function(f.kind, stmts) {
         return Ok(false);
     }
-    let mut bound = Bound::new(alloc);
+    let mut bound = Table::new(alloc);
     let params = f.params.as_slice().len();
     Ok(is_body_there(callees, f.kind, params, &mut bound, stmts)?)
 }

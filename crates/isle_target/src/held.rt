@@ -1,18 +1,25 @@
 //! What operands hold, and what is computed from them.
 
 ghost use Rattle.std.specs.Prelude.{◌≡◌, Some, []};
-ghost use Rattle.isle_tree.specs.WellFormed.{operand_holds, read_holds, is_value, are_values, kind_holds, call_holds, callee_holds, inner_holds, expr_holds};
+ghost use Rattle.isle_tree.specs.WellFormed.{local_holds, operand_holds, read_holds, is_value, are_values, kind_holds, call_holds, callee_holds, inner_holds, expr_holds};
 
-use crate::bound::Bound;
 use isle_core::{Callee, ReturnKind};
+use isle_scope::Table;
 use isle_tree::{Callees, Holds, Operand, Read, TCall, TExpr, TraitFn};
 
+// What a local holds.
+fn local_holds(bound: &Table<Holds>, n: usize) -> Option<Holds>
+    ensures { result ≡ local_holds bound.now n }
+{
+    bound.get(n).copied()
+}
+
 /// Returns what an operand holds, where it is there.
-pub fn operand_holds(bound: &Bound, params: usize, o: &Operand) -> Option<Holds>
+pub fn operand_holds(bound: &Table<Holds>, params: usize, o: &Operand) -> Option<Holds>
     ensures { result ≡ operand_holds params bound.now o.now }
 {
     match o {
-        Operand::Local(n) => bound.holds(*n),
+        Operand::Local(n) => local_holds(bound, *n),
         Operand::Arg(n) => { if *n < params { Some(Holds::One) } else { None } }
         Operand::Bool(_) | Operand::Int(..) | Operand::Raw(_) | Operand::Name(_) => {
             Some(Holds::One)
@@ -21,7 +28,7 @@ pub fn operand_holds(bound: &Bound, params: usize, o: &Operand) -> Option<Holds>
 }
 
 // What is read holds.
-fn read_holds(bound: &Bound, params: usize, read: &Read) -> Option<Holds>
+fn read_holds(bound: &Table<Holds>, params: usize, read: &Read) -> Option<Holds>
     ensures { result ≡ read_holds params bound.now read.now }
 {
     match read {
@@ -40,7 +47,7 @@ pub fn is_value(holds: Option<Holds>) -> bool
 }
 
 // Whether each read is of a value.
-fn are_values(bound: &Bound, params: usize, reads: &[Read]) -> bool
+fn are_values(bound: &Table<Holds>, params: usize, reads: &[Read]) -> bool
     ensures { result ≡ are_values params bound.now reads.now }
 {
     for read in reads {
@@ -89,7 +96,7 @@ fn callee_holds(callees: &Callees, callee: &Callee, count: usize) -> Option<Hold
 // What a call gives.
 fn called(
     callees: &Callees,
-    bound: &Bound,
+    bound: &Table<Holds>,
     params: usize,
     borrow: bool,
     call: &TCall,
@@ -114,7 +121,7 @@ fn inner_holds(holds: Option<Holds>) -> Option<Holds>
 }
 
 // An option of what is read.
-fn some_holds(bound: &Bound, params: usize, read: &Read) -> Option<Holds>
+fn some_holds(bound: &Table<Holds>, params: usize, read: &Read) -> Option<Holds>
     ensures { result ≡ expr_holds [] params bound.now (TExpr.Some read.now) }
 {
     if is_value(read_holds(bound, params, read)) {
@@ -125,7 +132,12 @@ fn some_holds(bound: &Bound, params: usize, read: &Read) -> Option<Holds>
 }
 
 /// Returns what is computed holds, where each operand holds what is asked of it.
-pub fn expr_holds(callees: &Callees, bound: &Bound, params: usize, e: &TExpr) -> Option<Holds>
+pub fn expr_holds(
+    callees: &Callees,
+    bound: &Table<Holds>,
+    params: usize,
+    e: &TExpr,
+) -> Option<Holds>
     ensures { result ≡ expr_holds callees.now params bound.now e.now }
 {
     match e {

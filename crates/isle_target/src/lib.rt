@@ -1,7 +1,6 @@
 //! Target programs judged, printed and read.
 #![tactic(auto)]
 
-mod bound;
 mod call;
 mod context;
 mod fits;

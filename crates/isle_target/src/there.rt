@@ -4,9 +4,9 @@ ghost use Rattle.std.specs.Prelude.{◌≡◌, ◌↔◌, IsTrue, IsSome, IfOk, 
 ghost use Rattle.isle_tree.specs.Views.{stmt, body};
 ghost use Rattle.isle_tree.specs.WellFormed.{expr_holds, GivesKind, behind_let, IsStmtThere, IsBodyThere, bound_behind};
 
-use crate::bound::Bound;
 use crate::held::{expr_holds, is_value, operand_holds};
 use isle_core::ReturnKind;
+use isle_scope::Table;
 use isle_tree::{Callees, Holds, Stmt};
 use std::alloc::AllocError;
 
@@ -22,7 +22,7 @@ fn gives_kind(kind: ReturnKind, holds: Option<Holds>) -> bool
 }
 
 // Binds a local to what is computed, where that is there.
-fn bind(bound: &mut Bound, local: usize, holds: Option<Holds>) -> Result<bool, AllocError>
+fn bind(bound: &mut Table<Holds>, local: usize, holds: Option<Holds>) -> Result<bool, AllocError>
     ensures there { IfOk result (λ b. IsTrue b ↔ IsSome holds) }
     ensures bound { OnOk result (bound.new ≡ behind_let holds local bound.old) }
 {
@@ -42,7 +42,7 @@ fn is_stmt_there(
     callees: &Callees,
     kind: ReturnKind,
     params: usize,
-    bound: &mut Bound,
+    bound: &mut Table<Holds>,
     s: &Stmt,
 ) -> Result<bool, AllocError>
     ensures there { IfOk result (λ b. IsTrue b ↔ IsStmtThere callees.now kind params bound.old (stmt s.now)) }
@@ -82,7 +82,7 @@ pub fn is_body_there(
     callees: &Callees,
     kind: ReturnKind,
     params: usize,
-    bound: &mut Bound,
+    bound: &mut Table<Holds>,
     stmts: &[Stmt],
 ) -> Result<bool, AllocError>
     ensures there { IfOk result (λ b. IsTrue b ↔ IsBodyThere callees.now kind params bound.old (body stmts.now)) }
