@@ -12,7 +12,7 @@ use Rattle.isle_core.specs.Answered.{answer_held, answer_by, answer}
 use Rattle.isle_core.specs.Calling.{Calling, ByTurns, calling}
 use Rattle.isle_core.specs.Lawful.{Fits, all_turns, CallingFits, AnswersFit}
 use Rattle.isle_core.specs.Rule.{Environment}
-use Rattle.isle_core.proofs.TurnKinds.{IsOfKind, turns_fit}
+use Rattle.isle_core.proofs.TurnKinds.{IsOfKind, IsHeldOf, turns_fit, turn_type}
 
 -- the turns of a callee fit, for a type
 record TurnsFit (env : Environment) (m : Meaning) (callee : Callee) (kind : ReturnKind) : Type 0 where
@@ -39,3 +39,15 @@ turn_held env m term callee kind h e = turns_fit env m f.ty callee kind f.fits
   where
     f : TurnsFit env m callee kind
     f = turns_of_term env m (slice_get env.terms term.0) (calling env term) callee kind h e
+
+typed_turn : (env : Environment) (m : Meaning) (o : Option Term) (c : Calling) (callee : Callee) (kind : ReturnKind) → IsSomeAnd o (λ (t : Term). CallingFits env m (t.ret_ty ∷ []) c) → c ≡ ByTurns callee kind
+    → (made : List Made) → IsSomeAnd o (λ (t : Term). IsHeldOf env t.ret_ty (answer_held (turn m callee made)))
+typed_turn env m None c callee kind h e made = absurd h
+typed_turn env m (Some t) c callee kind h e made =
+    let fits : CallingFits env m (t.ret_ty ∷ []) (ByTurns callee kind) = subst (CallingFits env m (t.ret_ty ∷ [])) e h in
+    turn_type env t.ret_ty kind (turns_of m callee) (times callee made) fits
+
+-- and of the term's type
+pub turn_typed : (env : Environment) (m : Meaning) (term : TermId) (callee : Callee) (kind : ReturnKind) → AnswersFit env m term → calling env term ≡ ByTurns callee kind
+    → (made : List Made) → IsSomeAnd (slice_get env.terms term.0) (λ (t : Term). IsHeldOf env t.ret_ty (answer_held (turn m callee made)))
+turn_typed env m term callee kind h e = typed_turn env m (slice_get env.terms term.0) (calling env term) callee kind h e

@@ -25,7 +25,7 @@ use Rattle.isle_core.specs.History.{AnsweredCall, Service, service_by, service_o
 use Rattle.isle_core.specs.Rule.{Environment, rules_of}
 use Rattle.isle_core.proofs.Contained.{head_contained, tail_contained, contained_cases, none_contained}
 use Rattle.isle_core.proofs.ImpureCalls.{goes_there}
-use Rattle.isle_core.proofs.SameValueLaws.{same_value-self}
+use Rattle.isle_core.proofs.RunEquality.{same_in_run-self}
 use Rattle.isle_core.proofs.ListLaws.{not_both, filter_from, filter_keeps, at_seam}
 use Rattle.isle_core.proofs.Entries.{goes_same, Entry, answers_to, cases_to, turns_in, cases_in, takes_turns, meaning_of, serves, turns_found, cases_found, Finds, finds, finds_none}
 
@@ -124,7 +124,7 @@ next_turn callee g h c rest e =
 
 values_self : (vs : List Value) → same_values vs vs ≡ true
 values_self [] = refl
-values_self (v ∷ vs) = ap (λ b. b && same_values vs vs) (same_value-self v) ∙ values_self vs
+values_self (v ∷ vs) = ap (λ b. b && same_values vs vs) (same_in_run-self v) ∙ values_self vs
 
 -- its case
 the_case : (callee : Callee) (g : List AnsweredCall) (c : AnsweredCall) (rest : Answer) → Contains g c → callee ≡ c.callee → ((d : AnsweredCall) → Contains g d → callee ≡ d.callee → same_values d.args c.args ≡ true → d.answer ≡ c.answer)

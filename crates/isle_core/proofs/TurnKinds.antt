@@ -16,9 +16,10 @@ use Rattle.isle_core.specs.declared.types.ReturnKind.{ReturnKind}
 use Rattle.isle_core.specs.declared.types.ReturnKind.TheVariants as return_kind
 use Rattle.isle_core.specs.Value.{Value, Answer, Plain, Found, Nothing, Several, Made}
 use Rattle.isle_core.specs.Meaning.{Meaning, TurnAnswers, turns_of, turn_at, times, turn}
-use Rattle.isle_core.specs.Answered.{Held, a_value, an_option, answer_held}
+use Rattle.isle_core.specs.Answered.{AValue, ATuple, Held, Absent, One, Optional, Listed, a_value, an_option, answer_held}
 use Rattle.isle_core.specs.Calling.{Calling, ByTurns, kind_of, kind_by, pure_callee, calling_by, calling_of, calling}
 use Rattle.isle_core.specs.Terms.{sym_text, impure_callee}
+use Rattle.isle_core.specs.HasType.{HasType}
 use Rattle.isle_core.specs.Lawful.{Fits, all_turns, CallingFits, AnswersFit, CalledTermFits}
 use Rattle.isle_core.specs.CalledTerms.{Constructor, CalledTerm, is_made_kind, is_made_term, unless_made, called_by, called_by_all}
 use Rattle.isle_core.specs.BuiltRule.{IsBuiltExpr, AreBuiltExprs, IsImpureKind, CallsImpure, AllCallImpure}
@@ -36,6 +37,31 @@ abbrev pub IsOfKind : ReturnKind → Held → Type 0
 IsOfKind return_kind.Plain h = (v : Value) × (h ≡ a_value v)
 IsOfKind return_kind.Option h = (o : Option Value) × (h ≡ an_option o)
 IsOfKind return_kind.Iterator h = ⊥
+
+-- what is held is a value of the type, or an option of one
+abbrev pub IsHeldOf : Environment → TypeId → Held → Type 0
+IsHeldOf env ty (One (AValue v)) = HasType env v ty
+IsHeldOf env ty (One (ATuple vs)) = ⊥
+IsHeldOf env ty (Optional (Some (AValue v))) = HasType env v ty
+IsHeldOf env ty (Optional (Some (ATuple vs))) = ⊥
+IsHeldOf env ty (Optional None) = Unit {0}
+IsHeldOf env ty (Listed is) = ⊥
+IsHeldOf env ty Absent = ⊥
+
+fits_type : (env : Environment) (kind : ReturnKind) (ty : TypeId) (a : Answer) → Fits env kind (ty ∷ []) a → IsHeldOf env ty (answer_held a)
+fits_type env return_kind.Option ty (Found (v ∷ [])) h = h.0
+fits_type env return_kind.Option ty Nothing h = tt
+fits_type env return_kind.Plain ty (Plain (v ∷ [])) h = h.0
+fits_type env return_kind.Option ty (Found []) h = absurd h
+fits_type env return_kind.Option ty (Found (v ∷ w ∷ vs)) h = absurd h.1
+fits_type env return_kind.Option ty (Plain vs) h = absurd h
+fits_type env return_kind.Option ty (Several items) h = absurd h
+fits_type env return_kind.Plain ty (Plain []) h = absurd h
+fits_type env return_kind.Plain ty (Plain (v ∷ w ∷ vs)) h = absurd h.1
+fits_type env return_kind.Plain ty (Found vs) h = absurd h
+fits_type env return_kind.Plain ty Nothing h = absurd h
+fits_type env return_kind.Plain ty (Several items) h = absurd h
+fits_type env return_kind.Iterator ty a h = absurd h
 
 fits_kind : (env : Environment) (kind : ReturnKind) (ty : TypeId) (a : Answer) → Fits env kind (ty ∷ []) a → IsOfKind kind (answer_held a)
 fits_kind env return_kind.Option ty (Found (v ∷ [])) h = (Some v, refl)
@@ -62,6 +88,13 @@ turn_at_fits env ty kind None n h = absurd h
 turn_at_fits env ty kind (Some a) n h =
     let each = recursion_from_All (Fits env kind (ty ∷ [])) (all_turns a) h in
     fits_kind env kind ty (slice_index_or a.turns n a.rest) (turn_in (Fits env kind (ty ∷ [])) a.turns n a.rest each.0 each.1)
+
+-- a turn that fits is of its type
+pub turn_type : (env : Environment) (ty : TypeId) (kind : ReturnKind) (o : Option TurnAnswers) (n : ℕ) → IsSomeAnd o (λ a. All (Fits env kind (ty ∷ [])) (all_turns a)) → IsHeldOf env ty (answer_held (turn_at o n))
+turn_type env ty kind None n h = absurd h
+turn_type env ty kind (Some a) n h =
+    let each = recursion_from_All (Fits env kind (ty ∷ [])) (all_turns a) h in
+    fits_type env kind ty (slice_index_or a.turns n a.rest) (turn_in (Fits env kind (ty ∷ [])) a.turns n a.rest each.0 each.1)
 
 -- the term takes turns, and each is of its kind
 abbrev pub TakesTurns : Meaning → Calling → Type 0

@@ -25,17 +25,17 @@ abbrev pub an_option : Option Value → Held
 an_option o = Optional (option_map AValue o)
 
 -- the results of an answer: a single one is a value, none or several are a tuple
-abbrev pub item : List Value → Item
-item [] = ATuple []
-item (v ∷ []) = AValue v
-item (v ∷ w ∷ vs) = ATuple (v ∷ w ∷ vs)
+abbrev pub item_of : List Value → Item
+item_of [] = ATuple []
+item_of (v ∷ []) = AValue v
+item_of (v ∷ w ∷ vs) = ATuple (v ∷ w ∷ vs)
 
 -- what an answer holds
 abbrev pub answer_held : Answer → Held
-answer_held (Plain vs) = One (item vs)
-answer_held (Found vs) = Optional (Some (item vs))
+answer_held (Plain vs) = One (item_of vs)
+answer_held (Found vs) = Optional (Some (item_of vs))
 answer_held Nothing = Optional None
-answer_held (Several items) = Listed (map item items)
+answer_held (Several items) = Listed (map item_of items)
 
 -- a callee that has turns takes the next; any other one is answered by its cases
 abbrev pub answer_by : Option TurnAnswers → Meaning → Callee → List Value → List Made → Answer

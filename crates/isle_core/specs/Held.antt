@@ -6,7 +6,7 @@ use Rattle.isle_core.specs.declared.rule_sets.Constraint.TheVariants as constrai
 use Rattle.isle_core.specs.Value.{Value, Truth, Answer}
 use Rattle.isle_core.specs.SameValue.{same_value}
 use Rattle.isle_core.specs.Constants.{int_value}
-use Rattle.isle_core.specs.Meaning.{Meaning, same_values, case}
+use Rattle.isle_core.specs.Meaning.{Meaning, case}
 use Rattle.isle_core.specs.Calling.{Calling, ByTurns, ByCases, NoCall, calling}
 pub use Rattle.isle_core.specs.Answered.{Item, AValue, ATuple, Held, Absent, One, Optional, Listed, a_value, an_option, answer_held}
 use Rattle.isle_core.specs.Path.{Path, Nowhere, Arg, ConstBool, ConstInt, ConstPrim, Extracted, Called, Chosen, MadeVariant, MadeStruct, VariantField, StructField, Wrapped, Inner, Part, Paths, NoPath, APath}
@@ -111,10 +111,17 @@ meets env (constraint.ConstPrim val) h = false
 meets env (constraint.Variant ty variant) h = false
 meets env (constraint.Struct ty) h = false
 
+-- two lists of values are equal
+abbrev pub equal_values : List Value → List Value → Bool
+equal_values [] [] = true
+equal_values (v ∷ vs) (w ∷ ws) = same_value v w && equal_values vs ws
+equal_values [] (w ∷ ws) = false
+equal_values (v ∷ vs) [] = false
+
 -- two items are equal
 abbrev pub equal_item : Item → Item → Bool
 equal_item (AValue v) (AValue w) = same_value v w
-equal_item (ATuple vs) (ATuple ws) = same_values vs ws
+equal_item (ATuple vs) (ATuple ws) = equal_values vs ws
 equal_item (AValue v) (ATuple ws) = false
 equal_item (ATuple vs) (AValue w) = false
 

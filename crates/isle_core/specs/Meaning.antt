@@ -2,10 +2,10 @@
 use Rattle.std.specs.Prelude.{ℕ, List, [], ◌∷◌, Bool, true, false, ◌&&◌, Option, Some, None, filter, find, length, slice_index_or}
 use Rattle.isle_core.specs.declared.values.Callee.{Callee}
 use Rattle.isle_core.specs.Value.{Value, Answer, Nothing, Made}
-use Rattle.isle_core.specs.SameValue.{same_value}
+use Rattle.isle_core.specs.SameInRun.{same_in_run}
 use Rattle.isle_core.specs.Terms.{goes_to}
 
--- an extractor or a pure term: the first case with these arguments answers, or else the rest
+-- an extractor or a pure term: the first case whose arguments are equal in a run answers, or else the rest
 pub record PureAnswers : Type 0 where
   pub callee : Callee
   pub cases : List (List Value × Answer)
@@ -46,10 +46,10 @@ turn m callee made = turn_at (turns_of m callee) (times callee made)
 
 -- ---- cases
 
--- whether two lists of values are equal
+-- whether two lists of values are equal in a run
 abbrev pub same_values : List Value → List Value → Bool
 same_values [] [] = true
-same_values (v ∷ vs) (w ∷ ws) = same_value v w && same_values vs ws
+same_values (v ∷ vs) (w ∷ ws) = same_in_run v w && same_values vs ws
 same_values [] (w ∷ ws) = false
 same_values (v ∷ vs) [] = false
 

@@ -1,9 +1,9 @@
 -- What the function of a term does, by cases on the forms of statements.
-use Rattle.std.specs.Prelude.{ℕ, List, [], ◌∷◌, ◌++◌, ◌==◌, Option, Some, None, slice_get, fold, if◌then◌else◌}
+use Rattle.std.specs.Prelude.{ℕ, List, [], ◌∷◌, ◌++◌, ◌==◌, Bool, true, false, Option, Some, None, slice_get, fold, if◌then◌else◌}
 use Rattle.isle_core.specs.Value.{Value, Truth, Int, Made, End, Gives, GivesSome, GivesNone, IsUnreachable, Ran}
-use Rattle.isle_core.specs.SameValue.{same_value}
+use Rattle.isle_core.specs.SameInRun.{same_in_run}
 use Rattle.isle_core.specs.Meaning.{Meaning}
-use Rattle.isle_core.specs.Answered.{Held, Absent, One, Optional, answer_held, answer}
+use Rattle.isle_core.specs.Answered.{AValue, ATuple, Held, Absent, One, Optional, Listed, a_value, an_option, answer_held, answer}
 use Rattle.isle_core.specs.Held.{held, value_before}
 use Rattle.isle_core.specs.declared.values.Callee.{Callee}
 use Rattle.isle_printer.specs.Bytes.{same_bytes}
@@ -11,18 +11,43 @@ use Rattle.isle_tree.specs.declared.tree.Operand.{Operand}
 use Rattle.isle_tree.specs.declared.tree.Operand.TheVariants as operand
 use Rattle.isle_tree.specs.declared.tree.Read.{Read}
 use Rattle.isle_tree.specs.declared.tree.Read.TheVariants as read
+use Rattle.isle_tree.specs.declared.tree.TCall.{TCall}
 use Rattle.isle_tree.specs.declared.tree.TExpr.{TExpr}
 use Rattle.isle_tree.specs.declared.tree.TExpr.TheVariants as expr
-use Rattle.isle_tree.specs.Program.{Stmt, Let, IfEq, Return, Tail, Body, Done, Then, Function, Program}
+use Rattle.isle_tree.specs.Program.{Stmt, Let, LetList, IfEq, IfLet, Match, Loop, Return, Extend, Overflow, Log, Split, Tail, Body, Done, Then, Function, Program}
+
+-- what a function runs in: how calls are answered, the program, the function itself, its arguments, and how many results fit,
+-- where that is limited
+pub record Around : Type 0 where
+  pub meaning : Meaning
+  pub program : Program
+  pub function : Function
+  pub args : List Value
+  pub limit : Option ℕ
+
+-- what was done so far: the calls made, and the results given
+pub record State : Type 0 where
+  pub made : List Made
+  pub given : List Value
+
+-- nothing was done
+abbrev pub nothing_done : State
+nothing_done = record { made = []; given = [] }
+
+-- a call more
+abbrev pub one_made : State → Made → State
+one_made s c = record { made = s.made ++ c ∷ []; given = s.given }
 
 -- what each local holds, the newest last
 abbrev pub Env : Type 0
 Env = List (ℕ × Held)
 
--- how statements end: they go on to what follows, the function ends, or what is read isn't there
+-- how statements end: they go on to what follows, the function ends, the closure around them is left, or what is read isn't
+-- there
 pub data Flow : Type 0 where
-  Goes : Env → List Made → Flow
-  Ends : End → List Made → Flow
+  Goes : Env → State → Flow
+  Ends : End → State → Flow
+  Leaves : State → Flow
   Stuck : Flow
 
 -- ---- values
@@ -39,113 +64,139 @@ look env n = fold (newer n) Absent env
 abbrev pub bind : Env → ℕ → Held → Env
 bind env n h = env ++ (n, h) ∷ []
 
--- what an operand holds, with the arguments of the function
-abbrev pub value_of : List Value → Env → Operand → Held
-value_of args env (operand.Local n) = look env n
-value_of args env (operand.Arg n) = held (slice_get args n)
-value_of args env (operand.Bool b) = One (Truth b)
-value_of args env (operand.Int ty z) = One (Int ty z)
-value_of args env o = Absent
+-- what an operand holds; numbers of primitive types and names are not built
+abbrev pub value_of : Around → Env → Operand → Held
+value_of w env (operand.Local n) = look env n
+value_of w env (operand.Arg n) = held (slice_get w.args n)
+value_of w env (operand.Bool b) = a_value (Truth b)
+value_of w env (operand.Int ty z) = a_value (Int ty z)
+value_of w env (operand.Raw z) = Absent
+value_of w env (operand.Name name) = Absent
 
--- what is read
-abbrev pub read_value : List Value → Env → Read → Held
-read_value args env (read.Plain o) = value_of args env o
-read_value args env r = Absent
+-- what is read; `&` and `.clone()` are not built
+abbrev pub read_value : Around → Env → Read → Held
+read_value w env (read.Plain o) = value_of w env o
+read_value w env (read.Borrow o) = Absent
+read_value w env (read.Clone o) = Absent
 
 -- the values that are read, where all are
-abbrev pub read_values : List Value → Env → List Read → Option (List Value)
-read_values args env [] = Some []
-read_values args env (r ∷ rs) = value_before (read_value args env r) (read_values args env rs)
+abbrev pub read_values : Around → Env → List Read → Option (List Value)
+read_values w env [] = Some []
+read_values w env (r ∷ rs) = value_before (read_value w env r) (read_values w env rs)
 
 -- what follows a value
 abbrev pub on_value : Held → (Value → Flow) → Flow
-on_value (One v) go = go v
+on_value (One (AValue v)) go = go v
+on_value (One (ATuple vs)) go = Stuck
 on_value (Optional o) go = Stuck
+on_value (Listed is) go = Stuck
 on_value Absent go = Stuck
 
--- what follows a value or an option
+-- what follows where something is there
 abbrev pub on_held : Held → (Held → Flow) → Flow
-on_held (One v) go = go (One v)
+on_held (One i) go = go (One i)
 on_held (Optional o) go = go (Optional o)
+on_held (Listed is) go = go (Listed is)
 on_held Absent go = Stuck
 
 -- ---- statements
 
 -- what follows goes on from there
-abbrev pub then_run : Flow → (Env → List Made → Flow) → Flow
-then_run (Goes env made) go = go env made
-then_run (Ends end made) go = Ends end made
+abbrev pub then_run : Flow → (Env → State → Flow) → Flow
+then_run (Goes env s) go = go env s
+then_run (Ends end s) go = Ends end s
+then_run (Leaves s) go = Leaves s
 then_run Stuck go = Stuck
 
 -- what was bound inside is gone behind it
 abbrev pub behind : Env → Flow → Flow
-behind env (Goes inner made) = Goes env made
-behind env (Ends end made) = Ends end made
+behind env (Goes inner s) = Goes env s
+behind env (Ends end s) = Ends end s
+behind env (Leaves s) = Leaves s
 behind env Stuck = Stuck
 
 -- a local bound to what a place holds
-abbrev pub run_bind : ℕ → Held → Env → List Made → Flow
-run_bind n h env made = on_held h (λ g. Goes (bind env n g) made)
+abbrev pub run_bind : ℕ → Held → Env → State → Flow
+run_bind n h env s = on_held h (λ g. Goes (bind env n g) s)
 
 -- a call with these arguments is made, and its local holds the answer
-abbrev pub run_call : Meaning → ℕ → Callee → Option (List Value) → Env → List Made → Flow
-run_call m n callee None env made = Stuck
-run_call m n callee (Some vs) env made = run_bind n (answer_held (answer m callee vs made)) env (made ++ record { callee = callee; args = vs } ∷ [])
+abbrev pub run_call : Around → ℕ → Callee → Option (List Value) → Env → State → Flow
+run_call w n callee None env s = Stuck
+run_call w n callee (Some vs) env s = run_bind n (answer_held (answer w.meaning callee vs s.made)) env (one_made s (record { callee = callee; args = vs }))
 
--- ? gives the value within an option; over nothing the function ends with nothing
-abbrev pub run_try : ℕ → Held → Env → List Made → Flow
-run_try n (Optional (Some v)) env made = Goes (bind env n (One v)) made
-run_try n (Optional None) env made = Ends GivesNone made
-run_try n (One v) env made = Stuck
-run_try n Absent env made = Stuck
+-- ? gives what is within an option; over nothing the function ends with nothing
+abbrev pub run_try : ℕ → Held → Env → State → Flow
+run_try n (Optional (Some i)) env s = Goes (bind env n (One i)) s
+run_try n (Optional None) env s = Ends GivesNone s
+run_try n (One i) env s = Stuck
+run_try n (Listed is) env s = Stuck
+run_try n Absent env s = Stuck
 
--- a let binds what is computed; a & means the value
-abbrev pub run_let : Meaning → List Value → ℕ → TExpr → Env → List Made → Flow
-run_let m args n (expr.Read r) env made = run_bind n (read_value args env r) env made
-run_let m args n (expr.Some r) env made = on_value (read_value args env r) (λ v. Goes (bind env n (Optional (Some v))) made)
-run_let m args n (expr.Call borrow call) env made = run_call m n call.callee (read_values args env call.args) env made
-run_let m args n (expr.Try source as_ref) env made = run_try n (value_of args env source) env made
-run_let m args n e env made = Stuck
+-- a let binds what is computed; a & means the value. Made values and parts of tuples are not built
+abbrev pub run_let : Around → ℕ → TExpr → Env → State → Flow
+run_let w n (expr.Read r) env s = run_bind n (read_value w env r) env s
+run_let w n (expr.Some r) env s = on_value (read_value w env r) (λ v. Goes (bind env n (an_option (Some v))) s)
+run_let w n (expr.Call borrow call) env s = run_call w n call.callee (read_values w env call.args) env s
+run_let w n (expr.Try source as_ref) env s = run_try n (value_of w env source) env s
+run_let w n (expr.Variant ty variant fields) env s = Stuck
+run_let w n (expr.Struct ty fields) env s = Stuck
+run_let w n (expr.Tuple source part) env s = Stuck
 
--- the function ends with what a place holds
-abbrev pub ends_with : Held → List Made → Flow
-ends_with (One v) made = Ends (Gives v) made
-ends_with (Optional (Some v)) made = Ends (GivesSome v) made
-ends_with (Optional None) made = Ends GivesNone made
-ends_with Absent made = Stuck
+-- the function ends with the value or the option of one that a place holds
+abbrev pub ends_with : Held → State → Flow
+ends_with (One (AValue v)) s = Ends (Gives v) s
+ends_with (One (ATuple vs)) s = Stuck
+ends_with (Optional (Some (AValue v))) s = Ends (GivesSome v) s
+ends_with (Optional (Some (ATuple vs))) s = Stuck
+ends_with (Optional None) s = Ends GivesNone s
+ends_with (Listed is) s = Stuck
+ends_with Absent s = Stuck
 
 -- a return gives what is read, or an option of it
-abbrev pub run_return : List Value → TExpr → Env → List Made → Flow
-run_return args (expr.Read r) env made = ends_with (read_value args env r) made
-run_return args (expr.Some r) env made = on_value (read_value args env r) (λ v. Ends (GivesSome v) made)
-run_return args e env made = Stuck
+abbrev pub run_return : Around → TExpr → Env → State → Flow
+run_return w (expr.Read r) env s = ends_with (read_value w env r) s
+run_return w (expr.Some r) env s = on_value (read_value w env r) (λ v. Ends (GivesSome v) s)
+run_return w (expr.Call borrow call) env s = Stuck
+run_return w (expr.Try source as_ref) env s = Stuck
+run_return w (expr.Variant ty variant fields) env s = Stuck
+run_return w (expr.Struct ty fields) env s = Stuck
+run_return w (expr.Tuple source part) env s = Stuck
 
 -- a tail gives nothing, or is not to be reached
 abbrev pub tail_end : Option (List ℕ × List ℕ) → End
 tail_end None = GivesNone
 tail_end (Some texts) = IsUnreachable
 
--- a statement, and statements in order, with the arguments of the function
+-- a statement, and statements in order; lists, patterns, loops, results of several, logs and closures are not built
 abbrev mutual
-  pub run_stmt : Meaning → List Value → Stmt → Env → List Made → Flow
-  run_stmt m args (Let n e) env made = run_let m args n e env made
-  run_stmt m args (IfEq a b inside) env made =
-      on_value (value_of args env a) (λ v. on_value (value_of args env b) (λ w.
-      if same_value v w then behind env (run_body m args inside env made) else Goes env made))
-  run_stmt m args (Return e) env made = run_return args e env made
-  run_stmt m args (Tail texts) env made = Ends (tail_end texts) made
-  run_stmt m args s env made = Stuck
+  pub run_stmt : Around → Stmt → Env → State → Flow
+  run_stmt w (Let n e) env s = run_let w n e env s
+  run_stmt w (LetList n call) env s = Stuck
+  run_stmt w (IfEq a b inside) env s =
+      on_value (value_of w env a) (λ v. on_value (value_of w env b) (λ u.
+      if same_in_run v u then behind env (run_body w inside env s) else Goes env s))
+  run_stmt w (IfLet pat r inside) env s = Stuck
+  run_stmt w (Match r arms) env s = Stuck
+  run_stmt w (Loop list item inside) env s = Stuck
+  run_stmt w (Return e) env s = run_return w e env s
+  run_stmt w (Extend r) env s = Stuck
+  run_stmt w (Overflow inside) env s = Stuck
+  run_stmt w (Log term place) env s = Stuck
+  run_stmt w (Split inner inside) env s = Stuck
+  run_stmt w (Tail texts) env s = Ends (tail_end texts) s
 
-  pub run_body : Meaning → List Value → Body → Env → List Made → Flow
-  run_body m args Done env made = Goes env made
-  run_body m args (Then s ss) env made = then_run (run_stmt m args s env made) (run_body m args ss)
+  pub run_body : Around → Body → Env → State → Flow
+  run_body w Done env s = Goes env s
+  run_body w (Then t ts) env s = then_run (run_stmt w t env s) (run_body w ts)
 
 -- ---- functions
 
--- the end of a function; a body that goes on behind its last statement, or is stuck, has none
+-- the end of a function; a body that goes on behind its last statement, leaves a closure where there is none, or is stuck, has
+-- none
 abbrev pub ended : Flow → Option Ran
-ended (Goes env made) = None
-ended (Ends end made) = Some (record { end = end; calls = made })
+ended (Goes env s) = None
+ended (Ends end s) = Some (record { end = end; calls = s.made })
+ended (Leaves s) = None
 ended Stuck = None
 
 -- the function of a term
@@ -153,11 +204,11 @@ abbrev pub function_of : List ℕ → List Function → Option Function
 function_of term [] = None
 function_of term (f ∷ fs) = if same_bytes term f.term then Some f else function_of term fs
 
--- the run of a function
-abbrev pub function_run : Meaning → List Value → Option Function → Option Ran
-function_run m args None = None
-function_run m args (Some f) = ended (run_body m args f.body [] [])
+-- the run of a function in its program; its results are not limited
+abbrev pub function_run : Program → Meaning → List Value → Option Function → Option Ran
+function_run p m args None = None
+function_run p m args (Some f) = ended (run_body (record { meaning = m; program = p; function = f; args = args; limit = None }) f.body [] nothing_done)
 
 -- the run of the function of a term in a program, where there is one
 abbrev pub run : Program → List ℕ → List Value → Meaning → Option Ran
-run p term args m = function_run m args (function_of term p.fns)
+run p term args m = function_run p m args (function_of term p.fns)
