@@ -3,15 +3,16 @@ use Rattle.std.specs.Prelude.{◌≡◌}
 use Rattle.isle_core.specs.declared.types.ReturnKind.{ReturnKind}
 use Rattle.isle_core.specs.declared.values.Callee.{Callee}
 use Rattle.isle_core.specs.declared.values.Callee.TheVariants.{External, Internal}
-use Rattle.isle_core.specs.Calling.{Calling, ByTurns, ByCases, NoCall}
+use Rattle.isle_core.specs.Calling.{Calling, ByTurns, ByCases, NoCall, AnswersOnce}
 
 -- an external function; calls of functions of the text are not built
 abbrev pub IsExternal : Callee → Type 0
 IsExternal (External name) = Unit {0}
 IsExternal (Internal name) = ⊥
 
--- an impure call of an external function that answers so often; pure calls are not built
+-- an impure call of an external function that answers so often, and at most once; pure calls and several answers are not
+-- built
 abbrev pub IsCall : ReturnKind → Calling → Type 0
-IsCall kind (ByTurns callee of) = (of ≡ kind) × IsExternal callee
+IsCall kind (ByTurns callee of) = (of ≡ kind) × IsExternal callee × AnswersOnce kind
 IsCall kind (ByCases callee of) = ⊥
 IsCall kind NoCall = ⊥

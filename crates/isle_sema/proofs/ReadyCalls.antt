@@ -69,9 +69,9 @@ module _ (env : Environment) (t : Term) (allowed : Bool) (args : List Pattern) (
   answer_typed : (kind : ReturnKind) → AnswersOnce kind → (term : TermId) (c : Term) (name : List ℕ) (ps : Paths) (k : ℕ) (ty : TypeId) → calling env term ≡ ByTurns (External name) kind → slice_get env.terms term.0 ≡ Some c → c.ret_ty ≡ ty → ArePathsOf env t ps c.arg_tys
       → IsPathOf env t (answer_path (ByTurns (External name) kind) (Called term ps k)) ty
   answer_typed return_kind.Option once term c name ps k ty is there ret are =
-      (subst (IsCall return_kind.Option) (sym is) (refl, tt), subst (λ o. IsSomeAnd o (λ (x : Term). (x.ret_ty ≡ ty) × ArePathsOf env t ps x.arg_tys)) (sym there) (ret, are))
+      (subst (IsCall return_kind.Option) (sym is) (refl, tt, tt), subst (λ o. IsSomeAnd o (λ (x : Term). (x.ret_ty ≡ ty) × ArePathsOf env t ps x.arg_tys)) (sym there) (ret, are))
   answer_typed return_kind.Plain once term c name ps k ty is there ret are =
-      (subst (IsCall return_kind.Plain) (sym is) (refl, tt), subst (λ o. IsSomeAnd o (λ (x : Term). (x.ret_ty ≡ ty) × ArePathsOf env t ps x.arg_tys)) (sym there) (ret, are))
+      (subst (IsCall return_kind.Plain) (sym is) (refl, tt, tt), subst (λ o. IsSomeAnd o (λ (x : Term). (x.ret_ty ≡ ty) × ArePathsOf env t ps x.arg_tys)) (sym there) (ret, are))
   answer_typed return_kind.Iterator once term c name ps k ty is there ret are = absurd once
 
   mutual
@@ -158,7 +158,7 @@ module _ (env : Environment) (t : Term) (allowed : Bool) (args : List Pattern) (
     args = are;
     stand = stand;
     kind = kind_of c.kind;
-    external = subst (IsCall (kind_of c.kind)) (sym k.is) (refl, tt);
+    external = subst (IsCall (kind_of c.kind)) (sym k.is) (refl, tt, k.once);
     inner = (inner_of (kind_of c.kind) (External k.name) (Called term qs j) ps a, λ d. sym (ap is_fallible k.is) ∙ fit term qs j d);
     fits = λ h. sym same ∙ k.fits h;
   }
