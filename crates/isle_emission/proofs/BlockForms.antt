@@ -9,6 +9,8 @@ use Rattle.isle_core.specs.declared.rule_sets.Constraint.TheVariants as constrai
 use Rattle.isle_core.specs.declared.types.BuiltinType.TheVariants as builtin
 use Rattle.isle_core.specs.declared.types.TypeDef.{TypeDef}
 use Rattle.isle_core.specs.declared.types.TypeDef.TheVariants as def
+use Rattle.isle_core.specs.declared.types.ReturnKind.{ReturnKind}
+use Rattle.isle_core.specs.declared.types.ReturnKind.TheVariants as return_kind
 use Rattle.isle_core.specs.declared.types.Term.{Term}
 use Rattle.isle_core.specs.HasType.{IsOfDef, HasType}
 use Rattle.isle_core.specs.Constants.{int_of_def, int_value}
@@ -18,7 +20,7 @@ use Rattle.isle_core.specs.Path.{Path, Arg, ConstBool, ConstInt, at, paths_of}
 use Rattle.isle_core.specs.Block as block
 use Rattle.isle_core.specs.Block.{Block, Stop, Step, Control}
 use Rattle.isle_core.specs.Bindable.{IsBindable, AreBindable, bound_by}
-use Rattle.isle_core.specs.BlockLawful.{IsLawfulFrom, IsLawfulControl, IsLawfulBlock}
+use Rattle.isle_core.specs.BlockLawful.{IsLawfulFrom, IsLawfulControl}
 use Rattle.isle_core.specs.ConstraintType.{IsConstraintOf}
 use Rattle.isle_core.specs.PathType.{IsPathOf}
 use Rattle.isle_core.specs.Readable.{IsInPlace, IsReadAs, AreReadAs}
@@ -28,8 +30,8 @@ use Rattle.isle_core.specs.Setting.{setting}
 use Rattle.isle_tree.specs.declared.tree.Operand.{Operand}
 use Rattle.isle_tree.specs.Program.{Body, Done, Then}
 use Rattle.isle_tree.specs.WellFormed.{IsOperand, IsRead, IsExpr, IsStmt, IsBody}
-use Rattle.isle_emission.specs.Operands.{written_constant, written_place, written_test, is_bound, written_operand}
-use Rattle.isle_emission.specs.Statements.{reads, bound_expr, lets, returned, block_body, control_stmt}
+use Rattle.isle_emission.proofs.Written.{block_body, bound_expr, control_stmt, lets, reads, returned, written_constant, written_operand, written_place, written_test}
+use Rattle.isle_emission.specs.Operands.{is_bound}
 use Rattle.isle_emission.specs.TraitFns.{HasFnNames}
 use Rattle.isle_emission.proofs.ArmBodies.{arm_body}
 use Rattle.isle_emission.proofs.BoundTests.{found}
@@ -81,9 +83,10 @@ source_is env bs bound b c = one (is_bound bound b) refl
     one true is = rw is tt
     one false is = absurd (not_bound bound b c is)
 
-returned_is : (partial : Bool) (o : Operand) → IsOperand o → IsExpr (returned partial o)
-returned_is true o h = h
-returned_is false o h = h
+returned_is : (kind : ReturnKind) (o : Operand) → IsOperand o → IsExpr (returned kind o)
+returned_is return_kind.Plain o h = h
+returned_is return_kind.Option o h = h
+returned_is return_kind.Iterator o h = h
 
 -- what is computed for a binding that may be bound
 bound_is : (env : Environment) (t : Term) (bs : List Binding) (bound : List ℕ) (b : BindingId) (p : Path) (o : Option Binding) → HasFnNames env → at (paths_of bs) b ≡ p → IsBindable (setting env t bs) bound p o → IsExpr (bound_expr env bs bound b o)
@@ -100,22 +103,22 @@ lets_are env t bs bound (b ∷ binds) more names k h = (bound_is env t bs bound 
 
 mutual
   -- the statements of a lawful block
-  pub block_is : (b : Block) (env : Environment) (t : Term) (bs : List Binding) (partial : Bool) (bound made : List ℕ) (end : Body) → HasFnNames env → IsLawfulFrom (setting env t bs) bound made b → HasSingleArms b → IsBody end → IsBody (block_body env bs partial bound b end)
-  block_is Stop env t bs partial bound made end names k o h = h
-  block_is (Step binds c more) env t bs partial bound made end names k o h =
-      lets_are env t bs bound binds (Then (control_stmt env bs partial (bound_by bound binds) c) (block_body env bs partial (bound_by bound binds) more end)) names k.0
-      (control_is c more env t bs partial (bound_by bound binds) _ names k.2 o.0, block_is more env t bs partial (bound_by bound binds) _ end names k.3 o.1 h)
+  pub block_is : (b : Block) (env : Environment) (t : Term) (bs : List Binding) (kind : ReturnKind) (bound made : List ℕ) (end : Body) → HasFnNames env → IsLawfulFrom (setting env t bs) bound made b → HasSingleArms b → IsBody end → IsBody (block_body env bs kind bound b end)
+  block_is Stop env t bs kind bound made end names k o h = h
+  block_is (Step binds c more) env t bs kind bound made end names k o h =
+      lets_are env t bs bound binds (Then (control_stmt env bs kind (bound_by bound binds) c) (block_body env bs kind (bound_by bound binds) more end)) names k.0
+      (control_is c more env t bs kind (bound_by bound binds) _ names k.2 o.0, block_is more env t bs kind (bound_by bound binds) _ end names k.3 o.1 h)
 
-  control_is : (c : Control) (more : Block) (env : Environment) (t : Term) (bs : List Binding) (partial : Bool) (bound made : List ℕ) → HasFnNames env → IsLawfulControl (setting env t bs) bound made c more → IsSingle c → IsStmt (control_stmt env bs partial bound c)
-  control_is (block.Match source (block.Arm c places body block.NoArm)) more env t bs partial bound made names k o = (
+  control_is : (c : Control) (more : Block) (env : Environment) (t : Term) (bs : List Binding) (kind : ReturnKind) (bound made : List ℕ) → HasFnNames env → IsLawfulControl (setting env t bs) bound made c more → IsSingle c → IsStmt (control_stmt env bs kind bound c)
+  control_is (block.Match source (block.Arm c places body block.NoArm)) more env t bs kind bound made names k o = (
     operand_is env t bs bound source k.1.0 k.1.1,
     tested_is env c k.1.0 k.1.2.0,
-    block_is body env t bs partial bound made Done names (arm_body (setting env t bs) bound made source c places body block.NoArm k.1.0 k.1.2) o tt,
+    block_is body env t bs kind bound made Done names (arm_body (setting env t bs) bound made source c places body block.NoArm k.1.0 k.1.2) o tt,
   )
-  control_is (block.Match source (block.Arm c places body (block.Arm d others inside arms))) more env t bs partial bound made names k o = absurd o
-  control_is (block.Match source block.NoArm) more env t bs partial bound made names k o = absurd o
-  control_is (block.Equal x y body) more env t bs partial bound made names k o =
-      (operand_is env t bs bound x k.0.0 k.0.1, operand_is env t bs bound y k.0.0 k.0.2, block_is body env t bs partial bound made Done names k.1 o tt)
-  control_is (block.Loop result body) more env t bs partial bound made names k o = absurd k
-  control_is (block.Return pos result) more env t bs partial bound made names k o =
-      returned_is partial (written_operand env bs bound result) (operand_is env t bs bound result t.ret_ty k.0)
+  control_is (block.Match source (block.Arm c places body (block.Arm d others inside arms))) more env t bs kind bound made names k o = absurd o
+  control_is (block.Match source block.NoArm) more env t bs kind bound made names k o = absurd o
+  control_is (block.Equal x y body) more env t bs kind bound made names k o =
+      (operand_is env t bs bound x k.0.0 k.0.1, operand_is env t bs bound y k.0.0 k.0.2, block_is body env t bs kind bound made Done names k.1 o tt)
+  control_is (block.Loop result body) more env t bs kind bound made names k o = absurd k
+  control_is (block.Return pos result) more env t bs kind bound made names k o =
+      returned_is kind (written_operand env bs bound result) (operand_is env t bs bound result t.ret_ty k.0)

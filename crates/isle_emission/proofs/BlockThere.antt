@@ -8,7 +8,6 @@ use Rattle.std.proofs.lemmas.List.Sums.{fold_push}
 use Rattle.std.proofs.lemmas.Option.{slice_get_within}
 use Rattle.isle_core.specs.declared.types.ReturnKind.{ReturnKind}
 use Rattle.isle_core.specs.declared.types.ReturnKind.TheVariants as return_kind
-use Rattle.isle_core.specs.Calling.{may_be_nothing}
 use Rattle.isle_core.specs.declared.BindingId.{BindingId}
 use Rattle.isle_core.specs.declared.TypeId.{TypeId}
 use Rattle.isle_core.specs.declared.rule_sets.Binding.{Binding}
@@ -16,8 +15,7 @@ use Rattle.isle_core.specs.declared.rule_sets.Binding.TheVariants as binding
 use Rattle.isle_core.specs.declared.rule_sets.Constraint.{Constraint}
 use Rattle.isle_core.specs.declared.rule_sets.Constraint.TheVariants as constraint
 use Rattle.isle_core.specs.declared.types.Term.{Term}
-use Rattle.isle_core.specs.Calling.{Calling, ByTurns, ByCases, NoCall, calling}
-use Rattle.isle_emission.specs.Partial.{is_partial}
+use Rattle.isle_core.specs.Calling.{Calling, ByTurns, ByCases, NoCall, calling, kind_of, AnswersOnce}
 use Rattle.isle_core.specs.Value.{Value, Truth, Int, Opaque, Variant, Struct}
 use Rattle.isle_core.specs.Constants.{int_value}
 use Rattle.isle_core.specs.Path.{Path, Arg, ConstBool, ConstInt, Called, at, paths_of}
@@ -37,9 +35,9 @@ use Rattle.isle_tree.specs.declared.holds.Holds.TheVariants as holds
 use Rattle.isle_tree.specs.declared.tree.Operand.{Operand}
 use Rattle.isle_tree.specs.Program.{Body, Done, Then}
 use Rattle.isle_tree.specs.WellFormed.{Locals, newer, local_holds, operand_holds, is_value, are_values, kind_holds, call_holds, callee_holds, inner_holds, expr_holds, GivesKind, behind_let, IsBodyThere}
-use Rattle.isle_emission.specs.Operands.{written_constant, written_place, written_test, is_bound, written_operand}
-use Rattle.isle_emission.specs.Statements.{callee_of, reads, bound_expr, lets, returned, block_body, control_stmt}
-use Rattle.isle_emission.specs.TermFunction.{parameter, kind_of}
+use Rattle.isle_emission.proofs.Written.{block_body, bound_expr, callee_of, control_stmt, lets, reads, returned, written_constant, written_operand, written_place, written_test}
+use Rattle.isle_emission.specs.Operands.{is_bound}
+use Rattle.isle_emission.specs.TermFunction.{parameter}
 use Rattle.isle_emission.specs.TraitFns.{trait_fns_of, HasFnNames}
 use Rattle.isle_emission.proofs.ArmBodies.{arm_body}
 use Rattle.isle_emission.proofs.BoundTests.{found}
@@ -137,21 +135,23 @@ in_place_let : (env : Environment) (t : Term) (bs : List Binding) (bound : List 
     → (operand_holds (length t.arg_tys) locals (written_place env (at (paths_of bs) b)) ≡ Some holds.One) × HoldsAs env t p (Some holds.One)
 in_place_let env t bs bound locals b p e k = (ap (λ q. operand_holds (length t.arg_tys) locals (written_place env q)) e ∙ in_place_holds env t p k.1.0 locals k.1.1 k.0, plain_holds env t p k)
 
--- what the answer of a term's function holds
-abbrev answer_holds : Bool → Holds
-answer_holds true = holds.Optional
-answer_holds false = holds.One
+-- what an answer holds
+abbrev answer_holds : (of : ReturnKind) → AnswersOnce of → (h : Holds) × (kind_holds of ≡ Some h)
+answer_holds return_kind.Plain once = (holds.One, refl)
+answer_holds return_kind.Option once = (holds.Optional, refl)
+answer_holds return_kind.Iterator once = absurd once
 
-kind_of_holds : (partial : Bool) → kind_holds (kind_of partial) ≡ Some (answer_holds partial)
-kind_of_holds true = refl
-kind_of_holds false = refl
+called_once : (of : ReturnKind) (c : Calling) → IsCall of c → AnswersOnce of
+called_once of (ByTurns callee p) h = h.2
+called_once of (ByCases callee p) h = absurd h
+called_once of NoCall h = absurd h
 
-call_as : (env : Environment) (t : Term) (term : _) (ps : _) (k : ℕ) (of : ReturnKind) (c : Calling) → calling env term ≡ c → IsCall of c → HoldsAs env t (Called term ps k) (Some (answer_holds (may_be_nothing of)))
-call_as env t term ps k return_kind.Option (ByTurns callee p) e h = record { value = λ ty of. absurd (let bad : IsCall return_kind.Plain (ByTurns callee p) = subst (IsCall return_kind.Plain) e of.0 in let q = h.0 in let r = bad.0 in cc); option = λ ty of. refl }
-call_as env t term ps k return_kind.Plain (ByTurns callee p) e h = record { value = λ ty of. refl; option = λ ty of. absurd (let bad : IsCall return_kind.Option (ByTurns callee p) = subst (IsCall return_kind.Option) e of.0 in let q = h.0 in let r = bad.0 in cc) }
-call_as env t term ps k return_kind.Iterator (ByTurns callee p) e h = record { value = λ ty of. refl; option = λ ty of. absurd (let bad : IsCall return_kind.Option (ByTurns callee p) = subst (IsCall return_kind.Option) e of.0 in let q = h.0 in let r = bad.0 in cc) }
-call_as env t term ps k of (ByCases callee p) e h = absurd h
-call_as env t term ps k of NoCall e h = absurd h
+call_as : (env : Environment) (t : Term) (term : _) (ps : _) (k : ℕ) (of : ReturnKind) (once : AnswersOnce of) (c : Calling) → calling env term ≡ c → IsCall of c → HoldsAs env t (Called term ps k) (Some (answer_holds of once).0)
+call_as env t term ps k return_kind.Option once (ByTurns callee p) e h = record { value = λ ty of. absurd (let bad : IsCall return_kind.Plain (ByTurns callee p) = subst (IsCall return_kind.Plain) e of.0 in let q = h.0 in let r = bad.0 in cc); option = λ ty of. refl }
+call_as env t term ps k return_kind.Plain once (ByTurns callee p) e h = record { value = λ ty of. refl; option = λ ty of. absurd (let bad : IsCall return_kind.Option (ByTurns callee p) = subst (IsCall return_kind.Option) e of.0 in let q = h.0 in let r = bad.0 in cc) }
+call_as env t term ps k return_kind.Iterator once (ByTurns callee p) e h = absurd once
+call_as env t term ps k of once (ByCases callee p) e h = absurd h
+call_as env t term ps k of once NoCall e h = absurd h
 
 same_count : (n m : ℕ) → n ≡ m → eqb n m ≡ true
 same_count n m e = eq-eqb n m e
@@ -160,15 +160,17 @@ let_holds : (env : Environment) (t : Term) (bs : List Binding) (bound : List ℕ
 let_holds env t bs bound locals b p (Some (binding.Constructor term parameters k)) names e l is =
     let x = external_term env term is.called is.kind is.there is.external in
     let args = reads_hold env t bs bound locals parameters is.called.arg_tys l is.args in
+    let once = called_once is.kind (calling env term) is.external in
+    let answered = answer_holds is.kind once in
     record {
-      h = answer_holds (may_be_nothing is.kind);
+      h = answered.0;
       is =
           ap (λ y. cond y (callee_holds (trait_fns_of env) (callee_of (calling env term)) (length (reads env bs bound parameters))) None) args.0
           ∙ ap (λ y. callee_holds (trait_fns_of env) y (length (reads env bs bound parameters))) x.callee
-          ∙ ap (λ y. call_holds y (length (reads env bs bound parameters))) (term_fn_found env term is.called (may_be_nothing is.kind) names is.there x)
-          ∙ ap (λ y. cond y (kind_holds (kind_of (is_partial is.called.kind))) None) (same_count (length (map (parameter env) is.called.arg_tys)) (length (reads env bs bound parameters)) (length-map is.called.arg_tys (parameter env) ∙ sym args.1))
-          ∙ ap (λ y. kind_holds (kind_of y)) x.partial' ∙ kind_of_holds (may_be_nothing is.kind);
-      kept = subst (λ q. HoldsAs env t q (Some (answer_holds (may_be_nothing is.kind)))) (sym is.path) (call_as env t term _ k is.kind (calling env term) refl is.external);
+          ∙ ap (λ y. call_holds y (length (reads env bs bound parameters))) (term_fn_found env term is.called is.kind names is.there x)
+          ∙ ap (λ y. cond y (kind_holds (kind_of is.called.kind)) None) (same_count (length (map (parameter env) is.called.arg_tys)) (length (reads env bs bound parameters)) (length-map is.called.arg_tys (parameter env) ∙ sym args.1))
+          ∙ ap kind_holds x.answers ∙ answered.1;
+      kept = subst (λ q. HoldsAs env t q (Some answered.0)) (sym is.path) (call_as env t term _ k is.kind once (calling env term) refl is.external);
     }
 let_holds env t bs bound locals b p (Some (binding.MatchSome source)) names e l is =
     record {
@@ -182,52 +184,53 @@ let_holds env t bs bound locals b p (Some (binding.ConstInt val ty)) names e l i
 let_holds env t bs bound locals b p o names e l is = absurd is
 
 lets_there : (env : Environment) (t : Term) (bs : List Binding) (bound : List ℕ) (locals : Locals) (binds : List BindingId) (more : Body) → HasFnNames env → LocalsHold env t bs bound locals → AreBindable (setting env t bs) bound binds
-    → ((after : Locals) → LocalsHold env t bs (bound_by bound binds) after → IsBodyThere (trait_fns_of env) (kind_of (is_partial t.kind)) (length t.arg_tys) after more)
-    → IsBodyThere (trait_fns_of env) (kind_of (is_partial t.kind)) (length t.arg_tys) locals (lets env bs bound binds more)
+    → ((after : Locals) → LocalsHold env t bs (bound_by bound binds) after → IsBodyThere (trait_fns_of env) (kind_of t.kind) (length t.arg_tys) after more)
+    → IsBodyThere (trait_fns_of env) (kind_of t.kind) (length t.arg_tys) locals (lets env bs bound binds more)
 lets_there env t bs bound locals [] more names l k h = h locals l
 lets_there env t bs bound locals (b ∷ binds) more names l k h =
     let x = let_holds env t bs bound locals b (at (paths_of bs) b) (slice_get bs b.0) names refl l k.0 in
     let rest = lets_there env t bs (bound ++ b.0 ∷ []) (locals ++ (b.0, x.h) ∷ []) binds more names (more_hold env t bs bound locals b x.h l x.kept) k.1 h in (
       subst IsSome (sym x.is) refl,
-      subst (λ o. IsBodyThere (trait_fns_of env) (kind_of (is_partial t.kind)) (length t.arg_tys) (behind_let o b.0 locals) (lets env bs (bound ++ b.0 ∷ []) binds more)) (sym x.is) rest,
+      subst (λ o. IsBodyThere (trait_fns_of env) (kind_of t.kind) (length t.arg_tys) (behind_let o b.0 locals) (lets env bs (bound ++ b.0 ∷ []) binds more)) (sym x.is) rest,
     )
 
 -- ---- blocks
 
-returned_there : (partial : Bool) (o : Operand) (env : Environment) (params : ℕ) (locals : Locals) → operand_holds params locals o ≡ Some holds.One → GivesKind (kind_of partial) (expr_holds (trait_fns_of env) params locals (returned partial o))
-returned_there true o env params locals e = rw e tt
-returned_there false o env params locals e = rw e tt
+returned_there : (kind : ReturnKind) → AnswersOnce kind → (o : Operand) (env : Environment) (params : ℕ) (locals : Locals) → operand_holds params locals o ≡ Some holds.One → GivesKind kind (expr_holds (trait_fns_of env) params locals (returned kind o))
+returned_there return_kind.Plain once o env params locals e = rw e tt
+returned_there return_kind.Option once o env params locals e = rw e tt
+returned_there return_kind.Iterator once o env params locals e = absurd once
 
 mutual
   -- what a lawful block reads, where what follows reads what is there whatever is bound
-  block_there : (b : Block) (env : Environment) (t : Term) (bs : List Binding) (bound made : List ℕ) (locals : Locals) (end : Body) → HasFnNames env → LocalsHold env t bs bound locals → IsLawfulFrom (setting env t bs) bound made b → HasSingleArms b
-      → ((after : Locals) → IsBodyThere (trait_fns_of env) (kind_of (is_partial t.kind)) (length t.arg_tys) after end)
-      → IsBodyThere (trait_fns_of env) (kind_of (is_partial t.kind)) (length t.arg_tys) locals (block_body env bs (is_partial t.kind) bound b end)
-  block_there Stop env t bs bound made locals end names l k o h = h locals
-  block_there (Step binds c more) env t bs bound made locals end names l k o h =
-      lets_there env t bs bound locals binds (Then (control_stmt env bs (is_partial t.kind) (bound_by bound binds) c) (block_body env bs (is_partial t.kind) (bound_by bound binds) more end)) names l k.0
-      (λ after held. control_there c more env t bs (bound_by bound binds) _ after (block_body env bs (is_partial t.kind) (bound_by bound binds) more end) names held k.2 o.0 (block_there more env t bs (bound_by bound binds) _ after end names held k.3 o.1 h))
+  block_there : (b : Block) (env : Environment) (t : Term) (bs : List Binding) (bound made : List ℕ) (locals : Locals) (end : Body) → HasFnNames env → AnswersOnce (kind_of t.kind) → LocalsHold env t bs bound locals → IsLawfulFrom (setting env t bs) bound made b → HasSingleArms b
+      → ((after : Locals) → IsBodyThere (trait_fns_of env) (kind_of t.kind) (length t.arg_tys) after end)
+      → IsBodyThere (trait_fns_of env) (kind_of t.kind) (length t.arg_tys) locals (block_body env bs (kind_of t.kind) bound b end)
+  block_there Stop env t bs bound made locals end names once l k o h = h locals
+  block_there (Step binds c more) env t bs bound made locals end names once l k o h =
+      lets_there env t bs bound locals binds (Then (control_stmt env bs (kind_of t.kind) (bound_by bound binds) c) (block_body env bs (kind_of t.kind) (bound_by bound binds) more end)) names l k.0
+      (λ after held. control_there c more env t bs (bound_by bound binds) _ after (block_body env bs (kind_of t.kind) (bound_by bound binds) more end) names once held k.2 o.0 (block_there more env t bs (bound_by bound binds) _ after end names once held k.3 o.1 h))
 
-  control_there : (c : Control) (more : Block) (env : Environment) (t : Term) (bs : List Binding) (bound made : List ℕ) (locals : Locals) (ss : Body) → HasFnNames env → LocalsHold env t bs bound locals → IsLawfulControl (setting env t bs) bound made c more → IsSingle c
-      → IsBodyThere (trait_fns_of env) (kind_of (is_partial t.kind)) (length t.arg_tys) locals ss → IsBodyThere (trait_fns_of env) (kind_of (is_partial t.kind)) (length t.arg_tys) locals (Then (control_stmt env bs (is_partial t.kind) bound c) ss)
-  control_there (block.Match source (block.Arm c places body block.NoArm)) more env t bs bound made locals ss names l k o h = (
+  control_there : (c : Control) (more : Block) (env : Environment) (t : Term) (bs : List Binding) (bound made : List ℕ) (locals : Locals) (ss : Body) → HasFnNames env → AnswersOnce (kind_of t.kind) → LocalsHold env t bs bound locals → IsLawfulControl (setting env t bs) bound made c more → IsSingle c
+      → IsBodyThere (trait_fns_of env) (kind_of t.kind) (length t.arg_tys) locals ss → IsBodyThere (trait_fns_of env) (kind_of t.kind) (length t.arg_tys) locals (Then (control_stmt env bs (kind_of t.kind) bound c) ss)
+  control_there (block.Match source (block.Arm c places body block.NoArm)) more env t bs bound made locals ss names once l k o h = (
     (
       is_one _ (operand_one env t bs bound locals source k.1.0 l k.1.1),
       is_one _ (tested_holds env c k.1.0 (length t.arg_tys) locals k.1.2.0),
-      block_there body env t bs bound made locals Done names l (arm_body (setting env t bs) bound made source c places body block.NoArm k.1.0 k.1.2) o (λ after. tt),
+      block_there body env t bs bound made locals Done names once l (arm_body (setting env t bs) bound made source c places body block.NoArm k.1.0 k.1.2) o (λ after. tt),
     ),
     h,
   )
-  control_there (block.Match source (block.Arm c places body (block.Arm d others inside arms))) more env t bs bound made locals ss names l k o h = absurd o
-  control_there (block.Match source block.NoArm) more env t bs bound made locals ss names l k o h = absurd o
-  control_there (block.Equal x y body) more env t bs bound made locals ss names l k o h =
-      ((is_one _ (operand_one env t bs bound locals x k.0.0 l k.0.1), is_one _ (operand_one env t bs bound locals y k.0.0 l k.0.2), block_there body env t bs bound made locals Done names l k.1 o (λ after. tt)), h)
-  control_there (block.Loop result body) more env t bs bound made locals ss names l k o h = absurd k
-  control_there (block.Return pos result) more env t bs bound made locals ss names l k o h =
-      (returned_there (is_partial t.kind) (written_operand env bs bound result) env (length t.arg_tys) locals (operand_one env t bs bound locals result t.ret_ty l k.0), h)
+  control_there (block.Match source (block.Arm c places body (block.Arm d others inside arms))) more env t bs bound made locals ss names once l k o h = absurd o
+  control_there (block.Match source block.NoArm) more env t bs bound made locals ss names once l k o h = absurd o
+  control_there (block.Equal x y body) more env t bs bound made locals ss names once l k o h =
+      ((is_one _ (operand_one env t bs bound locals x k.0.0 l k.0.1), is_one _ (operand_one env t bs bound locals y k.0.0 l k.0.2), block_there body env t bs bound made locals Done names once l k.1 o (λ after. tt)), h)
+  control_there (block.Loop result body) more env t bs bound made locals ss names once l k o h = absurd k
+  control_there (block.Return pos result) more env t bs bound made locals ss names once l k o h =
+      (returned_there (kind_of t.kind) once (written_operand env bs bound result) env (length t.arg_tys) locals (operand_one env t bs bound locals result t.ret_ty l k.0), h)
 
 -- what the block of a function reads
-pub root_there : (b : Block) (env : Environment) (t : Term) (bs : List Binding) (end : Body) → HasFnNames env → IsLawfulBlock (setting env t bs) b → HasSingleArms b
-    → ((after : Locals) → IsBodyThere (trait_fns_of env) (kind_of (is_partial t.kind)) (length t.arg_tys) after end)
-    → IsBodyThere (trait_fns_of env) (kind_of (is_partial t.kind)) (length t.arg_tys) [] (block_body env bs (is_partial t.kind) [] b end)
-root_there b env t bs end names k o h = block_there b env t bs [] [] [] end names (none_hold env t bs) k o h
+pub root_there : (b : Block) (env : Environment) (t : Term) (bs : List Binding) (end : Body) → HasFnNames env → AnswersOnce (kind_of t.kind) → IsLawfulBlock (setting env t bs) b → HasSingleArms b
+    → ((after : Locals) → IsBodyThere (trait_fns_of env) (kind_of t.kind) (length t.arg_tys) after end)
+    → IsBodyThere (trait_fns_of env) (kind_of t.kind) (length t.arg_tys) [] (block_body env bs (kind_of t.kind) [] b end)
+root_there b env t bs end names once k o h = block_there b env t bs [] [] [] end names once (none_hold env t bs) k o h

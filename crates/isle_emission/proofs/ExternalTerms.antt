@@ -14,8 +14,7 @@ use Rattle.isle_core.specs.declared.types.Term.{Term}
 use Rattle.isle_core.specs.declared.types.TermKind.{TermKind}
 use Rattle.isle_core.specs.declared.types.TermKind.TheVariants as kind
 use Rattle.isle_core.specs.declared.values.Callee.TheVariants.{External}
-use Rattle.isle_core.specs.Calling.{Calling, calling, calling_of, calling_by, pure_callee, kind_of, may_be_nothing}
-use Rattle.isle_emission.specs.Partial.{is_partial}
+use Rattle.isle_core.specs.Calling.{Calling, calling, calling_of, calling_by, pure_callee, kind_of}
 use Rattle.isle_core.specs.Terms.{sym_text, impure_callee}
 use Rattle.isle_core.specs.ExternalCall.{IsCall}
 use Rattle.isle_core.specs.Rule.{Environment}
@@ -23,18 +22,18 @@ use Rattle.isle_core.proofs.Contained.{head_contained, tail_contained, contained
 use Rattle.isle_tree.specs.declared.tree.TraitFn.{TraitFn}
 use Rattle.isle_spelling.specs.Identifier.{IsIdentifier}
 use Rattle.isle_tree.specs.WellFormed.{IsCallee, fn_names, trait_fn}
-use Rattle.isle_emission.specs.Statements.{callee_of}
-use Rattle.isle_emission.specs.TraitFns.{fn_for, func_of, trait_fn_of, trait_fns_in, trait_fns_of, HasFnNames}
+use Rattle.isle_emission.proofs.Written.{callee_of}
+use Rattle.isle_emission.specs.TraitFns.{constructor_fn, func_of, constructor_fn_of, extractor_fn_of, trait_fns_in, trait_fns_of, HasFnNames}
 
 -- what an external term's call is
-pub record IsExternalTerm (env : Environment) (t : Term) (partial : Bool) (c : Calling) : Type 0 where
+pub record IsExternalTerm (env : Environment) (t : Term) (of : ReturnKind) (c : Calling) : Type 0 where
   pub func : Sym
-  pub fn : trait_fn_of env t ≡ Some (fn_for env t func)
+  pub fn : constructor_fn_of env t ≡ Some (constructor_fn env t func)
   pub callee : callee_of c ≡ External (sym_text env func)
-  pub partial' : is_partial t.kind ≡ partial
+  pub answers : kind_of t.kind ≡ of
 
-by_kind : (env : Environment) (t : Term) (k : TermKind) (of : ReturnKind) → t.kind ≡ k → IsCall of (calling_by (kind_of k) (impure_callee env t k) (pure_callee env t k)) → IsExternalTerm env t (may_be_nothing of) (calling_by (kind_of k) (impure_callee env t k) (pure_callee env t k))
-by_kind env t (kind.Decl false multi p recursive (constructor.External func) extractor) of e h = record { func = func; fn = ap (λ x. option_map (fn_for env t) (func_of x)) e; callee = refl; partial' = ap is_partial e ∙ ap may_be_nothing h.0 }
+by_kind : (env : Environment) (t : Term) (k : TermKind) (of : ReturnKind) → t.kind ≡ k → IsCall of (calling_by (kind_of k) (impure_callee env t k) (pure_callee env t k)) → IsExternalTerm env t of (calling_by (kind_of k) (impure_callee env t k) (pure_callee env t k))
+by_kind env t (kind.Decl false multi p recursive (constructor.External func) extractor) of e h = record { func = func; fn = ap (λ x. option_map (constructor_fn env t) (func_of x)) e; callee = refl; answers = ap kind_of e ∙ h.0 }
 by_kind env t (kind.Decl false multi p recursive constructor.Internal extractor) of e h = absurd h.1
 by_kind env t (kind.Decl false multi p recursive constructor.Absent extractor) of e h = absurd h
 by_kind env t (kind.Decl true multi p recursive (constructor.External func) extractor) of e h = absurd h
@@ -44,31 +43,36 @@ by_kind env t (kind.Variant ty variant) of e h = absurd h
 by_kind env t (kind.Struct ty) of e h = absurd h
 
 -- a call of an external term
-pub external_term : (env : Environment) (term : TermId) (t : Term) (of : ReturnKind) → slice_get env.terms term.0 ≡ Some t → IsCall of (calling env term) → IsExternalTerm env t (may_be_nothing of) (calling env term)
+pub external_term : (env : Environment) (term : TermId) (t : Term) (of : ReturnKind) → slice_get env.terms term.0 ≡ Some t → IsCall of (calling env term) → IsExternalTerm env t of (calling env term)
 external_term env term t of there h =
     let is : calling env term ≡ calling_of env (Some t) = ap (calling_of env) there in
-    subst (IsExternalTerm env t (may_be_nothing of)) (sym is) (by_kind env t t.kind of refl (subst (IsCall of) is h))
+    subst (IsExternalTerm env t of) (sym is) (by_kind env t t.kind of refl (subst (IsCall of) is h))
 
 -- ---- functions of the trait by their names
 
-fn_contained : (env : Environment) (ts : List Term) (i : ℕ) (t : Term) (f : TraitFn) → slice_get ts i ≡ Some t → trait_fn_of env t ≡ Some f → Contains (trait_fns_in env ts) f
-fn_contained env [] i t f e is = cc
-fn_contained env (u ∷ ts) zero t f e is = one (trait_fn_of env u) (ap (trait_fn_of env) (same u t e) ∙ is)
-  where
-    same : (a b : Term) → Some a ≡ Some b → a ≡ b
-    same a b e = cc
+-- a function more, or none
+pub behind_option : (o : Option TraitFn) (fs : List TraitFn) (f : TraitFn) → Contains fs f → Contains (cons_option o fs) f
+behind_option None fs f c = c
+behind_option (Some g) fs f c = tail_contained g fs f c
 
+at_option : (o : Option TraitFn) (fs : List TraitFn) (f : TraitFn) → o ≡ Some f → Contains (cons_option o fs) f
+at_option None fs f e = cc
+at_option (Some g) fs f e = subst (λ x. Contains (x ∷ fs) f) (sym (same_fn g f e)) (head_contained f fs)
+  where
     same_fn : (a b : TraitFn) → Some a ≡ Some b → a ≡ b
     same_fn a b e = cc
 
-    one : (o : Option TraitFn) → o ≡ Some f → Contains (cons_option o (trait_fns_in env ts)) f
-    one None e = cc
-    one (Some g) e = subst (λ x. Contains (x ∷ trait_fns_in env ts) f) (sym (same_fn g f e)) (head_contained f (trait_fns_in env ts))
-fn_contained env (u ∷ ts) (suc i) t f e is = one (trait_fn_of env u) (fn_contained env ts i t f e is)
+fn_contained : (env : Environment) (ts : List Term) (i : ℕ) (t : Term) (f : TraitFn) → slice_get ts i ≡ Some t → constructor_fn_of env t ≡ Some f → Contains (trait_fns_in env ts) f
+fn_contained env [] i t f e is = cc
+fn_contained env (u ∷ ts) zero t f e is =
+    behind_option (extractor_fn_of env u) (cons_option (constructor_fn_of env u) (trait_fns_in env ts)) f
+    (at_option (constructor_fn_of env u) (trait_fns_in env ts) f (ap (constructor_fn_of env) (same u t e) ∙ is))
   where
-    one : (o : Option TraitFn) → Contains (trait_fns_in env ts) f → Contains (cons_option o (trait_fns_in env ts)) f
-    one None c = c
-    one (Some g) c = tail_contained g (trait_fns_in env ts) f c
+    same : (a b : Term) → Some a ≡ Some b → a ≡ b
+    same a b e = cc
+fn_contained env (u ∷ ts) (suc i) t f e is =
+    behind_option (extractor_fn_of env u) (cons_option (constructor_fn_of env u) (trait_fns_in env ts)) f
+    (behind_option (constructor_fn_of env u) (trait_fns_in env ts) f (fn_contained env ts i t f e is))
 
 name_contained : (fs : List TraitFn) (f : TraitFn) → Contains fs f → Contains (fn_names fs) f.name
 name_contained [] f c = absurd (none_contained f c)
@@ -99,13 +103,13 @@ fn_found (g ∷ fs) f d c = one (contained_cases g fs f c) (fn_found fs f d.1)
     one (inr k) rest = there (bytes_eq f.name g.name) refl (apart k) (rest k)
 
 -- the function of an external term is found by its name
-pub term_fn_found : (env : Environment) (term : TermId) (t : Term) (partial : Bool) → HasFnNames env → slice_get env.terms term.0 ≡ Some t → (x : IsExternalTerm env t partial (calling env term))
-    → trait_fn (trait_fns_of env) (sym_text env x.func) ≡ Some (fn_for env t x.func)
-term_fn_found env term t partial names there x = fn_found (trait_fns_of env) (fn_for env t x.func) names.distinct (fn_contained env env.terms term.0 t (fn_for env t x.func) there x.fn)
+pub term_fn_found : (env : Environment) (term : TermId) (t : Term) (of : ReturnKind) → HasFnNames env → slice_get env.terms term.0 ≡ Some t → (x : IsExternalTerm env t of (calling env term))
+    → trait_fn (trait_fns_of env) (sym_text env x.func) ≡ Some (constructor_fn env t x.func)
+term_fn_found env term t of names there x = fn_found (trait_fns_of env) (constructor_fn env t x.func) names.distinct (fn_contained env env.terms term.0 t (constructor_fn env t x.func) there x.fn)
 
 -- what an external term's call goes to has a name of Rust
 pub callee_is : (env : Environment) (term : TermId) (t : Term) (of : ReturnKind) → HasFnNames env → slice_get env.terms term.0 ≡ Some t → IsCall of (calling env term) → IsCallee (callee_of (calling env term))
 callee_is env term t of names there call =
     let x = external_term env term t of there call in
     subst IsCallee (sym x.callee)
-    (All-contains (λ (f : TraitFn). IsIdentifier f.name) (trait_fns_of env) (fn_for env t x.func) (All-from_recursion (λ (f : TraitFn). IsIdentifier f.name) (trait_fns_of env) names.identifiers) (fn_contained env env.terms term.0 t (fn_for env t x.func) there x.fn))
+    (All-contains (λ (f : TraitFn). IsIdentifier f.name) (trait_fns_of env) (constructor_fn env t x.func) (All-from_recursion (λ (f : TraitFn). IsIdentifier f.name) (trait_fns_of env) names.identifiers) (fn_contained env env.terms term.0 t (constructor_fn env t x.func) there x.fn))

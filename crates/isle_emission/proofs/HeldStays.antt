@@ -4,14 +4,15 @@ use Rattle.isle_core.specs.Value.{Value, Answer}
 use Rattle.isle_core.specs.Meaning.{Meaning}
 use Rattle.isle_core.specs.Calling.{Calling, ByTurns, ByCases, NoCall, calling}
 use Rattle.isle_core.specs.Path.{Path, Arg, ConstBool, ConstInt, Called, Inner, Paths, NoPath, APath}
-use Rattle.isle_core.specs.Held.{Held, Absent, One, Optional, Known, held_of, inner_held, value_before, case_held, call_held, value_at, values_at}
+use Rattle.isle_core.specs.Held.{Held, AValue, ATuple, Absent, One, Optional, Listed, Known, held_of, inner_held, value_before, case_held, call_held, value_at, values_at}
 use Rattle.isle_core.specs.Rule.{Environment}
 
 -- something stands there
 abbrev pub IsThere : Held → Type 0
 IsThere Absent = ⊥
-IsThere (One v) = Unit {0}
+IsThere (One i) = Unit {0}
 IsThere (Optional o) = Unit {0}
+IsThere (Listed is) = Unit {0}
 
 -- all values are there
 abbrev pub AreThere : Option (List Value) → Type 0
@@ -28,13 +29,16 @@ answer_stays (Some a) p h t = ap held_of (h a refl)
 
 inner_stays : (h g : Held) → (IsThere h → g ≡ h) → IsThere (inner_held h) → inner_held g ≡ inner_held h
 inner_stays Absent g s t = absurd t
-inner_stays (One v) g s t = absurd t
+inner_stays (One i) g s t = absurd t
+inner_stays (Listed is) g s t = absurd t
 inner_stays (Optional None) g s t = absurd t
-inner_stays (Optional (Some v)) g s t = ap inner_held (s tt)
+inner_stays (Optional (Some i)) g s t = ap inner_held (s tt)
 
 before_stays : (h g : Held) (o p : Option (List Value)) → (IsThere h → g ≡ h) → (AreThere o → p ≡ o) → AreThere (value_before h o) → value_before g p ≡ value_before h o
-before_stays (One v) g (Some vs) p s t k = rw (s tt, t tt) refl
-before_stays (One v) g None p s t k = absurd k
+before_stays (One (AValue v)) g (Some vs) p s t k = rw (s tt, t tt) refl
+before_stays (One (AValue v)) g None p s t k = absurd k
+before_stays (One (ATuple vs)) g o p s t k = absurd k
+before_stays (Listed is) g o p s t k = absurd k
 before_stays Absent g o p s t k = absurd k
 before_stays (Optional w) g o p s t k = absurd k
 

@@ -1,10 +1,12 @@
-pub mod Places
 pub mod PathAt
 pub mod BoundTests
 pub mod Onto
+pub mod ReadSteps
 pub mod StatementSteps
 pub mod LineFeeds
 pub mod Lines
+pub mod Written
+pub mod Made
 pub mod PathValues
 pub mod HeldStays
 pub mod LocalsAgree
@@ -21,5 +23,6 @@ pub mod BlockFits
 pub mod WellFormedFunctions
 pub mod Tails
 pub mod Roots
+pub mod GivenFunctions
 pub mod EmittedLaws
 pub mod TraitFnForms

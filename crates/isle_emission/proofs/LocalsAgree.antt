@@ -10,25 +10,26 @@ use Rattle.isle_core.specs.declared.rule_sets.Binding.{Binding}
 use Rattle.isle_core.specs.declared.types.Term.{Term}
 use Rattle.isle_core.specs.Value.{Value}
 use Rattle.isle_core.specs.Meaning.{Meaning}
-use Rattle.isle_core.specs.HasType.{HaveTypes}
+use Rattle.isle_core.specs.HasType.{HasType, HaveTypes}
 use Rattle.isle_core.specs.Path.{Path, at, at_all, paths_of}
-use Rattle.isle_core.specs.Held.{Held, Absent, One, Optional, Known, value_before, value_at, values_at}
+use Rattle.isle_core.specs.Held.{Held, Absent, Known, a_value, an_option, value_before, value_at, values_at}
 use Rattle.isle_core.specs.PathType.{IsPathOf, IsOptionOf}
 use Rattle.isle_core.specs.Readable.{IsReadAs, AreReadAs}
 use Rattle.isle_core.specs.Rule.{Environment}
 use Rattle.isle_core.specs.Setting.{setting}
-use Rattle.isle_tree.specs.Run.{Env, newer, look, bind, value_of, read_values}
-use Rattle.isle_emission.specs.Operands.{is_bound, written_operand}
-use Rattle.isle_emission.specs.Statements.{reads}
+use Rattle.isle_core.proofs.TurnKinds.{IsHeldOf}
+use Rattle.isle_tree.specs.Run.{Around, Env, newer, look, bind, value_of, read_values}
+use Rattle.isle_emission.proofs.Written.{reads, written_operand}
+use Rattle.isle_emission.specs.Operands.{is_bound}
 use Rattle.isle_emission.proofs.BoundTests.{found}
 use Rattle.isle_emission.proofs.HeldStays.{IsThere, Grows, held_stays}
 use Rattle.isle_emission.proofs.PathValues.{path_reads}
 
--- what stands at a path is of the path's kind
+-- what stands at a path is of the path's kind and type
 pub record IsOfKind (env : Environment) (t : Term) (p : Path) (h : Held) : Type 0 where
   pub there : IsThere h
-  pub value : (ty : TypeId) → IsPathOf env t p ty → (v : Value) × (h ≡ One v)
-  pub option : (ty : TypeId) → IsOptionOf env t p ty → (o : Option Value) × (h ≡ Optional o)
+  pub value : (ty : TypeId) → IsPathOf env t p ty → (v : Value) × (h ≡ a_value v) × HasType env v ty
+  pub option : (ty : TypeId) → IsOptionOf env t p ty → (o : Option Value) × (h ≡ an_option o) × IsHeldOf env ty h
 
 -- a local holds what stands at its binding's path
 pub record Stands (env : Environment) (m : Meaning) (args : List Value) (t : Term) (bs : List Binding) (known : Known) (locals : Env) (c : BindingId) : Type 0 where
@@ -78,45 +79,46 @@ bind_agrees env m args t bs bound known locals b h a at_b kind = record {
 
 -- ---- operands
 
--- the value that an operand stands for, in the function and at the path
-pub record ReadsAs (env : Environment) (m : Meaning) (args : List Value) (bs : List Binding) (bound : List ℕ) (known : Known) (locals : Env) (b : BindingId) : Type 0 where
+-- the value of the type that an operand stands for, in the function and at the path
+pub record ReadsAs (env : Environment) (u : Around) (bs : List Binding) (bound : List ℕ) (known : Known) (locals : Env) (b : BindingId) (ty : TypeId) : Type 0 where
   pub v : Value
-  pub place : value_of args locals (written_operand env bs bound b) ≡ One v
-  pub held : value_at env m args known (at (paths_of bs) b) ≡ One v
+  pub place : value_of u locals (written_operand env bs bound b) ≡ a_value v
+  pub held : value_at env u.meaning u.args known (at (paths_of bs) b) ≡ a_value v
+  pub typed : HasType env v ty
 
 not_bound : (bound : List ℕ) (n : ℕ) → Contains bound n → is_bound bound (record { 0 = n }) ≡ false → ⊥
 not_bound bound n c e = let t = found bound n c in cc
 
-pub operand_reads : (env : Environment) (m : Meaning) (args : List Value) (t : Term) (bs : List Binding) (bound : List ℕ) (known : Known) (locals : Env) (b : BindingId) (ty : TypeId)
-    → HaveTypes env args t.arg_tys → Agree env m args t bs bound known locals → IsReadAs (setting env t bs) bound b ty → ReadsAs env m args bs bound known locals b
-operand_reads env m args t bs bound known locals b ty h a r = one (is_bound bound b) refl
+pub operand_reads : (env : Environment) (u : Around) (t : Term) (bs : List Binding) (bound : List ℕ) (known : Known) (locals : Env) (b : BindingId) (ty : TypeId)
+    → HaveTypes env u.args t.arg_tys → Agree env u.meaning u.args t bs bound known locals → IsReadAs (setting env t bs) bound b ty → ReadsAs env u bs bound known locals b ty
+operand_reads env u t bs bound known locals b ty h a r = one (is_bound bound b) refl
   where
-    one : (x : Bool) → is_bound bound b ≡ x → ReadsAs env m args bs bound known locals b
+    one : (x : Bool) → is_bound bound b ≡ x → ReadsAs env u bs bound known locals b ty
     one true is =
         let s = a.by b is in
         let k = s.kind.value ty r.path in
-        record { v = k.0; place = rw is (s.is ∙ k.1); held = k.1 }
+        record { v = k.0; place = rw is (s.is ∙ k.1); held = k.1; typed = k.2 }
     one false is =
         ⊎_elim
-        (λ in_place. let k = path_reads env m args t (at (paths_of bs) b) ty h r.path in_place in record { v = k.0; place = rw is (k.1.place locals); held = k.1.held known })
+        (λ in_place. let k = path_reads env u t (at (paths_of bs) b) ty h r.path in_place in record { v = k.0; place = rw is (k.1.place locals); held = k.1.held known; typed = k.1.typed })
         (λ c. absurd (not_bound bound b.0 c is)) r.read
 
 -- the values that operands stand for, in order
-pub record ReadAll (env : Environment) (m : Meaning) (args : List Value) (bs : List Binding) (bound : List ℕ) (known : Known) (locals : Env) (parameters : List BindingId) : Type 0 where
+pub record ReadAll (env : Environment) (u : Around) (bs : List Binding) (bound : List ℕ) (known : Known) (locals : Env) (parameters : List BindingId) : Type 0 where
   pub vs : List Value
-  pub places : read_values args locals (reads env bs bound parameters) ≡ Some vs
-  pub held : values_at env m args known (at_all (paths_of bs) parameters) ≡ Some vs
+  pub places : read_values u locals (reads env bs bound parameters) ≡ Some vs
+  pub held : values_at env u.meaning u.args known (at_all (paths_of bs) parameters) ≡ Some vs
 
-pub operands_read : (env : Environment) (m : Meaning) (args : List Value) (t : Term) (bs : List Binding) (bound : List ℕ) (known : Known) (locals : Env) (parameters : List BindingId) (tys : List TypeId)
-    → HaveTypes env args t.arg_tys → Agree env m args t bs bound known locals → AreReadAs (setting env t bs) bound parameters tys → ReadAll env m args bs bound known locals parameters
-operands_read env m args t bs bound known locals [] [] h a r = record { vs = []; places = refl; held = refl }
-operands_read env m args t bs bound known locals (b ∷ more) (ty ∷ tys) h a r =
-    let k = operand_reads env m args t bs bound known locals b ty h a r.0 in
-    let l = operands_read env m args t bs bound known locals more tys h a r.1 in
+pub operands_read : (env : Environment) (u : Around) (t : Term) (bs : List Binding) (bound : List ℕ) (known : Known) (locals : Env) (parameters : List BindingId) (tys : List TypeId)
+    → HaveTypes env u.args t.arg_tys → Agree env u.meaning u.args t bs bound known locals → AreReadAs (setting env t bs) bound parameters tys → ReadAll env u bs bound known locals parameters
+operands_read env u t bs bound known locals [] [] h a r = record { vs = []; places = refl; held = refl }
+operands_read env u t bs bound known locals (b ∷ more) (ty ∷ tys) h a r =
+    let k = operand_reads env u t bs bound known locals b ty h a r.0 in
+    let l = operands_read env u t bs bound known locals more tys h a r.1 in
     record {
       vs = k.v ∷ l.vs;
-      places = ap (λ x. value_before x (read_values args locals (reads env bs bound more))) k.place ∙ ap (value_before (One k.v)) l.places;
-      held = ap (λ x. value_before x (values_at env m args known (at_all (paths_of bs) more))) k.held ∙ ap (value_before (One k.v)) l.held;
+      places = ap (λ x. value_before x (read_values u locals (reads env bs bound more))) k.place ∙ ap (value_before (a_value k.v)) l.places;
+      held = ap (λ x. value_before x (values_at env u.meaning u.args known (at_all (paths_of bs) more))) k.held ∙ ap (value_before (a_value k.v)) l.held;
     }
-operands_read env m args t bs bound known locals [] (ty ∷ tys) h a r = absurd r
-operands_read env m args t bs bound known locals (b ∷ more) [] h a r = absurd r
+operands_read env u t bs bound known locals [] (ty ∷ tys) h a r = absurd r
+operands_read env u t bs bound known locals (b ∷ more) [] h a r = absurd r

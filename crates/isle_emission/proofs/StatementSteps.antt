@@ -1,10 +1,12 @@
 -- One step of the loops that make statements, over plain variables.
-use Rattle.std.proofs.Common.{◌≡◌, ℕ, ◌+◌, ◌<◌, ◌≤◌, List, [], ◌∷◌, ◌++◌, length, drop, get_or, map, slice_get, Bool, false, eqb, refl, sym, ap, ◌∙◌}
+use Rattle.std.proofs.Common.{◌≡◌, ℕ, ◌+◌, ◌<◌, ◌≤◌, List, [], ◌∷◌, ◌++◌, length, drop, get_or, map, slice_get, true, false, eqb, Option, Some, None, refl, sym, ap, ◌∙◌, append_assoc, suc, arith}
+use Rattle.std.proofs.lemmas.Bool.{eqb-true}
 use Rattle.std.proofs.lemmas.List.{drop_more, at_drop_all}
 use Rattle.isle_base.specs.declared.ids.BindingId.{BindingId}
 use Rattle.isle_core.specs.declared.blocks.EvalStep.{EvalStep as CodeStep}
 use Rattle.isle_core.specs.declared.blocks.MatchArm.{MatchArm as CodeArm}
 use Rattle.isle_core.specs.declared.rule_sets.Binding.{Binding}
+use Rattle.isle_core.specs.declared.types.ReturnKind.{ReturnKind}
 use Rattle.isle_core.specs.Block.{Block, Step}
 use Rattle.isle_core.specs.BlockViews.{SeenStep, SeenArm, block_of, arms_of, step, arm}
 use Rattle.isle_core.specs.Bindable.{bound_by}
@@ -13,24 +15,25 @@ use Rattle.isle_tree.specs.declared.tree.Operand.{Operand}
 use Rattle.isle_tree.specs.declared.tree.TExpr.{TExpr}
 use Rattle.isle_tree.specs.declared.tree.Stmt.{Stmt as CodeStmt}
 use Rattle.isle_tree.specs.declared.tree.Stmt.TheVariants as code
-use Rattle.isle_tree.specs.Program.{Let, IfEq, Body, Done, Then}
-use Rattle.isle_tree.specs.Views.{stmt, body}
+use Rattle.isle_tree.specs.Program.{Stmt, Let, Body, Done}
+use Rattle.isle_tree.specs.Views.{stmt}
 use Rattle.isle_tree.proofs.Sees.{stmt-let, stmt-if_eq}
 use Rattle.isle_emission.specs.BodyOnto.{body_onto}
-use Rattle.isle_emission.specs.Operands.{written_test}
-use Rattle.isle_emission.specs.Statements.{bound_expr, lets, block_body, control_stmt, arms_stmt}
-use Rattle.isle_emission.proofs.Onto.{onto_pushed, onto_done}
+use Rattle.isle_emission.specs.Operands.{tested}
+use Rattle.isle_emission.specs.Statements.{bound_expr, stmt_before, let_of, lets, if_eq, block_body, control_stmt, arms_stmt}
+use Rattle.isle_emission.proofs.Onto.{onto_pushed, onto_done, onto_none}
 
 -- ---- lets
 
-let_more : (env : Environment) (bs : List Binding) (bound : List ℕ) (b : BindingId) (e : TExpr) (n : ℕ) (old : List CodeStmt) (more : Body) → n ≡ b.0 → e ≡ bound_expr env bs bound b (slice_get bs b.0)
-    → body_onto (map stmt (old ++ code.Let n e ∷ [])) more ≡ body_onto (map stmt old) (Then (Let b.0 (bound_expr env bs bound b (slice_get bs b.0))) more)
+let_more : (env : Environment) (bs : List Binding) (bound : List ℕ) (b : BindingId) (e : TExpr) (n : ℕ) (old : List CodeStmt) (more : Option Body) → n ≡ b.0 → Some e ≡ bound_expr env bs bound b (slice_get bs b.0)
+    → body_onto (map stmt (old ++ code.Let n e ∷ [])) more ≡ body_onto (map stmt old) (stmt_before (let_of b.0 (bound_expr env bs bound b (slice_get bs b.0))) more)
 let_more env bs bound b e n old more same is =
     onto_pushed old (code.Let n e) more
-    ∙ ap (λ s. body_onto (map stmt old) (Then s more)) (stmt-let n e ∙ ap (λ k. Let k e) same ∙ ap (Let b.0) is)
+    ∙ ap (λ s. body_onto (map stmt old) (stmt_before (Some s) more)) (stmt-let n e ∙ ap (λ k. Let k e) same)
+    ∙ ap (λ o. body_onto (map stmt old) (stmt_before (let_of b.0 o) more)) is
 
-pub lets_step : (env : Environment) (bs : List Binding) (before after : List ℕ) (binds : List BindingId) (i : ℕ) (b d : BindingId) (e : TExpr) (n k : ℕ) (old new : List CodeStmt) (end : Body)
-    → i < length binds → b ≡ get_or binds i d → n ≡ b.0 → k ≡ b.0 → e ≡ bound_expr env bs before b (slice_get bs b.0) → new ≡ old ++ code.Let n e ∷ [] → after ≡ before ++ k ∷ []
+pub lets_step : (env : Environment) (bs : List Binding) (before after : List ℕ) (binds : List BindingId) (i : ℕ) (b d : BindingId) (e : TExpr) (n k : ℕ) (old new : List CodeStmt) (end : Option Body)
+    → i < length binds → b ≡ get_or binds i d → n ≡ b.0 → k ≡ b.0 → Some e ≡ bound_expr env bs before b (slice_get bs b.0) → new ≡ old ++ code.Let n e ∷ [] → after ≡ before ++ k ∷ []
     → body_onto (map stmt new) (lets env bs after (drop (i + 1) binds) end) ≡ body_onto (map stmt old) (lets env bs before (drop i binds) end)
 lets_step env bs before after binds i b d e n k old new end lt item same other is pushed bound =
     ap (λ xs. body_onto (map stmt xs) (lets env bs after (drop (i + 1) binds) end)) pushed
@@ -38,6 +41,22 @@ lets_step env bs before after binds i b d e n k old new end lt item same other i
     ∙ let_more env bs before b e n old (lets env bs (before ++ b.0 ∷ []) (drop (i + 1) binds) end) same is
     ∙ ap (λ x. body_onto (map stmt old) (lets env bs before (x ∷ drop (i + 1) binds) end)) item
     ∙ ap (λ ys. body_onto (map stmt old) (lets env bs before ys end)) (sym (drop_more binds i d lt))
+
+-- a binding of which nothing is made
+pub lets_stop : (env : Environment) (bs : List Binding) (before : List ℕ) (binds : List BindingId) (i : ℕ) (b d : BindingId) (old : List CodeStmt) (end : Option Body)
+    → i < length binds → b ≡ get_or binds i d → None ≡ bound_expr env bs before b (slice_get bs b.0) → None ≡ body_onto (map stmt old) (lets env bs before (drop i binds) end)
+lets_stop env bs before binds i b d old end lt item none =
+    sym (onto_none (map stmt old))
+    ∙ ap (λ o. body_onto (map stmt old) (stmt_before (let_of b.0 o) (lets env bs (before ++ b.0 ∷ []) (drop (i + 1) binds) end))) none
+    ∙ ap (λ x. body_onto (map stmt old) (lets env bs before (x ∷ drop (i + 1) binds) end)) item
+    ∙ ap (λ ys. body_onto (map stmt old) (lets env bs before ys end)) (sym (drop_more binds i d lt))
+
+-- a local more behind those that were bound
+pub grown : (first old new : List ℕ) (n : ℕ) → (more : List ℕ) × (old ≡ first ++ more) → new ≡ old ++ n ∷ [] → (more : List ℕ) × (new ≡ first ++ more)
+grown first old new n h is = (h.0 ++ n ∷ [], is ∙ ap (λ ls. ls ++ n ∷ []) h.1 ∙ append_assoc first h.0 (n ∷ []))
+
+pub grown_twice : (first old new : List ℕ) → (more : List ℕ) × (old ≡ first ++ more) → (more : List ℕ) × (new ≡ old ++ more) → (more : List ℕ) × (new ≡ first ++ more)
+grown_twice first old new h k = (h.0 ++ k.0, k.1 ∙ ap (λ ls. ls ++ k.0) h.1 ∙ append_assoc first h.0 k.0)
 
 pub bound_step : (bs : List BindingId) (i : ℕ) (b d : BindingId) (n : ℕ) (old new : List ℕ) → i < length bs → b ≡ get_or bs i d → n ≡ b.0 → new ≡ old ++ n ∷ []
     → bound_by new (drop (i + 1) bs) ≡ bound_by old (drop i bs)
@@ -49,45 +68,81 @@ bound_step bs i b d n old new lt item same pushed =
 -- ---- steps
 
 -- what the statements of steps are, where those before them are these
-abbrev pub Steps : Environment → List Binding → Bool → List ℕ → List CodeStmt → List CodeStep → Body → Body
-Steps env bs partial bound out xs end = body_onto (map stmt out) (block_body env bs partial bound (block_of (map step xs)) end)
+abbrev pub Steps : Environment → List Binding → ReturnKind → List ℕ → List CodeStmt → List CodeStep → Option Body → Option Body
+Steps env bs kind bound out xs end = body_onto (map stmt out) (block_body env bs kind bound (block_of (map step xs)) end)
 
-steps_more : (env : Environment) (bs : List Binding) (partial : Bool) (bound mid : List ℕ) (out lets_out : List CodeStmt) (s : CodeStmt) (seen : SeenStep) (more : Block) (end : Body)
-    → ((e : Body) → body_onto (map stmt lets_out) e ≡ body_onto (map stmt out) (lets env bs bound seen.0 e)) → mid ≡ bound_by bound seen.0 → stmt s ≡ control_stmt env bs partial mid seen.1
-    → body_onto (map stmt (lets_out ++ s ∷ [])) (block_body env bs partial mid more end) ≡ body_onto (map stmt out) (block_body env bs partial bound (Step seen.0 seen.1 more) end)
-steps_more env bs partial bound mid out lets_out s seen more end is at_mid seen_s =
-    onto_pushed lets_out s (block_body env bs partial mid more end)
-    ∙ is (Then (stmt s) (block_body env bs partial mid more end))
-    ∙ ap (λ x. body_onto (map stmt out) (lets env bs bound seen.0 (Then x (block_body env bs partial mid more end)))) seen_s
-    ∙ ap (λ ls. body_onto (map stmt out) (lets env bs bound seen.0 (Then (control_stmt env bs partial ls seen.1) (block_body env bs partial ls more end)))) at_mid
+-- the first of the steps that are left
+left_steps : (env : Environment) (bs : List Binding) (kind : ReturnKind) (xs : List CodeStep) (i : ℕ) (x : CodeStep) (seen : SeenStep) (bound : List ℕ) (out : List CodeStmt) (end : Option Body) → i < length xs → x ≡ get_or xs i x → step x ≡ seen
+    → body_onto (map stmt out) (block_body env bs kind bound (Step seen.0 seen.1 (block_of (map step (drop (i + 1) xs)))) end) ≡ Steps env bs kind bound out (drop i xs) end
+left_steps env bs kind xs i x seen bound out end lt item seen_x =
+    ap (λ k. body_onto (map stmt out) (block_body env bs kind bound (block_of (k ∷ map step (drop (i + 1) xs))) end)) (sym seen_x)
+    ∙ ap (λ y. Steps env bs kind bound out (y ∷ drop (i + 1) xs) end) item
+    ∙ ap (λ ys. Steps env bs kind bound out ys end) (sym (drop_more xs i x lt))
 
-pub steps_step : (env : Environment) (bs : List Binding) (partial : Bool) (xs : List CodeStep) (i : ℕ) (x : CodeStep) (seen : SeenStep) (bound mid new : List ℕ) (out lets_out pushed : List CodeStmt) (s : CodeStmt) (end : Body)
+steps_more : (env : Environment) (bs : List Binding) (kind : ReturnKind) (bound mid : List ℕ) (out lets_out : List CodeStmt) (s : CodeStmt) (seen : SeenStep) (more : Block) (end : Option Body)
+    → ((e : Option Body) → body_onto (map stmt lets_out) e ≡ body_onto (map stmt out) (lets env bs bound seen.0 e)) → mid ≡ bound_by bound seen.0 → Some (stmt s) ≡ control_stmt env bs kind mid seen.1
+    → body_onto (map stmt (lets_out ++ s ∷ [])) (block_body env bs kind mid more end) ≡ body_onto (map stmt out) (block_body env bs kind bound (Step seen.0 seen.1 more) end)
+steps_more env bs kind bound mid out lets_out s seen more end is at_mid seen_s =
+    onto_pushed lets_out s (block_body env bs kind mid more end)
+    ∙ is (stmt_before (Some (stmt s)) (block_body env bs kind mid more end))
+    ∙ ap (λ x. body_onto (map stmt out) (lets env bs bound seen.0 (stmt_before x (block_body env bs kind mid more end)))) seen_s
+    ∙ ap (λ ls. body_onto (map stmt out) (lets env bs bound seen.0 (stmt_before (control_stmt env bs kind ls seen.1) (block_body env bs kind ls more end)))) at_mid
+
+pub steps_step : (env : Environment) (bs : List Binding) (kind : ReturnKind) (xs : List CodeStep) (i : ℕ) (x : CodeStep) (seen : SeenStep) (bound mid new : List ℕ) (out lets_out pushed : List CodeStmt) (s : CodeStmt) (end : Option Body)
     → i < length xs → x ≡ get_or xs i x → step x ≡ seen
-    → ((e : Body) → body_onto (map stmt lets_out) e ≡ body_onto (map stmt out) (lets env bs bound seen.0 e)) → mid ≡ bound_by bound seen.0 → stmt s ≡ control_stmt env bs partial mid seen.1
+    → ((e : Option Body) → body_onto (map stmt lets_out) e ≡ body_onto (map stmt out) (lets env bs bound seen.0 e)) → mid ≡ bound_by bound seen.0 → Some (stmt s) ≡ control_stmt env bs kind mid seen.1
     → new ≡ mid → pushed ≡ lets_out ++ s ∷ []
-    → Steps env bs partial new pushed (drop (i + 1) xs) end ≡ Steps env bs partial bound out (drop i xs) end
-steps_step env bs partial xs i x seen bound mid new out lets_out pushed s end lt item seen_x is at_mid seen_s at_new is_pushed =
-    ap (λ ls. Steps env bs partial ls pushed (drop (i + 1) xs) end) at_new
-    ∙ ap (λ ys. Steps env bs partial mid ys (drop (i + 1) xs) end) is_pushed
-    ∙ steps_more env bs partial bound mid out lets_out s seen (block_of (map step (drop (i + 1) xs))) end is at_mid seen_s
-    ∙ ap (λ k. body_onto (map stmt out) (block_body env bs partial bound (block_of (k ∷ map step (drop (i + 1) xs))) end)) (sym seen_x)
-    ∙ ap (λ y. Steps env bs partial bound out (y ∷ drop (i + 1) xs) end) item
-    ∙ ap (λ ys. Steps env bs partial bound out ys end) (sym (drop_more xs i x lt))
+    → Steps env bs kind new pushed (drop (i + 1) xs) end ≡ Steps env bs kind bound out (drop i xs) end
+steps_step env bs kind xs i x seen bound mid new out lets_out pushed s end lt item seen_x is at_mid seen_s at_new is_pushed =
+    ap (λ ls. Steps env bs kind ls pushed (drop (i + 1) xs) end) at_new
+    ∙ ap (λ ys. Steps env bs kind mid ys (drop (i + 1) xs) end) is_pushed
+    ∙ steps_more env bs kind bound mid out lets_out s seen (block_of (map step (drop (i + 1) xs))) end is at_mid seen_s
+    ∙ left_steps env bs kind xs i x seen bound out end lt item seen_x
 
-pub steps_done : (env : Environment) (bs : List Binding) (partial : Bool) (xs : List CodeStep) (i : ℕ) (bound : List ℕ) (out : List CodeStmt) (end : Body) → length xs ≤ i
-    → body_onto (map stmt out) end ≡ Steps env bs partial bound out (drop i xs) end
-steps_done env bs partial xs i bound out end past = sym (at_drop_all (λ ys. Steps env bs partial bound out ys end) xs i past)
+-- a step of whose lets one is not made
+pub steps_stop_lets : (env : Environment) (bs : List Binding) (kind : ReturnKind) (xs : List CodeStep) (i : ℕ) (x : CodeStep) (seen : SeenStep) (bound : List ℕ) (out : List CodeStmt) (end : Option Body)
+    → i < length xs → x ≡ get_or xs i x → step x ≡ seen → ((e : Option Body) → None ≡ body_onto (map stmt out) (lets env bs bound seen.0 e)) → None ≡ Steps env bs kind bound out (drop i xs) end
+steps_stop_lets env bs kind xs i x seen bound out end lt item seen_x is =
+    is (stmt_before (control_stmt env bs kind (bound_by bound seen.0) seen.1) (block_body env bs kind (bound_by bound seen.0) (block_of (map step (drop (i + 1) xs))) end))
+    ∙ left_steps env bs kind xs i x seen bound out end lt item seen_x
 
--- ---- what is inside a test
+-- a step whose statement is not made
+pub steps_stop : (env : Environment) (bs : List Binding) (kind : ReturnKind) (xs : List CodeStep) (i : ℕ) (x : CodeStep) (seen : SeenStep) (bound mid : List ℕ) (out lets_out : List CodeStmt) (end : Option Body)
+    → i < length xs → x ≡ get_or xs i x → step x ≡ seen
+    → ((e : Option Body) → body_onto (map stmt lets_out) e ≡ body_onto (map stmt out) (lets env bs bound seen.0 e)) → mid ≡ bound_by bound seen.0 → None ≡ control_stmt env bs kind mid seen.1
+    → None ≡ Steps env bs kind bound out (drop i xs) end
+steps_stop env bs kind xs i x seen bound mid out lets_out end lt item seen_x is at_mid none =
+    let more = block_of (map step (drop (i + 1) xs)) in
+    sym (onto_none (map stmt lets_out))
+    ∙ is None
+    ∙ ap (λ o. body_onto (map stmt out) (lets env bs bound seen.0 (stmt_before o (block_body env bs kind mid more end)))) none
+    ∙ ap (λ ls. body_onto (map stmt out) (lets env bs bound seen.0 (stmt_before (control_stmt env bs kind ls seen.1) (block_body env bs kind ls more end)))) at_mid
+    ∙ left_steps env bs kind xs i x seen bound out end lt item seen_x
 
-pub inside : (o q p r : Operand) (ss : List CodeStmt) (b : Body) → o ≡ p → q ≡ r → body_onto (map stmt ss) Done ≡ b → stmt (code.IfEq o q ss) ≡ IfEq p r b
-inside o q p r ss b is_o is_q is =
-    stmt-if_eq o q ss ∙ ap (λ x. IfEq x q (body ss)) is_o ∙ ap (λ x. IfEq p x (body ss)) is_q ∙ ap (IfEq p r) (sym (onto_done (map stmt ss)) ∙ is)
+pub steps_done : (env : Environment) (bs : List Binding) (kind : ReturnKind) (xs : List CodeStep) (i : ℕ) (bound : List ℕ) (out : List CodeStmt) (end : Option Body) → length xs ≤ i
+    → body_onto (map stmt out) end ≡ Steps env bs kind bound out (drop i xs) end
+steps_done env bs kind xs i bound out end past = sym (at_drop_all (λ ys. Steps env bs kind bound out ys end) xs i past)
 
-pub first_arm : (env : Environment) (bs : List Binding) (partial : Bool) (bound : List ℕ) (o q : Operand) (ss : List CodeStmt) (xs : List CodeArm) (x : CodeArm) (seen : SeenArm)
-    → false ≡ eqb (length xs) 0 → x ≡ get_or xs 0 x → arm x ≡ seen → q ≡ written_test env seen.0 → body_onto (map stmt ss) Done ≡ block_body env bs partial bound seen.2 Done
-    → stmt (code.IfEq o q ss) ≡ arms_stmt env bs partial bound o (arms_of (map arm xs))
-first_arm env bs partial bound o q ss [] x seen some item seen_x is_q is = absurd cc
-first_arm env bs partial bound o q ss (y ∷ ys) x seen some item seen_x is_q is =
-    inside o q o (written_test env seen.0) ss (block_body env bs partial bound seen.2 Done) refl is_q is
-    ∙ ap (λ k. arms_stmt env bs partial bound o (arms_of (k ∷ map arm ys))) (sym seen_x ∙ ap arm item)
+-- ---- tests
+
+-- a test, as what is inside it is seen
+pub inside : (a b : Operand) (ss : List CodeStmt) → Some (stmt (code.IfEq a b ss)) ≡ if_eq (Some a) (Some b) (body_onto (map stmt ss) (Some Done))
+inside a b ss = ap Some (stmt-if_eq a b ss) ∙ ap (if_eq (Some a) (Some b)) (sym (onto_done (map stmt ss)))
+
+-- no arm, or several
+pub not_one : (env : Environment) (bs : List Binding) (kind : ReturnKind) (bound : List ℕ) (o : Option Operand) (xs : List CodeArm) → eqb (length xs) 1 ≡ false → None ≡ arms_stmt env bs kind bound o (arms_of (map arm xs))
+not_one env bs kind bound o [] e = refl
+not_one env bs kind bound o (x ∷ []) e = absurd cc
+not_one env bs kind bound o (x ∷ y ∷ xs) e = refl
+
+unlike : false ≡ true → ⊥
+unlike e = cc
+
+-- the one arm
+pub one_arm : (env : Environment) (bs : List Binding) (kind : ReturnKind) (bound : List ℕ) (o q : Option Operand) (i : Option Body) (r : Option Stmt) (xs : List CodeArm) (x : CodeArm) (seen : SeenArm)
+    → eqb (length xs) 1 ≡ true → x ≡ get_or xs 0 x → arm x ≡ seen → r ≡ if_eq o q i → q ≡ tested env seen.0 → i ≡ block_body env bs kind bound seen.2 (Some Done)
+    → r ≡ arms_stmt env bs kind bound o (arms_of (map arm xs))
+one_arm env bs kind bound o q i r [] x seen one item seen_x is is_q is_i = absurd (unlike one)
+one_arm env bs kind bound o q i r (y ∷ []) x seen one item seen_x is is_q is_i =
+    is ∙ ap (λ k. if_eq o k i) is_q ∙ ap (if_eq o (tested env seen.0)) is_i ∙ ap (λ k. arms_stmt env bs kind bound o (arms_of (k ∷ []))) (sym seen_x ∙ ap arm item)
+one_arm env bs kind bound o q i r (y ∷ z ∷ xs) x seen one item seen_x is is_q is_i = let bad : suc (suc (length xs)) ≡ 1 = eqb-true (length (y ∷ z ∷ xs)) 1 one in absurd (omega (arith, bad))

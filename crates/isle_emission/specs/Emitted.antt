@@ -1,16 +1,15 @@
 -- What an emitted function is to its term and its block.
-use Rattle.std.specs.Prelude.{◌≡◌, List, [], ◌∷◌, IsTrue, Some}
+use Rattle.std.specs.Prelude.{◌≡◌, List, [], ◌∷◌, IsTrue, Option, Some, option_map}
 use Rattle.std.specs.List.{AllByRecursion, list_all}
 use Rattle.isle_printer.specs.Token.{is_word_byte}
-use Rattle.isle_emission.specs.TermFunction.{kind_of}
 use Rattle.isle_core.specs.declared.types.Term.{Term}
-use Rattle.isle_core.specs.Value.{Value, Ran}
+use Rattle.isle_core.specs.Value.{Value, Made, End, Ran}
 use Rattle.isle_core.specs.Meaning.{Meaning}
 use Rattle.isle_core.specs.HasType.{HaveTypes}
 use Rattle.isle_core.specs.declared.rule_sets.Binding.{Binding}
 use Rattle.isle_core.specs.declared.rule_sets.Binding.TheVariants as binding
 use Rattle.isle_core.specs.Lawful.{AnswersFit}
-use Rattle.isle_emission.specs.Partial.{is_partial}
+use Rattle.isle_core.specs.Calling.{kind_of, AnswersOnce}
 use Rattle.isle_core.specs.Outcome.{Prescription}
 use Rattle.isle_core.specs.Path.{paths_of}
 use Rattle.isle_core.specs.Block.{Block}
@@ -22,14 +21,19 @@ use Rattle.isle_tree.specs.Program.{Function, Program}
 use Rattle.isle_tree.specs.Run.{run, function_of}
 use Rattle.isle_emission.specs.Ends.{end_of}
 
--- a term whose name may be emitted, and whose types are built
+-- a term whose name may be emitted, whose types are built, and that answers at most once
 pub record IsEmittable (env : Environment) (t : Term) : Type 0 where
   pub name : IsTrue (list_all is_word_byte (sym_text env t.name))
   pub types : AllByRecursion (IsBuiltinType env) (t.ret_ty ∷ t.arg_tys)
+  pub once : AnswersOnce (kind_of t.kind)
 
--- what a run gives that has this outcome
-abbrev pub ran_of : Environment → Term → Prescription → Ran
-ran_of env t o = record { end = end_of (is_partial t.kind) o.result; calls = o.calls }
+-- an end with these calls
+abbrev pub ran_with : List Made → End → Ran
+ran_with calls end = record { end = end; calls = calls }
+
+-- what a run of a term's function gives that has this outcome
+abbrev pub ran_of : Term → Prescription → Option Ran
+ran_of t o = option_map (ran_with o.calls) (end_of (kind_of t.kind) o.result)
 
 -- the meaning answers each call among the bindings with its kind and its type
 abbrev pub AnswersBindings : Environment → Meaning → List Binding → Type 0
@@ -41,4 +45,4 @@ AnswersBindings env m (b ∷ bs) = AnswersBindings env m bs
 -- meaning that answers its calls
 abbrev pub RunsAsBlock : Environment → Term → List Binding → Block → Function → Type 0
 RunsAsBlock env t bs b f = (p : Program) (args : List Value) (m : Meaning) → function_of (sym_text env t.name) p.fns ≡ Some f → HaveTypes env args t.arg_tys → AnswersBindings env m bs
-    → run p (sym_text env t.name) args m ≡ Some (ran_of env t (block_outcome env m args (paths_of bs) b (kind_of (is_partial t.kind))))
+    → run p (sym_text env t.name) args m ≡ ran_of t (block_outcome env m args (paths_of bs) b (kind_of t.kind))

@@ -1,9 +1,7 @@
-pub mod Bound
 pub mod Ends
 pub mod Built
 pub mod Operands
 pub mod Statements
-pub mod Partial
 pub mod TermFunction
 pub mod TraitFns
 pub mod OfTerm
@@ -12,5 +10,6 @@ pub mod Shape
 pub mod Emitted
 pub mod Contexts
 pub mod BodyOnto
+pub mod Views
 pub mod LineStarts
 pub mod MayEmit

@@ -1,5 +1,5 @@
 -- Terms whose function may be emitted.
-use Rattle.std.specs.Prelude.{List, [], IsSomeAnd, slice_get}
+use Rattle.std.specs.Prelude.{List, IsSomeAnd, slice_get}
 use Rattle.isle_base.specs.declared.ids.TermId.{TermId}
 use Rattle.isle_core.specs.declared.files.Files.{Files}
 use Rattle.isle_core.specs.declared.types.Term.{Term}

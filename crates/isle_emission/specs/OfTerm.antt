@@ -1,33 +1,53 @@
 -- What an emitted function has of its term's declaration.
-use Rattle.std.specs.Prelude.{◌≡◌, ℕ, List, [], ◌∷◌, Option, Some, map, slice_get}
+use Rattle.std.specs.Prelude.{◌≡◌, ℕ, List, [], ◌∷◌, ◌++◌, Option, Some, map, slice_get}
 use Rattle.std.specs.List.{AllByRecursion}
 use Rattle.isle_core.specs.declared.TermId.{TermId}
 use Rattle.isle_core.specs.declared.files.Files.{Files}
 use Rattle.isle_core.specs.declared.types.Term.{Term}
-use Rattle.isle_emission.specs.Partial.{is_partial}
+use Rattle.isle_core.specs.Calling.{kind_of}
 use Rattle.isle_core.specs.Places.{place_in}
 use Rattle.isle_core.specs.Terms.{sym_text}
 use Rattle.isle_core.specs.Rule.{Environment}
-use Rattle.isle_tree.specs.Program.{Tail, Body, Done, Then, Function}
-use Rattle.isle_emission.specs.TermFunction.{type_text, parameter, kind_of, mark_of}
+use Rattle.isle_tree.specs.Program.{Stmt, Let, LetList, IfEq, IfLet, Match, Loop, Return, Extend, Overflow, Log, Split, Tail, Body, Done, Then, Arms, NoArm, Arm, Function}
+use Rattle.isle_emission.specs.TermFunction.{type_text, parameter, mark_of}
 
--- the marks of the tails of a body
-abbrev pub marks : Body → List (Option (List ℕ × List ℕ))
-marks Done = []
-marks (Then (Tail mark) ss) = mark ∷ marks ss
-marks (Then s ss) = marks ss
+-- the marks of the tails of a body, those inside its statements too
+abbrev mutual
+  pub marks : Body → List (Option (List ℕ × List ℕ))
+  marks Done = []
+  marks (Then s ss) = marks_in s ++ marks ss
 
--- what says that no rule matches: nothing, or the term's name and the place of its declaration
-abbrev pub mark_in : Files → Environment → Term → Option (List ℕ × List ℕ)
-mark_in files env t = mark_of (is_partial t.kind) (sym_text env t.name) (place_in files t.decl_pos)
+  -- those of a statement
+  pub marks_in : Stmt → List (Option (List ℕ × List ℕ))
+  marks_in (Let local e) = []
+  marks_in (LetList local call) = []
+  marks_in (IfEq a b inside) = marks inside
+  marks_in (IfLet pat read inside) = marks inside
+  marks_in (Match read arms) = marks_of_arms arms
+  marks_in (Loop list item inside) = marks inside
+  marks_in (Return e) = []
+  marks_in (Extend read) = []
+  marks_in (Overflow inside) = []
+  marks_in (Log term place) = []
+  marks_in (Split body inside) = marks body
+  marks_in (Tail mark) = mark ∷ []
+
+  -- those of arms
+  pub marks_of_arms : Arms → List (Option (List ℕ × List ℕ))
+  marks_of_arms NoArm = []
+  marks_of_arms (Arm pat body arms) = marks body ++ marks_of_arms arms
+
+-- what the tail of a term's function says, where it has one: nothing, or the term's name and the place of its declaration
+abbrev pub mark_in : Files → Environment → Term → Option (Option (List ℕ × List ℕ))
+mark_in files env t = mark_of (kind_of t.kind) (sym_text env t.name) (place_in files t.decl_pos)
 
 -- the function has the name, the types and the kind of the term, and its tails the place of the declaration
 pub record IsOfTerm (files : Files) (env : Environment) (t : Term) (f : Function) : Type 0 where
   pub name : f.term ≡ sym_text env t.name
   pub params : f.params ≡ map (parameter env) t.arg_tys
   pub result : f.result ≡ type_text env t.ret_ty
-  pub kind : f.kind ≡ kind_of (is_partial t.kind)
-  pub tails : AllByRecursion (λ (mark : Option (List ℕ × List ℕ)). mark ≡ mark_in files env t) (marks f.body)
+  pub kind : f.kind ≡ kind_of t.kind
+  pub tails : AllByRecursion (λ (mark : Option (List ℕ × List ℕ)). Some mark ≡ mark_in files env t) (marks f.body)
 
 -- the function is of the term of this number
 pub record IsDeclared (files : Files) (env : Environment) (id : TermId) (f : Function) : Type 0 where

@@ -1,5 +1,5 @@
 -- What stands for the values of paths in a function.
-use Rattle.std.specs.Prelude.{ℕ, pos, List, Bool, ◌==◌, if◌then◌else◌, Option, Some, None}
+use Rattle.std.specs.Prelude.{ℕ, List, Bool, ◌==◌, if◌then◌else◌, Option, Some, None}
 use Rattle.std.specs.List.{list_any}
 use Rattle.isle_core.specs.declared.BindingId.{BindingId}
 use Rattle.isle_core.specs.declared.rule_sets.Constraint.{Constraint}
@@ -7,7 +7,7 @@ use Rattle.isle_core.specs.declared.rule_sets.Constraint.TheVariants as constrai
 use Rattle.isle_core.specs.Value.{Value, Truth, Int, Opaque, Variant, Struct}
 use Rattle.isle_core.specs.Constants.{int_value}
 use Rattle.isle_core.specs.declared.rule_sets.Binding.{Binding}
-use Rattle.isle_core.specs.Path.{Path, Arg, ConstBool, ConstInt, at, paths_of}
+use Rattle.isle_core.specs.Path.{Path, Nowhere, Arg, ConstBool, ConstInt, ConstPrim, Extracted, Called, Chosen, MadeVariant, MadeStruct, VariantField, StructField, Wrapped, Inner, Part, at, paths_of}
 use Rattle.isle_core.specs.Rule.{Environment}
 use Rattle.isle_tree.specs.declared.tree.Operand.{Operand}
 use Rattle.isle_tree.specs.declared.tree.Operand.TheVariants as operand
@@ -20,12 +20,24 @@ constant (Opaque ty n) = Some (operand.Raw n)
 constant (Variant ty name fields) = None
 constant (Struct ty fields) = None
 
--- the operand of a path that is read in place: an argument or a constant; a named constant and made values are not built
+-- the operand of a path that is read in place: an argument or a constant; a named constant and made values are not built, and the
+-- others are read only where they are bound
 abbrev pub in_place : Environment → Path → Option Operand
 in_place env (Arg i) = Some (operand.Arg i)
 in_place env (ConstBool ty b) = Some (operand.Bool b)
 in_place env (ConstInt ty n) = constant (int_value env ty n)
-in_place env p = None
+in_place env Nowhere = None
+in_place env (ConstPrim name) = None
+in_place env (Extracted term p) = None
+in_place env (Called term ps instance) = None
+in_place env (Chosen p) = None
+in_place env (MadeVariant ty variant ps) = None
+in_place env (MadeStruct ty ps) = None
+in_place env (VariantField variant field p) = None
+in_place env (StructField field p) = None
+in_place env (Wrapped p) = None
+in_place env (Inner p) = None
+in_place env (Part part p) = None
 
 -- the operand that a constraint tests for; a named constant is not built, and the others are no tests of a value
 abbrev pub tested : Environment → Constraint → Option Operand
@@ -43,22 +55,3 @@ is_bound bound b = list_any (λ (n : ℕ). n == b.0) bound
 -- the operand of a binding: its local where it is bound, or else what is read in place
 abbrev pub operand_of : Environment → List Binding → List ℕ → BindingId → Option Operand
 operand_of env bs bound b = if is_bound bound b then Some (operand.Local b.0) else in_place env (at (paths_of bs) b)
-
--- ---- what the code writes, which has no lawful block without an operand
-
--- the operand, where there is one
-abbrev pub written : Option Operand → Operand
-written (Some o) = o
-written None = operand.Raw (pos 0)
-
-abbrev pub written_constant : Value → Operand
-written_constant v = written (constant v)
-
-abbrev pub written_place : Environment → Path → Operand
-written_place env p = written (in_place env p)
-
-abbrev pub written_test : Environment → Constraint → Operand
-written_test env c = written (tested env c)
-
-abbrev pub written_operand : Environment → List Binding → List ℕ → BindingId → Operand
-written_operand env bs bound b = if is_bound bound b then operand.Local b.0 else written_place env (at (paths_of bs) b)

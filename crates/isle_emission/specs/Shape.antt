@@ -1,11 +1,13 @@
 -- When statements have the shape of a block.
-use Rattle.std.specs.Prelude.{◌≡◌, ℕ, List, [], Bool, true, false, Some}
+use Rattle.std.specs.Prelude.{◌≡◌, ℕ, List, [], Some}
 use Rattle.isle_core.specs.declared.BindingId.{BindingId}
 use Rattle.isle_core.specs.ArmPlaces.{bound_within}
 use Rattle.isle_core.specs.Bindable.{bound_by}
 use Rattle.isle_core.specs.Block as block
 use Rattle.isle_core.specs.Block.{Block, Control}
-use Rattle.isle_emission.specs.Partial.{is_partial}
+use Rattle.isle_core.specs.Calling.{kind_of}
+use Rattle.isle_core.specs.declared.types.ReturnKind.{ReturnKind}
+use Rattle.isle_core.specs.declared.types.ReturnKind.TheVariants as return_kind
 use Rattle.isle_core.specs.Setting.{Setting}
 use Rattle.isle_tree.specs.declared.tree.Operand.{Operand}
 use Rattle.isle_tree.specs.declared.tree.Read.TheVariants as read
@@ -19,11 +21,14 @@ use Rattle.isle_emission.specs.Operands.{tested, operand_of}
 abbrev pub IsOperandOf : Setting → List ℕ → BindingId → Operand → Type 0
 IsOperandOf s bound b o = operand_of s.env s.bindings bound b ≡ Some o
 
--- the operand of a binding, or in a function that may answer nothing an option of it
-abbrev pub IsResultOf : Setting → List ℕ → (partial : Bool) → BindingId → TExpr → Type 0
-IsResultOf s bound false b (expr.Read (read.Plain o)) = IsOperandOf s bound b o
-IsResultOf s bound true b (expr.Some (read.Plain o)) = IsOperandOf s bound b o
-IsResultOf s bound partial b e = ⊥
+-- what is returned: the operand of a binding, or in a function that may answer nothing an option of it; several answers
+-- are not built
+abbrev pub IsResultOf : Setting → List ℕ → ReturnKind → BindingId → TExpr → Type 0
+IsResultOf s bound return_kind.Plain b (expr.Read (read.Plain o)) = IsOperandOf s bound b o
+IsResultOf s bound return_kind.Plain b e = ⊥
+IsResultOf s bound return_kind.Option b (expr.Some (read.Plain o)) = IsOperandOf s bound b o
+IsResultOf s bound return_kind.Option b e = ⊥
+IsResultOf s bound return_kind.Iterator b e = ⊥
 
 -- the bare statements are the block's steps in order, and each tests or returns the operand of its binding
 abbrev mutual
@@ -43,7 +48,7 @@ abbrev mutual
   DoesControl s bound (IfEq o q inside) (block.Equal a b body) = IsOperandOf s bound a o × IsOperandOf s bound b q × AreSteps s bound inside body
   DoesControl s bound (IfEq o q inside) (block.Loop result body) = ⊥
   DoesControl s bound (IfEq o q inside) (block.Return pos result) = ⊥
-  DoesControl s bound (Return e) (block.Return pos result) = IsResultOf s bound (is_partial s.term.kind) result e
+  DoesControl s bound (Return e) (block.Return pos result) = IsResultOf s bound (kind_of s.term.kind) result e
   DoesControl s bound (Return e) (block.Match source arms) = ⊥
   DoesControl s bound (Return e) (block.Equal a b body) = ⊥
   DoesControl s bound (Return e) (block.Loop result body) = ⊥

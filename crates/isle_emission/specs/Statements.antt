@@ -1,10 +1,11 @@
--- The statements of a block.
-use Rattle.std.specs.Prelude.{ℕ, List, [], ◌∷◌, ◌++◌, Bool, true, false, Option, Some, None, map, slice_get}
+-- The statements of a block, where all of its forms are built.
+use Rattle.std.specs.Prelude.{ℕ, List, [], ◌∷◌, ◌++◌, false, Option, Some, None, slice_get}
 use Rattle.isle_core.specs.declared.BindingId.{BindingId}
 use Rattle.isle_core.specs.declared.rule_sets.Binding.{Binding}
 use Rattle.isle_core.specs.declared.rule_sets.Binding.TheVariants as binding
+use Rattle.isle_core.specs.declared.types.ReturnKind.{ReturnKind}
+use Rattle.isle_core.specs.declared.types.ReturnKind.TheVariants as return_kind
 use Rattle.isle_core.specs.declared.values.Callee.{Callee}
-use Rattle.isle_core.specs.declared.values.Callee.TheVariants.{External}
 use Rattle.isle_core.specs.Calling.{Calling, ByTurns, ByCases, NoCall, calling}
 use Rattle.isle_core.specs.Path.{at, paths_of}
 use Rattle.isle_core.specs.Bindable.{bound_by}
@@ -16,48 +17,108 @@ use Rattle.isle_tree.specs.declared.tree.Read.{Read}
 use Rattle.isle_tree.specs.declared.tree.Read.TheVariants as read
 use Rattle.isle_tree.specs.declared.tree.TExpr.{TExpr}
 use Rattle.isle_tree.specs.declared.tree.TExpr.TheVariants as expr
-use Rattle.isle_tree.specs.Program.{Stmt, Let, IfEq, Return, Tail, Body, Done, Then}
-use Rattle.isle_emission.specs.Operands.{written_place, written_test, written_operand}
+use Rattle.isle_tree.specs.Program.{Stmt, Let, IfEq, Return, Body, Done, Then}
+use Rattle.isle_emission.specs.Operands.{in_place, tested, operand_of}
 
--- what an impure or pure call goes to; of no call none is built
-abbrev pub callee_of : Calling → Callee
-callee_of (ByTurns callee partial) = callee
-callee_of (ByCases callee partial) = callee
-callee_of NoCall = External []
+-- ---- what bound locals compute
+
+-- what an impure or pure call goes to
+abbrev pub callee_of : Calling → Option Callee
+callee_of (ByTurns callee kind) = Some callee
+callee_of (ByCases callee kind) = Some callee
+callee_of NoCall = None
+
+-- an operand as it is read, before other reads
+abbrev pub read_before : Option Operand → Option (List Read) → Option (List Read)
+read_before (Some o) (Some rs) = Some (read.Plain o ∷ rs)
+read_before (Some o) None = None
+read_before None rs = None
 
 -- the operands of bindings as they are read, in order
-abbrev pub reads : Environment → List Binding → List ℕ → List BindingId → List Read
-reads env bs bound parameters = map (λ b. read.Plain (written_operand env bs bound b)) parameters
+abbrev pub reads : Environment → List Binding → List ℕ → List BindingId → Option (List Read)
+reads env bs bound [] = Some []
+reads env bs bound (b ∷ more) = read_before (operand_of env bs bound b) (reads env bs bound more)
 
--- what a bound local computes: a call, the inner value of an option, or what is read in place
-abbrev pub bound_expr : Environment → List Binding → List ℕ → BindingId → Option Binding → TExpr
-bound_expr env bs bound b (Some (binding.Constructor term parameters instance)) = expr.Call false (record { callee = callee_of (calling env term); args = reads env bs bound parameters })
-bound_expr env bs bound b (Some (binding.MatchSome source)) = expr.Try (written_operand env bs bound source) false
-bound_expr env bs bound b other = expr.Read (read.Plain (written_place env (at (paths_of bs) b)))
+-- a call of what is called on what is read
+abbrev pub call_on : Option Callee → Option (List Read) → Option TExpr
+call_on (Some callee) (Some args) = Some (expr.Call false (record { callee = callee; args = args }))
+call_on (Some callee) None = None
+call_on None args = None
+
+-- the inner value of an option
+abbrev pub inner_of : Option Operand → Option TExpr
+inner_of (Some o) = Some (expr.Try o false)
+inner_of None = None
+
+-- what is read
+abbrev pub read_of : Option Operand → Option TExpr
+read_of (Some o) = Some (expr.Read (read.Plain o))
+read_of None = None
+
+-- what a bound local computes: a call, the inner value of an option, or what is read in place; the others are not built
+abbrev pub bound_expr : Environment → List Binding → List ℕ → BindingId → Option Binding → Option TExpr
+bound_expr env bs bound b (Some (binding.Constructor term parameters instance)) = call_on (callee_of (calling env term)) (reads env bs bound parameters)
+bound_expr env bs bound b (Some (binding.MatchSome source)) = inner_of (operand_of env bs bound source)
+bound_expr env bs bound b (Some (binding.Argument index)) = read_of (in_place env (at (paths_of bs) b))
+bound_expr env bs bound b (Some (binding.ConstBool val ty)) = read_of (in_place env (at (paths_of bs) b))
+bound_expr env bs bound b (Some (binding.ConstInt val ty)) = read_of (in_place env (at (paths_of bs) b))
+bound_expr env bs bound b (Some (binding.ConstPrim val)) = None
+bound_expr env bs bound b (Some (binding.Extractor term parameter)) = None
+bound_expr env bs bound b (Some (binding.Iterator source)) = None
+bound_expr env bs bound b (Some (binding.MakeVariant ty variant fields)) = None
+bound_expr env bs bound b (Some (binding.MakeStruct ty fields)) = None
+bound_expr env bs bound b (Some (binding.MatchVariant source variant field)) = None
+bound_expr env bs bound b (Some (binding.ExtractStruct source field)) = None
+bound_expr env bs bound b (Some (binding.MakeSome inner)) = None
+bound_expr env bs bound b (Some (binding.MatchTuple source field)) = None
+bound_expr env bs bound b None = None
+
+-- ---- statements
+
+-- a statement before others
+abbrev pub stmt_before : Option Stmt → Option Body → Option Body
+stmt_before (Some s) (Some ss) = Some (Then s ss)
+stmt_before (Some s) None = None
+stmt_before None ss = None
+
+-- a local that is bound to what is computed
+abbrev pub let_of : ℕ → Option TExpr → Option Stmt
+let_of n (Some e) = Some (Let n e)
+let_of n None = None
 
 -- each binding in its local, and what follows
-abbrev pub lets : Environment → List Binding → List ℕ → List BindingId → Body → Body
+abbrev pub lets : Environment → List Binding → List ℕ → List BindingId → Option Body → Option Body
 lets env bs bound [] more = more
-lets env bs bound (b ∷ binds) more = Then (Let b.0 (bound_expr env bs bound b (slice_get bs b.0))) (lets env bs (bound ++ b.0 ∷ []) binds more)
+lets env bs bound (b ∷ binds) more = stmt_before (let_of b.0 (bound_expr env bs bound b (slice_get bs b.0))) (lets env bs (bound ++ b.0 ∷ []) binds more)
 
--- what is returned: of a partial term an option
-abbrev pub returned : Bool → Operand → TExpr
-returned true o = expr.Some (read.Plain o)
-returned false o = expr.Read (read.Plain o)
+-- a test of two operands
+abbrev pub if_eq : Option Operand → Option Operand → Option Body → Option Stmt
+if_eq (Some a) (Some b) (Some inside) = Some (IfEq a b inside)
+if_eq (Some a) (Some b) None = None
+if_eq (Some a) None inside = None
+if_eq None b inside = None
+
+-- what is returned: of a term that may answer nothing an option; several answers are not built
+abbrev pub return_of : ReturnKind → Option Operand → Option Stmt
+return_of return_kind.Plain (Some o) = Some (Return (expr.Read (read.Plain o)))
+return_of return_kind.Option (Some o) = Some (Return (expr.Some (read.Plain o)))
+return_of return_kind.Iterator (Some o) = None
+return_of kind None = None
 
 -- a block's steps in order, and what follows; a match of several arms and a loop are not built
 abbrev mutual
-  pub block_body : Environment → List Binding → Bool → List ℕ → Block → Body → Body
-  block_body env bs partial bound block.Stop end = end
-  block_body env bs partial bound (block.Step binds c more) end =
-      lets env bs bound binds (Then (control_stmt env bs partial (bound_by bound binds) c) (block_body env bs partial (bound_by bound binds) more end))
+  pub block_body : Environment → List Binding → ReturnKind → List ℕ → Block → Option Body → Option Body
+  block_body env bs kind bound block.Stop end = end
+  block_body env bs kind bound (block.Step binds c more) end =
+      lets env bs bound binds (stmt_before (control_stmt env bs kind (bound_by bound binds) c) (block_body env bs kind (bound_by bound binds) more end))
 
-  pub control_stmt : Environment → List Binding → Bool → List ℕ → Control → Stmt
-  control_stmt env bs partial bound (block.Match source arms) = arms_stmt env bs partial bound (written_operand env bs bound source) arms
-  control_stmt env bs partial bound (block.Equal a b body) = IfEq (written_operand env bs bound a) (written_operand env bs bound b) (block_body env bs partial bound body Done)
-  control_stmt env bs partial bound (block.Loop result body) = Tail None
-  control_stmt env bs partial bound (block.Return pos result) = Return (returned partial (written_operand env bs bound result))
+  pub control_stmt : Environment → List Binding → ReturnKind → List ℕ → Control → Option Stmt
+  control_stmt env bs kind bound (block.Match source arms) = arms_stmt env bs kind bound (operand_of env bs bound source) arms
+  control_stmt env bs kind bound (block.Equal a b body) = if_eq (operand_of env bs bound a) (operand_of env bs bound b) (block_body env bs kind bound body (Some Done))
+  control_stmt env bs kind bound (block.Loop result body) = None
+  control_stmt env bs kind bound (block.Return pos result) = return_of kind (operand_of env bs bound result)
 
-  pub arms_stmt : Environment → List Binding → Bool → List ℕ → Operand → Arms → Stmt
-  arms_stmt env bs partial bound o block.NoArm = Tail None
-  arms_stmt env bs partial bound o (block.Arm c places body arms) = IfEq o (written_test env c) (block_body env bs partial bound body Done)
+  pub arms_stmt : Environment → List Binding → ReturnKind → List ℕ → Option Operand → Arms → Option Stmt
+  arms_stmt env bs kind bound o block.NoArm = None
+  arms_stmt env bs kind bound o (block.Arm c places body block.NoArm) = if_eq o (tested env c) (block_body env bs kind bound body (Some Done))
+  arms_stmt env bs kind bound o (block.Arm c places body (block.Arm d others inside arms)) = None

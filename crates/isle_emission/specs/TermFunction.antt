@@ -1,9 +1,10 @@
 -- The function of a term.
-use Rattle.std.specs.Prelude.{ℕ, List, [], Bool, true, false, Option, Some, None, if◌then◌else◌, map, codes, slice_get}
+use Rattle.std.specs.Prelude.{ℕ, List, [], Bool, true, false, Option, Some, None, if◌then◌else◌, map, option_map, codes, slice_get, slice_index_or}
 use Rattle.isle_core.specs.declared.TypeId.{TypeId}
 use Rattle.isle_core.specs.declared.files.Files.{Files}
 use Rattle.isle_core.specs.declared.types.BuiltinType.TheVariants as builtin
 use Rattle.isle_core.specs.declared.types.TypeDef.{TypeDef}
+use Rattle.isle_core.specs.declared.types.TypeEnv.{TypeEnv}
 use Rattle.isle_core.specs.declared.types.TypeDef.TheVariants as def
 use Rattle.isle_core.specs.declared.types.ReturnKind.{ReturnKind}
 use Rattle.isle_core.specs.declared.types.ReturnKind.TheVariants as kind
@@ -11,7 +12,7 @@ use Rattle.isle_core.specs.declared.types.Term.{Term}
 use Rattle.isle_core.specs.declared.rule_sets.Binding.{Binding}
 use Rattle.isle_core.specs.Places.{place_in}
 use Rattle.isle_core.specs.Block.{Block, Stop, Step, Control, Match, Equal, Loop, Return}
-use Rattle.isle_emission.specs.Partial.{is_partial}
+use Rattle.isle_core.specs.Calling.{kind_of}
 use Rattle.isle_core.specs.Terms.{sym_text}
 use Rattle.isle_core.specs.Rule.{Environment}
 use Rattle.isle_tree.specs.declared.tree.Ty.{Ty}
@@ -19,24 +20,30 @@ use Rattle.isle_spelling.specs.Literal.{type_name}
 use Rattle.isle_tree.specs.Program.{Tail, Body, Done, Then, Function}
 use Rattle.isle_emission.specs.Statements.{block_body}
 
--- the name of a type; of a declared one none is built
-abbrev pub def_text : Option TypeDef → List ℕ
-def_text (Some (def.Builtin builtin.Bool)) = codes "bool"
-def_text (Some (def.Builtin (builtin.Int ty))) = type_name ty
-def_text d = []
+-- the name of a type as it is emitted: of a primitive one the Rust name
+abbrev pub def_text : TypeEnv → Option TypeDef → List ℕ
+def_text types (Some (def.Builtin builtin.Bool)) = codes "bool"
+def_text types (Some (def.Builtin (builtin.Int ty))) = type_name ty
+def_text types (Some (def.Primitive name rust pos)) = slice_index_or types.syms rust.0 []
+def_text types (Some (def.Enum name is_extern is_nodebug variants pos)) = slice_index_or types.syms name.0 []
+def_text types (Some (def.Struct name is_extern is_nodebug fields pos)) = slice_index_or types.syms name.0 []
+def_text types None = []
 
 -- the name of the type of this number
 abbrev pub type_text : Environment → TypeId → List ℕ
-type_text env ty = def_text (slice_get env.types.types ty.0)
+type_text env ty = def_text env.types (slice_get env.types.types ty.0)
 
--- the type of a parameter; none behind a reference is built
+-- whether a parameter of the type stands behind a reference: enums and structs do
+abbrev pub is_by_ref : Option TypeDef → Bool
+is_by_ref (Some (def.Builtin of)) = false
+is_by_ref (Some (def.Primitive name rust pos)) = false
+is_by_ref (Some (def.Enum name is_extern is_nodebug variants pos)) = true
+is_by_ref (Some (def.Struct name is_extern is_nodebug fields pos)) = true
+is_by_ref None = false
+
+-- the type of a parameter
 abbrev pub parameter : Environment → TypeId → Ty
-parameter env ty = record { by_ref = false; name = type_text env ty }
-
--- how often the function of a term answers; no term that answers several times is built
-abbrev pub kind_of : Bool → ReturnKind
-kind_of true = kind.Option
-kind_of false = kind.Plain
+parameter env ty = record { by_ref = is_by_ref (slice_get env.types.types ty.0); name = type_text env ty }
 
 -- a step that ends the run
 abbrev pub is_return : Control → Bool
@@ -51,21 +58,33 @@ ends_in_return Stop = false
 ends_in_return (Step bs c Stop) = is_return c
 ends_in_return (Step bs c (Step ds e more)) = ends_in_return (Step ds e more)
 
--- what a function says where no rule matches: nothing, or the name and the place of its term
-abbrev pub mark_of : Bool → List ℕ → List ℕ → Option (List ℕ × List ℕ)
-mark_of true name place = None
-mark_of false name place = Some (name, place)
+-- what the tail of a function says: nothing, or that no rule matches, with the name and the place of its term; where a
+-- term answers several times there is no tail
+abbrev pub mark_of : ReturnKind → List ℕ → List ℕ → Option (Option (List ℕ × List ℕ))
+mark_of kind.Plain name place = Some (Some (name, place))
+mark_of kind.Option name place = Some None
+mark_of kind.Iterator name place = None
+
+-- the tail that says this
+abbrev pub tail_body : Option (Option (List ℕ × List ℕ)) → Body
+tail_body (Some mark) = Then (Tail mark) Done
+tail_body None = Done
 
 -- what stands behind the steps of the root: nothing where its last step is a Return
-abbrev pub tail_of : Bool → List ℕ → List ℕ → Block → Body
-tail_of partial name place b = if ends_in_return b then Done else Then (Tail (mark_of partial name place)) Done
+abbrev pub tail_of : ReturnKind → List ℕ → List ℕ → Block → Body
+tail_of of name place b = if ends_in_return b then Done else tail_body (mark_of of name place)
 
--- the function of a term whose block is this and whose bindings are these; the place is that of its declaration
-abbrev pub term_function : Files → Environment → Term → List Binding → Block → Function
-term_function files env t bs b = record {
+-- the function of a term with these statements
+abbrev pub function_with : Environment → Term → Body → Function
+function_with env t body = record {
   term = sym_text env t.name;
   params = map (parameter env) t.arg_tys;
   result = type_text env t.ret_ty;
-  kind = kind_of (is_partial t.kind);
-  body = block_body env bs (is_partial t.kind) [] b (tail_of (is_partial t.kind) (sym_text env t.name) (place_in files t.decl_pos) b);
+  kind = kind_of t.kind;
+  body = body;
 }
+
+-- the function of a term whose block is this and whose bindings are these, where its forms are built; the place is that of
+-- its declaration
+abbrev pub term_function : Files → Environment → Term → List Binding → Block → Option Function
+term_function files env t bs b = option_map (function_with env t) (block_body env bs (kind_of t.kind) [] b (Some (tail_of (kind_of t.kind) (sym_text env t.name) (place_in files t.decl_pos) b)))

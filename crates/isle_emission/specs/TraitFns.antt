@@ -1,6 +1,6 @@
 -- The functions of the trait.
-use Rattle.std.specs.Prelude.{List, [], ◌∷◌, Option, Some, None, map, filter_map, option_map}
-use Rattle.std.specs.List.{AllByRecursion, IsDistinct}
+use Rattle.std.specs.Prelude.{List, [], ◌∷◌, Bool, Option, Some, None, map, option_map}
+use Rattle.std.specs.List.{AllByRecursion, IsDistinct, cons_option}
 use Rattle.std.specs.Str.{bytes_eq}
 use Rattle.isle_base.specs.declared.ids.Sym.{Sym}
 use Rattle.isle_core.specs.declared.types.ConstructorKind.{ConstructorKind}
@@ -8,28 +8,33 @@ use Rattle.isle_core.specs.declared.types.ConstructorKind.TheVariants as constru
 use Rattle.isle_core.specs.declared.types.Term.{Term}
 use Rattle.isle_core.specs.declared.types.TermKind.{TermKind}
 use Rattle.isle_core.specs.declared.types.TermKind.TheVariants as kind
-use Rattle.isle_emission.specs.Partial.{is_partial}
+use Rattle.isle_core.specs.declared.types.ExtractorKind.{ExtractorKind}
+use Rattle.isle_core.specs.declared.types.ExtractorKind.TheVariants as extractor
+use Rattle.isle_core.specs.declared.types.ReturnKind.{ReturnKind}
+use Rattle.isle_core.specs.Calling.{kind_of, extractor_kind}
 use Rattle.isle_core.specs.Terms.{sym_text}
 use Rattle.isle_core.specs.Rule.{Environment}
 use Rattle.isle_tree.specs.declared.tree.TraitFn.{TraitFn}
 use Rattle.isle_spelling.specs.Identifier.{IsIdentifier}
 use Rattle.isle_tree.specs.WellFormed.{fn_names}
-use Rattle.isle_emission.specs.TermFunction.{type_text, parameter, kind_of}
+use Rattle.isle_emission.specs.TermFunction.{type_text, parameter}
 
--- the function of this name for a term
-abbrev pub fn_for : Environment → Term → Sym → TraitFn
-fn_for env t func = record {
+-- ---- constructors
+
+-- the function of this name that makes what a term gives
+abbrev pub constructor_fn : Environment → Term → Sym → TraitFn
+constructor_fn env t func = record {
   name = sym_text env func;
   params = map (parameter env) t.arg_tys;
   results = type_text env t.ret_ty ∷ [];
-  kind = kind_of (is_partial t.kind);
+  kind = kind_of t.kind;
 }
 
--- the symbol of an external constructor; extractors are not built
+-- the symbol of an external constructor
 abbrev pub func_by : ConstructorKind → Option Sym
-func_by (constructor.External func) = Some func
 func_by constructor.Absent = None
 func_by constructor.Internal = None
+func_by (constructor.External func) = Some func
 
 -- that of a term of this kind
 abbrev pub func_of : TermKind → Option Sym
@@ -38,12 +43,50 @@ func_of (kind.Variant ty variant) = None
 func_of (kind.Struct ty) = None
 
 -- the function of a term's external constructor, where it has one
-abbrev pub trait_fn_of : Environment → Term → Option TraitFn
-trait_fn_of env t = option_map (fn_for env t) (func_of t.kind)
+abbrev pub constructor_fn_of : Environment → Term → Option TraitFn
+constructor_fn_of env t = option_map (constructor_fn env t) (func_of t.kind)
+
+-- ---- extractors
+
+-- the function of this name that takes what a term gives apart, into what it is made of
+abbrev pub extractor_fn : Environment → Term → Sym × ReturnKind → TraitFn
+extractor_fn env t extracted = record {
+  name = sym_text env extracted.0;
+  params = parameter env t.ret_ty ∷ [];
+  results = map (type_text env) t.arg_tys;
+  kind = extracted.1;
+}
+
+-- the symbol of an external extractor, and how often it answers
+abbrev pub extracted_by : (multi : Bool) → ExtractorKind → Option (Sym × ReturnKind)
+extracted_by multi extractor.Absent = None
+extracted_by multi extractor.Internal = None
+extracted_by multi (extractor.External func infallible) = Some (func, extractor_kind multi infallible)
+
+-- those of a term of this kind
+abbrev pub extracted_of : TermKind → Option (Sym × ReturnKind)
+extracted_of (kind.Decl pure multi partial recursive by extractor) = extracted_by multi extractor
+extracted_of (kind.Variant ty variant) = None
+extracted_of (kind.Struct ty) = None
+
+-- the function of a term's external extractor, where it has one
+abbrev pub extractor_fn_of : Environment → Term → Option TraitFn
+extractor_fn_of env t = option_map (extractor_fn env t) (extracted_of t.kind)
+
+-- ---- terms
+
+-- the extractor's function of a term, then the constructor's, before others
+abbrev pub fns_before : Environment → Term → List TraitFn → List TraitFn
+fns_before env t fns = cons_option (extractor_fn_of env t) (cons_option (constructor_fn_of env t) fns)
+
+-- the functions of a term
+abbrev pub trait_fns_of_term : Environment → Term → List TraitFn
+trait_fns_of_term env t = fns_before env t []
 
 -- those of terms, in order
 abbrev pub trait_fns_in : Environment → List Term → List TraitFn
-trait_fns_in env ts = filter_map (trait_fn_of env) ts
+trait_fns_in env [] = []
+trait_fns_in env (t ∷ ts) = fns_before env t (trait_fns_in env ts)
 
 -- those of the environment
 abbrev pub trait_fns_of : Environment → List TraitFn

@@ -1,89 +1,105 @@
 //! What bound locals compute: calls, and the inner values of options.
 
-ghost use Rattle.std.specs.Prelude.{◌≡◌, IfOk, false, slice_get};
+ghost use Rattle.std.specs.Prelude.{◌≡◌, IfOk, option_map, slice_get};
 ghost use Rattle.isle_core.specs.Calling.{calling};
-ghost use Rattle.isle_tree.specs.declared.tree.TExpr.TheVariants as expr;
 ghost use Rattle.isle_emission.specs.Contexts.{env_of, bindings_in};
 ghost use Rattle.isle_emission.specs.Statements as Statements;
+ghost use Rattle.isle_emission.specs.Views.{items_of};
 
-use crate::bound::Bound;
 use crate::context::Context;
 use crate::operands::{in_place, operand_of};
 use crate::signature::sym_name;
-use isle_core::{Binding, BindingId, Callee, ConstructorKind, List, TermId, TermKind, Text};
-use isle_tree::{Read, TCall, TExpr};
+use isle_core::{Binding, BindingId, Callee, ConstructorKind, List, TermId, TermKind};
+use isle_scope::Scope;
+use isle_tree::{Operand, Read, TCall, TExpr};
 use std::alloc::{AllocError, Global};
 
-/// What a call of the term of this number goes to: its external function, or the function of the text that its rules
-/// give.
-fn callee_of(alloc: Global, context: &Context<'_>, term: TermId) -> Result<Callee, AllocError>
+/// Returns what a call of the term of this number goes to: its external function, or the function of the text that its
+/// rules give.
+fn callee_of(
+    alloc: Global,
+    context: &Context<'_>,
+    term: TermId,
+) -> Result<Option<Callee>, AllocError>
     ensures { IfOk result (λ callee. callee ≡ Statements.callee_of (calling (env_of context.now) term)) }
 {
     let Some(called) = context.termenv.terms.as_slice().get(term.index()) else {
-        return Ok(Callee::External(Text::new(String::new(alloc))));
+        return Ok(None);
     };
     match &called.kind {
         TermKind::Decl {
             constructor: ConstructorKind::External { func },
             ..
-        } => { Ok(Callee::External(sym_name(alloc, context.typeenv, *func)?)) }
+        } => { Ok(Some(Callee::External(sym_name(alloc, context.typeenv, *func)?))) }
         TermKind::Decl {
             constructor: ConstructorKind::Internal,
             ..
-        } => { Ok(Callee::Internal(sym_name(alloc, context.typeenv, called.name)?)) }
+        } => { Ok(Some(Callee::Internal(sym_name(alloc, context.typeenv, called.name)?))) }
         TermKind::Decl {
             constructor: ConstructorKind::Absent,
             ..
         }
         | TermKind::Variant { .. }
-        | TermKind::Struct { .. } => Ok(Callee::External(Text::new(String::new(alloc)))),
+        | TermKind::Struct { .. } => Ok(None),
     }
 }
 
-/// The operands of bindings, in order.
+/// Makes the operands of bindings as they are read, in order, where each has one.
 fn reads(
     alloc: Global,
     context: &Context<'_>,
-    bound: &Bound,
+    bound: &Scope,
     bindings: &[BindingId],
-) -> Result<Vec<Read>, AllocError>
-    ensures { IfOk result (λ reads. reads.items ≡ Statements.reads (env_of context.now) (bindings_in context.now) bound.now bindings.now) }
+) -> Result<Option<Vec<Read>>, AllocError>
+    ensures { IfOk result (λ reads. items_of reads ≡ Statements.reads (env_of context.now) (bindings_in context.now) bound.now bindings.now) }
 {
     let mut reads = Vec::new(alloc);
     for binding in bindings {
-        reads.push(Read::Plain(operand_of(context, bound, *binding)))?;
+        let Some(operand) = operand_of(context, bound, *binding) else {
+            return Ok(None);
+        };
+        reads.push(Read::Plain(operand))?;
     }
-    Ok(reads)
+    Ok(Some(reads))
 }
 
-/// A call of the term of this number on bindings.
-fn call(
-    alloc: Global,
-    context: &Context<'_>,
-    bound: &Bound,
-    term: TermId,
-    parameters: &[BindingId],
-) -> Result<TExpr, AllocError>
-    ensures { IfOk result (λ e. e ≡ expr.Call false (record { callee = Statements.callee_of (calling (env_of context.now) term); args = Statements.reads (env_of context.now) (bindings_in context.now) bound.now parameters.now })) }
+/// Makes a call of what is called on what is read.
+fn call_on(callee: Option<Callee>, args: Option<Vec<Read>>) -> Option<TExpr>
+    ensures { result ≡ Statements.call_on callee (items_of args) }
 {
-    let callee = callee_of(alloc, context, term)?;
-    let args = reads(alloc, context, bound, parameters)?;
-    Ok(TExpr::Call {
+    Some(TExpr::Call {
         borrow: false,
         call: TCall {
-            callee,
-            args: List::new(args),
+            callee: callee?,
+            args: List::new(args?),
         },
     })
 }
 
-/// What the local of a binding computes: a call, the inner value of an option, or what is read in place.
+/// Makes the inner value of an option.
+fn inner_of(source: Option<Operand>) -> Option<TExpr>
+    ensures { result ≡ Statements.inner_of source }
+{
+    Some(TExpr::Try {
+        source: source?,
+        as_ref: false,
+    })
+}
+
+/// Makes a read of an operand.
+fn read_of(operand: Option<Operand>) -> Option<TExpr>
+    ensures { result ≡ Statements.read_of operand }
+{
+    Some(TExpr::Read(Read::Plain(operand?)))
+}
+
+/// Makes what the local of a binding computes: a call, the inner value of an option, or what is read in place.
 pub fn bound_expr(
     alloc: Global,
     context: &Context<'_>,
-    bound: &Bound,
+    bound: &Scope,
     binding: BindingId,
-) -> Result<TExpr, AllocError>
+) -> Result<Option<TExpr>, AllocError>
     ensures { IfOk result (λ e. e ≡ Statements.bound_expr (env_of context.now) (bindings_in context.now) bound.now binding (slice_get (bindings_in context.now) binding.0)) }
 {
     match context.bindings.get(binding.index()) {
@@ -93,11 +109,24 @@ pub fn bound_expr(
                 parameters,
                 ..
             },
-        ) => { call(alloc, context, bound, *term, parameters.as_slice()) }
-        Some(Binding::MatchSome { source }) => Ok(TExpr::Try {
-            source: operand_of(context, bound, *source),
-            as_ref: false,
-        }),
-        _ => Ok(TExpr::Read(Read::Plain(in_place(context, binding)))),
+        ) => {
+            let callee = callee_of(alloc, context, *term)?;
+            let args = reads(alloc, context, bound, parameters.as_slice())?;
+            Ok(call_on(callee, args))
+        }
+        Some(Binding::MatchSome { source }) => { Ok(inner_of(operand_of(context, bound, *source))) }
+        Some(Binding::Argument { .. })
+        | Some(Binding::ConstBool { .. })
+        | Some(Binding::ConstInt { .. }) => Ok(read_of(in_place(context, binding))),
+        Some(Binding::ConstPrim { .. })
+        | Some(Binding::Extractor { .. })
+        | Some(Binding::Iterator { .. })
+        | Some(Binding::MakeVariant { .. })
+        | Some(Binding::MakeStruct { .. })
+        | Some(Binding::MatchVariant { .. })
+        | Some(Binding::ExtractStruct { .. })
+        | Some(Binding::MakeSome { .. })
+        | Some(Binding::MatchTuple { .. })
+        | None => Ok(None),
     }
 }

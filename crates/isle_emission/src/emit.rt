@@ -1,8 +1,8 @@
 //! The function of a term.
 
-ghost use Rattle.std.specs.Prelude.{◌≡◌, map, IfOk};
+ghost use Rattle.std.specs.Prelude.{◌≡◌, Some as SomeOf, map, option_map, IfOk};
 ghost use Rattle.isle_core.specs.BlockViews as BlockViews;
-ghost use Rattle.isle_emission.specs.Partial.{is_partial};
+ghost use Rattle.isle_core.specs.Calling.{kind_of};
 ghost use Rattle.isle_core.specs.Places.{LiesIn};
 ghost use Rattle.isle_core.specs.RuleViews.{environment};
 ghost use Rattle.isle_core.specs.Setting.{setting};
@@ -18,17 +18,18 @@ ghost use Rattle.isle_emission.specs.Shape.{HasShape};
 ghost use Rattle.isle_emission.specs.TermFunction as TermFunction;
 ghost use Rattle.isle_emission.specs.TraitFns.{trait_fns_of};
 
-use crate::context::{Context, is_partial};
+use crate::context::{Context, kind_of};
 use crate::line_starts::LineStarts;
 use crate::root::root_stmts;
-use crate::signature::{kind_of, params, sym_name, ty_name};
+use crate::signature::{params, sym_name, ty_name};
 use isle_core::{
     Block, CodegenOptions, Files, List, OutOfMemory, RuleSet, Term, TermEnv, TermId, TypeEnv,
 };
 use isle_tree::Function;
 use std::alloc::Global;
 
-/// The function of a term, made from its context and its block. The table is that of the files.
+/// Makes the function of a term from its context and its block, where its forms are built. The table is that of the files.
+/// Fails for want of memory alone.
 pub fn term_function(
     alloc: Global,
     files: &Files,
@@ -36,11 +37,11 @@ pub fn term_function(
     context: &Context<'_>,
     term: &Term,
     block: &Block,
-) -> Result<Function, OutOfMemory>
+) -> Result<Option<Function>, OutOfMemory>
     requires starts { starts.now ≡ map starts_of files.now.file_texts }
     requires place { LiesIn files.now term.now.decl_pos }
-    requires partial { context.now.partial ≡ is_partial term.now.kind }
-    ensures { IfOk result (λ f. Views.function f ≡ TermFunction.term_function files.now (env_of context.now) term.now (bindings_in context.now) (BlockViews.block block.now)) }
+    requires kind { context.now.kind ≡ kind_of term.now.kind }
+    ensures { IfOk result (λ f. option_map Views.function f ≡ TermFunction.term_function files.now (env_of context.now) term.now (bindings_in context.now) (BlockViews.block block.now)) }
 {
     let name = sym_name(alloc, context.typeenv, term.name)?;
     let params = params(
@@ -50,18 +51,21 @@ pub fn term_function(
         term.arg_tys.as_slice(),
     )?;
     let result = ty_name(alloc, context.typeenv, term.ret_ty)?;
-    let body = root_stmts(alloc, files, starts, context, term, block)?;
-    Ok(Function {
+    let Some(body) = root_stmts(alloc, files, starts, context, term, block)? else {
+        return Ok(None);
+    };
+    Ok(Some(Function {
         term: name,
         params: List::new(params),
         result,
-        kind: kind_of(context.partial),
+        kind: context.kind,
         body: List::new(body),
-    })
+    }))
 }
 
-/// The function of the term of this number, whose rules have this block. It is well formed in every program with the
-/// functions of the trait that the environment gives, has the shape of the block, and runs as the block does.
+/// Makes the function of the term of this number, whose rules have this block. It is well formed in every program with the
+/// functions of the trait that the environment gives, has the shape of the block, and runs as the block does. Fails for want
+/// of memory alone.
 pub fn emit_term(
     alloc: Global,
     files: &Files,
@@ -74,7 +78,7 @@ pub fn emit_term(
 ) -> Result<Function, OutOfMemory>
     requires term { AtTerm (environment typeenv.now termenv.now) term (λ t. MayEmit files.now (environment typeenv.now termenv.now) t rules.now.bindings (BlockViews.block block.now)) }
     requires options { IsBuilt options.now }
-    ensures emitted { IfOk result (λ f. AtTerm (environment typeenv.now termenv.now) term (λ t. Views.function f ≡ TermFunction.term_function files.now (environment typeenv.now termenv.now) t rules.now.bindings (BlockViews.block block.now))) }
+    ensures emitted { IfOk result (λ f. AtTerm (environment typeenv.now termenv.now) term (λ t. TermFunction.term_function files.now (environment typeenv.now termenv.now) t rules.now.bindings (BlockViews.block block.now) ≡ SomeOf (Views.function f))) }
     ensures well_formed { IfOk result (λ f. (p : Program) → p.trait_fns ≡ trait_fns_of (environment typeenv.now termenv.now) → IsFunction p (Views.function f)) }
     ensures shape { IfOk result (λ f. AtTerm (environment typeenv.now termenv.now) term (λ t. HasShape (setting (environment typeenv.now termenv.now) t rules.now.bindings) (Views.body f.body) (BlockViews.block block.now))) }
     ensures run { IfOk result (λ f. AtTerm (environment typeenv.now termenv.now) term (λ t. RunsAsBlock (environment typeenv.now termenv.now) t rules.now.bindings (BlockViews.block block.now) (Views.function f))) }
@@ -85,7 +89,10 @@ pub fn emit_term(
         typeenv,
         termenv,
         bindings: rules.bindings.as_slice(),
-        partial: is_partial(&term.kind),
+        kind: kind_of(&term.kind),
     };
-    term_function(alloc, files, &starts, &context, term, block)
+    match term_function(alloc, files, &starts, &context, term, block)? {
+        Some(function) => Ok(function),
+        None => unreachable!(),
+    }
 }

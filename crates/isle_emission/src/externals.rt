@@ -1,36 +1,59 @@
 //! The functions of the trait.
 
-ghost use Rattle.std.specs.Prelude.{◌≡◌, IfOk};
+ghost use Rattle.std.specs.Prelude.{◌≡◌, ◌++◌, IfOk, OnOk, List as ListOf};
+ghost use Rattle.std.specs.List.{cons_option};
 ghost use Rattle.isle_core.specs.RuleViews.{environment};
+ghost use Rattle.isle_core.specs.Calling.{extractor_kind};
 ghost use Rattle.isle_emission.specs.TraitFns as TraitFns;
 
-use crate::context::is_partial;
-use crate::signature::{kind_of, params, sym_name, ty_name};
-use isle_core::{ConstructorKind, List, Sym, Term, TermEnv, TermKind, TypeEnv};
+use crate::context::kind_of;
+use crate::signature::{params, sym_name, ty_name, ty_names};
+use isle_core::{
+    ConstructorKind, ExtractorKind, List, ReturnKind, Sym, Term, TermEnv, TermKind, TypeEnv,
+};
 use isle_tree::TraitFn;
 use std::alloc::{AllocError, Global};
 
-/// The function of this symbol for a term.
-fn fn_for(
+/// Makes the function of this symbol that makes what a term gives.
+fn constructor_fn(
     alloc: Global,
     typeenv: &TypeEnv,
     termenv: &TermEnv,
     term: &Term,
     func: Sym,
 ) -> Result<TraitFn, AllocError>
-    ensures { IfOk result (λ f. f ≡ TraitFns.fn_for (environment typeenv.now termenv.now) term.now func) }
+    ensures { IfOk result (λ f. f ≡ TraitFns.constructor_fn (environment typeenv.now termenv.now) term.now func) }
 {
     let result = ty_name(alloc, typeenv, term.ret_ty)?;
     Ok(TraitFn {
         name: sym_name(alloc, typeenv, func)?,
         params: List::new(params(alloc, typeenv, termenv, term.arg_tys.as_slice())?),
         results: List::new(vec![in alloc; result]?),
-        kind: kind_of(is_partial(&term.kind)),
+        kind: kind_of(&term.kind),
     })
 }
 
-/// The symbol of a term's external constructor, where it has one.
-fn external(term: &Term) -> Option<Sym>
+/// Makes the function of this symbol that takes what a term gives apart.
+fn extractor_fn(
+    alloc: Global,
+    typeenv: &TypeEnv,
+    termenv: &TermEnv,
+    term: &Term,
+    extracted: (Sym, ReturnKind),
+) -> Result<TraitFn, AllocError>
+    ensures { IfOk result (λ f. f ≡ TraitFns.extractor_fn (environment typeenv.now termenv.now) term.now extracted) }
+{
+    let matched = [term.ret_ty];
+    Ok(TraitFn {
+        name: sym_name(alloc, typeenv, extracted.0)?,
+        params: List::new(params(alloc, typeenv, termenv, &matched)?),
+        results: List::new(ty_names(alloc, typeenv, termenv, term.arg_tys.as_slice())?),
+        kind: extracted.1,
+    })
+}
+
+/// Returns the symbol of a term's external constructor, where it has one.
+fn constructed(term: &Term) -> Option<Sym>
     ensures { result ≡ TraitFns.func_of term.now.kind }
 {
     match &term.kind {
@@ -42,22 +65,67 @@ fn external(term: &Term) -> Option<Sym>
     }
 }
 
-/// The function of a term's external constructor, where it has one.
-fn trait_fn(
+/// Returns how often an external extractor answers.
+fn extractor_kind(multi: bool, infallible: bool) -> ReturnKind
+    ensures { result ≡ extractor_kind multi infallible }
+{
+    if multi {
+        ReturnKind::Iterator
+    } else if infallible {
+        ReturnKind::Plain
+    } else {
+        ReturnKind::Option
+    }
+}
+
+/// Returns the symbol of a term's external extractor and how often it answers, where it has one.
+fn extracted(term: &Term) -> Option<(Sym, ReturnKind)>
+    ensures { result ≡ TraitFns.extracted_of term.now.kind }
+{
+    match &term.kind {
+        TermKind::Decl {
+            multi,
+            extractor: ExtractorKind::External { func, infallible },
+            ..
+        } => Some((*func, extractor_kind(*multi, *infallible))),
+        TermKind::Decl { .. } | TermKind::Variant { .. } | TermKind::Struct { .. } => None,
+    }
+}
+
+/// Adds the function of a term's external extractor, where it has one.
+fn push_extractor(
     alloc: Global,
     typeenv: &TypeEnv,
     termenv: &TermEnv,
     term: &Term,
-) -> Result<Option<TraitFn>, AllocError>
-    ensures { IfOk result (λ f. f ≡ TraitFns.trait_fn_of (environment typeenv.now termenv.now) term.now) }
+    fns: &mut Vec<TraitFn>,
+) -> Result<(), AllocError>
+    ensures { OnOk result ((more : ListOf TraitFn) → fns.new.items ++ more ≡ fns.old.items ++ cons_option (TraitFns.extractor_fn_of (environment typeenv.now termenv.now) term.now) more) }
 {
-    match external(term) {
-        Some(func) => Ok(Some(fn_for(alloc, typeenv, termenv, term, func)?)),
-        None => Ok(None),
+    if let Some(of) = extracted(term) {
+        fns.push(extractor_fn(alloc, typeenv, termenv, term, of)?)?;
     }
+    Ok(())
 }
 
-/// The functions of the external constructors of the environment's terms, in order.
+/// Adds the function of a term's external constructor, where it has one.
+fn push_constructor(
+    alloc: Global,
+    typeenv: &TypeEnv,
+    termenv: &TermEnv,
+    term: &Term,
+    fns: &mut Vec<TraitFn>,
+) -> Result<(), AllocError>
+    ensures { OnOk result ((more : ListOf TraitFn) → fns.new.items ++ more ≡ fns.old.items ++ cons_option (TraitFns.constructor_fn_of (environment typeenv.now termenv.now) term.now) more) }
+{
+    if let Some(func) = constructed(term) {
+        fns.push(constructor_fn(alloc, typeenv, termenv, term, func)?)?;
+    }
+    Ok(())
+}
+
+/// Makes the functions of the environment's terms, in order: of each term that of its external extractor, then that of its
+/// external constructor. Fails for want of memory alone.
 pub fn trait_fns(
     alloc: Global,
     typeenv: &TypeEnv,
@@ -67,9 +135,8 @@ pub fn trait_fns(
 {
     let mut fns = Vec::new(alloc);
     for term in termenv.terms.as_slice() {
-        if let Some(f) = trait_fn(alloc, typeenv, termenv, term)? {
-            fns.push(f)?;
-        }
+        push_extractor(alloc, typeenv, termenv, term, &mut fns)?;
+        push_constructor(alloc, typeenv, termenv, term, &mut fns)?;
     }
     Ok(fns)
 }

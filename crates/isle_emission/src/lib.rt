@@ -1,7 +1,6 @@
 //! From blocks to functions of a target program.
 #![tactic(auto)]
 
-mod bound;
 mod calls;
 mod context;
 mod emit;
@@ -12,7 +11,7 @@ mod root;
 mod signature;
 mod statements;
 
-pub use context::{Context, is_partial};
+pub use context::{Context, kind_of};
 pub use emit::{emit_term, term_function};
 pub use externals::trait_fns;
 pub use line_starts::LineStarts;

@@ -6,32 +6,32 @@ ghost use Rattle.isle_core.specs.Path.{Path, path_over, at, paths_of};
 ghost use Rattle.isle_emission.specs.Contexts.{env_of, bindings_in};
 ghost use Rattle.isle_emission.specs.Operands as Operands;
 
-use crate::bound::Bound;
 use crate::context::Context;
 use isle_core::{Binding, BindingId, BuiltinType, Constraint, TypeDef, TypeEnv, TypeId};
+use isle_scope::Scope;
 use isle_tree::Operand;
 
-/// A number as an operand of a type.
-fn number(typeenv: &TypeEnv, ty: TypeId, val: i128) -> Operand
-    ensures { result ≡ Operands.written_constant (int_of_def (slice_get typeenv.now.types ty.0) val) }
+/// Returns a number as an operand of a type.
+fn number(typeenv: &TypeEnv, ty: TypeId, val: i128) -> Option<Operand>
+    ensures { result ≡ Operands.constant (int_of_def (slice_get typeenv.now.types ty.0) val) }
 {
     match typeenv.types.as_slice().get(ty.index()) {
-        Some(TypeDef::Builtin(BuiltinType::Int(ty))) => Operand::Int(*ty, val),
+        Some(TypeDef::Builtin(BuiltinType::Int(ty))) => Some(Operand::Int(*ty, val)),
         Some(TypeDef::Builtin(BuiltinType::Bool))
         | Some(TypeDef::Primitive { .. })
         | Some(TypeDef::Enum { .. })
         | Some(TypeDef::Struct { .. })
-        | None => Operand::Raw(val),
+        | None => Some(Operand::Raw(val)),
     }
 }
 
-/// What is read in place for a binding.
-fn of_binding(context: &Context<'_>, binding: &Binding) -> Operand
-    ensures { (ps : ListOf Path) → result ≡ Operands.written_place (env_of context.now) (path_over ps binding.now) }
+/// Returns what is read in place for a binding.
+fn of_binding(context: &Context<'_>, binding: &Binding) -> Option<Operand>
+    ensures { (ps : ListOf Path) → result ≡ Operands.in_place (env_of context.now) (path_over ps binding.now) }
 {
     match binding {
-        Binding::Argument { index } => Operand::Arg(*index),
-        Binding::ConstBool { val, .. } => Operand::Bool(*val),
+        Binding::Argument { index } => Some(Operand::Arg(*index)),
+        Binding::ConstBool { val, .. } => Some(Operand::Bool(*val)),
         Binding::ConstInt { val, ty } => number(context.typeenv, *ty, *val),
         Binding::ConstPrim { .. }
         | Binding::Extractor { .. }
@@ -43,47 +43,47 @@ fn of_binding(context: &Context<'_>, binding: &Binding) -> Operand
         | Binding::ExtractStruct { .. }
         | Binding::MakeSome { .. }
         | Binding::MatchSome { .. }
-        | Binding::MatchTuple { .. } => Operand::Raw(0),
+        | Binding::MatchTuple { .. } => None,
     }
 }
 
-/// What is read in place for the binding of this number.
-pub fn in_place(context: &Context<'_>, binding: BindingId) -> Operand
-    ensures { result ≡ Operands.written_place (env_of context.now) (at (paths_of (bindings_in context.now)) binding) }
+/// Returns what is read in place for the binding of this number, where something is.
+pub fn in_place(context: &Context<'_>, binding: BindingId) -> Option<Operand>
+    ensures { result ≡ Operands.in_place (env_of context.now) (at (paths_of (bindings_in context.now)) binding) }
 {
     match context.bindings.get(binding.index()) {
         Some(binding) => of_binding(context, binding),
-        None => Operand::Raw(0),
+        None => None,
     }
 }
 
-/// What a constraint tests for.
-pub fn tested(context: &Context<'_>, constraint: Constraint) -> Operand
-    ensures { result ≡ Operands.written_test (env_of context.now) constraint }
+/// Returns what a constraint tests for, where it tests for a value that has an operand.
+pub fn tested(context: &Context<'_>, constraint: Constraint) -> Option<Operand>
+    ensures { result ≡ Operands.tested (env_of context.now) constraint }
 {
     match constraint {
-        Constraint::ConstBool { val } => Operand::Bool(val),
+        Constraint::ConstBool { val } => Some(Operand::Bool(val)),
         Constraint::ConstInt { val, ty } => number(context.typeenv, ty, val),
         Constraint::Variant { .. }
         | Constraint::Struct { .. }
         | Constraint::ConstPrim { .. }
-        | Constraint::Some => Operand::Raw(0),
+        | Constraint::Some => None,
     }
 }
 
-/// Whether the binding's local is bound.
-fn is_bound(bound: &Bound, binding: BindingId) -> bool
+/// Returns whether the binding's local is bound.
+fn is_bound(bound: &Scope, binding: BindingId) -> bool
     ensures { result ≡ Operands.is_bound bound.now binding }
 {
-    bound.has(binding.index())
+    bound.place(binding.index()).is_some()
 }
 
-/// The binding's local where it is bound, or else what is read in place.
-pub fn operand_of(context: &Context<'_>, bound: &Bound, binding: BindingId) -> Operand
-    ensures { result ≡ Operands.written_operand (env_of context.now) (bindings_in context.now) bound.now binding }
+/// Returns the binding's local where it is bound, or else what is read in place.
+pub fn operand_of(context: &Context<'_>, bound: &Scope, binding: BindingId) -> Option<Operand>
+    ensures { result ≡ Operands.operand_of (env_of context.now) (bindings_in context.now) bound.now binding }
 {
     if is_bound(bound, binding) {
-        Operand::Local(binding.index())
+        Some(Operand::Local(binding.index()))
     } else {
         in_place(context, binding)
     }

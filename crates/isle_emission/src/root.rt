@@ -1,45 +1,51 @@
 //! The statements of a term's function.
 
-ghost use Rattle.std.specs.Prelude.{◌≡◌, [], map, IfOk};
+ghost use Rattle.std.specs.Prelude.{◌≡◌, [], Some as SomeOf, map, option_map, IfOk};
 ghost use Rattle.isle_core.specs.BlockViews as BlockViews;
 ghost use Rattle.isle_core.specs.Places.{LiesIn, place_in};
 ghost use Rattle.isle_core.specs.Terms.{sym_text};
-ghost use Rattle.isle_tree.specs.Views as Views;
+ghost use Rattle.isle_tree.specs.Program.{Tail};
+ghost use Rattle.isle_tree.specs.Views.{stmt};
 ghost use Rattle.isle_emission.specs.Contexts.{env_of, bindings_in};
 ghost use Rattle.isle_emission.specs.LineStarts.{starts_of};
 ghost use Rattle.isle_emission.specs.Statements.{block_body};
 ghost use Rattle.isle_emission.specs.TermFunction as TermFunction;
+ghost use Rattle.isle_emission.specs.Views.{body_in};
 
-use crate::bound::Bound;
 use crate::context::Context;
 use crate::line_starts::LineStarts;
 use crate::signature::sym_name;
 use crate::statements::block_stmts;
-use isle_core::{Block, ControlFlow, Files, OutOfMemory, Term, Text};
+use isle_core::{Block, ControlFlow, Files, OutOfMemory, ReturnKind, Term, Text};
+use isle_scope::Scope;
 use isle_tree::Stmt;
 use std::alloc::Global;
 
-/// What a function says where no rule matches: nothing, or the name and the place of its term.
-fn mark(
+/// Makes the tail of a function, where it has one.
+#[tactic(auto, using(isle_tree::proofs::Sees::sees))]
+fn tail(
     alloc: Global,
     files: &Files,
     starts: &LineStarts,
     context: &Context<'_>,
     term: &Term,
-) -> Result<Option<(Text, Text)>, OutOfMemory>
+) -> Result<Option<Stmt>, OutOfMemory>
     requires starts { starts.now ≡ map starts_of files.now.file_texts }
     requires place { LiesIn files.now term.now.decl_pos }
-    ensures { IfOk result (λ mark. mark ≡ TermFunction.mark_of context.now.partial (sym_text (env_of context.now) term.now.name) (place_in files.now term.now.decl_pos)) }
+    ensures { IfOk result (λ tail. option_map stmt tail ≡ option_map Tail (TermFunction.mark_of context.now.kind (sym_text (env_of context.now) term.now.name) (place_in files.now term.now.decl_pos))) }
 {
-    if context.partial {
-        return Ok(None);
+    match context.kind {
+        ReturnKind::Plain => {
+            let name = sym_name(alloc, context.typeenv, term.name)?;
+            let place = starts.place(alloc, files, term.decl_pos)?;
+            Ok(Some(Stmt::Tail(Some((name, Text::new(place))))))
+        }
+        ReturnKind::Option => Ok(Some(Stmt::Tail(None))),
+        ReturnKind::Iterator => Ok(None),
     }
-    let name = sym_name(alloc, context.typeenv, term.name)?;
-    let place = starts.place(alloc, files, term.decl_pos)?;
-    Ok(Some((name, Text::new(place))))
 }
 
-/// Whether a step ends the run.
+/// Returns whether a step ends the run.
 #[tactic(auto, using(isle_core::proofs::SeesBlocks::sees_blocks))]
 fn is_return(control: &ControlFlow) -> bool
     ensures { result ≡ TermFunction.is_return (BlockViews.control control.now) }
@@ -50,7 +56,7 @@ fn is_return(control: &ControlFlow) -> bool
     }
 }
 
-/// Whether the last step of a block ends the run.
+/// Returns whether the last step of a block ends the run.
 #[tactic(auto, using(isle_core::proofs::SeesBlocks::sees_blocks))]
 fn ends_in_return(block: &Block) -> bool
     ensures { result ≡ TermFunction.ends_in_return (BlockViews.block block.now) }
@@ -62,8 +68,8 @@ fn ends_in_return(block: &Block) -> bool
     is_return(&steps[steps.len() - 1].check)
 }
 
-/// The statements of a term's function: those of its block, and the tail where the block can end without a result.
-#[tactic(auto, using(isle_tree::proofs::Sees::sees))]
+/// Makes the statements of a term's function, where its forms are built: those of its block, and the tail where the block
+/// can end without a result.
 pub fn root_stmts(
     alloc: Global,
     files: &Files,
@@ -71,16 +77,21 @@ pub fn root_stmts(
     context: &Context<'_>,
     term: &Term,
     block: &Block,
-) -> Result<Vec<Stmt>, OutOfMemory>
+) -> Result<Option<Vec<Stmt>>, OutOfMemory>
     requires starts { starts.now ≡ map starts_of files.now.file_texts }
     requires place { LiesIn files.now term.now.decl_pos }
-    ensures { IfOk result (λ stmts. Views.body stmts.items ≡ block_body (env_of context.now) (bindings_in context.now) context.now.partial [] (BlockViews.block block.now) (TermFunction.tail_of context.now.partial (sym_text (env_of context.now) term.now.name) (place_in files.now term.now.decl_pos) (BlockViews.block block.now))) }
+    ensures { IfOk result (λ stmts. body_in stmts ≡ block_body (env_of context.now) (bindings_in context.now) context.now.kind [] (BlockViews.block block.now) (SomeOf (TermFunction.tail_of context.now.kind (sym_text (env_of context.now) term.now.name) (place_in files.now term.now.decl_pos) (BlockViews.block block.now)))) }
 {
-    let mut bound = Bound::new(alloc);
-    let mut stmts = block_stmts(alloc, context, &mut bound, block)?;
+    let mut bound = Scope::new(alloc);
+    let Some(mut stmts) = block_stmts(alloc, context, &mut bound, block)? else {
+        return Ok(None);
+    };
     if ends_in_return(block) {
-        return Ok(stmts);
+        return Ok(Some(stmts));
     }
-    stmts.push(Stmt::Tail(mark(alloc, files, starts, context, term)?))?;
-    Ok(stmts)
+    let Some(last) = tail(alloc, files, starts, context, term)? else {
+        return Ok(Some(stmts));
+    };
+    stmts.push(last)?;
+    Ok(Some(stmts))
 }

@@ -2,14 +2,14 @@
 
 ghost use Rattle.std.specs.Prelude.{◌≡◌, [], map, slice_get, slice_index_or, IfOk};
 ghost use Rattle.isle_core.specs.RuleViews.{environment};
-ghost use Rattle.isle_emission.specs.TermFunction.{def_text, parameter, kind_of};
+ghost use Rattle.isle_emission.specs.TermFunction.{def_text, type_text, parameter, is_by_ref};
 
-use isle_core::{BuiltinType, ReturnKind, Sym, TermEnv, Text, TypeDef, TypeEnv, TypeId};
+use isle_core::{BuiltinType, Sym, TermEnv, Text, TypeDef, TypeEnv, TypeId};
 use isle_spelling::type_name;
 use isle_tree::Ty;
 use std::alloc::{AllocError, Global};
 
-/// The text of a symbol.
+/// Returns the text of a symbol.
 fn sym_text(typeenv: &TypeEnv, sym: Sym) -> &str
     ensures { result.now ≡ slice_index_or typeenv.now.syms sym.0 [] }
 {
@@ -19,42 +19,69 @@ fn sym_text(typeenv: &TypeEnv, sym: Sym) -> &str
     }
 }
 
-/// The name of a type.
-fn type_text(typeenv: &TypeEnv, ty: TypeId) -> &'static str
-    ensures { result.now ≡ def_text (slice_get typeenv.now.types ty.0) }
+/// Returns the name of a type as it is emitted.
+fn type_text(typeenv: &TypeEnv, ty: TypeId) -> &str
+    ensures { result.now ≡ def_text typeenv.now (slice_get typeenv.now.types ty.0) }
 {
     match typeenv.types.as_slice().get(ty.index()) {
         Some(TypeDef::Builtin(BuiltinType::Bool)) => "bool",
         Some(TypeDef::Builtin(BuiltinType::Int(ty))) => type_name(*ty),
-        Some(TypeDef::Primitive { .. })
-        | Some(TypeDef::Enum { .. })
-        | Some(TypeDef::Struct { .. })
-        | None => "",
+        Some(TypeDef::Primitive { rust, .. }) => sym_text(typeenv, *rust),
+        Some(TypeDef::Enum { name, .. }) | Some(TypeDef::Struct { name, .. }) => {
+            sym_text(typeenv, *name)
+        }
+        None => "",
     }
 }
 
-/// A text of its own.
+/// Returns whether a parameter of the type stands behind a reference.
+fn is_by_ref(typeenv: &TypeEnv, ty: TypeId) -> bool
+    ensures { result ≡ is_by_ref (slice_get typeenv.now.types ty.0) }
+{
+    match typeenv.types.as_slice().get(ty.index()) {
+        Some(TypeDef::Enum { .. }) | Some(TypeDef::Struct { .. }) => true,
+        Some(TypeDef::Builtin(_)) | Some(TypeDef::Primitive { .. }) | None => false,
+    }
+}
+
+/// Makes a text of its own.
 fn owned(alloc: Global, text: &str) -> Result<Text, AllocError>
     ensures { IfOk result (λ owned. owned ≡ text.now) }
 {
     Ok(Text::new(String::from_str(alloc, text)?))
 }
 
-/// The name of a symbol.
+/// Makes the name of a symbol.
 pub fn sym_name(alloc: Global, typeenv: &TypeEnv, sym: Sym) -> Result<Text, AllocError>
     ensures { IfOk result (λ name. name ≡ slice_index_or typeenv.now.syms sym.0 []) }
 {
     owned(alloc, sym_text(typeenv, sym))
 }
 
-/// The name of a type.
+/// Makes the name of a type as it is emitted.
 pub fn ty_name(alloc: Global, typeenv: &TypeEnv, ty: TypeId) -> Result<Text, AllocError>
-    ensures { IfOk result (λ name. name ≡ def_text (slice_get typeenv.now.types ty.0)) }
+    ensures { IfOk result (λ name. name ≡ def_text typeenv.now (slice_get typeenv.now.types ty.0)) }
 {
     owned(alloc, type_text(typeenv, ty))
 }
 
-/// The types of the parameters.
+/// Makes the names of types, in order.
+pub fn ty_names(
+    alloc: Global,
+    typeenv: &TypeEnv,
+    termenv: &TermEnv,
+    tys: &[TypeId],
+) -> Result<Vec<Text>, AllocError>
+    ensures { IfOk result (λ names. names.items ≡ map (type_text (environment typeenv.now termenv.now)) tys.now) }
+{
+    let mut names = Vec::new(alloc);
+    for ty in tys {
+        names.push(ty_name(alloc, typeenv, *ty)?)?;
+    }
+    Ok(names)
+}
+
+/// Makes the types of the parameters.
 pub fn params(
     alloc: Global,
     typeenv: &TypeEnv,
@@ -65,22 +92,10 @@ pub fn params(
 {
     let mut params = Vec::new(alloc);
     for ty in tys {
-        let name = ty_name(alloc, typeenv, *ty)?;
         params.push(Ty {
-            by_ref: false,
-            name,
+            by_ref: is_by_ref(typeenv, *ty),
+            name: ty_name(alloc, typeenv, *ty)?,
         })?;
     }
     Ok(params)
-}
-
-/// How often the function answers.
-pub fn kind_of(partial: bool) -> ReturnKind
-    ensures { result ≡ kind_of partial }
-{
-    if partial {
-        ReturnKind::Option
-    } else {
-        ReturnKind::Plain
-    }
 }

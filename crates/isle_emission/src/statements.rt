@@ -1,85 +1,119 @@
 //! The statements of a block.
 
-ghost use Rattle.std.specs.Prelude.{◌≡◌, map, IfOk, OnOk};
+ghost use Rattle.std.specs.Prelude.{◌≡◌, ◌++◌, List as ListOf, ℕ, Option as OptionOf, None as NoneOf, true as Yes, map, option_map, IfOk, OnOk};
 ghost use Rattle.isle_core.specs.Bindable.{bound_by};
 ghost use Rattle.isle_core.specs.BlockViews as BlockViews;
-ghost use Rattle.isle_tree.specs.Program.{Body};
+ghost use Rattle.isle_tree.specs.Program.{Body, Done};
 ghost use Rattle.isle_tree.specs.Views.{stmt};
-ghost use Rattle.isle_emission.specs.BodyOnto.{body_onto};
+ghost use Rattle.isle_emission.specs.BodyOnto.{body_onto, onto};
 ghost use Rattle.isle_emission.specs.Contexts.{env_of, bindings_in};
 ghost use Rattle.isle_emission.specs.Statements as Statements;
+ghost use Rattle.isle_emission.specs.Views.{stmts_of, lets_onto};
 
-use crate::bound::Bound;
 use crate::calls::bound_expr;
 use crate::context::Context;
 use crate::operands::{operand_of, tested};
-use isle_core::{BindingId, Block, ControlFlow, List, MatchArm};
+use isle_core::{BindingId, Block, ControlFlow, EvalStep, List, MatchArm, ReturnKind};
+use isle_scope::Scope;
 use isle_tree::{Operand, Read, Stmt, TExpr};
 use std::alloc::{AllocError, Global};
 
-/// Each binding in its local, behind what is there.
+/// Binds each binding in its local, behind what is there, and returns whether each has something that its local computes.
 #[tactic(auto, using(isle_tree::proofs::Sees::sees))]
 fn push_lets(
     alloc: Global,
     context: &Context<'_>,
-    bound: &mut Bound,
+    bound: &mut Scope,
     bindings: &[BindingId],
     out: &mut Vec<Stmt>,
-) -> Result<(), AllocError>
-    ensures lets { OnOk result ((end : Body) → body_onto (map stmt out.new.items) end ≡ body_onto (map stmt out.old.items) (Statements.lets (env_of context.now) (bindings_in context.now) bound.old bindings.now end)) }
-    ensures bound { OnOk result (bound.new ≡ bound_by bound.old bindings.now) }
+) -> Result<bool, AllocError>
+    ensures lets { IfOk result (λ made. (end : OptionOf Body) → lets_onto made (map stmt out.new.items) end ≡ body_onto (map stmt out.old.items) (Statements.lets (env_of context.now) (bindings_in context.now) bound.old bindings.now end)) }
+    ensures bound { IfOk result (λ made. made ≡ Yes → bound.new ≡ bound_by bound.old bindings.now) }
+    ensures grows { OnOk result ((more : ListOf ℕ) × (bound.new ≡ bound.old ++ more)) }
 {
     for binding in bindings {
-        let computed = bound_expr(alloc, context, bound, *binding)?;
+        let Some(computed) = bound_expr(alloc, context, bound, *binding)? else {
+            return Ok(false);
+        };
         out.push(Stmt::Let(binding.index(), computed))?;
         bound.bind(binding.index())?;
     }
-    Ok(())
+    Ok(true)
 }
 
-/// What is returned: of a partial term an option.
-fn returned(partial: bool, operand: Operand) -> TExpr
-    ensures { result ≡ Statements.returned partial operand }
+/// Makes a return: of a term that may answer nothing an option.
+fn return_of(kind: ReturnKind, operand: Option<Operand>) -> Option<Stmt>
+    ensures { option_map stmt result ≡ Statements.return_of kind operand }
 {
-    if partial {
-        TExpr::Some(Read::Plain(operand))
-    } else {
-        TExpr::Read(Read::Plain(operand))
+    let read = Read::Plain(operand?);
+    match kind {
+        ReturnKind::Plain => Some(Stmt::Return(TExpr::Read(read))),
+        ReturnKind::Option => Some(Stmt::Return(TExpr::Some(read))),
+        ReturnKind::Iterator => None,
     }
 }
 
-/// The statements of a block. What is bound is the same behind them.
+/// Makes a test of two operands.
+#[tactic(auto, using(isle_tree::proofs::Sees::sees))]
+fn if_eq(a: Option<Operand>, b: Option<Operand>, inside: Option<Vec<Stmt>>) -> Option<Stmt>
+    ensures { option_map stmt result ≡ Statements.if_eq a b (onto (stmts_of inside) (Some Done)) }
+{
+    Some(Stmt::IfEq(a?, b?, List::new(inside?)))
+}
+
+/// Makes the statements of a block, where its forms are built. What is bound is the same behind them.
 #[cycle(statements)]
 #[tactic(auto, using(isle_core::proofs::SeesBlocks::sees_blocks))]
 pub fn block_stmts(
     alloc: Global,
     context: &Context<'_>,
-    bound: &mut Bound,
+    bound: &mut Scope,
     block: &Block,
-) -> Result<Vec<Stmt>, AllocError>
-    ensures stmts { IfOk result (λ stmts. (end : Body) → body_onto (map stmt stmts.items) end ≡ Statements.block_body (env_of context.now) (bindings_in context.now) context.now.partial bound.old (BlockViews.block block.now) end) }
+) -> Result<Option<Vec<Stmt>>, AllocError>
+    ensures stmts { IfOk result (λ stmts. (end : OptionOf Body) → onto (stmts_of stmts) end ≡ Statements.block_body (env_of context.now) (bindings_in context.now) context.now.kind bound.old (BlockViews.block block.now) end) }
     ensures bound { OnOk result (bound.new ≡ bound.old) }
 {
     let len = bound.len();
-    let mut out = Vec::new(alloc);
-    for step in block.steps.as_slice() {
-        push_lets(alloc, context, bound, step.bind_order.as_slice(), &mut out)?;
-        out.push(control_stmt(alloc, context, bound, &step.check)?)?;
-    }
+    let stmts = step_stmts(alloc, context, bound, block.steps.as_slice())?;
     bound.truncate(len);
-    Ok(out)
+    Ok(stmts)
 }
 
-/// The statement of what a step does.
+/// Makes the statements of steps in order.
+#[cycle(statements)]
+#[tactic(auto, using(isle_core::proofs::SeesBlocks::sees_blocks))]
+fn step_stmts(
+    alloc: Global,
+    context: &Context<'_>,
+    bound: &mut Scope,
+    steps: &[EvalStep],
+) -> Result<Option<Vec<Stmt>>, AllocError>
+    ensures stmts { IfOk result (λ stmts. (end : OptionOf Body) → onto (stmts_of stmts) end ≡ Statements.block_body (env_of context.now) (bindings_in context.now) context.now.kind bound.old (BlockViews.block_of (map BlockViews.step steps.now)) end) }
+    ensures grows { OnOk result ((more : ListOf ℕ) × (bound.new ≡ bound.old ++ more)) }
+{
+    let mut out = Vec::new(alloc);
+    for step in steps {
+        if !push_lets(alloc, context, bound, step.bind_order.as_slice(), &mut out)? {
+            return Ok(None);
+        }
+        let Some(made) = control_stmt(alloc, context, bound, &step.check)? else {
+            return Ok(None);
+        };
+        out.push(made)?;
+    }
+    Ok(Some(out))
+}
+
+/// Makes the statement of what a step does.
 #[cycle(statements)]
 #[tactic(auto, using(isle_core::proofs::SeesBlocks::sees_blocks, isle_tree::proofs::Sees::sees))]
 fn control_stmt(
     alloc: Global,
     context: &Context<'_>,
-    bound: &mut Bound,
+    bound: &mut Scope,
     control: &ControlFlow,
-) -> Result<Stmt, AllocError>
-    ensures stmt { IfOk result (λ s. stmt s ≡ Statements.control_stmt (env_of context.now) (bindings_in context.now) context.now.partial bound.old (BlockViews.control control.now)) }
+) -> Result<Option<Stmt>, AllocError>
+    ensures stmt { IfOk result (λ s. option_map stmt s ≡ Statements.control_stmt (env_of context.now) (bindings_in context.now) context.now.kind bound.old (BlockViews.control control.now)) }
     ensures bound { OnOk result (bound.new ≡ bound.old) }
 {
     match control {
@@ -91,33 +125,32 @@ fn control_stmt(
             let a = operand_of(context, bound, *a);
             let b = operand_of(context, bound, *b);
             let inside = block_stmts(alloc, context, bound, body)?;
-            Ok(Stmt::IfEq(a, b, List::new(inside)))
+            Ok(if_eq(a, b, inside))
         }
-        ControlFlow::Loop { .. } => Ok(Stmt::Tail(None)),
+        ControlFlow::Loop { .. } => Ok(None),
         ControlFlow::Return { result, .. } => {
-            let operand = operand_of(context, bound, *result);
-            Ok(Stmt::Return(returned(context.partial, operand)))
+            Ok(return_of(context.kind, operand_of(context, bound, *result)))
         }
     }
 }
 
-/// The test of an operand against the first arm's constraint.
+/// Makes the test of an operand against the one arm's constraint.
 #[cycle(statements)]
 #[tactic(auto, using(isle_core::proofs::SeesBlocks::sees_blocks, isle_tree::proofs::Sees::sees))]
 fn arms_stmt(
     alloc: Global,
     context: &Context<'_>,
-    bound: &mut Bound,
-    source: Operand,
+    bound: &mut Scope,
+    source: Option<Operand>,
     arms: &[MatchArm],
-) -> Result<Stmt, AllocError>
-    ensures stmt { IfOk result (λ s. stmt s ≡ Statements.arms_stmt (env_of context.now) (bindings_in context.now) context.now.partial bound.old source (BlockViews.arms_of (map BlockViews.arm arms.now))) }
+) -> Result<Option<Stmt>, AllocError>
+    ensures stmt { IfOk result (λ s. option_map stmt s ≡ Statements.arms_stmt (env_of context.now) (bindings_in context.now) context.now.kind bound.old source (BlockViews.arms_of (map BlockViews.arm arms.now))) }
     ensures bound { OnOk result (bound.new ≡ bound.old) }
 {
-    if arms.is_empty() {
-        return Ok(Stmt::Tail(None));
+    if arms.len() != 1 {
+        return Ok(None);
     }
     let arm = &arms[0];
     let inside = block_stmts(alloc, context, bound, &arm.body)?;
-    Ok(Stmt::IfEq(source, tested(context, arm.constraint), List::new(inside)))
+    Ok(if_eq(source, tested(context, arm.constraint), inside))
 }

@@ -4,4 +4,4 @@ use Rattle.isle_emission.specs.TraitFns.{trait_fns_in}
 use Rattle.isle_emission.proofs.externals.trait_fns.Given as goal
 
 abbrev pub invariant-loop-term : goal.invariant-loop-term
-invariant-loop-term l = trait_fns_in (environment l.typeenv l.termenv) l.term-items ≡ l.fns.items ++ trait_fns_in (environment l.typeenv l.termenv) (drop l.term-index l.term-items)
+invariant-loop-term l = l.fns.items ++ trait_fns_in (environment l.typeenv l.termenv) (drop l.term-index l.term-items) ≡ trait_fns_in (environment l.typeenv l.termenv) l.term-items

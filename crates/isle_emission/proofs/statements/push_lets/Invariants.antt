@@ -1,4 +1,4 @@
-use Rattle.std.proofs.Common.{◌≡◌, drop, map}
+use Rattle.std.proofs.Common.{◌≡◌, ◌++◌, List, ℕ, Option, drop, map}
 use Rattle.isle_tree.specs.Program.{Body}
 use Rattle.isle_tree.specs.Views.{stmt}
 use Rattle.isle_emission.specs.BodyOnto.{body_onto}
@@ -9,7 +9,8 @@ use Rattle.isle_emission.proofs.statements.push_lets.Given as goal
 
 abbrev pub invariant-loop-binding : goal.invariant-loop-binding
 invariant-loop-binding l = record {
-  stmts : (end : Body) → body_onto (map stmt l.out.items) (lets (env_of l.context) (bindings_in l.context) l.bound (drop l.binding-index l.bindings) end)
+  stmts : (end : Option Body) → body_onto (map stmt l.out.items) (lets (env_of l.context) (bindings_in l.context) l.bound (drop l.binding-index l.bindings) end)
       ≡ body_onto (map stmt l.fn.out.items) (lets (env_of l.context) (bindings_in l.context) l.fn.bound l.bindings end);
   bound : bound_by l.bound (drop l.binding-index l.bindings) ≡ bound_by l.fn.bound l.bindings;
+  grows : (more : List ℕ) × (l.bound ≡ l.fn.bound ++ more);
 }

@@ -1,0 +1,51 @@
+-- What holds of the function that a lawful block of a term gives.
+use Rattle.std.proofs.Common.{◌≡◌, List, Some, sym, subst, ◌∙◌}
+use Rattle.std.specs.Prelude.{Contains}
+use Rattle.isle_core.specs.declared.files.Files.{Files}
+use Rattle.isle_core.specs.declared.rule_sets.Binding.{Binding}
+use Rattle.isle_core.specs.declared.types.Term.{Term}
+use Rattle.isle_core.specs.declared.values.Callee.{Callee}
+use Rattle.isle_core.specs.Block.{Block}
+use Rattle.isle_core.specs.BlockLawful.{IsLawfulBlock}
+use Rattle.isle_core.specs.Calling.{kind_of, AnswersOnce}
+use Rattle.isle_core.specs.Rule.{Environment}
+use Rattle.isle_core.specs.Setting.{setting}
+use Rattle.isle_core.specs.SingleArms.{HasSingleArms}
+use Rattle.isle_tree.specs.Calls.{body_calls}
+use Rattle.isle_tree.specs.Program.{Function, Program}
+use Rattle.isle_tree.specs.WellFormed.{IsFunction}
+use Rattle.isle_emission.specs.Emitted.{IsEmittable, RunsAsBlock}
+use Rattle.isle_emission.specs.OfTerm.{IsOfTerm}
+use Rattle.isle_emission.specs.Shape.{HasShape}
+use Rattle.isle_emission.specs.TermFunction.{term_function}
+use Rattle.isle_emission.specs.TraitFns.{trait_fns_of, HasFnNames}
+use Rattle.isle_emission.proofs.BlockCalls.{IsBoundCall, written_calls}
+use Rattle.isle_emission.proofs.Made.{function_made}
+use Rattle.isle_emission.proofs.Shapes.{written_shape}
+use Rattle.isle_emission.proofs.Simulation.{written_runs}
+use Rattle.isle_emission.proofs.Tails.{written_of_term}
+use Rattle.isle_emission.proofs.WellFormedFunctions.{written_well_formed}
+use Rattle.isle_emission.proofs.Written.{function_of}
+
+module _ (files : Files) (env : Environment) (t : Term) (bs : List Binding) (b : Block) (f : Function) (lawful : IsLawfulBlock (setting env t bs) b) (single : HasSingleArms b) (once : AnswersOnce (kind_of t.kind)) (given : term_function files env t bs b ≡ Some f) where
+  -- it is the written one
+  given_is : function_of files env t bs b ≡ f
+  given_is = some_one (function_of files env t bs b) f (sym (function_made files env t bs b once lawful single) ∙ given)
+    where
+      some_one : (g h : Function) → Some g ≡ Some h → g ≡ h
+      some_one g h e = cc
+
+  pub emitted_well_formed : IsEmittable env t → HasFnNames env → (p : Program) → p.trait_fns ≡ trait_fns_of env → IsFunction p f
+  emitted_well_formed h fns p same = subst (IsFunction p) given_is (written_well_formed files env t bs b h lawful single fns p same)
+
+  pub has_shape : HasShape (setting env t bs) f.body b
+  has_shape = subst (λ (g : Function). HasShape (setting env t bs) g.body b) given_is (written_shape files env t bs b once lawful single)
+
+  pub runs_as_block : RunsAsBlock env t bs b f
+  runs_as_block = subst (RunsAsBlock env t bs b) given_is (written_runs files env t bs b once lawful single)
+
+  pub of_its_term : IsOfTerm files env t f
+  of_its_term = subst (IsOfTerm files env t) given_is (written_of_term files env t bs b lawful single)
+
+  pub function_calls : (callee : Callee) → Contains (body_calls f.body) callee → IsBoundCall env bs callee
+  function_calls callee c = written_calls files env t bs b callee lawful single (subst (λ (g : Function). Contains (body_calls g.body) callee) (sym given_is) c)
