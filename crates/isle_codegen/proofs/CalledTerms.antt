@@ -126,8 +126,8 @@ bindings_answered env id m s stands impures lawful = answers_each env m s.bindin
 
 -- ---- the calls of a function
 
-goes_there : (kind : ReturnKind) (c : Calling) (callee : Callee) → IsCall kind c → callee_of c ≡ callee → GoesTo c callee
-goes_there kind (ByTurns to of) callee is e = e
+goes_there : (kind : ReturnKind) (c : Calling) (callee : Callee) → IsCall kind c → callee_of c ≡ Some callee → GoesTo c callee
+goes_there kind (ByTurns to of) callee is e = cc
 goes_there kind (ByCases to of) callee is e = absurd is
 goes_there kind NoCall callee is e = absurd is
 

@@ -1,5 +1,5 @@
 -- Functions that are emitted one after another.
-use Rattle.std.proofs.Common.{◌≡◌, ℕ, ◌+◌, ◌<◌, ◌≤◌, List, [], ◌∷◌, ◌++◌, length, take, get_or, Some, sym, ap, ◌∙◌, subst}
+use Rattle.std.proofs.Common.{◌≡◌, ℕ, ◌+◌, ◌<◌, ◌≤◌, List, [], ◌∷◌, ◌++◌, length, take, get_or, Some, None, sym, ap, ◌∙◌, subst}
 use Rattle.std.specs.Prelude.{slice_get}
 use Rattle.std.proofs.lemmas.List.{take_more, take_all}
 use Rattle.std.proofs.lemmas.Option.{slice_get_within, slice_get-get_or}
@@ -15,6 +15,8 @@ use Rattle.isle_core.specs.Setting.{setting}
 use Rattle.isle_core.specs.SingleArms.{HasSingleArms}
 use Rattle.isle_tree.specs.Program.{Function}
 use Rattle.isle_emission.specs.TermFunction.{term_function}
+use Rattle.isle_emission.proofs.Made.{function_made}
+use Rattle.isle_emission.proofs.Written.{function_of}
 use Rattle.isle_codegen.specs.Emits.{MeansSet, CanEmit, IsEmitted, AreEmitted}
 
 some_one : (a b : Term) → Some a ≡ Some b → a ≡ b
@@ -26,7 +28,7 @@ at_place ts i x t is e = slice_get-get_or ts i x (slice_get_within ts i t e) ∙
 
 -- the function of a block of the rule set is emitted for it
 pub is_emitted : (files : Files) (env : Environment) (id : TermId) (s : RuleSet) (t : Term) (b : Block) (f : Function) → CanEmit files env (id, s) → slice_get env.terms id.0 ≡ Some t
-    → ((u : Term) → IsReady env u s → IsLawfulBlock (setting env u s.bindings) b) → HasSingleArms b → MeansSet env s b → f ≡ term_function files env t s.bindings b → IsEmitted files env id s f
+    → ((u : Term) → IsReady env u s → IsLawfulBlock (setting env u s.bindings) b) → HasSingleArms b → MeansSet env s b → term_function files env t s.bindings b ≡ Some f → IsEmitted files env id s f
 is_emitted files env id s t b f h there lawful single means given = record {
   term = h.term;
   there = h.there;
@@ -34,8 +36,18 @@ is_emitted files env id s t b f h there lawful single means given = record {
   lawful = lawful h.term h.ready;
   single = single;
   means = means;
-  given = given ∙ ap (λ (u : Term). term_function files env u s.bindings b) (some_one t h.term (sym there ∙ h.there));
+  once = h.emittable.once;
+  given = ap (λ (u : Term). term_function files env u s.bindings b) (sym (some_one t h.term (sym there ∙ h.there))) ∙ given;
 }
+
+-- and its function is there
+pub is_given : (files : Files) (env : Environment) (id : TermId) (s : RuleSet) (t : Term) (b : Block) → CanEmit files env (id, s) → slice_get env.terms id.0 ≡ Some t
+    → ((u : Term) → IsReady env u s → IsLawfulBlock (setting env u s.bindings) b) → HasSingleArms b → None ≡ term_function files env t s.bindings b → ⊥
+is_given files env id s t b h there lawful single none =
+    let same = some_one h.term t (sym h.there ∙ there) in
+    let made = function_made files env h.term s.bindings b h.emittable.once (lawful h.term h.ready) single in
+    let bad : None ≡ Some (function_of files env h.term s.bindings b) = none ∙ ap (λ (u : Term). term_function files env u s.bindings b) (sym same) ∙ made in
+    cc
 
 both_emitted : (files : Files) (env : Environment) (ss ts : List (TermId × RuleSet)) (fs gs : List Function) → AreEmitted files env ss fs → AreEmitted files env ts gs → AreEmitted files env (ss ++ ts) (fs ++ gs)
 both_emitted files env [] ts [] gs h k = k

@@ -21,11 +21,9 @@ use Rattle.isle_tree.specs.declared.tree.TraitFn.{TraitFn}
 use Rattle.isle_codegen.specs.Emits.{CanEmit, AreEmitted}
 use Rattle.isle_emission.specs.Emitted.{IsEmittable}
 use Rattle.isle_emission.specs.TraitFns.{trait_fns_of, HasFnNames}
-use Rattle.isle_emission.proofs.TraitFnForms.{HasBuiltinTypes, fns_are}
+use Rattle.isle_emission.proofs.TraitFnForms.{IsPlainTerm, fns_are}
+use Rattle.isle_codegen.proofs.PlainTerms.{typed_once, typed_unextracted}
 use Rattle.isle_emission.specs.OfTerm.{IsOfTerm, AreDeclared}
-use Rattle.isle_core.specs.Setting.{setting}
-use Rattle.isle_emission.specs.Shape.{HasShape}
-use Rattle.isle_emission.proofs.Shapes.{has_shape}
 use Rattle.isle_core.specs.declared.TypeId.{TypeId}
 use Rattle.isle_core.specs.BuiltinType.{IsBuiltinType}
 use Rattle.isle_core.specs.HasType.{HaveTypes}
@@ -35,15 +33,12 @@ use Rattle.isle_core.proofs.LawfulExists.{lawful_with}
 use Rattle.isle_codegen.specs.FromBlock.{AreFromBlocks}
 use Rattle.isle_codegen.specs.Meant.{IsMeant}
 use Rattle.isle_codegen.specs.Headline.{FunctionsMean}
-use Rattle.isle_emission.proofs.Tails.{of_its_term}
 use Rattle.isle_codegen.proofs.EmittedNames.{emitted_names, distinct_names}
 use Rattle.isle_codegen.proofs.MeanRules.{HasFunction, has_function, means_rules, of_term}
 use Rattle.isle_codegen.proofs.CalledTerms.{bound_called}
-use Rattle.isle_emission.proofs.BlockCalls.{function_calls}
 use Rattle.isle_sema.proofs.TypedRules.{typed_impure}
 use Rattle.isle_core.specs.BuiltRule.{IsImpureRule}
-use Rattle.isle_tree.specs.Calls.{body_calls}
-use Rattle.isle_emission.proofs.WellFormedFunctions.{emitted_well_formed}
+use Rattle.isle_emission.proofs.GivenFunctions.{emitted_well_formed, has_shape, of_its_term, function_calls}
 
 -- each function is of its term
 are_declared : (files : Files) (env : Environment) (sets : List (TermId × RuleSet)) (fs : List Function) → AreEmitted files env sets fs → AreDeclared files env (map (λ (s : TermId × RuleSet). s.0) sets) fs
@@ -52,7 +47,7 @@ are_declared files env (s ∷ sets) (f ∷ fs) h = (
   record {
     term = h.0.term;
     there = h.0.there;
-    of_term = subst (IsOfTerm files env h.0.term) (sym h.0.given) (of_its_term files env h.0.term s.1.bindings h.0.block h.0.lawful h.0.single);
+    of_term = of_its_term files env h.0.term s.1.bindings h.0.block f h.0.lawful h.0.single h.0.once h.0.given;
   },
   are_declared files env sets fs h.1,
 )
@@ -80,9 +75,9 @@ are_from_blocks files env (s ∷ sets) (f ∷ fs) impures stand h = (
     block = h.0.block;
     lawful = h.0.lawful;
     means = h.0.means;
-    shape = subst (λ (g : Function). HasShape (setting env h.0.term s.1.bindings) g.body h.0.block) (sym h.0.given) (has_shape files env h.0.term s.1.bindings h.0.block h.0.lawful h.0.single);
+    shape = has_shape files env h.0.term s.1.bindings h.0.block f h.0.lawful h.0.single h.0.once h.0.given;
     statements = h.0.given;
-    calls = λ callee c. bound_called env s.0 s.1 callee stand.0 (impures s.0) (function_calls files env h.0.term s.1.bindings h.0.block callee h.0.lawful h.0.single (subst (λ (g : Function). Contains (body_calls g.body) callee) h.0.given c));
+    calls = λ callee c. bound_called env s.0 s.1 callee stand.0 (impures s.0) (function_calls files env h.0.term s.1.bindings h.0.block f h.0.lawful h.0.single h.0.once h.0.given callee c);
   },
   are_from_blocks files env sets fs impures stand.1 h.1,
 )
@@ -97,17 +92,17 @@ are_well_formed : (files : Files) (env : Environment) (p : Program) (sets : List
 are_well_formed files env p [] [] same c h = tt
 are_well_formed files env p (s ∷ sets) (f ∷ fs) same c h =
     let e : IsEmittable env h.0.term = subst (IsEmittable env) (some_same c.0.term h.0.term (sym c.0.there ∙ h.0.there)) c.0.emittable in (
-      subst (IsFunction p) (sym h.0.given) (emitted_well_formed files env h.0.term s.1.bindings h.0.block e h.0.lawful h.0.single c.0.fns p same),
+      emitted_well_formed files env h.0.term s.1.bindings h.0.block f h.0.lawful h.0.single h.0.once h.0.given e c.0.fns p same,
       are_well_formed files env p sets fs same c.1 h.1,
     )
 are_well_formed files env p [] (f ∷ fs) same c h = absurd h
 are_well_formed files env p (s ∷ sets) [] same c h = absurd h
 
--- the types of all terms are builtin
-builtin_types : (defs : List Def) (env : Environment) → Typed defs env → AllByRecursion (HasBuiltinTypes env) env.terms
-builtin_types defs env typed = each env.terms (λ i t e. typed_types defs env i t typed e)
+-- the types of all terms are builtin, each answers at most once, and none has an external extractor
+plain_terms : (defs : List Def) (env : Environment) → Typed defs env → AllByRecursion (IsPlainTerm env) env.terms
+plain_terms defs env typed = each env.terms (λ i t e. record { types = typed_types defs env i t typed e; once = typed_once defs env i t typed e; unextracted = typed_unextracted defs env i t typed e })
   where
-    each : (ts : List Term) → ((i : ℕ) (t : Term) → slice_get ts i ≡ Some t → HasBuiltinTypes env t) → AllByRecursion (HasBuiltinTypes env) ts
+    each : (ts : List Term) → ((i : ℕ) (t : Term) → slice_get ts i ≡ Some t → IsPlainTerm env t) → AllByRecursion (IsPlainTerm env) ts
     each [] h = tt
     each (t ∷ ts) h = (h 0 t refl, each ts (λ i u e. h (suc i) u e))
 
@@ -122,7 +117,7 @@ module _ (defs : List Def) (files : Files) (env : Environment) (typed : Typed de
   pub program_well_formed : (p : Program) → HasFnNames env → p.trait_fns ≡ trait_fns_of env → p.types ≡ [] → p.fns ≡ fs → AllByRecursion (CanEmit files env) sets → IsWellFormed p
   program_well_formed p names a b e c =
       record {
-        trait_fns = subst (AllByRecursion IsTraitFn) (sym a) (fns_are env env.terms names.identifiers (builtin_types defs env typed));
+        trait_fns = subst (AllByRecursion IsTraitFn) (sym a) (fns_are env env.terms names.identifiers (plain_terms defs env typed));
         types = rw b tt;
         fns = subst (AllByRecursion (IsFunction p)) (sym e) (are_well_formed files env p sets fs a c emitted);
         distinct = subst (λ (xs : List Function). IsDistinct bytes_eq (map (λ (f : Function). f.term) xs)) (sym e) distinct;

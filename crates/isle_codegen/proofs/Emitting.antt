@@ -23,6 +23,7 @@ use Rattle.isle_codegen.specs.Emission.{ArePlaced}
 use Rattle.isle_emission.specs.TraitFns.{HasFnNames}
 use Rattle.isle_codegen.specs.Emits.{CanEmit}
 use Rattle.isle_codegen.proofs.EmittedNames.{name_of_term}
+use Rattle.isle_codegen.proofs.PlainTerms.{typed_once}
 
 placed_at : (files : Files) (ts : List Term) (i : ℕ) (t : Term) → AllByRecursion (λ (u : Term). LiesIn files u.decl_pos) ts → slice_get ts i ≡ Some t → LiesIn files t.decl_pos
 placed_at files [] i t h e = cc
@@ -41,7 +42,7 @@ one defs files env s h placed c name fns stands =
       term = t.0;
       there = t.1;
       placed = placed_at files env.terms s.0.0 t.0 placed t.1;
-      emittable = record { name = subst (λ n. IsTrue (is_term_name n)) (name_of_term env s.0 t.0 t.1) name; types = typed_types defs env s.0.0 t.0 h t.1 };
+      emittable = record { name = subst (λ n. IsTrue (is_term_name n)) (name_of_term env s.0 t.0 t.1) name; types = typed_types defs env s.0.0 t.0 h t.1; once = typed_once defs env s.0.0 t.0 h t.1 };
       ready = set_ready defs env s.0 t.0 s.1 h t.1 stands;
       fns = fns;
     }

@@ -1,6 +1,6 @@
 -- The functions of an environment mean its rules.
-use Rattle.std.proofs.Common.{◌≡◌, ℕ, suc, List, [], ◌∷◌, length, map, Bool, true, false, cond, Option, Some, refl, sym, ap, ◌∙◌, subst, ⊎_elim}
-use Rattle.std.specs.Prelude.{Contains, All, IsSomeAnd, filter, slice_get, ◌==◌}
+use Rattle.std.proofs.Common.{◌≡◌, ℕ, suc, List, [], ◌∷◌, length, map, Bool, true, false, cond, Option, Some, None, refl, sym, ap, ◌∙◌, subst, ⊎_elim}
+use Rattle.std.specs.Prelude.{Contains, All, IsSomeAnd, filter, option_map, slice_get, ◌==◌}
 use Rattle.std.proofs.lemmas.List.Elements.{All-from_recursion, recursion_from_All}
 use Rattle.std.proofs.lemmas.Slice.Eq.{bytes_eq-Decides}
 use Rattle.std.specs.List.{AllByRecursion, IsDistinct}
@@ -10,16 +10,13 @@ use Rattle.isle_core.specs.declared.TypeId.{TypeId}
 use Rattle.isle_core.specs.declared.files.Files.{Files}
 use Rattle.isle_core.specs.declared.rule_sets.RuleSet.{RuleSet}
 use Rattle.isle_core.specs.declared.types.ReturnKind.{ReturnKind}
-use Rattle.isle_core.specs.declared.types.ConstructorKind.{ConstructorKind}
-use Rattle.isle_core.specs.declared.types.ExtractorKind.TheVariants as extractor
-use Rattle.isle_core.specs.declared.types.TermKind.TheVariants as term_kind
 use Rattle.isle_core.specs.declared.types.Term.{Term}
-use Rattle.isle_core.specs.Value.{Value, Ran}
+use Rattle.isle_core.specs.Value.{Value, End, Ran}
 use Rattle.isle_core.specs.Meaning.{Meaning}
 use Rattle.isle_core.specs.HasType.{HaveTypes}
 use Rattle.isle_core.specs.Lawful.{IsLawful}
 use Rattle.isle_core.specs.HighestMatch.{outcome_of}
-use Rattle.isle_core.specs.Calling.{kind_of}
+use Rattle.isle_core.specs.Calling.{kind_of, AnswersOnce}
 use Rattle.isle_core.specs.Outcome.{Prescription, Prescribed}
 use Rattle.isle_core.specs.Path.{paths_of}
 use Rattle.isle_core.specs.BlockRun.{block_outcome}
@@ -39,15 +36,15 @@ use Rattle.isle_syntax.specs.Tree.{Def}
 use Rattle.isle_sema.specs.Typing.{Typed}
 use Rattle.isle_sema.proofs.TypedRules.{typed_built, typed_scoped, typed_impure, typed_args}
 use Rattle.isle_sema.proofs.OneRule.{typed_one}
-use Rattle.isle_sema.proofs.TypedTerms.{typed_kind}
 use Rattle.isle_tree.specs.Program.{Function, Program}
 use Rattle.isle_tree.specs.Run.{run, function_of}
 use Rattle.isle_codegen.specs.Emits.{IsEmitted, AreEmitted}
-use Rattle.isle_emission.specs.Emitted.{ran_of}
-use Rattle.isle_emission.specs.Partial.{is_partial}
-use Rattle.isle_emission.specs.TermFunction.{kind_of as function_kind}
+use Rattle.isle_emission.specs.Emitted.{ran_of, ran_with}
+use Rattle.isle_emission.specs.Ends.{end_of}
 use Rattle.isle_codegen.specs.Headline.{GivesAs, GivesOutcome, MeansRules}
-use Rattle.isle_emission.proofs.Simulation.{runs_as_block}
+use Rattle.isle_emission.proofs.GivenFunctions.{runs_as_block}
+use Rattle.isle_emission.proofs.Simulation.{ends_as}
+use Rattle.isle_emission.proofs.Written.{end_of as written_end}
 use Rattle.isle_codegen.proofs.CalledTerms.{bindings_answered}
 use Rattle.isle_codegen.proofs.EmittedNames.{name_of_term, emitted_name}
 
@@ -118,8 +115,16 @@ as_many env (v ∷ args) (ty ∷ tys) h = ap suc (as_many env args tys h.1)
 as_many env [] (ty ∷ tys) h = absurd h
 as_many env (v ∷ args) [] h = absurd h
 
-gives_as : (env : Environment) (t : Term) (o : Prescription) → AreImpure env o.calls → GivesAs env (is_partial t.kind) o (ran_of env t o)
-gives_as env t o h = record { end = refl; calls = all_kept env o.calls h }
+-- what a run with the outcome gives
+gives_as : (env : Environment) (t : Term) (o : Prescription) → AnswersOnce (kind_of t.kind) → AreImpure env o.calls → IsSomeAnd (ran_of t o) (GivesAs env (kind_of t.kind) o)
+gives_as env t o once h = by (kind_of t.kind) once
+  where
+    by : (kind : ReturnKind) → AnswersOnce kind → IsSomeAnd (option_map (ran_with o.calls) (end_of kind o.result)) (GivesAs env kind o)
+    by kind once = one (end_of kind o.result) refl (ends_as kind once o.result)
+      where
+        one : (e : Option End) → end_of kind o.result ≡ e → end_of kind o.result ≡ Some (written_end kind o.result) → IsSomeAnd (option_map (ran_with o.calls) e) (GivesAs env kind o)
+        one None is some = absurd (let bad : None ≡ Some (written_end kind o.result) = sym is ∙ some in cc)
+        one (Some end) is some = record { end = is; calls = all_kept env o.calls h }
 
 pick_all : (P : Rule → Type 0) (r : Rule) (rs : List Rule) (b : Bool) → P r → AllByRecursion P rs → AllByRecursion P (cond b (r ∷ rs) rs)
 pick_all P r rs true h k = (h, k)
@@ -133,23 +138,12 @@ keep_all P keep (r ∷ rs) h = pick_all P r (filter keep rs) (keep r) h.0 (keep_
 pub of_term : (P : Rule → Type 0) (env : Environment) (id : TermId) → All P env.rules → All P (rules_of env id)
 of_term P env id h = All-from_recursion P (rules_of env id) (keep_all P (λ (r : Rule). r.root_term.0 == id.0) env.rules (recursion_from_All P env.rules h))
 
--- a term with no flag but `partial` answers as its function does
-flag_kind : (partial : Bool) (by : ConstructorKind) → function_kind (is_partial (term_kind.Decl false false partial false by extractor.Absent)) ≡ kind_of (term_kind.Decl false false partial false by extractor.Absent)
-flag_kind true by = refl
-flag_kind false by = refl
-
-pub typed_answers : (defs : List Def) (env : Environment) (i : ℕ) (t : Term) → Typed defs env → slice_get env.terms i ≡ Some t → function_kind (is_partial t.kind) ≡ kind_of t.kind
-typed_answers defs env i t typed at = let k = typed_kind defs env i t typed at in subst (λ x. function_kind (is_partial x) ≡ kind_of x) k.2 (flag_kind k.0 k.1)
-
 module _ (defs : List Def) (files : Files) (env : Environment) (p : Program) (id : TermId) (typed : Typed defs env) (h : HasFunction files env p.fns id) where
   abbrev the_term : Term
   the_term = h.emitted.term
 
-  abbrev partial : Bool
-  partial = is_partial the_term.kind
-
   abbrev kind : ReturnKind
-  kind = function_kind partial
+  kind = kind_of the_term.kind
 
   -- what the block gives is what the rules give
   same_outcome : (args : List Value) (m : Meaning) → HaveTypes env args the_term.arg_tys → IsLawful env id m
@@ -160,24 +154,23 @@ module _ (defs : List Def) (files : Files) (env : Environment) (p : Program) (id
       (of_term IsBuiltRule env id (typed_built defs env typed)) (of_term IsScopedRule env id (typed_scoped defs env typed)) (of_term (IsImpureRule env.terms) env id (typed_impure defs env typed)) lawful.answers
       (λ k d lt. typed_args defs env id the_term typed h.emitted.there k d lt ∙ sym (as_many env args the_term.arg_tys types)) h.stands.flat
 
-  runs : (args : List Value) (m : Meaning) → HaveTypes env args the_term.arg_tys → IsLawful env id m → run p (term_name env id) args m ≡ Some (ran_of env the_term (outcome_of env m args (rules_of env id) kind []))
+  runs : (args : List Value) (m : Meaning) → HaveTypes env args the_term.arg_tys → IsLawful env id m → run p (term_name env id) args m ≡ ran_of the_term (outcome_of env m args (rules_of env id) kind [])
   runs args m types lawful =
       let named = name_of_term env id the_term h.emitted.there in
       ap (λ (n : List ℕ). run p n args m) named
-      ∙ runs_as_block files env the_term h.set.bindings h.emitted.block h.emitted.lawful h.emitted.single p args m
-      (ap (λ (n : List ℕ). function_of n p.fns) (sym named) ∙ h.found ∙ ap (λ (f : Function). Some f) h.emitted.given) types (bindings_answered env id m h.set h.stands (recursion_from_All (IsImpureRule env.terms) (rules_of env id) (of_term (IsImpureRule env.terms) env id (typed_impure defs env typed))) lawful)
-      ∙ ap (λ (o : Prescription). Some (ran_of env the_term o)) (same_outcome args m types lawful)
+      ∙ runs_as_block files env the_term h.set.bindings h.emitted.block h.function h.emitted.lawful h.emitted.single h.emitted.once h.emitted.given p args m
+      (ap (λ (n : List ℕ). function_of n p.fns) (sym named) ∙ h.found) types (bindings_answered env id m h.set h.stands (recursion_from_All (IsImpureRule env.terms) (rules_of env id) (of_term (IsImpureRule env.terms) env id (typed_impure defs env typed))) lawful)
+      ∙ ap (ran_of the_term) (same_outcome args m types lawful)
 
   gives_outcome : (args : List Value) (m : Meaning) → HaveTypes env args the_term.arg_tys → IsLawful env id m → GivesOutcome env p id the_term args m
   gives_outcome args m types lawful =
       let outcome = outcome_of env m args (rules_of env id) kind [] in
-      let prescribed : Prescribed env m args (rules_of env id) (kind_of the_term.kind) [] outcome =
-      subst (λ k. Prescribed env m args (rules_of env id) k [] outcome) (typed_answers defs env id.0 the_term typed h.emitted.there) (outcome_of_one env m args (rules_of env id) kind [] (typed_one defs env id typed)) in
+      let prescribed : Prescribed env m args (rules_of env id) kind [] outcome = outcome_of_one env m args (rules_of env id) kind [] (typed_one defs env id typed) in
       record {
         outcome = outcome;
         prescribed = prescribed;
         only = λ other k. prescribed_once k prescribed;
-        given = subst (λ (r : Option Ran). IsSomeAnd r (GivesAs env partial outcome)) (sym (runs args m types lawful)) (gives_as env the_term _ (outcome_impure env m args (rules_of env id) kind [] tt));
+        given = subst (λ (r : Option Ran). IsSomeAnd r (GivesAs env kind outcome)) (sym (runs args m types lawful)) (gives_as env the_term _ h.emitted.once (outcome_impure env m args (rules_of env id) kind [] tt));
       }
 
   -- the function of the term means its rules

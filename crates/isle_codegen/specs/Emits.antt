@@ -7,6 +7,7 @@ use Rattle.isle_core.specs.declared.rule_sets.RuleSet.{RuleSet}
 use Rattle.isle_core.specs.declared.types.Term.{Term}
 use Rattle.isle_core.specs.Value.{Value}
 use Rattle.isle_core.specs.Meaning.{Meaning}
+use Rattle.isle_core.specs.Calling.{kind_of, AnswersOnce}
 use Rattle.isle_core.specs.Path.{paths_of}
 use Rattle.isle_core.specs.RuleSet.{set_outcome}
 use Rattle.isle_core.specs.Block.{Block}
@@ -36,7 +37,8 @@ pub record CanEmit (files : Files) (env : Environment) (s : TermId × RuleSet) :
 abbrev pub MeansSet : Environment → RuleSet → Block → Type 0
 MeansSet env s b = (m : Meaning) (args : List Value) (kind : ReturnKind) → block_outcome env m args (paths_of s.bindings) b kind ≡ set_outcome env m args (paths_of s.bindings) s.rules kind
 
--- the function of the term, from a block that is lawful for its rule set, has one arm in each Match and means the set
+-- the function of the term, which answers at most once, from a block that is lawful for its rule set, has one arm in each
+-- Match and means the set
 pub record IsEmitted (files : Files) (env : Environment) (id : TermId) (s : RuleSet) (f : Function) : Type 0 where
   pub term : Term
   pub there : slice_get env.terms id.0 ≡ Some term
@@ -44,7 +46,8 @@ pub record IsEmitted (files : Files) (env : Environment) (id : TermId) (s : Rule
   pub lawful : IsLawfulBlock (setting env term s.bindings) block
   pub single : HasSingleArms block
   pub means : MeansSet env s block
-  pub given : f ≡ term_function files env term s.bindings block
+  pub once : AnswersOnce (kind_of term.kind)
+  pub given : term_function files env term s.bindings block ≡ Some f
 
 -- so of each term with its rule set, in order
 abbrev pub AreEmitted : Files → Environment → List (TermId × RuleSet) → List Function → Type 0

@@ -1,6 +1,7 @@
 -- What an emitted text is to the definitions that it was made from.
-use Rattle.std.specs.Prelude.{◌≡◌, ℕ, List, [], map, filter, Bool, Contains, slice_get, IsSomeAnd}
+use Rattle.std.specs.Prelude.{◌≡◌, ℕ, List, [], map, filter, Some, Contains, slice_get, IsSomeAnd}
 use Rattle.isle_base.specs.declared.ids.TermId.{TermId}
+use Rattle.isle_core.specs.declared.types.ReturnKind.{ReturnKind}
 use Rattle.isle_core.specs.declared.types.Term.{Term}
 use Rattle.isle_core.specs.declared.options.CodegenOptions.{CodegenOptions}
 use Rattle.isle_core.specs.declared.files.Files.{Files}
@@ -18,7 +19,6 @@ use Rattle.isle_target.specs.Reading.{SpellsOnly}
 use Rattle.isle_tree.specs.Run.{run}
 use Rattle.isle_codegen.specs.Emission.{IsFrame}
 use Rattle.isle_emission.specs.Ends.{end_of}
-use Rattle.isle_emission.specs.Partial.{is_partial}
 use Rattle.isle_emission.specs.OfTerm.{AreDeclared}
 use Rattle.isle_codegen.specs.FromBlock.{AreFromBlocks}
 use Rattle.isle_codegen.specs.Meant.{IsMeant}
@@ -28,8 +28,8 @@ abbrev pub impure_calls : Environment → List Made → List Made
 impure_calls env calls = filter (λ (c : Made). is_impure env c.callee) calls
 
 -- a run gives what is prescribed: its end, and the calls of impure terms in order
-pub record GivesAs (env : Environment) (partial : Bool) (o : Prescription) (r : Ran) : Type 0 where
-  pub end : r.end ≡ end_of partial o.result
+pub record GivesAs (env : Environment) (kind : ReturnKind) (o : Prescription) (r : Ran) : Type 0 where
+  pub end : end_of kind o.result ≡ Some r.end
   pub calls : impure_calls env r.calls ≡ o.calls
 
 -- the run of the term's function gives the one outcome that its rules prescribe
@@ -37,7 +37,7 @@ pub record GivesOutcome (env : Environment) (p : Program) (id : TermId) (t : Ter
   pub outcome : Prescription
   pub prescribed : Prescribed env m args (rules_of env id) (kind_of t.kind) [] outcome
   pub only : (other : Prescription) → Prescribed env m args (rules_of env id) (kind_of t.kind) [] other → other ≡ outcome
-  pub given : IsSomeAnd (run p (term_name env id) args m) (GivesAs env (is_partial t.kind) outcome)
+  pub given : IsSomeAnd (run p (term_name env id) args m) (GivesAs env (kind_of t.kind) outcome)
 
 -- it does so on all well-typed arguments and under every lawful meaning
 abbrev pub MeansRules : Environment → Program → TermId → Type 0

@@ -13,7 +13,7 @@ ghost use Rattle.isle_emission.specs.LineStarts.{starts_of};
 
 use isle_blocks::serialize;
 use isle_core::{CodegenOptions, Files, List, OutOfMemory, RuleSet, TermEnv, TermId, TypeEnv};
-use isle_emission::{Context, LineStarts, is_partial, term_function, trait_fns};
+use isle_emission::{Context, LineStarts, kind_of, term_function, trait_fns};
 use isle_tree::{Function, Program, TraitFn};
 use std::alloc::Global;
 
@@ -37,9 +37,12 @@ fn emit_one(
         typeenv,
         termenv,
         bindings: rules.bindings.as_slice(),
-        partial: is_partial(&declared.kind),
+        kind: kind_of(&declared.kind),
     };
-    term_function(alloc, files, starts, &context, declared, &block)
+    match term_function(alloc, files, starts, &context, declared, &block)? {
+        Some(function) => Ok(function),
+        None => unreachable!(),
+    }
 }
 
 /// The functions of terms with their rule sets, in order.

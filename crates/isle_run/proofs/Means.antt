@@ -1,16 +1,16 @@
 -- The lines of a run are those of the outcome that the rules prescribe.
 use Rattle.std.proofs.Common.{◌≡◌, ℕ, List, Option, Some, None, sym, ap, subst, ◌∙◌}
-use Rattle.std.specs.Prelude.{Contains, IsSomeAnd, slice_get}
+use Rattle.std.specs.Prelude.{Contains, IsSomeAnd, option_map, slice_get}
 use Rattle.isle_core.specs.declared.TermId.{TermId}
 use Rattle.isle_core.specs.declared.files.Files.{Files}
 use Rattle.isle_core.specs.declared.options.CodegenOptions.{CodegenOptions}
 use Rattle.isle_core.specs.declared.types.Term.{Term}
-use Rattle.isle_core.specs.Value.{Value, Ran, End, Made}
+use Rattle.isle_core.specs.Value.{Value, Ran, End}
 use Rattle.isle_core.specs.Meaning.{Meaning}
 use Rattle.isle_core.specs.Having.{HasAnswers}
 use Rattle.isle_core.specs.HasType.{HaveTypes}
 use Rattle.isle_core.specs.Lawful.{IsLawful}
-use Rattle.isle_emission.specs.Partial.{is_partial}
+use Rattle.isle_core.specs.Calling.{kind_of}
 use Rattle.isle_core.specs.Rule.{Environment}
 use Rattle.isle_core.specs.Terms.{term_name, with_rules}
 use Rattle.isle_tree.specs.Program.{Program, Function}
@@ -18,10 +18,10 @@ use Rattle.isle_tree.specs.Run.{run, function_run}
 use Rattle.isle_outcomes.specs.Lines.{run_lines}
 use Rattle.isle_interpreter.specs.Refusals.{MayRun}
 use Rattle.isle_interpreter.proofs.Agree.{same_run}
-use Rattle.isle_emission.specs.Ends.{end_of}
-use Rattle.isle_codegen.specs.Headline.{GivesOutcome, GivesAs, impure_calls}
+use Rattle.isle_emission.specs.Emitted.{ran_with}
+use Rattle.isle_codegen.specs.Headline.{GivesOutcome, GivesAs}
 use Rattle.isle_run.specs.Conforming.{Conforms}
-use Rattle.isle_run.specs.Trial.{AreOutcome, shown_run, shown_outcome}
+use Rattle.isle_run.specs.Trial.{AreOutcome, shown_run}
 
 -- what holds of the thing that is there
 some_and : {A : Type 0} (P : A → Type 0) (o : Option A) (x : A) → o ≡ Some x → IsSomeAnd o P → P x
@@ -31,13 +31,14 @@ some_and P (Some y) x e h = let same : y ≡ x = cc in subst P same h
 -- a run that gives what is prescribed shows it
 same_lines : (env : Environment) (id : TermId) (t : Term) (args : List Value) (m : Meaning) (p : Program) (r : Ran) → run p (term_name env id) args m ≡ Some r → GivesOutcome env p id t args m → AreOutcome env id t args m (run_lines (shown_run env r))
 same_lines env id t args m p r e h =
-    let given = some_and (GivesAs env (is_partial t.kind) h.outcome) (run p (term_name env id) args m) r e h.given in
-    let same : shown_run env r ≡ shown_outcome (is_partial t.kind) h.outcome =
-    ap (λ (e : End). of_parts e (impure_calls env r.calls)) given.end ∙ ap (of_parts (end_of (is_partial t.kind) h.outcome.result)) given.calls in
-    record { outcome = h.outcome; prescribed = h.prescribed; only = h.only; shown = ap run_lines same }
-  where
-    of_parts : End → List Made → Ran
-    of_parts e calls = record { end = e; calls = calls }
+    let given = some_and (GivesAs env (kind_of t.kind) h.outcome) (run p (term_name env id) args m) r e h.given in
+    let calls : ran_with h.outcome.calls r.end ≡ shown_run env r = ap (λ cs. ran_with cs r.end) (sym given.calls) in
+    record {
+      outcome = h.outcome;
+      prescribed = h.prescribed;
+      only = h.only;
+      shown = subst (λ (o : Option End). IsSomeAnd (option_map (ran_with h.outcome.calls) o) (λ (x : Ran). run_lines (shown_run env r) ≡ run_lines x)) (sym given.end) (ap run_lines (sym calls));
+    }
 
 -- so it is under every lawful meaning that has the answers
 pub means : (options : CodegenOptions) (files : Files) (env : Environment) (p : Program) (term : List ℕ) (args : List Value) (answers : Meaning) (f : Function) (r : Ran) (id : TermId) (t : Term)

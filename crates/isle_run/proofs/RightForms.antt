@@ -29,10 +29,8 @@ use Rattle.isle_tree.specs.WellFormed.{trait_fn, fn_names}
 use Rattle.isle_interpreter.specs.Forms.{Form, Constant, Cases, Turns, answers_for, IsUnanswered, FormFits, IsRight, AreRight}
 use Rattle.isle_interpreter.specs.Signatures.{Signature, type_names, trait_signature, term_signature, signature_of, AnswerFits}
 use Rattle.isle_emission.specs.OfTerm.{IsDeclared}
-use Rattle.isle_emission.specs.Partial.{is_partial}
-use Rattle.isle_emission.specs.TermFunction.{parameter, type_text, kind_of as function_kind}
-use Rattle.isle_emission.specs.TraitFns.{fn_for, func_of, trait_fns_of}
-use Rattle.isle_codegen.proofs.MeanRules.{typed_answers}
+use Rattle.isle_emission.specs.TermFunction.{parameter, type_text}
+use Rattle.isle_emission.specs.TraitFns.{constructor_fn, func_of, trait_fns_of}
 use Rattle.isle_run.specs.Conforming.{Conforms}
 use Rattle.isle_run.specs.Valid.{IsServed, external, internal, HasNoTurns, AreRightTurns, AllRight}
 use Rattle.isle_run.proofs.AskedTerms.{asked_function}
@@ -75,9 +73,9 @@ module _ (options : CodegenOptions) (files : Files) (defs : List Def) (env : Env
   -- the signature of what is served
   served_signature : (c : Callee) (t : Term) → IsServed env c t → (s : Signature) × (signature_of p c ≡ Some s) × IsSignatureOf env t s
   served_signature _ _ (external i t func at e) = (
-    trait_signature (fn_for env t func),
+    trait_signature (constructor_fn env t func),
     ap (option_map trait_signature) (ap (λ (fs : List TraitFn). trait_fn fs (sym_text env func)) conforms.frame.trait_fns ∙ served_fn env env.terms i t func distinct_names at e),
-    record { results = refl; kind = typed_answers defs env i t typed at },
+    record { results = refl; kind = refl },
   )
   served_signature _ _ (internal name id t asked at) =
       let h = asked_function files env name (with_rules env) p.fns id conforms.functions.declared conforms.functions.blocks asked in
@@ -86,7 +84,7 @@ module _ (options : CodegenOptions) (files : Files) (defs : List Def) (env : Env
         ap (option_map term_signature) h.found,
         record {
           results = ap (λ r. r ∷ []) (h.declared.of_term.result ∙ ap (λ (x : Term). type_text env x.ret_ty) same);
-          kind = h.declared.of_term.kind ∙ ap (λ (x : Term). function_kind (is_partial x.kind)) same ∙ typed_answers defs env id.0 t typed at;
+          kind = h.declared.of_term.kind ∙ ap (λ (x : Term). kind_of x.kind) same;
         },
       )
     where

@@ -11,23 +11,29 @@ use Rattle.isle_core.specs.Terms.{sym_text}
 use Rattle.isle_core.proofs.Contained.{head_contained, tail_contained, contained_cases, none_contained}
 use Rattle.isle_tree.specs.declared.tree.TraitFn.{TraitFn}
 use Rattle.isle_tree.specs.WellFormed.{trait_fn, fn_names}
-use Rattle.isle_emission.specs.TraitFns.{fn_for, func_of, trait_fn_of, trait_fns_in}
+use Rattle.isle_emission.specs.TraitFns.{constructor_fn, constructor_fn_of, extractor_fn_of, func_of, trait_fns_in}
 
 -- the names of those of terms
 abbrev names_in : Environment → List Term → List (List ℕ)
 names_in env ts = fn_names (trait_fns_in env ts)
 
-among_more : (env : Environment) (o : Option Sym) (t : Term) (ts : List Term) (name : List ℕ) → Contains (names_in env ts) name → Contains (fn_names (cons_option (option_map (fn_for env t) o) (trait_fns_in env ts))) name
-among_more env None t ts name c = c
-among_more env (Some func) t ts name c = tail_contained (sym_text env func) (names_in env ts) name c
+-- a function more, or none
+behind_option : (o : Option TraitFn) (fs : List TraitFn) (name : List ℕ) → Contains (fn_names fs) name → Contains (fn_names (cons_option o fs)) name
+behind_option None fs name c = c
+behind_option (Some f) fs name c = tail_contained f.name (fn_names fs) name c
 
-among_here : (env : Environment) (o : Option Sym) (t : Term) (ts : List Term) (func : Sym) → o ≡ Some func → Contains (fn_names (cons_option (option_map (fn_for env t) o) (trait_fns_in env ts))) (sym_text env func)
-among_here env o t ts func e = rw e (head_contained (sym_text env func) (names_in env ts))
+at_option : (o : Option TraitFn) (fs : List TraitFn) (f : TraitFn) → o ≡ Some f → Contains (fn_names (cons_option o fs)) f.name
+at_option o fs f e = rw e (head_contained f.name (fn_names fs))
 
 among : (env : Environment) (ts : List Term) (i : ℕ) (t : Term) (func : Sym) → slice_get ts i ≡ Some t → func_of t.kind ≡ Some func → Contains (names_in env ts) (sym_text env func)
 among env [] i t func at e = cc
-among env (u ∷ ts) zero t func at e = let same : u ≡ t = cc in among_here env (func_of u.kind) u ts func (ap (λ (x : Term). func_of x.kind) same ∙ e)
-among env (u ∷ ts) (suc i) t func at e = among_more env (func_of u.kind) u ts (sym_text env func) (among env ts i t func at e)
+among env (u ∷ ts) zero t func at e =
+    let same : u ≡ t = cc in
+    behind_option (extractor_fn_of env u) (cons_option (constructor_fn_of env u) (trait_fns_in env ts)) (sym_text env func)
+    (at_option (constructor_fn_of env u) (trait_fns_in env ts) (constructor_fn env t func) (ap (constructor_fn_of env) same ∙ ap (option_map (constructor_fn env t)) e))
+among env (u ∷ ts) (suc i) t func at e =
+    behind_option (extractor_fn_of env u) (cons_option (constructor_fn_of env u) (trait_fns_in env ts)) (sym_text env func)
+    (behind_option (constructor_fn_of env u) (trait_fns_in env ts) (sym_text env func) (among env ts i t func at e))
 
 of_each : (P : List ℕ → Type 0) (xs : List (List ℕ)) (y : List ℕ) → AllByRecursion P xs → Contains xs y → P y
 of_each P [] y h c = absurd (none_contained y c)
@@ -43,21 +49,28 @@ apart a b e = by (bytes_eq b a) refl
         let t : bytes_eq a b ≡ true = (bytes_eq-Decides a b).1 same in
         absurd cc
 
+-- a function behind one more, or none, where names are distinct
+found_behind : (o : Option TraitFn) (fs : List TraitFn) (f : TraitFn) → IsDistinct bytes_eq (fn_names (cons_option o fs)) → Contains (fn_names fs) f.name → (IsDistinct bytes_eq (fn_names fs) → trait_fn fs f.name ≡ Some f)
+    → trait_fn (cons_option o fs) f.name ≡ Some f
+unfolding IsDistinct
+found_behind None fs f d c go = go d
+found_behind (Some g) fs f d c go = rw (apart g.name f.name (of_each (λ y. bytes_eq g.name y ≡ false) (fn_names fs) f.name d.0 c)) (go d.1)
+
+found_here : (o : Option TraitFn) (fs : List TraitFn) (f : TraitFn) → o ≡ Some f → trait_fn (cons_option o fs) f.name ≡ Some f
+found_here o fs f e = rw (e, (bytes_eq-Decides f.name f.name).1 refl) refl
+
 -- the function of the first term with this external constructor, where names are distinct
 pub served_fn : (env : Environment) (ts : List Term) (i : ℕ) (t : Term) (func : Sym) → IsDistinct bytes_eq (names_in env ts) → slice_get ts i ≡ Some t → func_of t.kind ≡ Some func
-    → trait_fn (trait_fns_in env ts) (sym_text env func) ≡ Some (fn_for env t func)
-unfolding IsDistinct
+    → trait_fn (trait_fns_in env ts) (sym_text env func) ≡ Some (constructor_fn env t func)
 served_fn env [] i t func d at e = cc
-served_fn env (u ∷ ts) zero t func d at e = let same : u ≡ t = cc in by (func_of u.kind) (ap (λ (x : Term). func_of x.kind) same ∙ e) same
-  where
-    by : (o : Option Sym) → o ≡ Some func → u ≡ t → trait_fn (cons_option (option_map (fn_for env u) o) (trait_fns_in env ts)) (sym_text env func) ≡ Some (fn_for env t func)
-    by o is same = rw (is, (bytes_eq-Decides (sym_text env func) (sym_text env func)).1 refl) (ap (λ (x : Term). Some (fn_for env x func)) same)
-served_fn env (u ∷ ts) (suc i) t func d at e = by (func_of u.kind) d (λ k. served_fn env ts i t func k at e)
-  where
-    by : (o : Option Sym) → IsDistinct bytes_eq (fn_names (cons_option (option_map (fn_for env u) o) (trait_fns_in env ts)))
-        → (IsDistinct bytes_eq (names_in env ts) → trait_fn (trait_fns_in env ts) (sym_text env func) ≡ Some (fn_for env t func))
-        → trait_fn (cons_option (option_map (fn_for env u) o) (trait_fns_in env ts)) (sym_text env func) ≡ Some (fn_for env t func)
-    by None d go = go d
-    by (Some other) d go =
-        rw (apart (sym_text env other) (sym_text env func) (of_each (λ y. bytes_eq (sym_text env other) y ≡ false) (names_in env ts) (sym_text env func) d.0 (among env ts i t func at e)))
-        (go d.1)
+served_fn env (u ∷ ts) zero t func d at e =
+    let same : u ≡ t = cc in
+    let is : constructor_fn_of env u ≡ Some (constructor_fn env t func) = ap (constructor_fn_of env) same ∙ ap (option_map (constructor_fn env t)) e in
+    let more = cons_option (constructor_fn_of env u) (trait_fns_in env ts) in
+    found_behind (extractor_fn_of env u) more (constructor_fn env t func) d (at_option (constructor_fn_of env u) (trait_fns_in env ts) (constructor_fn env t func) is)
+    (λ k. found_here (constructor_fn_of env u) (trait_fns_in env ts) (constructor_fn env t func) is)
+served_fn env (u ∷ ts) (suc i) t func d at e =
+    let f = constructor_fn env t func in
+    let c = among env ts i t func at e in
+    found_behind (extractor_fn_of env u) (cons_option (constructor_fn_of env u) (trait_fns_in env ts)) f d (behind_option (constructor_fn_of env u) (trait_fns_in env ts) f.name c)
+    (λ k. found_behind (constructor_fn_of env u) (trait_fns_in env ts) f k c (λ l. served_fn env ts i t func l at e))

@@ -1,8 +1,9 @@
 -- The lines that a run of a compiled term gives.
-use Rattle.std.specs.Prelude.{◌≡◌, ℕ, List, [], Bool, true, Some, slice_get}
+use Rattle.std.specs.Prelude.{◌≡◌, ℕ, List, [], true, Option, Some, IsSomeAnd, option_map, slice_get}
 use Rattle.isle_core.specs.declared.TermId.{TermId}
 use Rattle.isle_core.specs.declared.options.CodegenOptions.{CodegenOptions}
 use Rattle.isle_core.specs.declared.files.Files.{Files}
+use Rattle.isle_core.specs.declared.types.ReturnKind.{ReturnKind}
 use Rattle.isle_core.specs.declared.types.Term.{Term}
 use Rattle.isle_core.specs.Value.{Value, Ran}
 use Rattle.isle_core.specs.Meaning.{Meaning}
@@ -22,7 +23,7 @@ use Rattle.isle_tree.specs.Run.{run}
 use Rattle.isle_interpreter.specs.Judged.{Runs}
 use Rattle.isle_outcomes.specs.Lines.{run_lines}
 use Rattle.isle_emission.specs.Ends.{end_of}
-use Rattle.isle_emission.specs.Partial.{is_partial}
+use Rattle.isle_emission.specs.Emitted.{ran_with}
 use Rattle.isle_codegen.specs.Checked.{IsChecked}
 use Rattle.isle_codegen.specs.Headline.{impure_calls}
 use Rattle.isle_run.specs.Conforming.{Conforms}
@@ -36,15 +37,15 @@ abbrev pub shown_run : Environment → Ran → Ran
 shown_run env r = record { end = r.end; calls = impure_calls env r.calls }
 
 -- an outcome as it is shown
-abbrev pub shown_outcome : Bool → Prescription → Ran
-shown_outcome partial o = record { end = end_of partial o.result; calls = o.calls }
+abbrev pub shown_outcome : ReturnKind → Prescription → Option Ran
+shown_outcome kind o = option_map (ran_with o.calls) (end_of kind o.result)
 
 -- the lines are those of the one outcome that the term's rules prescribe
 pub record AreOutcome (env : Environment) (id : TermId) (t : Term) (args : List Value) (m : Meaning) (lines : List ℕ) : Type 0 where
   pub outcome : Prescription
   pub prescribed : Prescribed env m args (rules_of env id) (kind_of t.kind) [] outcome
   pub only : (other : Prescription) → Prescribed env m args (rules_of env id) (kind_of t.kind) [] other → other ≡ outcome
-  pub shown : lines ≡ run_lines (shown_outcome (is_partial t.kind) outcome)
+  pub shown : IsSomeAnd (shown_outcome (kind_of t.kind) outcome) (λ r. lines ≡ run_lines r)
 
 -- the lines of a run of the term at these arguments, under answers: under every lawful meaning that has the answers they
 -- are those of the rules' outcome; and in any case the term, the arguments and the answers fit the function of a program
