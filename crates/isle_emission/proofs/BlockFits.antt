@@ -43,18 +43,18 @@ bound_fits env t bs bound b p (Some (binding.ConstBool val ty)) is = tt
 bound_fits env t bs bound b p (Some (binding.ConstInt val ty)) is = tt
 bound_fits env t bs bound b p o is = absurd is
 
-lets_fit : (env : Environment) (t : Term) (bs : List Binding) (bound : List ℕ) (binds : List BindingId) (more : Body) → AreBindable (setting env t bs) bound binds → FitsBody (kind_of t.kind) more → FitsBody (kind_of t.kind) (lets env bs bound binds more)
+lets_fit : (env : Environment) (t : Term) (bs : List Binding) (bound : List ℕ) (binds : List BindingId) (more : Body) → AreBindable (setting env t bs) bound binds → FitsBody (kind_of t.kind) false more → FitsBody (kind_of t.kind) false (lets env bs bound binds more)
 lets_fit env t bs bound [] more k h = h
 lets_fit env t bs bound (b ∷ binds) more k h = (bound_fits env t bs bound b (at (paths_of bs) b) (slice_get bs b.0) k.0, lets_fit env t bs (bound ++ b.0 ∷ []) binds more k.1 h)
 
 mutual
-  block_fits : (b : Block) (env : Environment) (t : Term) (bs : List Binding) (bound made : List ℕ) → IsLawfulFrom (setting env t bs) bound made b → HasSingleArms b → FitsBody (kind_of t.kind) (block_body env bs (kind_of t.kind) bound b Done)
+  block_fits : (b : Block) (env : Environment) (t : Term) (bs : List Binding) (bound made : List ℕ) → IsLawfulFrom (setting env t bs) bound made b → HasSingleArms b → FitsBody (kind_of t.kind) false (block_body env bs (kind_of t.kind) bound b Done)
   block_fits Stop env t bs bound made k o = tt
   block_fits (Step binds c more) env t bs bound made k o =
       lets_fit env t bs bound binds (Then (control_stmt env bs (kind_of t.kind) (bound_by bound binds) c) (block_body env bs (kind_of t.kind) (bound_by bound binds) more Done)) k.0
       (control_fits c more env t bs (bound_by bound binds) _ k.2 o.0, block_fits more env t bs (bound_by bound binds) _ k.3 o.1)
 
-  control_fits : (c : Control) (more : Block) (env : Environment) (t : Term) (bs : List Binding) (bound made : List ℕ) → IsLawfulControl (setting env t bs) bound made c more → IsSingle c → FitsStmt (kind_of t.kind) (control_stmt env bs (kind_of t.kind) bound c)
+  control_fits : (c : Control) (more : Block) (env : Environment) (t : Term) (bs : List Binding) (bound made : List ℕ) → IsLawfulControl (setting env t bs) bound made c more → IsSingle c → FitsStmt (kind_of t.kind) false (control_stmt env bs (kind_of t.kind) bound c)
   control_fits (block.Match source (block.Arm c places body block.NoArm)) more env t bs bound made k o = block_fits body env t bs bound made (arm_body (setting env t bs) bound made source c places body block.NoArm k.1.0 k.1.2) o
   control_fits (block.Match source (block.Arm c places body (block.Arm d others inside arms))) more env t bs bound made k o = absurd o
   control_fits (block.Match source block.NoArm) more env t bs bound made k o = absurd o
@@ -65,7 +65,7 @@ mutual
 -- ---- a whole function
 
 -- a statement more before the last
-fits_more : (kind : ReturnKind) (s : Stmt) (ss : Body) → FitsStmt kind s → FitsFunction kind ss → FitsFunction kind (Then s ss)
+fits_more : (kind : ReturnKind) (s : Stmt) (ss : Body) → FitsStmt kind false s → FitsFunction kind ss → FitsFunction kind (Then s ss)
 fits_more kind s Done h k = absurd k
 fits_more kind s (Then u ss) h k = (h, k)
 

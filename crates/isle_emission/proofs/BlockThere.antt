@@ -32,6 +32,7 @@ use Rattle.isle_core.specs.SingleArms.{HasSingleArms, IsSingle}
 use Rattle.isle_core.specs.Setting.{setting}
 use Rattle.isle_tree.specs.declared.holds.Holds.{Holds}
 use Rattle.isle_tree.specs.declared.holds.Holds.TheVariants as holds
+use Rattle.isle_tree.specs.declared.holds.Item.TheVariants as item
 use Rattle.isle_tree.specs.declared.tree.Operand.{Operand}
 use Rattle.isle_tree.specs.Program.{Body, Done, Then}
 use Rattle.isle_tree.specs.WellFormed.{Locals, newer, local_holds, operand_holds, is_value, are_values, kind_holds, call_holds, callee_holds, inner_holds, expr_holds, GivesKind, behind_let, IsBodyThere}
@@ -45,7 +46,7 @@ use Rattle.isle_emission.proofs.ExternalTerms.{external_term, term_fn_found}
 
 -- ---- operands
 
-constant_holds : (v : Value) (params : ℕ) (locals : Locals) → operand_holds params locals (written_constant v) ≡ Some holds.One
+constant_holds : (v : Value) (params : ℕ) (locals : Locals) → operand_holds params locals (written_constant v) ≡ Some (holds.One item.Value)
 constant_holds (Truth b) params locals = refl
 constant_holds (Int ty n) params locals = refl
 constant_holds (Opaque ty n) params locals = refl
@@ -53,22 +54,22 @@ constant_holds (Variant ty name fields) params locals = refl
 constant_holds (Struct ty fields) params locals = refl
 
 -- a path of a type that is read in place holds a value
-in_place_holds : (env : Environment) (t : Term) (p : Path) (ty : TypeId) (locals : Locals) → IsPathOf env t p ty → IsInPlace p → operand_holds (length t.arg_tys) locals (written_place env p) ≡ Some holds.One
-in_place_holds env t (Arg i) ty locals h k = ap (λ b. cond b (Some holds.One) None) (lt-ltb i (length t.arg_tys) (slice_get_within t.arg_tys i ty h))
+in_place_holds : (env : Environment) (t : Term) (p : Path) (ty : TypeId) (locals : Locals) → IsPathOf env t p ty → IsInPlace p → operand_holds (length t.arg_tys) locals (written_place env p) ≡ Some (holds.One item.Value)
+in_place_holds env t (Arg i) ty locals h k = ap (λ b. cond b (Some (holds.One item.Value)) None) (lt-ltb i (length t.arg_tys) (slice_get_within t.arg_tys i ty h))
 in_place_holds env t (ConstBool of b) ty locals h k = refl
 in_place_holds env t (ConstInt of n) ty locals h k = constant_holds (int_value env of n) (length t.arg_tys) locals
 in_place_holds env t p ty locals h k = absurd k
 
 -- a constraint is tested for a value
-tested_holds : (env : Environment) (c : Constraint) (ty : TypeId) (params : ℕ) (locals : Locals) → IsConstraintOf env c ty → operand_holds params locals (written_test env c) ≡ Some holds.One
+tested_holds : (env : Environment) (c : Constraint) (ty : TypeId) (params : ℕ) (locals : Locals) → IsConstraintOf env c ty → operand_holds params locals (written_test env c) ≡ Some (holds.One item.Value)
 tested_holds env (constraint.ConstBool val) ty params locals h = refl
 tested_holds env (constraint.ConstInt val of) ty params locals h = constant_holds (int_value env of val) params locals
 tested_holds env c ty params locals h = absurd h
 
 -- a value where a path is of a type, an option where it is an option's
 record HoldsAs (env : Environment) (t : Term) (p : Path) (o : Option Holds) : Type 0 where
-  value : (ty : TypeId) → IsPathOf env t p ty → o ≡ Some holds.One
-  option : (ty : TypeId) → IsOptionOf env t p ty → o ≡ Some holds.Optional
+  value : (ty : TypeId) → IsPathOf env t p ty → o ≡ Some (holds.One item.Value)
+  option : (ty : TypeId) → IsOptionOf env t p ty → o ≡ Some (holds.Optional item.Value)
 
 -- each that is bound holds what its path is
 record LocalsHold (env : Environment) (t : Term) (bs : List Binding) (bound : List ℕ) (locals : Locals) : Type 0 where
@@ -97,14 +98,14 @@ more_hold env t bs bound locals b h l here = record {
 not_bound : (bound : List ℕ) (b : BindingId) → Contains bound b.0 → is_bound bound b ≡ false → ⊥
 not_bound bound b c e = let t = found bound b.0 c in cc
 
-operand_one : (env : Environment) (t : Term) (bs : List Binding) (bound : List ℕ) (locals : Locals) (b : BindingId) (ty : TypeId) → LocalsHold env t bs bound locals → IsReadAs (setting env t bs) bound b ty → operand_holds (length t.arg_tys) locals (written_operand env bs bound b) ≡ Some holds.One
+operand_one : (env : Environment) (t : Term) (bs : List Binding) (bound : List ℕ) (locals : Locals) (b : BindingId) (ty : TypeId) → LocalsHold env t bs bound locals → IsReadAs (setting env t bs) bound b ty → operand_holds (length t.arg_tys) locals (written_operand env bs bound b) ≡ Some (holds.One item.Value)
 operand_one env t bs bound locals b ty l h = one (is_bound bound b) refl
   where
-    one : (x : Bool) → is_bound bound b ≡ x → operand_holds (length t.arg_tys) locals (written_operand env bs bound b) ≡ Some holds.One
+    one : (x : Bool) → is_bound bound b ≡ x → operand_holds (length t.arg_tys) locals (written_operand env bs bound b) ≡ Some (holds.One item.Value)
     one true is = rw is ((l.by b is).value ty h.path)
     one false is = rw is (⊎_elim (λ k. in_place_holds env t (at (paths_of bs) b) ty locals h.path k) (λ c. absurd (not_bound bound b c is)) h.read)
 
-is_one : (o : Option Holds) → o ≡ Some holds.One → IsTrue (is_value o)
+is_one : (o : Option Holds) → o ≡ Some (holds.One item.Value) → IsTrue (is_value o)
 is_one o e = subst (λ x. IsTrue (is_value x)) (sym e) refl
 
 reads_hold : (env : Environment) (t : Term) (bs : List Binding) (bound : List ℕ) (locals : Locals) (parameters : List BindingId) (tys : List TypeId) → LocalsHold env t bs bound locals → AreReadAs (setting env t bs) bound parameters tys
@@ -125,20 +126,20 @@ record LetHolds (env : Environment) (t : Term) (bs : List Binding) (bound : List
   is : expr_holds (trait_fns_of env) (length t.arg_tys) locals (bound_expr env bs bound b o) ≡ Some h
   kept : HoldsAs env t p (Some h)
 
-plain_holds : (env : Environment) (t : Term) (p : Path) → IsPlain env t p → HoldsAs env t p (Some holds.One)
+plain_holds : (env : Environment) (t : Term) (p : Path) → IsPlain env t p → HoldsAs env t p (Some (holds.One item.Value))
 plain_holds env t (Arg i) k = record { value = λ ty h. refl; option = λ ty h. absurd h }
 plain_holds env t (ConstBool of b) k = record { value = λ ty h. refl; option = λ ty h. absurd h }
 plain_holds env t (ConstInt of n) k = record { value = λ ty h. refl; option = λ ty h. absurd h }
 plain_holds env t p k = absurd k.0
 
 in_place_let : (env : Environment) (t : Term) (bs : List Binding) (bound : List ℕ) (locals : Locals) (b : BindingId) (p : Path) → at (paths_of bs) b ≡ p → IsPlain env t p
-    → (operand_holds (length t.arg_tys) locals (written_place env (at (paths_of bs) b)) ≡ Some holds.One) × HoldsAs env t p (Some holds.One)
+    → (operand_holds (length t.arg_tys) locals (written_place env (at (paths_of bs) b)) ≡ Some (holds.One item.Value)) × HoldsAs env t p (Some (holds.One item.Value))
 in_place_let env t bs bound locals b p e k = (ap (λ q. operand_holds (length t.arg_tys) locals (written_place env q)) e ∙ in_place_holds env t p k.1.0 locals k.1.1 k.0, plain_holds env t p k)
 
 -- what an answer holds
 abbrev answer_holds : (of : ReturnKind) → AnswersOnce of → (h : Holds) × (kind_holds of ≡ Some h)
-answer_holds return_kind.Plain once = (holds.One, refl)
-answer_holds return_kind.Option once = (holds.Optional, refl)
+answer_holds return_kind.Plain once = ((holds.One item.Value), refl)
+answer_holds return_kind.Option once = ((holds.Optional item.Value), refl)
 answer_holds return_kind.Iterator once = absurd once
 
 called_once : (of : ReturnKind) (c : Calling) → IsCall of c → AnswersOnce of
@@ -174,13 +175,13 @@ let_holds env t bs bound locals b p (Some (binding.Constructor term parameters k
     }
 let_holds env t bs bound locals b p (Some (binding.MatchSome source)) names e l is =
     record {
-      h = holds.One;
+      h = holds.One item.Value;
       is = rw (found bound source.0 is.bound') (ap inner_holds ((l.by source (found bound source.0 is.bound')).option is.ty is.option));
-      kept = subst (λ q. HoldsAs env t q (Some holds.One)) (sym is.path) (record { value = λ ty h. refl; option = λ ty h. absurd h });
+      kept = subst (λ q. HoldsAs env t q (Some (holds.One item.Value))) (sym is.path) (record { value = λ ty h. refl; option = λ ty h. absurd h });
     }
-let_holds env t bs bound locals b p (Some (binding.Argument index)) names e l is = let k = in_place_let env t bs bound locals b p e is in record { h = holds.One; is = k.0; kept = k.1 }
-let_holds env t bs bound locals b p (Some (binding.ConstBool val ty)) names e l is = let k = in_place_let env t bs bound locals b p e is in record { h = holds.One; is = k.0; kept = k.1 }
-let_holds env t bs bound locals b p (Some (binding.ConstInt val ty)) names e l is = let k = in_place_let env t bs bound locals b p e is in record { h = holds.One; is = k.0; kept = k.1 }
+let_holds env t bs bound locals b p (Some (binding.Argument index)) names e l is = let k = in_place_let env t bs bound locals b p e is in record { h = holds.One item.Value; is = k.0; kept = k.1 }
+let_holds env t bs bound locals b p (Some (binding.ConstBool val ty)) names e l is = let k = in_place_let env t bs bound locals b p e is in record { h = holds.One item.Value; is = k.0; kept = k.1 }
+let_holds env t bs bound locals b p (Some (binding.ConstInt val ty)) names e l is = let k = in_place_let env t bs bound locals b p e is in record { h = holds.One item.Value; is = k.0; kept = k.1 }
 let_holds env t bs bound locals b p o names e l is = absurd is
 
 lets_there : (env : Environment) (t : Term) (bs : List Binding) (bound : List ℕ) (locals : Locals) (binds : List BindingId) (more : Body) → HasFnNames env → LocalsHold env t bs bound locals → AreBindable (setting env t bs) bound binds
@@ -196,7 +197,7 @@ lets_there env t bs bound locals (b ∷ binds) more names l k h =
 
 -- ---- blocks
 
-returned_there : (kind : ReturnKind) → AnswersOnce kind → (o : Operand) (env : Environment) (params : ℕ) (locals : Locals) → operand_holds params locals o ≡ Some holds.One → GivesKind kind (expr_holds (trait_fns_of env) params locals (returned kind o))
+returned_there : (kind : ReturnKind) → AnswersOnce kind → (o : Operand) (env : Environment) (params : ℕ) (locals : Locals) → operand_holds params locals o ≡ Some (holds.One item.Value) → GivesKind kind (expr_holds (trait_fns_of env) params locals (returned kind o))
 returned_there return_kind.Plain once o env params locals e = rw e tt
 returned_there return_kind.Option once o env params locals e = rw e tt
 returned_there return_kind.Iterator once o env params locals e = absurd once

@@ -11,6 +11,7 @@ use Rattle.isle_core.specs.Answered.{Held, One, Optional, answer_held, answer_by
 use Rattle.isle_core.specs.Terms.{goes_to}
 use Rattle.isle_tree.specs.declared.holds.Holds.{Holds}
 use Rattle.isle_tree.specs.declared.holds.Holds.TheVariants as holds
+use Rattle.isle_tree.specs.declared.holds.Item.TheVariants as item
 use Rattle.isle_tree.specs.Program.{Program}
 use Rattle.isle_tree.specs.WellFormed.{kind_holds, AreResults}
 use Rattle.isle_interpreter.specs.Signatures.{Signature, signature_of, AreNamed, AnswerFits}
@@ -18,8 +19,8 @@ use Rattle.isle_interpreter.specs.Forms.{Form, Constant, Cases, Turns, forms, Is
 
 -- a place holds what is said of it
 abbrev pub HoldsIn : Holds → Held → Type 0
-HoldsIn holds.One (One v) = Unit {0}
-HoldsIn holds.Optional (Optional o) = Unit {0}
+HoldsIn (holds.One item.Value) (One v) = Unit {0}
+HoldsIn (holds.Optional item.Value) (Optional o) = Unit {0}
 HoldsIn h g = ⊥
 
 -- ---- callees
@@ -132,14 +133,14 @@ answer_fits p m callee s right some is vs made = by_turns (turns_of m callee) re
 
 -- ---- and hold what their kind says
 
-plain_holds : (names : List (List ℕ)) (vs : List Value) → AreResults names → AreNamed names vs → HoldsIn holds.One (answer_held (Plain vs))
+plain_holds : (names : List (List ℕ)) (vs : List Value) → AreResults names → AreNamed names vs → HoldsIn (holds.One item.Value) (answer_held (Plain vs))
 plain_holds [] vs h k = absurd h
 plain_holds (n ∷ []) [] h k = absurd k
 plain_holds (n ∷ []) (v ∷ []) h k = tt
 plain_holds (n ∷ []) (v ∷ w ∷ vs) h k = absurd k.1
 plain_holds (n ∷ m ∷ ns) vs h k = absurd h
 
-found_holds : (names : List (List ℕ)) (vs : List Value) → AreResults names → AreNamed names vs → HoldsIn holds.Optional (answer_held (Found vs))
+found_holds : (names : List (List ℕ)) (vs : List Value) → AreResults names → AreNamed names vs → HoldsIn (holds.Optional item.Value) (answer_held (Found vs))
 found_holds [] vs h k = absurd h
 found_holds (n ∷ []) [] h k = absurd k
 found_holds (n ∷ []) (v ∷ []) h k = tt
@@ -148,12 +149,12 @@ found_holds (n ∷ m ∷ ns) vs h k = absurd h
 
 pub answer_holds : (s : Signature) (h : Holds) (a : Answer) → AreResults s.results → kind_holds s.kind ≡ Some h → AnswerFits s a → HoldsIn h (answer_held a)
 answer_holds s h (Plain vs) one e fit =
-    let is : h ≡ holds.One = cc in
+    let is : h ≡ holds.One item.Value = cc in
     subst (λ x. HoldsIn x (answer_held (Plain vs))) (sym is) (plain_holds s.results vs one fit.1)
 answer_holds s h (Found vs) one e fit =
-    let is : h ≡ holds.Optional = cc in
+    let is : h ≡ holds.Optional item.Value = cc in
     subst (λ x. HoldsIn x (answer_held (Found vs))) (sym is) (found_holds s.results vs one fit.1)
 answer_holds s h Nothing one e fit =
-    let is : h ≡ holds.Optional = cc in
+    let is : h ≡ holds.Optional item.Value = cc in
     subst (λ x. HoldsIn x (answer_held Nothing)) (sym is) tt
 answer_holds s h (Several vss) one e fit = absurd fit

@@ -14,6 +14,7 @@ use Rattle.isle_core.specs.Answered.{Held, Absent, One, Optional, answer_held, a
 use Rattle.isle_core.specs.Held.{held, value_before}
 use Rattle.isle_tree.specs.declared.holds.Holds.{Holds}
 use Rattle.isle_tree.specs.declared.holds.Holds.TheVariants as holds
+use Rattle.isle_tree.specs.declared.holds.Item.TheVariants as item
 use Rattle.isle_tree.specs.declared.tree.Operand.{Operand}
 use Rattle.isle_tree.specs.declared.tree.Operand.TheVariants as operand
 use Rattle.isle_tree.specs.declared.tree.Read.{Read}
@@ -69,18 +70,18 @@ one_more (b ∷ bound) [] n h g a k = absurd a
 
 -- ---- operands and reads
 
-given : (args : List Value) (n : ℕ) → n < length args → HoldsIn holds.One (held (slice_get args n))
+given : (args : List Value) (n : ℕ) → n < length args → HoldsIn (holds.One item.Value) (held (slice_get args n))
 given [] n l = absurd (omega (arith, l))
 given (v ∷ args) zero l = tt
 given (v ∷ args) (suc n) l = given args n (omega (arith, l))
 
-told_arg : (args : List Value) (n : ℕ) → Told (if nat_lt n (length args) then Some holds.One else None) (held (slice_get args n))
+told_arg : (args : List Value) (n : ℕ) → Told (if nat_lt n (length args) then Some (holds.One item.Value) else None) (held (slice_get args n))
 told_arg args n = by (nat_lt n (length args)) refl
   where
     below : nat_lt n (length args) ≡ true → n < length args
     below e = grind (arith, nat_tests)
 
-    by : (b : Bool) → nat_lt n (length args) ≡ b → Told (if b then Some holds.One else None) (held (slice_get args n))
+    by : (b : Bool) → nat_lt n (length args) ≡ b → Told (if b then Some (holds.One item.Value) else None) (held (slice_get args n))
     by true e = given args n (below e)
     by false e = tt
 
@@ -104,10 +105,12 @@ record HasValue (g : Held) : Type 0 where
 
 told_value : (o : Option Holds) (g : Held) → Told o g → is_value o ≡ true → HasValue g
 told_value None g t e = absurd cc
-told_value (Some holds.One) (One v) t e = record { v = v; is = refl }
-told_value (Some holds.One) (Optional o) t e = absurd t
-told_value (Some holds.One) Absent t e = absurd t
-told_value (Some holds.Optional) g t e = absurd cc
+told_value (Some (holds.One item.Value)) (One v) t e = record { v = v; is = refl }
+told_value (Some (holds.One item.Value)) (Optional o) t e = absurd t
+told_value (Some (holds.One item.Value)) Absent t e = absurd t
+told_value (Some (holds.One (item.Tuple count))) g t e = absurd cc
+told_value (Some (holds.Optional x)) g t e = absurd cc
+told_value (Some (holds.Several x)) g t e = absurd cc
 
 -- the values that are read are there
 record HaveValues (o : Option (List Value)) : Type 0 where
@@ -144,11 +147,17 @@ well_behind bound env (Goes inner made) a h = a
 well_behind bound env (Ends end made) a h = tt
 well_behind bound env Stuck a h = h
 
+absent : (h : Holds) → HoldsIn h Absent → ⊥
+absent (holds.One item.Value) k = k
+absent (holds.One (item.Tuple count)) k = k
+absent (holds.Optional item.Value) k = k
+absent (holds.Optional (item.Tuple count)) k = k
+absent (holds.Several x) k = k
+
 well_bind : (n : ℕ) (h : Holds) (g : Held) (bound : Locals) (env : Env) (made : List Made) → Agree bound env → HoldsIn h g → Well (bound ++ (n, h) ∷ []) (run_bind n g env made)
 well_bind n h (One v) bound env made a k = one_more bound env n h (One v) a k
 well_bind n h (Optional o) bound env made a k = one_more bound env n h (Optional o) a k
-well_bind n holds.One Absent bound env made a k = absurd k
-well_bind n holds.Optional Absent bound env made a k = absurd k
+well_bind n h Absent bound env made a k = absurd (absent h k)
 
 -- what is bound to what a place holds
 well_told : (n : ℕ) (o : Option Holds) (g : Held) (bound : Locals) (env : Env) (made : List Made) → Agree bound env → IsSome o → Told o g → Well (behind_let o n bound) (run_bind n g env made)
@@ -157,11 +166,13 @@ well_told n (Some h) g bound env made a e t = well_bind n h g bound env made a t
 
 well_try : (n : ℕ) (o : Option Holds) (g : Held) (bound : Locals) (env : Env) (made : List Made) → Agree bound env → IsSome (inner_holds o) → Told o g → Well (behind_let (inner_holds o) n bound) (run_try n g env made)
 well_try n None g bound env made a e t = absurd cc
-well_try n (Some holds.One) g bound env made a e t = absurd cc
-well_try n (Some holds.Optional) (Optional (Some v)) bound env made a e t = one_more bound env n holds.One (One v) a tt
-well_try n (Some holds.Optional) (Optional None) bound env made a e t = tt
-well_try n (Some holds.Optional) (One v) bound env made a e t = absurd t
-well_try n (Some holds.Optional) Absent bound env made a e t = absurd t
+well_try n (Some (holds.One x)) g bound env made a e t = absurd cc
+well_try n (Some (holds.Several x)) g bound env made a e t = absurd cc
+well_try n (Some (holds.Optional (item.Tuple count))) g bound env made a e t = absurd t
+well_try n (Some (holds.Optional item.Value)) (Optional (Some v)) bound env made a e t = one_more bound env n (holds.One item.Value) (One v) a tt
+well_try n (Some (holds.Optional item.Value)) (Optional None) bound env made a e t = tt
+well_try n (Some (holds.Optional item.Value)) (One v) bound env made a e t = absurd t
+well_try n (Some (holds.Optional item.Value)) Absent bound env made a e t = absurd t
 
 -- ---- what is called answers with its kind
 
@@ -199,10 +210,10 @@ module _ (fns : List TraitFn) (m : Meaning) (args : List Value) where
   well_let n (expr.Call borrow call) bound env made is some answering a = well_call fns m args n call bound env made is.1.args a answering (expr_holds fns (length args) bound (expr.Call borrow call)) refl some
   well_let n (expr.Some r) bound env made is some answering a = by (is_value (read_holds (length args) bound r)) refl some
     where
-      by : (b : Bool) → is_value (read_holds (length args) bound r) ≡ b → IsSome (if b then Some holds.Optional else None) → Well (behind_let (if b then Some holds.Optional else None) n bound) (on_value (read_value args env r) (λ v. Goes (bind env n (Optional (Some v))) made))
+      by : (b : Bool) → is_value (read_holds (length args) bound r) ≡ b → IsSome (if b then Some (holds.Optional item.Value) else None) → Well (behind_let (if b then Some (holds.Optional item.Value) else None) n bound) (on_value (read_value args env r) (λ v. Goes (bind env n (Optional (Some v))) made))
       by true f g =
           let one = told_value (read_holds (length args) bound r) (read_value args env r) (told_read args bound env r is a) f in
-          subst (λ x. Well (bound ++ (n, holds.Optional) ∷ []) (on_value x (λ v. Goes (bind env n (Optional (Some v))) made))) (sym one.is) (one_more bound env n holds.Optional (Optional (Some one.v)) a tt)
+          subst (λ x. Well (bound ++ (n, (holds.Optional item.Value)) ∷ []) (on_value x (λ v. Goes (bind env n (Optional (Some v))) made))) (sym one.is) (one_more bound env n (holds.Optional item.Value) (Optional (Some one.v)) a tt)
       by false f g = absurd cc
   well_let n (expr.Try source as_ref) bound env made is some answering a = well_try n (operand_holds (length args) bound source) (value_of args env source) bound env made a some (told_operand args bound env source is.1 a)
   well_let n (expr.Variant ty variant fields) bound env made is some answering a = absurd is
@@ -219,15 +230,18 @@ module _ (fns : List TraitFn) (m : Meaning) (args : List Value) where
   ends_held (One v) h made k = record { end = _; made = _; is = refl }
   ends_held (Optional (Some v)) h made k = record { end = _; made = _; is = refl }
   ends_held (Optional None) h made k = record { end = _; made = _; is = refl }
-  ends_held Absent holds.One made k = absurd k
-  ends_held Absent holds.Optional made k = absurd k
+  ends_held Absent h made k = absurd (absent h k)
 
   ends_told : (kind : ReturnKind) (o : Option Holds) (g : Held) (made : List Made) → GivesKind kind o → Told o g → DoesEnd (ends_with g made)
-  ends_told kind.Plain (Some holds.One) g made k t = ends_held g holds.One made t
-  ends_told kind.Plain (Some holds.Optional) g made k t = absurd k
+  ends_told kind.Plain (Some (holds.One item.Value)) g made k t = ends_held g (holds.One item.Value) made t
+  ends_told kind.Plain (Some (holds.One (item.Tuple count))) g made k t = absurd k
+  ends_told kind.Plain (Some (holds.Optional x)) g made k t = absurd k
+  ends_told kind.Plain (Some (holds.Several x)) g made k t = absurd k
   ends_told kind.Plain None g made k t = absurd k
-  ends_told kind.Option (Some holds.One) g made k t = absurd k
-  ends_told kind.Option (Some holds.Optional) g made k t = ends_held g holds.Optional made t
+  ends_told kind.Option (Some (holds.One x)) g made k t = absurd k
+  ends_told kind.Option (Some (holds.Optional (item.Tuple count))) g made k t = absurd k
+  ends_told kind.Option (Some (holds.Several x)) g made k t = absurd k
+  ends_told kind.Option (Some (holds.Optional item.Value)) g made k t = ends_held g (holds.Optional item.Value) made t
   ends_told kind.Option None g made k t = absurd k
   ends_told kind.Iterator o g made k t = absurd k
 
@@ -242,7 +256,7 @@ module _ (fns : List TraitFn) (m : Meaning) (args : List Value) where
   well_return kind (expr.Read r) bound env made is gives fits a = ends_told kind (read_holds (length args) bound r) (read_value args env r) made gives (told_read args bound env r is a)
   well_return kind (expr.Some r) bound env made is gives fits a = by (is_value (read_holds (length args) bound r)) refl gives
     where
-      by : (b : Bool) → is_value (read_holds (length args) bound r) ≡ b → GivesKind kind (if b then Some holds.Optional else None) → DoesEnd (on_value (read_value args env r) (λ v. Ends (GivesSome v) made))
+      by : (b : Bool) → is_value (read_holds (length args) bound r) ≡ b → GivesKind kind (if b then Some (holds.Optional item.Value) else None) → DoesEnd (on_value (read_value args env r) (λ v. Ends (GivesSome v) made))
       by true f g =
           let one = told_value (read_holds (length args) bound r) (read_value args env r) (told_read args bound env r is a) f in
           record { end = GivesSome one.v; made = made; is = ap (λ x. on_value x (λ v. Ends (GivesSome v) made)) one.is }
@@ -273,7 +287,7 @@ module _ (fns : List TraitFn) (m : Meaning) (args : List Value) where
       by false = a
 
   mutual
-    well_stmt : (kind : ReturnKind) (s : Stmt) (bound : Locals) (env : Env) (made : List Made) → IsStmt s → IsStmtThere fns kind (length args) bound s → FitsStmt kind s → Answering fns m (stmt_calls s) → Agree bound env
+    well_stmt : (kind : ReturnKind) (s : Stmt) (bound : Locals) (env : Env) (made : List Made) → IsStmt s → IsStmtThere fns kind (length args) bound s → FitsStmt kind false s → Answering fns m (stmt_calls s) → Agree bound env
         → Well (bound_behind fns (length args) s bound) (run_stmt m args s env made)
     well_stmt kind (Let n e) bound env made is there fits answering a = well_let n e bound env made is there answering a
     well_stmt kind (IfEq l r inside) bound env made is there fits answering a =
@@ -292,7 +306,7 @@ module _ (fns : List TraitFn) (m : Meaning) (args : List Value) where
     well_stmt kind (Log term place) bound env made is there fits answering a = absurd is
     well_stmt kind (Split inside within) bound env made is there fits answering a = absurd is
 
-    well_body : (kind : ReturnKind) (b : Body) (bound : Locals) (env : Env) (made : List Made) → IsBody b → IsBodyThere fns kind (length args) bound b → FitsBody kind b → Answering fns m (body_calls b) → Agree bound env
+    well_body : (kind : ReturnKind) (b : Body) (bound : Locals) (env : Env) (made : List Made) → IsBody b → IsBodyThere fns kind (length args) bound b → FitsBody kind false b → Answering fns m (body_calls b) → Agree bound env
         → NotStuck (run_body m args b env made)
     well_body kind Done bound env made is there fits answering a = tt
     well_body kind (Then s ss) bound env made is there fits answering a =

@@ -3,4 +3,5 @@ pub mod Views
 pub mod WellFormed
 pub mod Callees
 pub mod Run
+pub mod Walk
 pub mod Calls
