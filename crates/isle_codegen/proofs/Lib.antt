@@ -8,4 +8,5 @@ pub mod Emitting
 pub mod EmittedProgram
 pub mod Placed
 pub mod ListedNames
+pub mod PlainTerms
 pub mod Emissions

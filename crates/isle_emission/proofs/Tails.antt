@@ -18,8 +18,9 @@ use Rattle.isle_core.specs.Setting.{setting}
 use Rattle.isle_core.specs.SingleArms.{HasSingleArms, IsSingle}
 use Rattle.isle_tree.specs.Program.{Body, Done}
 use Rattle.isle_emission.proofs.Written.{block_body, control_stmt, lets, function_of}
+use Rattle.isle_tree.specs.Walk.{of_stmt}
 use Rattle.isle_emission.specs.TermFunction.{ends_in_return, tail_body, tail_of}
-use Rattle.isle_emission.specs.OfTerm.{marks, marks_in, mark_in, IsOfTerm}
+use Rattle.isle_emission.specs.OfTerm.{own_marks, marks, mark_in, IsOfTerm}
 use Rattle.isle_emission.proofs.ArmBodies.{arm_body}
 
 -- lets have no mark
@@ -30,7 +31,7 @@ lets_marks env bs bound (b ∷ binds) more = lets_marks env bs (bound ++ b.0 ∷
 mutual
   -- and what a step does has none
   control_marks : (c : Control) (more : Block) (env : Environment) (t : Term) (bs : List Binding) (kind : ReturnKind) (bound made : List ℕ) → IsLawfulControl (setting env t bs) bound made c more → IsSingle c
-      → marks_in (control_stmt env bs kind bound c) ≡ []
+      → of_stmt own_marks (control_stmt env bs kind bound c) ≡ []
   control_marks (block.Match source (block.Arm c places body block.NoArm)) more env t bs kind bound made h o =
       block_marks body env t bs kind bound made Done (arm_body (setting env t bs) bound made source c places body block.NoArm h.1.0 h.1.2) o
   control_marks (block.Match source (block.Arm c places body (block.Arm d others inside arms))) more env t bs kind bound made h o = absurd o

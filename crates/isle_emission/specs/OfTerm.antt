@@ -1,5 +1,5 @@
 -- What an emitted function has of its term's declaration.
-use Rattle.std.specs.Prelude.{◌≡◌, ℕ, List, [], ◌∷◌, ◌++◌, Option, Some, map, slice_get}
+use Rattle.std.specs.Prelude.{◌≡◌, ℕ, List, [], ◌∷◌, Option, Some, map, slice_get}
 use Rattle.std.specs.List.{AllByRecursion}
 use Rattle.isle_core.specs.declared.TermId.{TermId}
 use Rattle.isle_core.specs.declared.files.Files.{Files}
@@ -8,34 +8,28 @@ use Rattle.isle_core.specs.Calling.{kind_of}
 use Rattle.isle_core.specs.Places.{place_in}
 use Rattle.isle_core.specs.Terms.{sym_text}
 use Rattle.isle_core.specs.Rule.{Environment}
-use Rattle.isle_tree.specs.Program.{Stmt, Let, LetList, IfEq, IfLet, Match, Loop, Return, Extend, Overflow, Log, Split, Tail, Body, Done, Then, Arms, NoArm, Arm, Function}
+use Rattle.isle_tree.specs.Program.{Stmt, Let, LetList, IfEq, IfLet, Match, Loop, Return, Extend, Overflow, Log, Split, Tail, Body, Function}
+use Rattle.isle_tree.specs.Walk.{of_body}
 use Rattle.isle_emission.specs.TermFunction.{type_text, parameter, mark_of}
 
+-- the mark of a tail
+abbrev pub own_marks : Stmt → List (Option (List ℕ × List ℕ))
+own_marks (Let local e) = []
+own_marks (LetList local call) = []
+own_marks (IfEq a b inside) = []
+own_marks (IfLet pat read inside) = []
+own_marks (Match read arms) = []
+own_marks (Loop list item inside) = []
+own_marks (Return e) = []
+own_marks (Extend read) = []
+own_marks (Overflow within) = []
+own_marks (Log term place) = []
+own_marks (Split inside within) = []
+own_marks (Tail mark) = mark ∷ []
+
 -- the marks of the tails of a body, those inside its statements too
-abbrev mutual
-  pub marks : Body → List (Option (List ℕ × List ℕ))
-  marks Done = []
-  marks (Then s ss) = marks_in s ++ marks ss
-
-  -- those of a statement
-  pub marks_in : Stmt → List (Option (List ℕ × List ℕ))
-  marks_in (Let local e) = []
-  marks_in (LetList local call) = []
-  marks_in (IfEq a b inside) = marks inside
-  marks_in (IfLet pat read inside) = marks inside
-  marks_in (Match read arms) = marks_of_arms arms
-  marks_in (Loop list item inside) = marks inside
-  marks_in (Return e) = []
-  marks_in (Extend read) = []
-  marks_in (Overflow inside) = []
-  marks_in (Log term place) = []
-  marks_in (Split body inside) = marks body
-  marks_in (Tail mark) = mark ∷ []
-
-  -- those of arms
-  pub marks_of_arms : Arms → List (Option (List ℕ × List ℕ))
-  marks_of_arms NoArm = []
-  marks_of_arms (Arm pat body arms) = marks body ++ marks_of_arms arms
+abbrev pub marks : Body → List (Option (List ℕ × List ℕ))
+marks b = of_body own_marks b
 
 -- what the tail of a term's function says, where it has one: nothing, or the term's name and the place of its declaration
 abbrev pub mark_in : Files → Environment → Term → Option (Option (List ℕ × List ℕ))

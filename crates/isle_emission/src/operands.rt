@@ -75,7 +75,7 @@ pub fn tested(context: &Context<'_>, constraint: Constraint) -> Option<Operand>
 fn is_bound(bound: &Scope, binding: BindingId) -> bool
     ensures { result ≡ Operands.is_bound bound.now binding }
 {
-    bound.place(binding.index()).is_some()
+    bound.has(binding.index())
 }
 
 /// Returns the binding's local where it is bound, or else what is read in place.
