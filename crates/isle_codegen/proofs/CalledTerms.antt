@@ -28,9 +28,9 @@ use Rattle.isle_blocks.proofs.BindingPaths.{path_before}
 use Rattle.isle_core.specs.declared.types.ReturnKind.{ReturnKind}
 use Rattle.isle_core.specs.declared.values.Callee.{Callee}
 use Rattle.isle_core.specs.ExternalCall.{IsCall}
-use Rattle.isle_emission.proofs.BlockCalls.{IsBoundCall}
-use Rattle.isle_emission.specs.Emitted.{AnswersBindings}
-use Rattle.isle_emission.specs.Statements.{callee_of}
+use Rattle.isle_simulation.proofs.BlockCalls.{IsBoundCall}
+use Rattle.isle_simulation.specs.Emitted.{AnswersBindings}
+use Rattle.isle_simulation.specs.Statements.{callee_of}
 use Rattle.isle_codegen.specs.CalledBy.{GoesTo, IsCalledBy}
 use Rattle.isle_sema.proofs.ReadyRules.{IsArgument, args_argument}
 

@@ -14,9 +14,9 @@ use Rattle.isle_core.specs.Ready.{IsReady}
 use Rattle.isle_core.specs.Setting.{setting}
 use Rattle.isle_core.specs.SingleArms.{HasSingleArms}
 use Rattle.isle_tree.specs.Program.{Function}
-use Rattle.isle_emission.specs.TermFunction.{term_function}
-use Rattle.isle_emission.proofs.Made.{function_made}
-use Rattle.isle_emission.proofs.Written.{function_of}
+use Rattle.isle_simulation.specs.TermFunction.{term_function}
+use Rattle.isle_simulation.proofs.Made.{function_made}
+use Rattle.isle_simulation.proofs.Written.{function_of}
 use Rattle.isle_codegen.specs.Emits.{MeansSet, CanEmit, IsEmitted, AreEmitted}
 
 some_one : (a b : Term) → Some a ≡ Some b → a ≡ b

@@ -11,7 +11,7 @@ use Rattle.isle_core.specs.declared.types.Term.{Term}
 use Rattle.isle_core.specs.Terms.{sym_text, term_ids, term_name, has_rules, with_rules}
 use Rattle.isle_core.specs.Rule.{Environment}
 use Rattle.isle_tree.specs.Program.{Function}
-use Rattle.isle_emission.proofs.GivenFunctions.{of_its_term}
+use Rattle.isle_simulation.proofs.GivenFunctions.{of_its_term}
 use Rattle.isle_codegen.specs.Emits.{IsEmitted, AreEmitted}
 
 -- the name of a term that is there

@@ -19,11 +19,11 @@ use Rattle.isle_tree.specs.Program.{Function, Program}
 use Rattle.isle_tree.specs.WellFormed.{IsTraitFn, fn_names, IsFunction, IsWellFormed}
 use Rattle.isle_tree.specs.declared.tree.TraitFn.{TraitFn}
 use Rattle.isle_codegen.specs.Emits.{CanEmit, AreEmitted}
-use Rattle.isle_emission.specs.Emitted.{IsEmittable}
-use Rattle.isle_emission.specs.TraitFns.{trait_fns_of, HasFnNames}
-use Rattle.isle_emission.proofs.TraitFnForms.{IsPlainTerm, fns_are}
+use Rattle.isle_simulation.specs.Emitted.{IsEmittable}
+use Rattle.isle_simulation.specs.TraitFns.{trait_fns_of, HasFnNames}
+use Rattle.isle_simulation.proofs.TraitFnForms.{IsPlainTerm, fns_are}
 use Rattle.isle_codegen.proofs.PlainTerms.{typed_once, typed_unextracted}
-use Rattle.isle_emission.specs.OfTerm.{IsOfTerm, AreDeclared}
+use Rattle.isle_simulation.specs.OfTerm.{IsOfTerm, AreDeclared}
 use Rattle.isle_core.specs.declared.TypeId.{TypeId}
 use Rattle.isle_core.specs.BuiltinType.{IsBuiltinType}
 use Rattle.isle_core.specs.HasType.{HaveTypes}
@@ -38,7 +38,7 @@ use Rattle.isle_codegen.proofs.MeanRules.{HasFunction, has_function, means_rules
 use Rattle.isle_codegen.proofs.CalledTerms.{bound_called}
 use Rattle.isle_sema.proofs.TypedRules.{typed_impure}
 use Rattle.isle_core.specs.BuiltRule.{IsImpureRule}
-use Rattle.isle_emission.proofs.GivenFunctions.{emitted_well_formed, has_shape, of_its_term, function_calls}
+use Rattle.isle_simulation.proofs.GivenFunctions.{emitted_well_formed, has_shape, of_its_term, function_calls}
 
 -- each function is of its term
 are_declared : (files : Files) (env : Environment) (sets : List (TermId × RuleSet)) (fs : List Function) → AreEmitted files env sets fs → AreDeclared files env (map (λ (s : TermId × RuleSet). s.0) sets) fs

@@ -20,7 +20,7 @@ use Rattle.isle_sema.proofs.ReadyRules.{set_ready}
 use Rattle.isle_sema.proofs.TypedTerms.{typed_types, typed_there}
 use Rattle.isle_codegen.specs.Names.{is_term_name, are_term_names}
 use Rattle.isle_codegen.specs.Emission.{ArePlaced}
-use Rattle.isle_emission.specs.TraitFns.{HasFnNames}
+use Rattle.isle_simulation.specs.TraitFns.{HasFnNames}
 use Rattle.isle_codegen.specs.Emits.{CanEmit}
 use Rattle.isle_codegen.proofs.EmittedNames.{name_of_term}
 use Rattle.isle_codegen.proofs.PlainTerms.{typed_once}

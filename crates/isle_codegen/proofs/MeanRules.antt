@@ -39,12 +39,12 @@ use Rattle.isle_sema.proofs.OneRule.{typed_one}
 use Rattle.isle_tree.specs.Program.{Function, Program}
 use Rattle.isle_tree.specs.Run.{run, function_of}
 use Rattle.isle_codegen.specs.Emits.{IsEmitted, AreEmitted}
-use Rattle.isle_emission.specs.Emitted.{ran_of, ran_with}
-use Rattle.isle_emission.specs.Ends.{end_of}
+use Rattle.isle_simulation.specs.Emitted.{ran_of, ran_with}
+use Rattle.isle_simulation.specs.Ends.{end_of}
 use Rattle.isle_codegen.specs.Headline.{GivesAs, GivesOutcome, MeansRules}
-use Rattle.isle_emission.proofs.GivenFunctions.{runs_as_block}
-use Rattle.isle_emission.proofs.Simulation.{ends_as}
-use Rattle.isle_emission.proofs.Written.{end_of as written_end}
+use Rattle.isle_simulation.proofs.GivenFunctions.{runs_as_block}
+use Rattle.isle_simulation.proofs.Simulation.{ends_as}
+use Rattle.isle_simulation.proofs.Written.{end_of as written_end}
 use Rattle.isle_codegen.proofs.CalledTerms.{bindings_answered}
 use Rattle.isle_codegen.proofs.EmittedNames.{name_of_term, emitted_name}
 

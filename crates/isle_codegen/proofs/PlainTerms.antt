@@ -10,7 +10,7 @@ use Rattle.isle_core.specs.Rule.{Environment}
 use Rattle.isle_syntax.specs.Tree.{Def}
 use Rattle.isle_sema.specs.Typing.{Typed}
 use Rattle.isle_sema.proofs.TypedTerms.{typed_kind}
-use Rattle.isle_emission.specs.TraitFns.{extracted_of}
+use Rattle.isle_simulation.specs.TraitFns.{extracted_of}
 
 flag_once : (partial : Bool) (by : ConstructorKind) → AnswersOnce (kind_of (term_kind.Decl false false partial false by extractor.Absent))
 flag_once true by = tt

@@ -9,7 +9,7 @@ use Rattle.isle_core.specs.Rule.{Environment}
 use Rattle.isle_syntax.specs.Tree.{Def}
 use Rattle.isle_syntax.specs.Positions.{place_of}
 use Rattle.isle_codegen.specs.Source.{IsCompilable}
-use Rattle.isle_emission.specs.TraitFns.{trait_fns_of}
+use Rattle.isle_simulation.specs.TraitFns.{trait_fns_of}
 use Rattle.isle_tree.specs.declared.tree.TypeItem.{TypeItem}
 use Rattle.isle_tree.specs.Program.{Program}
 

@@ -19,9 +19,9 @@ use Rattle.isle_core.specs.Ready.{IsReady}
 use Rattle.isle_core.specs.Setting.{setting}
 use Rattle.isle_core.specs.SingleArms.{HasSingleArms}
 use Rattle.isle_tree.specs.Program.{Function}
-use Rattle.isle_emission.specs.TermFunction.{term_function}
-use Rattle.isle_emission.specs.Emitted.{IsEmittable}
-use Rattle.isle_emission.specs.TraitFns.{HasFnNames}
+use Rattle.isle_simulation.specs.TermFunction.{term_function}
+use Rattle.isle_simulation.specs.Emitted.{IsEmittable}
+use Rattle.isle_simulation.specs.TraitFns.{HasFnNames}
 
 -- the term is there and may be emitted, its declaration lies in the files, its rule set is ready for a block, and
 -- functions of the trait may be called by their names

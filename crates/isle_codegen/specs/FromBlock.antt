@@ -10,8 +10,8 @@ use Rattle.isle_core.specs.BlockLawful.{IsLawfulBlock}
 use Rattle.isle_core.specs.Rule.{Environment, rules_of}
 use Rattle.isle_core.specs.Setting.{setting}
 use Rattle.isle_core.specs.StandsFor.{StandsFor}
-use Rattle.isle_emission.specs.Shape.{HasShape}
-use Rattle.isle_emission.specs.TermFunction.{term_function}
+use Rattle.isle_simulation.specs.Shape.{HasShape}
+use Rattle.isle_simulation.specs.TermFunction.{term_function}
 use Rattle.isle_tree.specs.Calls.{body_calls}
 use Rattle.isle_tree.specs.Program.{Function}
 use Rattle.isle_codegen.specs.CalledBy.{IsCalledBy}

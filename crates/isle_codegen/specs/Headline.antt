@@ -18,8 +18,8 @@ use Rattle.isle_tree.specs.Program.{Function, Program}
 use Rattle.isle_target.specs.Reading.{SpellsOnly}
 use Rattle.isle_tree.specs.Run.{run}
 use Rattle.isle_codegen.specs.Emission.{IsFrame}
-use Rattle.isle_emission.specs.Ends.{end_of}
-use Rattle.isle_emission.specs.OfTerm.{AreDeclared}
+use Rattle.isle_simulation.specs.Ends.{end_of}
+use Rattle.isle_simulation.specs.OfTerm.{AreDeclared}
 use Rattle.isle_codegen.specs.FromBlock.{AreFromBlocks}
 use Rattle.isle_codegen.specs.Meant.{IsMeant}
 

@@ -5,7 +5,7 @@ use Rattle.isle_syntax.specs.Tree.{Def}
 use Rattle.isle_syntax.specs.Spelling.{Spells}
 use Rattle.isle_sema.specs.Typing.{Typed}
 use Rattle.isle_codegen.specs.Names.{are_term_names}
-use Rattle.isle_emission.specs.TraitFns.{HasFnNames}
+use Rattle.isle_simulation.specs.TraitFns.{HasFnNames}
 
 -- the texts, read as the files from that number on, spell the definitions one after the other
 abbrev pub Source : ℕ → List (List ℕ) → List Def → Type 0

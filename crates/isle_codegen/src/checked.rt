@@ -4,7 +4,7 @@ ghost use Rattle.isle_core.specs.RuleViews.{environment};
 ghost use Rattle.isle_syntax.specs.Views.{defs as seen};
 ghost use Rattle.isle_sema.specs.Typing.{TypedOnly};
 ghost use Rattle.isle_rulesets.specs.Grouping.{AreRuleSets};
-ghost use Rattle.isle_emission.specs.TraitFns.{trait_fns_of};
+ghost use Rattle.isle_simulation.specs.TraitFns.{trait_fns_of};
 ghost use Rattle.isle_codegen.specs.Emission.{IsGiven};
 ghost use Rattle.isle_codegen.specs.Source.{IsCompilable};
 ghost use Rattle.isle_codegen.specs.Checked.{IsChecked};

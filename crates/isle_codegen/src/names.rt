@@ -2,7 +2,7 @@ ghost use Rattle.std.specs.Prelude.{◌≡◌, ◌↔◌, IsTrue, IfOk, map};
 ghost use Rattle.std.specs.List.{AllByRecursion, list_all};
 ghost use Rattle.isle_tree.specs.declared.tree.TraitFn.{TraitFn as TheFn};
 ghost use Rattle.isle_spelling.specs.Identifier.{IsIdentifier};
-ghost use Rattle.isle_emission.specs.TraitFns.{AreFnNames};
+ghost use Rattle.isle_simulation.specs.TraitFns.{AreFnNames};
 ghost use Rattle.isle_printer.specs.Token.{is_word_byte};
 ghost use Rattle.isle_core.specs.RuleViews.{environment};
 ghost use Rattle.isle_core.specs.Terms.{with_rules, term_name};

@@ -5,7 +5,7 @@ ghost use Rattle.isle_core.specs.RuleViews.{environment};
 ghost use Rattle.isle_rulesets.specs.Grouping.{AreRuleSets};
 ghost use Rattle.isle_codegen.specs.Emission.{IsGiven, ArePlaced};
 ghost use Rattle.isle_emission.specs.Built.{IsBuilt};
-ghost use Rattle.isle_emission.specs.TraitFns.{trait_fns_of};
+ghost use Rattle.isle_simulation.specs.TraitFns.{trait_fns_of};
 ghost use Rattle.isle_codegen.specs.Names.{are_file_names};
 ghost use Rattle.isle_codegen.specs.Header.{header, HasHeader};
 ghost use Rattle.isle_codegen.specs.Headline.{IsText};

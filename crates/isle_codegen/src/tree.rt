@@ -6,7 +6,7 @@ ghost use Rattle.isle_tree.specs.Views.{function, program};
 ghost use Rattle.isle_tree.specs.WellFormed.{IsWellFormed};
 ghost use Rattle.isle_codegen.specs.Emission.{IsGiven, IsFrame, ArePlaced};
 ghost use Rattle.isle_emission.specs.Built.{IsBuilt};
-ghost use Rattle.isle_emission.specs.TraitFns.{trait_fns_of};
+ghost use Rattle.isle_simulation.specs.TraitFns.{trait_fns_of};
 ghost use Rattle.isle_codegen.specs.Emits.{CanEmit, IsEmitted, AreEmitted};
 ghost use Rattle.isle_codegen.specs.Headline.{FunctionsMean};
 ghost use Rattle.isle_emission.specs.LineStarts.{starts_of};

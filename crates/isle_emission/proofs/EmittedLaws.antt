@@ -9,13 +9,13 @@ use Rattle.isle_core.specs.Rule.{Environment}
 use Rattle.isle_core.specs.Setting.{setting}
 use Rattle.isle_tree.specs.Program.{Program, Function}
 use Rattle.isle_tree.specs.WellFormed.{IsFunction}
-use Rattle.isle_emission.specs.Emitted.{RunsAsBlock}
+use Rattle.isle_simulation.specs.Emitted.{RunsAsBlock}
 use Rattle.isle_emission.specs.MayEmit.{MayEmit}
-use Rattle.isle_emission.specs.Shape.{HasShape}
-use Rattle.isle_emission.specs.TermFunction.{term_function}
-use Rattle.isle_emission.specs.TraitFns.{trait_fns_of}
-use Rattle.isle_emission.proofs.GivenFunctions.{emitted_well_formed, has_shape, runs_as_block}
-use Rattle.isle_emission.proofs.Made.{function_made}
+use Rattle.isle_simulation.specs.Shape.{HasShape}
+use Rattle.isle_simulation.specs.TermFunction.{term_function}
+use Rattle.isle_simulation.specs.TraitFns.{trait_fns_of}
+use Rattle.isle_simulation.proofs.GivenFunctions.{emitted_well_formed, has_shape, runs_as_block}
+use Rattle.isle_simulation.proofs.Made.{function_made}
 
 -- the function is that of the term
 abbrev pub IsOf : Files → Environment → List Binding → Block → Option Term → Function → Type 0

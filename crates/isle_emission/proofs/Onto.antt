@@ -5,7 +5,7 @@ use Rattle.isle_tree.specs.declared.tree.Stmt.{Stmt as CodeStmt}
 use Rattle.isle_tree.specs.Program.{Stmt, Body, Done}
 use Rattle.isle_tree.specs.Views.{stmt, body_of}
 use Rattle.isle_emission.specs.BodyOnto.{body_onto}
-use Rattle.isle_emission.specs.Statements.{stmt_before}
+use Rattle.isle_simulation.specs.Statements.{stmt_before}
 use Rattle.isle_core.specs.Bindable.{bound_by}
 
 pub onto_pushed : (xs : List CodeStmt) (x : CodeStmt) (end : Option Body) → body_onto (map stmt (xs ++ x ∷ [])) end ≡ body_onto (map stmt xs) (stmt_before (Some (stmt x)) end)

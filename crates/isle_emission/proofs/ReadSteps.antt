@@ -7,8 +7,8 @@ use Rattle.isle_core.specs.Rule.{Environment}
 use Rattle.isle_tree.specs.declared.tree.Operand.{Operand}
 use Rattle.isle_tree.specs.declared.tree.Read.{Read}
 use Rattle.isle_tree.specs.declared.tree.Read.TheVariants as read
-use Rattle.isle_emission.specs.Operands.{operand_of}
-use Rattle.isle_emission.specs.Statements.{read_before, reads}
+use Rattle.isle_simulation.specs.Operands.{operand_of}
+use Rattle.isle_simulation.specs.Statements.{read_before, reads}
 
 -- what is read before others that may not be there
 abbrev pub onto_reads : List Read → Option (List Read) → Option (List Read)

@@ -11,8 +11,8 @@ use Rattle.isle_tree.specs.declared.tree.Stmt.{Stmt as CodeStmt}
 use Rattle.isle_tree.specs.Program.{Tail, Body, Done}
 use Rattle.isle_tree.specs.Views.{stmt, body}
 use Rattle.isle_emission.specs.BodyOnto.{body_onto}
-use Rattle.isle_emission.specs.Statements.{stmt_before, block_body}
-use Rattle.isle_emission.specs.TermFunction.{is_return, ends_in_return, mark_of, tail_body, tail_of}
+use Rattle.isle_simulation.specs.Statements.{stmt_before, block_body}
+use Rattle.isle_simulation.specs.TermFunction.{is_return, ends_in_return, mark_of, tail_body, tail_of}
 use Rattle.isle_emission.proofs.Onto.{onto_pushed, onto_done}
 
 pub one_less : (n : ℕ) → false ≡ eqb n 0 → (n - 1) + 1 ≡ n

@@ -19,8 +19,8 @@ use Rattle.isle_tree.specs.Program.{Stmt, Let, Body, Done}
 use Rattle.isle_tree.specs.Views.{stmt}
 use Rattle.isle_tree.proofs.Sees.{stmt-let, stmt-if_eq}
 use Rattle.isle_emission.specs.BodyOnto.{body_onto}
-use Rattle.isle_emission.specs.Operands.{tested}
-use Rattle.isle_emission.specs.Statements.{bound_expr, stmt_before, let_of, lets, if_eq, block_body, control_stmt, arms_stmt}
+use Rattle.isle_simulation.specs.Operands.{tested}
+use Rattle.isle_simulation.specs.Statements.{bound_expr, stmt_before, let_of, lets, if_eq, block_body, control_stmt, arms_stmt}
 use Rattle.isle_emission.proofs.Onto.{onto_pushed, onto_done, onto_none}
 
 -- ---- lets

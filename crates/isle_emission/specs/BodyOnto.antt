@@ -1,7 +1,7 @@
 -- Statements before a body.
 use Rattle.std.specs.Prelude.{List, [], ◌∷◌, Option, Some, None}
 use Rattle.isle_tree.specs.Program.{Stmt, Body}
-use Rattle.isle_emission.specs.Statements.{stmt_before}
+use Rattle.isle_simulation.specs.Statements.{stmt_before}
 
 -- the statements of a list, and then those of a body
 abbrev pub body_onto : List Stmt → Option Body → Option Body

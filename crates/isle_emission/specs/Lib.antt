@@ -1,13 +1,4 @@
-pub mod Ends
 pub mod Built
-pub mod Operands
-pub mod Statements
-pub mod TermFunction
-pub mod TraitFns
-pub mod OfTerm
-pub mod Bare
-pub mod Shape
-pub mod Emitted
 pub mod Contexts
 pub mod BodyOnto
 pub mod Views

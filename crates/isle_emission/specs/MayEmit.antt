@@ -10,8 +10,8 @@ use Rattle.isle_core.specs.Places.{LiesIn}
 use Rattle.isle_core.specs.Rule.{Environment}
 use Rattle.isle_core.specs.Setting.{setting}
 use Rattle.isle_core.specs.SingleArms.{HasSingleArms}
-use Rattle.isle_emission.specs.Emitted.{IsEmittable}
-use Rattle.isle_emission.specs.TraitFns.{HasFnNames}
+use Rattle.isle_simulation.specs.Emitted.{IsEmittable}
+use Rattle.isle_simulation.specs.TraitFns.{HasFnNames}
 
 -- the term of this number is there, and it is so of it
 abbrev pub AtTerm : Environment → TermId → (Term → Type 0) → Type 0

@@ -3,7 +3,7 @@
 ghost use Rattle.std.specs.Prelude.{◌≡◌, IfOk, option_map, slice_get};
 ghost use Rattle.isle_core.specs.Calling.{calling};
 ghost use Rattle.isle_emission.specs.Contexts.{env_of, bindings_in};
-ghost use Rattle.isle_emission.specs.Statements as Statements;
+ghost use Rattle.isle_simulation.specs.Statements as Statements;
 ghost use Rattle.isle_emission.specs.Views.{items_of};
 
 use crate::context::Context;

@@ -11,12 +11,12 @@ ghost use Rattle.isle_tree.specs.Views as Views;
 ghost use Rattle.isle_tree.specs.WellFormed.{IsFunction};
 ghost use Rattle.isle_emission.specs.Contexts.{env_of, bindings_in};
 ghost use Rattle.isle_emission.specs.Built.{IsBuilt};
-ghost use Rattle.isle_emission.specs.Emitted.{RunsAsBlock};
+ghost use Rattle.isle_simulation.specs.Emitted.{RunsAsBlock};
 ghost use Rattle.isle_emission.specs.LineStarts.{starts_of};
 ghost use Rattle.isle_emission.specs.MayEmit.{AtTerm, MayEmit};
-ghost use Rattle.isle_emission.specs.Shape.{HasShape};
-ghost use Rattle.isle_emission.specs.TermFunction as TermFunction;
-ghost use Rattle.isle_emission.specs.TraitFns.{trait_fns_of};
+ghost use Rattle.isle_simulation.specs.Shape.{HasShape};
+ghost use Rattle.isle_simulation.specs.TermFunction as TermFunction;
+ghost use Rattle.isle_simulation.specs.TraitFns.{trait_fns_of};
 
 use crate::context::{Context, kind_of};
 use crate::line_starts::LineStarts;

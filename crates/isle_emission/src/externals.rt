@@ -4,7 +4,7 @@ ghost use Rattle.std.specs.Prelude.{◌≡◌, ◌++◌, IfOk, OnOk, List as Lis
 ghost use Rattle.std.specs.List.{cons_option};
 ghost use Rattle.isle_core.specs.RuleViews.{environment};
 ghost use Rattle.isle_core.specs.Calling.{extractor_kind};
-ghost use Rattle.isle_emission.specs.TraitFns as TraitFns;
+ghost use Rattle.isle_simulation.specs.TraitFns as TraitFns;
 
 use crate::context::kind_of;
 use crate::signature::{params, sym_name, ty_name, ty_names};

@@ -4,7 +4,7 @@ ghost use Rattle.std.specs.Prelude.{◌≡◌, List as ListOf, slice_get};
 ghost use Rattle.isle_core.specs.Constants.{int_of_def};
 ghost use Rattle.isle_core.specs.Path.{Path, path_over, at, paths_of};
 ghost use Rattle.isle_emission.specs.Contexts.{env_of, bindings_in};
-ghost use Rattle.isle_emission.specs.Operands as Operands;
+ghost use Rattle.isle_simulation.specs.Operands as Operands;
 
 use crate::context::Context;
 use isle_core::{Binding, BindingId, BuiltinType, Constraint, TypeDef, TypeEnv, TypeId};

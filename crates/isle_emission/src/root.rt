@@ -8,8 +8,8 @@ ghost use Rattle.isle_tree.specs.Program.{Tail};
 ghost use Rattle.isle_tree.specs.Views.{stmt};
 ghost use Rattle.isle_emission.specs.Contexts.{env_of, bindings_in};
 ghost use Rattle.isle_emission.specs.LineStarts.{starts_of};
-ghost use Rattle.isle_emission.specs.Statements.{block_body};
-ghost use Rattle.isle_emission.specs.TermFunction as TermFunction;
+ghost use Rattle.isle_simulation.specs.Statements.{block_body};
+ghost use Rattle.isle_simulation.specs.TermFunction as TermFunction;
 ghost use Rattle.isle_emission.specs.Views.{body_in};
 
 use crate::context::Context;

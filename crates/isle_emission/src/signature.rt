@@ -2,7 +2,7 @@
 
 ghost use Rattle.std.specs.Prelude.{◌≡◌, [], map, slice_get, slice_index_or, IfOk};
 ghost use Rattle.isle_core.specs.RuleViews.{environment};
-ghost use Rattle.isle_emission.specs.TermFunction.{def_text, type_text, parameter, is_by_ref};
+ghost use Rattle.isle_simulation.specs.TermFunction.{def_text, type_text, parameter, is_by_ref};
 
 use isle_core::{BuiltinType, Sym, TermEnv, Text, TypeDef, TypeEnv, TypeId};
 use isle_spelling::type_name;

@@ -7,7 +7,7 @@ ghost use Rattle.isle_tree.specs.Program.{Body, Done};
 ghost use Rattle.isle_tree.specs.Views.{stmt};
 ghost use Rattle.isle_emission.specs.BodyOnto.{body_onto, onto};
 ghost use Rattle.isle_emission.specs.Contexts.{env_of, bindings_in};
-ghost use Rattle.isle_emission.specs.Statements as Statements;
+ghost use Rattle.isle_simulation.specs.Statements as Statements;
 ghost use Rattle.isle_emission.specs.Views.{stmts_of, lets_onto};
 
 use crate::calls::bound_expr;

@@ -10,7 +10,7 @@ use Rattle.isle_printer.specs.Bytes.{same_bytes}
 use Rattle.isle_printer.proofs.Bytes.{same_is}
 use Rattle.isle_tree.specs.Program.{Function}
 use Rattle.isle_tree.specs.Run.{function_of}
-use Rattle.isle_emission.specs.OfTerm.{AreDeclared, IsDeclared}
+use Rattle.isle_simulation.specs.OfTerm.{AreDeclared, IsDeclared}
 use Rattle.isle_codegen.specs.FromBlock.{AreFromBlocks, IsFromBlock}
 use Rattle.isle_run.proofs.FoundTerms.{declared_name}
 

@@ -27,7 +27,7 @@ use Rattle.isle_interpreter.specs.Refusals.{MayRun, IsRefused}
 use Rattle.isle_interpreter.specs.Signatures.{type_names, AreNamed}
 use Rattle.isle_interpreter.specs.declared.run_error.RunError.TheVariants as error
 use Rattle.isle_interpreter.proofs.OneRefusal.{not_refused}
-use Rattle.isle_emission.specs.TermFunction.{parameter, type_text}
+use Rattle.isle_simulation.specs.TermFunction.{parameter, type_text}
 use Rattle.isle_run_inputs.specs.Forms.{are_built, answers_at, turns_at}
 use Rattle.isle_codegen.specs.Causes.{IsNotOfIt}
 use Rattle.isle_codegen.specs.Checked.{IsChecked}

@@ -14,7 +14,7 @@ use Rattle.isle_printer.proofs.Bytes.{same_bytes_sound}
 use Rattle.isle_tree.specs.Program.{Function}
 use Rattle.isle_tree.specs.Run.{function_of}
 use Rattle.isle_printer.proofs.Bytes.{same_is}
-use Rattle.isle_emission.specs.OfTerm.{AreDeclared, IsDeclared}
+use Rattle.isle_simulation.specs.OfTerm.{AreDeclared, IsDeclared}
 
 -- the term of the function
 pub record Found (files : Files) (env : Environment) (term : List ℕ) (ids : List TermId) (f : Function) : Type 0 where

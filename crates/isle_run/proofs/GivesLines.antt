@@ -17,7 +17,7 @@ use Rattle.isle_values.specs.Written.{Writtens}
 use Rattle.isle_tree.specs.declared.tree.Ty.{Ty}
 use Rattle.isle_tree.specs.Program.{Program, Function}
 use Rattle.isle_tree.specs.Run.{run}
-use Rattle.isle_emission.specs.TermFunction.{parameter}
+use Rattle.isle_simulation.specs.TermFunction.{parameter}
 use Rattle.isle_run_inputs.specs.Asked.{asked_term, asked_types, arg_types}
 use Rattle.isle_run_inputs.specs.Forms.{answers_at}
 use Rattle.isle_run_inputs.specs.Given.{values_at}

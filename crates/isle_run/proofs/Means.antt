@@ -18,7 +18,7 @@ use Rattle.isle_tree.specs.Run.{run, function_run}
 use Rattle.isle_outcomes.specs.Lines.{run_lines}
 use Rattle.isle_interpreter.specs.Refusals.{MayRun}
 use Rattle.isle_interpreter.proofs.Agree.{same_run}
-use Rattle.isle_emission.specs.Emitted.{ran_with}
+use Rattle.isle_simulation.specs.Emitted.{ran_with}
 use Rattle.isle_codegen.specs.Headline.{GivesOutcome, GivesAs}
 use Rattle.isle_run.specs.Conforming.{Conforms}
 use Rattle.isle_run.specs.Trial.{AreOutcome, shown_run}

@@ -18,7 +18,7 @@ use Rattle.isle_core.specs.Rule.{Environment}
 use Rattle.isle_core.specs.Value.{Value, Truth, Int, Opaque, Variant, Struct, Answer, Plain, Found, Nothing, Several}
 use Rattle.isle_spelling.specs.Literal.{type_name, type_named}
 use Rattle.isle_interpreter.specs.Signatures.{Signature, IsNamed, AreNamed, AnswerFits}
-use Rattle.isle_emission.specs.TermFunction.{def_text, type_text}
+use Rattle.isle_simulation.specs.TermFunction.{def_text, type_text}
 
 named_again : (ty : IntType) → type_named (type_name ty) ≡ Some ty
 named_again U8 = refl

@@ -28,9 +28,9 @@ use Rattle.isle_tree.specs.Run.{function_of}
 use Rattle.isle_tree.specs.WellFormed.{trait_fn, fn_names}
 use Rattle.isle_interpreter.specs.Forms.{Form, Constant, Cases, Turns, answers_for, IsUnanswered, FormFits, IsRight, AreRight}
 use Rattle.isle_interpreter.specs.Signatures.{Signature, type_names, trait_signature, term_signature, signature_of, AnswerFits}
-use Rattle.isle_emission.specs.OfTerm.{IsDeclared}
-use Rattle.isle_emission.specs.TermFunction.{parameter, type_text}
-use Rattle.isle_emission.specs.TraitFns.{constructor_fn, func_of, trait_fns_of}
+use Rattle.isle_simulation.specs.OfTerm.{IsDeclared}
+use Rattle.isle_simulation.specs.TermFunction.{parameter, type_text}
+use Rattle.isle_simulation.specs.TraitFns.{constructor_fn, func_of, trait_fns_of}
 use Rattle.isle_run.specs.Conforming.{Conforms}
 use Rattle.isle_run.specs.Valid.{IsServed, external, internal, HasNoTurns, AreRightTurns, AllRight}
 use Rattle.isle_run.proofs.AskedTerms.{asked_function}

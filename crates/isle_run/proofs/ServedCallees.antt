@@ -11,7 +11,7 @@ use Rattle.isle_core.specs.Terms.{sym_text}
 use Rattle.isle_core.proofs.Contained.{head_contained, tail_contained, contained_cases, none_contained}
 use Rattle.isle_tree.specs.declared.tree.TraitFn.{TraitFn}
 use Rattle.isle_tree.specs.WellFormed.{trait_fn, fn_names}
-use Rattle.isle_emission.specs.TraitFns.{constructor_fn, constructor_fn_of, extractor_fn_of, func_of, trait_fns_in}
+use Rattle.isle_simulation.specs.TraitFns.{constructor_fn, constructor_fn_of, extractor_fn_of, func_of, trait_fns_in}
 
 -- the names of those of terms
 abbrev names_in : Environment → List Term → List (List ℕ)

@@ -22,8 +22,8 @@ use Rattle.isle_tree.specs.Program.{Program}
 use Rattle.isle_tree.specs.Run.{run}
 use Rattle.isle_interpreter.specs.Judged.{Runs}
 use Rattle.isle_outcomes.specs.Lines.{run_lines}
-use Rattle.isle_emission.specs.Ends.{end_of}
-use Rattle.isle_emission.specs.Emitted.{ran_with}
+use Rattle.isle_simulation.specs.Ends.{end_of}
+use Rattle.isle_simulation.specs.Emitted.{ran_with}
 use Rattle.isle_codegen.specs.Checked.{IsChecked}
 use Rattle.isle_codegen.specs.Headline.{impure_calls}
 use Rattle.isle_run.specs.Conforming.{Conforms}

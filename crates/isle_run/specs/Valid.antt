@@ -16,7 +16,7 @@ use Rattle.isle_core.specs.Terms.{sym_text, goes_to}
 use Rattle.isle_answers.specs.Form.{Form}
 use Rattle.isle_answers.specs.Spelling.{SpellsForms}
 use Rattle.isle_values.specs.Written.{Writtens}
-use Rattle.isle_emission.specs.TraitFns.{func_of}
+use Rattle.isle_simulation.specs.TraitFns.{func_of}
 use Rattle.isle_run_inputs.specs.Asked.{asked_term}
 use Rattle.isle_run_inputs.specs.Forms.{are_built, turns_at}
 use Rattle.isle_codegen.specs.CalledBy.{IsCalledBy}

@@ -3,7 +3,7 @@ use Rattle.std.specs.Prelude.{option_map}
 use Rattle.isle_core.specs.BlockViews.{block}
 use Rattle.isle_core.specs.RuleViews.{environment}
 use Rattle.isle_tree.specs.Views.{function}
-use Rattle.isle_emission.specs.TermFunction.{term_function}
+use Rattle.isle_simulation.specs.TermFunction.{term_function}
 use Rattle.isle_codegen.proofs.Emissions.{is_emitted, is_given, at_place}
 use Rattle.isle_codegen.proofs.tree.emit_one.Goals as goal
 

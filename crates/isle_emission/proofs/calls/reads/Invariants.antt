@@ -1,6 +1,6 @@
 use Rattle.std.proofs.Common.{◌≡◌, drop}
 use Rattle.isle_emission.specs.Contexts.{env_of, bindings_in}
-use Rattle.isle_emission.specs.Statements.{reads}
+use Rattle.isle_simulation.specs.Statements.{reads}
 use Rattle.isle_emission.proofs.ReadSteps.{onto_reads}
 use Rattle.isle_emission.proofs.calls.reads.Given as goal
 

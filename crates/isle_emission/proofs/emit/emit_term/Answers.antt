@@ -3,7 +3,7 @@ use Rattle.std.specs.Prelude.{option_map}
 use Rattle.isle_core.specs.BlockViews.{block}
 use Rattle.isle_core.specs.RuleViews.{environment}
 use Rattle.isle_tree.specs.Views.{function}
-use Rattle.isle_emission.specs.TermFunction.{term_function}
+use Rattle.isle_simulation.specs.TermFunction.{term_function}
 use Rattle.isle_emission.proofs.EmittedLaws.{at_item, is_made, is_well_formed, is_shaped, is_run}
 use Rattle.isle_emission.proofs.emit.emit_term.Goals as goal
 

@@ -1,6 +1,6 @@
 use Rattle.std.proofs.Common.{◌≡◌, ◌++◌, drop}
 use Rattle.isle_core.specs.RuleViews.{environment}
-use Rattle.isle_emission.specs.TraitFns.{trait_fns_in}
+use Rattle.isle_simulation.specs.TraitFns.{trait_fns_in}
 use Rattle.isle_emission.proofs.externals.trait_fns.Given as goal
 
 abbrev pub invariant-loop-term : goal.invariant-loop-term

@@ -1,6 +1,6 @@
 use Rattle.std.proofs.Common.{sym, ap, ◌∙◌}
 use Rattle.isle_emission.specs.Contexts.{env_of}
-use Rattle.isle_emission.specs.Operands as Operands
+use Rattle.isle_simulation.specs.Operands as Operands
 use Rattle.isle_emission.proofs.PathAt.{path_at, path_none}
 use Rattle.isle_emission.proofs.operands.in_place.Goals as goal
 

@@ -3,7 +3,7 @@ use Rattle.isle_core.specs.declared.blocks.EvalStep.{EvalStep as CodeStep}
 use Rattle.isle_core.specs.declared.blocks.ControlFlow.TheViews.{out-EvalStep}
 use Rattle.isle_core.specs.BlockViews.{block_of, step, control}
 use Rattle.isle_core.proofs.SeesBlocks.{block-steps, step-parts}
-use Rattle.isle_emission.specs.TermFunction.{is_return, ends_in_return}
+use Rattle.isle_simulation.specs.TermFunction.{is_return, ends_in_return}
 use Rattle.isle_emission.proofs.Roots.{one_less, ends_at}
 use Rattle.isle_emission.proofs.root.ends_in_return.Goals as goal
 

@@ -6,7 +6,7 @@ use Rattle.isle_core.specs.Terms.{sym_text}
 use Rattle.isle_tree.specs.Views.{stmt}
 use Rattle.isle_emission.specs.BodyOnto.{onto}
 use Rattle.isle_emission.specs.Contexts.{env_of, bindings_in}
-use Rattle.isle_emission.specs.Statements.{block_body}
+use Rattle.isle_simulation.specs.Statements.{block_body}
 use Rattle.isle_emission.specs.Views.{stmts_of}
 use Rattle.isle_emission.proofs.Roots.{root_ended, root_open, root_bare}
 use Rattle.isle_emission.proofs.root.root_stmts.Goals as goal

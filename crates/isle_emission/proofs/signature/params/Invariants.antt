@@ -1,6 +1,6 @@
 use Rattle.std.proofs.Common.{◌≡◌, take, map}
 use Rattle.isle_core.specs.RuleViews.{environment}
-use Rattle.isle_emission.specs.TermFunction.{parameter}
+use Rattle.isle_simulation.specs.TermFunction.{parameter}
 use Rattle.isle_emission.proofs.signature.params.Given as goal
 
 abbrev pub invariant-loop-ty : goal.invariant-loop-ty

@@ -1,6 +1,6 @@
 use Rattle.std.proofs.Common.{◌≡◌, take, map}
 use Rattle.isle_core.specs.RuleViews.{environment}
-use Rattle.isle_emission.specs.TermFunction.{type_text}
+use Rattle.isle_simulation.specs.TermFunction.{type_text}
 use Rattle.isle_emission.proofs.signature.ty_names.Given as goal
 
 abbrev pub invariant-loop-ty : goal.invariant-loop-ty

@@ -4,7 +4,7 @@ use Rattle.isle_tree.specs.Program.{Body}
 use Rattle.isle_tree.specs.Views.{stmt}
 use Rattle.isle_emission.specs.BodyOnto.{body_onto}
 use Rattle.isle_emission.specs.Contexts.{env_of, bindings_in}
-use Rattle.isle_emission.specs.Statements.{block_body}
+use Rattle.isle_simulation.specs.Statements.{block_body}
 use Rattle.isle_emission.proofs.statements.+statements.Given as goal
 
 abbrev pub invariant-step_stmts-loop-step : goal.invariant-step_stmts-loop-step

@@ -4,7 +4,7 @@ use Rattle.isle_tree.specs.Views.{stmt}
 use Rattle.isle_emission.specs.BodyOnto.{body_onto}
 use Rattle.isle_emission.specs.Contexts.{env_of, bindings_in}
 use Rattle.isle_core.specs.Bindable.{bound_by}
-use Rattle.isle_emission.specs.Statements.{lets}
+use Rattle.isle_simulation.specs.Statements.{lets}
 use Rattle.isle_emission.proofs.statements.push_lets.Given as goal
 
 abbrev pub invariant-loop-binding : goal.invariant-loop-binding

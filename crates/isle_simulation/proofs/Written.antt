@@ -28,8 +28,8 @@ use Rattle.isle_tree.specs.declared.tree.Read.TheVariants as read
 use Rattle.isle_tree.specs.declared.tree.TExpr.{TExpr}
 use Rattle.isle_tree.specs.declared.tree.TExpr.TheVariants as expr
 use Rattle.isle_tree.specs.Program.{Stmt, Let, IfEq, Return, Tail, Body, Done, Then, Function}
-use Rattle.isle_emission.specs.Operands.{constant, in_place, tested, is_bound}
-use Rattle.isle_emission.specs.TermFunction.{tail_of, function_with}
+use Rattle.isle_simulation.specs.Operands.{constant, in_place, tested, is_bound}
+use Rattle.isle_simulation.specs.TermFunction.{tail_of, function_with}
 
 -- ---- operands
 

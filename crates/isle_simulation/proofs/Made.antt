@@ -33,14 +33,14 @@ use Rattle.isle_core.specs.SingleArms.{HasSingleArms, IsSingle}
 use Rattle.isle_core.specs.Terms.{sym_text}
 use Rattle.isle_tree.specs.declared.tree.Operand.{Operand}
 use Rattle.isle_tree.specs.Program.{Stmt, IfEq, Return, Body, Done, Then}
-use Rattle.isle_emission.specs.Operands.{constant, in_place, tested, is_bound, operand_of}
-use Rattle.isle_emission.specs.Shape.{IsOperandOf}
-use Rattle.isle_emission.specs.Statements.{callee_of, reads, read_of, bound_expr, stmt_before, lets, if_eq, return_of, block_body, control_stmt}
-use Rattle.isle_emission.specs.TermFunction.{tail_of, function_with, term_function}
-use Rattle.isle_emission.proofs.ArmBodies.{arm_body}
-use Rattle.isle_emission.proofs.BoundTests.{found}
-use Rattle.isle_emission.proofs.Written as written
-use Rattle.isle_emission.proofs.Written.{written_constant, written_place, written_test, written_operand, function_of}
+use Rattle.isle_simulation.specs.Operands.{constant, in_place, tested, is_bound, operand_of}
+use Rattle.isle_simulation.specs.Shape.{IsOperandOf}
+use Rattle.isle_simulation.specs.Statements.{callee_of, reads, read_of, bound_expr, stmt_before, lets, if_eq, return_of, block_body, control_stmt}
+use Rattle.isle_simulation.specs.TermFunction.{tail_of, function_with, term_function}
+use Rattle.isle_simulation.proofs.ArmBodies.{arm_body}
+use Rattle.isle_simulation.proofs.BoundTests.{found}
+use Rattle.isle_simulation.proofs.Written as written
+use Rattle.isle_simulation.proofs.Written.{written_constant, written_place, written_test, written_operand, function_of}
 
 -- ---- operands that are there
 

@@ -18,7 +18,7 @@ use Rattle.isle_core.specs.Rule.{Environment}
 use Rattle.isle_tree.specs.declared.tree.Ty.{Ty}
 use Rattle.isle_spelling.specs.Literal.{type_name}
 use Rattle.isle_tree.specs.Program.{Tail, Body, Done, Then, Function}
-use Rattle.isle_emission.specs.Statements.{block_body}
+use Rattle.isle_simulation.specs.Statements.{block_body}
 
 -- the name of a type as it is emitted: of a primitive one the Rust name
 abbrev pub def_text : TypeEnv → Option TypeDef → List ℕ

@@ -17,11 +17,11 @@ use Rattle.isle_core.specs.Rule.{Environment}
 use Rattle.isle_core.specs.Setting.{setting}
 use Rattle.isle_core.specs.SingleArms.{HasSingleArms, IsSingle}
 use Rattle.isle_tree.specs.Program.{Body, Done}
-use Rattle.isle_emission.proofs.Written.{block_body, control_stmt, lets, function_of}
+use Rattle.isle_simulation.proofs.Written.{block_body, control_stmt, lets, function_of}
 use Rattle.isle_tree.specs.Walk.{of_stmt}
-use Rattle.isle_emission.specs.TermFunction.{ends_in_return, tail_body, tail_of}
-use Rattle.isle_emission.specs.OfTerm.{own_marks, marks, mark_in, IsOfTerm}
-use Rattle.isle_emission.proofs.ArmBodies.{arm_body}
+use Rattle.isle_simulation.specs.TermFunction.{ends_in_return, tail_body, tail_of}
+use Rattle.isle_simulation.specs.OfTerm.{own_marks, marks, mark_in, IsOfTerm}
+use Rattle.isle_simulation.proofs.ArmBodies.{arm_body}
 
 -- lets have no mark
 lets_marks : (env : Environment) (bs : List Binding) (bound : List ℕ) (binds : List BindingId) (more : Body) → marks (lets env bs bound binds more) ≡ marks more

@@ -10,7 +10,7 @@ use Rattle.isle_core.specs.Terms.{sym_text}
 use Rattle.isle_core.specs.Rule.{Environment}
 use Rattle.isle_tree.specs.Program.{Stmt, Let, LetList, IfEq, IfLet, Match, Loop, Return, Extend, Overflow, Log, Split, Tail, Body, Function}
 use Rattle.isle_tree.specs.Walk.{of_body}
-use Rattle.isle_emission.specs.TermFunction.{type_text, parameter, mark_of}
+use Rattle.isle_simulation.specs.TermFunction.{type_text, parameter, mark_of}
 
 -- the mark of a tail
 abbrev pub own_marks : Stmt → List (Option (List ℕ × List ℕ))

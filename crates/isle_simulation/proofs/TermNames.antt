@@ -14,9 +14,9 @@ use Rattle.isle_core.specs.Rule.{Environment}
 use Rattle.isle_spelling.specs.Literal.{type_name}
 use Rattle.isle_tree.specs.Program.{Body}
 use Rattle.isle_tree.specs.WellFormed.{IsBuiltin, IsTy, HasNames}
-use Rattle.isle_emission.specs.TermFunction.{def_text, type_text, is_by_ref, parameter, function_with}
+use Rattle.isle_simulation.specs.TermFunction.{def_text, type_text, is_by_ref, parameter, function_with}
 use Rattle.isle_core.specs.BuiltinType.{IsBuiltinType}
-use Rattle.isle_emission.specs.Emitted.{IsEmittable}
+use Rattle.isle_simulation.specs.Emitted.{IsEmittable}
 
 int_is_builtin : (ty : IntType) → IsBuiltin (type_name ty)
 int_is_builtin U8 = refl

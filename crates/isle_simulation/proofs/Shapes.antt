@@ -19,12 +19,12 @@ use Rattle.isle_core.specs.SingleArms.{HasSingleArms, IsSingle}
 use Rattle.isle_core.specs.Terms.{sym_text}
 use Rattle.isle_tree.specs.declared.tree.Operand.{Operand}
 use Rattle.isle_tree.specs.Program.{Body, Done, Then}
-use Rattle.isle_emission.proofs.Written.{block_body, control_stmt, lets, returned, written_operand, function_of}
-use Rattle.isle_emission.proofs.Made.{operand_written, test_written}
-use Rattle.isle_emission.specs.Bare.{bare, bare_before}
-use Rattle.isle_emission.specs.Shape.{IsOperandOf, IsResultOf, AreSteps, HasShape}
-use Rattle.isle_emission.specs.TermFunction.{ends_in_return, mark_of, tail_body}
-use Rattle.isle_emission.proofs.ArmBodies.{no_places, arm_body}
+use Rattle.isle_simulation.proofs.Written.{block_body, control_stmt, lets, returned, written_operand, function_of}
+use Rattle.isle_simulation.proofs.Made.{operand_written, test_written}
+use Rattle.isle_simulation.specs.Bare.{bare, bare_before}
+use Rattle.isle_simulation.specs.Shape.{IsOperandOf, IsResultOf, AreSteps, HasShape}
+use Rattle.isle_simulation.specs.TermFunction.{ends_in_return, mark_of, tail_body}
+use Rattle.isle_simulation.proofs.ArmBodies.{no_places, arm_body}
 
 result_written : (s : Setting) (bound : List ℕ) (kind : ReturnKind) → AnswersOnce kind → (b : BindingId) (o : Operand) → IsOperandOf s bound b o → IsResultOf s bound kind b (returned kind o)
 result_written s bound return_kind.Plain once b o h = h

@@ -42,12 +42,12 @@ use Rattle.isle_tree.specs.declared.tree.TExpr.{TExpr}
 use Rattle.isle_tree.specs.declared.tree.TExpr.TheVariants as expr
 use Rattle.isle_tree.specs.Program.{Body}
 use Rattle.isle_tree.specs.Run.{Around, State, Env, bind, value_of, read_values, Goes, Ends, then_run, run_bind, run_call, run_try, run_let, run_body}
-use Rattle.isle_emission.proofs.Written.{bound_expr, callee_of, end_of, lets, reads, written_operand, written_place}
-use Rattle.isle_emission.specs.Emitted.{AnswersBindings}
-use Rattle.isle_emission.proofs.BoundTests.{found}
-use Rattle.isle_emission.proofs.HeldStays.{IsThere, Grows}
-use Rattle.isle_emission.proofs.PathValues.{path_reads}
-use Rattle.isle_emission.proofs.LocalsAgree.{IsOfKind, Agree, agree_later, bind_agrees, operands_read}
+use Rattle.isle_simulation.proofs.Written.{bound_expr, callee_of, end_of, lets, reads, written_operand, written_place}
+use Rattle.isle_simulation.specs.Emitted.{AnswersBindings}
+use Rattle.isle_simulation.proofs.BoundTests.{found}
+use Rattle.isle_simulation.proofs.HeldStays.{IsThere, Grows}
+use Rattle.isle_simulation.proofs.PathValues.{path_reads}
+use Rattle.isle_simulation.proofs.LocalsAgree.{IsOfKind, Agree, agree_later, bind_agrees, operands_read}
 
 -- ---- occurrences
 

@@ -11,9 +11,9 @@ use Rattle.isle_core.specs.Rule.{Environment}
 use Rattle.isle_tree.specs.declared.tree.TraitFn.{TraitFn}
 use Rattle.isle_spelling.specs.Identifier.{IsIdentifier}
 use Rattle.isle_tree.specs.WellFormed.{IsTraitFn}
-use Rattle.isle_emission.specs.TraitFns.{constructor_fn, extractor_fn, func_of, extracted_of, trait_fns_in}
-use Rattle.isle_emission.proofs.TermNames.{type_is_builtin, params_are}
-use Rattle.isle_emission.proofs.WellFormedFunctions.{kind_is}
+use Rattle.isle_simulation.specs.TraitFns.{constructor_fn, extractor_fn, func_of, extracted_of, trait_fns_in}
+use Rattle.isle_simulation.proofs.TermNames.{type_is_builtin, params_are}
+use Rattle.isle_simulation.proofs.WellFormedFunctions.{kind_is}
 
 -- a term of builtin types that answers at most once, with no external extractor
 pub record IsPlainTerm (env : Environment) (t : Term) : Type 0 where

@@ -18,7 +18,7 @@ use Rattle.isle_tree.specs.declared.tree.Read.TheVariants as read
 use Rattle.isle_tree.specs.declared.tree.TExpr.{TExpr}
 use Rattle.isle_tree.specs.declared.tree.TExpr.TheVariants as expr
 use Rattle.isle_tree.specs.Program.{Stmt, Let, IfEq, Return, Body, Done, Then}
-use Rattle.isle_emission.specs.Operands.{in_place, tested, operand_of}
+use Rattle.isle_simulation.specs.Operands.{in_place, tested, operand_of}
 
 -- ---- what bound locals compute
 

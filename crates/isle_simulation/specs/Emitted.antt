@@ -19,7 +19,7 @@ use Rattle.isle_core.specs.Rule.{Environment}
 use Rattle.isle_core.specs.BuiltinType.{IsBuiltinType}
 use Rattle.isle_tree.specs.Program.{Function, Program}
 use Rattle.isle_tree.specs.Run.{run, function_of}
-use Rattle.isle_emission.specs.Ends.{end_of}
+use Rattle.isle_simulation.specs.Ends.{end_of}
 
 -- a term whose name may be emitted, whose types are built, and that answers at most once
 pub record IsEmittable (env : Environment) (t : Term) : Type 0 where

@@ -17,14 +17,14 @@ use Rattle.isle_tree.specs.WellFormed.{Locals, IsBody, IsBodyThere, IsKind, IsFu
 use Rattle.isle_tree.specs.declared.tree.TraitFn.{TraitFn}
 use Rattle.isle_core.specs.declared.types.ReturnKind.{ReturnKind}
 use Rattle.isle_core.specs.declared.types.ReturnKind.TheVariants as return_kind
-use Rattle.isle_emission.specs.TermFunction.{parameter, ends_in_return, mark_of, tail_body, tail_of}
-use Rattle.isle_emission.specs.Emitted.{IsEmittable}
-use Rattle.isle_emission.specs.TraitFns.{trait_fns_of, HasFnNames}
-use Rattle.isle_emission.proofs.Written.{function_of}
-use Rattle.isle_emission.proofs.TermNames.{has_names}
-use Rattle.isle_emission.proofs.BlockForms.{block_is}
-use Rattle.isle_emission.proofs.BlockThere.{root_there}
-use Rattle.isle_emission.proofs.BlockFits.{function_fits}
+use Rattle.isle_simulation.specs.TermFunction.{parameter, ends_in_return, mark_of, tail_body, tail_of}
+use Rattle.isle_simulation.specs.Emitted.{IsEmittable}
+use Rattle.isle_simulation.specs.TraitFns.{trait_fns_of, HasFnNames}
+use Rattle.isle_simulation.proofs.Written.{function_of}
+use Rattle.isle_simulation.proofs.TermNames.{has_names}
+use Rattle.isle_simulation.proofs.BlockForms.{block_is}
+use Rattle.isle_simulation.proofs.BlockThere.{root_there}
+use Rattle.isle_simulation.proofs.BlockFits.{function_fits}
 
 pub kind_is : (kind : ReturnKind) → AnswersOnce kind → IsKind kind
 kind_is return_kind.Plain once = tt

@@ -19,11 +19,11 @@ use Rattle.isle_core.specs.Rule.{Environment}
 use Rattle.isle_core.specs.Setting.{setting}
 use Rattle.isle_core.proofs.TurnKinds.{IsHeldOf}
 use Rattle.isle_tree.specs.Run.{Around, Env, newer, look, bind, value_of, read_values}
-use Rattle.isle_emission.proofs.Written.{reads, written_operand}
-use Rattle.isle_emission.specs.Operands.{is_bound}
-use Rattle.isle_emission.proofs.BoundTests.{found}
-use Rattle.isle_emission.proofs.HeldStays.{IsThere, Grows, held_stays}
-use Rattle.isle_emission.proofs.PathValues.{path_reads}
+use Rattle.isle_simulation.proofs.Written.{reads, written_operand}
+use Rattle.isle_simulation.specs.Operands.{is_bound}
+use Rattle.isle_simulation.proofs.BoundTests.{found}
+use Rattle.isle_simulation.proofs.HeldStays.{IsThere, Grows, held_stays}
+use Rattle.isle_simulation.proofs.PathValues.{path_reads}
 
 -- what stands at a path is of the path's kind and type
 pub record IsOfKind (env : Environment) (t : Term) (p : Path) (h : Held) : Type 0 where

@@ -14,18 +14,18 @@ use Rattle.isle_core.specs.SingleArms.{HasSingleArms}
 use Rattle.isle_tree.specs.Calls.{body_calls}
 use Rattle.isle_tree.specs.Program.{Function, Program}
 use Rattle.isle_tree.specs.WellFormed.{IsFunction}
-use Rattle.isle_emission.specs.Emitted.{IsEmittable, RunsAsBlock}
-use Rattle.isle_emission.specs.OfTerm.{IsOfTerm}
-use Rattle.isle_emission.specs.Shape.{HasShape}
-use Rattle.isle_emission.specs.TermFunction.{term_function}
-use Rattle.isle_emission.specs.TraitFns.{trait_fns_of, HasFnNames}
-use Rattle.isle_emission.proofs.BlockCalls.{IsBoundCall, written_calls}
-use Rattle.isle_emission.proofs.Made.{function_made}
-use Rattle.isle_emission.proofs.Shapes.{written_shape}
-use Rattle.isle_emission.proofs.Simulation.{written_runs}
-use Rattle.isle_emission.proofs.Tails.{written_of_term}
-use Rattle.isle_emission.proofs.WellFormedFunctions.{written_well_formed}
-use Rattle.isle_emission.proofs.Written.{function_of}
+use Rattle.isle_simulation.specs.Emitted.{IsEmittable, RunsAsBlock}
+use Rattle.isle_simulation.specs.OfTerm.{IsOfTerm}
+use Rattle.isle_simulation.specs.Shape.{HasShape}
+use Rattle.isle_simulation.specs.TermFunction.{term_function}
+use Rattle.isle_simulation.specs.TraitFns.{trait_fns_of, HasFnNames}
+use Rattle.isle_simulation.proofs.BlockCalls.{IsBoundCall, written_calls}
+use Rattle.isle_simulation.proofs.Made.{function_made}
+use Rattle.isle_simulation.proofs.Shapes.{written_shape}
+use Rattle.isle_simulation.proofs.Simulation.{written_runs}
+use Rattle.isle_simulation.proofs.Tails.{written_of_term}
+use Rattle.isle_simulation.proofs.WellFormedFunctions.{written_well_formed}
+use Rattle.isle_simulation.proofs.Written.{function_of}
 
 module _ (files : Files) (env : Environment) (t : Term) (bs : List Binding) (b : Block) (f : Function) (lawful : IsLawfulBlock (setting env t bs) b) (single : HasSingleArms b) (once : AnswersOnce (kind_of t.kind)) (given : term_function files env t bs b ≡ Some f) where
   -- it is the written one

@@ -19,7 +19,7 @@ use Rattle.isle_core.specs.PathType.{IsPathOf}
 use Rattle.isle_core.specs.Readable.{IsInPlace}
 use Rattle.isle_core.specs.Rule.{Environment}
 use Rattle.isle_tree.specs.Run.{Around, Env, value_of}
-use Rattle.isle_emission.proofs.Written.{written_constant, written_place, written_test}
+use Rattle.isle_simulation.proofs.Written.{written_constant, written_place, written_test}
 
 -- the path has this value of the type, where it is read in place and where a block runs
 pub record Reads (env : Environment) (u : Around) (p : Path) (ty : TypeId) (v : Value) : Type 0 where

@@ -25,11 +25,11 @@ use Rattle.isle_core.proofs.Contained.{contained_cases, none_contained}
 use Rattle.isle_tree.specs.Calls.{expr_calls, stmt_calls, body_calls}
 use Rattle.isle_tree.specs.Program.{Body, Done, Then}
 use Rattle.isle_tree.specs.declared.tree.Operand.{Operand}
-use Rattle.isle_emission.proofs.Written.{block_body, bound_expr, callee_of, control_stmt, lets, returned, function_of}
-use Rattle.isle_emission.specs.TermFunction.{mark_of, tail_body, tail_of, ends_in_return}
-use Rattle.isle_emission.specs.Statements.{callee_of as callee_made_of}
-use Rattle.isle_emission.proofs.Made.{callee_made}
-use Rattle.isle_emission.proofs.ArmBodies.{arm_body}
+use Rattle.isle_simulation.proofs.Written.{block_body, bound_expr, callee_of, control_stmt, lets, returned, function_of}
+use Rattle.isle_simulation.specs.TermFunction.{mark_of, tail_body, tail_of, ends_in_return}
+use Rattle.isle_simulation.specs.Statements.{callee_of as callee_made_of}
+use Rattle.isle_simulation.proofs.Made.{callee_made}
+use Rattle.isle_simulation.proofs.ArmBodies.{arm_body}
 
 -- the callee is that of a call among the bindings
 pub record IsBoundCall (env : Environment) (bs : List Binding) (callee : Callee) : Type 0 where

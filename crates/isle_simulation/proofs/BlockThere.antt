@@ -36,13 +36,13 @@ use Rattle.isle_tree.specs.declared.holds.Item.TheVariants as item
 use Rattle.isle_tree.specs.declared.tree.Operand.{Operand}
 use Rattle.isle_tree.specs.Program.{Body, Done, Then}
 use Rattle.isle_tree.specs.WellFormed.{Locals, newer, local_holds, operand_holds, is_value, are_values, kind_holds, call_holds, callee_holds, inner_holds, expr_holds, GivesKind, behind_let, IsBodyThere}
-use Rattle.isle_emission.proofs.Written.{block_body, bound_expr, callee_of, control_stmt, lets, reads, returned, written_constant, written_operand, written_place, written_test}
-use Rattle.isle_emission.specs.Operands.{is_bound}
-use Rattle.isle_emission.specs.TermFunction.{parameter}
-use Rattle.isle_emission.specs.TraitFns.{trait_fns_of, HasFnNames}
-use Rattle.isle_emission.proofs.ArmBodies.{arm_body}
-use Rattle.isle_emission.proofs.BoundTests.{found}
-use Rattle.isle_emission.proofs.ExternalTerms.{external_term, term_fn_found}
+use Rattle.isle_simulation.proofs.Written.{block_body, bound_expr, callee_of, control_stmt, lets, reads, returned, written_constant, written_operand, written_place, written_test}
+use Rattle.isle_simulation.specs.Operands.{is_bound}
+use Rattle.isle_simulation.specs.TermFunction.{parameter}
+use Rattle.isle_simulation.specs.TraitFns.{trait_fns_of, HasFnNames}
+use Rattle.isle_simulation.proofs.ArmBodies.{arm_body}
+use Rattle.isle_simulation.proofs.BoundTests.{found}
+use Rattle.isle_simulation.proofs.ExternalTerms.{external_term, term_fn_found}
 
 -- ---- operands
 

@@ -30,12 +30,12 @@ use Rattle.isle_core.specs.Setting.{setting}
 use Rattle.isle_tree.specs.declared.tree.Operand.{Operand}
 use Rattle.isle_tree.specs.Program.{Body, Done, Then}
 use Rattle.isle_tree.specs.WellFormed.{IsOperand, IsRead, IsExpr, IsStmt, IsBody}
-use Rattle.isle_emission.proofs.Written.{block_body, bound_expr, control_stmt, lets, reads, returned, written_constant, written_operand, written_place, written_test}
-use Rattle.isle_emission.specs.Operands.{is_bound}
-use Rattle.isle_emission.specs.TraitFns.{HasFnNames}
-use Rattle.isle_emission.proofs.ArmBodies.{arm_body}
-use Rattle.isle_emission.proofs.BoundTests.{found}
-use Rattle.isle_emission.proofs.ExternalTerms.{callee_is}
+use Rattle.isle_simulation.proofs.Written.{block_body, bound_expr, control_stmt, lets, reads, returned, written_constant, written_operand, written_place, written_test}
+use Rattle.isle_simulation.specs.Operands.{is_bound}
+use Rattle.isle_simulation.specs.TraitFns.{HasFnNames}
+use Rattle.isle_simulation.proofs.ArmBodies.{arm_body}
+use Rattle.isle_simulation.proofs.BoundTests.{found}
+use Rattle.isle_simulation.proofs.ExternalTerms.{callee_is}
 
 number_is : (o : Option TypeDef) (n : ℤ) → IsSomeAnd o (λ d. IsOfDef d (int_of_def o n)) → IsOperand (written_constant (int_of_def o n))
 number_is (Some (def.Builtin (builtin.Int ty))) n h = h.1

@@ -34,15 +34,15 @@ use Rattle.isle_core.proofs.RunEquality.{typed_same, same_typed}
 use Rattle.isle_tree.specs.declared.tree.Operand.{Operand}
 use Rattle.isle_tree.specs.Program.{Body, Done, Then}
 use Rattle.isle_tree.specs.Run.{Around, Env, value_of, Flow, Goes, Ends, then_run, behind, run_return, run_stmt, run_body, ended, function_run}
-use Rattle.isle_emission.proofs.Written.{block_body, control_stmt, end_of, returned, written_operand, function_of}
-use Rattle.isle_emission.specs.TermFunction.{ends_in_return, mark_of, tail_body, tail_of}
-use Rattle.isle_emission.specs.Ends.{end_of as ending}
-use Rattle.isle_emission.specs.Emitted.{AnswersBindings, RunsAsBlock, ran_with}
-use Rattle.isle_emission.proofs.ArmBodies.{arm_body}
-use Rattle.isle_emission.proofs.HeldStays.{Grows}
-use Rattle.isle_emission.proofs.PathValues.{constraint_tests}
-use Rattle.isle_emission.proofs.LocalsAgree.{Agree, none_agree, agree_later, operand_reads}
-use Rattle.isle_emission.proofs.BindsRun.{AreUnanswered, Keeps, done, LetsRun, lets_run}
+use Rattle.isle_simulation.proofs.Written.{block_body, control_stmt, end_of, returned, written_operand, function_of}
+use Rattle.isle_simulation.specs.TermFunction.{ends_in_return, mark_of, tail_body, tail_of}
+use Rattle.isle_simulation.specs.Ends.{end_of as ending}
+use Rattle.isle_simulation.specs.Emitted.{AnswersBindings, RunsAsBlock, ran_with}
+use Rattle.isle_simulation.proofs.ArmBodies.{arm_body}
+use Rattle.isle_simulation.proofs.HeldStays.{Grows}
+use Rattle.isle_simulation.proofs.PathValues.{constraint_tests}
+use Rattle.isle_simulation.proofs.LocalsAgree.{Agree, none_agree, agree_later, operand_reads}
+use Rattle.isle_simulation.proofs.BindsRun.{AreUnanswered, Keeps, done, LetsRun, lets_run}
 
 -- ---- ends
 

@@ -22,8 +22,8 @@ use Rattle.isle_core.proofs.Contained.{head_contained, tail_contained, contained
 use Rattle.isle_tree.specs.declared.tree.TraitFn.{TraitFn}
 use Rattle.isle_spelling.specs.Identifier.{IsIdentifier}
 use Rattle.isle_tree.specs.WellFormed.{IsCallee, fn_names, trait_fn}
-use Rattle.isle_emission.proofs.Written.{callee_of}
-use Rattle.isle_emission.specs.TraitFns.{constructor_fn, func_of, constructor_fn_of, extractor_fn_of, trait_fns_in, trait_fns_of, HasFnNames}
+use Rattle.isle_simulation.proofs.Written.{callee_of}
+use Rattle.isle_simulation.specs.TraitFns.{constructor_fn, func_of, constructor_fn_of, extractor_fn_of, trait_fns_in, trait_fns_of, HasFnNames}
 
 -- what an external term's call is
 pub record IsExternalTerm (env : Environment) (t : Term) (of : ReturnKind) (c : Calling) : Type 0 where

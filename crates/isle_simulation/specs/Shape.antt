@@ -14,8 +14,8 @@ use Rattle.isle_tree.specs.declared.tree.Read.TheVariants as read
 use Rattle.isle_tree.specs.declared.tree.TExpr.{TExpr}
 use Rattle.isle_tree.specs.declared.tree.TExpr.TheVariants as expr
 use Rattle.isle_tree.specs.Program.{Stmt, Let, LetList, IfEq, IfLet, Match, Loop, Return, Extend, Overflow, Log, Split, Tail, Body, Done, Then}
-use Rattle.isle_emission.specs.Bare.{bare}
-use Rattle.isle_emission.specs.Operands.{tested, operand_of}
+use Rattle.isle_simulation.specs.Bare.{bare}
+use Rattle.isle_simulation.specs.Operands.{tested, operand_of}
 
 -- the operand is that of the binding, where these are bound
 abbrev pub IsOperandOf : Setting → List ℕ → BindingId → Operand → Type 0

@@ -18,9 +18,9 @@ use Rattle.isle_core.specs.Setting.{setting}
 use Rattle.isle_tree.specs.declared.tree.Operand.{Operand}
 use Rattle.isle_tree.specs.Program.{Stmt, Let, Body, Done, Then}
 use Rattle.isle_tree.specs.WellFormed.{FitsLet, IsReturned, FitsStmt, FitsBody, FitsFunction}
-use Rattle.isle_emission.proofs.Written.{block_body, bound_expr, control_stmt, lets, returned, written_operand}
-use Rattle.isle_emission.specs.TermFunction.{ends_in_return, mark_of, tail_body, tail_of}
-use Rattle.isle_emission.proofs.ArmBodies.{arm_body}
+use Rattle.isle_simulation.proofs.Written.{block_body, bound_expr, control_stmt, lets, returned, written_operand}
+use Rattle.isle_simulation.specs.TermFunction.{ends_in_return, mark_of, tail_body, tail_of}
+use Rattle.isle_simulation.proofs.ArmBodies.{arm_body}
 
 returned_fits : (kind : ReturnKind) (o : Operand) → IsReturned (returned kind o)
 returned_fits return_kind.Plain o = tt

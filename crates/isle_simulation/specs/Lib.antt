@@ -1,0 +1,9 @@
+pub mod Ends
+pub mod Operands
+pub mod Statements
+pub mod TermFunction
+pub mod TraitFns
+pub mod OfTerm
+pub mod Bare
+pub mod Shape
+pub mod Emitted
