@@ -24,7 +24,7 @@ impl Model for LineStarts {
     ghost view = { λ table. table.files.items };
 }
 
-/// The places where the lines of a text begin, but the first.
+/// Makes the places where the lines of a text begin, but the first.
 fn starts_of(alloc: Global, text: &str) -> Result<Vec<usize>, AllocError>
     ensures { IfOk result (λ starts. starts.items ≡ starts_of text.now) }
 {
@@ -37,7 +37,7 @@ fn starts_of(alloc: Global, text: &str) -> Result<Vec<usize>, AllocError>
     Ok(starts)
 }
 
-/// The number of the line of a place in a text whose lines begin there, from 1.
+/// Returns the number of the line of a place in a text whose lines begin there, from 1.
 fn line_number(starts: &[usize], offset: usize) -> usize
     ensures { (text : ListOf ℕ) → starts.now ≡ starts_of text → result ≡ line_of text offset }
 {
@@ -45,7 +45,7 @@ fn line_number(starts: &[usize], offset: usize) -> usize
 }
 
 impl LineStarts {
-    /// Those of all files, by one walk over their texts.
+    /// Makes the places of all files, by one walk over their texts. Fails for want of memory alone.
     pub fn new(alloc: Global, files: &Files) -> Result<LineStarts, AllocError>
         ensures { IfOk result (λ table. table ≡ map starts_of files.now.file_texts) }
     {
@@ -57,7 +57,7 @@ impl LineStarts {
         Ok(LineStarts { files: starts })
     }
 
-    /// The place as it is printed. The table is that of the files.
+    /// Prints a place, which lies in the files; the table is theirs. Fails for want of memory alone.
     pub fn place(&self, alloc: Global, files: &Files, pos: Pos) -> Result<String, OutOfMemory>
         requires table { self.now ≡ map starts_of files.now.file_texts }
         requires place { LiesIn files.now pos }
