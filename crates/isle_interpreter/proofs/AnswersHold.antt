@@ -7,7 +7,7 @@ use Rattle.isle_core.specs.declared.values.Callee.{Callee}
 use Rattle.isle_core.specs.declared.values.Callee.TheVariants.{External, Internal}
 use Rattle.isle_core.specs.Value.{Value, Answer, Plain, Found, Nothing, Several, Made}
 use Rattle.isle_core.specs.Meaning.{PureAnswers, TurnAnswers, Meaning, turns_of, times, cases_of, case_or, case_at, same_values}
-use Rattle.isle_core.specs.Answered.{Held, One, Optional, answer_held, answer_by, answer}
+use Rattle.isle_core.specs.Answered.{AValue, ATuple, Held, Absent, One, Optional, Listed, answer_held, answer_by, answer}
 use Rattle.isle_core.specs.Terms.{goes_to}
 use Rattle.isle_tree.specs.declared.holds.Holds.{Holds}
 use Rattle.isle_tree.specs.declared.holds.Holds.TheVariants as holds
@@ -18,9 +18,17 @@ use Rattle.isle_interpreter.specs.Forms.{Form, Constant, Cases, Turns, forms, Is
 
 -- a place holds what is said of it
 abbrev pub HoldsIn : Holds → Held → Type 0
-HoldsIn holds.One (One v) = Unit {0}
-HoldsIn holds.Optional (Optional o) = Unit {0}
-HoldsIn h g = ⊥
+HoldsIn holds.One (One (AValue v)) = Unit {0}
+HoldsIn holds.One (One (ATuple vs)) = ⊥
+HoldsIn holds.One (Optional o) = ⊥
+HoldsIn holds.One (Listed is) = ⊥
+HoldsIn holds.One Absent = ⊥
+HoldsIn holds.Optional (Optional (Some (AValue v))) = Unit {0}
+HoldsIn holds.Optional (Optional (Some (ATuple vs))) = ⊥
+HoldsIn holds.Optional (Optional None) = Unit {0}
+HoldsIn holds.Optional (One i) = ⊥
+HoldsIn holds.Optional (Listed is) = ⊥
+HoldsIn holds.Optional Absent = ⊥
 
 -- ---- callees
 

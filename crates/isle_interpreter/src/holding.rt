@@ -2,16 +2,56 @@
 
 ghost use Rattle.std.specs.Prelude.{◌≡◌, IfOk};
 
-use isle_core::Value;
+use isle_core::{List, Value};
 use isle_outcomes::copied;
 use std::alloc::{AllocError, Global};
 
-/// What a place holds: nothing that there is, a value, or an option of one.
+/// An item: one value, or a tuple of values.
+#[derive(Debug, Drop)]
+pub enum Item {
+    Value(Value),
+    Tuple(List<Value>),
+}
+
+/// What a place holds: nothing that there is, an item, an option of one, or a list of items.
 #[derive(Debug, Drop)]
 pub enum Holding {
     Absent,
-    One(Value),
-    Optional(Option<Value>),
+    One(Item),
+    Optional(Option<Item>),
+    Listed(List<Item>),
+}
+
+/// Copies values in order.
+pub fn values_copied(alloc: Global, given: &[Value]) -> Result<List<Value>, AllocError>
+    ensures { IfOk result (λ copies. copies ≡ given.now) }
+{
+    let mut copies = Vec::new(alloc);
+    for value in given {
+        copies.push(copied(alloc, value)?)?;
+    }
+    Ok(List::new(copies))
+}
+
+// Copies an item.
+fn item_copied(alloc: Global, given: &Item) -> Result<Item, AllocError>
+    ensures { IfOk result (λ copy. copy ≡ given.now) }
+{
+    match given {
+        Item::Value(value) => Ok(Item::Value(copied(alloc, value)?)),
+        Item::Tuple(values) => Ok(Item::Tuple(values_copied(alloc, values.as_slice())?)),
+    }
+}
+
+// Copies items in order.
+fn items_copied(alloc: Global, given: &[Item]) -> Result<List<Item>, AllocError>
+    ensures { IfOk result (λ copies. copies ≡ given.now) }
+{
+    let mut copies = Vec::new(alloc);
+    for item in given {
+        copies.push(item_copied(alloc, item)?)?;
+    }
+    Ok(List::new(copies))
 }
 
 /// Copies what a place holds.
@@ -20,8 +60,9 @@ pub fn holding_copied(alloc: Global, given: &Holding) -> Result<Holding, AllocEr
 {
     match given {
         Holding::Absent => Ok(Holding::Absent),
-        Holding::One(value) => Ok(Holding::One(copied(alloc, value)?)),
+        Holding::One(item) => Ok(Holding::One(item_copied(alloc, item)?)),
         Holding::Optional(None) => Ok(Holding::Optional(None)),
-        Holding::Optional(Some(value)) => Ok(Holding::Optional(Some(copied(alloc, value)?))),
+        Holding::Optional(Some(item)) => Ok(Holding::Optional(Some(item_copied(alloc, item)?))),
+        Holding::Listed(items) => Ok(Holding::Listed(items_copied(alloc, items.as_slice())?)),
     }
 }

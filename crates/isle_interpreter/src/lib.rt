@@ -1,7 +1,7 @@
 //! Runs of target programs under given answers.
 #![tactic(auto)]
 
-mod bound;
+mod around;
 mod called;
 mod calls;
 mod entry;
