@@ -1,6 +1,7 @@
 -- Where a local is bound last, as it is bound and goes out of scope.
 use Rattle.std.proofs.Common.{◌≡◌, ℕ, zero, suc, ◌+◌, List, [], ◌∷◌, ◌++◌, length, take, Bool, true, false, cond, Option, Some, None, ⊎_elim, ◌⊎◌, inl, inr, refl, sym, ap, ◌∙◌, append_assoc, subst, arith}
-use Rattle.std.specs.Prelude.{◌==◌, IsSome, if◌then◌else◌}
+use Rattle.std.specs.Prelude.{◌==◌, ◌||◌, IsSome, is_some, if◌then◌else◌}
+use Rattle.std.specs.List.{list_any}
 use Rattle.std.specs.Ordering.{nat_cmp, is_eq}
 use Rattle.std.specs.BTreeMap.{BTreeMap, get, Updates, is_at}
 use Rattle.std.specs.Cmp.{Equal-is, nat_cmp_is}
@@ -28,6 +29,23 @@ last_now ls l n e = from_more 0 None ls l n ∙ rw (eq-eqb l n e) (ap Some {x = 
 -- another
 last_still : (ls : List ℕ) (l n : ℕ) → (l ≡ n → ⊥) → last_place (ls ++ l ∷ []) n ≡ last_place ls n
 last_still ls l n apart = from_more 0 None ls l n ∙ rw (ne_eqb l n apart) refl
+
+-- what has a place is bound
+has_from : (place : ℕ) (known : Option ℕ) (ls : List ℕ) (n : ℕ) → is_some (last_from place known ls n) ≡ (is_some known || list_any (λ l. l == n) ls)
+has_from place known [] n = either (is_some known)
+  where
+    either : (b : Bool) → b ≡ (b || false)
+    either true = refl
+    either false = refl
+has_from place known (l ∷ ls) n = has_from (suc place) (if l == n then Some place else known) ls n ∙ one (l == n) known (list_any (λ m. m == n) ls)
+  where
+    one : (same : Bool) (before : Option ℕ) (behind : Bool) → (is_some (if same then Some place else before) || behind) ≡ (is_some before || (same || behind))
+    one true None behind = refl
+    one true (Some x) behind = refl
+    one false before behind = refl
+
+pub has_place : (ls : List ℕ) (n : ℕ) → is_some (last_place ls n) ≡ list_any (λ l. l == n) ls
+has_place ls n = has_from 0 None ls n
 
 -- ---- the log
 

@@ -1,6 +1,7 @@
 //! The locals that are bound, in order.
 
-ghost use Rattle.std.specs.Prelude.{◌≡◌, ◌-◌, ◌++◌, [], ◌∷◌, length, take, IsSome, OnOk, OnErr};
+ghost use Rattle.std.specs.Prelude.{◌≡◌, ◌-◌, ◌++◌, ◌==◌, [], ◌∷◌, length, take, IsSome, OnOk, OnErr};
+ghost use Rattle.std.specs.List.{list_any};
 ghost use Rattle.std.specs.Ordering.{nat_cmp};
 ghost use Rattle.std.specs.BTreeMap.{get, Updates};
 ghost use Rattle.isle_scope.specs.Scope.{last_place};
@@ -113,6 +114,13 @@ impl Scope {
         ensures { result ≡ last_place self.now local }
     {
         self.places.get(&local).copied()
+    }
+
+    /// Tells whether a local is bound.
+    pub fn has(&self, local: usize) -> bool
+        ensures { result ≡ list_any (λ bound. bound == local) self.now }
+    {
+        self.place(local).is_some()
     }
 
     /// Binds a local. Where that is refused for want of memory, the scope stays as it was.

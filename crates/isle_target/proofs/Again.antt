@@ -1,16 +1,14 @@
 -- What a program is spelled as is read as that program, and as no other.
-use Rattle.std.proofs.Common.{◌≡◌, ℕ, zero, suc, ◌+◌, ◌<◌, ◌≤◌, List, [], ◌∷◌, ◌++◌, length, length-append, Bool, true, false, Some, None, refl, sym, ap, ◌∙◌, append_assoc, subst, arith}
-use Rattle.std.specs.Prelude.{codes}
+use Rattle.std.proofs.Common.{◌≡◌, ℕ, zero, suc, ◌+◌, ◌<◌, ◌≤◌, List, [], ◌∷◌, ◌++◌, length, length-append, Bool, true, false, Some, None, refl, sym, ap, ◌∙◌, append_assoc, arith}
+use Rattle.std.specs.Prelude.{codes, ℤ, pos, negsuc, ◌||◌, if◌then◌else◌}
 use Rattle.std.specs.List.{AllByRecursion, list_all}
 use Rattle.std.proofs.lemmas.Bool.{and_parts}
 use Rattle.isle_printer.specs.Token.{Token, Word, Mark, Quoted, Stray, Comment, is_read, without_comments, step, begun, tokens_of}
 use Rattle.isle_printer.proofs.Comments.{all_read}
-use Rattle.isle_printer.proofs.Bytes.{same_bytes_refl, same_bytes_sound}
+use Rattle.isle_printer.proofs.Bytes.{same_bytes_refl}
 use Rattle.isle_spelling.specs.Fixed.{allow_tokens, uses_tokens, fixed_tokens}
 use Rattle.isle_printer.specs.Number.{numeral}
-use Rattle.isle_printer.specs.Bytes.{same_bytes}
 use Rattle.isle_core.specs.Int.{wrapped}
-use Rattle.isle_target.proofs.Words.{literal_apart, literal_calls_none}
 use Rattle.isle_printer.proofs.Readback.{numeral_again}
 use Rattle.isle_core.specs.declared.values.Callee.{Callee}
 use Rattle.isle_core.specs.declared.values.Callee.TheVariants as callee
@@ -24,11 +22,12 @@ use Rattle.isle_tree.specs.declared.tree.Read.{Read}
 use Rattle.isle_tree.specs.declared.tree.Read.TheVariants as read
 use Rattle.isle_tree.specs.declared.tree.TExpr.{TExpr}
 use Rattle.isle_tree.specs.declared.tree.TExpr.TheVariants as expr
-use Rattle.isle_spelling.specs.Literal.{literal_tokens}
-use Rattle.isle_target.specs.Spelling.{operand_tokens, args_tokens, call_tokens, expr_tokens, stmt_tokens, body_tokens, constructor_word, no_rule, params_tokens, result_tokens, if_eq_head, function_head, function_tokens, functions_tokens, allow_part, close, program_tokens, joined_tokens, results_tokens, trait_fn_head, trait_fn_tokens, trait_fns_tokens, trait_tokens}
+use Rattle.isle_spelling.specs.Literal.{literal_tokens, literal_word}
+use Rattle.isle_core.specs.declared.types.IntType.{IntType}
+use Rattle.isle_target.specs.Spelling.{local_token, param_token, truth_token, operand_tokens, read_tokens, args_tokens, call_tokens, expr_tokens, stmt_tokens, body_tokens, constructor_word, no_rule, params_tokens, result_tokens, if_eq_head, function_head, function_tokens, functions_tokens, allow_part, close, program_tokens, joined_tokens, results_tokens, trait_fn_head, trait_fn_tokens, trait_fns_tokens, trait_tokens}
 use Rattle.isle_tree.specs.Program.{Stmt, Let, IfEq, Return, Tail, Body, Done, Then, Function, Program}
-use Rattle.isle_tree.specs.WellFormed.{IsOperand, IsRead, IsCallee, IsExpr, IsStmt, IsBody, IsBuiltin, IsTy, IsKind, AreResults, IsTraitFn, IsTypeItem, IsFunction, IsWellFormed}
-use Rattle.isle_target.specs.Reading.{same_token, phrase, at, read_args, read_expr, read_stmt, read_body, read_params, read_result, read_function, read_functions, read_joined, read_trait_fn, read_trait_fns, read_trait, read_items, read_program, program_of, SpellsOnly}
+use Rattle.isle_tree.specs.WellFormed.{IsOperand, IsRead, IsCallee, IsExpr, IsStmt, IsBody, IsTy, IsKind, AreResults, IsTraitFn, IsTypeItem, IsFunction, IsWellFormed}
+use Rattle.isle_target.specs.Reading.{same_token, phrase, at, rest, goes_on, begins, read_suffixed, read_read, read_args, read_expr, read_stmt, read_body, read_params, read_result, read_function, read_functions, read_joined, read_trait_fn, read_trait_fns, read_trait, read_items, read_program, program_of, SpellsOnly}
 use Rattle.isle_target.proofs.Words.{operand_again}
 use Rattle.isle_target.proofs.NoComments.{program_read}
 
@@ -75,29 +74,57 @@ uses_apart ts = refl
 
 -- ---- statements
 
--- an operand does not begin as an option does
-operand_apart : (o : Operand) (ts : List Token) → IsOperand o → at (Word (codes "Some")) (operand_tokens o ++ ts) ≡ false
-operand_apart (operand.Local n) ts h = refl
-operand_apart (operand.Arg n) ts h = refl
-operand_apart (operand.Bool true) ts h = refl
-operand_apart (operand.Bool false) ts h = refl
-operand_apart (operand.Int ty z) ts h = literal_apart ty (wrapped ty z) ts
-operand_apart (operand.Raw z) ts h = absurd h
-operand_apart (operand.Name w) ts h = absurd h
-
--- nor as a call
-operand_calls_none : (o : Operand) (ts : List Token) → IsOperand o → phrase (Word (codes "C") ∷ Mark (codes "::") ∷ []) (operand_tokens o ++ ts) ≡ None
-operand_calls_none (operand.Local n) ts h = refl
-operand_calls_none (operand.Arg n) ts h = refl
-operand_calls_none (operand.Bool true) ts h = refl
-operand_calls_none (operand.Bool false) ts h = refl
-operand_calls_none (operand.Int ty z) ts h = begins_none (literal_tokens ty (wrapped ty z) ++ ts) (literal_calls_none ty (wrapped ty z) ts)
+-- two tokens stand nowhere that the second is another
+second_apart : (p q t : Token) (ts : List Token) → at q ts ≡ false → phrase (p ∷ q ∷ []) (t ∷ ts) ≡ None
+second_apart p q t ts e = one (same_token p t)
   where
-    begins_none : (us : List Token) → at (Word (codes "C")) us ≡ false → phrase (Word (codes "C") ∷ Mark (codes "::") ∷ []) us ≡ None
-    begins_none [] e = refl
-    begins_none (u ∷ us) e = rw e refl
-operand_calls_none (operand.Raw z) ts h = absurd h
-operand_calls_none (operand.Name w) ts h = absurd h
+    next : (us : List Token) → at q us ≡ false → phrase (q ∷ []) us ≡ None
+    next [] h = refl
+    next (u ∷ us) h = rw h refl
+
+    one : (b : Bool) → (if b then phrase (q ∷ []) ts else None) ≡ None
+    one true = next ts e
+    one false = refl
+
+literal_apart : (w m : List ℕ) (ty : IntType) (n : ℤ) (ts : List Token) → at (Mark m) ts ≡ false → phrase (Word w ∷ Mark m ∷ []) (literal_tokens ty n ++ ts) ≡ None
+literal_apart w m ty (pos n) ts e = second_apart (Word w) (Mark m) (Word (literal_word ty n)) ts e
+literal_apart w m ty (negsuc n) ts e = refl
+
+-- a form that is told by a word and a mark begins at no operand that the mark isn't behind
+operand_apart : (w m : List ℕ) (o : Operand) (ts : List Token) → IsOperand o → at (Mark m) ts ≡ false → phrase (Word w ∷ Mark m ∷ []) (operand_tokens o ++ ts) ≡ None
+operand_apart w m (operand.Local n) ts h e = second_apart (Word w) (Mark m) (local_token n) ts e
+operand_apart w m (operand.Arg n) ts h e = second_apart (Word w) (Mark m) (param_token n) ts e
+operand_apart w m (operand.Bool b) ts h e = second_apart (Word w) (Mark m) (truth_token b) ts e
+operand_apart w m (operand.Int ty z) ts h e = literal_apart w m ty (wrapped ty z) ts e
+operand_apart w m (operand.Raw z) ts h e = absurd h
+operand_apart w m (operand.Name name) ts h e = absurd h
+
+stays : {A : Type 0} (tried more : Bool) (x y : A) → (tried || more) ≡ false → (if tried then Some x else (if tried || more then None else Some y)) ≡ Some y
+stays true more x y e = absurd cc
+stays false more x y e = rw e refl
+
+-- an operand that nothing goes on is read again
+bare_again : (o : Operand) (ts : List Token) → IsOperand o → goes_on ts ≡ false → read_suffixed (operand_tokens o ++ ts) ≡ Some (expr.Read (read.Plain o), ts)
+unfolding read_suffixed
+bare_again o ts h e =
+    rw (operand_again o ts h) (stays (at (Mark (codes "?")) ts) (at (Mark (codes ".")) ts) (expr.Try o false, rest ts) (expr.Read (read.Plain o), ts) e)
+
+-- and with a ? behind it
+tried_again : (o : Operand) (ts : List Token) → IsOperand o → read_suffixed (operand_tokens o ++ Mark (codes "?") ∷ ts) ≡ Some (expr.Try o false, ts)
+unfolding read_suffixed
+tried_again o ts h = rw (operand_again o (Mark (codes "?") ∷ ts) h) refl
+
+-- what is read is read again, where nothing goes on it
+pub read_again : (r : Read) (ts : List Token) → IsRead r → goes_on ts ≡ false → read_read (read_tokens r ++ ts) ≡ Some (r, ts)
+unfolding read_read
+read_again (read.Plain o) ts h e = rw (bare_again o ts h e) refl
+read_again (read.Borrow o) ts h e = absurd h
+read_again (read.Clone o) ts h e = absurd h
+
+-- nothing goes on an argument
+args_stop : (rs : List Read) (ts : List Token) → goes_on (args_tokens rs ++ ts) ≡ false
+args_stop [] ts = refl
+args_stop (r ∷ rs) ts = refl
 
 -- the arguments of a call are read again
 args_again : (n : ℕ) (rs : List Read) (ts : List Token) → AllByRecursion IsRead rs → length (args_tokens rs) ≤ n → read_args n (args_tokens rs ++ ts) ≡ Some (rs, ts)
@@ -105,11 +132,9 @@ unfolding read_args
 args_again zero [] ts h le = absurd (omega (arith, le))
 args_again zero (r ∷ rs) ts h le = absurd (omega (arith, le))
 args_again (suc n) [] ts h le = refl
-args_again (suc n) (read.Plain o ∷ rs) ts h le =
-    let l = length-append (operand_tokens o) (args_tokens rs) in
-    rw (append_assoc (operand_tokens o) (args_tokens rs) ts, operand_again o (args_tokens rs ++ ts) h.0, args_again n rs ts h.1 (omega (arith, l, le))) refl
-args_again (suc n) (read.Borrow o ∷ rs) ts h le = absurd h.0
-args_again (suc n) (read.Clone o ∷ rs) ts h le = absurd h.0
+args_again (suc n) (r ∷ rs) ts h le =
+    let l = length-append (read_tokens r) (args_tokens rs) in
+    rw (append_assoc (read_tokens r) (args_tokens rs) ts, read_again r (args_tokens rs ++ ts) h.0 (args_stop rs ts), args_again n rs ts h.1 (omega (arith, l, le))) refl
 
 -- a call is read again
 call_again : (to : Callee) (rs : List Read) (ts : List Token) → IsCallee to → AllByRecursion IsRead rs → read_expr (call_tokens to rs ++ ts) ≡ Some (expr.Call false (record { callee = to; args = rs }), ts)
@@ -124,20 +149,24 @@ pub expr_again : (e : TExpr) (ts : List Token) → IsExpr e → read_expr (expr_
 unfolding read_expr
 expr_again (expr.Read (read.Plain o)) ts h =
     let after = Mark (codes ";") ∷ ts in
-    rw (operand_apart o after h, operand_calls_none o after h, operand_again o after h) refl
+    rw (operand_apart (codes "Some") (codes "(") o after h refl, operand_apart (codes "C") (codes "::") o after h refl, bare_again o after h refl) refl
+expr_again (expr.Read (read.Borrow o)) ts h = absurd h
+expr_again (expr.Read (read.Clone o)) ts h = absurd h
 expr_again (expr.Call false call) ts h = call_again call.callee call.args (Mark (codes ";") ∷ ts) h.1.callee h.1.args
 expr_again (expr.Call true call) ts h = absurd cc
-expr_again (expr.Some (read.Plain o)) ts h =
+expr_again (expr.Some r) ts h =
     let after = Mark (codes ";") ∷ ts in
-    rw (append_assoc (operand_tokens o) (Mark (codes ")") ∷ []) after, operand_again o (Mark (codes ")") ∷ after) h) refl
+    rw (append_assoc (read_tokens r) (Mark (codes ")") ∷ []) after, read_again r (Mark (codes ")") ∷ after) h refl) refl
 expr_again (expr.Try o false) ts h =
     let after = Mark (codes "?") ∷ Mark (codes ";") ∷ ts in
-    rw (append_assoc (operand_tokens o) (Mark (codes "?") ∷ []) (Mark (codes ";") ∷ ts), operand_apart o after h.1, operand_calls_none o after h.1, operand_again o after h.1) refl
+    rw (append_assoc (operand_tokens o) (Mark (codes "?") ∷ []) (Mark (codes ";") ∷ ts), operand_apart (codes "Some") (codes "(") o after h.1 refl, operand_apart (codes "C") (codes "::") o after h.1 refl, tried_again o (Mark (codes ";") ∷ ts) h.1) refl
 expr_again (expr.Try o true) ts h = absurd cc
-expr_again e ts h = absurd h
+expr_again (expr.Variant ty variant fields) ts h = absurd h
+expr_again (expr.Struct ty fields) ts h = absurd h
+expr_again (expr.Tuple o n) ts h = absurd h
 
--- a statement begins with a word that ends no body, and has a token
-stmt_begins : (s : Stmt) (ts : List Token) → IsStmt s → at (Mark (codes "}")) (stmt_tokens s ++ ts) ≡ false
+-- a statement begins as one, and has a token
+stmt_begins : (s : Stmt) (ts : List Token) → IsStmt s → begins (stmt_tokens s ++ ts) ≡ true
 stmt_begins (Let n e) ts h = refl
 stmt_begins (IfEq a b inside) ts h = refl
 stmt_begins (Return e) ts h = refl
@@ -163,20 +192,20 @@ mutual
       let after = body_tokens inside ++ (close ++ ts) in
       let flat : (if_eq_head a b ++ (body_tokens inside ++ close)) ++ ts ≡ Word (codes "if") ∷ (operand_tokens a ++ Mark (codes "==") ∷ (operand_tokens b ++ Mark (codes "{") ∷ after)) = simp append_assoc in
       let fuel : length (body_tokens inside) < n = omega (arith, le, length-append (if_eq_head a b) (body_tokens inside ++ close), length-append (body_tokens inside) close) in
-      rw (flat, operand_again a (Mark (codes "==") ∷ (operand_tokens b ++ Mark (codes "{") ∷ after)) h.0, operand_again b (Mark (codes "{") ∷ after) h.1, body_again inside n ts h.2 fuel) refl
+      rw (flat, operand_again a (Mark (codes "==") ∷ (operand_tokens b ++ Mark (codes "{") ∷ after)) h.0, operand_again b (Mark (codes "{") ∷ after) h.1, body_again inside n (close ++ ts) h.2 refl fuel) refl
   stmt_again (Return e) n ts h le = rw (append_assoc (expr_tokens e) (Mark (codes ";") ∷ []) ts, expr_again e ts h) refl
   stmt_again (Tail None) n ts h le = refl
   stmt_again (Tail (Some texts)) n ts h le = refl
   stmt_again s n ts h le = absurd h
 
-  -- statements are read again up to the } behind them
-  pub body_again : (b : Body) (n : ℕ) (ts : List Token) → IsBody b → length (body_tokens b) < n → read_body n (body_tokens b ++ (close ++ ts)) ≡ Some (b, close ++ ts)
-  body_again Done zero ts h le = absurd (omega arith)
-  body_again Done (suc n) ts h le = refl
-  body_again (Then s ss) zero ts h le = absurd (omega arith)
-  body_again (Then s ss) (suc n) ts h le =
+  -- statements are read again, up to what begins none
+  pub body_again : (b : Body) (n : ℕ) (ts : List Token) → IsBody b → begins ts ≡ false → length (body_tokens b) < n → read_body n (body_tokens b ++ ts) ≡ Some (b, ts)
+  body_again Done zero ts h e le = absurd (omega arith)
+  body_again Done (suc n) ts h e le = rw e refl
+  body_again (Then s ss) zero ts h e le = absurd (omega arith)
+  body_again (Then s ss) (suc n) ts h e le =
       let l = length-append (stmt_tokens s) (body_tokens ss) in
-      rw (append_assoc (stmt_tokens s) (body_tokens ss) (close ++ ts), stmt_begins s (body_tokens ss ++ (close ++ ts)) h.0, stmt_again s n (body_tokens ss ++ (close ++ ts)) h.0 (omega (arith, l)), body_again ss n ts h.1 (omega (arith, l, stmt_some s h.0))) refl
+      rw (append_assoc (stmt_tokens s) (body_tokens ss) ts, stmt_begins s (body_tokens ss ++ ts) h.0, stmt_again s n (body_tokens ss ++ ts) h.0 (omega (arith, l)), body_again ss n ts h.1 e (omega (arith, l, stmt_some s h.0))) refl
 
 -- ---- functions
 
@@ -195,21 +224,12 @@ length-params : (n : ℕ) (tys : List Ty) → length tys < length (params_tokens
 length-params n [] = omega arith
 length-params n (ty ∷ tys) = omega (arith, length-params (n + 1) tys)
 
--- no builtin type is named Option
-not_option : (name : List ℕ) → IsBuiltin name → same_bytes (codes "Option") name ≡ false
-not_option name h = by_test (same_bytes (codes "Option") name) refl
-  where
-    by_test : (b : Bool) → same_bytes (codes "Option") name ≡ b → b ≡ false
-    by_test false e = refl
-    by_test true e =
-        let none : IsBuiltin (codes "Option") = subst IsBuiltin (sym (same_bytes_sound (codes "Option") name e)) h in
-        absurd cc
-
-result_again : (how : ReturnKind) (name : List ℕ) (ts : List Token) → IsKind how → IsBuiltin name → read_result (result_tokens how name ++ ts) ≡ Some ((how, name), ts)
+-- a result is read again, where no < stands behind it
+result_again : (how : ReturnKind) (name : List ℕ) (ts : List Token) → IsKind how → at (Mark (codes "<")) ts ≡ false → read_result (result_tokens how name ++ ts) ≡ Some ((how, name), ts)
 unfolding read_result
-result_again kind.Plain name ts h b = rw (not_option name b) refl
-result_again kind.Option name ts h b = refl
-result_again kind.Iterator name ts h b = absurd h
+result_again kind.Plain name ts h e = rw (second_apart (Word (codes "Option")) (Mark (codes "<")) (Word name) ts e) refl
+result_again kind.Option name ts h e = refl
+result_again kind.Iterator name ts h e = absurd h
 
 -- a function is read again
 pub function_again : (p : Program) (f : Function) (ts : List Token) → IsFunction p f → read_function (function_tokens f ++ ts) ≡ Some (f, ts)
@@ -221,7 +241,7 @@ function_again p f ts h =
     let fuel : length f.params < length (params_tokens 0 f.params ++ braced) = omega (arith, length-append (params_tokens 0 f.params) braced, length-params 0 f.params) in
     let long : length (body_tokens f.body) < length inside = omega (arith, length-append (body_tokens f.body) (close ++ ts)) in
     ap read_function flat
-    ∙ rw (params_again (length (params_tokens 0 f.params ++ braced)) 0 f.params braced h.names.params fuel, result_again f.kind f.result (Mark (codes "{") ∷ inside) h.kind h.names.result, body_again f.body (length inside) ts h.forms long) refl
+    ∙ rw (params_again (length (params_tokens 0 f.params ++ braced)) 0 f.params braced h.names.params fuel, result_again f.kind f.result (Mark (codes "{") ∷ inside) h.kind refl, body_again f.body (length inside) (close ++ ts) h.forms refl long) refl
 
 -- functions are read again
 pub functions_again : (p : Program) (n : ℕ) (fs : List Function) → AllByRecursion (IsFunction p) fs → length (functions_tokens fs) ≤ n → read_functions n (functions_tokens fs) ≡ Some fs
@@ -250,11 +270,11 @@ length-joined zero (ty ∷ tys) = omega (arith, length-joined 1 tys)
 length-joined (suc n) (ty ∷ tys) = omega (arith, length-joined (suc n + 1) tys)
 
 -- one result is read again
-results_again : (how : ReturnKind) (names : List (List ℕ)) (ts : List Token) → IsKind how → AreResults names
+results_again : (how : ReturnKind) (names : List (List ℕ)) (ts : List Token) → IsKind how → AreResults names → at (Mark (codes "<")) ts ≡ false
     → (name : List ℕ) × (names ≡ name ∷ []) × (read_result (results_tokens how names ++ ts) ≡ Some ((how, name), ts))
-results_again how [] ts h b = absurd b
-results_again how (name ∷ []) ts h b = (name, refl, result_again how name ts h b)
-results_again how (name ∷ more ∷ names) ts h b = absurd b
+results_again how [] ts h b e = absurd b
+results_again how (name ∷ []) ts h b e = (name, refl, result_again how name ts h e)
+results_again how (name ∷ more ∷ names) ts h b e = absurd b
 
 -- a function of the trait is read again
 trait_fn_again : (f : TraitFn) (ts : List Token) → IsTraitFn f → read_trait_fn (trait_fn_tokens f ++ ts) ≡ Some (f, ts)
@@ -264,7 +284,7 @@ trait_fn_again f ts h =
     let arrow = Mark (codes "->") ∷ (results_tokens f.kind f.results ++ ended) in
     let flat : trait_fn_tokens f ++ ts ≡ trait_fn_head f.name ++ (joined_tokens 0 f.params ++ arrow) = simp append_assoc in
     let fuel : length f.params < length (joined_tokens 0 f.params ++ arrow) = omega (arith, length-append (joined_tokens 0 f.params) arrow, length-joined 0 f.params) in
-    let r = results_again f.kind f.results ended h.kind h.results in
+    let r = results_again f.kind f.results ended h.kind h.results refl in
     ap read_trait_fn flat
     ∙ rw (joined_again (length (joined_tokens 0 f.params ++ arrow)) 0 f.params arrow h.params fuel, r.2) (ap (λ (names : List (List ℕ)). Some (record { name = f.name; params = f.params; results = names; kind = f.kind }, ts)) (sym r.1))
 

@@ -1,8 +1,8 @@
 -- No comment is among the tokens of a program.
-use Rattle.std.proofs.Common.{◌≡◌, ℕ, zero, suc, List, [], ◌∷◌, ◌++◌, Bool, true, false, Option, Some, None, refl, ap, ◌∙◌}
+use Rattle.std.proofs.Common.{◌≡◌, ℕ, zero, suc, List, [], ◌∷◌, ◌++◌, Bool, true, false, Option, Some, None, refl}
 use Rattle.std.specs.Prelude.{codes, ℤ, pos, negsuc, ◌+◌}
 use Rattle.std.specs.List.{list_all}
-use Rattle.isle_printer.specs.Token.{Token, Word, Mark, Quoted, is_read, step, begun}
+use Rattle.isle_printer.specs.Token.{Token, Mark, is_read, step, begun}
 use Rattle.isle_printer.proofs.Comments.{both_read}
 use Rattle.isle_core.specs.Int.{wrapped}
 use Rattle.isle_core.specs.declared.types.IntType.{IntType}
@@ -21,7 +21,7 @@ use Rattle.isle_tree.specs.declared.tree.Read.TheVariants as read
 use Rattle.isle_tree.specs.declared.tree.TExpr.{TExpr}
 use Rattle.isle_tree.specs.declared.tree.TExpr.TheVariants as expr
 use Rattle.isle_tree.specs.Program.{Stmt, Let, LetList, IfEq, IfLet, Match, Loop, Return, Extend, Overflow, Log, Split, Tail, Body, Done, Then, Function, Program}
-use Rattle.isle_target.specs.Spelling.{truth_token, operand_tokens, read_tokens, args_tokens, call_tokens, expr_tokens, close, let_tokens, return_tokens, if_eq_head, tail_tokens, stmt_tokens, body_tokens, params_tokens, result_tokens, result_part, function_tokens, functions_tokens, allow_part, comma, typed_tokens, joined_tokens, results_tokens, trait_result, trait_fn_tokens, trait_fns_tokens, trait_tokens, program_tokens}
+use Rattle.isle_target.specs.Spelling.{truth_token, operand_tokens, read_tokens, args_tokens, call_tokens, expr_tokens, close, if_eq_head, tail_tokens, stmt_tokens, body_tokens, params_tokens, result_tokens, result_part, function_tokens, functions_tokens, allow_part, comma, typed_tokens, joined_tokens, results_tokens, trait_result, trait_fn_tokens, trait_fns_tokens, trait_tokens, program_tokens}
 
 -- none of the tokens is a comment
 abbrev AreRead : List Token → Type 0

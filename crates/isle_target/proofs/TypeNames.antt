@@ -1,7 +1,6 @@
 -- The names of types and of functions are words.
-use Rattle.std.proofs.Common.{◌≡◌, ℕ, List, [], ◌∷◌, Bool, true, false, cond, Option, Some, None, get_or, refl, sym, ap, subst}
-use Rattle.std.specs.Prelude.{codes, is_some, ◌||◌, ◌&&◌, eqb}
-use Rattle.std.specs.Str.{bytes_eq}
+use Rattle.std.proofs.Common.{◌≡◌, ℕ, List, [], ◌∷◌, Bool, true, false, cond, Option, Some, None, get_or, refl, sym, subst}
+use Rattle.std.specs.Prelude.{codes, is_some, ◌||◌}
 use Rattle.isle_core.specs.declared.types.IntType.{IntType}
 use Rattle.isle_core.specs.declared.types.IntType.TheVariants.{U8, U16, U32, U64, U128, USize, I8, I16, I32, I64, I128, ISize}
 use Rattle.isle_printer.specs.Token.{is_word}

@@ -1,20 +1,18 @@
 -- A word is read as what it was spelled from.
-use Rattle.std.proofs.Common.{◌≡◌, ℕ, zero, suc, ◌<◌, List, [], ◌∷◌, ◌++◌, map, get_or, true, false, Some, refl, sym, arith, subst}
-use Rattle.std.specs.Prelude.{codes, ℤ, pos, negsuc, nat_le, ◌&&◌}
+use Rattle.std.proofs.Common.{◌≡◌, ℕ, zero, suc, ◌<◌, List, [], ◌∷◌, ◌++◌, map, get_or, true, false, Some, refl, sym, arith}
+use Rattle.std.specs.Prelude.{ℤ, pos, negsuc, nat_le, ◌&&◌}
 use Rattle.std.specs.Int.{w128}
 use Rattle.std.specs.Int.RustNames.{FitsSigned}
 use Rattle.std.specs.Int.Digits.{digits_of, AllBelowBase}
 use Rattle.std.proofs.lemmas.Int.Digits.{all_below_base_digits_of, first_digits_of}
 use Rattle.std.proofs.lemmas.Bool.Decides.{nat_tests, Decides-int_eq}
-use Rattle.std.proofs.lemmas.Bool.{ne_eqb}
-use Rattle.isle_printer.specs.Bytes.{same_bytes}
 use borrow.Author.Differences.{same_in, same_out, sum_is_lem, product_is, neg_is}
 use lib.IntN.{neg_ℤ}
 use Rattle.isle_core.specs.declared.types.IntType.{IntType}
 use Rattle.isle_core.specs.declared.types.IntType.TheVariants.{U8, U16, U32, U64, U128, USize, I8, I16, I32, I64, I128, ISize}
 use Rattle.isle_core.specs.Int.{IsOf, wrapped}
 use Rattle.isle_core.specs.HasType.{IsHeld}
-use Rattle.isle_printer.specs.Token.{Token, Word}
+use Rattle.isle_printer.specs.Token.{Token}
 use Rattle.isle_printer.specs.Number.{numeral, glyph}
 use Rattle.isle_printer.proofs.Readback.{numeral_again}
 use Rattle.isle_tree.specs.declared.tree.Operand.{Operand}
@@ -22,7 +20,7 @@ use Rattle.isle_tree.specs.declared.tree.Operand.TheVariants as operand
 use Rattle.isle_spelling.specs.Literal.{literal_word, literal_tokens, held}
 use Rattle.isle_target.specs.Spelling.{operand_tokens}
 use Rattle.isle_tree.specs.WellFormed.{IsOperand}
-use Rattle.isle_target.specs.Reading.{is_number, number_at, read_operand, at}
+use Rattle.isle_target.specs.Reading.{is_number, number_at, read_operand}
 use Rattle.isle_spelling.proofs.Literals.{literal_again}
 use Rattle.isle_spelling.proofs.Wraps.{wraps, wraps_only}
 
@@ -54,21 +52,6 @@ literal_number I32 n = decimal_number n _
 literal_number I64 n = decimal_number n _
 literal_number I128 n = decimal_number n _
 literal_number ISize n = decimal_number n _
-
--- a word that begins as no number does is none
-number_apart : (a : ℕ) (more w : List ℕ) → is_number (a ∷ more) ≡ false → is_number w ≡ true → same_bytes (a ∷ more) w ≡ false
-number_apart a more [] none h = refl
-number_apart a more (b ∷ bs) none h = rw (ne_eqb a b (λ e. let same : is_number (a ∷ more) ≡ true = subst (λ x. is_number (x ∷ bs) ≡ true) (sym e) h in absurd cc)) refl
-
--- a literal begins as no option does
-pub literal_apart : (ty : IntType) (n : ℤ) (ts : List Token) → at (Word (codes "Some")) (literal_tokens ty n ++ ts) ≡ false
-literal_apart ty (negsuc n) ts = refl
-literal_apart ty (pos n) ts = number_apart 83 (codes "ome") (literal_word ty n) refl (literal_number ty n)
-
--- and as no call does
-pub literal_calls_none : (ty : IntType) (n : ℤ) (ts : List Token) → at (Word (codes "C")) (literal_tokens ty n ++ ts) ≡ false
-literal_calls_none ty (negsuc n) ts = refl
-literal_calls_none ty (pos n) ts = number_apart 67 [] (literal_word ty n) refl (literal_number ty n)
 
 -- ---- integers
 

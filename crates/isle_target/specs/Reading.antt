@@ -1,5 +1,6 @@
 -- Reading a text as a program: its tokens from left to right, each form told by the next few.
-use Rattle.std.specs.Prelude.{◌≡◌, ℕ, zero, suc, ◌+◌, ℤ, pos, negsuc, List, [], ◌∷◌, ◌++◌, length, Bool, true, false, ◌==◌, ◌&&◌, nat_le, Option, Some, None, codes, if◌then◌else◌}
+use Rattle.std.specs.Prelude.{◌≡◌, ℕ, zero, suc, ◌+◌, ℤ, pos, negsuc, List, [], ◌∷◌, ◌++◌, length, Bool, true, false, ◌==◌, ◌&&◌, ◌||◌, nat_le, Option, Some, None, codes, if◌then◌else◌}
+use Rattle.std.specs.List.{list_any}
 use Rattle.std.specs.Ordering.{int_eq}
 use Rattle.isle_core.specs.Int.{wrapped}
 use Rattle.isle_core.specs.declared.types.IntType.{IntType}
@@ -141,55 +142,87 @@ read_negative ts = do
 unfoldable pub read_operand : List Token → Reads Operand
 read_operand ts = if at (Mark (codes "-")) ts then read_negative (rest ts) else read_word ts
 
--- what an operand computes, or the ? behind it
-abbrev pub tried : Operand → List Token → TExpr × List Token
-tried o ts = if at (Mark (codes "?")) ts then (expr.Try o false, rest ts) else (expr.Read (read.Plain o), ts)
+-- whether what stands behind an operand goes on it
+abbrev pub goes_on : List Token → Bool
+goes_on ts = at (Mark (codes "?")) ts || at (Mark (codes ".")) ts
 
--- a read operand, or the inner value of one
-abbrev pub read_plain : List Token → Reads TExpr
-read_plain ts = do
+-- an operand with what goes on it: ?, or nothing; .clone(), .as_ref()?, a part's number, and a & in front are not built
+abbrev pub suffixed : Operand → List Token → Reads TExpr
+suffixed o ts =
+    if at (Mark (codes "?")) ts then Some (expr.Try o false, rest ts)
+    else (if goes_on ts then None else Some (expr.Read (read.Plain o), ts))
+
+-- an operand, and what goes on it
+unfoldable pub read_suffixed : List Token → Reads TExpr
+read_suffixed ts = do
   o ← read_operand ts
-  Some (tried o.0 o.1)
+  suffixed o.0 o.1
 
--- an option of a read operand
+-- an operand as it is read, and nothing else
+abbrev pub only_read : TExpr → Option Read
+only_read (expr.Read r) = Some r
+only_read (expr.Call borrow call) = None
+only_read (expr.Variant ty variant fields) = None
+only_read (expr.Struct ty fields) = None
+only_read (expr.Some r) = None
+only_read (expr.Try source as_ref) = None
+only_read (expr.Tuple o n) = None
+
+-- an operand as it is read
+unfoldable pub read_read : List Token → Reads Read
+read_read ts = do
+  e ← read_suffixed ts
+  r ← only_read e.0
+  Some (r, e.1)
+
+-- an option of what is read, from behind its ( on
 abbrev pub read_some : List Token → Reads TExpr
 read_some ts = do
-  ts1 ← behind (Mark (codes "(")) ts
-  o ← read_operand ts1
-  ts2 ← behind (Mark (codes ")")) o.1
-  Some (expr.Some (read.Plain o.0), ts2)
+  r ← read_read ts
+  ts1 ← behind (Mark (codes ")")) r.1
+  Some (expr.Some r.0, ts1)
 
 -- one argument more, given how to read those behind it
 abbrev pub read_arg : (List Token → Reads (List Read)) → List Token → Reads (List Read)
 read_arg args ts = do
   ts1 ← behind (Mark (codes ",")) ts
-  o ← read_operand ts1
-  more ← args o.1
-  Some (read.Plain o.0 ∷ more.0, more.1)
+  r ← read_read ts1
+  more ← args r.1
+  Some (r.0 ∷ more.0, more.1)
 
 -- the arguments behind the context, and the ) behind them, at most so many
 unfoldable pub read_args : ℕ → List Token → Reads (List Read)
 read_args zero ts = None
 read_args (suc n) ts = if at (Mark (codes ")")) ts then Some ([], rest ts) else read_arg (read_args n) ts
 
--- a call, from the name of what is called on
-abbrev pub read_call : List Token → Reads TExpr
-read_call ts = do
-  name ← any_word ts
-  ts1 ← phrase (Mark (codes "(") ∷ Word (codes "ctx") ∷ []) name.1
-  args ← read_args (length ts1) ts1
-  Some (expr.Call false (record { callee = callee.External name.0; args = args.0 }), args.1)
+-- the function of the trait that is called here, up to the ( behind its name
+abbrev pub called : List Token → Reads (List ℕ)
+called ts = do
+  ts1 ← phrase (Word (codes "C") ∷ Mark (codes "::") ∷ []) ts
+  name ← any_word ts1
+  ts2 ← behind (Mark (codes "(")) name.1
+  Some (name.0, ts2)
 
--- a call behind C::, and else an operand with what is behind it
-abbrev pub read_called : Option (List Token) → List Token → Reads TExpr
-read_called None ts = read_plain ts
-read_called (Some call) ts = read_call call
+-- a call of this function, from behind its ( on
+abbrev pub read_call : List ℕ → List Token → Reads TExpr
+read_call name ts = do
+  ts1 ← behind (Word (codes "ctx")) ts
+  args ← read_args (length ts1) ts1
+  Some (expr.Call false (record { callee = callee.External name; args = args.0 }), args.1)
+
+-- a call where one begins, and else an operand with what goes on it
+abbrev pub read_called : Reads (List ℕ) → List Token → Reads TExpr
+read_called None ts = read_suffixed ts
+read_called (Some call) ts = read_call call.0 call.1
+
+-- an option where one begins, and else what is computed without one
+abbrev pub read_option : Option (List Token) → List Token → Reads TExpr
+read_option None ts = read_called (called ts) ts
+read_option (Some inner) ts = read_some inner
 
 -- what a let or a return computes
 unfoldable pub read_expr : List Token → Reads TExpr
-read_expr ts =
-    if at (Word (codes "Some")) ts then read_some (rest ts)
-    else read_called (phrase (Word (codes "C") ∷ Mark (codes "::") ∷ []) ts) ts
+read_expr ts = read_option (phrase (Word (codes "Some") ∷ Mark (codes "(") ∷ []) ts) ts
 
 -- ---- statements, from behind their first word on, given how to read a body
 
@@ -253,10 +286,18 @@ read_then body ts = do
   ss ← body s.1
   Some (Then s.0 ss.0, ss.1)
 
--- statements up to the } behind them, at most this many
+-- the words that statements begin with; those of forms that are not built are not among them
+abbrev pub first_words : List (List ℕ)
+first_words = codes "let" ∷ codes "if" ∷ codes "return" ∷ codes "None" ∷ codes "unreachable" ∷ []
+
+-- whether a statement begins here
+abbrev pub begins : List Token → Bool
+begins ts = list_any (λ w. at (Word w) ts) first_words
+
+-- statements up to what begins none, at most this many
 unfoldable pub read_body : ℕ → List Token → Reads Body
 read_body zero ts = None
-read_body (suc n) ts = if at (Mark (codes "}")) ts then Some (Done, ts) else read_then (read_body n) ts
+read_body (suc n) ts = if begins ts then read_then (read_body n) ts else Some (Done, ts)
 
 -- ---- items
 
@@ -287,17 +328,21 @@ read_plain_result ts = do
   w ← any_word ts
   Some ((kind.Plain, w.0), w.1)
 
--- the type of an option
+-- the type of an option, from behind its < on
 abbrev pub read_option_result : List Token → Reads (ReturnKind × List ℕ)
 read_option_result ts = do
-  ts1 ← behind (Mark (codes "<")) ts
-  w ← any_word ts1
-  ts2 ← behind (Mark (codes ">")) w.1
-  Some ((kind.Option, w.0), ts2)
+  w ← any_word ts
+  ts1 ← behind (Mark (codes ">")) w.1
+  Some ((kind.Option, w.0), ts1)
+
+-- the type of an option where one begins, and else that of a plain result
+abbrev pub read_either_result : Option (List Token) → List Token → Reads (ReturnKind × List ℕ)
+read_either_result None ts = read_plain_result ts
+read_either_result (Some inner) ts = read_option_result inner
 
 -- how often a function answers, and what type
 unfoldable pub read_result : List Token → Reads (ReturnKind × List ℕ)
-read_result ts = if at (Word (codes "Option")) ts then read_option_result (rest ts) else read_plain_result ts
+read_result ts = read_either_result (phrase (Word (codes "Option") ∷ Mark (codes "<") ∷ []) ts) ts
 
 -- a function
 unfoldable pub read_function : List Token → Reads Function

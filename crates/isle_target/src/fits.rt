@@ -1,10 +1,10 @@
 //! Which statements fit the kind of their function.
 
-ghost use Rattle.std.specs.Prelude.{◌↔◌, IsTrue};
+ghost use Rattle.std.specs.Prelude.{◌↔◌, IsTrue, false};
 ghost use Rattle.isle_tree.specs.Views.{stmt, body};
-ghost use Rattle.isle_tree.specs.WellFormed.{FitsLet, IsReturned, FitsStmt, FitsBody, FitsLast, FitsFunction};
+ghost use Rattle.isle_tree.specs.WellFormed.{FitsLet, IsReturned, FitsStmt, FitsBody, FitsTail, FitsLast, FitsFunction};
 
-use isle_core::ReturnKind;
+use isle_core::{ReturnKind, Text};
 use isle_tree::{Stmt, TExpr};
 
 // Whether a `let` may compute it in a function of the kind.
@@ -36,15 +36,15 @@ fn is_returned(e: &TExpr) -> bool
     }
 }
 
-// Whether a statement may stand inside a function of the kind.
+// Whether a statement may stand inside a function of the kind, or inside a closure of one.
 #[cycle(fits)]
 #[tactic(auto, using(isle_tree::proofs::Sees::sees))]
-fn fits_stmt(kind: ReturnKind, s: &Stmt) -> bool
-    ensures { IsTrue result ↔ FitsStmt kind (stmt s.now) }
+fn fits_stmt(kind: ReturnKind, closed: bool, s: &Stmt) -> bool
+    ensures { IsTrue result ↔ FitsStmt kind closed (stmt s.now) }
 {
     match s {
         Stmt::Let(_, e) => fits_let(kind, e),
-        Stmt::IfEq(_, _, inside) => fits_body(kind, inside.as_slice()),
+        Stmt::IfEq(_, _, inside) => fits_body(kind, closed, inside.as_slice()),
         Stmt::Return(e) => is_returned(e),
         Stmt::Tail(_)
         | Stmt::LetList { .. }
@@ -58,17 +58,28 @@ fn fits_stmt(kind: ReturnKind, s: &Stmt) -> bool
     }
 }
 
-// Whether all statements may stand inside a function of the kind.
+// Whether all statements may.
 #[cycle(fits)]
-fn fits_body(kind: ReturnKind, stmts: &[Stmt]) -> bool
-    ensures { IsTrue result ↔ FitsBody kind (body stmts.now) }
+fn fits_body(kind: ReturnKind, closed: bool, stmts: &[Stmt]) -> bool
+    ensures { IsTrue result ↔ FitsBody kind closed (body stmts.now) }
 {
     for s in stmts {
-        if !fits_stmt(kind, s) {
+        if !fits_stmt(kind, closed, s) {
             return false;
         }
     }
     true
+}
+
+// Whether a function of the kind may have the tail.
+fn fits_tail(kind: ReturnKind, texts: &Option<(Text, Text)>) -> bool
+    ensures { IsTrue result ↔ FitsTail kind texts.now }
+{
+    match (kind, texts) {
+        (ReturnKind::Plain, Some(_)) | (ReturnKind::Option, None) => true,
+        (ReturnKind::Plain, None) | (ReturnKind::Option, Some(_)) => false,
+        (ReturnKind::Iterator, _) => false,
+    }
 }
 
 // Whether a function of the kind may end with the statement.
@@ -78,8 +89,7 @@ fn fits_last(kind: ReturnKind, s: &Stmt) -> bool
 {
     match s {
         Stmt::Return(e) => is_returned(e),
-        Stmt::Tail(None) => kind == ReturnKind::Option,
-        Stmt::Tail(Some(_)) => kind == ReturnKind::Plain,
+        Stmt::Tail(texts) => fits_tail(kind, texts),
         Stmt::Let(..)
         | Stmt::IfEq(..)
         | Stmt::LetList { .. }
@@ -100,7 +110,7 @@ pub fn fits_function(kind: ReturnKind, stmts: &[Stmt]) -> bool
     match stmts.split_last() {
         None => false,
         Some((last, front)) => {
-            if !fits_body(kind, front) {
+            if !fits_body(kind, false, front) {
                 return false;
             }
             fits_last(kind, last)

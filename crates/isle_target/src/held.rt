@@ -5,7 +5,7 @@ ghost use Rattle.isle_tree.specs.WellFormed.{local_holds, operand_holds, read_ho
 
 use isle_core::{Callee, ReturnKind};
 use isle_scope::Table;
-use isle_tree::{Callees, Holds, Operand, Read, TCall, TExpr, TraitFn};
+use isle_tree::{Callees, Holds, Item, Operand, Read, TCall, TExpr, TraitFn};
 
 // What a local holds.
 fn local_holds(bound: &Table<Holds>, n: usize) -> Option<Holds>
@@ -20,9 +20,15 @@ pub fn operand_holds(bound: &Table<Holds>, params: usize, o: &Operand) -> Option
 {
     match o {
         Operand::Local(n) => local_holds(bound, *n),
-        Operand::Arg(n) => { if *n < params { Some(Holds::One) } else { None } }
+        Operand::Arg(n) => {
+            if *n < params {
+                Some(Holds::One(Item::Value))
+            } else {
+                None
+            }
+        }
         Operand::Bool(_) | Operand::Int(..) | Operand::Raw(_) | Operand::Name(_) => {
-            Some(Holds::One)
+            Some(Holds::One(Item::Value))
         }
     }
 }
@@ -36,13 +42,13 @@ fn read_holds(bound: &Table<Holds>, params: usize, read: &Read) -> Option<Holds>
     }
 }
 
-/// Tells whether it is a value, and no option.
+/// Tells whether it is a value, and no tuple, option or list.
 pub fn is_value(holds: Option<Holds>) -> bool
     ensures { result ≡ is_value holds }
 {
     match holds {
-        Some(Holds::One) => true,
-        Some(Holds::Optional) | None => false,
+        Some(Holds::One(Item::Value)) => true,
+        Some(Holds::One(Item::Tuple(_)) | Holds::Optional(_) | Holds::Several(_)) | None => false,
     }
 }
 
@@ -63,8 +69,8 @@ fn kind_holds(kind: ReturnKind) -> Option<Holds>
     ensures { result ≡ kind_holds kind }
 {
     match kind {
-        ReturnKind::Plain => Some(Holds::One),
-        ReturnKind::Option => Some(Holds::Optional),
+        ReturnKind::Plain => Some(Holds::One(Item::Value)),
+        ReturnKind::Option => Some(Holds::Optional(Item::Value)),
         ReturnKind::Iterator => None,
     }
 }
@@ -110,13 +116,13 @@ fn called(
     callee_holds(callees, &call.callee, args.len())
 }
 
-// The inner value of an option.
+// What an option is of.
 fn inner_holds(holds: Option<Holds>) -> Option<Holds>
     ensures { result ≡ inner_holds holds }
 {
     match holds {
-        Some(Holds::Optional) => Some(Holds::One),
-        Some(Holds::One) | None => None,
+        Some(Holds::Optional(item)) => Some(Holds::One(item)),
+        Some(Holds::One(_) | Holds::Several(_)) | None => None,
     }
 }
 
@@ -125,7 +131,7 @@ fn some_holds(bound: &Table<Holds>, params: usize, read: &Read) -> Option<Holds>
     ensures { result ≡ expr_holds [] params bound.now (TExpr.Some read.now) }
 {
     if is_value(read_holds(bound, params, read)) {
-        Some(Holds::Optional)
+        Some(Holds::Optional(Item::Value))
     } else {
         None
     }

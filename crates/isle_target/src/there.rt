@@ -7,7 +7,7 @@ ghost use Rattle.isle_tree.specs.WellFormed.{expr_holds, GivesKind, behind_let, 
 use crate::held::{expr_holds, is_value, operand_holds};
 use isle_core::ReturnKind;
 use isle_scope::Table;
-use isle_tree::{Callees, Holds, Stmt};
+use isle_tree::{Callees, Holds, Item, Stmt};
 use std::alloc::AllocError;
 
 // Whether a return in a function of the kind may give it.
@@ -15,8 +15,8 @@ fn gives_kind(kind: ReturnKind, holds: Option<Holds>) -> bool
     ensures { IsTrue result ↔ GivesKind kind holds }
 {
     match (kind, holds) {
-        (ReturnKind::Plain, Some(Holds::One)) => true,
-        (ReturnKind::Option, Some(Holds::Optional)) => true,
+        (ReturnKind::Plain, Some(Holds::One(Item::Value))) => true,
+        (ReturnKind::Option, Some(Holds::Optional(Item::Value))) => true,
         _ => false,
     }
 }

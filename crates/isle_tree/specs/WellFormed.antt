@@ -11,6 +11,7 @@ use Rattle.isle_printer.specs.Token.{is_word_byte}
 use Rattle.isle_printer.specs.Bytes.{same_bytes}
 use Rattle.isle_tree.specs.declared.holds.Holds.{Holds}
 use Rattle.isle_tree.specs.declared.holds.Holds.TheVariants as holds
+use Rattle.isle_tree.specs.declared.holds.Item.TheVariants as item
 use Rattle.isle_tree.specs.declared.tree.Ty.{Ty}
 use Rattle.isle_tree.specs.declared.tree.TCall.{TCall}
 use Rattle.isle_tree.specs.declared.tree.TraitFn.{TraitFn}
@@ -23,22 +24,24 @@ use Rattle.isle_tree.specs.declared.tree.TExpr.{TExpr}
 use Rattle.isle_tree.specs.declared.tree.TExpr.TheVariants as expr
 use Rattle.isle_spelling.specs.Identifier.{IsIdentifier}
 use Rattle.isle_spelling.specs.Literal.{type_named}
-use Rattle.isle_tree.specs.Program.{Stmt, Let, IfEq, Return, Tail, Body, Done, Then, Function, Program}
+use Rattle.isle_tree.specs.Program.{Stmt, Let, LetList, IfEq, IfLet, Match, Loop, Return, Extend, Overflow, Log, Split, Tail, Body, Done, Then, Function, Program}
 
 -- ---- the forms that are built, and that integers lie in their type
 
--- an operand
+-- an operand; numbers of primitive types, constants and unit structs are not built
 abbrev pub IsOperand : Operand → Type 0
 IsOperand (operand.Local n) = Unit {0}
 IsOperand (operand.Arg n) = Unit {0}
 IsOperand (operand.Bool b) = Unit {0}
 IsOperand (operand.Int ty z) = IsHeld ty z
-IsOperand o = ⊥
+IsOperand (operand.Raw z) = ⊥
+IsOperand (operand.Name name) = ⊥
 
--- a read: the plain operand
+-- a read: the plain operand; & and .clone() are not built
 abbrev pub IsRead : Read → Type 0
 IsRead (read.Plain o) = IsOperand o
-IsRead r = ⊥
+IsRead (read.Borrow o) = ⊥
+IsRead (read.Clone o) = ⊥
 
 -- a function of the trait, whose name is a name; calls of functions of the text are not built
 abbrev pub IsCallee : Callee → Type 0
@@ -50,22 +53,31 @@ pub record IsCall (call : TCall) : Type 0 where
   pub callee : IsCallee call.callee
   pub args : AllByRecursion IsRead call.args
 
--- what is computed: a read, a call without &, an option, or the inner value of one
+-- what is computed: a read, a call without &, an option, or the inner value of one; made values and parts of tuples are not built
 abbrev pub IsExpr : TExpr → Type 0
 IsExpr (expr.Read r) = IsRead r
 IsExpr (expr.Call borrow call) = (borrow ≡ false) × IsCall call
 IsExpr (expr.Some r) = IsRead r
 IsExpr (expr.Try source as_ref) = (as_ref ≡ false) × IsOperand source
-IsExpr e = ⊥
+IsExpr (expr.Variant ty variant fields) = ⊥
+IsExpr (expr.Struct ty fields) = ⊥
+IsExpr (expr.Tuple o n) = ⊥
 
--- a statement, and statements in order
+-- a statement, and statements in order; lists of answers, patterns, loops, logging and closures are not built
 abbrev mutual
   pub IsStmt : Stmt → Type 0
   IsStmt (Let n e) = IsExpr e
   IsStmt (IfEq a b inside) = IsOperand a × IsOperand b × IsBody inside
   IsStmt (Return e) = IsExpr e
   IsStmt (Tail texts) = Unit {0}
-  IsStmt s = ⊥
+  IsStmt (LetList n call) = ⊥
+  IsStmt (IfLet pat read inside) = ⊥
+  IsStmt (Match read arms) = ⊥
+  IsStmt (Loop list each inside) = ⊥
+  IsStmt (Extend read) = ⊥
+  IsStmt (Overflow within) = ⊥
+  IsStmt (Log term place) = ⊥
+  IsStmt (Split inside within) = ⊥
 
   pub IsBody : Body → Type 0
   IsBody Done = Unit {0}
@@ -88,8 +100,11 @@ local_holds bound n = fold (newer n) None bound
 -- what an operand holds, where it is there: an argument lies below the number of parameters
 abbrev pub operand_holds : ℕ → Locals → Operand → Option Holds
 operand_holds params bound (operand.Local n) = local_holds bound n
-operand_holds params bound (operand.Arg n) = if nat_lt n params then Some holds.One else None
-operand_holds params bound o = Some holds.One
+operand_holds params bound (operand.Arg n) = if nat_lt n params then Some (holds.One item.Value) else None
+operand_holds params bound (operand.Bool b) = Some (holds.One item.Value)
+operand_holds params bound (operand.Int ty z) = Some (holds.One item.Value)
+operand_holds params bound (operand.Raw z) = Some (holds.One item.Value)
+operand_holds params bound (operand.Name name) = Some (holds.One item.Value)
 
 -- what is read holds
 abbrev pub read_holds : ℕ → Locals → Read → Option Holds
@@ -97,11 +112,13 @@ read_holds params bound (read.Plain o) = operand_holds params bound o
 read_holds params bound (read.Borrow o) = operand_holds params bound o
 read_holds params bound (read.Clone o) = operand_holds params bound o
 
--- a value, and no option
+-- a value, and no tuple, option or list
 abbrev pub is_value : Option Holds → Bool
 is_value None = false
-is_value (Some holds.One) = true
-is_value (Some holds.Optional) = false
+is_value (Some (holds.One item.Value)) = true
+is_value (Some (holds.One (item.Tuple count))) = false
+is_value (Some (holds.Optional x)) = false
+is_value (Some (holds.Several x)) = false
 
 -- each read is of a value
 abbrev pub are_values : ℕ → Locals → List Read → Bool
@@ -109,8 +126,8 @@ are_values params bound rs = list_all (λ r. is_value (read_holds params bound r
 
 -- what the answer of a function of the kind holds; several answers are not built
 abbrev pub kind_holds : ReturnKind → Option Holds
-kind_holds kind.Plain = Some holds.One
-kind_holds kind.Option = Some holds.Optional
+kind_holds kind.Plain = Some (holds.One item.Value)
+kind_holds kind.Option = Some (holds.Optional item.Value)
 kind_holds kind.Iterator = None
 
 -- the function of the trait of this name
@@ -127,46 +144,75 @@ abbrev pub callee_holds : List TraitFn → Callee → ℕ → Option Holds
 callee_holds fns (callee.External name) count = call_holds (trait_fn fns name) count
 callee_holds fns (callee.Internal term) count = None
 
--- the inner value of an option
+-- what an option is of
 abbrev pub inner_holds : Option Holds → Option Holds
 inner_holds None = None
-inner_holds (Some holds.One) = None
-inner_holds (Some holds.Optional) = Some holds.One
+inner_holds (Some (holds.One x)) = None
+inner_holds (Some (holds.Optional x)) = Some (holds.One x)
+inner_holds (Some (holds.Several x)) = None
 
--- what is computed holds, where each operand holds what is asked of it
+-- what is computed holds, where each operand holds what is asked of it; made values and parts of tuples are not built
 abbrev pub expr_holds : List TraitFn → ℕ → Locals → TExpr → Option Holds
 expr_holds fns params bound (expr.Read r) = read_holds params bound r
 expr_holds fns params bound (expr.Call borrow call) = if are_values params bound call.args then callee_holds fns call.callee (length call.args) else None
-expr_holds fns params bound (expr.Some r) = if is_value (read_holds params bound r) then Some holds.Optional else None
+expr_holds fns params bound (expr.Some r) = if is_value (read_holds params bound r) then Some (holds.Optional item.Value) else None
 expr_holds fns params bound (expr.Try source as_ref) = inner_holds (operand_holds params bound source)
-expr_holds fns params bound e = None
+expr_holds fns params bound (expr.Variant ty variant fields) = None
+expr_holds fns params bound (expr.Struct ty fields) = None
+expr_holds fns params bound (expr.Tuple o n) = None
 
 -- ---- each operand of a statement is there
 
--- a return gives a value in kind Plain, and an option in kind Option
+-- a return gives a value in kind Plain, and an option of one in kind Option; several answers are not built
 abbrev pub GivesKind : ReturnKind → Option Holds → Type 0
-GivesKind kind.Plain (Some holds.One) = Unit {0}
-GivesKind kind.Option (Some holds.Optional) = Unit {0}
-GivesKind kind h = ⊥
+GivesKind kind.Plain None = ⊥
+GivesKind kind.Plain (Some (holds.One item.Value)) = Unit {0}
+GivesKind kind.Plain (Some (holds.One (item.Tuple count))) = ⊥
+GivesKind kind.Plain (Some (holds.Optional x)) = ⊥
+GivesKind kind.Plain (Some (holds.Several x)) = ⊥
+GivesKind kind.Option None = ⊥
+GivesKind kind.Option (Some (holds.One x)) = ⊥
+GivesKind kind.Option (Some (holds.Optional item.Value)) = Unit {0}
+GivesKind kind.Option (Some (holds.Optional (item.Tuple count))) = ⊥
+GivesKind kind.Option (Some (holds.Several x)) = ⊥
+GivesKind kind.Iterator h = ⊥
 
 -- the locals behind one that is bound
 abbrev pub behind_let : Option Holds → ℕ → Locals → Locals
 behind_let None n bound = bound
 behind_let (Some h) n bound = bound ++ (n, h) ∷ []
 
--- the locals that are bound behind a statement: none of those inside it
+-- the locals that are bound behind a statement: none of those inside it; those of a list of answers are not built
 abbrev pub bound_behind : List TraitFn → ℕ → Stmt → Locals → Locals
 bound_behind fns params (Let n e) bound = behind_let (expr_holds fns params bound e) n bound
-bound_behind fns params s bound = bound
+bound_behind fns params (LetList n call) bound = bound
+bound_behind fns params (IfEq a b inside) bound = bound
+bound_behind fns params (IfLet pat read inside) bound = bound
+bound_behind fns params (Match read arms) bound = bound
+bound_behind fns params (Loop list each inside) bound = bound
+bound_behind fns params (Return e) bound = bound
+bound_behind fns params (Extend read) bound = bound
+bound_behind fns params (Overflow within) bound = bound
+bound_behind fns params (Log term place) bound = bound
+bound_behind fns params (Split inside within) bound = bound
+bound_behind fns params (Tail texts) bound = bound
 
--- a statement, and statements in order, of a function of the kind with this number of parameters
+-- a statement, and statements in order, of a function of the kind with this number of parameters; lists of answers, patterns, loops, logging
+-- and closures are not built
 abbrev mutual
   pub IsStmtThere : List TraitFn → ReturnKind → ℕ → Locals → Stmt → Type 0
   IsStmtThere fns kind params bound (Let n e) = IsSome (expr_holds fns params bound e)
   IsStmtThere fns kind params bound (IfEq a b inside) = IsTrue (is_value (operand_holds params bound a)) × IsTrue (is_value (operand_holds params bound b)) × IsBodyThere fns kind params bound inside
   IsStmtThere fns kind params bound (Return e) = GivesKind kind (expr_holds fns params bound e)
   IsStmtThere fns kind params bound (Tail texts) = Unit {0}
-  IsStmtThere fns kind params bound s = ⊥
+  IsStmtThere fns kind params bound (LetList n call) = ⊥
+  IsStmtThere fns kind params bound (IfLet pat read inside) = ⊥
+  IsStmtThere fns kind params bound (Match read arms) = ⊥
+  IsStmtThere fns kind params bound (Loop list each inside) = ⊥
+  IsStmtThere fns kind params bound (Extend read) = ⊥
+  IsStmtThere fns kind params bound (Overflow within) = ⊥
+  IsStmtThere fns kind params bound (Log term place) = ⊥
+  IsStmtThere fns kind params bound (Split inside within) = ⊥
 
   pub IsBodyThere : List TraitFn → ReturnKind → ℕ → Locals → Body → Type 0
   IsBodyThere fns kind params bound Done = Unit {0}
@@ -176,39 +222,73 @@ abbrev mutual
 
 -- ? stands only in kind Option
 abbrev pub FitsLet : ReturnKind → TExpr → Type 0
+FitsLet of (expr.Read r) = Unit {0}
+FitsLet of (expr.Call borrow call) = Unit {0}
+FitsLet of (expr.Variant ty variant fields) = Unit {0}
+FitsLet of (expr.Struct ty fields) = Unit {0}
+FitsLet of (expr.Some r) = Unit {0}
 FitsLet of (expr.Try source as_ref) = of ≡ kind.Option
-FitsLet of e = Unit {0}
+FitsLet of (expr.Tuple o n) = Unit {0}
 
 -- a return computes a read, or an option of one
 abbrev pub IsReturned : TExpr → Type 0
 IsReturned (expr.Read r) = Unit {0}
+IsReturned (expr.Call borrow call) = ⊥
+IsReturned (expr.Variant ty variant fields) = ⊥
+IsReturned (expr.Struct ty fields) = ⊥
 IsReturned (expr.Some r) = Unit {0}
-IsReturned e = ⊥
+IsReturned (expr.Try source as_ref) = ⊥
+IsReturned (expr.Tuple o n) = ⊥
 
--- a statement inside a function, and statements in order: no tail is among them
+-- a statement inside a function, or inside a closure of one, and statements in order: no tail is among them. Not built are lists of answers,
+-- patterns, loops, logging; and what asks where it stands: stopping at a full list, and a closure
 abbrev mutual
-  pub FitsStmt : ReturnKind → Stmt → Type 0
-  FitsStmt kind (Let n e) = FitsLet kind e
-  FitsStmt kind (IfEq a b inside) = FitsBody kind inside
-  FitsStmt kind (Return e) = IsReturned e
-  FitsStmt kind s = ⊥
+  pub FitsStmt : ReturnKind → (closed : Bool) → Stmt → Type 0
+  FitsStmt kind closed (Let n e) = FitsLet kind e
+  FitsStmt kind closed (IfEq a b inside) = FitsBody kind closed inside
+  FitsStmt kind closed (Return e) = IsReturned e
+  FitsStmt kind closed (Tail texts) = ⊥
+  FitsStmt kind closed (LetList n call) = ⊥
+  FitsStmt kind closed (IfLet pat read inside) = ⊥
+  FitsStmt kind closed (Match read arms) = ⊥
+  FitsStmt kind closed (Loop list each inside) = ⊥
+  FitsStmt kind closed (Extend read) = ⊥
+  FitsStmt kind closed (Log term place) = ⊥
+  FitsStmt kind closed (Overflow within) = ⊥
+  FitsStmt kind closed (Split inside within) = ⊥
 
-  pub FitsBody : ReturnKind → Body → Type 0
-  FitsBody kind Done = Unit {0}
-  FitsBody kind (Then s ss) = FitsStmt kind s × FitsBody kind ss
+  pub FitsBody : ReturnKind → (closed : Bool) → Body → Type 0
+  FitsBody kind closed Done = Unit {0}
+  FitsBody kind closed (Then s ss) = FitsStmt kind closed s × FitsBody kind closed ss
+
+-- the tail of a function of the kind; one with several answers has none
+abbrev pub FitsTail : ReturnKind → Option (List ℕ × List ℕ) → Type 0
+FitsTail kind.Plain None = ⊥
+FitsTail kind.Plain (Some texts) = Unit {0}
+FitsTail kind.Option None = Unit {0}
+FitsTail kind.Option (Some texts) = ⊥
+FitsTail kind.Iterator texts = ⊥
 
 -- the last statement of a function: a return, or the tail of its kind
 abbrev pub FitsLast : ReturnKind → Stmt → Type 0
 FitsLast kind (Return e) = IsReturned e
-FitsLast kind.Option (Tail None) = Unit {0}
-FitsLast kind.Plain (Tail (Some texts)) = Unit {0}
-FitsLast kind s = ⊥
+FitsLast kind (Tail texts) = FitsTail kind texts
+FitsLast kind (Let n e) = ⊥
+FitsLast kind (LetList n call) = ⊥
+FitsLast kind (IfEq a b inside) = ⊥
+FitsLast kind (IfLet pat read inside) = ⊥
+FitsLast kind (Match read arms) = ⊥
+FitsLast kind (Loop list each inside) = ⊥
+FitsLast kind (Extend read) = ⊥
+FitsLast kind (Overflow within) = ⊥
+FitsLast kind (Log term place) = ⊥
+FitsLast kind (Split inside within) = ⊥
 
--- the statements of a function
+-- the statements of a function, outside all closures
 abbrev pub FitsFunction : ReturnKind → Body → Type 0
 FitsFunction kind Done = ⊥
 FitsFunction kind (Then s Done) = FitsLast kind s
-FitsFunction kind (Then s (Then t ss)) = FitsStmt kind s × FitsFunction kind (Then t ss)
+FitsFunction kind (Then s (Then t ss)) = FitsStmt kind false s × FitsFunction kind (Then t ss)
 
 -- ---- items
 

@@ -1,8 +1,16 @@
-//! What locals hold.
+//! What places hold, in judging.
 
-/// What a local holds: a value, or an option of one.
+/// One thing: a value, or a tuple with so many parts.
+#[derive(Clone, Copy, Debug, PartialEq, Eq)]
+pub enum Item {
+    Value,
+    Tuple(usize),
+}
+
+/// What a place holds: one thing, an option of one, or a list of them.
 #[derive(Clone, Copy, Debug, PartialEq, Eq)]
 pub enum Holds {
-    One,
-    Optional,
+    One(Item),
+    Optional(Item),
+    Several(Item),
 }

@@ -8,7 +8,7 @@ mod tree;
 
 pub use callees::Callees;
 pub use distinct::{are_apart, are_distinct};
-pub use holds::Holds;
+pub use holds::{Holds, Item};
 pub use tree::{
     Function, Operand, Program, Read, Stmt, TBind, TCall, TExpr, TFields, TPat, TraitFn, Ty,
     TypeBody, TypeItem,
