@@ -263,22 +263,30 @@ module _ (env : Environment) (os : List CalledTerm) (h : List AnsweredCall) (can
 
 -- ---- constants
 
-not_truth : (d : Option TypeDef) (n : ℤ) (b : Bool) → int_of_def d n ≡ value.Truth b → ⊥
-not_truth (Some (def.Builtin (builtin.Int ty))) n b e = cc
-not_truth d n b e = cc
+not_truth : (env : Environment) (d : Option TypeDef) (n : ℤ) (b : Bool) → int_of_def env d n ≡ value.Truth b → ⊥
+not_truth env (Some (def.Builtin (builtin.Int ty))) n b e = cc
+not_truth env (Some (def.Builtin builtin.Bool)) n b e = cc
+not_truth env (Some (def.Primitive name rust at)) n b e = cc
+not_truth env (Some (def.Enum name is_extern is_nodebug variants at)) n b e = cc
+not_truth env (Some (def.Struct name is_extern is_nodebug fields at)) n b e = cc
+not_truth env None n b e = cc
 
-one_number : (d : Option TypeDef) (n k : ℤ) → int_of_def d n ≡ int_of_def d k → n ≡ k
-one_number (Some (def.Builtin (builtin.Int ty))) n k e = cc
-one_number d n k e = cc
+one_number : (env : Environment) (d : Option TypeDef) (n k : ℤ) → int_of_def env d n ≡ int_of_def env d k → n ≡ k
+one_number env (Some (def.Builtin (builtin.Int ty))) n k e = cc
+one_number env (Some (def.Builtin builtin.Bool)) n k e = cc
+one_number env (Some (def.Primitive name rust at)) n k e = cc
+one_number env (Some (def.Enum name is_extern is_nodebug variants at)) n k e = cc
+one_number env (Some (def.Struct name is_extern is_nodebug fields at)) n k e = cc
+one_number env None n k e = cc
 
 some_value : (v w : Value) → Some v ≡ Some w → v ≡ w
 some_value v w e = cc
 
 written_apart : (env : Environment) (m : Meaning) (cs : List TypedConstant) → NamesNone cs → (ty : TypeId) (c d : Constant) → Contains cs (ty, c) → Contains cs (ty, d) → constant_value env m ty c ≡ constant_value env m ty d → c ≡ d
 written_apart env m cs none ty (Truth a) (Truth b) h k e = cc
-written_apart env m cs none ty (Number a) (Number b) h k e = ap Number (one_number (slice_get env.types.types ty.0) a b (some_value (int_of_def (slice_get env.types.types ty.0) a) (int_of_def (slice_get env.types.types ty.0) b) e))
-written_apart env m cs none ty (Truth a) (Number b) h k e = absurd (not_truth (slice_get env.types.types ty.0) b a (some_value (int_of_def (slice_get env.types.types ty.0) b) (value.Truth a) (sym e)))
-written_apart env m cs none ty (Number a) (Truth b) h k e = absurd (not_truth (slice_get env.types.types ty.0) a b (some_value (int_of_def (slice_get env.types.types ty.0) a) (value.Truth b) e))
+written_apart env m cs none ty (Number a) (Number b) h k e = ap Number (one_number env (slice_get env.types.types ty.0) a b (some_value (int_of_def env (slice_get env.types.types ty.0) a) (int_of_def env (slice_get env.types.types ty.0) b) e))
+written_apart env m cs none ty (Truth a) (Number b) h k e = absurd (not_truth env (slice_get env.types.types ty.0) b a (some_value (int_of_def env (slice_get env.types.types ty.0) b) (value.Truth a) (sym e)))
+written_apart env m cs none ty (Number a) (Truth b) h k e = absurd (not_truth env (slice_get env.types.types ty.0) a b (some_value (int_of_def env (slice_get env.types.types ty.0) a) (value.Truth b) e))
 written_apart env m cs none ty (Named name) d h k e = absurd (none ty name h)
 written_apart env m cs none ty c (Named name) h k e = absurd (none ty name k)
 
