@@ -1,8 +1,7 @@
 -- Each type of the built language has a value.
-use Rattle.std.proofs.Common.{ℤ, true, Option, Some, None, refl, arith}
+use Rattle.std.proofs.Common.{true, Option, Some, None, refl, arith}
 use Rattle.std.specs.Prelude.{pos, IsSomeAnd, slice_get}
-use Rattle.std.specs.Int.{Width, w8, w16, w32, w64, w128}
-use Rattle.std.specs.Int.RustNames.{FitsSigned}
+use Rattle.std.specs.Int.{w8, w16, w32, w64, w128}
 use Rattle.std.proofs.lemmas.Int.{fits_signed_from_abs}
 use Rattle.isle_base.specs.declared.ids.TypeId.{TypeId}
 use Rattle.isle_core.specs.declared.types.IntType.{IntType}

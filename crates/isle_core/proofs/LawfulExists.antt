@@ -1,5 +1,5 @@
 -- Each history of calls with fitting answers is some lawful meaning's, and so a lawful meaning exists.
-use Rattle.std.proofs.Common.{◌≡◌, ℕ, ℤ, suc, List, [], ◌∷◌, ◌++◌, Bool, true, false, cond, length, map, Option, Some, None, refl, sym, ap, ◌∙◌, ⊎_elim, subst}
+use Rattle.std.proofs.Common.{◌≡◌, ℤ, suc, List, [], ◌∷◌, ◌++◌, Bool, true, false, cond, length, map, Option, Some, None, refl, sym, ap, ◌∙◌, ⊎_elim, subst}
 use Rattle.std.specs.Prelude.{Contains, All, IsSomeAnd, ◌&&◌, filter, find, not, slice_get, slice_index_or}
 use Rattle.std.specs.List.{AllByRecursion}
 use Rattle.std.proofs.lemmas.List.{append_assoc}
@@ -14,7 +14,7 @@ use Rattle.isle_core.specs.declared.values.Callee.{Callee}
 use Rattle.isle_core.specs.Value.{Value, Answer, Made}
 use Rattle.isle_core.specs.Value as value
 use Rattle.isle_core.specs.Constants.{int_of_def}
-use Rattle.isle_core.specs.Meaning.{Meaning, TurnAnswers, PureAnswers, turns_of, cases_of, turn_at, times, same_values, case_or, case_at, case}
+use Rattle.isle_core.specs.Meaning.{Meaning, turns_of, cases_of, times, same_values, case_or, case_at}
 use Rattle.isle_core.specs.Answered.{answer, answer_by}
 use Rattle.isle_core.specs.Calling.{Calling, ByTurns, ByCases, NoCall}
 use Rattle.isle_core.specs.CalledTerms.{Role, CalledTerm, called}
@@ -27,7 +27,7 @@ use Rattle.isle_core.proofs.Contained.{head_contained, tail_contained, contained
 use Rattle.isle_core.proofs.ImpureCalls.{goes_there}
 use Rattle.isle_core.proofs.RunEquality.{same_in_run-self}
 use Rattle.isle_core.proofs.ListLaws.{not_both, filter_from, filter_keeps, at_seam}
-use Rattle.isle_core.proofs.Entries.{goes_same, Entry, answers_to, cases_to, turns_in, cases_in, takes_turns, meaning_of, serves, turns_found, cases_found, Finds, finds, finds_none}
+use Rattle.isle_core.proofs.Entries.{goes_same, Entry, answers_to, cases_to, turns_in, cases_in, takes_turns, meaning_of, turns_found, cases_found, Finds, finds, finds_none}
 
 -- ---- the entries of called terms
 
