@@ -14,6 +14,7 @@ use Rattle.isle_core.specs.Answered.{AValue, ATuple, Held, Absent, One, Optional
 use Rattle.isle_core.specs.Held.{held, value_before}
 use Rattle.isle_tree.specs.declared.holds.Holds.{Holds}
 use Rattle.isle_tree.specs.declared.holds.Holds.TheVariants as holds
+use Rattle.isle_tree.specs.declared.holds.Item.TheVariants as item
 use Rattle.isle_tree.specs.declared.tree.Operand.{Operand}
 use Rattle.isle_tree.specs.declared.tree.Operand.TheVariants as operand
 use Rattle.isle_tree.specs.declared.tree.Read.{Read}
@@ -69,18 +70,18 @@ one_more (b ∷ bound) [] n h g a k = absurd a
 
 -- ---- operands and reads
 
-given : (args : List Value) (n : ℕ) → n < length args → HoldsIn holds.One (held (slice_get args n))
+given : (args : List Value) (n : ℕ) → n < length args → HoldsIn (holds.One item.Value) (held (slice_get args n))
 given [] n l = absurd (omega (arith, l))
 given (v ∷ args) zero l = tt
 given (v ∷ args) (suc n) l = given args n (omega (arith, l))
 
-told_arg : (args : List Value) (n : ℕ) → Told (if nat_lt n (length args) then Some holds.One else None) (held (slice_get args n))
+told_arg : (args : List Value) (n : ℕ) → Told (if nat_lt n (length args) then Some (holds.One item.Value) else None) (held (slice_get args n))
 told_arg args n = by (nat_lt n (length args)) refl
   where
     below : nat_lt n (length args) ≡ true → n < length args
     below e = grind (arith, nat_tests)
 
-    by : (b : Bool) → nat_lt n (length args) ≡ b → Told (if b then Some holds.One else None) (held (slice_get args n))
+    by : (b : Bool) → nat_lt n (length args) ≡ b → Told (if b then Some (holds.One item.Value) else None) (held (slice_get args n))
     by true e = given args n (below e)
     by false e = tt
 
@@ -104,12 +105,14 @@ record HasValue (g : Held) : Type 0 where
 
 told_value : (o : Option Holds) (g : Held) → Told o g → is_value o ≡ true → HasValue g
 told_value None g t e = absurd cc
-told_value (Some holds.One) (One (AValue v)) t e = record { v = v; is = refl }
-told_value (Some holds.One) (One (ATuple vs)) t e = absurd t
-told_value (Some holds.One) (Optional o) t e = absurd t
-told_value (Some holds.One) (Listed is) t e = absurd t
-told_value (Some holds.One) Absent t e = absurd t
-told_value (Some holds.Optional) g t e = absurd cc
+told_value (Some (holds.One item.Value)) (One (AValue v)) t e = record { v = v; is = refl }
+told_value (Some (holds.One item.Value)) (One (ATuple vs)) t e = absurd t
+told_value (Some (holds.One item.Value)) (Optional o) t e = absurd t
+told_value (Some (holds.One item.Value)) (Listed is) t e = absurd t
+told_value (Some (holds.One item.Value)) Absent t e = absurd t
+told_value (Some (holds.One (item.Tuple count))) g t e = absurd cc
+told_value (Some (holds.Optional x)) g t e = absurd cc
+told_value (Some (holds.Several x)) g t e = absurd cc
 
 -- the values that are read are there
 record HaveValues (o : Option (List Value)) : Type 0 where
@@ -153,8 +156,9 @@ well_bind : (n : ℕ) (h : Holds) (g : Held) (bound : Locals) (env : Env) (st : 
 well_bind n h (One i) bound env st a k = one_more bound env n h (One i) a k
 well_bind n h (Listed is) bound env st a k = one_more bound env n h (Listed is) a k
 well_bind n h (Optional o) bound env st a k = one_more bound env n h (Optional o) a k
-well_bind n holds.One Absent bound env st a k = absurd k
-well_bind n holds.Optional Absent bound env st a k = absurd k
+well_bind n (holds.One x) Absent bound env st a k = absurd k
+well_bind n (holds.Optional x) Absent bound env st a k = absurd k
+well_bind n (holds.Several x) Absent bound env st a k = absurd k
 
 -- what is bound to what a place holds
 well_told : (n : ℕ) (o : Option Holds) (g : Held) (bound : Locals) (env : Env) (st : State) → Agree bound env → IsSome o → Told o g → Well (behind_let o n bound) (run_bind n g env st)
@@ -163,13 +167,13 @@ well_told n (Some h) g bound env st a e t = well_bind n h g bound env st a t
 
 well_try : (n : ℕ) (o : Option Holds) (g : Held) (bound : Locals) (env : Env) (st : State) → Agree bound env → IsSome (inner_holds o) → Told o g → Well (behind_let (inner_holds o) n bound) (run_try n g env st)
 well_try n None g bound env st a e t = absurd cc
-well_try n (Some holds.One) g bound env st a e t = absurd cc
-well_try n (Some holds.Optional) (Optional (Some (AValue v))) bound env st a e t = one_more bound env n holds.One (a_value v) a tt
-well_try n (Some holds.Optional) (Optional (Some (ATuple vs))) bound env st a e t = absurd t
-well_try n (Some holds.Optional) (Listed is) bound env st a e t = absurd t
-well_try n (Some holds.Optional) (Optional None) bound env st a e t = tt
-well_try n (Some holds.Optional) (One i) bound env st a e t = absurd t
-well_try n (Some holds.Optional) Absent bound env st a e t = absurd t
+well_try n (Some (holds.One x)) g bound env st a e t = absurd cc
+well_try n (Some (holds.Several x)) g bound env st a e t = absurd cc
+well_try n (Some (holds.Optional x)) (Optional (Some i)) bound env st a e t = one_more bound env n (holds.One x) (One i) a t
+well_try n (Some (holds.Optional x)) (Optional None) bound env st a e t = tt
+well_try n (Some (holds.Optional x)) (One i) bound env st a e t = absurd t
+well_try n (Some (holds.Optional x)) (Listed is) bound env st a e t = absurd t
+well_try n (Some (holds.Optional x)) Absent bound env st a e t = absurd t
 
 -- ---- what is called answers with its kind
 
@@ -207,10 +211,10 @@ module _ (fns : List TraitFn) (w : Around) where
   well_let n (expr.Call borrow call) bound env st is some answering a = well_call fns w n call bound env st is.1.args a answering (expr_holds fns (length w.args) bound (expr.Call borrow call)) refl some
   well_let n (expr.Some r) bound env st is some answering a = by (is_value (read_holds (length w.args) bound r)) refl some
     where
-      by : (b : Bool) → is_value (read_holds (length w.args) bound r) ≡ b → IsSome (if b then Some holds.Optional else None) → Well (behind_let (if b then Some holds.Optional else None) n bound) (on_value (read_value w env r) (λ v. Goes (bind env n (an_option (Some v))) st))
+      by : (b : Bool) → is_value (read_holds (length w.args) bound r) ≡ b → IsSome (if b then Some (holds.Optional item.Value) else None) → Well (behind_let (if b then Some (holds.Optional item.Value) else None) n bound) (on_value (read_value w env r) (λ v. Goes (bind env n (an_option (Some v))) st))
       by true f g =
           let one = told_value (read_holds (length w.args) bound r) (read_value w env r) (told_read w bound env r is a) f in
-          subst (λ x. Well (bound ++ (n, holds.Optional) ∷ []) (on_value x (λ v. Goes (bind env n (an_option (Some v))) st))) (sym one.is) (one_more bound env n holds.Optional (an_option (Some one.v)) a tt)
+          subst (λ x. Well (bound ++ (n, holds.Optional item.Value) ∷ []) (on_value x (λ v. Goes (bind env n (an_option (Some v))) st))) (sym one.is) (one_more bound env n (holds.Optional item.Value) (an_option (Some one.v)) a tt)
       by false f g = absurd cc
   well_let n (expr.Try source as_ref) bound env st is some answering a = well_try n (operand_holds (length w.args) bound source) (value_of w env source) bound env st a some (told_operand w bound env source is.1 a)
   well_let n (expr.Variant ty variant fields) bound env st is some answering a = absurd is
@@ -223,26 +227,32 @@ module _ (fns : List TraitFn) (w : Around) where
     pub left : State
     pub is : flow ≡ Ends end left
 
-  ends_held : (g : Held) (h : Holds) (st : State) → HoldsIn h g → DoesEnd (ends_with g st)
-  ends_held (One (AValue v)) h st k = record { end = _; left = _; is = refl }
-  ends_held (Optional (Some (AValue v))) h st k = record { end = _; left = _; is = refl }
-  ends_held (One (ATuple vs)) holds.One st k = absurd k
-  ends_held (One (ATuple vs)) holds.Optional st k = absurd k
-  ends_held (Optional (Some (ATuple vs))) holds.One st k = absurd k
-  ends_held (Optional (Some (ATuple vs))) holds.Optional st k = absurd k
-  ends_held (Listed is) holds.One st k = absurd k
-  ends_held (Listed is) holds.Optional st k = absurd k
-  ends_held (Optional None) h st k = record { end = _; left = _; is = refl }
-  ends_held Absent holds.One st k = absurd k
-  ends_held Absent holds.Optional st k = absurd k
+  ends_value : (g : Held) (st : State) → HoldsIn (holds.One item.Value) g → DoesEnd (ends_with g st)
+  ends_value (One (AValue v)) st k = record { end = _; left = _; is = refl }
+  ends_value (One (ATuple vs)) st k = absurd k
+  ends_value (Optional o) st k = absurd k
+  ends_value (Listed is) st k = absurd k
+  ends_value Absent st k = absurd k
+
+  ends_option : (g : Held) (st : State) → HoldsIn (holds.Optional item.Value) g → DoesEnd (ends_with g st)
+  ends_option (Optional (Some (AValue v))) st k = record { end = _; left = _; is = refl }
+  ends_option (Optional (Some (ATuple vs))) st k = absurd k
+  ends_option (Optional None) st k = record { end = _; left = _; is = refl }
+  ends_option (One i) st k = absurd k
+  ends_option (Listed is) st k = absurd k
+  ends_option Absent st k = absurd k
 
   ends_told : (kind : ReturnKind) (o : Option Holds) (g : Held) (st : State) → GivesKind kind o → Told o g → DoesEnd (ends_with g st)
-  ends_told kind.Plain (Some holds.One) g st k t = ends_held g holds.One st t
-  ends_told kind.Plain (Some holds.Optional) g st k t = absurd k
   ends_told kind.Plain None g st k t = absurd k
-  ends_told kind.Option (Some holds.One) g st k t = absurd k
-  ends_told kind.Option (Some holds.Optional) g st k t = ends_held g holds.Optional st t
+  ends_told kind.Plain (Some (holds.One item.Value)) g st k t = ends_value g st t
+  ends_told kind.Plain (Some (holds.One (item.Tuple count))) g st k t = absurd k
+  ends_told kind.Plain (Some (holds.Optional x)) g st k t = absurd k
+  ends_told kind.Plain (Some (holds.Several x)) g st k t = absurd k
   ends_told kind.Option None g st k t = absurd k
+  ends_told kind.Option (Some (holds.One x)) g st k t = absurd k
+  ends_told kind.Option (Some (holds.Optional item.Value)) g st k t = ends_option g st t
+  ends_told kind.Option (Some (holds.Optional (item.Tuple count))) g st k t = absurd k
+  ends_told kind.Option (Some (holds.Several x)) g st k t = absurd k
   ends_told kind.Iterator o g st k t = absurd k
 
   -- what is said of two parts is said of each
@@ -256,7 +266,7 @@ module _ (fns : List TraitFn) (w : Around) where
   well_return kind (expr.Read r) bound env st is gives fits a = ends_told kind (read_holds (length w.args) bound r) (read_value w env r) st gives (told_read w bound env r is a)
   well_return kind (expr.Some r) bound env st is gives fits a = by (is_value (read_holds (length w.args) bound r)) refl gives
     where
-      by : (b : Bool) → is_value (read_holds (length w.args) bound r) ≡ b → GivesKind kind (if b then Some holds.Optional else None) → DoesEnd (on_value (read_value w env r) (λ v. Ends (GivesSome v) st))
+      by : (b : Bool) → is_value (read_holds (length w.args) bound r) ≡ b → GivesKind kind (if b then Some (holds.Optional item.Value) else None) → DoesEnd (on_value (read_value w env r) (λ v. Ends (GivesSome v) st))
       by true f g =
           let one = told_value (read_holds (length w.args) bound r) (read_value w env r) (told_read w bound env r is a) f in
           record { end = GivesSome one.v; left = st; is = ap (λ x. on_value x (λ v. Ends (GivesSome v) st)) one.is }
@@ -288,32 +298,32 @@ module _ (fns : List TraitFn) (w : Around) where
       by false = a
 
   mutual
-    well_stmt : (kind : ReturnKind) (s : Stmt) (bound : Locals) (env : Env) (st : State) → IsStmt s → IsStmtThere fns kind (length w.args) bound s → FitsStmt kind s → Answering fns w.meaning (stmt_calls s) → Agree bound env
+    well_stmt : (kind : ReturnKind) (closed : Bool) (s : Stmt) (bound : Locals) (env : Env) (st : State) → IsStmt s → IsStmtThere fns kind (length w.args) bound s → FitsStmt kind closed s → Answering fns w.meaning (stmt_calls s) → Agree bound env
         → Well (bound_behind fns (length w.args) s bound) (run_stmt w s env st)
-    well_stmt kind (Let n e) bound env st is there fits answering a = well_let n e bound env st is there answering a
-    well_stmt kind (IfEq l r inside) bound env st is there fits answering a =
+    well_stmt kind closed (Let n e) bound env st is there fits answering a = well_let n e bound env st is there answering a
+    well_stmt kind closed (IfEq l r inside) bound env st is there fits answering a =
         well_test bound env st (value_of w env l) (value_of w env r) (run_body w inside env st) a
         (told_value (operand_holds (length w.args) bound l) (value_of w env l) (told_operand w bound env l is.0 a) there.0)
         (told_value (operand_holds (length w.args) bound r) (value_of w env r) (told_operand w bound env r is.1 a) there.1)
-        (well_body kind inside bound env st is.2 there.2 fits answering a)
-    well_stmt kind (Return e) bound env st is there fits answering a = well_end bound (run_return w e env st) (well_return kind e bound env st is there fits a)
-    well_stmt kind (Tail texts) bound env st is there fits answering a = absurd fits
-    well_stmt kind (LetList n call) bound env st is there fits answering a = absurd is
-    well_stmt kind (IfLet pat r inside) bound env st is there fits answering a = absurd is
-    well_stmt kind (Match r arms) bound env st is there fits answering a = absurd is
-    well_stmt kind (Loop list item inside) bound env st is there fits answering a = absurd is
-    well_stmt kind (Extend r) bound env st is there fits answering a = absurd is
-    well_stmt kind (Overflow inside) bound env st is there fits answering a = absurd is
-    well_stmt kind (Log term place) bound env st is there fits answering a = absurd is
-    well_stmt kind (Split inside within) bound env st is there fits answering a = absurd is
+        (well_body kind closed inside bound env st is.2 there.2 fits answering a)
+    well_stmt kind closed (Return e) bound env st is there fits answering a = well_end bound (run_return w e env st) (well_return kind e bound env st is there fits a)
+    well_stmt kind closed (Tail texts) bound env st is there fits answering a = absurd fits
+    well_stmt kind closed (LetList n call) bound env st is there fits answering a = absurd is
+    well_stmt kind closed (IfLet pat r inside) bound env st is there fits answering a = absurd is
+    well_stmt kind closed (Match r arms) bound env st is there fits answering a = absurd is
+    well_stmt kind closed (Loop list item inside) bound env st is there fits answering a = absurd is
+    well_stmt kind closed (Extend r) bound env st is there fits answering a = absurd is
+    well_stmt kind closed (Overflow inside) bound env st is there fits answering a = absurd is
+    well_stmt kind closed (Log term place) bound env st is there fits answering a = absurd is
+    well_stmt kind closed (Split inside within) bound env st is there fits answering a = absurd is
 
-    well_body : (kind : ReturnKind) (b : Body) (bound : Locals) (env : Env) (st : State) → IsBody b → IsBodyThere fns kind (length w.args) bound b → FitsBody kind b → Answering fns w.meaning (body_calls b) → Agree bound env
+    well_body : (kind : ReturnKind) (closed : Bool) (b : Body) (bound : Locals) (env : Env) (st : State) → IsBody b → IsBodyThere fns kind (length w.args) bound b → FitsBody kind closed b → Answering fns w.meaning (body_calls b) → Agree bound env
         → NotStuck (run_body w b env st)
-    well_body kind Done bound env st is there fits answering a = tt
-    well_body kind (Then s ss) bound env st is there fits answering a =
+    well_body kind closed Done bound env st is there fits answering a = tt
+    well_body kind closed (Then s ss) bound env st is there fits answering a =
         then_well (bound_behind fns (length w.args) s bound) (run_stmt w s env st) (run_body w ss)
-        (well_stmt kind s bound env st is.0 there.0 fits.0 (front_answering (stmt_calls s) (body_calls ss) answering) a)
-        (λ inner calls k. well_body kind ss (bound_behind fns (length w.args) s bound) inner calls is.1 there.1 fits.1 (behind_answering (stmt_calls s) (body_calls ss) answering) k)
+        (well_stmt kind closed s bound env st is.0 there.0 fits.0 (front_answering (stmt_calls s) (body_calls ss) answering) a)
+        (λ inner calls k. well_body kind closed ss (bound_behind fns (length w.args) s bound) inner calls is.1 there.1 fits.1 (behind_answering (stmt_calls s) (body_calls ss) answering) k)
 
   -- ---- functions end
 
@@ -346,5 +356,5 @@ module _ (fns : List TraitFn) (w : Around) where
       record { end = last.end; left = last.left; is = ap (λ flow. then_run flow (run_body w Done)) last.is }
   function_ends kind (Then s (Then t ss)) bound env st is there fits answering a =
       then_ends (bound_behind fns (length w.args) s bound) (run_stmt w s env st) (run_body w (Then t ss))
-      (well_stmt kind s bound env st is.0 there.0 fits.0 (front_answering (stmt_calls s) (body_calls (Then t ss)) answering) a)
+      (well_stmt kind false s bound env st is.0 there.0 fits.0 (front_answering (stmt_calls s) (body_calls (Then t ss)) answering) a)
       (λ inner calls k. function_ends kind (Then t ss) (bound_behind fns (length w.args) s bound) inner calls is.1 there.1 fits.1 (behind_answering (stmt_calls s) (body_calls (Then t ss)) answering) k)
