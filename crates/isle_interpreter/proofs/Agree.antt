@@ -13,7 +13,7 @@ use Rattle.isle_core.specs.Terms.{goes_to}
 use Rattle.isle_tree.specs.declared.tree.TExpr.{TExpr}
 use Rattle.isle_tree.specs.declared.tree.TExpr.TheVariants as expr
 use Rattle.isle_tree.specs.Program.{Program, Stmt, Let, LetList, IfEq, IfLet, Match, Loop, Return, Extend, Overflow, Log, Split, Tail, Body, Done, Then, Function}
-use Rattle.isle_tree.specs.Run.{Around, State, nothing_done, one_made, Env, Flow, Goes, Ends, Leaves, Stuck, value_of, read_values, on_value, then_run, behind, run_bind, run_call, run_let, run_stmt, run_body, ended, function_run}
+use Rattle.isle_tree.specs.Run.{Around, State, nothing_done, one_made, Env, Flow, Goes, Ends, Leaves, Stuck, value_of, read_value, read_values, on_value, fit, fitted, then_run, behind, run_bind, run_call, run_let, run_stmt, run_body, ended, function_run}
 use Rattle.isle_interpreter.specs.Forms.{Constant, Cases, Turns, forms, IsUnanswered}
 use Rattle.isle_tree.specs.Calls.{expr_calls, stmt_calls, body_calls}
 use Rattle.isle_interpreter.specs.Refusals.{AreAnswered}
@@ -101,6 +101,10 @@ module _ (m given : Meaning) (has : HasAnswers m given) where
         by (Leaves s) = refl
         by Stuck = refl
 
+    same_fitted : (o : Option Env) (env : Env) (otherwise : Flow) (go next : Env → Flow) → ((bound : Env) → go bound ≡ next bound) → fitted o (λ bound. behind env (go bound)) otherwise ≡ fitted o (λ bound. behind env (next bound)) otherwise
+    same_fitted None env otherwise go next same = refl
+    same_fitted (Some bound) env otherwise go next same = ap (behind env) (same bound)
+
     mutual
       same_stmt : (t : Stmt) (env : Env) (s : State) → Alike (stmt_calls t) → run_stmt one t env s ≡ run_stmt other t env s
       same_stmt (Let n e) env s alike = same_let n e env s alike
@@ -109,7 +113,7 @@ module _ (m given : Meaning) (has : HasAnswers m given) where
       same_stmt (Return e) env s alike = refl
       same_stmt (Tail texts) env s alike = refl
       same_stmt (LetList n call) env s alike = refl
-      same_stmt (IfLet pat r inside) env s alike = refl
+      same_stmt (IfLet pat r inside) env s alike = same_fitted (fit one pat (read_value one env r)) env (Goes env s) (λ bound. run_body one inside (env ++ bound) s) (λ bound. run_body other inside (env ++ bound) s) (λ bound. same_body inside (env ++ bound) s alike)
       same_stmt (Match r arms) env s alike = refl
       same_stmt (Loop list item inside) env s alike = refl
       same_stmt (Extend r) env s alike = refl

@@ -3,8 +3,8 @@ use Rattle.std.proofs.Common.{◌≡◌, Bool, true, false, Option, Some, None, 
 use Rattle.std.specs.Prelude.{if◌then◌else◌}
 use Rattle.isle_core.specs.Answered.{AValue, ATuple, Held, Absent, One, Optional, Listed}
 use Rattle.isle_core.specs.SameInRun.{same_in_run}
-use Rattle.isle_tree.specs.Run.{Flow, Stuck, on_value}
-use Rattle.isle_interpreter.specs.RunViews.{value_in, tested}
+use Rattle.isle_tree.specs.Run.{Flow, Stuck, on_value, value_in}
+use Rattle.isle_interpreter.specs.RunViews.{tested}
 
 -- by what a test says
 abbrev pub by_test : Option Bool → Flow → Flow → Flow

@@ -61,14 +61,6 @@ flow code.Stuck f = Stuck
 
 -- ---- tests
 
--- the value that a place holds, where it is one
-abbrev pub value_in : Held → Option Value
-value_in (One (AValue v)) = Some v
-value_in (One (ATuple vs)) = None
-value_in Absent = None
-value_in (Optional o) = None
-value_in (Listed is) = None
-
 -- whether two places have equal values, where both have one
 abbrev pub tested : Option Value → Option Value → Option Bool
 tested (Some v) (Some w) = Some (same_in_run v w)

@@ -1,20 +1,23 @@
 //! What places hold in a run.
 
-ghost use Rattle.std.specs.Prelude.{◌≡◌, IfOk};
+ghost use Rattle.std.specs.Prelude.{◌≡◌, IfOk, option_map};
+ghost use Rattle.isle_core.specs.ValueViews.{value};
+ghost use Rattle.isle_tree.specs.Run.{value_in};
+ghost use Rattle.isle_interpreter.specs.RunViews.{held};
 
 use isle_core::{List, Value};
 use isle_outcomes::copied;
 use std::alloc::{AllocError, Global};
 
 /// An item: one value, or a tuple of values.
-#[derive(Debug, Drop)]
+#[derive(Drop)]
 pub enum Item {
     Value(Value),
     Tuple(List<Value>),
 }
 
 /// What a place holds: nothing that there is, an item, an option of one, or a list of items.
-#[derive(Debug, Drop)]
+#[derive(Drop)]
 pub enum Holding {
     Absent,
     One(Item),
@@ -64,5 +67,18 @@ pub fn holding_copied(alloc: Global, given: &Holding) -> Result<Holding, AllocEr
         Holding::Optional(None) => Ok(Holding::Optional(None)),
         Holding::Optional(Some(item)) => Ok(Holding::Optional(Some(item_copied(alloc, item)?))),
         Holding::Listed(items) => Ok(Holding::Listed(items_copied(alloc, items.as_slice())?)),
+    }
+}
+
+/// Returns the value that a place holds, where it is one.
+pub fn value_in(holding: &Holding) -> Option<&Value>
+    ensures { option_map (λ v. value v.now) result ≡ value_in (held holding.now) }
+{
+    match holding {
+        Holding::One(Item::Value(value)) => Some(value),
+        Holding::One(Item::Tuple(_))
+        | Holding::Optional(_)
+        | Holding::Listed(_)
+        | Holding::Absent => None,
     }
 }

@@ -5,6 +5,7 @@ mod around;
 mod called;
 mod calls;
 mod entry;
+mod fit;
 mod fitting;
 mod flow;
 mod form;

@@ -1,24 +1,25 @@
 //! The run of a function's statements.
 
-ghost use Rattle.std.specs.Prelude.{◌≡◌, IfOk, OnOk, option_map};
+ghost use Rattle.std.specs.Prelude.{◌≡◌, ◌++◌, IfOk, OnOk};
 ghost use Rattle.std.specs.Prelude.{Some};
 ghost use Rattle.isle_core.specs.Answered.{an_option};
 ghost use Rattle.isle_core.specs.Value.{GivesSome};
-ghost use Rattle.isle_core.specs.ValueViews.{value};
 ghost use Rattle.isle_tree.specs.Run as run;
+ghost use Rattle.isle_tree.specs.Run.{value_in};
 ghost use Rattle.isle_tree.specs.Views.{stmt, body};
-ghost use Rattle.isle_interpreter.specs.RunViews.{held, locals, within, state, flow, value_in, tested};
+ghost use Rattle.isle_interpreter.specs.RunViews.{held, locals, within, state, flow, tested};
 ghost use Rattle.isle_interpreter.specs.declared.frame.Frame.{Frame};
 ghost use Rattle.isle_interpreter.specs.Frames.{Follows};
 
 use crate::around::Around;
+use crate::fit::fit;
 use crate::flow::Flow;
 use crate::frame::Frame;
-use crate::holding::{Holding, Item};
+use crate::holding::{Holding, Item, value_in};
 use crate::reading::{read_value, read_values, value_of};
-use isle_core::{End, Value};
+use isle_core::End;
 use isle_outcomes::same;
-use isle_tree::{Operand, Stmt, TCall, TExpr};
+use isle_tree::{Operand, Stmt, TCall, TExpr, TPat};
 use std::alloc::{AllocError, Global};
 
 // Binds a local to what a place holds.
@@ -173,19 +174,6 @@ fn run_return(
     }
 }
 
-// The value that a place holds, where it is one.
-fn value_in(holding: &Holding) -> Option<&Value>
-    ensures { option_map (λ v. value v.now) result ≡ value_in (held holding.now) }
-{
-    match holding {
-        Holding::One(Item::Value(value)) => Some(value),
-        Holding::One(Item::Tuple(_))
-        | Holding::Optional(_)
-        | Holding::Listed(_)
-        | Holding::Absent => None,
-    }
-}
-
 // How a test of two places goes on, where both have values.
 fn are_same(one: &Holding, other: &Holding) -> Option<bool>
     ensures { result ≡ tested (value_in (held one.now)) (value_in (held other.now)) }
@@ -229,11 +217,14 @@ fn run_stmt(
             Some(false) => Ok(Flow::Goes),
             None => Ok(Flow::Stuck),
         },
+        Stmt::IfLet(pat, read, inside) => {
+            let holding = read_value(alloc, around, frame, read)?;
+            run_fitting(alloc, around, pat, holding, inside.as_slice(), frame)
+        }
         Stmt::Return(given) => run_return(alloc, around, frame, given),
         Stmt::Tail(None) => Ok(Flow::Ends(End::Nothing)),
         Stmt::Tail(Some(_)) => Ok(Flow::Ends(End::Unreachable)),
         Stmt::LetList { .. }
-        | Stmt::IfLet(..)
         | Stmt::Match(..)
         | Stmt::Loop { .. }
         | Stmt::Extend(_)
@@ -259,6 +250,29 @@ fn run_inside(
     let end = run_body(alloc, around, statements, frame)?;
     frame.locals.truncate(bound);
     Ok(end)
+}
+
+// Runs statements where a pattern fits what is read, and leaves what they and the pattern bound.
+#[cycle(running)]
+fn run_fitting(
+    alloc: Global,
+    around: &Around<'_>,
+    pat: &TPat,
+    holding: Holding,
+    statements: &[Stmt],
+    frame: &mut Frame<'_>,
+) -> Result<Flow, AllocError>
+    ensures runs { IfOk result (λ f. run.fitted (run.fit (within around.now frame.old) pat.now (held holding)) (λ bound. run.behind (locals frame.old.locals) (run.run_body (within around.now frame.old) (body statements.now) (locals frame.old.locals ++ bound) (state frame.old))) (run.Goes (locals frame.old.locals) (state frame.old)) ≡ flow f frame.new) }
+    ensures follows { OnOk result (Follows frame.old frame.new) }
+{
+    let bound = frame.locals.len();
+    if fit(pat, holding, frame)? {
+        let end = run_body(alloc, around, statements, frame)?;
+        frame.locals.truncate(bound);
+        Ok(end)
+    } else {
+        Ok(Flow::Goes)
+    }
 }
 
 /// Runs statements in order.
