@@ -265,10 +265,10 @@ fn run_fitting(
     ensures runs { IfOk result (λ f. run.fitted (run.fit (within around.now frame.old) pat.now (held holding)) (λ bound. run.behind (locals frame.old.locals) (run.run_body (within around.now frame.old) (body statements.now) (locals frame.old.locals ++ bound) (state frame.old))) (run.Goes (locals frame.old.locals) (state frame.old)) ≡ flow f frame.new) }
     ensures follows { OnOk result (Follows frame.old frame.new) }
 {
-    let bound = frame.locals.len();
+    let count = frame.locals.len();
     if fit(pat, holding, frame)? {
         let end = run_body(alloc, around, statements, frame)?;
-        frame.locals.truncate(bound);
+        frame.locals.truncate(count);
         Ok(end)
     } else {
         Ok(Flow::Goes)
