@@ -10,7 +10,7 @@ use Rattle.isle_core.specs.Terms.{goes_to}
 use Rattle.isle_core.specs.History.{AnsweredCall, Service}
 use Rattle.isle_core.proofs.Contained.{head_contained, tail_contained, contained_cases, none_contained}
 use Rattle.isle_core.proofs.ImpureCalls.{goes_there}
-use Rattle.isle_core.proofs.ListLaws.{not_both, find_map, filter_from, filter_keeps}
+use Rattle.isle_core.proofs.ListLaws.{not_both, find_map}
 
 -- a call that goes to a callee is of that callee
 pub goes_same : (a b : Callee) → goes_to a (Some b) ≡ true → a ≡ b

@@ -7,11 +7,9 @@ use Rattle.std.proofs.lemmas.List.{take-map, take_more, length-map, map-append}
 use Rattle.isle_outside.specs.Directory.{Files, bytes_of, Counts, raised}
 use Rattle.isle_outside.specs.Reading.{IsText, IsCause, Answers, CountsFault, RoseAt}
 use Rattle.isle_outside.specs.declared.errors.IoCause.{IoCause}
-use Rattle.isle_outside.specs.declared.errors.IoCause.TheVariants as cause
 use Rattle.isle_outside.specs.declared.errors.ReadFail.{ReadFail}
 use Rattle.isle_outside.specs.declared.errors.ReadFail.TheVariants as fail
 use Rattle.isle_core.specs.Inputs.{bytes_each, AreRead, Fails, FailsAt, IsTried, failure_at}
-use Rattle.isle_core.specs.declared.read_error.ReadError.TheVariants as error
 
 one_more : (files : Files) (names texts : List (List ℕ)) (name text : List ℕ) → AreRead files names texts → IsText text (bytes_of files name) → AreRead files (names ++ name ∷ []) (texts ++ text ∷ [])
 one_more files [] [] name text h k = (k, tt)

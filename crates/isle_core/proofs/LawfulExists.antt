@@ -1,5 +1,5 @@
 -- Each history of calls with fitting answers is some lawful meaning's, and so a lawful meaning exists.
-use Rattle.std.proofs.Common.{◌≡◌, ℕ, ℤ, suc, List, [], ◌∷◌, ◌++◌, Bool, true, false, cond, length, map, Option, Some, None, refl, sym, ap, ◌∙◌, ⊎_elim, subst}
+use Rattle.std.proofs.Common.{◌≡◌, ℤ, suc, List, [], ◌∷◌, ◌++◌, Bool, true, false, cond, length, map, Option, Some, None, refl, sym, ap, ◌∙◌, ⊎_elim, subst}
 use Rattle.std.specs.Prelude.{Contains, All, IsSomeAnd, ◌&&◌, filter, find, not, slice_get, slice_index_or}
 use Rattle.std.specs.List.{AllByRecursion}
 use Rattle.std.proofs.lemmas.List.{append_assoc}
@@ -14,7 +14,7 @@ use Rattle.isle_core.specs.declared.values.Callee.{Callee}
 use Rattle.isle_core.specs.Value.{Value, Answer, Made}
 use Rattle.isle_core.specs.Value as value
 use Rattle.isle_core.specs.Constants.{int_of_def}
-use Rattle.isle_core.specs.Meaning.{Meaning, TurnAnswers, PureAnswers, turns_of, cases_of, turn_at, times, same_values, case_or, case_at, case}
+use Rattle.isle_core.specs.Meaning.{Meaning, turns_of, cases_of, times, same_values, case_or, case_at}
 use Rattle.isle_core.specs.Answered.{answer, answer_by}
 use Rattle.isle_core.specs.Calling.{Calling, ByTurns, ByCases, NoCall}
 use Rattle.isle_core.specs.CalledTerms.{Role, CalledTerm, called}
@@ -27,7 +27,7 @@ use Rattle.isle_core.proofs.Contained.{head_contained, tail_contained, contained
 use Rattle.isle_core.proofs.ImpureCalls.{goes_there}
 use Rattle.isle_core.proofs.RunEquality.{same_in_run-self}
 use Rattle.isle_core.proofs.ListLaws.{not_both, filter_from, filter_keeps, at_seam}
-use Rattle.isle_core.proofs.Entries.{goes_same, Entry, answers_to, cases_to, turns_in, cases_in, takes_turns, meaning_of, serves, turns_found, cases_found, Finds, finds, finds_none}
+use Rattle.isle_core.proofs.Entries.{goes_same, Entry, answers_to, cases_to, turns_in, cases_in, takes_turns, meaning_of, turns_found, cases_found, Finds, finds, finds_none}
 
 -- ---- the entries of called terms
 
@@ -263,22 +263,30 @@ module _ (env : Environment) (os : List CalledTerm) (h : List AnsweredCall) (can
 
 -- ---- constants
 
-not_truth : (d : Option TypeDef) (n : ℤ) (b : Bool) → int_of_def d n ≡ value.Truth b → ⊥
-not_truth (Some (def.Builtin (builtin.Int ty))) n b e = cc
-not_truth d n b e = cc
+not_truth : (env : Environment) (d : Option TypeDef) (n : ℤ) (b : Bool) → int_of_def env d n ≡ value.Truth b → ⊥
+not_truth env (Some (def.Builtin (builtin.Int ty))) n b e = cc
+not_truth env (Some (def.Builtin builtin.Bool)) n b e = cc
+not_truth env (Some (def.Primitive name rust at)) n b e = cc
+not_truth env (Some (def.Enum name is_extern is_nodebug variants at)) n b e = cc
+not_truth env (Some (def.Struct name is_extern is_nodebug fields at)) n b e = cc
+not_truth env None n b e = cc
 
-one_number : (d : Option TypeDef) (n k : ℤ) → int_of_def d n ≡ int_of_def d k → n ≡ k
-one_number (Some (def.Builtin (builtin.Int ty))) n k e = cc
-one_number d n k e = cc
+one_number : (env : Environment) (d : Option TypeDef) (n k : ℤ) → int_of_def env d n ≡ int_of_def env d k → n ≡ k
+one_number env (Some (def.Builtin (builtin.Int ty))) n k e = cc
+one_number env (Some (def.Builtin builtin.Bool)) n k e = cc
+one_number env (Some (def.Primitive name rust at)) n k e = cc
+one_number env (Some (def.Enum name is_extern is_nodebug variants at)) n k e = cc
+one_number env (Some (def.Struct name is_extern is_nodebug fields at)) n k e = cc
+one_number env None n k e = cc
 
 some_value : (v w : Value) → Some v ≡ Some w → v ≡ w
 some_value v w e = cc
 
 written_apart : (env : Environment) (m : Meaning) (cs : List TypedConstant) → NamesNone cs → (ty : TypeId) (c d : Constant) → Contains cs (ty, c) → Contains cs (ty, d) → constant_value env m ty c ≡ constant_value env m ty d → c ≡ d
 written_apart env m cs none ty (Truth a) (Truth b) h k e = cc
-written_apart env m cs none ty (Number a) (Number b) h k e = ap Number (one_number (slice_get env.types.types ty.0) a b (some_value (int_of_def (slice_get env.types.types ty.0) a) (int_of_def (slice_get env.types.types ty.0) b) e))
-written_apart env m cs none ty (Truth a) (Number b) h k e = absurd (not_truth (slice_get env.types.types ty.0) b a (some_value (int_of_def (slice_get env.types.types ty.0) b) (value.Truth a) (sym e)))
-written_apart env m cs none ty (Number a) (Truth b) h k e = absurd (not_truth (slice_get env.types.types ty.0) a b (some_value (int_of_def (slice_get env.types.types ty.0) a) (value.Truth b) e))
+written_apart env m cs none ty (Number a) (Number b) h k e = ap Number (one_number env (slice_get env.types.types ty.0) a b (some_value (int_of_def env (slice_get env.types.types ty.0) a) (int_of_def env (slice_get env.types.types ty.0) b) e))
+written_apart env m cs none ty (Truth a) (Number b) h k e = absurd (not_truth env (slice_get env.types.types ty.0) b a (some_value (int_of_def env (slice_get env.types.types ty.0) b) (value.Truth a) (sym e)))
+written_apart env m cs none ty (Number a) (Truth b) h k e = absurd (not_truth env (slice_get env.types.types ty.0) a b (some_value (int_of_def env (slice_get env.types.types ty.0) a) (value.Truth b) e))
 written_apart env m cs none ty (Named name) d h k e = absurd (none ty name h)
 written_apart env m cs none ty c (Named name) h k e = absurd (none ty name k)
 

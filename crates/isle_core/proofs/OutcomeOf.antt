@@ -1,5 +1,5 @@
 -- What the highest rule gives is prescribed.
-use Rattle.std.proofs.Common.{◌≡◌, ◌⊎◌, inl, inr, ⊎_elim, ◌≤◌, ℤ, List, [], ◌∷◌, Bool, cond, length, Option, Some, None, refl, sym, ap, ◌∙◌, subst, arith, Ordering}
+use Rattle.std.proofs.Common.{◌≡◌, ◌⊎◌, inl, inr, ⊎_elim, ◌≤◌, ℤ, List, [], ◌∷◌, cond, length, Option, Some, None, refl, sym, ap, ◌∙◌, subst, arith, Ordering}
 use Rattle.std.specs.Prelude.{◌<ℤ◌, ◌≤ℤ◌, Contains}
 use Rattle.std.specs.declared.cmp.Ordering.TheVariants.{Less, Equal, Greater}
 use Rattle.std.specs.Ordering.{int_cmp, is_lt, MatchOrdering}

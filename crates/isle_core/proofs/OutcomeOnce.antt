@@ -1,5 +1,5 @@
 -- The rules of a term prescribe at most one outcome.
-use Rattle.std.proofs.Common.{◌≡◌, ℤ, List, Bool, Some, None, refl, sym, ap, ◌∙◌, ⊎_elim, arith}
+use Rattle.std.proofs.Common.{◌≡◌, ℤ, List, Some, None, refl, sym, ap, ◌∙◌, ⊎_elim, arith}
 use Rattle.std.specs.Prelude.{◌<ℤ◌}
 use Rattle.std.proofs.lemmas.Int.{ints}
 use Rattle.isle_core.specs.declared.types.ReturnKind.{ReturnKind}

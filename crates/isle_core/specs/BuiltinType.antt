@@ -8,7 +8,9 @@ use Rattle.isle_core.specs.Rule.{Environment}
 -- a definition of a builtin type
 abbrev pub IsBuiltinDef : TypeDef → Type 0
 IsBuiltinDef (def.Builtin ty) = Unit {0}
-IsBuiltinDef d = ⊥
+IsBuiltinDef (def.Primitive name rust pos) = ⊥
+IsBuiltinDef (def.Enum name is_extern is_nodebug variants pos) = ⊥
+IsBuiltinDef (def.Struct name is_extern is_nodebug fields pos) = ⊥
 
 -- a builtin type
 abbrev pub IsBuiltinType : Environment → TypeId → Type 0

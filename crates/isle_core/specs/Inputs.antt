@@ -5,7 +5,6 @@ use Rattle.std.specs.declared.alloc.Global.{Global}
 use Rattle.isle_outside.specs.Directory.{Files, bytes_of, Counts}
 use Rattle.isle_outside.specs.Reading.{IsCause, IsText, RoseAt}
 use Rattle.isle_outside.specs.declared.errors.IoCause.{IoCause}
-use Rattle.isle_outside.specs.declared.errors.IoCause.TheVariants as cause
 use Rattle.isle_outside.specs.declared.errors.ReadFail.{ReadFail}
 use Rattle.isle_outside.specs.declared.errors.ReadFail.TheVariants as fail
 use Rattle.isle_core.specs.declared.read_error.ReadError.{ReadError}

@@ -16,7 +16,7 @@ use Rattle.isle_core.specs.HasType.{HasType, HaveTypes}
 use Rattle.isle_core.specs.CalledTerms.{Role, Extractor, Constructor, CalledTerm, called}
 use Rattle.isle_core.specs.OccurringConstants.{Constant, Truth, Number, Named, rules_constants}
 use Rattle.isle_core.specs.Terms.{sym_text}
-use Rattle.isle_core.specs.Rule.{Environment, Rule, rules_of}
+use Rattle.isle_core.specs.Rule.{Environment, rules_of}
 
 -- ---- answers
 

@@ -3,6 +3,7 @@ use Rattle.std.specs.Prelude.{◌≡◌, List, [], ◌∷◌, Some, IsSomeAnd, s
 use Rattle.isle_base.specs.declared.ids.TypeId.{TypeId}
 use Rattle.isle_core.specs.declared.types.ReturnKind.TheVariants as return_kind
 use Rattle.isle_core.specs.declared.types.Term.{Term}
+use Rattle.isle_core.specs.BuiltinType.{IsBuiltinType}
 use Rattle.isle_core.specs.HasType.{HasType}
 use Rattle.isle_core.specs.Value.{Truth}
 use Rattle.isle_core.specs.Constants.{int_value}
@@ -11,12 +12,12 @@ use Rattle.isle_core.specs.ExternalCall.{IsCall}
 use Rattle.isle_core.specs.Path.{Path, Arg, ConstBool, ConstInt, Called, Inner, Paths, NoPath, APath}
 use Rattle.isle_core.specs.Rule.{Environment}
 
--- a path that holds a value of the type, whatever the arguments and the answers are; only arguments, constants, calls and inner values are built
+-- a path that holds a value of the type, whatever the arguments and the answers are; only arguments, truths, numbers of integer types, calls and inner values are built
 abbrev mutual
   pub IsPathOf : Environment → Term → Path → TypeId → Type 0
   IsPathOf env t (Arg i) ty = slice_get t.arg_tys i ≡ Some ty
   IsPathOf env t (ConstBool of b) ty = (of ≡ ty) × HasType env (Truth b) ty
-  IsPathOf env t (ConstInt of n) ty = (of ≡ ty) × HasType env (int_value env ty n) ty
+  IsPathOf env t (ConstInt of n) ty = (of ≡ ty) × HasType env (int_value env ty n) ty × IsBuiltinType env ty
   IsPathOf env t (Called term ps instance) ty = IsCall return_kind.Plain (calling env term) × IsSomeAnd (slice_get env.terms term.0) (λ (c : Term). (c.ret_ty ≡ ty) × ArePathsOf env t ps c.arg_tys)
   IsPathOf env t (Inner p) ty = IsOptionOf env t p ty
   IsPathOf env t p ty = ⊥

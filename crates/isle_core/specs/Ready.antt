@@ -1,5 +1,5 @@
 -- Which rule sets have lawful blocks.
-use Rattle.std.specs.Prelude.{◌≡◌, ◌↔◌, ℕ, List, [], ◌∷◌, Bool, true, Some, IsTrue, Contains, map, slice_get}
+use Rattle.std.specs.Prelude.{◌≡◌, ◌↔◌, ℕ, List, [], ◌∷◌, true, Some, IsTrue, Contains, map, slice_get}
 use Rattle.std.specs.List.{AllByRecursion}
 use Rattle.isle_base.specs.declared.ids.BindingId.{BindingId}
 use Rattle.isle_base.specs.declared.ids.TermId.{TermId}

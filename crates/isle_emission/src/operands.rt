@@ -1,21 +1,21 @@
 //! What stands for the values of bindings.
 
-ghost use Rattle.std.specs.Prelude.{◌≡◌, List as ListOf, slice_get};
-ghost use Rattle.isle_core.specs.Constants.{int_of_def};
+ghost use Rattle.std.specs.Prelude.{◌≡◌, List as ListOf};
+ghost use Rattle.isle_core.specs.Constants.{int_value};
 ghost use Rattle.isle_core.specs.Path.{Path, path_over, at, paths_of};
 ghost use Rattle.isle_emission.specs.Contexts.{env_of, bindings_in};
 ghost use Rattle.isle_simulation.specs.Operands as Operands;
 
 use crate::context::Context;
-use isle_core::{Binding, BindingId, BuiltinType, Constraint, TypeDef, TypeEnv, TypeId};
+use isle_core::{Binding, BindingId, BuiltinType, Constraint, TypeDef, TypeId};
 use isle_scope::Scope;
 use isle_tree::Operand;
 
 /// Returns a number as an operand of a type.
-fn number(typeenv: &TypeEnv, ty: TypeId, val: i128) -> Option<Operand>
-    ensures { result ≡ Operands.constant (int_of_def (slice_get typeenv.now.types ty.0) val) }
+fn number(context: &Context<'_>, ty: TypeId, val: i128) -> Option<Operand>
+    ensures { result ≡ Operands.constant (int_value (env_of context.now) ty val) }
 {
-    match typeenv.types.as_slice().get(ty.index()) {
+    match context.typeenv.types.as_slice().get(ty.index()) {
         Some(TypeDef::Builtin(BuiltinType::Int(ty))) => Some(Operand::Int(*ty, val)),
         Some(TypeDef::Builtin(BuiltinType::Bool))
         | Some(TypeDef::Primitive { .. })
@@ -32,7 +32,7 @@ fn of_binding(context: &Context<'_>, binding: &Binding) -> Option<Operand>
     match binding {
         Binding::Argument { index } => Some(Operand::Arg(*index)),
         Binding::ConstBool { val, .. } => Some(Operand::Bool(*val)),
-        Binding::ConstInt { val, ty } => number(context.typeenv, *ty, *val),
+        Binding::ConstInt { val, ty } => number(context, *ty, *val),
         Binding::ConstPrim { .. }
         | Binding::Extractor { .. }
         | Binding::Constructor { .. }
@@ -63,7 +63,7 @@ pub fn tested(context: &Context<'_>, constraint: Constraint) -> Option<Operand>
 {
     match constraint {
         Constraint::ConstBool { val } => Some(Operand::Bool(val)),
-        Constraint::ConstInt { val, ty } => number(context.typeenv, ty, val),
+        Constraint::ConstInt { val, ty } => number(context, ty, val),
         Constraint::Variant { .. }
         | Constraint::Struct { .. }
         | Constraint::ConstPrim { .. }

@@ -5,15 +5,15 @@ use Rattle.std.specs.List.{AllByRecursion}
 use Rattle.std.proofs.lemmas.List.Elements.{recursion_from_All, Contains-append_left, Contains-append_right}
 use Rattle.isle_core.specs.declared.values.Callee.{Callee}
 use Rattle.isle_core.specs.Value.{Value, Made}
-use Rattle.isle_core.specs.SameValue.{same_value}
+use Rattle.isle_core.specs.SameInRun.{same_in_run}
 use Rattle.isle_core.specs.Meaning.{PureAnswers, TurnAnswers, Meaning, turns_of, cases_of}
 use Rattle.isle_core.specs.Answered.{answer_held, answer}
 use Rattle.isle_core.specs.Having.{HasCases, HasTurns, HasAnswers}
 use Rattle.isle_core.specs.Terms.{goes_to}
 use Rattle.isle_tree.specs.declared.tree.TExpr.{TExpr}
 use Rattle.isle_tree.specs.declared.tree.TExpr.TheVariants as expr
-use Rattle.isle_tree.specs.Program.{Stmt, Let, LetList, IfEq, IfLet, Match, Loop, Return, Extend, Overflow, Log, Split, Tail, Body, Done, Then, Function}
-use Rattle.isle_tree.specs.Run.{Env, Flow, Goes, Ends, Stuck, value_of, read_values, on_value, then_run, behind, run_bind, run_call, run_let, run_stmt, run_body, ended, function_run}
+use Rattle.isle_tree.specs.Program.{Program, Stmt, Let, LetList, IfEq, IfLet, Match, Loop, Return, Extend, Overflow, Log, Split, Tail, Body, Done, Then, Function}
+use Rattle.isle_tree.specs.Run.{Around, State, nothing_done, one_made, Env, Flow, Goes, Ends, Leaves, Stuck, value_of, read_value, read_values, on_value, fit, fitted, then_run, behind, run_bind, run_call, run_let, run_stmt, run_body, ended, function_run}
 use Rattle.isle_interpreter.specs.Forms.{Constant, Cases, Turns, forms, IsUnanswered}
 use Rattle.isle_tree.specs.Calls.{expr_calls, stmt_calls, body_calls}
 use Rattle.isle_interpreter.specs.Refusals.{AreAnswered}
@@ -71,51 +71,62 @@ module _ (m given : Meaning) (has : HasAnswers m given) where
   back : (cs ds : List Callee) → Alike (cs ++ ds) → Alike ds
   back cs ds alike callee there = alike callee (Contains-append_right cs ds callee there)
 
-  same_call : (n : ℕ) (callee : Callee) (o : Option (List Value)) (env : Env) (made : List Made) → Alike (callee ∷ []) → run_call m n callee o env made ≡ run_call given n callee o env made
-  same_call n callee None env made alike = refl
-  same_call n callee (Some vs) env made alike =
-      ap (λ a. run_bind n (answer_held a) env (made ++ record { callee = callee; args = vs } ∷ [])) (alike callee (zero, omega arith, refl) vs made)
+  module _ (p : Program) (f : Function) (args : List Value) where
+    abbrev one : Around
+    one = record { meaning = m; program = p; function = f; args = args; limit = None }
 
-  module _ (args : List Value) where
-    same_let : (n : ℕ) (e : TExpr) (env : Env) (made : List Made) → Alike (expr_calls e) → run_let m args n e env made ≡ run_let given args n e env made
-    same_let n (expr.Call borrow call) env made alike = same_call n call.callee (read_values args env call.args) env made alike
-    same_let n (expr.Read r) env made alike = refl
-    same_let n (expr.Some r) env made alike = refl
-    same_let n (expr.Try source as_ref) env made alike = refl
-    same_let n (expr.Variant ty variant fields) env made alike = refl
-    same_let n (expr.Struct ty fields) env made alike = refl
-    same_let n (expr.Tuple o k) env made alike = refl
+    abbrev other : Around
+    other = record { meaning = given; program = p; function = f; args = args; limit = None }
 
-    then_same : (flow other : Flow) (go next : Env → List Made → Flow) → flow ≡ other → ((env : Env) (made : List Made) → go env made ≡ next env made) → then_run flow go ≡ then_run other next
-    then_same flow other go next e same = by flow ∙ ap (λ f. then_run f next) e
+    same_call : (n : ℕ) (callee : Callee) (o : Option (List Value)) (env : Env) (s : State) → Alike (callee ∷ []) → run_call one n callee o env s ≡ run_call other n callee o env s
+    same_call n callee None env s alike = refl
+    same_call n callee (Some vs) env s alike =
+        ap (λ a. run_bind n (answer_held a) env (one_made s (record { callee = callee; args = vs }))) (alike callee (zero, omega arith, refl) vs s.made)
+
+    same_let : (n : ℕ) (e : TExpr) (env : Env) (s : State) → Alike (expr_calls e) → run_let one n e env s ≡ run_let other n e env s
+    same_let n (expr.Call borrow call) env s alike = same_call n call.callee (read_values one env call.args) env s alike
+    same_let n (expr.Read r) env s alike = refl
+    same_let n (expr.Some r) env s alike = refl
+    same_let n (expr.Try source as_ref) env s alike = refl
+    same_let n (expr.Variant ty variant fields) env s alike = refl
+    same_let n (expr.Struct ty fields) env s alike = refl
+    same_let n (expr.Tuple o k) env s alike = refl
+
+    then_same : (flow behind' : Flow) (go next : Env → State → Flow) → flow ≡ behind' → ((env : Env) (s : State) → go env s ≡ next env s) → then_run flow go ≡ then_run behind' next
+    then_same flow behind' go next e same = by flow ∙ ap (λ f. then_run f next) e
       where
         by : (f : Flow) → then_run f go ≡ then_run f next
-        by (Goes env made) = same env made
-        by (Ends end made) = refl
+        by (Goes env s) = same env s
+        by (Ends end s) = refl
+        by (Leaves s) = refl
         by Stuck = refl
 
-    mutual
-      same_stmt : (s : Stmt) (env : Env) (made : List Made) → Alike (stmt_calls s) → run_stmt m args s env made ≡ run_stmt given args s env made
-      same_stmt (Let n e) env made alike = same_let n e env made alike
-      same_stmt (IfEq a b inside) env made alike =
-          ap (λ flow. on_value (value_of args env a) (λ v. on_value (value_of args env b) (λ w. if same_value v w then behind env flow else Goes env made))) (same_body inside env made alike)
-      same_stmt (Return e) env made alike = refl
-      same_stmt (Tail texts) env made alike = refl
-      same_stmt (LetList n call) env made alike = refl
-      same_stmt (IfLet pat r inside) env made alike = refl
-      same_stmt (Match r arms) env made alike = refl
-      same_stmt (Loop list item inside) env made alike = refl
-      same_stmt (Extend r) env made alike = refl
-      same_stmt (Overflow inside) env made alike = refl
-      same_stmt (Log term place) env made alike = refl
-      same_stmt (Split inside within) env made alike = refl
+    same_fitted : (o : Option Env) (env : Env) (otherwise : Flow) (go next : Env → Flow) → ((bound : Env) → go bound ≡ next bound) → fitted o (λ bound. behind env (go bound)) otherwise ≡ fitted o (λ bound. behind env (next bound)) otherwise
+    same_fitted None env otherwise go next same = refl
+    same_fitted (Some bound) env otherwise go next same = ap (behind env) (same bound)
 
-      same_body : (b : Body) (env : Env) (made : List Made) → Alike (body_calls b) → run_body m args b env made ≡ run_body given args b env made
-      same_body Done env made alike = refl
-      same_body (Then s ss) env made alike =
-          then_same (run_stmt m args s env made) (run_stmt given args s env made) (run_body m args ss) (run_body given args ss) (same_stmt s env made (front (stmt_calls s) (body_calls ss) alike))
-          (λ inner calls. same_body ss inner calls (back (stmt_calls s) (body_calls ss) alike))
+    mutual
+      same_stmt : (t : Stmt) (env : Env) (s : State) → Alike (stmt_calls t) → run_stmt one t env s ≡ run_stmt other t env s
+      same_stmt (Let n e) env s alike = same_let n e env s alike
+      same_stmt (IfEq a b inside) env s alike =
+          ap (λ flow. on_value (value_of one env a) (λ v. on_value (value_of one env b) (λ u. if same_in_run v u then behind env flow else Goes env s))) (same_body inside env s alike)
+      same_stmt (Return e) env s alike = refl
+      same_stmt (Tail texts) env s alike = refl
+      same_stmt (LetList n call) env s alike = refl
+      same_stmt (IfLet pat r inside) env s alike = same_fitted (fit one pat (read_value one env r)) env (Goes env s) (λ bound. run_body one inside (env ++ bound) s) (λ bound. run_body other inside (env ++ bound) s) (λ bound. same_body inside (env ++ bound) s alike)
+      same_stmt (Match r arms) env s alike = refl
+      same_stmt (Loop list item inside) env s alike = refl
+      same_stmt (Extend r) env s alike = refl
+      same_stmt (Overflow inside) env s alike = refl
+      same_stmt (Log term place) env s alike = refl
+      same_stmt (Split inside within) env s alike = refl
+
+      same_body : (b : Body) (env : Env) (s : State) → Alike (body_calls b) → run_body one b env s ≡ run_body other b env s
+      same_body Done env s alike = refl
+      same_body (Then t ss) env s alike =
+          then_same (run_stmt one t env s) (run_stmt other t env s) (run_body one ss) (run_body other ss) (same_stmt t env s (front (stmt_calls t) (body_calls ss) alike))
+          (λ inner calls. same_body ss inner calls (back (stmt_calls t) (body_calls ss) alike))
 
     -- the two runs are one
-    pub same_run : (f : Function) → AreAnswered f (forms given) → function_run m args (Some f) ≡ function_run given args (Some f)
-    same_run f some = ap ended (same_body f.body [] [] (λ callee there. same_answer callee (some callee there)))
+    pub same_run : AreAnswered f (forms given) → function_run p m args (Some f) ≡ function_run p given args (Some f)
+    same_run some = ap ended (same_body f.body [] nothing_done (λ callee there. same_answer callee (some callee there)))

@@ -1,5 +1,5 @@
 -- What callees answer under right forms.
-use Rattle.std.proofs.Common.{◌≡◌, ℕ, List, [], ◌∷◌, ◌++◌, map, Bool, true, false, Option, Some, None, refl, sym, ap, subst, append_assoc, append-nil}
+use Rattle.std.proofs.Common.{◌≡◌, ℕ, List, [], ◌∷◌, ◌++◌, length, map, Bool, true, false, Option, Some, None, refl, sym, ap, subst, append_assoc, append-nil}
 use Rattle.std.specs.Prelude.{zero, suc, find, cond, IsSomeAnd, slice_index_or}
 use Rattle.std.specs.List.{AllByRecursion}
 use Rattle.std.proofs.lemmas.Slice.Eq.{bytes_eq-Decides}
@@ -7,21 +7,39 @@ use Rattle.isle_core.specs.declared.values.Callee.{Callee}
 use Rattle.isle_core.specs.declared.values.Callee.TheVariants.{External, Internal}
 use Rattle.isle_core.specs.Value.{Value, Answer, Plain, Found, Nothing, Several, Made}
 use Rattle.isle_core.specs.Meaning.{PureAnswers, TurnAnswers, Meaning, turns_of, times, cases_of, case_or, case_at, same_values}
-use Rattle.isle_core.specs.Answered.{Held, One, Optional, answer_held, answer_by, answer}
+use Rattle.isle_core.specs.Answered.{Item, AValue, ATuple, Held, Absent, One, Optional, Listed, answer_held, answer_by, answer}
 use Rattle.isle_core.specs.Terms.{goes_to}
 use Rattle.isle_tree.specs.declared.holds.Holds.{Holds}
 use Rattle.isle_tree.specs.declared.holds.Holds.TheVariants as holds
+use Rattle.isle_tree.specs.declared.holds.Item.{Item as ItemHeld}
 use Rattle.isle_tree.specs.declared.holds.Item.TheVariants as item
 use Rattle.isle_tree.specs.Program.{Program}
 use Rattle.isle_tree.specs.WellFormed.{kind_holds, AreResults}
 use Rattle.isle_interpreter.specs.Signatures.{Signature, signature_of, AreNamed, AnswerFits}
 use Rattle.isle_interpreter.specs.Forms.{Form, Constant, Cases, Turns, forms, IsUnanswered, CaseFits, FormFits, AreRight}
 
+-- an item is what is said of it
+abbrev pub IsItem : ItemHeld → Item → Type 0
+IsItem item.Value (AValue v) = Unit {0}
+IsItem item.Value (ATuple vs) = ⊥
+IsItem (item.Tuple count) (AValue v) = ⊥
+IsItem (item.Tuple count) (ATuple vs) = length vs ≡ count
+
 -- a place holds what is said of it
 abbrev pub HoldsIn : Holds → Held → Type 0
-HoldsIn (holds.One item.Value) (One v) = Unit {0}
-HoldsIn (holds.Optional item.Value) (Optional o) = Unit {0}
-HoldsIn h g = ⊥
+HoldsIn (holds.One x) (One i) = IsItem x i
+HoldsIn (holds.One x) (Optional o) = ⊥
+HoldsIn (holds.One x) (Listed is) = ⊥
+HoldsIn (holds.One x) Absent = ⊥
+HoldsIn (holds.Optional x) (Optional None) = Unit {0}
+HoldsIn (holds.Optional x) (Optional (Some i)) = IsItem x i
+HoldsIn (holds.Optional x) (One i) = ⊥
+HoldsIn (holds.Optional x) (Listed is) = ⊥
+HoldsIn (holds.Optional x) Absent = ⊥
+HoldsIn (holds.Several x) (Listed is) = AllByRecursion (IsItem x) is
+HoldsIn (holds.Several x) (One i) = ⊥
+HoldsIn (holds.Several x) (Optional o) = ⊥
+HoldsIn (holds.Several x) Absent = ⊥
 
 -- ---- callees
 

@@ -1,12 +1,10 @@
 -- What the newest binding of a local holds.
-use Rattle.std.proofs.Common.{◌≡◌, ℕ, List, [], ◌∷◌, length, fold, Bool, true, false, Option, Some, None, refl, ap, ◌∙◌}
-use Rattle.std.specs.Prelude.{◌==◌, if◌then◌else◌, zip}
-use Rattle.isle_scope.specs.Scope.{last_place}
-use Rattle.isle_scope.specs.Table.{newest}
-use Rattle.isle_scope.proofs.Tables.{reads_last as table_last}
+use Rattle.std.proofs.Common.{◌≡◌, ℕ, List, [], ◌∷◌, fold, Bool, true, false, Option, Some, None, refl, ap, ◌∙◌}
+use Rattle.std.specs.Prelude.{◌==◌, if◌then◌else◌}
+use Rattle.isle_scope.specs.Table.{newest, held as table_held}
 use Rattle.isle_tree.specs.Run.{newer, look}
 use Rattle.isle_interpreter.specs.RunViews.{held, locals}
-use Rattle.isle_interpreter.specs.Locals.{held_or, found_at}
+use Rattle.isle_interpreter.specs.Locals.{held_or}
 use Rattle.isle_interpreter.specs.declared.holding.Holding.{Holding}
 
 one_more : (n : ℕ) (o : Option Holding) (p : ℕ × Holding) → held_or (newest n o p) ≡ newer n (held_or o) (p.0, held p.1)
@@ -20,6 +18,6 @@ held_fold : (n : ℕ) (o : Option Holding) (ps : List (ℕ × Holding)) → held
 held_fold n o [] = refl
 held_fold n o (p ∷ ps) = held_fold n (newest n o p) ps ∙ ap (λ h. fold (newer n) h (locals ps)) (one_more n o p)
 
--- what stands where a local is bound last is what it holds
-pub reads_last : (ls : List ℕ) (hs : List Holding) (n : ℕ) → length ls ≡ length hs → found_at hs (last_place ls n) ≡ look (locals (zip ls hs)) n
-reads_last ls hs n same = ap held_or (table_last ls hs n same) ∙ held_fold n None (zip ls hs)
+-- what the table has of a local is what it holds
+pub table_looks : (ps : List (ℕ × Holding)) (n : ℕ) (o : Option Holding) → o ≡ table_held ps n → held_or o ≡ look (locals ps) n
+table_looks ps n o e = ap held_or e ∙ held_fold n None ps

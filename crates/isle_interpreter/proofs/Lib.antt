@@ -2,6 +2,7 @@ pub mod Agree
 pub mod Answering
 pub mod AnswersHold
 pub mod FindTerms
+pub mod Fits
 pub mod FormPlaces
 pub mod FormTests
 pub mod Founds

@@ -8,9 +8,9 @@ use Rattle.isle_core.specs.declared.types.ReturnKind.{ReturnKind}
 use Rattle.isle_core.specs.declared.types.ReturnKind.TheVariants as kind
 use Rattle.isle_core.specs.declared.values.Callee.{Callee}
 use Rattle.isle_core.specs.Value.{Value, Made, End, GivesSome}
-use Rattle.isle_core.specs.SameValue.{same_value}
+use Rattle.isle_core.specs.SameInRun.{same_in_run}
 use Rattle.isle_core.specs.Meaning.{Meaning}
-use Rattle.isle_core.specs.Answered.{Held, Absent, One, Optional, answer_held, answer}
+use Rattle.isle_core.specs.Answered.{AValue, ATuple, Held, Absent, One, Optional, Listed, a_value, an_option, answer_held, answer}
 use Rattle.isle_core.specs.Held.{held, value_before}
 use Rattle.isle_tree.specs.declared.holds.Holds.{Holds}
 use Rattle.isle_tree.specs.declared.holds.Holds.TheVariants as holds
@@ -26,7 +26,7 @@ use Rattle.isle_tree.specs.declared.tree.TraitFn.{TraitFn}
 use Rattle.isle_tree.specs.Program.{Stmt, Let, LetList, IfEq, IfLet, Match, Loop, Return, Extend, Overflow, Log, Split, Tail, Body, Done, Then}
 use Rattle.isle_tree.specs.WellFormed as well
 use Rattle.isle_tree.specs.WellFormed.{Locals, IsOperand, IsRead, IsCallee, IsExpr, IsStmt, IsBody, local_holds, operand_holds, read_holds, is_value, are_values, callee_holds, inner_holds, expr_holds, GivesKind, behind_let, bound_behind, IsStmtThere, IsBodyThere, IsReturned, FitsStmt, FitsBody, FitsLast, FitsFunction}
-use Rattle.isle_tree.specs.Run.{Env, Flow, Goes, Ends, Stuck, newer, look, bind, value_of, read_value, read_values, on_value, then_run, behind, run_bind, run_call, run_try, run_let, ends_with, run_return, run_stmt, run_body}
+use Rattle.isle_tree.specs.Run.{Around, State, one_made, Env, Flow, Goes, Ends, Leaves, Stuck, newer, look, bind, value_of, read_value, read_values, on_value, then_run, behind, run_bind, run_call, run_try, run_let, ends_with, run_return, run_stmt, run_body}
 use Rattle.isle_tree.specs.Calls.{expr_calls, stmt_calls, body_calls}
 use Rattle.isle_interpreter.proofs.AnswersHold.{HoldsIn}
 
@@ -85,28 +85,30 @@ told_arg args n = by (nat_lt n (length args)) refl
     by true e = given args n (below e)
     by false e = tt
 
-told_operand : (args : List Value) (bound : Locals) (env : Env) (o : Operand) → IsOperand o → Agree bound env → Told (operand_holds (length args) bound o) (value_of args env o)
-told_operand args bound env (operand.Local n) is a = told_local n bound env a
-told_operand args bound env (operand.Arg n) is a = told_arg args n
-told_operand args bound env (operand.Bool b) is a = tt
-told_operand args bound env (operand.Int ty z) is a = tt
-told_operand args bound env (operand.Raw z) is a = absurd is
-told_operand args bound env (operand.Name w) is a = absurd is
+told_operand : (w : Around) (bound : Locals) (env : Env) (o : Operand) → IsOperand o → Agree bound env → Told (operand_holds (length w.args) bound o) (value_of w env o)
+told_operand w bound env (operand.Local n) is a = told_local n bound env a
+told_operand w bound env (operand.Arg n) is a = told_arg w.args n
+told_operand w bound env (operand.Bool b) is a = tt
+told_operand w bound env (operand.Int ty z) is a = tt
+told_operand w bound env (operand.Raw z) is a = absurd is
+told_operand w bound env (operand.Name name) is a = absurd is
 
-told_read : (args : List Value) (bound : Locals) (env : Env) (r : Read) → IsRead r → Agree bound env → Told (read_holds (length args) bound r) (read_value args env r)
-told_read args bound env (read.Plain o) is a = told_operand args bound env o is a
-told_read args bound env (read.Borrow o) is a = absurd is
-told_read args bound env (read.Clone o) is a = absurd is
+told_read : (w : Around) (bound : Locals) (env : Env) (r : Read) → IsRead r → Agree bound env → Told (read_holds (length w.args) bound r) (read_value w env r)
+told_read w bound env (read.Plain o) is a = told_operand w bound env o is a
+told_read w bound env (read.Borrow o) is a = absurd is
+told_read w bound env (read.Clone o) is a = absurd is
 
 -- a value stands there
 record HasValue (g : Held) : Type 0 where
   v : Value
-  is : g ≡ One v
+  is : g ≡ a_value v
 
 told_value : (o : Option Holds) (g : Held) → Told o g → is_value o ≡ true → HasValue g
 told_value None g t e = absurd cc
-told_value (Some (holds.One item.Value)) (One v) t e = record { v = v; is = refl }
+told_value (Some (holds.One item.Value)) (One (AValue v)) t e = record { v = v; is = refl }
+told_value (Some (holds.One item.Value)) (One (ATuple vs)) t e = absurd t
 told_value (Some (holds.One item.Value)) (Optional o) t e = absurd t
+told_value (Some (holds.One item.Value)) (Listed is) t e = absurd t
 told_value (Some (holds.One item.Value)) Absent t e = absurd t
 told_value (Some (holds.One (item.Tuple count))) g t e = absurd cc
 told_value (Some (holds.Optional x)) g t e = absurd cc
@@ -118,61 +120,60 @@ record HaveValues (o : Option (List Value)) : Type 0 where
   are : o ≡ Some vs
 
 both_there : (g : Held) (o : Option (List Value)) → HasValue g → HaveValues o → HaveValues (value_before g o)
-both_there g o one others = record { vs = one.v ∷ others.vs; are = ap (λ x. value_before x o) one.is ∙ ap (value_before (One one.v)) others.are }
+both_there g o one others = record { vs = one.v ∷ others.vs; are = ap (λ x. value_before x o) one.is ∙ ap (value_before (a_value one.v)) others.are }
 
-told_values : (args : List Value) (bound : Locals) (env : Env) (rs : List Read) → AllByRecursion IsRead rs → Agree bound env → are_values (length args) bound rs ≡ true → HaveValues (read_values args env rs)
-told_values args bound env [] is a e = record { vs = []; are = refl }
-told_values args bound env (r ∷ rs) is a e = by (is_value (read_holds (length args) bound r)) refl e (told_values args bound env rs is.1 a)
+told_values : (w : Around) (bound : Locals) (env : Env) (rs : List Read) → AllByRecursion IsRead rs → Agree bound env → are_values (length w.args) bound rs ≡ true → HaveValues (read_values w env rs)
+told_values w bound env [] is a e = record { vs = []; are = refl }
+told_values w bound env (r ∷ rs) is a e = by (is_value (read_holds (length w.args) bound r)) refl e (told_values w bound env rs is.1 a)
   where
-    by : (b : Bool) → is_value (read_holds (length args) bound r) ≡ b → (b && are_values (length args) bound rs) ≡ true → (are_values (length args) bound rs ≡ true → HaveValues (read_values args env rs)) → HaveValues (read_values args env (r ∷ rs))
-    by true f g go = both_there (read_value args env r) (read_values args env rs) (told_value (read_holds (length args) bound r) (read_value args env r) (told_read args bound env r is.0 a) f) (go g)
+    by : (b : Bool) → is_value (read_holds (length w.args) bound r) ≡ b → (b && are_values (length w.args) bound rs) ≡ true → (are_values (length w.args) bound rs ≡ true → HaveValues (read_values w env rs)) → HaveValues (read_values w env (r ∷ rs))
+    by true f g go = both_there (read_value w env r) (read_values w env rs) (told_value (read_holds (length w.args) bound r) (read_value w env r) (told_read w bound env r is.0 a) f) (go g)
     by false f g go = absurd cc
 
 -- ---- statements go on or end
 
--- a flow that is not stuck, with these locals where it goes on
+-- a flow that goes on with these locals, or ends
 abbrev pub Well : Locals → Flow → Type 0
-Well bound (Goes env made) = Agree bound env
-Well bound (Ends end made) = Unit {0}
+Well bound (Goes env st) = Agree bound env
+Well bound (Ends end st) = Unit {0}
+Well bound (Leaves st) = ⊥
 Well bound Stuck = ⊥
 
 -- where only that counts
 abbrev pub NotStuck : Flow → Type 0
-NotStuck (Goes env made) = Unit {0}
-NotStuck (Ends end made) = Unit {0}
+NotStuck (Goes env st) = Unit {0}
+NotStuck (Ends end st) = Unit {0}
+NotStuck (Leaves st) = ⊥
 NotStuck Stuck = ⊥
 
 well_behind : (bound : Locals) (env : Env) (flow : Flow) → Agree bound env → NotStuck flow → Well bound (behind env flow)
-well_behind bound env (Goes inner made) a h = a
-well_behind bound env (Ends end made) a h = tt
+well_behind bound env (Goes inner st) a h = a
+well_behind bound env (Ends end st) a h = tt
+well_behind bound env (Leaves st) a h = h
 well_behind bound env Stuck a h = h
 
-absent : (h : Holds) → HoldsIn h Absent → ⊥
-absent (holds.One item.Value) k = k
-absent (holds.One (item.Tuple count)) k = k
-absent (holds.Optional item.Value) k = k
-absent (holds.Optional (item.Tuple count)) k = k
-absent (holds.Several x) k = k
-
-well_bind : (n : ℕ) (h : Holds) (g : Held) (bound : Locals) (env : Env) (made : List Made) → Agree bound env → HoldsIn h g → Well (bound ++ (n, h) ∷ []) (run_bind n g env made)
-well_bind n h (One v) bound env made a k = one_more bound env n h (One v) a k
-well_bind n h (Optional o) bound env made a k = one_more bound env n h (Optional o) a k
-well_bind n h Absent bound env made a k = absurd (absent h k)
+well_bind : (n : ℕ) (h : Holds) (g : Held) (bound : Locals) (env : Env) (st : State) → Agree bound env → HoldsIn h g → Well (bound ++ (n, h) ∷ []) (run_bind n g env st)
+well_bind n h (One i) bound env st a k = one_more bound env n h (One i) a k
+well_bind n h (Listed is) bound env st a k = one_more bound env n h (Listed is) a k
+well_bind n h (Optional o) bound env st a k = one_more bound env n h (Optional o) a k
+well_bind n (holds.One x) Absent bound env st a k = absurd k
+well_bind n (holds.Optional x) Absent bound env st a k = absurd k
+well_bind n (holds.Several x) Absent bound env st a k = absurd k
 
 -- what is bound to what a place holds
-well_told : (n : ℕ) (o : Option Holds) (g : Held) (bound : Locals) (env : Env) (made : List Made) → Agree bound env → IsSome o → Told o g → Well (behind_let o n bound) (run_bind n g env made)
-well_told n None g bound env made a e t = absurd cc
-well_told n (Some h) g bound env made a e t = well_bind n h g bound env made a t
+well_told : (n : ℕ) (o : Option Holds) (g : Held) (bound : Locals) (env : Env) (st : State) → Agree bound env → IsSome o → Told o g → Well (behind_let o n bound) (run_bind n g env st)
+well_told n None g bound env st a e t = absurd cc
+well_told n (Some h) g bound env st a e t = well_bind n h g bound env st a t
 
-well_try : (n : ℕ) (o : Option Holds) (g : Held) (bound : Locals) (env : Env) (made : List Made) → Agree bound env → IsSome (inner_holds o) → Told o g → Well (behind_let (inner_holds o) n bound) (run_try n g env made)
-well_try n None g bound env made a e t = absurd cc
-well_try n (Some (holds.One x)) g bound env made a e t = absurd cc
-well_try n (Some (holds.Several x)) g bound env made a e t = absurd cc
-well_try n (Some (holds.Optional (item.Tuple count))) g bound env made a e t = absurd t
-well_try n (Some (holds.Optional item.Value)) (Optional (Some v)) bound env made a e t = one_more bound env n (holds.One item.Value) (One v) a tt
-well_try n (Some (holds.Optional item.Value)) (Optional None) bound env made a e t = tt
-well_try n (Some (holds.Optional item.Value)) (One v) bound env made a e t = absurd t
-well_try n (Some (holds.Optional item.Value)) Absent bound env made a e t = absurd t
+well_try : (n : ℕ) (o : Option Holds) (g : Held) (bound : Locals) (env : Env) (st : State) → Agree bound env → IsSome (inner_holds o) → Told o g → Well (behind_let (inner_holds o) n bound) (run_try n g env st)
+well_try n None g bound env st a e t = absurd cc
+well_try n (Some (holds.One x)) g bound env st a e t = absurd cc
+well_try n (Some (holds.Several x)) g bound env st a e t = absurd cc
+well_try n (Some (holds.Optional x)) (Optional (Some i)) bound env st a e t = one_more bound env n (holds.One x) (One i) a t
+well_try n (Some (holds.Optional x)) (Optional None) bound env st a e t = tt
+well_try n (Some (holds.Optional x)) (One i) bound env st a e t = absurd t
+well_try n (Some (holds.Optional x)) (Listed is) bound env st a e t = absurd t
+well_try n (Some (holds.Optional x)) Absent bound env st a e t = absurd t
 
 -- ---- what is called answers with its kind
 
@@ -180,20 +181,20 @@ well_try n (Some (holds.Optional item.Value)) Absent bound env made a e t = absu
 abbrev pub Answering : List TraitFn → Meaning → List Callee → Type 0
 Answering fns m callees = (c : Callee) → Contains callees c → (count : ℕ) (h : Holds) → callee_holds fns c count ≡ Some h → (vs : List Value) (made : List Made) → HoldsIn h (answer_held (answer m c vs made))
 
-well_call : (fns : List TraitFn) (m : Meaning) (args : List Value) (n : ℕ) (call : TCall) (bound : Locals) (env : Env) (made : List Made) → AllByRecursion IsRead call.args → Agree bound env
-    → Answering fns m (call.callee ∷ [])
-    → (o : Option Holds) → o ≡ (if are_values (length args) bound call.args then callee_holds fns call.callee (length call.args) else None) → IsSome o
-    → Well (behind_let o n bound) (run_call m n call.callee (read_values args env call.args) env made)
-well_call fns m args n call bound env made is a answering o e some = by (are_values (length args) bound call.args) refl e
+well_call : (fns : List TraitFn) (w : Around) (n : ℕ) (call : TCall) (bound : Locals) (env : Env) (st : State) → AllByRecursion IsRead call.args → Agree bound env
+    → Answering fns w.meaning (call.callee ∷ [])
+    → (o : Option Holds) → o ≡ (if are_values (length w.args) bound call.args then callee_holds fns call.callee (length call.args) else None) → IsSome o
+    → Well (behind_let o n bound) (run_call w n call.callee (read_values w env call.args) env st)
+well_call fns w n call bound env st is a answering o e some = by (are_values (length w.args) bound call.args) refl e
   where
-    holding : (b : Option Holds) → callee_holds fns call.callee (length call.args) ≡ b → o ≡ b → HaveValues (read_values args env call.args) → Well (behind_let o n bound) (run_call m n call.callee (read_values args env call.args) env made)
+    holding : (b : Option Holds) → callee_holds fns call.callee (length call.args) ≡ b → o ≡ b → HaveValues (read_values w env call.args) → Well (behind_let o n bound) (run_call w n call.callee (read_values w env call.args) env st)
     holding None f g have = absurd cc
     holding (Some h) f g have =
-        let held_so = answering call.callee (search rules) (length call.args) h f have.vs made in
-        rw (g, have.are) (well_bind n h (answer_held (answer m call.callee have.vs made)) bound env (made ++ record { callee = call.callee; args = have.vs } ∷ []) a held_so)
+        let held_so = answering call.callee (search rules) (length call.args) h f have.vs st.made in
+        rw (g, have.are) (well_bind n h (answer_held (answer w.meaning call.callee have.vs st.made)) bound env (one_made st (record { callee = call.callee; args = have.vs })) a held_so)
 
-    by : (b : Bool) → are_values (length args) bound call.args ≡ b → o ≡ (if b then callee_holds fns call.callee (length call.args) else None) → Well (behind_let o n bound) (run_call m n call.callee (read_values args env call.args) env made)
-    by true f g = holding (callee_holds fns call.callee (length call.args)) refl g (told_values args bound env call.args is a f)
+    by : (b : Bool) → are_values (length w.args) bound call.args ≡ b → o ≡ (if b then callee_holds fns call.callee (length call.args) else None) → Well (behind_let o n bound) (run_call w n call.callee (read_values w env call.args) env st)
+    by true f g = holding (callee_holds fns call.callee (length call.args)) refl g (told_values w bound env call.args is a f)
     by false f g = absurd cc
 
 -- ---- statements
@@ -203,146 +204,157 @@ no_gift kind.Plain g = g
 no_gift kind.Option g = g
 no_gift kind.Iterator g = g
 
-module _ (fns : List TraitFn) (m : Meaning) (args : List Value) where
-  well_let : (n : ℕ) (e : TExpr) (bound : Locals) (env : Env) (made : List Made) → IsExpr e → IsSome (expr_holds fns (length args) bound e) → Answering fns m (expr_calls e) → Agree bound env
-      → Well (behind_let (expr_holds fns (length args) bound e) n bound) (run_let m args n e env made)
-  well_let n (expr.Read r) bound env made is some answering a = well_told n (read_holds (length args) bound r) (read_value args env r) bound env made a some (told_read args bound env r is a)
-  well_let n (expr.Call borrow call) bound env made is some answering a = well_call fns m args n call bound env made is.1.args a answering (expr_holds fns (length args) bound (expr.Call borrow call)) refl some
-  well_let n (expr.Some r) bound env made is some answering a = by (is_value (read_holds (length args) bound r)) refl some
+module _ (fns : List TraitFn) (w : Around) where
+  well_let : (n : ℕ) (e : TExpr) (bound : Locals) (env : Env) (st : State) → IsExpr e → IsSome (expr_holds fns (length w.args) bound e) → Answering fns w.meaning (expr_calls e) → Agree bound env
+      → Well (behind_let (expr_holds fns (length w.args) bound e) n bound) (run_let w n e env st)
+  well_let n (expr.Read r) bound env st is some answering a = well_told n (read_holds (length w.args) bound r) (read_value w env r) bound env st a some (told_read w bound env r is a)
+  well_let n (expr.Call borrow call) bound env st is some answering a = well_call fns w n call bound env st is.1.args a answering (expr_holds fns (length w.args) bound (expr.Call borrow call)) refl some
+  well_let n (expr.Some r) bound env st is some answering a = by (is_value (read_holds (length w.args) bound r)) refl some
     where
-      by : (b : Bool) → is_value (read_holds (length args) bound r) ≡ b → IsSome (if b then Some (holds.Optional item.Value) else None) → Well (behind_let (if b then Some (holds.Optional item.Value) else None) n bound) (on_value (read_value args env r) (λ v. Goes (bind env n (Optional (Some v))) made))
+      by : (b : Bool) → is_value (read_holds (length w.args) bound r) ≡ b → IsSome (if b then Some (holds.Optional item.Value) else None) → Well (behind_let (if b then Some (holds.Optional item.Value) else None) n bound) (on_value (read_value w env r) (λ v. Goes (bind env n (an_option (Some v))) st))
       by true f g =
-          let one = told_value (read_holds (length args) bound r) (read_value args env r) (told_read args bound env r is a) f in
-          subst (λ x. Well (bound ++ (n, (holds.Optional item.Value)) ∷ []) (on_value x (λ v. Goes (bind env n (Optional (Some v))) made))) (sym one.is) (one_more bound env n (holds.Optional item.Value) (Optional (Some one.v)) a tt)
+          let one = told_value (read_holds (length w.args) bound r) (read_value w env r) (told_read w bound env r is a) f in
+          subst (λ x. Well (bound ++ (n, holds.Optional item.Value) ∷ []) (on_value x (λ v. Goes (bind env n (an_option (Some v))) st))) (sym one.is) (one_more bound env n (holds.Optional item.Value) (an_option (Some one.v)) a tt)
       by false f g = absurd cc
-  well_let n (expr.Try source as_ref) bound env made is some answering a = well_try n (operand_holds (length args) bound source) (value_of args env source) bound env made a some (told_operand args bound env source is.1 a)
-  well_let n (expr.Variant ty variant fields) bound env made is some answering a = absurd is
-  well_let n (expr.Struct ty fields) bound env made is some answering a = absurd is
-  well_let n (expr.Tuple o i) bound env made is some answering a = absurd is
+  well_let n (expr.Try source as_ref) bound env st is some answering a = well_try n (operand_holds (length w.args) bound source) (value_of w env source) bound env st a some (told_operand w bound env source is.1 a)
+  well_let n (expr.Variant ty variant fields) bound env st is some answering a = absurd is
+  well_let n (expr.Struct ty fields) bound env st is some answering a = absurd is
+  well_let n (expr.Tuple o i) bound env st is some answering a = absurd is
 
   -- a return ends the function
   pub record DoesEnd (flow : Flow) : Type 0 where
     pub end : End
-    pub made : List Made
-    pub is : flow ≡ Ends end made
+    pub left : State
+    pub is : flow ≡ Ends end left
 
-  ends_held : (g : Held) (h : Holds) (made : List Made) → HoldsIn h g → DoesEnd (ends_with g made)
-  ends_held (One v) h made k = record { end = _; made = _; is = refl }
-  ends_held (Optional (Some v)) h made k = record { end = _; made = _; is = refl }
-  ends_held (Optional None) h made k = record { end = _; made = _; is = refl }
-  ends_held Absent h made k = absurd (absent h k)
+  ends_value : (g : Held) (st : State) → HoldsIn (holds.One item.Value) g → DoesEnd (ends_with g st)
+  ends_value (One (AValue v)) st k = record { end = _; left = _; is = refl }
+  ends_value (One (ATuple vs)) st k = absurd k
+  ends_value (Optional o) st k = absurd k
+  ends_value (Listed is) st k = absurd k
+  ends_value Absent st k = absurd k
 
-  ends_told : (kind : ReturnKind) (o : Option Holds) (g : Held) (made : List Made) → GivesKind kind o → Told o g → DoesEnd (ends_with g made)
-  ends_told kind.Plain (Some (holds.One item.Value)) g made k t = ends_held g (holds.One item.Value) made t
-  ends_told kind.Plain (Some (holds.One (item.Tuple count))) g made k t = absurd k
-  ends_told kind.Plain (Some (holds.Optional x)) g made k t = absurd k
-  ends_told kind.Plain (Some (holds.Several x)) g made k t = absurd k
-  ends_told kind.Plain None g made k t = absurd k
-  ends_told kind.Option (Some (holds.One x)) g made k t = absurd k
-  ends_told kind.Option (Some (holds.Optional (item.Tuple count))) g made k t = absurd k
-  ends_told kind.Option (Some (holds.Several x)) g made k t = absurd k
-  ends_told kind.Option (Some (holds.Optional item.Value)) g made k t = ends_held g (holds.Optional item.Value) made t
-  ends_told kind.Option None g made k t = absurd k
-  ends_told kind.Iterator o g made k t = absurd k
+  ends_option : (g : Held) (st : State) → HoldsIn (holds.Optional item.Value) g → DoesEnd (ends_with g st)
+  ends_option (Optional (Some (AValue v))) st k = record { end = _; left = _; is = refl }
+  ends_option (Optional (Some (ATuple vs))) st k = absurd k
+  ends_option (Optional None) st k = record { end = _; left = _; is = refl }
+  ends_option (One i) st k = absurd k
+  ends_option (Listed is) st k = absurd k
+  ends_option Absent st k = absurd k
+
+  ends_told : (kind : ReturnKind) (o : Option Holds) (g : Held) (st : State) → GivesKind kind o → Told o g → DoesEnd (ends_with g st)
+  ends_told kind.Plain None g st k t = absurd k
+  ends_told kind.Plain (Some (holds.One item.Value)) g st k t = ends_value g st t
+  ends_told kind.Plain (Some (holds.One (item.Tuple count))) g st k t = absurd k
+  ends_told kind.Plain (Some (holds.Optional x)) g st k t = absurd k
+  ends_told kind.Plain (Some (holds.Several x)) g st k t = absurd k
+  ends_told kind.Option None g st k t = absurd k
+  ends_told kind.Option (Some (holds.One x)) g st k t = absurd k
+  ends_told kind.Option (Some (holds.Optional item.Value)) g st k t = ends_option g st t
+  ends_told kind.Option (Some (holds.Optional (item.Tuple count))) g st k t = absurd k
+  ends_told kind.Option (Some (holds.Several x)) g st k t = absurd k
+  ends_told kind.Iterator o g st k t = absurd k
 
   -- what is said of two parts is said of each
-  front_answering : (xs ys : List Callee) → Answering fns m (xs ++ ys) → Answering fns m xs
+  front_answering : (xs ys : List Callee) → Answering fns w.meaning (xs ++ ys) → Answering fns w.meaning xs
   front_answering xs ys h c k = h c (Contains-append_left xs ys c k)
 
-  behind_answering : (xs ys : List Callee) → Answering fns m (xs ++ ys) → Answering fns m ys
+  behind_answering : (xs ys : List Callee) → Answering fns w.meaning (xs ++ ys) → Answering fns w.meaning ys
   behind_answering xs ys h c k = h c (Contains-append_right xs ys c k)
 
-  well_return : (kind : ReturnKind) (e : TExpr) (bound : Locals) (env : Env) (made : List Made) → IsExpr e → GivesKind kind (expr_holds fns (length args) bound e) → IsReturned e → Agree bound env → DoesEnd (run_return args e env made)
-  well_return kind (expr.Read r) bound env made is gives fits a = ends_told kind (read_holds (length args) bound r) (read_value args env r) made gives (told_read args bound env r is a)
-  well_return kind (expr.Some r) bound env made is gives fits a = by (is_value (read_holds (length args) bound r)) refl gives
+  well_return : (kind : ReturnKind) (e : TExpr) (bound : Locals) (env : Env) (st : State) → IsExpr e → GivesKind kind (expr_holds fns (length w.args) bound e) → IsReturned e → Agree bound env → DoesEnd (run_return w e env st)
+  well_return kind (expr.Read r) bound env st is gives fits a = ends_told kind (read_holds (length w.args) bound r) (read_value w env r) st gives (told_read w bound env r is a)
+  well_return kind (expr.Some r) bound env st is gives fits a = by (is_value (read_holds (length w.args) bound r)) refl gives
     where
-      by : (b : Bool) → is_value (read_holds (length args) bound r) ≡ b → GivesKind kind (if b then Some (holds.Optional item.Value) else None) → DoesEnd (on_value (read_value args env r) (λ v. Ends (GivesSome v) made))
+      by : (b : Bool) → is_value (read_holds (length w.args) bound r) ≡ b → GivesKind kind (if b then Some (holds.Optional item.Value) else None) → DoesEnd (on_value (read_value w env r) (λ v. Ends (GivesSome v) st))
       by true f g =
-          let one = told_value (read_holds (length args) bound r) (read_value args env r) (told_read args bound env r is a) f in
-          record { end = GivesSome one.v; made = made; is = ap (λ x. on_value x (λ v. Ends (GivesSome v) made)) one.is }
+          let one = told_value (read_holds (length w.args) bound r) (read_value w env r) (told_read w bound env r is a) f in
+          record { end = GivesSome one.v; left = st; is = ap (λ x. on_value x (λ v. Ends (GivesSome v) st)) one.is }
       by false f g = absurd (no_gift kind g)
-  well_return kind (expr.Call borrow call) bound env made is gives fits a = absurd fits
-  well_return kind (expr.Try source as_ref) bound env made is gives fits a = absurd fits
-  well_return kind (expr.Variant ty variant fields) bound env made is gives fits a = absurd fits
-  well_return kind (expr.Struct ty fields) bound env made is gives fits a = absurd fits
-  well_return kind (expr.Tuple o i) bound env made is gives fits a = absurd fits
+  well_return kind (expr.Call borrow call) bound env st is gives fits a = absurd fits
+  well_return kind (expr.Try source as_ref) bound env st is gives fits a = absurd fits
+  well_return kind (expr.Variant ty variant fields) bound env st is gives fits a = absurd fits
+  well_return kind (expr.Struct ty fields) bound env st is gives fits a = absurd fits
+  well_return kind (expr.Tuple o i) bound env st is gives fits a = absurd fits
 
   well_end : (bound : Locals) (flow : Flow) → DoesEnd flow → Well bound flow
   well_end bound flow e = subst (Well bound) (sym e.is) tt
 
-  then_well : (bound : Locals) (flow : Flow) (go : Env → List Made → Flow) → Well bound flow → ((env : Env) (made : List Made) → Agree bound env → NotStuck (go env made)) → NotStuck (then_run flow go)
-  then_well bound (Goes env made) go h next = next env made h
-  then_well bound (Ends end made) go h next = tt
+  then_well : (bound : Locals) (flow : Flow) (go : Env → State → Flow) → Well bound flow → ((env : Env) (st : State) → Agree bound env → NotStuck (go env st)) → NotStuck (then_run flow go)
+  then_well bound (Goes env st) go h next = next env st h
+  then_well bound (Ends end st) go h next = tt
+  then_well bound (Leaves st) go h next = h
   then_well bound Stuck go h next = h
 
   -- a test runs what is inside it, or goes on
-  well_test : (bound : Locals) (env : Env) (made : List Made) (g h : Held) (inside : Flow) → Agree bound env → HasValue g → HasValue h → NotStuck inside
-      → Well bound (on_value g (λ v. on_value h (λ w. if same_value v w then behind env inside else Goes env made)))
-  well_test bound env made g h inside a one two k =
-      subst (λ x. Well bound (on_value x (λ v. on_value h (λ w. if same_value v w then behind env inside else Goes env made)))) (sym one.is)
-      (subst (λ x. Well bound (on_value x (λ w. if same_value one.v w then behind env inside else Goes env made))) (sym two.is) (by (same_value one.v two.v)))
+  well_test : (bound : Locals) (env : Env) (st : State) (g h : Held) (inside : Flow) → Agree bound env → HasValue g → HasValue h → NotStuck inside
+      → Well bound (on_value g (λ v. on_value h (λ u. if same_in_run v u then behind env inside else Goes env st)))
+  well_test bound env st g h inside a one two k =
+      subst (λ x. Well bound (on_value x (λ v. on_value h (λ u. if same_in_run v u then behind env inside else Goes env st)))) (sym one.is)
+      (subst (λ x. Well bound (on_value x (λ u. if same_in_run one.v u then behind env inside else Goes env st))) (sym two.is) (by (same_in_run one.v two.v)))
     where
-      by : (b : Bool) → Well bound (if b then behind env inside else Goes env made)
+      by : (b : Bool) → Well bound (if b then behind env inside else Goes env st)
       by true = well_behind bound env inside a k
       by false = a
 
   mutual
-    well_stmt : (kind : ReturnKind) (s : Stmt) (bound : Locals) (env : Env) (made : List Made) → IsStmt s → IsStmtThere fns kind (length args) bound s → FitsStmt kind false s → Answering fns m (stmt_calls s) → Agree bound env
-        → Well (bound_behind fns (length args) s bound) (run_stmt m args s env made)
-    well_stmt kind (Let n e) bound env made is there fits answering a = well_let n e bound env made is there answering a
-    well_stmt kind (IfEq l r inside) bound env made is there fits answering a =
-        well_test bound env made (value_of args env l) (value_of args env r) (run_body m args inside env made) a
-        (told_value (operand_holds (length args) bound l) (value_of args env l) (told_operand args bound env l is.0 a) there.0)
-        (told_value (operand_holds (length args) bound r) (value_of args env r) (told_operand args bound env r is.1 a) there.1)
-        (well_body kind inside bound env made is.2 there.2 fits answering a)
-    well_stmt kind (Return e) bound env made is there fits answering a = well_end bound (run_return args e env made) (well_return kind e bound env made is there fits a)
-    well_stmt kind (Tail texts) bound env made is there fits answering a = absurd fits
-    well_stmt kind (LetList n call) bound env made is there fits answering a = absurd is
-    well_stmt kind (IfLet pat r inside) bound env made is there fits answering a = absurd is
-    well_stmt kind (Match r arms) bound env made is there fits answering a = absurd is
-    well_stmt kind (Loop list item inside) bound env made is there fits answering a = absurd is
-    well_stmt kind (Extend r) bound env made is there fits answering a = absurd is
-    well_stmt kind (Overflow inside) bound env made is there fits answering a = absurd is
-    well_stmt kind (Log term place) bound env made is there fits answering a = absurd is
-    well_stmt kind (Split inside within) bound env made is there fits answering a = absurd is
+    well_stmt : (kind : ReturnKind) (closed : Bool) (s : Stmt) (bound : Locals) (env : Env) (st : State) → IsStmt s → IsStmtThere fns kind (length w.args) bound s → FitsStmt kind closed s → Answering fns w.meaning (stmt_calls s) → Agree bound env
+        → Well (bound_behind fns (length w.args) s bound) (run_stmt w s env st)
+    well_stmt kind closed (Let n e) bound env st is there fits answering a = well_let n e bound env st is there answering a
+    well_stmt kind closed (IfEq l r inside) bound env st is there fits answering a =
+        well_test bound env st (value_of w env l) (value_of w env r) (run_body w inside env st) a
+        (told_value (operand_holds (length w.args) bound l) (value_of w env l) (told_operand w bound env l is.0 a) there.0)
+        (told_value (operand_holds (length w.args) bound r) (value_of w env r) (told_operand w bound env r is.1 a) there.1)
+        (well_body kind closed inside bound env st is.2 there.2 fits answering a)
+    well_stmt kind closed (Return e) bound env st is there fits answering a = well_end bound (run_return w e env st) (well_return kind e bound env st is there fits a)
+    well_stmt kind closed (Tail texts) bound env st is there fits answering a = absurd fits
+    well_stmt kind closed (LetList n call) bound env st is there fits answering a = absurd is
+    well_stmt kind closed (IfLet pat r inside) bound env st is there fits answering a = absurd is
+    well_stmt kind closed (Match r arms) bound env st is there fits answering a = absurd is
+    well_stmt kind closed (Loop list item inside) bound env st is there fits answering a = absurd is
+    well_stmt kind closed (Extend r) bound env st is there fits answering a = absurd is
+    well_stmt kind closed (Overflow inside) bound env st is there fits answering a = absurd is
+    well_stmt kind closed (Log term place) bound env st is there fits answering a = absurd is
+    well_stmt kind closed (Split inside within) bound env st is there fits answering a = absurd is
 
-    well_body : (kind : ReturnKind) (b : Body) (bound : Locals) (env : Env) (made : List Made) → IsBody b → IsBodyThere fns kind (length args) bound b → FitsBody kind false b → Answering fns m (body_calls b) → Agree bound env
-        → NotStuck (run_body m args b env made)
-    well_body kind Done bound env made is there fits answering a = tt
-    well_body kind (Then s ss) bound env made is there fits answering a =
-        then_well (bound_behind fns (length args) s bound) (run_stmt m args s env made) (run_body m args ss)
-        (well_stmt kind s bound env made is.0 there.0 fits.0 (front_answering (stmt_calls s) (body_calls ss) answering) a)
-        (λ inner calls k. well_body kind ss (bound_behind fns (length args) s bound) inner calls is.1 there.1 fits.1 (behind_answering (stmt_calls s) (body_calls ss) answering) k)
+    well_body : (kind : ReturnKind) (closed : Bool) (b : Body) (bound : Locals) (env : Env) (st : State) → IsBody b → IsBodyThere fns kind (length w.args) bound b → FitsBody kind closed b → Answering fns w.meaning (body_calls b) → Agree bound env
+        → NotStuck (run_body w b env st)
+    well_body kind closed Done bound env st is there fits answering a = tt
+    well_body kind closed (Then s ss) bound env st is there fits answering a =
+        then_well (bound_behind fns (length w.args) s bound) (run_stmt w s env st) (run_body w ss)
+        (well_stmt kind closed s bound env st is.0 there.0 fits.0 (front_answering (stmt_calls s) (body_calls ss) answering) a)
+        (λ inner calls k. well_body kind closed ss (bound_behind fns (length w.args) s bound) inner calls is.1 there.1 fits.1 (behind_answering (stmt_calls s) (body_calls ss) answering) k)
 
   -- ---- functions end
 
-  last_ends : (kind : ReturnKind) (s : Stmt) (bound : Locals) (env : Env) (made : List Made) → IsStmt s → IsStmtThere fns kind (length args) bound s → FitsLast kind s → Agree bound env → DoesEnd (run_stmt m args s env made)
-  last_ends kind (Return e) bound env made is there fits a = well_return kind e bound env made is there fits a
-  last_ends kind (Tail texts) bound env made is there fits a = record { end = _; made = _; is = refl }
-  last_ends kind (Let n e) bound env made is there fits a = absurd fits
-  last_ends kind (IfEq l r inside) bound env made is there fits a = absurd fits
-  last_ends kind (LetList n call) bound env made is there fits a = absurd is
-  last_ends kind (IfLet pat r inside) bound env made is there fits a = absurd is
-  last_ends kind (Match r arms) bound env made is there fits a = absurd is
-  last_ends kind (Loop list item inside) bound env made is there fits a = absurd is
-  last_ends kind (Extend r) bound env made is there fits a = absurd is
-  last_ends kind (Overflow inside) bound env made is there fits a = absurd is
-  last_ends kind (Log term place) bound env made is there fits a = absurd is
-  last_ends kind (Split inside within) bound env made is there fits a = absurd is
+  last_ends : (kind : ReturnKind) (s : Stmt) (bound : Locals) (env : Env) (st : State) → IsStmt s → IsStmtThere fns kind (length w.args) bound s → FitsLast kind s → Agree bound env → DoesEnd (run_stmt w s env st)
+  last_ends kind (Return e) bound env st is there fits a = well_return kind e bound env st is there fits a
+  last_ends kind (Tail texts) bound env st is there fits a = record { end = _; left = _; is = refl }
+  last_ends kind (Let n e) bound env st is there fits a = absurd fits
+  last_ends kind (IfEq l r inside) bound env st is there fits a = absurd fits
+  last_ends kind (LetList n call) bound env st is there fits a = absurd is
+  last_ends kind (IfLet pat r inside) bound env st is there fits a = absurd is
+  last_ends kind (Match r arms) bound env st is there fits a = absurd is
+  last_ends kind (Loop list item inside) bound env st is there fits a = absurd is
+  last_ends kind (Extend r) bound env st is there fits a = absurd is
+  last_ends kind (Overflow inside) bound env st is there fits a = absurd is
+  last_ends kind (Log term place) bound env st is there fits a = absurd is
+  last_ends kind (Split inside within) bound env st is there fits a = absurd is
 
-  then_ends : (bound : Locals) (flow : Flow) (go : Env → List Made → Flow) → Well bound flow → ((env : Env) (made : List Made) → Agree bound env → DoesEnd (go env made)) → DoesEnd (then_run flow go)
-  then_ends bound (Goes env made) go h next = next env made h
-  then_ends bound (Ends end made) go h next = record { end = end; made = made; is = refl }
+  then_ends : (bound : Locals) (flow : Flow) (go : Env → State → Flow) → Well bound flow → ((env : Env) (st : State) → Agree bound env → DoesEnd (go env st)) → DoesEnd (then_run flow go)
+  then_ends bound (Goes env st) go h next = next env st h
+  then_ends bound (Ends end st) go h next = record { end = end; left = st; is = refl }
+  then_ends bound (Leaves st) go h next = absurd h
   then_ends bound Stuck go h next = absurd h
 
   -- the statements of a function end it
-  pub function_ends : (kind : ReturnKind) (b : Body) (bound : Locals) (env : Env) (made : List Made) → IsBody b → IsBodyThere fns kind (length args) bound b → FitsFunction kind b → Answering fns m (body_calls b) → Agree bound env
-      → DoesEnd (run_body m args b env made)
-  function_ends kind Done bound env made is there fits answering a = absurd fits
-  function_ends kind (Then s Done) bound env made is there fits answering a =
-      let last = last_ends kind s bound env made is.0 there.0 fits a in
-      record { end = last.end; made = last.made; is = ap (λ flow. then_run flow (run_body m args Done)) last.is }
-  function_ends kind (Then s (Then t ss)) bound env made is there fits answering a =
-      then_ends (bound_behind fns (length args) s bound) (run_stmt m args s env made) (run_body m args (Then t ss))
-      (well_stmt kind s bound env made is.0 there.0 fits.0 (front_answering (stmt_calls s) (body_calls (Then t ss)) answering) a)
-      (λ inner calls k. function_ends kind (Then t ss) (bound_behind fns (length args) s bound) inner calls is.1 there.1 fits.1 (behind_answering (stmt_calls s) (body_calls (Then t ss)) answering) k)
+  pub function_ends : (kind : ReturnKind) (b : Body) (bound : Locals) (env : Env) (st : State) → IsBody b → IsBodyThere fns kind (length w.args) bound b → FitsFunction kind b → Answering fns w.meaning (body_calls b) → Agree bound env
+      → DoesEnd (run_body w b env st)
+  function_ends kind Done bound env st is there fits answering a = absurd fits
+  function_ends kind (Then s Done) bound env st is there fits answering a =
+      let last = last_ends kind s bound env st is.0 there.0 fits a in
+      record { end = last.end; left = last.left; is = ap (λ flow. then_run flow (run_body w Done)) last.is }
+  function_ends kind (Then s (Then t ss)) bound env st is there fits answering a =
+      then_ends (bound_behind fns (length w.args) s bound) (run_stmt w s env st) (run_body w (Then t ss))
+      (well_stmt kind false s bound env st is.0 there.0 fits.0 (front_answering (stmt_calls s) (body_calls (Then t ss)) answering) a)
+      (λ inner calls k. function_ends kind (Then t ss) (bound_behind fns (length w.args) s bound) inner calls is.1 there.1 fits.1 (behind_answering (stmt_calls s) (body_calls (Then t ss)) answering) k)

@@ -1,15 +1,15 @@
 //! What calls are answered.
 
 ghost use Rattle.std.specs.Prelude.{◌≡◌, IfOk, Some, map, option_map, slice_index_or};
-ghost use Rattle.isle_core.specs.Answered.{answer_held};
+ghost use Rattle.isle_core.specs.Answered.{answer_held, item_of};
 ghost use Rattle.isle_core.specs.Meaning.{same_values, case_at};
 ghost use Rattle.isle_core.specs.ValueViews.{values, answer as answer_of, pure_answers};
-ghost use Rattle.isle_interpreter.specs.RunViews.{held};
+ghost use Rattle.isle_interpreter.specs.RunViews.{held, item};
 ghost use Rattle.isle_interpreter.specs.Sources.{source, answered_by};
 
-use crate::holding::Holding;
+use crate::holding::{Holding, Item, values_copied};
 use crate::source::Source;
-use isle_core::{Answer, Callee, PureAnswers, Value};
+use isle_core::{Answer, Callee, List, PureAnswers, Value};
 use isle_outcomes::{copied, same, text_copied};
 use std::alloc::{AllocError, Global};
 
@@ -23,25 +23,43 @@ pub fn callee_copied(alloc: Global, callee: &Callee) -> Result<Callee, AllocErro
     }
 }
 
+// The item of the results of an answer.
+fn item_of(alloc: Global, results: &[Value]) -> Result<Item, AllocError>
+    ensures { IfOk result (λ i. item i ≡ item_of (values results.now)) }
+{
+    match results {
+        [value] => Ok(Item::Value(copied(alloc, value)?)),
+        [] | [_, _, ..] => Ok(Item::Tuple(values_copied(alloc, results)?)),
+    }
+}
+
+// The items of several answers, in order.
+fn items_of(alloc: Global, answers: &[List<Value>]) -> Result<List<Item>, AllocError>
+    ensures { IfOk result (λ items. map item items ≡ map item_of (map values answers.now)) }
+{
+    let mut items = Vec::new(alloc);
+    for results in answers {
+        items.push(item_of(alloc, results.as_slice())?)?;
+    }
+    Ok(List::new(items))
+}
+
 // What an answer holds.
 fn answer_holding(alloc: Global, answer: &Answer) -> Result<Holding, AllocError>
     ensures { IfOk result (λ h. held h ≡ answer_held (answer_of answer.now)) }
 {
     match answer {
-        Answer::Plain(results) => match results.as_slice() {
-            [value] => Ok(Holding::One(copied(alloc, value)?)),
-            _ => Ok(Holding::Absent),
-        },
-        Answer::Some(results) => match results.as_slice() {
-            [value] => Ok(Holding::Optional(Some(copied(alloc, value)?))),
-            _ => Ok(Holding::Absent),
-        },
+        Answer::Plain(results) => Ok(Holding::One(item_of(alloc, results.as_slice())?)),
+        Answer::Some(results) => {
+            let item = item_of(alloc, results.as_slice())?;
+            Ok(Holding::Optional(Some(item)))
+        }
         Answer::Nothing => Ok(Holding::Optional(None)),
-        Answer::List(_) => Ok(Holding::Absent),
+        Answer::List(answers) => Ok(Holding::Listed(items_of(alloc, answers.as_slice())?)),
     }
 }
 
-// Whether values are equal, in order.
+// Whether values are equal in a run, in order.
 #[tactic(auto, using(crate::proofs::ValuesApart::values_apart))]
 fn same_values(ones: &[Value], others: &[Value]) -> bool
     ensures { result ≡ same_values (values ones.now) (values others.now) }

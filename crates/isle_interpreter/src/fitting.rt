@@ -29,7 +29,7 @@ pub fn run_fitting(
     ensures ran { IfOk result (λ o. run (program p.now) term.now (values args.now) (meaning answers.now) ≡ Some (ran o)) }
     ensures refused { IfErr result (λ e. e ≡ Memory) }
 {
-    match run_function(alloc, f, args, answers)? {
+    match run_function(alloc, p, f, args, answers)? {
         Some(outcome) => Ok(outcome),
         None => unreachable!(),
     }

@@ -1,7 +1,7 @@
 use isle_core::End;
 
 /// How statements end: they go on, the function ends, or what is read isn't there.
-#[derive(Debug, Drop)]
+#[derive(Drop)]
 pub enum Flow {
     Goes,
     Ends(End),

@@ -1,10 +1,11 @@
 //! Runs of target programs under given answers.
 #![tactic(auto)]
 
-mod bound;
+mod around;
 mod called;
 mod calls;
 mod entry;
+mod fit;
 mod fitting;
 mod flow;
 mod form;

@@ -2,37 +2,45 @@
 
 ghost use Rattle.std.specs.Prelude.{◌≡◌, IfOk, option_map};
 ghost use Rattle.isle_core.specs.ValueViews.{values};
-ghost use Rattle.isle_tree.specs.Run.{value_of, read_value, read_values};
-ghost use Rattle.isle_interpreter.specs.RunViews.{held, locals};
+ghost use Rattle.isle_tree.specs.Run.{look, value_of, read_value, read_values};
+ghost use Rattle.isle_interpreter.specs.RunViews.{held, locals, within};
 
-use crate::bound::Bound;
-use crate::holding::{Holding, holding_copied};
+use crate::around::Around;
+use crate::frame::Frame;
+use crate::holding::{Holding, Item, holding_copied};
 use isle_core::Value;
 use isle_outcomes::copied;
 use isle_tree::{Operand, Read};
 use std::alloc::{AllocError, Global};
 
+// What a local holds.
+fn local_value(alloc: Global, frame: &Frame<'_>, local: usize) -> Result<Holding, AllocError>
+    ensures { IfOk result (λ h. held h ≡ look (locals frame.now.locals) local) }
+{
+    match frame.locals.get(local) {
+        Some(found) => holding_copied(alloc, found),
+        None => Ok(Holding::Absent),
+    }
+}
+
 /// Returns what an operand holds.
 #[tactic(auto, using(isle_outcomes::proofs::SeesValues::sees_values))]
 pub fn value_of(
     alloc: Global,
-    args: &[Value],
-    bound: &Bound,
+    around: &Around<'_>,
+    frame: &Frame<'_>,
     operand: &Operand,
 ) -> Result<Holding, AllocError>
-    ensures { IfOk result (λ h. held h ≡ value_of (values args.now) (locals bound.now) operand.now) }
+    ensures { IfOk result (λ h. held h ≡ value_of (within around.now frame.now) (locals frame.now.locals) operand.now) }
 {
     match operand {
-        Operand::Local(local) => match bound.holding(*local) {
-            Some(held) => holding_copied(alloc, held),
+        Operand::Local(local) => local_value(alloc, frame, *local),
+        Operand::Arg(index) => match around.args.get(*index) {
+            Some(arg) => Ok(Holding::One(Item::Value(copied(alloc, arg)?))),
             None => Ok(Holding::Absent),
         },
-        Operand::Arg(index) => match args.get(*index) {
-            Some(arg) => Ok(Holding::One(copied(alloc, arg)?)),
-            None => Ok(Holding::Absent),
-        },
-        Operand::Bool(truth) => Ok(Holding::One(Value::Bool(*truth))),
-        Operand::Int(ty, number) => Ok(Holding::One(Value::Int(*ty, *number))),
+        Operand::Bool(truth) => Ok(Holding::One(Item::Value(Value::Bool(*truth)))),
+        Operand::Int(ty, number) => Ok(Holding::One(Item::Value(Value::Int(*ty, *number)))),
         Operand::Raw(_) | Operand::Name(_) => Ok(Holding::Absent),
     }
 }
@@ -40,14 +48,14 @@ pub fn value_of(
 /// Returns what is read.
 pub fn read_value(
     alloc: Global,
-    args: &[Value],
-    bound: &Bound,
+    around: &Around<'_>,
+    frame: &Frame<'_>,
     read: &Read,
 ) -> Result<Holding, AllocError>
-    ensures { IfOk result (λ h. held h ≡ read_value (values args.now) (locals bound.now) read.now) }
+    ensures { IfOk result (λ h. held h ≡ read_value (within around.now frame.now) (locals frame.now.locals) read.now) }
 {
     match read {
-        Read::Plain(operand) => value_of(alloc, args, bound, operand),
+        Read::Plain(operand) => value_of(alloc, around, frame, operand),
         Read::Borrow(_) | Read::Clone(_) => Ok(Holding::Absent),
     }
 }
@@ -55,17 +63,20 @@ pub fn read_value(
 /// Returns the values that are read, where all are.
 pub fn read_values(
     alloc: Global,
-    args: &[Value],
-    bound: &Bound,
+    around: &Around<'_>,
+    frame: &Frame<'_>,
     reads: &[Read],
 ) -> Result<Option<Vec<Value>>, AllocError>
-    ensures { IfOk result (λ read. option_map (λ vs. values vs.items) read ≡ read_values (values args.now) (locals bound.now) reads.now) }
+    ensures { IfOk result (λ read. option_map (λ vs. values vs.items) read ≡ read_values (within around.now frame.now) (locals frame.now.locals) reads.now) }
 {
     let mut read = Vec::new(alloc);
     for next in reads {
-        match read_value(alloc, args, bound, next)? {
-            Holding::One(value) => read.push(value)?,
-            Holding::Absent | Holding::Optional(_) => return Ok(None),
+        match read_value(alloc, around, frame, next)? {
+            Holding::One(Item::Value(value)) => read.push(value)?,
+            Holding::One(Item::Tuple(_))
+            | Holding::Absent
+            | Holding::Optional(_)
+            | Holding::Listed(_) => return Ok(None),
         }
     }
     Ok(Some(read))

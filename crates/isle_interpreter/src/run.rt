@@ -1,38 +1,44 @@
 //! The run of a function's statements.
 
-ghost use Rattle.std.specs.Prelude.{◌≡◌, IfOk, OnOk, map};
-ghost use Rattle.isle_core.specs.ValueViews.{values, meaning, made};
-ghost use Rattle.std.specs.Prelude.{List, Some};
-ghost use Rattle.isle_core.specs.Answered.{Optional};
-ghost use Rattle.isle_core.specs.Value.{Made, GivesSome};
+ghost use Rattle.std.specs.Prelude.{◌≡◌, ◌++◌, IfOk, OnOk};
+ghost use Rattle.std.specs.Prelude.{Some};
+ghost use Rattle.isle_core.specs.Answered.{an_option};
+ghost use Rattle.isle_core.specs.Value.{GivesSome};
 ghost use Rattle.isle_tree.specs.Run as run;
+ghost use Rattle.isle_tree.specs.Run.{value_in};
 ghost use Rattle.isle_tree.specs.Views.{stmt, body};
-ghost use Rattle.isle_interpreter.specs.RunViews.{held, locals, flow, tested};
+ghost use Rattle.isle_interpreter.specs.RunViews.{held, locals, within, state, flow, tested};
+ghost use Rattle.isle_interpreter.specs.declared.frame.Frame.{Frame};
 ghost use Rattle.isle_interpreter.specs.Frames.{Follows};
 
-use crate::bound::Bound;
+use crate::around::Around;
+use crate::fit::fit;
 use crate::flow::Flow;
 use crate::frame::Frame;
-use crate::holding::Holding;
+use crate::holding::{Holding, Item, value_in};
 use crate::reading::{read_value, read_values, value_of};
-use isle_core::{End, Value};
+use isle_core::End;
 use isle_outcomes::same;
-use isle_tree::{Operand, Stmt, TCall, TExpr};
+use isle_tree::{Operand, Stmt, TCall, TExpr, TPat};
 use std::alloc::{AllocError, Global};
 
 // Binds a local to what a place holds.
 fn bind(frame: &mut Frame<'_>, local: usize, holding: Holding) -> Result<Flow, AllocError>
-    ensures runs { IfOk result (λ f. run.run_bind local (held holding) (locals frame.old.locals) (map made frame.old.calls.made) ≡ flow f (locals frame.new.locals) (map made frame.new.calls.made)) }
+    ensures runs { IfOk result (λ f. run.run_bind local (held holding) (locals frame.old.locals) (state frame.old) ≡ flow f frame.new) }
     ensures follows { OnOk result (Follows frame.old frame.new) }
 {
     match holding {
         Holding::Absent => Ok(Flow::Stuck),
-        Holding::One(value) => {
-            frame.locals.bind(local, Holding::One(value))?;
+        Holding::One(item) => {
+            frame.locals.bind(local, Holding::One(item))?;
             Ok(Flow::Goes)
         }
         Holding::Optional(option) => {
             frame.locals.bind(local, Holding::Optional(option))?;
+            Ok(Flow::Goes)
+        }
+        Holding::Listed(items) => {
+            frame.locals.bind(local, Holding::Listed(items))?;
             Ok(Flow::Goes)
         }
     }
@@ -41,15 +47,15 @@ fn bind(frame: &mut Frame<'_>, local: usize, holding: Holding) -> Result<Flow, A
 // Binds a local to what a call answers.
 fn run_call(
     alloc: Global,
-    args: &[Value],
+    around: &Around<'_>,
     frame: &mut Frame<'_>,
     local: usize,
     call: &TCall,
 ) -> Result<Flow, AllocError>
-    ensures runs { IfOk result (λ f. run.run_call (meaning frame.old.calls.answers) local call.now.callee (run.read_values (values args.now) (locals frame.old.locals) call.now.args) (locals frame.old.locals) (map made frame.old.calls.made) ≡ flow f (locals frame.new.locals) (map made frame.new.calls.made)) }
+    ensures runs { IfOk result (λ f. run.run_call (within around.now frame.old) local call.now.callee (run.read_values (within around.now frame.old) (locals frame.old.locals) call.now.args) (locals frame.old.locals) (state frame.old) ≡ flow f frame.new) }
     ensures follows { OnOk result (Follows frame.old frame.new) }
 {
-    let read = match read_values(alloc, args, &frame.locals, call.args.as_slice())? {
+    let read = match read_values(alloc, around, frame, call.args.as_slice())? {
         Some(read) => read,
         None => return Ok(Flow::Stuck),
     };
@@ -57,58 +63,63 @@ fn run_call(
     bind(frame, local, holding)
 }
 
-// Binds a local to the value within an option, or ends.
+// Binds a local to what is within an option, or ends.
 fn run_try(frame: &mut Frame<'_>, local: usize, holding: Holding) -> Result<Flow, AllocError>
-    ensures runs { IfOk result (λ f. run.run_try local (held holding) (locals frame.old.locals) (map made frame.old.calls.made) ≡ flow f (locals frame.new.locals) (map made frame.new.calls.made)) }
+    ensures runs { IfOk result (λ f. run.run_try local (held holding) (locals frame.old.locals) (state frame.old) ≡ flow f frame.new) }
     ensures follows { OnOk result (Follows frame.old frame.new) }
 {
     match holding {
-        Holding::Optional(Some(value)) => {
-            frame.locals.bind(local, Holding::One(value))?;
+        Holding::Optional(Some(item)) => {
+            frame.locals.bind(local, Holding::One(item))?;
             Ok(Flow::Goes)
         }
         Holding::Optional(None) => Ok(Flow::Ends(End::Nothing)),
-        Holding::One(_) | Holding::Absent => Ok(Flow::Stuck),
+        Holding::One(_) | Holding::Listed(_) | Holding::Absent => Ok(Flow::Stuck),
     }
 }
 
 // Binds a local to an option of a value.
 fn run_some(frame: &mut Frame<'_>, local: usize, holding: Holding) -> Result<Flow, AllocError>
-    ensures runs { IfOk result (λ f. run.on_value (held holding) (λ v. run.Goes (run.bind (locals frame.old.locals) local (Optional (Some v))) (map made frame.old.calls.made)) ≡ flow f (locals frame.new.locals) (map made frame.new.calls.made)) }
+    ensures runs { IfOk result (λ f. run.on_value (held holding) (λ v. run.Goes (run.bind (locals frame.old.locals) local (an_option (Some v))) (state frame.old)) ≡ flow f frame.new) }
     ensures follows { OnOk result (Follows frame.old frame.new) }
 {
     match holding {
-        Holding::One(value) => {
-            frame.locals.bind(local, Holding::Optional(Some(value)))?;
+        Holding::One(Item::Value(value)) => {
+            frame
+                .locals
+                .bind(local, Holding::Optional(Some(Item::Value(value))))?;
             Ok(Flow::Goes)
         }
-        Holding::Optional(_) | Holding::Absent => Ok(Flow::Stuck),
+        Holding::One(Item::Tuple(_))
+        | Holding::Optional(_)
+        | Holding::Listed(_)
+        | Holding::Absent => Ok(Flow::Stuck),
     }
 }
 
 // Binds a local to what is computed.
 fn run_let(
     alloc: Global,
-    args: &[Value],
+    around: &Around<'_>,
     frame: &mut Frame<'_>,
     local: usize,
     computed: &TExpr,
 ) -> Result<Flow, AllocError>
-    ensures runs { IfOk result (λ f. run.run_let (meaning frame.old.calls.answers) (values args.now) local computed.now (locals frame.old.locals) (map made frame.old.calls.made) ≡ flow f (locals frame.new.locals) (map made frame.new.calls.made)) }
+    ensures runs { IfOk result (λ f. run.run_let (within around.now frame.old) local computed.now (locals frame.old.locals) (state frame.old) ≡ flow f frame.new) }
     ensures follows { OnOk result (Follows frame.old frame.new) }
 {
     match computed {
         TExpr::Read(read) => {
-            let holding = read_value(alloc, args, &frame.locals, read)?;
+            let holding = read_value(alloc, around, frame, read)?;
             bind(frame, local, holding)
         }
         TExpr::Some(read) => {
-            let holding = read_value(alloc, args, &frame.locals, read)?;
+            let holding = read_value(alloc, around, frame, read)?;
             run_some(frame, local, holding)
         }
-        TExpr::Call { call, .. } => run_call(alloc, args, frame, local, call),
+        TExpr::Call { call, .. } => run_call(alloc, around, frame, local, call),
         TExpr::Try { source, .. } => {
-            let holding = value_of(alloc, args, &frame.locals, source)?;
+            let holding = value_of(alloc, around, frame, source)?;
             run_try(frame, local, holding)
         }
         TExpr::Variant { .. } | TExpr::Struct { .. } | TExpr::Tuple(..) => Ok(Flow::Stuck),
@@ -117,38 +128,44 @@ fn run_let(
 
 // The end that gives what a place holds.
 fn ends_with(holding: Holding) -> Flow
-    ensures { (env : run.Env) → (calls : List Made) → run.ends_with (held holding) calls ≡ flow result env calls }
+    ensures { (frame : Frame) → run.ends_with (held holding) (state frame) ≡ flow result frame }
 {
     match holding {
-        Holding::One(value) => Flow::Ends(End::Value(value)),
-        Holding::Optional(Some(value)) => Flow::Ends(End::Some(value)),
+        Holding::One(Item::Value(value)) => Flow::Ends(End::Value(value)),
+        Holding::Optional(Some(Item::Value(value))) => Flow::Ends(End::Some(value)),
         Holding::Optional(None) => Flow::Ends(End::Nothing),
-        Holding::Absent => Flow::Stuck,
+        Holding::One(Item::Tuple(_))
+        | Holding::Optional(Some(Item::Tuple(_)))
+        | Holding::Listed(_)
+        | Holding::Absent => Flow::Stuck,
     }
 }
 
 // The end that gives an option of a value.
 fn ends_some(holding: Holding) -> Flow
-    ensures { (env : run.Env) → (calls : List Made) → run.on_value (held holding) (λ v. run.Ends (GivesSome v) calls) ≡ flow result env calls }
+    ensures { (frame : Frame) → run.on_value (held holding) (λ v. run.Ends (GivesSome v) (state frame)) ≡ flow result frame }
 {
     match holding {
-        Holding::One(value) => Flow::Ends(End::Some(value)),
-        Holding::Optional(_) | Holding::Absent => Flow::Stuck,
+        Holding::One(Item::Value(value)) => Flow::Ends(End::Some(value)),
+        Holding::One(Item::Tuple(_))
+        | Holding::Optional(_)
+        | Holding::Listed(_)
+        | Holding::Absent => Flow::Stuck,
     }
 }
 
 // What a return gives.
 fn run_return(
     alloc: Global,
-    args: &[Value],
-    bound: &Bound,
+    around: &Around<'_>,
+    frame: &Frame<'_>,
     given: &TExpr,
 ) -> Result<Flow, AllocError>
-    ensures { IfOk result (λ f. (calls : List Made) → run.run_return (values args.now) given.now (locals bound.now) calls ≡ flow f (locals bound.now) calls) }
+    ensures { IfOk result (λ f. run.run_return (within around.now frame.now) given.now (locals frame.now.locals) (state frame.now) ≡ flow f frame.now) }
 {
     match given {
-        TExpr::Read(read) => Ok(ends_with(read_value(alloc, args, bound, read)?)),
-        TExpr::Some(read) => Ok(ends_some(read_value(alloc, args, bound, read)?)),
+        TExpr::Read(read) => Ok(ends_with(read_value(alloc, around, frame, read)?)),
+        TExpr::Some(read) => Ok(ends_some(read_value(alloc, around, frame, read)?)),
         TExpr::Call { .. }
         | TExpr::Variant { .. }
         | TExpr::Struct { .. }
@@ -159,29 +176,25 @@ fn run_return(
 
 // How a test of two places goes on, where both have values.
 fn are_same(one: &Holding, other: &Holding) -> Option<bool>
-    ensures { result ≡ tested (held one.now) (held other.now) }
+    ensures { result ≡ tested (value_in (held one.now)) (value_in (held other.now)) }
 {
-    match one {
-        Holding::One(v) => match other {
-            Holding::One(w) => Some(same(v, w)),
-            Holding::Optional(_) | Holding::Absent => None,
-        },
-        Holding::Optional(_) | Holding::Absent => None,
-    }
+    let one = value_in(one)?;
+    let other = value_in(other)?;
+    Some(same(one, other))
 }
 
 // How the test of two operands goes.
 fn test(
     alloc: Global,
-    args: &[Value],
-    bound: &Bound,
+    around: &Around<'_>,
+    frame: &Frame<'_>,
     a: &Operand,
     b: &Operand,
 ) -> Result<Option<bool>, AllocError>
-    ensures { IfOk result (λ t. t ≡ tested (run.value_of (values args.now) (locals bound.now) a.now) (run.value_of (values args.now) (locals bound.now) b.now)) }
+    ensures { IfOk result (λ t. t ≡ tested (value_in (run.value_of (within around.now frame.now) (locals frame.now.locals) a.now)) (value_in (run.value_of (within around.now frame.now) (locals frame.now.locals) b.now))) }
 {
-    let one = value_of(alloc, args, bound, a)?;
-    let other = value_of(alloc, args, bound, b)?;
+    let one = value_of(alloc, around, frame, a)?;
+    let other = value_of(alloc, around, frame, b)?;
     Ok(are_same(&one, &other))
 }
 
@@ -190,25 +203,28 @@ fn test(
 #[tactic(auto, using(isle_tree::proofs::Sees::sees, crate::proofs::Tests::on_test))]
 fn run_stmt(
     alloc: Global,
+    around: &Around<'_>,
     statement: &Stmt,
-    args: &[Value],
     frame: &mut Frame<'_>,
 ) -> Result<Flow, AllocError>
-    ensures runs { IfOk result (λ f. run.run_stmt (meaning frame.old.calls.answers) (values args.now) (stmt statement.now) (locals frame.old.locals) (map made frame.old.calls.made) ≡ flow f (locals frame.new.locals) (map made frame.new.calls.made)) }
+    ensures runs { IfOk result (λ f. run.run_stmt (within around.now frame.old) (stmt statement.now) (locals frame.old.locals) (state frame.old) ≡ flow f frame.new) }
     ensures follows { OnOk result (Follows frame.old frame.new) }
 {
     match statement {
-        Stmt::Let(local, computed) => run_let(alloc, args, frame, *local, computed),
-        Stmt::IfEq(a, b, inside) => match test(alloc, args, &frame.locals, a, b)? {
-            Some(true) => run_inside(alloc, inside.as_slice(), args, frame),
+        Stmt::Let(local, computed) => run_let(alloc, around, frame, *local, computed),
+        Stmt::IfEq(a, b, inside) => match test(alloc, around, frame, a, b)? {
+            Some(true) => run_inside(alloc, around, inside.as_slice(), frame),
             Some(false) => Ok(Flow::Goes),
             None => Ok(Flow::Stuck),
         },
-        Stmt::Return(given) => run_return(alloc, args, &frame.locals, given),
+        Stmt::IfLet(pat, read, inside) => {
+            let holding = read_value(alloc, around, frame, read)?;
+            run_fitting(alloc, around, pat, holding, inside.as_slice(), frame)
+        }
+        Stmt::Return(given) => run_return(alloc, around, frame, given),
         Stmt::Tail(None) => Ok(Flow::Ends(End::Nothing)),
         Stmt::Tail(Some(_)) => Ok(Flow::Ends(End::Unreachable)),
         Stmt::LetList { .. }
-        | Stmt::IfLet(..)
         | Stmt::Match(..)
         | Stmt::Loop { .. }
         | Stmt::Extend(_)
@@ -222,33 +238,56 @@ fn run_stmt(
 #[cycle(running)]
 fn run_inside(
     alloc: Global,
+    around: &Around<'_>,
     statements: &[Stmt],
-    args: &[Value],
     frame: &mut Frame<'_>,
 ) -> Result<Flow, AllocError>
-    ensures runs { IfOk result (λ f. run.behind (locals frame.old.locals) (run.run_body (meaning frame.old.calls.answers) (values args.now) (body statements.now) (locals frame.old.locals) (map made frame.old.calls.made)) ≡ flow f (locals frame.new.locals) (map made frame.new.calls.made)) }
+    ensures runs { IfOk result (λ f. run.behind (locals frame.old.locals) (run.run_body (within around.now frame.old) (body statements.now) (locals frame.old.locals) (state frame.old)) ≡ flow f frame.new) }
     ensures kept { OnOk result (frame.new.locals ≡ frame.old.locals) }
     ensures follows { OnOk result (Follows frame.old frame.new) }
 {
     let bound = frame.locals.len();
-    let end = run_body(alloc, statements, args, frame)?;
+    let end = run_body(alloc, around, statements, frame)?;
     frame.locals.truncate(bound);
     Ok(end)
+}
+
+// Runs statements where a pattern fits what is read, and leaves what they and the pattern bound.
+#[cycle(running)]
+fn run_fitting(
+    alloc: Global,
+    around: &Around<'_>,
+    pat: &TPat,
+    holding: Holding,
+    statements: &[Stmt],
+    frame: &mut Frame<'_>,
+) -> Result<Flow, AllocError>
+    ensures runs { IfOk result (λ f. run.fitted (run.fit (within around.now frame.old) pat.now (held holding)) (λ bound. run.behind (locals frame.old.locals) (run.run_body (within around.now frame.old) (body statements.now) (locals frame.old.locals ++ bound) (state frame.old))) (run.Goes (locals frame.old.locals) (state frame.old)) ≡ flow f frame.new) }
+    ensures follows { OnOk result (Follows frame.old frame.new) }
+{
+    let count = frame.locals.len();
+    if fit(pat, holding, frame)? {
+        let end = run_body(alloc, around, statements, frame)?;
+        frame.locals.truncate(count);
+        Ok(end)
+    } else {
+        Ok(Flow::Goes)
+    }
 }
 
 /// Runs statements in order.
 #[cycle(running)]
 pub fn run_body(
     alloc: Global,
+    around: &Around<'_>,
     statements: &[Stmt],
-    args: &[Value],
     frame: &mut Frame<'_>,
 ) -> Result<Flow, AllocError>
-    ensures runs { IfOk result (λ f. run.run_body (meaning frame.old.calls.answers) (values args.now) (body statements.now) (locals frame.old.locals) (map made frame.old.calls.made) ≡ flow f (locals frame.new.locals) (map made frame.new.calls.made)) }
+    ensures runs { IfOk result (λ f. run.run_body (within around.now frame.old) (body statements.now) (locals frame.old.locals) (state frame.old) ≡ flow f frame.new) }
     ensures follows { OnOk result (Follows frame.old frame.new) }
 {
     for statement in statements {
-        match run_stmt(alloc, statement, args, frame)? {
+        match run_stmt(alloc, around, statement, frame)? {
             Flow::Goes => {}
             Flow::Ends(end) => return Ok(Flow::Ends(end)),
             Flow::Stuck => return Ok(Flow::Stuck),

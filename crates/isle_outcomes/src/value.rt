@@ -1,9 +1,10 @@
-//! Values: copies, and when two are equal.
+//! Values: copies, and when two are equal in a run.
 
 ghost use Rattle.std.specs.Prelude.{◌≡◌, ◌==◌, IfOk, map};
 ghost use Rattle.std.specs.Str.{bytes_eq};
 ghost use Rattle.isle_core.specs.ValueViews.{value};
-ghost use Rattle.isle_core.specs.SameValue.{int_place, same_truth, same_value, same_fields};
+ghost use Rattle.isle_core.specs.SameValue.{int_place, same_truth};
+ghost use Rattle.isle_core.specs.SameInRun.{same_in_run, same_fields_in_run};
 ghost use Rattle.std.specs.Ordering.{int_eq};
 ghost use Rattle.isle_outcomes.specs.Fields.{fields};
 
@@ -85,11 +86,11 @@ fn same_name(one: &str, other: &str) -> bool
     one == other
 }
 
-/// Tells whether two values are equal.
+/// Tells whether two values are equal in a run; opaque numbers are by their number alone.
 #[cycle(equality)]
-#[tactic(auto, using(crate::proofs::SeesValues::sees_values), unfolding(isle_core::specs::SameValue::same_value))]
+#[tactic(auto, using(crate::proofs::SeesValues::sees_values), unfolding(isle_core::specs::SameInRun::same_in_run))]
 pub fn same(one: &Value, other: &Value) -> bool
-    ensures { result ≡ same_value (value one.now) (value other.now) }
+    ensures { result ≡ same_in_run (value one.now) (value other.now) }
 {
     match one {
         Value::Bool(a) => match other {
@@ -100,8 +101,8 @@ pub fn same(one: &Value, other: &Value) -> bool
             Value::Int(t, b) => place(*s) == place(*t) && same_number(*a, *b),
             Value::Bool(_) | Value::Opaque(..) | Value::Variant(..) | Value::Struct(..) => false,
         },
-        Value::Opaque(s, a) => match other {
-            Value::Opaque(t, b) => same_name(s.as_str(), t.as_str()) && same_number(*a, *b),
+        Value::Opaque(_, a) => match other {
+            Value::Opaque(_, b) => same_number(*a, *b),
             Value::Bool(_) | Value::Int(..) | Value::Variant(..) | Value::Struct(..) => false,
         },
         Value::Variant(s, a, ones) => match other {
@@ -123,9 +124,9 @@ pub fn same(one: &Value, other: &Value) -> bool
 
 // Whether fields are equal, in order.
 #[cycle(equality)]
-#[tactic(auto, using(crate::proofs::FieldsApart::fields_apart), unfolding(isle_core::specs::SameValue::same_value))]
+#[tactic(auto, using(crate::proofs::FieldsApart::fields_apart), unfolding(isle_core::specs::SameInRun::same_in_run))]
 fn same_fields(ones: &[(Text, Value)], others: &[(Text, Value)]) -> bool
-    ensures { result ≡ same_fields (fields ones.now) (fields others.now) }
+    ensures { result ≡ same_fields_in_run (fields ones.now) (fields others.now) }
 {
     if ones.len() != others.len() {
         return false;

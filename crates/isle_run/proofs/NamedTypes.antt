@@ -9,7 +9,6 @@ use Rattle.isle_core.specs.declared.types.BuiltinType.TheVariants as builtin
 use Rattle.isle_core.specs.declared.types.ReturnKind.{ReturnKind}
 use Rattle.isle_core.specs.declared.types.ReturnKind.TheVariants as kind
 use Rattle.isle_core.specs.declared.types.TypeDef.{TypeDef}
-use Rattle.isle_core.specs.declared.types.TypeEnv.{TypeEnv}
 use Rattle.isle_core.specs.declared.types.TypeDef.TheVariants as def
 use Rattle.isle_core.specs.BuiltinType.{IsBuiltinDef, IsBuiltinType}
 use Rattle.isle_core.specs.HasType.{IsOfDef, HasType, HaveTypes}
@@ -34,24 +33,24 @@ named_again I64 = refl
 named_again I128 = refl
 named_again ISize = refl
 
-named_by : (types : TypeEnv) (o : Option TypeDef) (v : Value) → IsSomeAnd o IsBuiltinDef → IsSomeAnd o (λ d. IsOfDef d v) → IsNamed (def_text types o) v
-named_by types None v b h = absurd h
-named_by types (Some (def.Builtin builtin.Bool)) (Truth x) b h = refl
-named_by types (Some (def.Builtin builtin.Bool)) (Int ty n) b h = absurd h
-named_by types (Some (def.Builtin builtin.Bool)) (Opaque ty n) b h = absurd h
-named_by types (Some (def.Builtin builtin.Bool)) (Variant ty name fs) b h = absurd h
-named_by types (Some (def.Builtin builtin.Bool)) (Struct ty fs) b h = absurd h
-named_by types (Some (def.Builtin (builtin.Int ty))) (Int of n) b h = rw (h.0) (named_again ty, h.1)
-named_by types (Some (def.Builtin (builtin.Int ty))) (Truth x) b h = absurd h
-named_by types (Some (def.Builtin (builtin.Int ty))) (Opaque of n) b h = absurd h
-named_by types (Some (def.Builtin (builtin.Int ty))) (Variant of name fs) b h = absurd h
-named_by types (Some (def.Builtin (builtin.Int ty))) (Struct of fs) b h = absurd h
-named_by types (Some d) v b h = absurd b
+named_by : (env : Environment) (o : Option TypeDef) (v : Value) → IsSomeAnd o IsBuiltinDef → IsSomeAnd o (λ d. IsOfDef env d v) → IsNamed (def_text env.types o) v
+named_by env None v b h = absurd h
+named_by env (Some (def.Builtin builtin.Bool)) (Truth x) b h = refl
+named_by env (Some (def.Builtin builtin.Bool)) (Int ty n) b h = absurd h
+named_by env (Some (def.Builtin builtin.Bool)) (Opaque ty n) b h = absurd h
+named_by env (Some (def.Builtin builtin.Bool)) (Variant ty name fs) b h = absurd h
+named_by env (Some (def.Builtin builtin.Bool)) (Struct ty fs) b h = absurd h
+named_by env (Some (def.Builtin (builtin.Int ty))) (Int of n) b h = rw (h.0) (named_again ty, h.1)
+named_by env (Some (def.Builtin (builtin.Int ty))) (Truth x) b h = absurd h
+named_by env (Some (def.Builtin (builtin.Int ty))) (Opaque of n) b h = absurd h
+named_by env (Some (def.Builtin (builtin.Int ty))) (Variant of name fs) b h = absurd h
+named_by env (Some (def.Builtin (builtin.Int ty))) (Struct of fs) b h = absurd h
+named_by env (Some d) v b h = absurd b
 
 -- values of builtin types
 pub are_named : (env : Environment) (tys : List TypeId) (vs : List Value) → AllByRecursion (IsBuiltinType env) tys → HaveTypes env vs tys → AreNamed (map (type_text env) tys) vs
 are_named env [] [] b h = tt
-are_named env (ty ∷ tys) (v ∷ vs) b h = (named_by env.types (slice_get env.types.types ty.0) v b.0 h.0, are_named env tys vs b.1 h.1)
+are_named env (ty ∷ tys) (v ∷ vs) b h = (named_by env (slice_get env.types.types ty.0) v b.0 h.0, are_named env tys vs b.1 h.1)
 are_named env [] (v ∷ vs) b h = absurd h
 are_named env (ty ∷ tys) [] b h = absurd h
 

@@ -89,22 +89,22 @@ held int.ISize (negsuc n) h = within w64 (negsuc n) h
 -- ---- values
 
 -- a number, by whether it is one of the type
-number_by : (P : List ℕ → Value → Type 0) → ((name : List ℕ) → P name misfit → ⊥) → (name : List ℕ) (ty : IntType) (n : ℤ) (fit : Bool) → is_of ty n ≡ fit
-    → P name (if fit then Int ty (wrapped int.I128 n) else misfit) → IsOfDef (def.Builtin (builtin.Int ty)) (if fit then Int ty (wrapped int.I128 n) else misfit)
-number_by P bad name ty n true is h = (refl, held ty n is)
-number_by P bad name ty n false is h = absurd (bad name h)
+number_by : (env : Environment) (P : List ℕ → Value → Type 0) → ((name : List ℕ) → P name misfit → ⊥) → (name : List ℕ) (ty : IntType) (n : ℤ) (fit : Bool) → is_of ty n ≡ fit
+    → P name (if fit then Int ty (wrapped int.I128 n) else misfit) → IsOfDef env (def.Builtin (builtin.Int ty)) (if fit then Int ty (wrapped int.I128 n) else misfit)
+number_by env P bad name ty n true is h = (refl, held ty n is)
+number_by env P bad name ty n false is h = absurd (bad name h)
 
-of_def : (P : List ℕ → Value → Type 0) → ((name : List ℕ) → P name misfit → ⊥) → (name : List ℕ) (d : Option TypeDef) (w : Written) → P name (value_of_def d w) → IsSomeAnd d (λ x. IsOfDef x (value_of_def d w))
-of_def P bad name None w h = absurd (bad name h)
-of_def P bad name (Some (def.Builtin builtin.Bool)) (written.Truth b) h = tt
-of_def P bad name (Some (def.Builtin builtin.Bool)) (written.Number n) h = absurd (bad name h)
-of_def P bad name (Some (def.Builtin builtin.Bool)) (written.Made m ws) h = absurd (bad name h)
-of_def P bad name (Some (def.Builtin (builtin.Int ty))) (written.Truth b) h = absurd (bad name h)
-of_def P bad name (Some (def.Builtin (builtin.Int ty))) (written.Number n) h = number_by P bad name ty n (is_of ty n) refl h
-of_def P bad name (Some (def.Builtin (builtin.Int ty))) (written.Made m ws) h = absurd (bad name h)
-of_def P bad name (Some (def.Primitive a b c)) w h = absurd (bad name h)
-of_def P bad name (Some (def.Enum a b c d e)) w h = absurd (bad name h)
-of_def P bad name (Some (def.Struct a b c d e)) w h = absurd (bad name h)
+of_def : (env : Environment) (P : List ℕ → Value → Type 0) → ((name : List ℕ) → P name misfit → ⊥) → (name : List ℕ) (d : Option TypeDef) (w : Written) → P name (value_of_def d w) → IsSomeAnd d (λ x. IsOfDef env x (value_of_def d w))
+of_def env P bad name None w h = absurd (bad name h)
+of_def env P bad name (Some (def.Builtin builtin.Bool)) (written.Truth b) h = tt
+of_def env P bad name (Some (def.Builtin builtin.Bool)) (written.Number n) h = absurd (bad name h)
+of_def env P bad name (Some (def.Builtin builtin.Bool)) (written.Made m ws) h = absurd (bad name h)
+of_def env P bad name (Some (def.Builtin (builtin.Int ty))) (written.Truth b) h = absurd (bad name h)
+of_def env P bad name (Some (def.Builtin (builtin.Int ty))) (written.Number n) h = number_by env P bad name ty n (is_of ty n) refl h
+of_def env P bad name (Some (def.Builtin (builtin.Int ty))) (written.Made m ws) h = absurd (bad name h)
+of_def env P bad name (Some (def.Primitive a b c)) w h = absurd (bad name h)
+of_def env P bad name (Some (def.Enum a b c d e)) w h = absurd (bad name h)
+of_def env P bad name (Some (def.Struct a b c d e)) w h = absurd (bad name h)
 
 -- where a property that no misfit has holds of each value by the name at its place, and there are as many names as types, the values are of the types
 pub have_types : (P : List ℕ → Value → Type 0) → ((name : List ℕ) → P name misfit → ⊥) → (env : Environment) (names : List (List ℕ)) (tys : List TypeId) (ws : Writtens) → length names ≡ length tys
@@ -115,4 +115,4 @@ have_types P bad env [] (ty ∷ tys) ws e m = absurd (omega (arith, e))
 have_types P bad env (name ∷ names) [] ws e m = absurd (omega (arith, e))
 have_types P bad env (name ∷ names) (ty ∷ tys) NoValue e m = absurd m
 have_types P bad env (name ∷ names) (ty ∷ tys) (AValue w ws) e m =
-    (of_def P bad name (slice_get env.types.types ty.0) w m.0, have_types P bad env names tys ws (omega (arith, e)) m.1)
+    (of_def env P bad name (slice_get env.types.types ty.0) w m.0, have_types P bad env names tys ws (omega (arith, e)) m.1)

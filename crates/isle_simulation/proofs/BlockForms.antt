@@ -12,6 +12,7 @@ use Rattle.isle_core.specs.declared.types.TypeDef.TheVariants as def
 use Rattle.isle_core.specs.declared.types.ReturnKind.{ReturnKind}
 use Rattle.isle_core.specs.declared.types.ReturnKind.TheVariants as return_kind
 use Rattle.isle_core.specs.declared.types.Term.{Term}
+use Rattle.isle_core.specs.BuiltinType.{IsBuiltinDef, IsBuiltinType}
 use Rattle.isle_core.specs.HasType.{IsOfDef, HasType}
 use Rattle.isle_core.specs.Constants.{int_of_def, int_value}
 use Rattle.isle_core.specs.declared.rule_sets.Binding.{Binding}
@@ -37,26 +38,26 @@ use Rattle.isle_simulation.proofs.ArmBodies.{arm_body}
 use Rattle.isle_simulation.proofs.BoundTests.{found}
 use Rattle.isle_simulation.proofs.ExternalTerms.{callee_is}
 
-number_is : (o : Option TypeDef) (n : ℤ) → IsSomeAnd o (λ d. IsOfDef d (int_of_def o n)) → IsOperand (written_constant (int_of_def o n))
-number_is (Some (def.Builtin (builtin.Int ty))) n h = h.1
-number_is (Some (def.Builtin builtin.Bool)) n h = absurd h
-number_is None n h = absurd h
-number_is (Some d) n h = absurd h
+number_is : (env : Environment) (o : Option TypeDef) (n : ℤ) → IsSomeAnd o (λ d. IsOfDef env d (int_of_def env o n)) → IsSomeAnd o IsBuiltinDef → IsOperand (written_constant (int_of_def env o n))
+number_is env (Some (def.Builtin (builtin.Int ty))) n h b = h.1
+number_is env (Some (def.Builtin builtin.Bool)) n h b = absurd h
+number_is env None n h b = absurd h
+number_is env (Some d) n h b = absurd b
 
-typed_number_is : (env : Environment) (of ty : TypeId) (n : ℤ) → of ≡ ty → HasType env (int_value env ty n) ty → IsOperand (written_constant (int_value env of n))
-typed_number_is env of ty n e h = rw e (number_is (slice_get env.types.types ty.0) n h)
+typed_number_is : (env : Environment) (of ty : TypeId) (n : ℤ) → of ≡ ty → HasType env (int_value env ty n) ty → IsBuiltinType env ty → IsOperand (written_constant (int_value env of n))
+typed_number_is env of ty n e h b = rw e (number_is env (slice_get env.types.types ty.0) n h b)
 
 -- a path of a type that is read in place
 in_place_is : (env : Environment) (t : Term) (p : Path) (ty : TypeId) → IsPathOf env t p ty → IsInPlace p → IsOperand (written_place env p)
 in_place_is env t (Arg i) ty h k = tt
 in_place_is env t (ConstBool of b) ty h k = tt
-in_place_is env t (ConstInt of n) ty h k = typed_number_is env of ty n h.0 h.1
+in_place_is env t (ConstInt of n) ty h k = typed_number_is env of ty n h.0 h.1 h.2
 in_place_is env t p ty h k = absurd k
 
 -- a constraint of a type
 tested_is : (env : Environment) (c : Constraint) (ty : TypeId) → IsConstraintOf env c ty → IsOperand (written_test env c)
 tested_is env (constraint.ConstBool val) ty h = tt
-tested_is env (constraint.ConstInt val of) ty h = typed_number_is env of ty val h.0 h.1
+tested_is env (constraint.ConstInt val of) ty h = typed_number_is env of ty val h.0 h.1 h.2
 tested_is env c ty h = absurd h
 
 not_bound : (bound : List ℕ) (b : BindingId) → Contains bound b.0 → is_bound bound b ≡ false → ⊥

@@ -44,26 +44,28 @@ use Rattle.isle_simulation.proofs.Written.{written_constant, written_place, writ
 
 -- ---- operands that are there
 
-number_written : (o : Option TypeDef) (n : ℤ) → IsSomeAnd o (λ d. IsOfDef d (int_of_def o n)) → constant (int_of_def o n) ≡ Some (written_constant (int_of_def o n))
-number_written (Some (def.Builtin (builtin.Int ty))) n h = refl
-number_written (Some (def.Builtin builtin.Bool)) n h = absurd h
-number_written None n h = absurd h
-number_written (Some d) n h = absurd h
+number_written : (env : Environment) (o : Option TypeDef) (n : ℤ) → constant (int_of_def env o n) ≡ Some (written_constant (int_of_def env o n))
+number_written env (Some (def.Builtin (builtin.Int ty))) n = refl
+number_written env (Some (def.Builtin builtin.Bool)) n = refl
+number_written env (Some (def.Primitive name rust pos)) n = refl
+number_written env (Some (def.Enum name is_extern is_nodebug variants pos)) n = refl
+number_written env (Some (def.Struct name is_extern is_nodebug fields pos)) n = refl
+number_written env None n = refl
 
-typed_written : (env : Environment) (of ty : TypeId) (n : ℤ) → of ≡ ty → HasType env (int_value env ty n) ty → constant (int_value env of n) ≡ Some (written_constant (int_value env of n))
-typed_written env of ty n e h = rw e (number_written (slice_get env.types.types ty.0) n h)
+typed_written : (env : Environment) (of : TypeId) (n : ℤ) → constant (int_value env of n) ≡ Some (written_constant (int_value env of n))
+typed_written env of n = number_written env (slice_get env.types.types of.0) n
 
 -- of a path of a type that is read in place
 place_written : (env : Environment) (t : Term) (p : Path) (ty : TypeId) → IsPathOf env t p ty → IsInPlace p → in_place env p ≡ Some (written_place env p)
 place_written env t (Arg i) ty h k = refl
 place_written env t (ConstBool of b) ty h k = refl
-place_written env t (ConstInt of n) ty h k = typed_written env of ty n h.0 h.1
+place_written env t (ConstInt of n) ty h k = typed_written env of n
 place_written env t p ty h k = absurd k
 
 -- of a constraint of a type
 pub test_written : (env : Environment) (c : Constraint) (ty : TypeId) → IsConstraintOf env c ty → tested env c ≡ Some (written_test env c)
 test_written env (constraint.ConstBool val) ty h = refl
-test_written env (constraint.ConstInt val of) ty h = typed_written env of ty val h.0 h.1
+test_written env (constraint.ConstInt val of) ty h = typed_written env of val
 test_written env c ty h = absurd h
 
 not_bound : (bound : List ℕ) (b : BindingId) → Contains bound b.0 → is_bound bound b ≡ false → ⊥

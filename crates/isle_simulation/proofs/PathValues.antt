@@ -10,6 +10,7 @@ use Rattle.isle_core.specs.declared.types.TypeDef.TheVariants as def
 use Rattle.isle_core.specs.declared.types.Term.{Term}
 use Rattle.isle_core.specs.Value.{Value, Truth}
 use Rattle.isle_core.specs.SameValue.{same_value}
+use Rattle.isle_core.specs.BuiltinType.{IsBuiltinDef, IsBuiltinType}
 use Rattle.isle_core.specs.HasType.{IsOfDef, HasType, HaveTypes}
 use Rattle.isle_core.specs.Constants.{int_of_def, int_value}
 use Rattle.isle_core.specs.Path.{Path, Arg, ConstBool, ConstInt}
@@ -45,14 +46,14 @@ argument_there env [] (of ∷ tys) i ty h e = absurd h
 argument_there env (v ∷ args) [] i ty h e = absurd h
 
 -- a number of an integer type is spelled by its operand
-number_there : (o : Option TypeDef) (n : ℤ) (u : Around) (locals : Env) → IsSomeAnd o (λ d. IsOfDef d (int_of_def o n)) → value_of u locals (written_constant (int_of_def o n)) ≡ a_value (int_of_def o n)
-number_there (Some (def.Builtin (builtin.Int ty))) n u locals h = refl
-number_there (Some (def.Builtin builtin.Bool)) n u locals h = absurd h
-number_there None n u locals h = absurd h
-number_there (Some d) n u locals h = absurd h
+number_there : (env : Environment) (o : Option TypeDef) (n : ℤ) (u : Around) (locals : Env) → IsSomeAnd o (λ d. IsOfDef env d (int_of_def env o n)) → IsSomeAnd o IsBuiltinDef → value_of u locals (written_constant (int_of_def env o n)) ≡ a_value (int_of_def env o n)
+number_there env (Some (def.Builtin (builtin.Int ty))) n u locals h b = refl
+number_there env (Some (def.Builtin builtin.Bool)) n u locals h b = absurd h
+number_there env None n u locals h b = absurd h
+number_there env (Some d) n u locals h b = absurd b
 
-typed_number : (env : Environment) (of ty : TypeId) (n : ℤ) (u : Around) (locals : Env) → of ≡ ty → HasType env (int_value env ty n) ty → value_of u locals (written_constant (int_value env of n)) ≡ a_value (int_value env of n)
-typed_number env of ty n u locals e h = rw e (number_there (slice_get env.types.types ty.0) n u locals h)
+typed_number : (env : Environment) (of ty : TypeId) (n : ℤ) (u : Around) (locals : Env) → of ≡ ty → HasType env (int_value env ty n) ty → IsBuiltinType env ty → value_of u locals (written_constant (int_value env of n)) ≡ a_value (int_value env of n)
+typed_number env of ty n u locals e h b = rw e (number_there env (slice_get env.types.types ty.0) n u locals h b)
 
 number_typed : (env : Environment) (of ty : TypeId) (n : ℤ) → of ≡ ty → HasType env (int_value env ty n) ty → HasType env (int_value env of n) ty
 number_typed env of ty n e h = subst (λ x. HasType env (int_value env x n) ty) (sym e) h
@@ -63,11 +64,11 @@ path_reads env u t (Arg i) ty h k at =
     let r = argument_there env u.args t.arg_tys i ty h k in
     (r.0, record { place = λ locals. ap held r.1; held = λ known. ap held r.1; typed = r.2 })
 path_reads env u t (ConstBool of b) ty h k at = (Truth b, record { place = λ locals. refl; held = λ known. refl; typed = k.1 })
-path_reads env u t (ConstInt of n) ty h k at = (int_value env of n, record { place = λ locals. typed_number env of ty n u locals k.0 k.1; held = λ known. refl; typed = number_typed env of ty n k.0 k.1 })
+path_reads env u t (ConstInt of n) ty h k at = (int_value env of n, record { place = λ locals. typed_number env of ty n u locals k.0 k.1 k.2; held = λ known. refl; typed = number_typed env of ty n k.0 k.1 })
 path_reads env u t p ty h k at = absurd at
 
 -- a constraint of a type tests for a value
 pub constraint_tests : (env : Environment) (c : Constraint) (ty : TypeId) → IsConstraintOf env c ty → (w : Value) × TestsFor env c ty w
 constraint_tests env (constraint.ConstBool val) ty h = (Truth val, record { place = λ u locals. refl; met = λ v. refl; typed = h })
-constraint_tests env (constraint.ConstInt val of) ty h = (int_value env of val, record { place = λ u locals. typed_number env of ty val u locals h.0 h.1; met = λ v. refl; typed = number_typed env of ty val h.0 h.1 })
+constraint_tests env (constraint.ConstInt val of) ty h = (int_value env of val, record { place = λ u locals. typed_number env of ty val u locals h.0 h.1 h.2; met = λ v. refl; typed = number_typed env of ty val h.0 h.1 })
 constraint_tests env c ty h = absurd h

@@ -30,7 +30,7 @@ use Rattle.isle_core.specs.Terms.{sym_text}
 use Rattle.isle_core.specs.Rule.{Environment}
 use Rattle.isle_core.specs.Setting.{setting}
 use Rattle.isle_core.specs.SingleArms.{HasSingleArms, IsSingle}
-use Rattle.isle_core.proofs.RunEquality.{typed_same, same_typed}
+use Rattle.isle_core.proofs.RunEquality.{typed_same}
 use Rattle.isle_tree.specs.declared.tree.Operand.{Operand}
 use Rattle.isle_tree.specs.Program.{Body, Done, Then}
 use Rattle.isle_tree.specs.Run.{Around, Env, value_of, Flow, Goes, Ends, then_run, behind, run_return, run_stmt, run_body, ended, function_run}
@@ -201,7 +201,7 @@ module _ (env : Environment) (u : Around) (t : Term) (bs : List Binding) (typed 
         let after = after_block env (paths_of bs) made body in
         record {
           runs =
-              rw (v.place, w.1.place u locals, v.held, w.1.met v.v, same_typed env v.v w.0 k.1.0 w.1.typed)
+              rw (v.place, w.1.place u locals, v.held, w.1.met v.v, typed_same env v.v w.0 k.1.0 v.typed w.1.typed)
               (if_back (kind_of t.kind) (same_value v.v w.0) locals (run_body u (block_body env bs (kind_of t.kind) bound body Done) locals (done calls)) (block_run env u.meaning u.args (paths_of bs) body known calls) known calls
               (body_back bound made body locals known calls r));
           goes = if_goes (meets env c _) (block_run env u.meaning u.args (paths_of bs) body known calls) known calls (made ++ (after ++ [])) (on_left made (after ++ []) known known (same_later known made only))

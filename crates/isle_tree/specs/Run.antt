@@ -13,6 +13,8 @@ use Rattle.isle_tree.specs.declared.tree.Read.{Read}
 use Rattle.isle_tree.specs.declared.tree.Read.TheVariants as read
 use Rattle.isle_tree.specs.declared.tree.TCall.{TCall}
 use Rattle.isle_tree.specs.declared.tree.TExpr.{TExpr}
+use Rattle.isle_tree.specs.declared.tree.TPat.{TPat}
+use Rattle.isle_tree.specs.declared.tree.TPat.TheVariants as pattern
 use Rattle.isle_tree.specs.declared.tree.TExpr.TheVariants as expr
 use Rattle.isle_tree.specs.Program.{Stmt, Let, LetList, IfEq, IfLet, Match, Loop, Return, Extend, Overflow, Log, Split, Tail, Body, Done, Then, Function, Program}
 
@@ -99,6 +101,53 @@ on_held (Optional o) go = go (Optional o)
 on_held (Listed is) go = go (Listed is)
 on_held Absent go = Stuck
 
+-- ---- patterns
+
+-- the value that a place holds, where it is one
+abbrev pub value_in : Held → Option Value
+value_in (One (AValue v)) = Some v
+value_in (One (ATuple vs)) = None
+value_in Absent = None
+value_in (Optional o) = None
+value_in (Listed is) = None
+
+-- the value that a constant of a pattern stands for; locals and arguments are no constants, and numbers of primitive types and
+-- names are not built
+abbrev pub constant : Operand → Option Value
+constant (operand.Bool b) = Some (Truth b)
+constant (operand.Int ty z) = Some (Int ty z)
+constant (operand.Raw z) = None
+constant (operand.Name name) = None
+constant (operand.Local n) = None
+constant (operand.Arg n) = None
+
+-- whether both values are there and are equal in a run
+abbrev pub are_same : Option Value → Option Value → Bool
+are_same (Some v) (Some u) = same_in_run v u
+are_same (Some v) None = false
+are_same None u = false
+
+-- Some(..) fits an option of something, and binds what is within it
+abbrev pub fit_some : Option ℕ → Held → Option Env
+fit_some None (Optional (Some i)) = Some []
+fit_some (Some n) (Optional (Some i)) = Some ((n, One i) ∷ [])
+fit_some local (Optional None) = None
+fit_some local Absent = None
+fit_some local (One i) = None
+fit_some local (Listed is) = None
+
+-- what a pattern binds, where it fits what is read; those of variants and structs are not built: they fit nothing
+abbrev pub fit : Around → TPat → Held → Option Env
+fit w (pattern.Const o) h = if are_same (value_in h) (constant o) then Some [] else None
+fit w (pattern.Some local) h = fit_some local h
+fit w (pattern.Variant ty variant binds more) h = None
+fit w (pattern.Struct ty binds more) h = None
+
+-- what follows where a pattern fits, or where it doesn't
+abbrev pub fitted : Option Env → (Env → Flow) → Flow → Flow
+fitted (Some bound) go other = go bound
+fitted None go other = other
+
 -- ---- statements
 
 -- what follows goes on from there
@@ -167,7 +216,7 @@ abbrev pub tail_end : Option (List ℕ × List ℕ) → End
 tail_end None = GivesNone
 tail_end (Some texts) = IsUnreachable
 
--- a statement, and statements in order; lists, patterns, loops, results of several, logs and closures are not built
+-- a statement, and statements in order; lists, several patterns, loops, results of several, logs and closures are not built
 abbrev mutual
   pub run_stmt : Around → Stmt → Env → State → Flow
   run_stmt w (Let n e) env s = run_let w n e env s
@@ -175,7 +224,7 @@ abbrev mutual
   run_stmt w (IfEq a b inside) env s =
       on_value (value_of w env a) (λ v. on_value (value_of w env b) (λ u.
       if same_in_run v u then behind env (run_body w inside env s) else Goes env s))
-  run_stmt w (IfLet pat r inside) env s = Stuck
+  run_stmt w (IfLet pat r inside) env s = fitted (fit w pat (read_value w env r)) (λ bound. behind env (run_body w inside (env ++ bound) s)) (Goes env s)
   run_stmt w (Match r arms) env s = Stuck
   run_stmt w (Loop list item inside) env s = Stuck
   run_stmt w (Return e) env s = run_return w e env s

@@ -8,5 +8,5 @@ use Rattle.isle_interpreter.proofs.fitting.run_fitting.Goals as goal
 pub unreachable-requires : goal.unreachable-requires
 unreachable-requires c =
     let m = meaning c.args.answers.now in
-    let none : None ≡ function_run m (values c.args.args.now) (Some (function c.args.f.now)) = search rules in
+    let none : None ≡ function_run (program c.args.p.now) m (values c.args.args.now) (Some (function c.args.f.now)) = search rules in
     not_none (program c.args.p.now) c.args.term.now (values c.args.args.now) m (function c.args.f.now) c.requires.well_formed c.requires.may none

@@ -1,0 +1,12 @@
+//! What a function runs in.
+
+use isle_core::Value;
+use isle_tree::{Function, Program};
+
+/// The program, the function of it that runs, and its arguments.
+#[derive(Drop)]
+pub struct Around<'a> {
+    pub program: &'a Program,
+    pub function: &'a Function,
+    pub args: &'a [Value],
+}
