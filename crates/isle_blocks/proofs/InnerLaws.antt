@@ -16,7 +16,7 @@ use Rattle.isle_core.specs.StandsFor.{EachOnce}
 use Rattle.isle_core.specs.Ready.{IsReadyCall}
 use Rattle.isle_core.specs.Rule.{Environment}
 use Rattle.isle_blocks.specs.Inners.{source_at, FindsInners}
-use Rattle.isle_blocks.proofs.BindingPaths.{IsThere, contains_at, placed, place_once, inner_path, inner_at}
+use Rattle.isle_core.proofs.BindingPaths.{IsThere, contains_at, placed, place_once, inner_path, inner_at}
 
 -- ---- one binding more
 

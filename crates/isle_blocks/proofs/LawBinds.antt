@@ -19,7 +19,7 @@ use Rattle.isle_core.specs.Ready.{IsReadyCall, AreReadyCalls}
 use Rattle.isle_core.specs.Rule.{Environment}
 use Rattle.isle_blocks.specs.Inners.{FindsInners}
 use Rattle.isle_blocks.specs.Nest.{with_inner, binds}
-use Rattle.isle_blocks.proofs.BindingPaths.{inner_path}
+use Rattle.isle_core.proofs.BindingPaths.{inner_path}
 use Rattle.isle_blocks.proofs.InnerLaws.{HasInner, has_none, has_one, has_inner}
 
 pub goes_on : (w : Went) → then_go w Goes ≡ w

@@ -15,14 +15,15 @@ use Rattle.isle_core.specs.Path.{Path, Arg, ConstBool, ConstInt, Called, Inner, 
 use Rattle.isle_core.specs.Bindable.{IsBindable, IsCallBound, IsInnerBound, AreBindable, bound_by}
 use Rattle.isle_core.specs.ExternalCall.{IsCall}
 use Rattle.isle_core.specs.PathType.{IsPathOf, IsOptionOf, ArePathsOf}
-use Rattle.isle_core.specs.Readable.{IsInPlace, IsReadAs, AreReadAs}
+use Rattle.isle_core.specs.Readable.{IsInPlace, IsReadAs, AreReadAs, IsReadable, is_bound}
 use Rattle.isle_core.specs.StandsFor.{EachOnce}
 use Rattle.isle_core.specs.Ready.{StandsOn, AllStandOn, IsReadyCall, AreReadyCalls}
 use Rattle.isle_core.specs.Rule.{Environment}
 use Rattle.isle_core.specs.Setting.{setting}
 use Rattle.isle_blocks.specs.Inners.{FindsInners}
 use Rattle.isle_blocks.specs.Nest.{with_inner, binds}
-use Rattle.isle_blocks.proofs.BindingPaths.{IsThere, contains_at, place_once, call_at, paths_there}
+use Rattle.isle_core.proofs.ReadablePaths.{place_read}
+use Rattle.isle_core.proofs.BindingPaths.{IsThere, contains_at, place_once, call_at, paths_there}
 use Rattle.isle_blocks.proofs.InnerLaws.{HasInner, has_none, has_one, has_inner}
 
 -- ---- what is bound behind calls
@@ -88,12 +89,12 @@ pub read_as : (env : Environment) (t : Term) (bs : List Binding) (done : List Pa
     → IsPathOf env t (at (paths_of bs) b) ty → StandsOn done (at (paths_of bs) b) → IsReadAs (setting env t bs) bound b ty
 read_as env t bs done bound b ty k h s = record { path = h; read = place (at (paths_of bs) b) refl h s }
   where
-    place : (p : Path) → at (paths_of bs) b ≡ p → IsPathOf env t p ty → StandsOn done p → IsInPlace (at (paths_of bs) b) ⊎ Contains bound b.0
-    place (Arg i) e h' s' = inl (subst IsInPlace (sym e) tt)
-    place (ConstBool of v) e h' s' = inl (subst IsInPlace (sym e) tt)
-    place (ConstInt of n) e h' s' = inl (subst IsInPlace (sym e) tt)
-    place (Called term ps instance) e h' s' = inr (k.call b (subst (Contains done) (sym e) s'))
-    place (Inner p) e h' s' = inr (k.inner b p e (option_stands env t done p ty h' s'))
+    place : (p : Path) → at (paths_of bs) b ≡ p → IsPathOf env t p ty → StandsOn done p → IsReadable (setting env t bs) bound b
+    place (Arg i) e h' s' = place_read (setting env t bs) bound b (subst IsInPlace (sym e) tt)
+    place (ConstBool of v) e h' s' = place_read (setting env t bs) bound b (subst IsInPlace (sym e) tt)
+    place (ConstInt of n) e h' s' = place_read (setting env t bs) bound b (subst IsInPlace (sym e) tt)
+    place (Called term ps instance) e h' s' = is_bound (k.call b (subst (Contains done) (sym e) s'))
+    place (Inner p) e h' s' = is_bound (k.inner b p e (option_stands env t done p ty h' s'))
     place p e h' s' = absurd h'
 
 all_read : (env : Environment) (t : Term) (bs : List Binding) (done : List Path) (bound : List ℕ) → IsBehind (paths_of bs) done bound → (parameters : List BindingId) (tys : List TypeId)

@@ -22,6 +22,7 @@ use Rattle.isle_core.specs.ConstraintType.{IsConstraintOf}
 use Rattle.isle_core.specs.Setting.{Setting, setting}
 use Rattle.isle_core.specs.SingleArms.{HasSingleArms, IsSingle}
 use Rattle.isle_core.specs.Occurrences.{AreNew, occurrences, after_control, after_arms}
+use Rattle.isle_core.proofs.ReadablePaths.{place_read}
 use Rattle.isle_core.proofs.Contained.{none_contained}
 use Rattle.isle_blocks.specs.Order.{by_priority}
 use Rattle.isle_blocks.specs.Inners.{FindsInners}
@@ -65,8 +66,8 @@ equated_lawful : (es : List (BindingId × BindingId)) (last : SeenStep) (env : E
 equated_lawful [] last env t bs more h l stop r = subst (IsLawfulStep env t bs last) (sym (stop refl)) l
 equated_lawful (e ∷ es) last env t bs more h l stop r =
     let one : AreComparable env t (paths_of bs) e = h.0 in
-    let left : IsReadAs (setting env t bs) [] e.0 one.ty = record { path = one.left; read = inl one.left_in_place } in
-    let right : IsReadAs (setting env t bs) [] e.1 one.ty = record { path = one.right; read = inl one.right_in_place } in
+    let left : IsReadAs (setting env t bs) [] e.0 one.ty = record { path = one.left; read = place_read (setting env t bs) [] e.0 one.left_in_place } in
+    let right : IsReadAs (setting env t bs) [] e.1 one.ty = record { path = one.right; read = place_read (setting env t bs) [] e.1 one.right_in_place } in
     let body = equated_lawful es last env t bs Stop h.1 l (λ _. refl) tt in
     record { lawful = (tt, no_new, ((one.ty, left, right), body.lawful), subst (λ ks. IsLawfulFrom (setting env t bs) [] ks more) (sym body.after) r); after = body.after }
 
@@ -76,7 +77,7 @@ matched_lawful : (cs : List (BindingId × Constraint)) (es : List (BindingId × 
 matched_lawful [] es last env t bs more h k l stop r = equated_lawful es last env t bs more k l stop r
 matched_lawful (c ∷ cs) es last env t bs more h k l stop r =
     let one : IsTestable env t (paths_of bs) c = h.0 in
-    let read : IsReadAs (setting env t bs) [] c.0 one.ty = record { path = one.path; read = inl one.in_place } in
+    let read : IsReadAs (setting env t bs) [] c.0 one.ty = record { path = one.path; read = place_read (setting env t bs) [] c.0 one.in_place } in
     let body = matched_lawful cs es last env t bs Stop h.1 k l (λ _. refl) tt in
     let after : after_arms env (paths_of bs) [] (Arm c.1 [] (alone (all_matched cs (all_equated es last))) NoArm) ≡ [] = ap (λ ks. ks ++ []) body.after in
     record {

@@ -1,4 +1,3 @@
-pub mod BindingPaths
 pub mod InnerLaws
 pub mod LawOrder
 pub mod LawFirst

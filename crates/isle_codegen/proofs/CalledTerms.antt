@@ -24,7 +24,7 @@ use Rattle.isle_core.specs.RulePaths.{arg_paths, with_inner, expr_paths, exprs_p
 use Rattle.isle_core.specs.Tests.{Places, no_places, rule_places}
 use Rattle.isle_core.proofs.TurnKinds.{called_here}
 use Rattle.isle_core.proofs.Contained.{head_contained, tail_contained, contained_cases, none_contained}
-use Rattle.isle_blocks.proofs.BindingPaths.{path_before}
+use Rattle.isle_core.proofs.BindingPaths.{path_before}
 use Rattle.isle_core.specs.declared.types.ReturnKind.{ReturnKind}
 use Rattle.isle_core.specs.declared.values.Callee.{Callee}
 use Rattle.isle_core.specs.ExternalCall.{IsCall}

@@ -23,3 +23,5 @@ pub mod ListLaws
 pub mod Entries
 pub mod LawfulExists
 pub mod Inhabited
+pub mod BindingPaths
+pub mod ReadablePaths

@@ -12,7 +12,7 @@ use Rattle.isle_core.specs.ExternalCall.{IsCall}
 use Rattle.isle_core.specs.Path.{Path, Arg, ConstBool, ConstInt, Called, Inner, Paths, NoPath, APath}
 use Rattle.isle_core.specs.Rule.{Environment}
 
--- a path that holds a value of the type, whatever the arguments and the answers are; only arguments, truths, numbers of integer types, calls and inner values are built
+-- a path of which a value of the type stands where the binding of the path is bound or may be read; only arguments, truths, numbers of integer types, calls and inner values are built
 abbrev mutual
   pub IsPathOf : Environment → Term → Path → TypeId → Type 0
   IsPathOf env t (Arg i) ty = slice_get t.arg_tys i ≡ Some ty

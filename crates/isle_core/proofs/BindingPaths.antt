@@ -3,9 +3,9 @@ use Rattle.std.proofs.Common.{rules, ◌≡◌, ℕ, zero, suc, ◌+◌, ◌<◌
 use Rattle.std.specs.Prelude.{slice_get, IsSomeAnd, Contains}
 use Rattle.std.proofs.lemmas.List.{get_or-take}
 use Rattle.std.proofs.lemmas.Option.{slice_get-get_or, get_or_from_slice_get}
-use Rattle.isle_core.specs.declared.BindingId.{BindingId}
-use Rattle.isle_core.specs.declared.TermId.{TermId}
-use Rattle.isle_core.specs.declared.TypeId.{TypeId}
+use Rattle.isle_base.specs.declared.ids.BindingId.{BindingId}
+use Rattle.isle_base.specs.declared.ids.TermId.{TermId}
+use Rattle.isle_base.specs.declared.ids.TypeId.{TypeId}
 use Rattle.isle_core.specs.declared.rule_sets.Binding.{Binding}
 use Rattle.isle_core.specs.declared.rule_sets.Binding.TheVariants as binding
 use Rattle.isle_core.specs.declared.types.Term.{Term}
@@ -125,7 +125,8 @@ over_parts ps n (binding.MakeSome inner) h = ap Wrapped (taken ps n inner.0 h).1
 over_parts ps n (binding.MatchSome source) h = ap Inner (taken ps n source.0 h).1
 over_parts ps n (binding.MatchTuple source field) h = ap (Part field.0) (taken ps n source.0 h).1
 
-at_before : (bs : List Binding) (b : BindingId) (x : Binding) → slice_get bs b.0 ≡ Some x → at (paths_of bs) b ≡ path_over (take b.0 (paths_of bs)) x
+-- the path at a binding's place, over the paths before it
+pub at_before : (bs : List Binding) (b : BindingId) (x : Binding) → slice_get bs b.0 ≡ Some x → at (paths_of bs) b ≡ path_over (take b.0 (paths_of bs)) x
 at_before bs b x e = get_or_from_slice_get (paths_of bs) b.0 (path_over (take b.0 (paths_of bs)) x) Nowhere (path_before bs b.0 x e)
 
 -- ---- laws for the layers above
