@@ -28,6 +28,7 @@ use Rattle.isle_core.specs.Readable.{IsInPlace, IsReadAs, AreReadAs}
 use Rattle.isle_core.specs.Rule.{Environment}
 use Rattle.isle_core.specs.SingleArms.{HasSingleArms, IsSingle}
 use Rattle.isle_core.specs.Setting.{setting}
+use Rattle.isle_core.proofs.ReadablePaths.{read_place}
 use Rattle.isle_tree.specs.declared.tree.Operand.{Operand}
 use Rattle.isle_tree.specs.Program.{Body, Done, Then}
 use Rattle.isle_tree.specs.WellFormed.{IsOperand, IsRead, IsExpr, IsStmt, IsBody}
@@ -68,7 +69,7 @@ operand_is env t bs bound b ty h = one (is_bound bound b) refl
   where
     one : (x : Bool) → is_bound bound b ≡ x → IsOperand (written_operand env bs bound b)
     one true is = rw is tt
-    one false is = rw is (⊎_elim (λ k. in_place_is env t (at (paths_of bs) b) ty h.path k) (λ c. absurd (not_bound bound b c is)) h.read)
+    one false is = rw is (⊎_elim (λ k. in_place_is env t (at (paths_of bs) b) ty h.path k) (λ c. absurd (not_bound bound b c is)) (read_place (setting env t bs) bound b h.read))
 
 reads_are : (env : Environment) (t : Term) (bs : List Binding) (bound : List ℕ) (parameters : List BindingId) (tys : List TypeId) → AreReadAs (setting env t bs) bound parameters tys → AllByRecursion IsRead (reads env bs bound parameters)
 reads_are env t bs bound [] [] h = tt

@@ -30,6 +30,7 @@ use Rattle.isle_core.specs.Readable.{IsInPlace, IsReadAs, AreReadAs}
 use Rattle.isle_core.specs.Rule.{Environment}
 use Rattle.isle_core.specs.SingleArms.{HasSingleArms, IsSingle}
 use Rattle.isle_core.specs.Setting.{setting}
+use Rattle.isle_core.proofs.ReadablePaths.{read_place}
 use Rattle.isle_tree.specs.declared.holds.Holds.{Holds}
 use Rattle.isle_tree.specs.declared.holds.Holds.TheVariants as holds
 use Rattle.isle_tree.specs.declared.holds.Item.TheVariants as item
@@ -103,7 +104,7 @@ operand_one env t bs bound locals b ty l h = one (is_bound bound b) refl
   where
     one : (x : Bool) → is_bound bound b ≡ x → operand_holds (length t.arg_tys) locals (written_operand env bs bound b) ≡ Some (holds.One item.Value)
     one true is = rw is ((l.by b is).value ty h.path)
-    one false is = rw is (⊎_elim (λ k. in_place_holds env t (at (paths_of bs) b) ty locals h.path k) (λ c. absurd (not_bound bound b c is)) h.read)
+    one false is = rw is (⊎_elim (λ k. in_place_holds env t (at (paths_of bs) b) ty locals h.path k) (λ c. absurd (not_bound bound b c is)) (read_place (setting env t bs) bound b h.read))
 
 is_one : (o : Option Holds) → o ≡ Some (holds.One item.Value) → IsTrue (is_value o)
 is_one o e = subst (λ x. IsTrue (is_value x)) (sym e) refl

@@ -18,6 +18,7 @@ use Rattle.isle_core.specs.Readable.{IsReadAs, AreReadAs}
 use Rattle.isle_core.specs.Rule.{Environment}
 use Rattle.isle_core.specs.Setting.{setting}
 use Rattle.isle_core.proofs.TurnKinds.{IsHeldOf}
+use Rattle.isle_core.proofs.ReadablePaths.{read_place}
 use Rattle.isle_tree.specs.Run.{Around, Env, newer, look, bind, value_of, read_values}
 use Rattle.isle_simulation.proofs.Written.{reads, written_operand}
 use Rattle.isle_simulation.specs.Operands.{is_bound}
@@ -101,7 +102,7 @@ operand_reads env u t bs bound known locals b ty h a r = one (is_bound bound b) 
     one false is =
         ⊎_elim
         (λ in_place. let k = path_reads env u t (at (paths_of bs) b) ty h r.path in_place in record { v = k.0; place = rw is (k.1.place locals); held = k.1.held known; typed = k.1.typed })
-        (λ c. absurd (not_bound bound b.0 c is)) r.read
+        (λ c. absurd (not_bound bound b.0 c is)) (read_place (setting env t bs) bound b r.read)
 
 -- the values that operands stand for, in order
 pub record ReadAll (env : Environment) (u : Around) (bs : List Binding) (bound : List ℕ) (known : Known) (locals : Env) (parameters : List BindingId) : Type 0 where

@@ -31,6 +31,7 @@ use Rattle.isle_core.specs.Rule.{Environment}
 use Rattle.isle_core.specs.Setting.{setting}
 use Rattle.isle_core.specs.SingleArms.{HasSingleArms, IsSingle}
 use Rattle.isle_core.specs.Terms.{sym_text}
+use Rattle.isle_core.proofs.ReadablePaths.{read_place}
 use Rattle.isle_tree.specs.declared.tree.Operand.{Operand}
 use Rattle.isle_tree.specs.Program.{Stmt, IfEq, Return, Body, Done, Then}
 use Rattle.isle_simulation.specs.Operands.{constant, in_place, tested, is_bound, operand_of}
@@ -77,7 +78,7 @@ operand_written env t bs bound b ty h = one (is_bound bound b) refl
   where
     one : (x : Bool) → is_bound bound b ≡ x → operand_of env bs bound b ≡ Some (written_operand env bs bound b)
     one true is = rw is refl
-    one false is = rw is (⊎_elim (λ k. place_written env t (at (paths_of bs) b) ty h.path k) (λ c. absurd (not_bound bound b c is)) h.read)
+    one false is = rw is (⊎_elim (λ k. place_written env t (at (paths_of bs) b) ty h.path k) (λ c. absurd (not_bound bound b c is)) (read_place (setting env t bs) bound b h.read))
 
 -- ---- what bound locals compute
 
