@@ -1,5 +1,5 @@
 -- The functions of an environment mean its rules.
-use Rattle.std.proofs.Common.{◌≡◌, ℕ, suc, List, [], ◌∷◌, length, map, Bool, true, false, cond, Option, Some, None, refl, sym, ap, ◌∙◌, subst, ⊎_elim}
+use Rattle.std.proofs.Common.{◌≡◌, ℕ, suc, List, [], ◌∷◌, length, map, Bool, true, false, cond, Option, Some, refl, sym, ap, ◌∙◌, subst, ⊎_elim}
 use Rattle.std.specs.Prelude.{Contains, All, IsSomeAnd, filter, option_map, slice_get, ◌==◌}
 use Rattle.std.proofs.lemmas.List.Elements.{All-from_recursion, recursion_from_All}
 use Rattle.std.proofs.lemmas.Slice.Eq.{bytes_eq-Decides}
@@ -40,11 +40,9 @@ use Rattle.isle_tree.specs.Program.{Function, Program}
 use Rattle.isle_tree.specs.Run.{run, function_of}
 use Rattle.isle_codegen.specs.Emits.{IsEmitted, AreEmitted}
 use Rattle.isle_simulation.specs.Emitted.{ran_of, ran_with}
-use Rattle.isle_simulation.specs.Ends.{end_of}
 use Rattle.isle_codegen.specs.Headline.{GivesAs, GivesOutcome, MeansRules}
 use Rattle.isle_simulation.proofs.GivenFunctions.{runs_as_block}
 use Rattle.isle_simulation.proofs.Simulation.{ends_as}
-use Rattle.isle_simulation.proofs.Written.{end_of as written_end}
 use Rattle.isle_codegen.proofs.CalledTerms.{bindings_answered}
 use Rattle.isle_codegen.proofs.EmittedNames.{name_of_term, emitted_name}
 
@@ -117,14 +115,9 @@ as_many env (v ∷ args) [] h = absurd h
 
 -- what a run with the outcome gives
 gives_as : (env : Environment) (t : Term) (o : Prescription) → AnswersOnce (kind_of t.kind) → AreImpure env o.calls → IsSomeAnd (ran_of t o) (GivesAs env (kind_of t.kind) o)
-gives_as env t o once h = by (kind_of t.kind) once
-  where
-    by : (kind : ReturnKind) → AnswersOnce kind → IsSomeAnd (option_map (ran_with o.calls) (end_of kind o.result)) (GivesAs env kind o)
-    by kind once = one (end_of kind o.result) refl (ends_as kind once o.result)
-      where
-        one : (e : Option End) → end_of kind o.result ≡ e → end_of kind o.result ≡ Some (written_end kind o.result) → IsSomeAnd (option_map (ran_with o.calls) e) (GivesAs env kind o)
-        one None is some = absurd (let bad : None ≡ Some (written_end kind o.result) = sym is ∙ some in cc)
-        one (Some end) is some = record { end = is; calls = all_kept env o.calls h }
+gives_as env t o once h =
+    let ends = ends_as (kind_of t.kind) once o.result in
+    subst (λ (e : Option End). IsSomeAnd (option_map (ran_with o.calls) e) (GivesAs env (kind_of t.kind) o)) (sym ends) (record { end = ends; calls = all_kept env o.calls h })
 
 pick_all : (P : Rule → Type 0) (r : Rule) (rs : List Rule) (b : Bool) → P r → AllByRecursion P rs → AllByRecursion P (cond b (r ∷ rs) rs)
 pick_all P r rs true h k = (h, k)

@@ -35,11 +35,23 @@ ran_with calls end = record { end = end; calls = calls }
 abbrev pub ran_of : Term → Prescription → Option Ran
 ran_of t o = option_map (ran_with o.calls) (end_of (kind_of t.kind) o.result)
 
--- the meaning answers each call among the bindings with its kind and its type
+-- the meaning answers each call among the bindings with its kind and its type; calls of extractors are not built
 abbrev pub AnswersBindings : Environment → Meaning → List Binding → Type 0
 AnswersBindings env m [] = Unit {0}
 AnswersBindings env m (binding.Constructor term parameters instance ∷ bs) = AnswersFit env m term × AnswersBindings env m bs
-AnswersBindings env m (b ∷ bs) = AnswersBindings env m bs
+AnswersBindings env m (binding.ConstBool val ty ∷ bs) = AnswersBindings env m bs
+AnswersBindings env m (binding.ConstInt val ty ∷ bs) = AnswersBindings env m bs
+AnswersBindings env m (binding.ConstPrim val ∷ bs) = AnswersBindings env m bs
+AnswersBindings env m (binding.Argument index ∷ bs) = AnswersBindings env m bs
+AnswersBindings env m (binding.Extractor term parameter ∷ bs) = AnswersBindings env m bs
+AnswersBindings env m (binding.Iterator source ∷ bs) = AnswersBindings env m bs
+AnswersBindings env m (binding.MakeVariant ty variant fields ∷ bs) = AnswersBindings env m bs
+AnswersBindings env m (binding.MakeStruct ty fields ∷ bs) = AnswersBindings env m bs
+AnswersBindings env m (binding.MatchVariant source variant field ∷ bs) = AnswersBindings env m bs
+AnswersBindings env m (binding.ExtractStruct source field ∷ bs) = AnswersBindings env m bs
+AnswersBindings env m (binding.MakeSome inner ∷ bs) = AnswersBindings env m bs
+AnswersBindings env m (binding.MatchSome source ∷ bs) = AnswersBindings env m bs
+AnswersBindings env m (binding.MatchTuple source field ∷ bs) = AnswersBindings env m bs
 
 -- in every program in which the term's function is this, its run on well-typed arguments is the block's, under every
 -- meaning that answers its calls
