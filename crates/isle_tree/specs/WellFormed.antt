@@ -240,8 +240,8 @@ IsReturned (expr.Some r) = Unit {0}
 IsReturned (expr.Try source as_ref) = ⊥
 IsReturned (expr.Tuple o n) = ⊥
 
--- a statement inside a function, or inside a closure of one, and statements in order: no tail is among them. Not built are lists of answers,
--- patterns, loops, logging; and what asks where it stands: stopping at a full list, and a closure
+-- a statement inside a function, or inside a closure of one, and statements in order: no tail is among them; lists of answers, patterns,
+-- loops and logging are not built
 abbrev mutual
   pub FitsStmt : ReturnKind → (closed : Bool) → Stmt → Type 0
   FitsStmt kind closed (Let n e) = FitsLet kind e
@@ -254,7 +254,9 @@ abbrev mutual
   FitsStmt kind closed (Loop list each inside) = ⊥
   FitsStmt kind closed (Extend read) = ⊥
   FitsStmt kind closed (Log term place) = ⊥
+  -- stopping at a full list, whose return says true exactly inside a closure, is not built
   FitsStmt kind closed (Overflow within) = ⊥
+  -- a closure, behind which a return says true exactly inside another one, is not built
   FitsStmt kind closed (Split inside within) = ⊥
 
   pub FitsBody : ReturnKind → (closed : Bool) → Body → Type 0
