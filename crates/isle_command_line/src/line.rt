@@ -26,7 +26,7 @@ pub fn command(alloc: Global, words: &[String]) -> Result<Command, LineFail>
     }
 }
 
-/// What is known behind all words.
+// What is known behind all words.
 fn known(alloc: Global, words: &[String]) -> Result<State, LineFail>
     ensures known { IfOk result (λ s. read Begin (bytes_each words.now) ≡ Some (seen_state s)) }
     ensures bad { (i : ℕ) → result ≡ Err (Bad i) → StopsAt (bytes_each words.now) i }
@@ -43,7 +43,7 @@ fn known(alloc: Global, words: &[String]) -> Result<State, LineFail>
     Ok(state)
 }
 
-/// What the words ask for behind which this is known.
+// What the words ask for behind which this is known.
 fn asked(alloc: Global, state: State) -> Result<Command, LineFail>
     ensures asks { IfOk result (λ c. asks (seen_state state) ≡ Some (seen_command c)) }
     ensures missing { result ≡ Err Missing → asks (seen_state state) ≡ None }
@@ -73,7 +73,7 @@ fn asked(alloc: Global, state: State) -> Result<Command, LineFail>
     }
 }
 
-/// What no words ask for.
+// What no words ask for.
 fn stored(alloc: Global) -> Result<Command, LineFail>
     ensures asks { IfOk result (λ c. asks Begin ≡ Some (seen_command c)) }
     ensures memory { IfErr result (λ e. e ≡ Memory) }

@@ -122,7 +122,7 @@ pub fn next(alloc: Global, state: State, word: &str) -> Result<State, WordFail>
     }
 }
 
-/// What is known behind the first word.
+// What is known behind the first word.
 fn begun(alloc: Global, word: FirstWord) -> Result<State, WordFail>
     ensures next { IfOk result (λ s. begun word ≡ Some (seen_state s)) }
     ensures bad { result ≡ Err Bad → begun word ≡ None }
@@ -140,7 +140,7 @@ fn begun(alloc: Global, word: FirstWord) -> Result<State, WordFail>
     }
 }
 
-/// What is known behind the kind of a prelude.
+// What is known behind the kind of a prelude.
 fn asked(kind: Option<Kind>) -> Result<State, WordFail>
     ensures next { IfOk result (λ s. asked kind ≡ Some (seen_state s)) }
     ensures bad { result ≡ Err Bad → asked kind ≡ None }
@@ -151,7 +151,7 @@ fn asked(kind: Option<Kind>) -> Result<State, WordFail>
     }
 }
 
-/// What is known behind a target.
+// What is known behind a target.
 fn target(alloc: Global, word: &str) -> Result<State, WordFail>
     ensures next { IfOk result (λ s. next known.Target word.now ≡ Some (seen_state s)) }
     ensures bad { result ≡ Err Bad → next known.Target word.now ≡ None }

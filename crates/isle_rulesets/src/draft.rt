@@ -20,7 +20,7 @@ pub struct Draft {
 }
 
 impl Draft {
-    /// No test and no variable.
+    // No test and no variable.
     fn new(alloc: Global) -> Draft
         ensures { (ps : List Path) → Draws ps no_places [] result }
     {
@@ -32,7 +32,7 @@ impl Draft {
     }
 }
 
-/// A variable: its first occurrence binds, a later one tests equality.
+// A variable: its first occurrence binds, a later one tests equality.
 fn meet(draft: &mut Draft, var: VarId, argument: BindingId) -> Result<(), AllocError>
     ensures { OnOk result ((ps : List Path) (places : Places) (ts : List Test) → Draws ps places ts draft.old
         → Draws ps (met_after (places var.0) var.0 (at ps argument) places) (ts ++ met_tests (places var.0) (at ps argument)) draft.new) }
@@ -46,7 +46,7 @@ fn meet(draft: &mut Draft, var: VarId, argument: BindingId) -> Result<(), AllocE
     Ok(())
 }
 
-/// The tests of a pattern on an argument.
+// The tests of a pattern on an argument.
 fn number_pattern(
     draft: &mut Draft,
     pattern: &Pattern,
@@ -74,7 +74,8 @@ fn number_pattern(
     Ok(())
 }
 
-/// The tests of patterns on as many arguments.
+/// Numbers the arguments of patterns, and gathers the tests that they put (`isle_core/specs/Tests.antt`). The only error is
+/// want of memory.
 pub fn number_arguments(
     alloc: Global,
     numbering: &mut Numbering,

@@ -12,7 +12,7 @@ use crate::right_side::{Scope, number_expr};
 use isle_core::{FlatRule, List, Rule, RuleSet, Term};
 use std::alloc::{AllocError, Global};
 
-/// A rule as tests of bindings.
+// A rule as tests of bindings.
 fn flat_rule(
     alloc: Global,
     terms: &[Term],
@@ -47,7 +47,7 @@ fn flat_rule(
     })
 }
 
-/// The rule set that stands for rules of one term.
+/// Makes the rule set that stands for rules of one term (`isle_core/specs/StandsFor.antt`). The only error is want of memory.
 pub fn rule_set(alloc: Global, terms: &[Term], rules: &[&Rule]) -> Result<RuleSet, AllocError>
     requires built { All IsBuiltRule (seen_all rules.now) }
     requires bound { All IsScopedRule (seen_all rules.now) }

@@ -21,7 +21,7 @@ pub struct Scope<'a> {
     pub variables: &'a BTreeMap<usize, BindingId>,
 }
 
-/// Whether the single answer of the term may be nothing.
+// Whether the single answer of the term may be nothing.
 fn is_partial(kind: &TermKind) -> bool
     ensures { result ≡ may_be_nothing (kind_of kind.now) }
 {
@@ -36,7 +36,7 @@ fn is_partial(kind: &TermKind) -> bool
     }
 }
 
-/// The number of the value of a call on numbered arguments.
+// The number of the value of a call on numbered arguments.
 fn number_call(
     scope: &Scope,
     numbering: &mut Numbering,
@@ -54,7 +54,8 @@ fn number_call(
     Ok(call.value)
 }
 
-/// The number of an expression's value; its calls join those before, each behind its arguments.
+/// Numbers an expression, and returns the number of its value; its calls join those before, each behind its arguments. The
+/// only error is want of memory.
 #[cycle(right_side)]
 pub fn number_expr(
     alloc: Global,
@@ -80,7 +81,7 @@ pub fn number_expr(
     }
 }
 
-/// The numbers of the values of expressions, from left to right.
+// The numbers of the values of expressions, from left to right.
 #[cycle(right_side)]
 fn number_exprs(
     alloc: Global,

@@ -1,7 +1,7 @@
 pub mod FoundTerms
 pub mod Means
 pub mod ImpureCalls
-pub mod Halting
+pub mod RunRefusals
 pub mod Refusing
 pub mod GivesLines
 pub mod ImpureSteps

@@ -14,14 +14,11 @@ use Rattle.isle_codegen.specs.Source.{InLanguage}
 use Rattle.isle_command_line.specs.Asked.{Asked, Help, Version, Compile, Build, Prelude, Units, Isa, Run}
 use Rattle.isle_command_line.specs.Lines.{no_options}
 use Rattle.isle_run.specs.Valid.{CanRun}
-use Rattle.isle_run.specs.declared.halt.Halt.{Halt}
-use Rattle.isle_run.specs.declared.trial_error.TrialError.{TrialError}
-use Rattle.isle_run.specs.declared.trial_error.TrialError.TheVariants as trial
+use Rattle.isle_run.specs.declared.refusal.Refusal.{Refusal}
+use Rattle.isle_run.specs.declared.refusal.Refusal.TheVariants as refusal
 use Rattle.isle_run.proofs.Complete.{only_memory}
-use Rattle.isle_top.specs.declared.refusal.Refusal.{Refusal}
-use Rattle.isle_top.specs.declared.refusal.Refusal.TheVariants as refusal
 use Rattle.isle_top.specs.Asking.{IsBuilt, IsOne, inputs_of, answers_names, source_name}
-use Rattle.isle_top.specs.Causes.{GivesNoLines, IsNotOfIt, HasCause}
+use Rattle.isle_top.specs.Causes.{GivesNoLines, IsNotOfIt, IsNotRun, HasCause}
 use Rattle.isle_top.specs.Valid.{IsValid, AreValid, IsValidRun, IsValidLine, AreAnswers, one_file}
 
 -- ---- inputs
@@ -106,7 +103,7 @@ valid_files fs (name ∷ []) v h = valid_file fs name v h
 valid_files fs (name ∷ other ∷ names) v h = v
 
 -- the source and the answers of a run
-has_lines : (fs : Files) (name term : List ℕ) (vs : Writtens) (answers : Option (List ℕ)) (e : TrialError) → IsValidRun fs name term vs answers → GivesNoLines name term vs answers (Some fs) e → e ≡ trial.Memory
+has_lines : (fs : Files) (name term : List ℕ) (vs : Writtens) (answers : Option (List ℕ)) (e : Refusal) → IsValidRun fs name term vs answers → GivesNoLines name term vs answers (Some fs) e → e ≡ refusal.Memory
 has_lines fs name term vs answers e v h =
     let source : v.source ≡ h.source = one_text (bytes_of fs name) v.source h.source v.there h.read.0.0 in
     let given : v.given ≡ h.given = one_answers fs answers v.given h.given v.answered h.read.1 in
@@ -138,24 +135,28 @@ valid_inputs (Build options unit) fs v h = v
 valid_inputs (Prelude kind) fs v h = v
 valid_inputs Units fs v h = v
 valid_inputs (Isa target) fs v h = v
-valid_inputs (Run trace options from term vs answers) fs v h = let e : trial.NotYet ≡ trial.Memory = has_lines fs (source_name from) term vs answers trial.NotYet v.1 h in absurd cc
+valid_inputs (Run trace options from term vs answers) fs v h = let e : refusal.NotYet ≡ refusal.Memory = has_lines fs (source_name from) term vs answers refusal.NotYet v.1 h in absurd cc
 
-not_halted : (asked : Asked) (fs : Files) (halt : Halt) (before after : Counts) → IsValidLine asked fs → HasCause (refusal.Halted halt) asked (Some fs) before after → ⊥
-not_halted Help fs halt before after v h = h
-not_halted Version fs halt before after v h = h
-not_halted (Compile options names) fs halt before after v h = h
-not_halted (Build options unit) fs halt before after v h = v
-not_halted (Prelude kind) fs halt before after v h = v
-not_halted Units fs halt before after v h = v
-not_halted (Isa target) fs halt before after v h = v
-not_halted (Run trace options from term vs answers) fs halt before after v h = let e : trial.Halted halt ≡ trial.Memory = has_lines fs (source_name from) term vs answers (trial.Halted halt) v.1 h.1 in absurd cc
+-- a valid run has lines, or memory is wanting
+not_run : (asked : Asked) (fs : Files) (e : Refusal) → IsValidLine asked fs → IsNotRun asked (Some fs) e → e ≡ refusal.Memory
+not_run Help fs e v h = absurd h
+not_run Version fs e v h = absurd h
+not_run (Compile options names) fs e v h = absurd h
+not_run (Build options unit) fs e v h = absurd h
+not_run (Prelude kind) fs e v h = absurd h
+not_run Units fs e v h = absurd h
+not_run (Isa target) fs e v h = absurd h
+not_run (Run trace options from term vs answers) fs e v h = has_lines fs (source_name from) term vs answers e v.1 h.1
 
 -- the only cause is want of memory
 only_memory_wants : (asked : Asked) (e : Refusal) (fs : Files) (before after : Counts) → IsValidLine asked fs → HasCause e asked (Some fs) before after → (Rose before.faults after.faults → ⊥) → e ≡ refusal.Memory
 only_memory_wants asked refusal.Memory fs before after v h calm = refl
 only_memory_wants asked refusal.NotYet fs before after v h calm = absurd (⊎_elim (λ never. never (built_line asked fs v)) (λ bad. valid_inputs asked fs v bad) h)
 only_memory_wants asked (refusal.Unread index why) fs before after v h calm = absurd (all_read asked fs index why before after v h.1 calm)
-only_memory_wants asked (refusal.Halted halt) fs before after v h calm = absurd (not_halted asked fs halt before after v h)
+only_memory_wants asked refusal.NoTerm fs before after v h calm = not_run asked fs refusal.NoTerm v h
+only_memory_wants asked refusal.ArgCount fs before after v h calm = not_run asked fs refusal.ArgCount v h
+only_memory_wants asked (refusal.ArgType i) fs before after v h calm = not_run asked fs (refusal.ArgType i) v h
+only_memory_wants asked (refusal.BadAnswers at) fs before after v h calm = not_run asked fs (refusal.BadAnswers at) v h
 
 -- so a valid line is answered, unless memory is wanting
 pub answered_unless : {T : Type 0} (asked : Asked) (r : Result T Refusal) (files : Option Files) (before after : Counts) → IfErr r (λ e. HasCause e asked files before after) → IsSomeAnd files (IsValidLine asked)

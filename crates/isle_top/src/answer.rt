@@ -13,9 +13,9 @@ use crate::about::{help, version};
 use crate::built::is_built;
 use crate::compiled::compiled;
 use crate::ran::ran;
-use crate::refusal::Refusal;
 use isle_command_line::{Command, Source};
 use isle_core::{Dir, Text};
+use isle_run::Refusal;
 use std::alloc::Global;
 
 /// Answers a line. Where it is valid and no call of the directory fails, the only refusal is want of memory.

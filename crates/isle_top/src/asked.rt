@@ -26,7 +26,7 @@ fn run_input<'c>(source: &'c Source, answers: &'c Option<Text>, index: usize) ->
     }
 }
 
-/// The name of the input of this number.
+/// Returns the name of the line's input of this number, or an empty one where there is none (`specs/Asking.antt`).
 pub fn input_name(asked: &Command, index: usize) -> &str
     ensures { (name : List ℕ) → slice_get (inputs_of (seen_command asked.now)) index ≡ Some name → result.now ≡ name }
 {
@@ -49,7 +49,7 @@ pub fn input_name(asked: &Command, index: usize) -> &str
     }
 }
 
-/// The term that is run.
+/// Returns the name of the term that is run, or an empty one where none is (`specs/Asking.antt`).
 pub fn term_of(asked: &Command) -> &str
     ensures { result.now ≡ term_of (seen_command asked.now) }
 {

@@ -43,7 +43,7 @@ fn are_plain(values: &[Written]) -> bool
     true
 }
 
-/// Whether a line is built: one file is compiled, or a term of it run, with no option.
+/// Tells whether a line is built: one file is compiled, or a term of it run, with no option (`specs/Asking.antt`).
 pub fn is_built(command: &Command) -> bool
     ensures { IsTrue result ↔ IsBuilt (seen_command command.now) }
 {

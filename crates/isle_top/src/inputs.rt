@@ -67,8 +67,8 @@ fn one_file(alloc: Global, name: &str, text: Text) -> Result<Files, OutOfMemory>
     })
 }
 
-/// The inputs of these names, the source first; without a file of answers their text is empty. The first that is not
-/// read is told by its number: 0 is the source, 1 the file of answers.
+/// Reads the source, and then the file of answers; without such a file their text is empty. The first that is not read is
+/// told by its number: 0 is the source, 1 the file of answers (`specs/Inputs.antt`).
 pub fn read_inputs<D: Dir>(
     alloc: Global,
     source: &str,

@@ -9,7 +9,8 @@ mod compiled;
 mod inputs;
 mod lines;
 mod ran;
-mod refusal;
 mod run;
+mod status;
 
-pub use run::{Exit, run_words};
+pub use run::run_words;
+pub use status::Exit;
