@@ -39,7 +39,7 @@ use Rattle.isle_run.specs.NoLines as no_lines
 use Rattle.isle_run.specs.NoLines.{IsRunRefused, IsSourceRefused, HasNoLines}
 use Rattle.isle_run.specs.Trial.{args_given}
 use Rattle.isle_run.specs.Valid.{CanRun}
-use Rattle.isle_run.proofs.AskedTerms.{HasFunction, asked_function}
+use Rattle.isle_run.proofs.RequestedTerms.{HasFunction, requested_function}
 use Rattle.isle_run.proofs.NamedTypes.{are_named}
 use Rattle.isle_run.proofs.RightForms.{all_right, answered_back}
 
@@ -87,7 +87,7 @@ module _ (options : CodegenOptions) (files : Files) (term : List ℕ) (ws : Writ
   args = args_given c.env term ws
 
   abbrev the_function : HasFunction files c.env term p.fns c.id
-  the_function = asked_function files c.env term (with_rules c.env) p.fns c.id conforms.functions.declared conforms.functions.blocks c.asked
+  the_function = requested_function files c.env term (with_rules c.env) p.fns c.id conforms.functions.declared conforms.functions.blocks c.requested
 
   some_same : (a b : Term) → Some a ≡ Some b → a ≡ b
   some_same a b e = cc

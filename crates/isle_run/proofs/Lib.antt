@@ -5,7 +5,7 @@ pub mod RunRefusals
 pub mod Refusing
 pub mod GivesLines
 pub mod ImpureSteps
-pub mod AskedTerms
+pub mod RequestedTerms
 pub mod NamedTypes
 pub mod ServedCallees
 pub mod RightForms

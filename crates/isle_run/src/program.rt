@@ -20,7 +20,7 @@ use crate::shown::lines_of;
 use crate::refusal::Refusal;
 use isle_codegen::Checked;
 use isle_core::{OutOfMemory, Value};
-use isle_run_inputs::{asked_term, values_at};
+use isle_run_inputs::{requested_term, values_at};
 use isle_tree::Program;
 use isle_values::Written;
 use std::alloc::Global;
@@ -36,7 +36,7 @@ fn args_given(
     ensures { IfOk result (λ args. values args.items ≡ args_given (environment checked.now.typeenv checked.now.termenv) term.now (seen given.now)) }
 {
     let typeenv = &checked.typeenv;
-    let tys = match asked_term(typeenv, &checked.termenv, checked.terms.as_slice(), term) {
+    let tys = match requested_term(typeenv, &checked.termenv, checked.terms.as_slice(), term) {
         Some(id) => match checked.termenv.terms.as_slice().get(id.index()) {
             Some(term) => term.arg_tys.as_slice(),
             None => &[],

@@ -1,11 +1,11 @@
 -- The statuses that a run ends with, and what each says.
 use Rattle.std.specs.Prelude.{ℕ, ◌<◌, List, length, Option, IsSomeAnd, slice_get}
 use Rattle.isle_outside.specs.Directory.{Files, Counts}
-use Rattle.isle_command_line.specs.Asked.{Asked}
+use Rattle.isle_command_line.specs.Request.{Request}
 use Rattle.isle_command_line.specs.Lines.{IsBad, IsMissing}
 use Rattle.isle_run.specs.declared.refusal.Refusal.{Refusal}
 use Rattle.isle_run.specs.declared.refusal.Refusal.TheVariants as refusal
-use Rattle.isle_top.specs.Asking.{inputs_of, term_of}
+use Rattle.isle_top.specs.Requests.{inputs_of, term_of}
 use Rattle.isle_top.specs.Lines.{bad_word_line, missing_word_line, not_yet_line, unread_line, no_term_line, count_line, argument_line, answers_line, write_fault_line, memory_line}
 use Rattle.isle_top.specs.Causes.{HasCause}
 
@@ -20,24 +20,24 @@ status_of (refusal.BadAnswers at) = 13
 status_of refusal.Memory = 12
 
 -- an input that is not read is one of the line
-abbrev pub IsOfLine : Asked → Refusal → Type 0
-IsOfLine asked refusal.NotYet = Unit {0}
-IsOfLine asked (refusal.Unread index why) = index < length (inputs_of asked)
-IsOfLine asked refusal.NoTerm = Unit {0}
-IsOfLine asked refusal.ArgCount = Unit {0}
-IsOfLine asked (refusal.ArgType i) = Unit {0}
-IsOfLine asked (refusal.BadAnswers at) = Unit {0}
-IsOfLine asked refusal.Memory = Unit {0}
+abbrev pub IsOfLine : Request → Refusal → Type 0
+IsOfLine request refusal.NotYet = Unit {0}
+IsOfLine request (refusal.Unread index why) = index < length (inputs_of request)
+IsOfLine request refusal.NoTerm = Unit {0}
+IsOfLine request refusal.ArgCount = Unit {0}
+IsOfLine request (refusal.ArgType i) = Unit {0}
+IsOfLine request (refusal.BadAnswers at) = Unit {0}
+IsOfLine request refusal.Memory = Unit {0}
 
 -- the line of a refusal was written, with the name of the input or of the term
-abbrev pub Tells : Asked → (wrote : List ℕ → Type 0) → Refusal → Type 0
-Tells asked wrote refusal.NotYet = wrote not_yet_line
-Tells asked wrote (refusal.Unread index why) = IsSomeAnd (slice_get (inputs_of asked) index) (λ name. wrote (unread_line name why))
-Tells asked wrote refusal.NoTerm = wrote (no_term_line (term_of asked))
-Tells asked wrote refusal.ArgCount = wrote count_line
-Tells asked wrote (refusal.ArgType i) = wrote (argument_line i)
-Tells asked wrote (refusal.BadAnswers at) = wrote (answers_line at)
-Tells asked wrote refusal.Memory = wrote memory_line
+abbrev pub Tells : Request → (wrote : List ℕ → Type 0) → Refusal → Type 0
+Tells request wrote refusal.NotYet = wrote not_yet_line
+Tells request wrote (refusal.Unread index why) = IsSomeAnd (slice_get (inputs_of request) index) (λ name. wrote (unread_line name why))
+Tells request wrote refusal.NoTerm = wrote (no_term_line (term_of request))
+Tells request wrote refusal.ArgCount = wrote count_line
+Tells request wrote (refusal.ArgType i) = wrote (argument_line i)
+Tells request wrote (refusal.BadAnswers at) = wrote (answers_line at)
+Tells request wrote refusal.Memory = wrote memory_line
 
 -- the first word with which no line continues was written, or that one is missing
 pub data IsNoLine (words : List (List ℕ)) (wrote : List ℕ → Type 0) : Type 0 where
@@ -46,9 +46,9 @@ pub data IsNoLine (words : List (List ℕ)) (wrote : List ℕ → Type 0) : Type
 
 -- what a status says: the text was written, and nothing else; the words are no line; the line that is asked for is
 -- refused, for a cause; the output failed; memory ran out. All but the first write their line
-pub data Says (asks : Asked → Type 0) (none : Type 0) (files : Option Files) (before after : Counts) (quiet : Type 0) (wrote : List ℕ → Type 0) : ℕ → Type 0 where
+pub data Says (asks : Request → Type 0) (none : Type 0) (files : Option Files) (before after : Counts) (quiet : Type 0) (wrote : List ℕ → Type 0) : ℕ → Type 0 where
   done : quiet → Says asks none files before after quiet wrote 0
   no_line : none → Says asks none files before after quiet wrote 2
-  refused : (asked : Asked) (e : Refusal) → asks asked → HasCause e asked files before after → Tells asked wrote e → Says asks none files before after quiet wrote (status_of e)
+  refused : (request : Request) (e : Refusal) → asks request → HasCause e request files before after → Tells request wrote e → Says asks none files before after quiet wrote (status_of e)
   write_fault : wrote write_fault_line → Says asks none files before after quiet wrote 11
   no_memory : wrote memory_line → Says asks none files before after quiet wrote 12

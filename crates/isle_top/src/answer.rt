@@ -5,7 +5,7 @@ ghost use Rattle.std.specs.Option.{option_copied};
 ghost use Rattle.std.specs.String.{string_bytes};
 ghost use Rattle.isle_outside.specs.Directory.{Rose};
 ghost use Rattle.isle_command_line.specs.Views.{seen_command};
-ghost use Rattle.isle_top.specs.Asking.{IsBuilt, inputs_of};
+ghost use Rattle.isle_top.specs.Requests.{IsBuilt, inputs_of};
 ghost use Rattle.isle_top.specs.Valid.{Answers, IsAnswer, IsValidLine};
 ghost use Rattle.isle_top.specs.Causes.{HasCause};
 

@@ -2,7 +2,7 @@
 
 ghost use Rattle.std.specs.Prelude.{◌≡◌, ◌≤◌, [], ◌∷◌, IfOk, IfErr, ◌+◌, ◌*◌, ◌^◌, length, ◌-◌};
 ghost use Rattle.std.specs.String.{string_bytes};
-ghost use Rattle.isle_command_line.specs.Asked.{Compile};
+ghost use Rattle.isle_command_line.specs.Request.{Compile};
 ghost use Rattle.isle_command_line.specs.Lines.{no_options};
 ghost use Rattle.isle_top.specs.Valid.{IsProgramOf};
 ghost use Rattle.isle_top.specs.Causes.{HasCause};

@@ -5,7 +5,7 @@ ghost use Rattle.std.specs.Option.{option_copied};
 ghost use Rattle.isle_outside.specs.Directory.{bytes_of, raised};
 ghost use Rattle.isle_outside.specs.Reading.{IsText};
 ghost use Rattle.isle_core.specs.Inputs.{Fails};
-ghost use Rattle.isle_top.specs.Asking.{answers_names};
+ghost use Rattle.isle_top.specs.Requests.{answers_names};
 ghost use Rattle.isle_top.specs.Valid.{AreAnswers, one_file};
 ghost use Rattle.isle_top.specs.Inputs.{AreInputs, FailsTo, IsOf};
 

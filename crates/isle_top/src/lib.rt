@@ -3,12 +3,12 @@
 
 mod about;
 mod answer;
-mod asked;
 mod built;
 mod compiled;
 mod inputs;
 mod lines;
 mod ran;
+mod request;
 mod run;
 mod status;
 

@@ -4,10 +4,10 @@ ghost use Rattle.std.specs.Prelude.{◌≡◌, ◌≤◌, false, IfOk, IfErr, �
 ghost use Rattle.std.specs.Option.{option_copied};
 ghost use Rattle.std.specs.String.{string_bytes};
 ghost use Rattle.isle_values.specs.Views.{seen};
-ghost use Rattle.isle_command_line.specs.Asked.{Run};
+ghost use Rattle.isle_command_line.specs.Request.{Run};
 ghost use Rattle.isle_command_line.specs.Lines.{no_options};
 ghost use Rattle.isle_command_line.specs.declared.commands.Source.TheVariants.{File};
-ghost use Rattle.isle_top.specs.Asking.{ArePlain, answers_names};
+ghost use Rattle.isle_top.specs.Requests.{ArePlain, answers_names};
 ghost use Rattle.isle_top.specs.Valid.{IsRunOf};
 ghost use Rattle.isle_top.specs.Causes.{HasCause};
 

@@ -5,7 +5,7 @@ ghost use Rattle.isle_command_line.specs.Views.{seen_command};
 ghost use Rattle.isle_top.specs.Lines.{Wrote};
 ghost use Rattle.isle_top.specs.Statuses.{IsOfLine, Tells, status_of};
 
-use crate::asked::{input_name, term_of};
+use crate::request::{input_name, term_of};
 use crate::lines::{
     NOT_YET, OUT_OF_MEMORY, write_argument, write_argument_count, write_bad_answers, write_no_term,
     write_unread,
@@ -43,18 +43,18 @@ pub fn complain<E: Sink>(err: &mut E, line: &str)
 }
 
 /// Writes the line of a refusal, as far as the sink takes it. It takes no memory.
-pub fn tell<E: Sink>(err: &mut E, asked: &Command, refusal: Refusal)
-    requires { IsOfLine (seen_command asked.now) refusal }
+pub fn tell<E: Sink>(err: &mut E, request: &Command, refusal: Refusal)
+    requires { IsOfLine (seen_command request.now) refusal }
     ensures later { E.faults err.old ≤ E.faults err.new }
-    ensures tells { Tells (seen_command asked.now) (Wrote (E.taken err.old) (E.taken err.new) (E.faults err.old) (E.faults err.new)) refusal }
+    ensures tells { Tells (seen_command request.now) (Wrote (E.taken err.old) (E.taken err.new) (E.faults err.old) (E.faults err.new)) refusal }
 {
     match refusal {
         Refusal::NotYet => complain(err, NOT_YET),
         Refusal::Unread(index, cause) => {
-            let _ = write_unread(err, input_name(asked, index), cause);
+            let _ = write_unread(err, input_name(request, index), cause);
         }
         Refusal::NoTerm => {
-            let _ = write_no_term(err, term_of(asked));
+            let _ = write_no_term(err, term_of(request));
         }
         Refusal::ArgCount => {
             let _ = write_argument_count(err);
