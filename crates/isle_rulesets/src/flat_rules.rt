@@ -6,7 +6,7 @@ ghost use Rattle.isle_core.specs.StandsFor.{StandsFor};
 ghost use Rattle.isle_core.specs.Rule.{Environment};
 ghost use Rattle.isle_rulesets.specs.FlatRules.{Adds};
 
-use crate::draft::{Draft, number_arguments};
+use crate::pattern_tests::{PatternTests, number_arguments};
 use crate::numbering::Numbering;
 use crate::right_side::{Scope, number_expr};
 use isle_core::{FlatRule, List, Rule, RuleSet, Term};
@@ -24,18 +24,18 @@ fn flat_rule(
     requires impure { IsImpureRule terms.now (seen rule.now) }
     ensures { IfOk result (λ f. (env : Environment) → env.terms ≡ terms.now → Adds env numbering.old numbering.new (seen rule.now) f) }
 {
-    let draft = number_arguments(alloc, numbering, rule.args.as_slice())?;
+    let pattern_tests = number_arguments(alloc, numbering, rule.args.as_slice())?;
     let scope = Scope {
         terms,
-        variables: &draft.variables,
+        variables: &pattern_tests.variables,
     };
     let mut ordered = Vec::new(alloc);
     let result = number_expr(alloc, &scope, numbering, &mut ordered, &rule.rhs)?;
-    let Draft {
+    let PatternTests {
         constraints,
         equals,
         ..
-    } = draft;
+    } = pattern_tests;
     Ok(FlatRule {
         pos: rule.pos,
         constraints: List::new(constraints),

@@ -4,7 +4,7 @@ ghost use Rattle.isle_core.specs.Tests.{Places, Test, tests, after, met_tests, m
 ghost use Rattle.isle_core.specs.RuleViews.{pattern as seen};
 ghost use Rattle.isle_core.specs.Rule.{Environment};
 ghost use Rattle.isle_core.specs.BuiltRule.{IsBuiltPattern};
-ghost use Rattle.isle_rulesets.specs.Drafts.{Draws, Drafted};
+ghost use Rattle.isle_rulesets.specs.PatternTests.{HasTests, NumbersPatterns};
 
 use crate::numbering::{Key, Numbering};
 use isle_core::{BindingId, Constraint, Pattern, VarId};
@@ -13,18 +13,18 @@ use std::collections::BTreeMap;
 
 /// What a rule tests, and the binding of each of its variables.
 #[derive(Drop)]
-pub struct Draft {
+pub struct PatternTests {
     pub constraints: Vec<(BindingId, Constraint)>,
     pub equals: Vec<(BindingId, BindingId)>,
     pub variables: BTreeMap<usize, BindingId>,
 }
 
-impl Draft {
+impl PatternTests {
     // No test and no variable.
-    fn new(alloc: Global) -> Draft
-        ensures { (ps : List Path) → Draws ps no_places [] result }
+    fn new(alloc: Global) -> PatternTests
+        ensures { (ps : List Path) → HasTests ps no_places [] result }
     {
-        Draft {
+        PatternTests {
             constraints: Vec::new(alloc),
             equals: Vec::new(alloc),
             variables: BTreeMap::new(alloc),
@@ -33,14 +33,14 @@ impl Draft {
 }
 
 // A variable: its first occurrence binds, a later one tests equality.
-fn meet(draft: &mut Draft, var: VarId, argument: BindingId) -> Result<(), AllocError>
-    ensures { OnOk result ((ps : List Path) (places : Places) (ts : List Test) → Draws ps places ts draft.old
-        → Draws ps (met_after (places var.0) var.0 (at ps argument) places) (ts ++ met_tests (places var.0) (at ps argument)) draft.new) }
+fn bind_or_equate(pattern_tests: &mut PatternTests, var: VarId, argument: BindingId) -> Result<(), AllocError>
+    ensures { OnOk result ((ps : List Path) (places : Places) (ts : List Test) → HasTests ps places ts pattern_tests.old
+        → HasTests ps (met_after (places var.0) var.0 (at ps argument) places) (ts ++ met_tests (places var.0) (at ps argument)) pattern_tests.new) }
 {
-    match draft.variables.get(&var.index()) {
-        Some(first) => draft.equals.push((*first, argument))?,
+    match pattern_tests.variables.get(&var.index()) {
+        Some(first) => pattern_tests.equals.push((*first, argument))?,
         None => {
-            draft.variables.insert(var.index(), argument)?;
+            pattern_tests.variables.insert(var.index(), argument)?;
         }
     }
     Ok(())
@@ -48,23 +48,23 @@ fn meet(draft: &mut Draft, var: VarId, argument: BindingId) -> Result<(), AllocE
 
 // The tests of a pattern on an argument.
 fn number_pattern(
-    draft: &mut Draft,
+    pattern_tests: &mut PatternTests,
     pattern: &Pattern,
     argument: BindingId,
 ) -> Result<(), AllocError>
     requires { IsBuiltPattern (seen pattern.now) }
-    ensures { OnOk result ((env : Environment) (ps : List Path) (places : Places) (ts : List Test) → Draws ps places ts draft.old
-        → Draws ps (after env (seen pattern.now) (at ps argument) places) (ts ++ tests env (seen pattern.now) (at ps argument) places) draft.new) }
+    ensures { OnOk result ((env : Environment) (ps : List Path) (places : Places) (ts : List Test) → HasTests ps places ts pattern_tests.old
+        → HasTests ps (after env (seen pattern.now) (at ps argument) places) (ts ++ tests env (seen pattern.now) (at ps argument) places) pattern_tests.new) }
 {
     match pattern {
-        Pattern::Var(_, var) => meet(draft, *var, argument)?,
+        Pattern::Var(_, var) => bind_or_equate(pattern_tests, *var, argument)?,
         Pattern::ConstBool(val) => {
-            draft
+            pattern_tests
                 .constraints
                 .push((argument, Constraint::ConstBool { val: *val }))?;
         }
         Pattern::ConstInt(ty, val) => {
-            draft
+            pattern_tests
                 .constraints
                 .push((argument, Constraint::ConstInt { val: *val, ty: *ty }))?;
         }
@@ -80,14 +80,14 @@ pub fn number_arguments(
     alloc: Global,
     numbering: &mut Numbering,
     patterns: &[Pattern],
-) -> Result<Draft, AllocError>
+) -> Result<PatternTests, AllocError>
     requires { All IsBuiltPattern (map seen patterns.now) }
-    ensures { IfOk result (λ d. (env : Environment) → Drafted env numbering.old numbering.new (map seen patterns.now) d) }
+    ensures { IfOk result (λ d. (env : Environment) → NumbersPatterns env numbering.old numbering.new (map seen patterns.now) d) }
 {
-    let mut draft = Draft::new(alloc);
+    let mut pattern_tests = PatternTests::new(alloc);
     for (index, pattern) in patterns.iter().enumerate() {
         let argument = numbering.intern(Key::Argument(index))?;
-        number_pattern(&mut draft, pattern, argument)?;
+        number_pattern(&mut pattern_tests, pattern, argument)?;
     }
-    Ok(draft)
+    Ok(pattern_tests)
 }
