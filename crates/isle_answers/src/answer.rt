@@ -20,7 +20,7 @@ pub enum AnswerHead {
     Result(ResultHead),
 }
 
-/// What an answer's list is, by the word that is next.
+// What an answer's list is, by the word that is next.
 #[tactic(auto, using(isle_reading::proofs::Steps::next))]
 fn next_head(tokens: &Tokens<'_>, alloc: Global) -> Result<Option<AnswerHead>, AllocError>
     ensures { IfOk result (λ next. option_map answer_head_seen next ≡ next_word answer_head_of (left tokens.now)) }
@@ -39,7 +39,7 @@ fn next_head(tokens: &Tokens<'_>, alloc: Global) -> Result<Option<AnswerHead>, A
     }
 }
 
-/// What an answer's list is, by its first word.
+// What an answer's list is, by its first word.
 #[tactic(auto, using(isle_reading::proofs::Steps::words), unfolding(crate::specs::Reading::read_answer_head))]
 fn answer_head(tokens: &mut Tokens<'_>, alloc: Global) -> Result<AnswerHead, Fail>
     ensures { Reads answer_head_seen result read_answer_head (left tokens.old) (left tokens.new) }
@@ -53,7 +53,7 @@ fn answer_head(tokens: &mut Tokens<'_>, alloc: Global) -> Result<AnswerHead, Fai
     }
 }
 
-/// What stands behind the first word of an answer's list.
+// What stands behind the first word of an answer's list.
 #[tactic(auto, using(isle_reading::proofs::Steps::chain), unfolding(crate::specs::Reading::read_answer_behind))]
 fn answer_behind(
     tokens: &mut Tokens<'_>,
@@ -84,7 +84,7 @@ fn answer_behind(
     }
 }
 
-/// An answer's list.
+// An answer's list.
 #[tactic(auto, using(isle_reading::proofs::Steps::chain), unfolding(crate::specs::Reading::read_answer_list))]
 fn answer_list(
     tokens: &mut Tokens<'_>,

@@ -19,7 +19,7 @@ enum PartHead {
     Rest,
 }
 
-/// What the list is, by the word that is next.
+// What the list is, by the word that is next.
 #[tactic(auto, using(isle_reading::proofs::Steps::next))]
 fn next_head(tokens: &Tokens<'_>) -> Option<PartHead>
     ensures { option_map part_head_seen result ≡ next_word part_head_of (left tokens.now) }
@@ -31,7 +31,7 @@ fn next_head(tokens: &Tokens<'_>) -> Option<PartHead>
     }
 }
 
-/// What the list is, by its first word.
+// What the list is, by its first word.
 #[tactic(auto, using(isle_reading::proofs::Steps::words), unfolding(crate::specs::Reading::read_part_head))]
 fn part_head(tokens: &mut Tokens<'_>) -> Result<PartHead, Fail>
     ensures { Reads part_head_seen result read_part_head (left tokens.old) (left tokens.new) }
@@ -45,7 +45,7 @@ fn part_head(tokens: &mut Tokens<'_>) -> Result<PartHead, Fail>
     }
 }
 
-/// The arguments and the answer of a case, whose closing parenthesis is taken.
+// The arguments and the answer of a case, whose closing parenthesis is taken.
 #[tactic(auto, using(isle_reading::proofs::Steps::chain), unfolding(crate::specs::Reading::read_case))]
 fn case(
     tokens: &mut Tokens<'_>,
@@ -61,7 +61,7 @@ fn case(
     Ok((List::new(args), found))
 }
 
-/// The answer of the rest, whose closing parenthesis is taken, and the one behind it.
+// The answer of the rest, whose closing parenthesis is taken, and the one behind it.
 #[tactic(auto, using(isle_reading::proofs::Steps::chain), unfolding(crate::specs::Reading::read_rest))]
 fn rest(
     tokens: &mut Tokens<'_>,

@@ -26,7 +26,7 @@ enum FormHead {
     Turns,
 }
 
-/// What the form is that is next, where `held` and `max` may still stand or may not.
+// What the form is that is next, where `held` and `max` may still stand or may not.
 #[tactic(auto, using(isle_reading::proofs::Steps::next))]
 fn next_head(tokens: &Tokens<'_>, held: bool, max: bool) -> Option<FormHead>
     ensures { option_map form_head_seen result ≡ next_word (form_head_of held max) (left tokens.now) }
@@ -41,7 +41,7 @@ fn next_head(tokens: &Tokens<'_>, held: bool, max: bool) -> Option<FormHead>
     }
 }
 
-/// What a form is.
+// What a form is.
 #[tactic(auto, using(isle_reading::proofs::Steps::words), unfolding(crate::specs::Reading::read_form_head))]
 fn head(tokens: &mut Tokens<'_>, held: bool, max: bool) -> Result<FormHead, Fail>
     ensures { Reads form_head_seen result (read_form_head held max) (left tokens.old) (left tokens.new) }
@@ -55,7 +55,7 @@ fn head(tokens: &mut Tokens<'_>, held: bool, max: bool) -> Result<FormHead, Fail
     }
 }
 
-/// A count that is next.
+// A count that is next.
 #[tactic(auto, using(isle_reading::proofs::Steps::next))]
 fn next_count(tokens: &Tokens<'_>) -> Option<usize>
     ensures { result ≡ next_word count_of (left tokens.now) }
@@ -63,7 +63,7 @@ fn next_count(tokens: &Tokens<'_>) -> Option<usize>
     count_of(tokens.word()?)
 }
 
-/// A count.
+// A count.
 #[tactic(auto, using(isle_reading::proofs::Steps::words), unfolding(crate::specs::Reading::read_count))]
 fn count(tokens: &mut Tokens<'_>) -> Result<usize, Fail>
     ensures { Reads (λ count. count) result read_count (left tokens.old) (left tokens.new) }
@@ -77,7 +77,7 @@ fn count(tokens: &mut Tokens<'_>) -> Result<usize, Fail>
     }
 }
 
-/// The count of `held` at that place, and the closing parenthesis behind it.
+// The count of `held` at that place, and the closing parenthesis behind it.
 #[tactic(auto, using(isle_reading::proofs::Steps::chain), unfolding(crate::specs::Reading::read_held))]
 fn held_form(tokens: &mut Tokens<'_>, at: usize) -> Result<Form, Fail>
     ensures { Reads form_seen result (read_held at) (left tokens.old) (left tokens.new) }
@@ -87,7 +87,7 @@ fn held_form(tokens: &mut Tokens<'_>, at: usize) -> Result<Form, Fail>
     Ok(Form::Held { count, at })
 }
 
-/// The count of `max` at that place, and the closing parenthesis behind it.
+// The count of `max` at that place, and the closing parenthesis behind it.
 #[tactic(auto, using(isle_reading::proofs::Steps::chain), unfolding(crate::specs::Reading::read_max))]
 fn max_form(tokens: &mut Tokens<'_>, at: usize) -> Result<Form, Fail>
     ensures { Reads form_seen result (read_max at) (left tokens.old) (left tokens.new) }
@@ -97,7 +97,7 @@ fn max_form(tokens: &mut Tokens<'_>, at: usize) -> Result<Form, Fail>
     Ok(Form::Max { count, at })
 }
 
-/// What is called, by the word that is next.
+// What is called, by the word that is next.
 #[tactic(auto, using(isle_reading::proofs::Steps::next))]
 fn next_callee(tokens: &Tokens<'_>, alloc: Global) -> Result<Option<Callee>, AllocError>
     ensures { IfOk result (λ next. next ≡ next_word callee_of (left tokens.now)) }
@@ -108,7 +108,7 @@ fn next_callee(tokens: &Tokens<'_>, alloc: Global) -> Result<Option<Callee>, All
     }
 }
 
-/// What is called.
+// What is called.
 #[tactic(auto, using(isle_reading::proofs::Steps::words), unfolding(crate::specs::Reading::read_callee))]
 fn callee(tokens: &mut Tokens<'_>, alloc: Global) -> Result<Callee, Fail>
     ensures { Reads (λ callee. callee) result read_callee (left tokens.old) (left tokens.new) }
@@ -122,7 +122,7 @@ fn callee(tokens: &mut Tokens<'_>, alloc: Global) -> Result<Callee, Fail>
     }
 }
 
-/// What stands behind the word of the constant at that place.
+// What stands behind the word of the constant at that place.
 #[tactic(auto, using(isle_reading::proofs::Steps::chain), unfolding(crate::specs::Reading::read_const))]
 fn constant(
     tokens: &mut Tokens<'_>,
@@ -139,7 +139,7 @@ fn constant(
     Ok(Form::Const { name, value, at })
 }
 
-/// What is called, the cases and the rest of `answers` at that place.
+// What is called, the cases and the rest of `answers` at that place.
 #[tactic(auto, using(isle_reading::proofs::Steps::chain), unfolding(crate::specs::Reading::read_answers))]
 fn answered(
     tokens: &mut Tokens<'_>,
@@ -160,7 +160,7 @@ fn answered(
     })
 }
 
-/// What is called, the turns and the rest of `turns` at that place.
+// What is called, the turns and the rest of `turns` at that place.
 #[tactic(auto, using(isle_reading::proofs::Steps::chain), unfolding(crate::specs::Reading::read_turned))]
 fn turned(
     tokens: &mut Tokens<'_>,
@@ -181,7 +181,7 @@ fn turned(
     })
 }
 
-/// What stands behind the first word of the form at that place.
+// What stands behind the first word of the form at that place.
 fn behind(
     tokens: &mut Tokens<'_>,
     alloc: Global,
@@ -201,7 +201,7 @@ fn behind(
     }
 }
 
-/// A form, where `held` and `max` may still stand or may not.
+// A form, where `held` and `max` may still stand or may not.
 #[tactic(auto, using(isle_reading::proofs::Steps::chain), unfolding(crate::specs::Reading::read_form))]
 fn form(
     tokens: &mut Tokens<'_>,
@@ -217,7 +217,7 @@ fn form(
     behind(tokens, alloc, most, most_inside(), at, head)
 }
 
-/// Whether `held` may still stand behind the form.
+// Whether `held` may still stand behind the form.
 fn held_behind(held: bool, form: &Form) -> bool
     ensures { result ≡ held_behind held (form_seen form.now) }
 {
@@ -227,7 +227,7 @@ fn held_behind(held: bool, form: &Form) -> bool
     }
 }
 
-/// Whether `max` may still stand behind the form.
+// Whether `max` may still stand behind the form.
 fn max_behind(max: bool, form: &Form) -> bool
     ensures { result ≡ max_behind max (form_seen form.now) }
 {

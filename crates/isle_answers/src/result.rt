@@ -33,7 +33,7 @@ pub fn result_head_of(alloc: Global, word: &str) -> Result<Option<ResultHead>, A
     Ok(Some(ResultHead::Made(text_of(alloc, word)?)))
 }
 
-/// What a result's list is, by the word that is next.
+// What a result's list is, by the word that is next.
 #[tactic(auto, using(isle_reading::proofs::Steps::next))]
 fn next_head(tokens: &Tokens<'_>, alloc: Global) -> Result<Option<ResultHead>, AllocError>
     ensures { IfOk result (λ next. option_map result_head_seen next ≡ next_word result_head_of (left tokens.now)) }
@@ -44,7 +44,7 @@ fn next_head(tokens: &Tokens<'_>, alloc: Global) -> Result<Option<ResultHead>, A
     }
 }
 
-/// What a result's list is, by its first word.
+// What a result's list is, by its first word.
 #[tactic(auto, using(isle_reading::proofs::Steps::words), unfolding(crate::specs::Reading::read_result_head))]
 fn result_head(tokens: &mut Tokens<'_>, alloc: Global) -> Result<ResultHead, Fail>
     ensures { Reads result_head_seen result read_result_head (left tokens.old) (left tokens.new) }
@@ -84,7 +84,7 @@ pub fn result_behind(
     }
 }
 
-/// A result's list.
+// A result's list.
 #[tactic(auto, using(isle_reading::proofs::Steps::chain), unfolding(crate::specs::Reading::read_result_list))]
 fn result_list(
     tokens: &mut Tokens<'_>,

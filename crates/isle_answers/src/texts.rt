@@ -23,7 +23,7 @@ pub enum AnswersFail {
     Memory,
 }
 
-/// The forms that these tokens of a text of that length spell.
+// The forms that these tokens of a text of that length spell.
 fn of_tokens(alloc: Global, tokens: &[Token<'_>], end: usize) -> Result<Vec<Form>, AnswersFail>
     ensures spelt { IfOk result (λ read. SpellsTokens (tokens_seen tokens.now) (forms_seen read.items)) }
     ensures fault { (at : ℕ) → result ≡ Err (At at) → IsFaultAt AreForms (tokens_seen tokens.now) end at }

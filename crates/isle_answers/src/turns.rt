@@ -13,7 +13,7 @@ use isle_reading::{Fail, Tokens};
 use isle_values::Written;
 use std::alloc::{AllocError, Global};
 
-/// The result that a made value is.
+// The result that a made value is.
 #[tactic(auto, using(isle_values::proofs::Sees::sees))]
 fn made_result(name: Text, parts: List<Written>) -> Option<ResultForm>
     ensures { option_map result_seen result ≡ result_is (Made name (seen parts)) }
@@ -27,7 +27,7 @@ fn made_result(name: Text, parts: List<Written>) -> Option<ResultForm>
     Some(ResultForm::One(Written::Made(name, parts)))
 }
 
-/// The result that a value is.
+// The result that a value is.
 #[tactic(auto, using(isle_values::proofs::Sees::sees))]
 fn result_is(value: Written) -> Option<ResultForm>
     ensures { option_map result_seen result ≡ result_is (written value) }
@@ -38,7 +38,7 @@ fn result_is(value: Written) -> Option<ResultForm>
     }
 }
 
-/// The only one of these values.
+// The only one of these values.
 fn only(parts: List<Written>) -> Option<Written>
     ensures { option_map written result ≡ only_of (seen parts) }
 {
@@ -50,7 +50,7 @@ fn only(parts: List<Written>) -> Option<Written>
     }
 }
 
-/// The results that values are.
+// The results that values are.
 fn results_are(alloc: Global, parts: List<Written>) -> Result<Option<Vec<ResultForm>>, AllocError>
     ensures { IfOk result (λ read. option_map (λ rs. map result_seen rs.items) read ≡ results_are (seen parts)) }
 {
@@ -64,7 +64,7 @@ fn results_are(alloc: Global, parts: List<Written>) -> Result<Option<Vec<ResultF
     Ok(Some(results))
 }
 
-/// The answer that a value is.
+// The answer that a value is.
 #[tactic(auto, using(isle_values::proofs::Sees::sees))]
 fn answer_is(alloc: Global, value: Written) -> Result<Option<AnswerForm>, AllocError>
     ensures { IfOk result (λ read. option_map answer_seen read ≡ answer_is (written value)) }
@@ -99,7 +99,7 @@ fn answer_is(alloc: Global, value: Written) -> Result<Option<AnswerForm>, AllocE
     }
 }
 
-/// The answer in the rest that a turn is.
+// The answer in the rest that a turn is.
 #[tactic(auto, using(isle_values::proofs::Sees::sees))]
 fn rest_is(alloc: Global, turn: AnswerForm) -> Result<Option<AnswerForm>, AllocError>
     ensures { IfOk result (λ read. option_map answer_seen read ≡ rest_is (answer_seen turn)) }
@@ -118,7 +118,7 @@ fn rest_is(alloc: Global, turn: AnswerForm) -> Result<Option<AnswerForm>, AllocE
     }
 }
 
-/// The answer in the last turn, which is taken out, where that is a rest.
+// The answer in the last turn, which is taken out, where that is a rest.
 fn ended(alloc: Global, turns: &mut Vec<AnswerForm>) -> Result<Option<AnswerForm>, AllocError>
     ensures { IfOk result (λ read. option_map (λ a. (map answer_seen turns.new.items, answer_seen a)) read ≡ ended (reverse (map answer_seen turns.old.items))) }
 {

@@ -25,14 +25,14 @@ use isle_core::{BindingId, Block, EvalStep, FlatRule, List, OutOfMemory, RuleSet
 use std::alloc::{AllocError, Global};
 use std::collections::BTreeMap;
 
-/// Whether a rule has neither a constraint nor an equality.
+// Whether a rule has neither a constraint nor an equality.
 fn is_untested(rule: &FlatRule) -> bool
     ensures { result ≡ Chain.no_tests rule.now.constraints rule.now.equals }
 {
     rule.constraints.as_slice().is_empty() && rule.equals.as_slice().is_empty()
 }
 
-/// The steps of rules in order, up to the first one without tests.
+// The steps of rules in order, up to the first one without tests.
 fn chain_steps(
     alloc: Global,
     inners: &BTreeMap<usize, BindingId>,
@@ -50,7 +50,7 @@ fn chain_steps(
     Ok(steps)
 }
 
-/// The steps of the rules, highest priority first.
+// The steps of the rules, highest priority first.
 #[tactic(auto, using(isle_core::proofs::SeesBlocks::sees_blocks))]
 fn chained(
     alloc: Global,
@@ -66,9 +66,9 @@ fn chained(
     })
 }
 
-/// The block of a rule set: a step for each rule, tried from the highest priority down, and equal ones in their order.
-/// A rule's calls are made behind its tests, in order. `iterator` says whether the term is `multi`; of such terms no
-/// block is built.
+/// Makes the block of a rule set: a step for each rule, tried from the highest priority down, and equal ones in their
+/// order. A rule's calls are made behind its tests, in order (`isle_core/specs/BlockRun.antt`). `iterator` says whether the
+/// term is `multi`; of such terms no block is built. The only error is want of memory.
 pub fn serialize(alloc: Global, rules: &RuleSet, iterator: bool) -> Result<Block, OutOfMemory>
     requires { iterator ≡ false }
     ensures means { IfOk result (λ b. (env : Environment) (m : Meaning) (t : Term) (args : ListOf Value) (kind : ReturnKind) → IsReady env t rules.now →

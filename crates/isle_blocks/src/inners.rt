@@ -9,7 +9,7 @@ use isle_core::{Binding, BindingId};
 use std::alloc::{AllocError, Global};
 use std::collections::BTreeMap;
 
-/// The source of an inner value at a place, where it stands before it.
+// The source of an inner value at a place, where it stands before it.
 fn source_at(place: usize, binding: &Binding) -> Option<BindingId>
     ensures { result ≡ Inners.source_at place binding.now }
 {
@@ -25,7 +25,7 @@ fn source_at(place: usize, binding: &Binding) -> Option<BindingId>
     }
 }
 
-/// By the number of a call, the number of its inner value, where there is one behind it.
+/// Finds the inner value of each call that has one behind it, by the call's number. The only error is want of memory.
 pub fn inner_values(
     alloc: Global,
     bindings: &[Binding],

@@ -11,7 +11,7 @@ use isle_core::{
 use std::alloc::{AllocError, Global};
 use std::collections::BTreeMap;
 
-/// A step that binds nothing.
+// A step that binds nothing.
 #[tactic(auto, using(isle_core::proofs::SeesBlocks::sees_blocks))]
 fn unbound(alloc: Global, check: ControlFlow) -> EvalStep
     ensures { BlockViews.step result ≡ ([], BlockViews.control check) }
@@ -22,7 +22,7 @@ fn unbound(alloc: Global, check: ControlFlow) -> EvalStep
     }
 }
 
-/// A block of one step.
+// A block of one step.
 #[tactic(auto, using(isle_core::proofs::SeesBlocks::sees_blocks))]
 fn alone(alloc: Global, step: EvalStep) -> Result<Block, AllocError>
     ensures { IfOk result (λ b. BlockViews.block b ≡ Nest.alone (BlockViews.step step)) }
@@ -33,7 +33,7 @@ fn alone(alloc: Global, step: EvalStep) -> Result<Block, AllocError>
     })
 }
 
-/// A match of one arm, in which nothing is bound.
+// A match of one arm, in which nothing is bound.
 #[tactic(auto, using(isle_core::proofs::SeesBlocks::sees_blocks))]
 fn matched(
     alloc: Global,
@@ -57,7 +57,7 @@ fn matched(
     Ok(unbound(alloc, check))
 }
 
-/// An equality round what follows it.
+// An equality round what follows it.
 #[tactic(auto, using(isle_core::proofs::SeesBlocks::sees_blocks))]
 fn equated(
     alloc: Global,
@@ -71,7 +71,7 @@ fn equated(
     Ok(unbound(alloc, ControlFlow::Equal { a, b, body }))
 }
 
-/// Calls in order, directly behind each its inner value where it has one.
+// Calls in order, directly behind each its inner value where it has one.
 fn binds(
     alloc: Global,
     inners: &BTreeMap<usize, BindingId>,
@@ -89,7 +89,7 @@ fn binds(
     Ok(order)
 }
 
-/// The calls and the result of a rule.
+// The calls and the result of a rule.
 #[tactic(auto, using(isle_core::proofs::SeesBlocks::sees_blocks))]
 fn returned(bind_order: Vec<BindingId>, pos: Pos, value: BindingId) -> EvalStep
     ensures { BlockViews.step result ≡ (bind_order.items, Blocks.Return pos value) }
@@ -100,7 +100,7 @@ fn returned(bind_order: Vec<BindingId>, pos: Pos, value: BindingId) -> EvalStep
     }
 }
 
-/// Equalities, each round those behind it, and the last one round what follows them.
+// Equalities, each round those behind it, and the last one round what follows them.
 fn all_equated(
     alloc: Global,
     equals: &[(BindingId, BindingId)],
@@ -116,7 +116,7 @@ fn all_equated(
     Ok(step)
 }
 
-/// Matches, each round those behind it, and the last one round what follows them.
+// Matches, each round those behind it, and the last one round what follows them.
 fn all_matched(
     alloc: Global,
     constraints: &[(BindingId, Constraint)],
@@ -132,7 +132,8 @@ fn all_matched(
     Ok(step)
 }
 
-/// The step of a rule.
+/// Makes the step of a rule: its tests, each round what follows, and inside them its calls and its result. The only error
+/// is want of memory.
 pub fn rule_step(
     alloc: Global,
     inners: &BTreeMap<usize, BindingId>,

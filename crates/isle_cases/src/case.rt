@@ -22,7 +22,7 @@ pub enum Key {
 }
 
 impl Key {
-    /// The key that a word names.
+    // The key that a word names.
     fn of(word: &str) -> Option<Key> {
         match word {
             "$" => Some(Key::Words),
@@ -42,7 +42,7 @@ impl Key {
         }
     }
 
-    /// Why no line has this key and this name.
+    // Why no line has this key and this name.
     fn misnamed(self, name: &str) -> Option<Slip> {
         match self {
             Key::File | Key::After if name.is_empty() => Some(Slip::Name),
@@ -52,7 +52,7 @@ impl Key {
         }
     }
 
-    /// Whether a name stands behind the key.
+    // Whether a name stands behind the key.
     fn is_named(self) -> bool {
         matches!(
             self,
@@ -78,7 +78,7 @@ pub struct Case {
 }
 
 impl Case {
-    /// A case with no line.
+    // A case with no line.
     fn new(alloc: Global, name: &str) -> Result<Case, AllocError> {
         Ok(Case {
             name: String::from_str(alloc, name)?,
@@ -87,14 +87,14 @@ impl Case {
         })
     }
 
-    /// Takes a fault down, if it is the first.
+    // Takes a fault down, if it is the first.
     fn mark(&mut self, slip: Slip) {
         if self.slip.is_none() {
             self.slip = Some(slip);
         }
     }
 
-    /// Adds a line with a key, or one of a block.
+    // Adds a line with a key, or one of a block.
     fn add(&mut self, alloc: Global, line: &str) -> Result<(), AllocError> {
         match line.strip_prefix("|") {
             Some(text) => self.add_block(text),
@@ -102,7 +102,7 @@ impl Case {
         }
     }
 
-    /// Adds a line of the block below the last key.
+    // Adds a line of the block below the last key.
     fn add_block(&mut self, line: &str) -> Result<(), AllocError> {
         let Some(entry) = self.entries.last_mut() else {
             self.mark(Slip::Block);
@@ -112,7 +112,7 @@ impl Case {
         entry.text.push_str("\\n")
     }
 
-    /// Adds a line with a key.
+    // Adds a line with a key.
     fn add_key(&mut self, alloc: Global, line: &str) -> Result<(), AllocError> {
         let (word, rest) = split_word(line);
         let Some(key) = Key::of(word) else {
@@ -135,7 +135,7 @@ impl Case {
         Ok(())
     }
 
-    /// The one line with this key and this name, if there is one. A key without names has the empty one.
+    /// Returns the one line with this key and this name, if there is one. A key without names has the empty one.
     pub fn only(&self, key: Key, name: &str) -> Result<Option<&Entry>, Slip> {
         let mut found = None;
         for entry in &self.entries {
@@ -150,7 +150,7 @@ impl Case {
     }
 }
 
-/// A line's first word, and what stands behind the blank.
+/// Splits a line into its first word, and what stands behind the blank.
 pub fn split_word(line: &str) -> (&str, &str) {
     match line.split_once(' ') {
         Some((word, rest)) => (word, rest),
@@ -158,7 +158,7 @@ pub fn split_word(line: &str) -> (&str, &str) {
     }
 }
 
-/// The head of a topic, a case without a name, and the topic's cases behind it.
+/// Returns the head of a topic, a case without a name, and the topic's cases behind it.
 pub fn cases_of(alloc: Global, text: &str) -> Result<Vec<Case>, AllocError> {
     let mut cases = vec![in alloc; Case::new(alloc, "")?]?;
     for line in text.lines() {

@@ -29,7 +29,7 @@ pub struct Left {
 }
 
 impl Left {
-    /// The status and the text on `err`, in words.
+    /// Tells the status and the text on `err`, in words.
     pub fn told(&self, alloc: Global) -> Result<String, AllocError> {
         let status = self.status;
         let err = String::from_utf8_lossy(alloc, self.err.bytes())?;
@@ -37,7 +37,7 @@ impl Left {
     }
 }
 
-/// The lines of the case and of the head that have this key and name; an empty name is any.
+// The lines of the case and of the head that have this key and name; an empty name is any.
 fn entries<'c>(
     alloc: Global,
     case: &'c Case,
@@ -51,7 +51,7 @@ fn entries<'c>(
     Ok(found)
 }
 
-/// Appends the lines of one case that have this key and name.
+// Appends the lines of one case that have this key and name.
 fn push_entries<'c>(
     found: &mut Vec<&'c Entry>,
     case: &'c Case,
@@ -66,7 +66,7 @@ fn push_entries<'c>(
     Ok(())
 }
 
-/// The files of these lines.
+// The files of these lines.
 fn files_of(alloc: Global, entries: &[&Entry]) -> Result<Vec<(String, Vec<u8>)>, Slip> {
     let mut files = Vec::new(alloc);
     for entry in entries {
@@ -76,12 +76,12 @@ fn files_of(alloc: Global, entries: &[&Entry]) -> Result<Vec<(String, Vec<u8>)>,
     Ok(files)
 }
 
-/// The files of the case.
+// The files of the case.
 fn files_before(alloc: Global, case: &Case, head: &Case) -> Result<Vec<(String, Vec<u8>)>, Slip> {
     files_of(alloc, entries(alloc, case, head, Key::File, "")?.as_slice())
 }
 
-/// The files that the case wants afterwards: those listed, or else those of the case.
+// The files that the case wants afterwards: those listed, or else those of the case.
 fn files_after(alloc: Global, case: &Case, head: &Case) -> Result<Vec<(String, Vec<u8>)>, Slip> {
     let listed = entries(alloc, case, head, Key::After, "")?;
     if listed.is_empty() {
@@ -90,7 +90,7 @@ fn files_after(alloc: Global, case: &Case, head: &Case) -> Result<Vec<(String, V
     files_of(alloc, listed.as_slice())
 }
 
-/// The numbers of the calls of an object that fail.
+// The numbers of the calls of an object that fail.
 fn fails(alloc: Global, case: &Case, head: &Case, object: &str) -> Result<Vec<usize>, Slip> {
     let mut fails = Vec::new(alloc);
     for entry in entries(alloc, case, head, Key::Fails, object)? {
@@ -101,7 +101,7 @@ fn fails(alloc: Global, case: &Case, head: &Case, object: &str) -> Result<Vec<us
     Ok(fails)
 }
 
-/// A limit of an object, the case's own before the head's.
+// A limit of an object, the case's own before the head's.
 fn limit(case: &Case, head: &Case, key: Key, object: &str, usual: usize) -> Result<usize, Slip> {
     match entry(case, head, key, object)? {
         Some(entry) => number(entry.text.as_str()),
@@ -109,7 +109,7 @@ fn limit(case: &Case, head: &Case, key: Key, object: &str, usual: usize) -> Resu
     }
 }
 
-/// A piece of an object: at least one byte.
+// A piece of an object: at least one byte.
 fn piece(case: &Case, head: &Case, object: &str, usual: usize) -> Result<usize, Slip>
     ensures { IfOk result (λ piece. 0 < piece) }
 {
@@ -121,7 +121,7 @@ fn piece(case: &Case, head: &Case, object: &str, usual: usize) -> Result<usize, 
     }
 }
 
-/// An empty sink of a case.
+// An empty sink of a case.
 fn sink(alloc: Global, case: &Case, head: &Case, object: &str) -> Result<MemSink, Slip> {
     let room = limit(case, head, Key::Room, object, ROOM)?;
     let fails = fails(alloc, case, head, object)?;
@@ -132,7 +132,7 @@ fn sink(alloc: Global, case: &Case, head: &Case, object: &str) -> Result<MemSink
     }
 }
 
-/// The directory of a case.
+// The directory of a case.
 fn dir(alloc: Global, case: &Case, head: &Case) -> Result<MemDir, Slip> {
     let files = files_before(alloc, case, head)?;
     let fails = fails(alloc, case, head, "dir")?;
@@ -140,7 +140,7 @@ fn dir(alloc: Global, case: &Case, head: &Case) -> Result<MemDir, Slip> {
     Ok(MemDir::new(alloc, files, fails, piece))
 }
 
-/// The words of a case.
+/// Returns the words of a case.
 pub fn words(alloc: Global, case: &Case, head: &Case) -> Result<Vec<String>, Slip> {
     match entry(case, head, Key::Words, "")? {
         Some(entry) => words_of(alloc, entry.text.as_str()),
@@ -148,7 +148,7 @@ pub fn words(alloc: Global, case: &Case, head: &Case) -> Result<Vec<String>, Sli
     }
 }
 
-/// Runs the words over a directory and two sinks.
+// Runs the words over a directory and two sinks.
 fn run_over(
     alloc: Global,
     words: &[String],
@@ -176,7 +176,7 @@ pub fn run(alloc: Global, case: &Case, head: &Case, words: &[String]) -> Result<
     Ok(run_over(alloc, words, dir, out, err))
 }
 
-/// The status that a case wants.
+// The status that a case wants.
 fn status(case: &Case, head: &Case) -> Result<usize, Slip> {
     match entry(case, head, Key::Status, "")? {
         Some(entry) => number(entry.text.as_str()),
@@ -184,7 +184,7 @@ fn status(case: &Case, head: &Case) -> Result<usize, Slip> {
     }
 }
 
-/// Whether `out` has what the case wants; at another status than 0 it is empty, if nothing is said.
+// Whether `out` has what the case wants; at another status than 0 it is empty, if nothing is said.
 fn has_out(
     alloc: Global,
     case: &Case,
@@ -200,7 +200,7 @@ fn has_out(
     }
 }
 
-/// Whether `err` has what the case wants: nothing, if nothing is said.
+// Whether `err` has what the case wants: nothing, if nothing is said.
 fn has_err(alloc: Global, case: &Case, head: &Case, left: &Left) -> Result<bool, Slip> {
     match entry(case, head, Key::Err, "")? {
         Some(entry) => Ok(spelt(alloc, entry.text.as_str())?.as_slice() == left.err.bytes()),
@@ -208,7 +208,7 @@ fn has_err(alloc: Global, case: &Case, head: &Case, left: &Left) -> Result<bool,
     }
 }
 
-/// Whether two lists of files are one.
+// Whether two lists of files are one.
 fn are_same(files: &[(String, Vec<u8>)], others: &[(String, Vec<u8>)]) -> bool {
     if files.len() != others.len() {
         return false;

@@ -26,13 +26,13 @@ struct Report {
 }
 
 impl Report {
-    /// Counts a case that holds.
+    // Counts a case that holds.
     fn count_held(&mut self) {
         self.cases = self.cases.saturating_add(1);
         self.held = self.held.saturating_add(1);
     }
 
-    /// Counts a case that doesn't hold, and says why and what its run left.
+    // Counts a case that doesn't hold, and says why and what its run left.
     fn count_slip(
         &mut self,
         alloc: Global,
@@ -48,7 +48,7 @@ impl Report {
     }
 }
 
-/// The names of the files in the current folder, in order.
+// The names of the files in the current folder, in order.
 fn names<D: Dir>(alloc: Global, dir: &mut D) -> Result<Vec<String>, Slip> {
     match dir.find(".") {
         Ok(Found::Folder) => match dir.list(alloc, ".") {
@@ -62,12 +62,12 @@ fn names<D: Dir>(alloc: Global, dir: &mut D) -> Result<Vec<String>, Slip> {
     }
 }
 
-/// Whether a file is a topic of cases, or a text that cases name.
+// Whether a file is a topic of cases, or a text that cases name.
 fn is_data(name: &str) -> bool {
     name.ends_with(".cases") || name.ends_with(".rs")
 }
 
-/// The files of the current folder. One that isn't read counts as a case that doesn't hold.
+// The files of the current folder. One that isn't read counts as a case that doesn't hold.
 fn shelf<D: Dir>(alloc: Global, dir: &mut D, report: &mut Report) -> Result<Shelf, Slip> {
     let mut files = Vec::new(alloc);
     for name in names(alloc, dir)? {
@@ -81,7 +81,7 @@ fn shelf<D: Dir>(alloc: Global, dir: &mut D, report: &mut Report) -> Result<Shel
     Ok(Shelf { files })
 }
 
-/// Runs a case, holds what it leaves against what it wants, and tells what it left.
+// Runs a case, holds what it leaves against what it wants, and tells what it left.
 fn judge(
     alloc: Global,
     case: &Case,
@@ -95,7 +95,7 @@ fn judge(
     hold(alloc, case, head, words.as_slice(), shelf, &left)
 }
 
-/// Counts the cases of a topic. One without cases is counted as one that doesn't hold.
+// Counts the cases of a topic. One without cases is counted as one that doesn't hold.
 fn count_topic(
     alloc: Global,
     topic: &str,
@@ -121,7 +121,7 @@ fn count_topic(
     Ok(())
 }
 
-/// Counts the cases of all topics.
+// Counts the cases of all topics.
 fn count_all<D: Dir>(alloc: Global, dir: &mut D, report: &mut Report) -> Result<(), Slip> {
     let shelf = shelf(alloc, dir, report)?;
     for (name, text) in &shelf.files {
@@ -133,7 +133,7 @@ fn count_all<D: Dir>(alloc: Global, dir: &mut D, report: &mut Report) -> Result<
     Ok(())
 }
 
-/// The report on all cases. One that can't be made tells of a file.
+// The report on all cases. One that can't be made tells of a file.
 fn make_report(alloc: Global, rt: HostRuntime) -> Result<Report, Slip> {
     let mut report = Report {
         cases: 0,

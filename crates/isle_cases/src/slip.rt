@@ -29,7 +29,7 @@ pub enum Slip {
 }
 
 impl Slip {
-    /// The reason in words.
+    /// Tells the reason in words.
     pub fn told(self) -> &'static str {
         match self {
             Slip::Memory => "no memory",

@@ -3,7 +3,7 @@
 use crate::slip::Slip;
 use std::alloc::Global;
 
-/// The bytes of a text, its spellings with backslashes resolved.
+/// Returns the bytes of a text, its spellings with backslashes resolved.
 pub fn spelt(alloc: Global, text: &str) -> Result<Vec<u8>, Slip> {
     let mut bytes = Vec::new(alloc);
     for (place, piece) in text.split('\\').enumerate() {
@@ -16,7 +16,7 @@ pub fn spelt(alloc: Global, text: &str) -> Result<Vec<u8>, Slip> {
     Ok(bytes)
 }
 
-/// The text that is spelled.
+/// Returns the text that is spelled.
 pub fn text_spelt(alloc: Global, text: &str) -> Result<String, Slip> {
     match String::from_utf8(spelt(alloc, text)?) {
         Ok(text) => Ok(text),
@@ -24,7 +24,7 @@ pub fn text_spelt(alloc: Global, text: &str) -> Result<String, Slip> {
     }
 }
 
-/// Appends what stands behind a backslash.
+// Appends what stands behind a backslash.
 fn push_spelt(alloc: Global, bytes: &mut Vec<u8>, piece: &str) -> Result<(), Slip> {
     match piece.as_bytes() {
         [b'n', rest @ ..] => push_two(bytes, b'\n', rest),
@@ -40,14 +40,14 @@ fn push_spelt(alloc: Global, bytes: &mut Vec<u8>, piece: &str) -> Result<(), Sli
     }
 }
 
-/// Appends a byte and what stands behind it.
+// Appends a byte and what stands behind it.
 fn push_two(bytes: &mut Vec<u8>, byte: u8, rest: &[u8]) -> Result<(), Slip> {
     bytes.push(byte)?;
     bytes.extend_from_slice(rest)?;
     Ok(())
 }
 
-/// The number of a hexadecimal digit.
+// The number of a hexadecimal digit.
 fn hex(digit: u8) -> Result<u8, Slip> {
     match digit {
         b'0'..=b'9' => Ok(digit.wrapping_sub(b'0')),
@@ -56,7 +56,7 @@ fn hex(digit: u8) -> Result<u8, Slip> {
     }
 }
 
-/// Appends what a `COUNT{..}` or `FROM..TO{..}` repeats, and what stands behind it.
+// Appends what a `COUNT{..}` or `FROM..TO{..}` repeats, and what stands behind it.
 fn push_often(alloc: Global, bytes: &mut Vec<u8>, piece: &str) -> Result<(), Slip> {
     let Some((count, behind)) = piece.split_once('{') else {
         return Err(Slip::Escape);
@@ -79,7 +79,7 @@ fn push_often(alloc: Global, bytes: &mut Vec<u8>, piece: &str) -> Result<(), Sli
     Ok(())
 }
 
-/// Appends the turns from one number up to another.
+// Appends the turns from one number up to another.
 fn push_turns(
     alloc: Global,
     bytes: &mut Vec<u8>,
@@ -93,7 +93,7 @@ fn push_turns(
     Ok(())
 }
 
-/// Appends one turn: a `#` is its number, and `#+1` to `#+9` a number above it.
+// Appends one turn: a `#` is its number, and `#+1` to `#+9` a number above it.
 fn push_turn(alloc: Global, bytes: &mut Vec<u8>, inner: &str, turn: usize) -> Result<(), Slip> {
     for (place, piece) in inner.split('#').enumerate() {
         let (above, rest) = match piece.as_bytes() {
@@ -112,7 +112,7 @@ fn push_turn(alloc: Global, bytes: &mut Vec<u8>, inner: &str, turn: usize) -> Re
     Ok(())
 }
 
-/// A number.
+/// Reads a number.
 pub fn number(digits: &str) -> Result<usize, Slip> {
     match digits.parse::<usize>() {
         Ok(number) => Ok(number),
@@ -131,7 +131,7 @@ struct Words {
 }
 
 impl Words {
-    /// Takes a letter.
+    // Takes a letter.
     fn take(&mut self, letter: char) -> Result<(), Slip> {
         if letter == '\'' {
             self.is_quoted = !self.is_quoted;
@@ -146,7 +146,7 @@ impl Words {
         Ok(())
     }
 
-    /// Ends the open word.
+    // Ends the open word.
     fn end(&mut self) -> Result<(), Slip> {
         if self.is_open {
             let word = text_spelt(self.alloc, self.word.as_str())?;
@@ -158,7 +158,7 @@ impl Words {
     }
 }
 
-/// The words of a line: blanks stand between them, and a word in single quotes may have some.
+/// Splits a line into words: blanks stand between them, and a word in single quotes may have some.
 pub fn words_of(alloc: Global, line: &str) -> Result<Vec<String>, Slip> {
     let mut words = Words {
         alloc,

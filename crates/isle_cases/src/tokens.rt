@@ -15,12 +15,12 @@ enum State {
     Comment,
 }
 
-/// Whether a byte stands in names and numbers.
+// Whether a byte stands in names and numbers.
 fn is_word(byte: u8) -> bool {
     byte.is_ascii_alphanumeric() || byte == b'_' || byte >= 0x80
 }
 
-/// Whether two marks are one token.
+// Whether two marks are one token.
 fn joins(first: u8, second: u8) -> bool {
     matches!(
         (first, second),
@@ -35,7 +35,7 @@ fn joins(first: u8, second: u8) -> bool {
     )
 }
 
-/// What is open behind a mark.
+// What is open behind a mark.
 fn behind_mark(state: State, mark: u8) -> State {
     match state {
         State::Mark(b'/') if mark == b'/' => State::Comment,
@@ -44,7 +44,7 @@ fn behind_mark(state: State, mark: u8) -> State {
     }
 }
 
-/// What is open behind a byte more.
+// What is open behind a byte more.
 fn behind(state: State, byte: u8) -> State {
     match (state, byte) {
         (State::Comment, b'\n') => State::Gap,
@@ -59,7 +59,7 @@ fn behind(state: State, byte: u8) -> State {
     }
 }
 
-/// Whether a byte more belongs to the token that is open.
+// Whether a byte more belongs to the token that is open.
 fn goes_on(state: State, byte: u8) -> bool {
     match state {
         State::Gap => false,
@@ -69,7 +69,7 @@ fn goes_on(state: State, byte: u8) -> bool {
     }
 }
 
-/// Whether a byte is of a token.
+// Whether a byte is of a token.
 fn is_kept(state: State, byte: u8) -> bool {
     match state {
         State::Comment => byte != b'\n',
@@ -78,7 +78,7 @@ fn is_kept(state: State, byte: u8) -> bool {
     }
 }
 
-/// The tokens of a text, a line feed before each. A comment to the end of its line is one token.
+/// Returns the tokens of a text, a line feed before each. A comment to the end of its line is one token.
 pub fn tokens(alloc: Global, text: &[u8]) -> Result<Vec<u8>, AllocError> {
     let mut tokens = Vec::new(alloc);
     let mut state = State::Gap;

@@ -16,7 +16,7 @@ pub struct Shelf {
 }
 
 impl Shelf {
-    /// The text of the file of a name.
+    // The text of the file of a name.
     fn text(&self, name: &str) -> Option<&str> {
         for (file, text) in &self.files {
             if file.as_str() == name {
@@ -37,7 +37,7 @@ pub enum Wanted {
 }
 
 impl Wanted {
-    /// Whether a text is wanted.
+    /// Tells whether a text is what is wanted.
     pub fn is_met(&self, alloc: Global, out: &[u8]) -> Result<bool, AllocError> {
         match self {
             Wanted::Bytes(bytes) => Ok(bytes.as_slice() == out),
@@ -46,7 +46,7 @@ impl Wanted {
     }
 }
 
-/// The line of a case with this key and name, or that of the head.
+/// Returns the line of a case with this key and name, or that of the head.
 pub fn entry<'c>(
     case: &'c Case,
     head: &'c Case,
@@ -59,7 +59,7 @@ pub fn entry<'c>(
     }
 }
 
-/// The line of one case that says what is wanted on `out`.
+// The line of one case that says what is wanted on `out`.
 fn way(case: &Case) -> Result<Option<&Entry>, Slip> {
     let mut found = None;
     for key in [Key::Out, Key::Tokens, Key::Functions] {
@@ -83,7 +83,7 @@ struct Parts<'c> {
 }
 
 impl<'c> Parts<'c> {
-    /// The text of a part.
+    // The text of a part.
     fn text(&self, name: &str) -> Result<&str, Slip> {
         match name {
             "names" => Ok(self.names.as_str()),
@@ -96,7 +96,7 @@ impl<'c> Parts<'c> {
         }
     }
 
-    /// The text in which each line `@NAME` is the part of that name.
+    // The text in which each line `@NAME` is the part of that name.
     fn fill(&self, alloc: Global, text: &str) -> Result<String, Slip> {
         let mut filled = String::new(alloc);
         for line in text.lines() {
@@ -110,7 +110,7 @@ impl<'c> Parts<'c> {
     }
 }
 
-/// The lines of the header that name files: those of the line `names`, or those behind the first word.
+// The lines of the header that name files: those of the line `names`, or those behind the first word.
 fn name_lines(alloc: Global, names: Option<&Entry>, words: &[String]) -> Result<String, Slip> {
     match names {
         Some(entry) => lines_of(alloc, words_of(alloc, entry.text.as_str())?.as_slice()),
@@ -121,7 +121,7 @@ fn name_lines(alloc: Global, names: Option<&Entry>, words: &[String]) -> Result<
     }
 }
 
-/// A line of the header for each name.
+// A line of the header for each name.
 fn lines_of(alloc: Global, names: &[String]) -> Result<String, Slip> {
     let mut lines = String::new(alloc);
     for name in names {
@@ -132,7 +132,7 @@ fn lines_of(alloc: Global, names: &[String]) -> Result<String, Slip> {
     Ok(lines)
 }
 
-/// The text of a line, spelled out; without the line it is empty.
+// The text of a line, spelled out; without the line it is empty.
 fn spelt_of(alloc: Global, entry: Option<&Entry>) -> Result<String, Slip> {
     match entry {
         Some(entry) => text_spelt(alloc, entry.text.as_str()),
@@ -140,12 +140,12 @@ fn spelt_of(alloc: Global, entry: Option<&Entry>) -> Result<String, Slip> {
     }
 }
 
-/// Whether a case has a line that serves its functions alone.
+// Whether a case has a line that serves its functions alone.
 fn is_idle(case: &Case) -> Result<bool, Slip> {
     Ok(case.only(Key::Trait, "")?.is_some() || case.only(Key::Names, "")?.is_some())
 }
 
-/// What the case wants on `out`, if it says so.
+/// Returns what the case wants on `out`, if it says so.
 pub fn wanted_out(
     alloc: Global,
     case: &Case,
@@ -168,7 +168,7 @@ pub fn wanted_out(
     }
 }
 
-/// The text whose tokens are wanted: the text of the line, or the frame with its functions.
+// The text whose tokens are wanted: the text of the line, or the frame with its functions.
 fn filled(
     alloc: Global,
     case: &Case,

@@ -30,8 +30,9 @@ pub struct Checked {
     pub terms: Vec<(TermId, RuleSet)>,
 }
 
-/// The environment of the definitions that the files' texts spell, in order. There are as many names as texts. `NotYet`
-/// comes exactly where the texts are not of the language that is built, or a file's name may not be emitted.
+/// Checks the definitions that the files' texts spell, in order, and returns their environment (`specs/Checked.antt`).
+/// There are as many names as texts. `NotYet` comes exactly where the texts are not of the language that is built, or a
+/// file's name may not be emitted; beside it only want of memory.
 pub fn check_files(alloc: Global, files: &Files) -> Result<Checked, FileError>
     requires count { length files.now.file_texts ≡ length files.now.file_names }
     ensures ok { IfOk result (λ c. IsChecked files.now (environment c.typeenv c.termenv)) }
@@ -44,7 +45,7 @@ pub fn check_files(alloc: Global, files: &Files) -> Result<Checked, FileError>
     }
 }
 
-/// What `check_files` gives, with the functions of the trait.
+/// Does what `check_files` does, and returns the functions of the trait too.
 pub fn check_all(alloc: Global, files: &Files) -> Result<(Checked, Vec<TraitFn>), FileError>
     requires count { length files.now.file_texts ≡ length files.now.file_names }
     ensures ok { IfOk result (λ c. IsChecked files.now (environment c.0.typeenv c.0.termenv)) }
@@ -67,8 +68,8 @@ pub fn check_all(alloc: Global, files: &Files) -> Result<(Checked, Vec<TraitFn>)
     }
 }
 
-/// The environment of the definitions, with the functions of the trait. `NotYet` comes exactly where they are not of the
-/// language that is built, or the name of a term or of an external function may not be emitted.
+// The environment of the definitions, with the functions of the trait. `NotYet` comes exactly where they are not of the
+// language that is built, or the name of a term or of an external function may not be emitted.
 fn check_defs(alloc: Global, defs: &[Def]) -> Result<(Checked, Vec<TraitFn>), EnvError>
     ensures typed { IfOk result (λ c. TypedOnly (seen defs.now) (environment c.0.typeenv c.0.termenv)) }
     ensures given { IfOk result (λ c. IsGiven (environment c.0.typeenv c.0.termenv)) }

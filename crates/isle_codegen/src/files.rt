@@ -13,9 +13,10 @@ use crate::text::text_of;
 use isle_core::{CodegenOptions, Dir, Files, ReadError};
 use std::alloc::Global;
 
-/// The text of the program of the definitions that the files spell, in order. `NotYet` comes exactly where all were
-/// read and they are not of the language that is built, or a name as printed may not be emitted. Each name is looked up
-/// once, none behind that of the first input that is not read, and of each input at most 2^24 + 1 bytes are taken.
+/// Compiles the named files, and returns the text of the program that their definitions give (`specs/Headline.antt`).
+/// `NotYet` comes exactly where all were read and they are not of the language that is built, or a name as printed may not
+/// be emitted; `Io` tells the first input that is not read. Each name is looked up once, none behind that input, and of
+/// each input at most 2^24 + 1 bytes are taken.
 pub fn from_files<D: Dir>(
     alloc: Global,
     dir: &mut D,
@@ -42,7 +43,7 @@ pub fn from_files<D: Dir>(
     }
 }
 
-/// The text of the program of the definitions that the files' texts spell. There are as many names as texts.
+// The text of the program of the definitions that the files' texts spell. There are as many names as texts.
 fn compiled(alloc: Global, files: &Files, options: &CodegenOptions) -> Result<String, FileError>
     requires count { length files.now.file_texts ≡ length files.now.file_names }
     requires options { IsBuilt options.now }

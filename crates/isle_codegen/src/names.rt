@@ -38,35 +38,35 @@ fn is_name_byte(byte: u8) -> bool
     byte >= 32 && byte != 127
 }
 
-/// Whether a file's name may stand in a comment or a string.
+// Whether a file's name may stand in a comment or a string.
 fn is_file_name(name: &str) -> bool
     ensures { result ≡ is_file_name name.now }
 {
     name.as_bytes().iter().all(|byte| is_name_byte(*byte))
 }
 
-/// Whether all of them may.
+/// Tells whether the names of files may all stand in a comment or a string (`specs/Names.antt`).
 pub fn are_file_names(names: &[Text]) -> bool
     ensures { result ≡ are_file_names names.now }
 {
     names.iter().all(|name| is_file_name(name.as_str()))
 }
 
-/// A letter, a digit or `_`.
+// A letter, a digit or `_`.
 fn is_word_byte(byte: u8) -> bool
     ensures { result ≡ is_word_byte byte }
 {
     byte.is_ascii_alphanumeric() || byte == b'_'
 }
 
-/// Whether the name of a term may stand behind `constructor_`.
+// Whether the name of a term may stand behind `constructor_`.
 fn is_term_name(name: &str) -> bool
     ensures { result ≡ is_term_name name.now }
 {
     name.as_bytes().iter().all(|byte| is_word_byte(*byte))
 }
 
-/// The name of a term, or nothing where it is not there.
+// The name of a term, or nothing where it is not there.
 fn term_name<'e>(typeenv: &'e TypeEnv, termenv: &TermEnv, id: TermId) -> &'e str
     ensures { result.now ≡ term_name (environment typeenv.now termenv.now) id }
 {
@@ -79,7 +79,7 @@ fn term_name<'e>(typeenv: &'e TypeEnv, termenv: &TermEnv, id: TermId) -> &'e str
     }
 }
 
-/// Whether the names of the listed terms may be emitted.
+// Whether the names of the listed terms may be emitted.
 fn are_listed_names(typeenv: &TypeEnv, termenv: &TermEnv, terms: &[(TermId, RuleSet)]) -> bool
     ensures { result ≡ list_all (λ t. is_term_name (term_name (environment typeenv.now termenv.now) t.0)) terms.now }
 {
@@ -91,7 +91,7 @@ fn are_listed_names(typeenv: &TypeEnv, termenv: &TermEnv, terms: &[(TermId, Rule
     true
 }
 
-/// Whether the names of the terms with rules may be emitted. `terms` lists these terms.
+/// Tells whether the names of the terms with rules may be emitted (`specs/Names.antt`). `terms` lists these terms.
 pub fn are_term_names(typeenv: &TypeEnv, termenv: &TermEnv, terms: &[(TermId, RuleSet)]) -> bool
     requires { map (λ t. t.0) terms.now ≡ with_rules (environment typeenv.now termenv.now) }
     ensures { result ≡ are_term_names (environment typeenv.now termenv.now) }
@@ -99,7 +99,8 @@ pub fn are_term_names(typeenv: &TypeEnv, termenv: &TermEnv, terms: &[(TermId, Ru
     are_listed_names(typeenv, termenv, terms)
 }
 
-/// Whether functions of the trait may be called by their names: each is a name of Rust, and no two are equal.
+/// Tells whether functions of the trait may be called by their names: each is a name of Rust, and no two are equal. The
+/// only error is want of memory.
 pub fn are_fn_names(alloc: Global, fns: &[TraitFn]) -> Result<bool, OutOfMemory>
     ensures { IfOk result (λ b. IsTrue b ↔ AreFnNames fns.now) }
 {
@@ -109,7 +110,7 @@ pub fn are_fn_names(alloc: Global, fns: &[TraitFn]) -> Result<bool, OutOfMemory>
     are_apart(alloc, fns)
 }
 
-/// Whether the name of each function is a name of Rust.
+// Whether the name of each function is a name of Rust.
 fn are_identifiers(fns: &[TraitFn]) -> bool
     ensures { IsTrue result ↔ AllByRecursion (λ (f : TheFn). IsIdentifier f.name) fns.now }
 {

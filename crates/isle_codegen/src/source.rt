@@ -7,8 +7,8 @@ use isle_core::Text;
 use isle_syntax::{Def, ParseFail, parse_text};
 use std::alloc::Global;
 
-/// The definitions that the texts spell, one after the other. `NotYet` comes exactly where they spell none of forms
-/// that are built.
+/// Parses the texts, and returns their definitions, one text after the other (`specs/Source.antt`). `NotYet` comes exactly
+/// where they spell none of forms that are built; beside it only want of memory.
 pub fn parse_all(alloc: Global, texts: &[Text]) -> Result<Vec<Def>, ParseFail>
     ensures ok { IfOk result (λ read. Source 0 texts.now (defs read.items)) }
     ensures once { IfOk result (λ read. (others : ListOf PureDef) → Source 0 texts.now others → others ≡ defs read.items) }

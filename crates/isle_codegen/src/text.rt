@@ -18,8 +18,9 @@ use isle_target::print_program;
 use isle_tree::TraitFn;
 use std::alloc::Global;
 
-/// The text of the program of an environment: the header comment, which names the files, and the print of
-/// `codegen_tree`, whose conditions are its own. The files' names as printed may stand in a comment.
+/// Writes the text of an environment's program: the header comment, which names the files, and the print of
+/// `codegen_tree`, whose conditions are its own. The files' names as printed may stand in a comment. The only error is want
+/// of memory.
 pub fn codegen(
     alloc: Global,
     files: &Files,
@@ -40,7 +41,7 @@ pub fn codegen(
     text_of(alloc, files, typeenv, termenv, terms, fns, options)
 }
 
-/// What `codegen` gives, from the functions of the trait.
+/// Does what `codegen` does, from the functions of the trait.
 pub fn text_of(
     alloc: Global,
     files: &Files,
@@ -66,7 +67,7 @@ pub fn text_of(
     Ok(text)
 }
 
-/// The header comment of files with these names.
+// The header comment of files with these names.
 fn header(alloc: Global, names: &[Text]) -> Result<String, OutOfMemory>
     ensures { IfOk result (λ text. string_bytes text ≡ header names.now) }
 {

@@ -17,7 +17,7 @@ use isle_emission::{Context, LineStarts, kind_of, term_function, trait_fns};
 use isle_tree::{Function, Program, TraitFn};
 use std::alloc::Global;
 
-/// The function of the term of this number, from the block of its rule set. The table is that of the files.
+// The function of the term of this number, from the block of its rule set. The table is that of the files.
 fn emit_one(
     alloc: Global,
     files: &Files,
@@ -45,7 +45,7 @@ fn emit_one(
     }
 }
 
-/// The functions of terms with their rule sets, in order.
+// The functions of terms with their rule sets, in order.
 fn emit_all(
     alloc: Global,
     files: &Files,
@@ -64,9 +64,9 @@ fn emit_all(
     Ok(fns)
 }
 
-/// The program of an environment: the functions of the trait, the types, and a function for each term with rules, in
-/// order of ids. `terms` lists the terms with rules in this order, each with a rule set that stands for its rules; all
-/// places lie in the files.
+/// Makes the program of an environment: the functions of the trait, the types, and a function for each term with rules, in
+/// order of ids (`specs/Emission.antt`, `specs/Headline.antt`). `terms` lists the terms with rules in this order, each with
+/// a rule set that stands for its rules; all places lie in the files. The only error is want of memory.
 pub fn codegen_tree(
     alloc: Global,
     files: &Files,
@@ -87,7 +87,7 @@ pub fn codegen_tree(
     tree_of(alloc, files, typeenv, termenv, terms, fns, options)
 }
 
-/// What `codegen_tree` gives, from the functions of the trait.
+/// Does what `codegen_tree` does, from the functions of the trait.
 pub fn tree_of(
     alloc: Global,
     files: &Files,

@@ -11,12 +11,12 @@ use Rattle.isle_command_line.specs.Words.{is_name}
 use Rattle.isle_command_line.specs.Lines as choice
 use Rattle.isle_command_line.specs.Lines.{Choice, ChoiceS, no_allow, log, split, threshold, prefixed, ChoicesS, no_choice, a_choice, AreOnce, no_options, with_choice, options_of, kind_word, LineS, AnswersS, traced}
 use Rattle.isle_command_line.specs.Reading as reading
-use Rattle.isle_command_line.specs.Reading.{named, sourced, valued, optional, is_trace, is_answers, chosen, counted, asked, next, onward, read, asks, first, mark, kind_of, count, parts}
-use Rattle.isle_command_line.specs.Asked.{Asked}
+use Rattle.isle_command_line.specs.Reading.{named, sourced, valued, optional, is_trace, is_answers, chosen, counted, request, next, onward, read, asks, first, mark, kind_of, count, parts}
+use Rattle.isle_command_line.specs.Request.{Request}
 use Rattle.isle_command_line.specs.declared.commands.Source.{Source}
 use Rattle.isle_command_line.specs.declared.state.Verb.{Verb}
 use Rattle.isle_command_line.specs.declared.state.Verb.TheVariants as verb
-use Rattle.isle_command_line.specs.Asked as command
+use Rattle.isle_command_line.specs.Request as command
 use Rattle.isle_command_line.specs.Known.{Known}
 use Rattle.isle_command_line.specs.Known as state
 use Rattle.isle_command_line.proofs.WordLaws.{both, kind_again, count_again, parts_again}
@@ -24,9 +24,9 @@ use Rattle.isle_command_line.proofs.RunWords.{name_no_trace, source_again, sourc
 use Rattle.isle_command_line.proofs.ChoiceLaws.{free, all_kept, all_free}
 
 -- what the words ask for where something is known behind them
-abbrev pub asked_of : Option Known → Option Asked
-asked_of (Some s) = asks s
-asked_of None = None
+abbrev pub request_of : Option Known → Option Request
+request_of (Some s) = asks s
+request_of None = None
 
 unless : (b : Bool) (s : Known) (f : Known → Option Known) → not b ≡ true → onward (if b then None else Some s) f ≡ f s
 unless false s f h = refl
@@ -80,10 +80,10 @@ read_run true ss w more h = refl
 read_run false ss w more h = read_untraced ss w more h
 
 read_last : (t : Bool) (o : CodegenOptions) (s : Source) (m : List ℕ) (vs : Writtens) {a : Option (List ℕ)} {last : List (List ℕ)} → AnswersS a last
-    → asked_of (read (state.Behind t o s m vs) last) ≡ Some (command.Run t o s m vs a)
+    → request_of (read (state.Behind t o s m vs) last) ≡ Some (command.Run t o s m vs a)
 unfolding is_answers
 read_last t o s m vs choice.no_answers = refl
-read_last t o s m vs (choice.answers f h) = ap (λ b. asked_of (onward (if b then Some (state.Whole (command.Run t o s m vs (Some f))) else None) (λ k. Some k))) h
+read_last t o s m vs (choice.answers f h) = ap (λ b. request_of (onward (if b then Some (state.Whole (command.Run t o s m vs (Some f))) else None) (λ k. Some k))) h
 
 read_term : (t : Bool) (o : CodegenOptions) (s : Source) (m x : List ℕ) (vs : Writtens) (last : List (List ℕ)) → is_name m ≡ true → spelt x ≡ Some vs
     → read (state.Term t o s) (m ∷ x ∷ last) ≡ read (state.Behind t o s m vs) last
@@ -92,22 +92,22 @@ read_term t o s m x vs last h e =
     ∙ ap (λ r. onward (valued t o s m r) (λ k. read k last)) e
 
 -- each line is read as what it asks for
-pub complete : {ws : List (List ℕ)} {c : Asked} → LineS ws c → asked_of (read state.Begin ws) ≡ Some c
+pub complete : {ws : List (List ℕ)} {c : Request} → LineS ws c → request_of (read state.Begin ws) ≡ Some c
 unfolding first
 complete choice.stored = refl
 complete choice.help = refl
 complete choice.version = refl
 complete (choice.compile cs us name names ss once good) =
     let f : (is_name name ≡ true) × (list_all is_name names ≡ true) = both _ _ good in
-    ap asked_of (read_choices ss verb.Compile no_options (name ∷ names) (all_free cs) once ∙ read_named verb.Compile (options_of cs) name names f.0
+    ap request_of (read_choices ss verb.Compile no_options (name ∷ names) (all_free cs) once ∙ read_named verb.Compile (options_of cs) name names f.0
     ∙ read_names (options_of cs) (name ∷ []) names f.1)
 complete (choice.build cs us unit ss once good) =
-    ap asked_of (read_choices ss verb.Build no_options (unit ∷ []) (all_free cs) once ∙ read_named verb.Build (options_of cs) unit [] good)
-complete (choice.prelude k) = ap (λ r. asked_of (onward (asked r) (λ t. Some t))) (kind_again k)
+    ap request_of (read_choices ss verb.Build no_options (unit ∷ []) (all_free cs) once ∙ read_named verb.Build (options_of cs) unit [] good)
+complete (choice.prelude k) = ap (λ r. request_of (onward (request r) (λ t. Some t))) (kind_again k)
 complete choice.units = refl
 complete (choice.isa target) = refl
 complete (choice.run t cs us s from m x vs a last ss once is good spells la) =
-    ap asked_of (read_run t ss from (m ∷ x ∷ last) (source_named is)
+    ap request_of (read_run t ss from (m ∷ x ∷ last) (source_named is)
     ∙ read_choices ss (verb.Run t) no_options (from ∷ m ∷ x ∷ last) (all_free cs) once
     ∙ read_named (verb.Run t) (options_of cs) from (m ∷ x ∷ last) (source_named is)
     ∙ ap (λ r. onward (sourced t (options_of cs) r) (λ k. read k (m ∷ x ∷ last))) (source_again is)

@@ -8,8 +8,8 @@ use Rattle.isle_values.proofs.Spelt.{empty_list}
 use Rattle.isle_command_line.specs.Lines as choice
 use Rattle.isle_command_line.specs.Lines.{LineS, no_options, with_choice, Continues, IsBad, IsMissing}
 use Rattle.isle_command_line.specs.Reading.{onward, read, asks, valued, source_of, is_trace, is_answers, count, parts, kind_of, StopsAt}
-use Rattle.isle_command_line.specs.Asked.{Asked}
-use Rattle.isle_command_line.specs.Asked as command
+use Rattle.isle_command_line.specs.Request.{Request}
+use Rattle.isle_command_line.specs.Request as command
 use Rattle.isle_command_line.specs.declared.commands.Kind.TheVariants as kind
 use Rattle.isle_command_line.specs.declared.commands.Source.{Source}
 use Rattle.isle_command_line.specs.declared.commands.Source.TheVariants as source
@@ -20,53 +20,53 @@ use Rattle.isle_command_line.specs.declared.state.Verb.TheVariants as verb
 use Rattle.isle_command_line.specs.Known.{Known}
 use Rattle.isle_command_line.specs.Known as state
 use Rattle.isle_command_line.proofs.Steps.{read_append}
-use Rattle.isle_command_line.proofs.Sound.{Told, After, Answers, told, told_asks, told_named, told_next}
-use Rattle.isle_command_line.proofs.Complete.{asked_of, complete}
+use Rattle.isle_command_line.proofs.Sound.{HasRead, After, Answers, told, has_read_asks, has_read_named, has_read_next}
+use Rattle.isle_command_line.proofs.Complete.{request_of, complete}
 
 -- what is asked for, where something is known
-pub line_of : (ws : List (List ℕ)) (s : Known) (c : Asked) → read state.Begin ws ≡ Some s → asks s ≡ Some c → LineS ws c
-line_of ws s c e f = subst (λ r. Answers r ws) f (told_asks s ws (subst (λ r. After r ws) e (told ws)))
+pub line_of : (ws : List (List ℕ)) (s : Known) (c : Request) → read state.Begin ws ≡ Some s → asks s ≡ Some c → LineS ws c
+line_of ws s c e f = subst (λ r. Answers r ws) f (has_read_asks s ws (subst (λ r. After r ws) e (told ws)))
 
 -- words ask for one thing at most
-pub one_line : {ws : List (List ℕ)} {c d : Asked} → LineS ws c → LineS ws d → d ≡ c
+pub one_line : {ws : List (List ℕ)} {c d : Request} → LineS ws c → LineS ws d → d ≡ c
 one_line {ws = ws} {c = c} {d = d} h k = let e : Some d ≡ Some c = sym (complete k) ∙ complete h in cc
 
 behind : (ws : List (List ℕ)) (w : List ℕ) → Continues (ws ++ w ∷ []) → Continues ws
 behind ws w h = (w ∷ h.0, h.1, subst (λ z. LineS z h.1) (append_assoc ws (w ∷ []) h.0) h.2)
 
-whole : (ws : List (List ℕ)) (c : Asked) → LineS ws c → Continues ws
+whole : (ws : List (List ℕ)) (c : Request) → LineS ws c → Continues ws
 whole ws c h = ([], c, subst (λ z. LineS z c) (sym (append-nil ws)) h)
 
-with_values : (t : Bool) (o : CodegenOptions) (s : Source) (m : List ℕ) (ws : List (List ℕ)) → Told (state.Values t o s m) ws → Continues ws
-with_values t o s m ws h = behind ws (codes "()") (whole _ (command.Run t o s m NoValue None) (told_asks (state.Behind t o s m NoValue) _
-    (subst (λ r. After (valued t o s m r) (ws ++ codes "()" ∷ [])) empty_list (told_next (state.Values t o s m) ws (codes "()") h))))
+with_values : (t : Bool) (o : CodegenOptions) (s : Source) (m : List ℕ) (ws : List (List ℕ)) → HasRead (state.Values t o s m) ws → Continues ws
+with_values t o s m ws h = behind ws (codes "()") (whole _ (command.Run t o s m NoValue None) (has_read_asks (state.Behind t o s m NoValue) _
+    (subst (λ r. After (valued t o s m r) (ws ++ codes "()" ∷ [])) empty_list (has_read_next (state.Values t o s m) ws (codes "()") h))))
 
-with_term : (t : Bool) (o : CodegenOptions) (s : Source) (ws : List (List ℕ)) → Told (state.Term t o s) ws → Continues ws
-with_term t o s ws h = behind ws (codes "a") (with_values t o s (codes "a") _ (told_next (state.Term t o s) ws (codes "a") h))
+with_term : (t : Bool) (o : CodegenOptions) (s : Source) (ws : List (List ℕ)) → HasRead (state.Term t o s) ws → Continues ws
+with_term t o s ws h = behind ws (codes "a") (with_values t o s (codes "a") _ (has_read_next (state.Term t o s) ws (codes "a") h))
 
-with_name : (v : Verb) (o : CodegenOptions) (ws : List (List ℕ)) → Told (state.Options v o) ws → Continues ws
+with_name : (v : Verb) (o : CodegenOptions) (ws : List (List ℕ)) → HasRead (state.Options v o) ws → Continues ws
 unfolding source_of
-with_name verb.Compile o ws h = behind ws (codes "a") (whole _ (command.Compile o (codes "a" ∷ [])) (told_asks (state.Names o (codes "a" ∷ [])) _ (told_named verb.Compile o ws (codes "a") h refl)))
-with_name (verb.Run t) o ws h = behind ws (codes "a") (with_term t o (source.File (codes "a")) _ (told_named (verb.Run t) o ws (codes "a") h refl))
-with_name verb.Build o ws h = behind ws (codes "a") (whole _ (command.Build o (codes "a")) (told_named verb.Build o ws (codes "a") h refl))
+with_name verb.Compile o ws h = behind ws (codes "a") (whole _ (command.Compile o (codes "a" ∷ [])) (has_read_asks (state.Names o (codes "a" ∷ [])) _ (has_read_named verb.Compile o ws (codes "a") h refl)))
+with_name (verb.Run t) o ws h = behind ws (codes "a") (with_term t o (source.File (codes "a")) _ (has_read_named (verb.Run t) o ws (codes "a") h refl))
+with_name verb.Build o ws h = behind ws (codes "a") (whole _ (command.Build o (codes "a")) (has_read_named verb.Build o ws (codes "a") h refl))
 
 -- a line begins with words behind which something is known
-pub continues : (s : Known) (ws : List (List ℕ)) → Told s ws → Continues ws
+pub continues : (s : Known) (ws : List (List ℕ)) → HasRead s ws → Continues ws
 unfolding count parts kind_of is_trace is_answers
-continues state.Begin ws h = whole ws _ (told_asks state.Begin ws h)
+continues state.Begin ws h = whole ws _ (has_read_asks state.Begin ws h)
 continues (state.Whole c) ws h = whole ws c h
 continues (state.Options v o) ws h = with_name v o ws h
-continues (state.Threshold v o) ws h = behind ws (codes "0") (with_name v (with_choice o (choice.Threshold 0)) _ (told_next (state.Threshold v o) ws (codes "0") h))
-continues (state.Prefix v o) ws h = behind ws (codes "=a") (with_name v (with_choice o (choice.Prefixed [] (codes "a"))) _ (told_next (state.Prefix v o) ws (codes "=a") h))
+continues (state.Threshold v o) ws h = behind ws (codes "0") (with_name v (with_choice o (choice.Threshold 0)) _ (has_read_next (state.Threshold v o) ws (codes "0") h))
+continues (state.Prefix v o) ws h = behind ws (codes "=a") (with_name v (with_choice o (choice.Prefixed [] (codes "a"))) _ (has_read_next (state.Prefix v o) ws (codes "=a") h))
 continues (state.Names o []) ws h = let some = h.2 in absurd (omega (arith, some))
-continues (state.Names o (n ∷ ns)) ws h = whole ws (command.Compile o (n ∷ ns)) (told_asks (state.Names o (n ∷ ns)) ws h)
-continues state.Kind ws h = behind ws (codes "numerics") (whole _ (command.Prelude kind.Numerics) (told_next state.Kind ws (codes "numerics") h))
-continues state.Target ws h = behind ws [] (whole _ (command.Isa []) (told_next state.Target ws [] h))
-continues state.Run ws h = behind ws (codes "--trace") (with_name (verb.Run true) no_options _ (told_next state.Run ws (codes "--trace") h))
+continues (state.Names o (n ∷ ns)) ws h = whole ws (command.Compile o (n ∷ ns)) (has_read_asks (state.Names o (n ∷ ns)) ws h)
+continues state.Kind ws h = behind ws (codes "numerics") (whole _ (command.Prelude kind.Numerics) (has_read_next state.Kind ws (codes "numerics") h))
+continues state.Target ws h = behind ws [] (whole _ (command.Isa []) (has_read_next state.Target ws [] h))
+continues state.Run ws h = behind ws (codes "--trace") (with_name (verb.Run true) no_options _ (has_read_next state.Run ws (codes "--trace") h))
 continues (state.Term t o s) ws h = with_term t o s ws h
 continues (state.Values t o s m) ws h = with_values t o s m ws h
-continues (state.Behind t o s m vs) ws h = whole ws _ (told_asks (state.Behind t o s m vs) ws h)
-continues (state.Answers t o s m vs) ws h = behind ws (codes "a") (whole _ (command.Run t o s m vs (Some (codes "a"))) (told_next (state.Answers t o s m vs) ws (codes "a") h))
+continues (state.Behind t o s m vs) ws h = whole ws _ (has_read_asks (state.Behind t o s m vs) ws h)
+continues (state.Answers t o s m vs) ws h = behind ws (codes "a") (whole _ (command.Run t o s m vs (Some (codes "a"))) (has_read_next (state.Answers t o s m vs) ws (codes "a") h))
 
 known_continues : (o : Option Known) (ws : List (List ℕ)) → IsSome o → After o ws → Continues ws
 known_continues (Some s) ws h t = continues s ws t
@@ -75,7 +75,7 @@ known_continues None ws h t = cc
 not_continued : (ws : List (List ℕ)) → read state.Begin ws ≡ None → Continues ws → ⊥
 not_continued ws e h =
     let known : read state.Begin (ws ++ h.0) ≡ None = read_append state.Begin ws h.0 ∙ ap (λ r. onward r (λ t. read t h.0)) e in
-    let asked : None ≡ Some h.1 = sym (ap asked_of known) ∙ complete h.2 in
+    let request : None ≡ Some h.1 = sym (ap request_of known) ∙ complete h.2 in
     cc
 
 -- the first word with which no line continues
@@ -90,15 +90,15 @@ bad_at ws i h = record {
 pub missing_behind : (ws : List (List ℕ)) (s : Known) → read state.Begin ws ≡ Some s → asks s ≡ None → IsMissing ws
 missing_behind ws s e f = record {
   before = continues s ws (subst (λ r. After r ws) e (told ws));
-  none = λ c k. let asked : None ≡ Some c = sym f ∙ sym (ap asked_of e) ∙ complete k in cc;
+  none = λ c k. let request : None ≡ Some c = sym f ∙ sym (ap request_of e) ∙ complete k in cc;
 }
 
 -- a line has no bad word
-pub line_not_bad : (ws : List (List ℕ)) (i : ℕ) (c : Asked) → LineS ws c → IsBad ws i → ⊥
+pub line_not_bad : (ws : List (List ℕ)) (i : ℕ) (c : Request) → LineS ws c → IsBad ws i → ⊥
 line_not_bad ws i c h b = b.bad (drop (i + 1) ws, c, subst (λ z. LineS z c) (sym (take-append-drop (i + 1) ws)) h)
 
 -- what is a line is read, want of memory aside
-pub line_read : {A : Type 0} (ws : List (List ℕ)) (c : Asked) (r : Result A LineFail) → LineS ws c → ((i : ℕ) → r ≡ Err (fail.Bad i) → IsBad ws i) → (r ≡ Err fail.Missing → IsMissing ws) → IsOkUnless r fail.Memory
+pub line_read : {A : Type 0} (ws : List (List ℕ)) (c : Request) (r : Result A LineFail) → LineS ws c → ((i : ℕ) → r ≡ Err (fail.Bad i) → IsBad ws i) → (r ≡ Err fail.Missing → IsMissing ws) → IsOkUnless r fail.Memory
 line_read ws c (Ok d) h bad missing = tt
 line_read ws c (Err (fail.Bad i)) h bad missing = absurd (line_not_bad ws i c h (bad i refl))
 line_read ws c (Err fail.Missing) h bad missing = absurd ((missing refl).none c h)

@@ -12,11 +12,11 @@ use Rattle.isle_values.proofs.Spelt.{IsSpelt, spelt_is}
 use Rattle.isle_command_line.specs.Words.{is_name}
 use Rattle.isle_command_line.specs.Lines as choice
 use Rattle.isle_command_line.specs.Lines.{LineS, SourceS, AnswersS, no_options, with_choice, options_of}
-use Rattle.isle_command_line.specs.Reading.{begun, named, sourced, source_of, optional, valued, is_trace, is_answers, chosen, counted, prefixed, asked, next, onward, read, asks, first, mark, kind_of, count, parts}
+use Rattle.isle_command_line.specs.Reading.{begun, named, sourced, source_of, optional, valued, is_trace, is_answers, chosen, counted, prefixed, request, next, onward, read, asks, first, mark, kind_of, count, parts}
 use Rattle.isle_command_line.specs.declared.commands.Kind.{Kind}
 use Rattle.isle_command_line.specs.declared.commands.Source.{Source}
-use Rattle.isle_command_line.specs.Asked.{Asked}
-use Rattle.isle_command_line.specs.Asked as command
+use Rattle.isle_command_line.specs.Request.{Request}
+use Rattle.isle_command_line.specs.Request as command
 use Rattle.isle_command_line.specs.declared.word.FirstWord.{FirstWord}
 use Rattle.isle_command_line.specs.declared.word.FirstWord.TheVariants as first_word
 use Rattle.isle_command_line.specs.declared.word.OptionWord.{OptionWord}
@@ -72,36 +72,36 @@ ran false o s front m x vs a last h good is la =
     (choice.run false c.choices h.options s h.from m x vs a last c.spelt c.once h.is good is la))
 
 -- what is known says of the words so far
-abbrev pub Told : Known → List (List ℕ) → Type 0
-Told state.Begin ws = ws ≡ []
-Told (state.Whole c) ws = LineS ws c
-Told (state.Options v o) ws = (us : List (List ℕ)) × Begun v o us × (ws ≡ verb_word v ∷ us)
-Told (state.Threshold v o) ws = (us : List (List ℕ)) × Begun v o us × (is_some o.match_arm_split_threshold ≡ false) × (ws ≡ verb_word v ∷ (us ++ codes "--threshold" ∷ []))
-Told (state.Prefix v o) ws = (us : List (List ℕ)) × Begun v o us × (ws ≡ verb_word v ∷ (us ++ codes "--prefix" ∷ []))
-Told (state.Names o ns) ws = (us : List (List ℕ)) × Chose o us × (1 ≤ length ns) × (list_all is_name ns ≡ true) × (ws ≡ codes "compile" ∷ (us ++ ns))
-Told state.Kind ws = ws ≡ codes "prelude" ∷ []
-Told state.Target ws = ws ≡ codes "isa" ∷ []
-Told state.Run ws = ws ≡ codes "run" ∷ []
-Told (state.Term t o s) ws = (front : List (List ℕ)) × Sourced t o s front × (ws ≡ codes "run" ∷ front)
-Told (state.Values t o s m) ws = (front : List (List ℕ)) × Sourced t o s front × (is_name m ≡ true) × (ws ≡ codes "run" ∷ (front ++ m ∷ []))
-Told (state.Behind t o s m vs) ws = (front : List (List ℕ)) × Sourced t o s front × (is_name m ≡ true) × (x : List ℕ) × SpellsValues x vs × (ws ≡ codes "run" ∷ (front ++ m ∷ x ∷ []))
-Told (state.Answers t o s m vs) ws = (front : List (List ℕ)) × Sourced t o s front × (is_name m ≡ true) × (x : List ℕ) × SpellsValues x vs × (ws ≡ codes "run" ∷ (front ++ m ∷ x ∷ codes "--answers" ∷ []))
+abbrev pub HasRead : Known → List (List ℕ) → Type 0
+HasRead state.Begin ws = ws ≡ []
+HasRead (state.Whole c) ws = LineS ws c
+HasRead (state.Options v o) ws = (us : List (List ℕ)) × Begun v o us × (ws ≡ verb_word v ∷ us)
+HasRead (state.Threshold v o) ws = (us : List (List ℕ)) × Begun v o us × (is_some o.match_arm_split_threshold ≡ false) × (ws ≡ verb_word v ∷ (us ++ codes "--threshold" ∷ []))
+HasRead (state.Prefix v o) ws = (us : List (List ℕ)) × Begun v o us × (ws ≡ verb_word v ∷ (us ++ codes "--prefix" ∷ []))
+HasRead (state.Names o ns) ws = (us : List (List ℕ)) × Chose o us × (1 ≤ length ns) × (list_all is_name ns ≡ true) × (ws ≡ codes "compile" ∷ (us ++ ns))
+HasRead state.Kind ws = ws ≡ codes "prelude" ∷ []
+HasRead state.Target ws = ws ≡ codes "isa" ∷ []
+HasRead state.Run ws = ws ≡ codes "run" ∷ []
+HasRead (state.Term t o s) ws = (front : List (List ℕ)) × Sourced t o s front × (ws ≡ codes "run" ∷ front)
+HasRead (state.Values t o s m) ws = (front : List (List ℕ)) × Sourced t o s front × (is_name m ≡ true) × (ws ≡ codes "run" ∷ (front ++ m ∷ []))
+HasRead (state.Behind t o s m vs) ws = (front : List (List ℕ)) × Sourced t o s front × (is_name m ≡ true) × (x : List ℕ) × SpellsValues x vs × (ws ≡ codes "run" ∷ (front ++ m ∷ x ∷ []))
+HasRead (state.Answers t o s m vs) ws = (front : List (List ℕ)) × Sourced t o s front × (is_name m ≡ true) × (x : List ℕ) × SpellsValues x vs × (ws ≡ codes "run" ∷ (front ++ m ∷ x ∷ codes "--answers" ∷ []))
 
 -- where anything is known
 abbrev pub After : Option Known → List (List ℕ) → Type 0
-After (Some s) ws = Told s ws
+After (Some s) ws = HasRead s ws
 After None ws = Unit {0}
 
-told_begun : (f : FirstWord) (w : List ℕ) → IsFirst f w → After (begun f) (w ∷ [])
-told_begun first_word.Help w is = subst (λ v. LineS (v ∷ []) command.Help) (sym is) choice.help
-told_begun first_word.Version w is = subst (λ v. LineS (v ∷ []) command.Version) (sym is) choice.version
-told_begun first_word.Compile w is = ([], chose_none, ap (λ v. v ∷ []) is)
-told_begun first_word.Build w is = ([], chose_none, ap (λ v. v ∷ []) is)
-told_begun first_word.Prelude w is = ap (λ v. v ∷ []) is
-told_begun first_word.Units w is = subst (λ v. LineS (v ∷ []) command.Units) (sym is) choice.units
-told_begun first_word.Isa w is = ap (λ v. v ∷ []) is
-told_begun first_word.Run w is = ap (λ v. v ∷ []) is
-told_begun first_word.Other w is = tt
+has_read_begun : (f : FirstWord) (w : List ℕ) → IsFirst f w → After (begun f) (w ∷ [])
+has_read_begun first_word.Help w is = subst (λ v. LineS (v ∷ []) command.Help) (sym is) choice.help
+has_read_begun first_word.Version w is = subst (λ v. LineS (v ∷ []) command.Version) (sym is) choice.version
+has_read_begun first_word.Compile w is = ([], chose_none, ap (λ v. v ∷ []) is)
+has_read_begun first_word.Build w is = ([], chose_none, ap (λ v. v ∷ []) is)
+has_read_begun first_word.Prelude w is = ap (λ v. v ∷ []) is
+has_read_begun first_word.Units w is = subst (λ v. LineS (v ∷ []) command.Units) (sym is) choice.units
+has_read_begun first_word.Isa w is = ap (λ v. v ∷ []) is
+has_read_begun first_word.Run w is = ap (λ v. v ∷ []) is
+has_read_begun first_word.Other w is = tt
 
 -- the line of a unit that is built
 pub built : (o : CodegenOptions) (us : List (List ℕ)) (w : List ℕ) → Chose o us → is_name w ≡ true → LineS (codes "build" ∷ us ++ w ∷ []) (command.Build o w)
@@ -111,42 +111,42 @@ built o us w h good = subst (λ p. LineS (codes "build" ∷ us ++ w ∷ []) (com
 pub compiled : (o : CodegenOptions) (us : List (List ℕ)) (n : List ℕ) (ns : List (List ℕ)) → Chose o us → list_all is_name (n ∷ ns) ≡ true → LineS (codes "compile" ∷ us ++ n ∷ ns) (command.Compile o (n ∷ ns))
 compiled o us n ns h good = subst (λ p. LineS (codes "compile" ∷ us ++ n ∷ ns) (command.Compile p (n ∷ ns))) h.chosen (choice.compile h.choices us n ns h.spelt h.once good)
 
-told_sourced : (t : Bool) (o : CodegenOptions) (ws : List (List ℕ)) (r : Option Source) (w : List ℕ) → Told (state.Options (verb.Run t) o) ws → IsSource r w → After (sourced t o r) (ws ++ w ∷ [])
-told_sourced t o ws None w h is = tt
-told_sourced t o ws (Some s) w h is = (h.0 ++ w ∷ [], record { options = h.0; begun = h.1; from = w; is = is; words = refl }, ap (λ z. z ++ w ∷ []) h.2)
+has_read_sourced : (t : Bool) (o : CodegenOptions) (ws : List (List ℕ)) (r : Option Source) (w : List ℕ) → HasRead (state.Options (verb.Run t) o) ws → IsSource r w → After (sourced t o r) (ws ++ w ∷ [])
+has_read_sourced t o ws None w h is = tt
+has_read_sourced t o ws (Some s) w h is = (h.0 ++ w ∷ [], record { options = h.0; begun = h.1; from = w; is = is; words = refl }, ap (λ z. z ++ w ∷ []) h.2)
 
-pub told_named : (v : Verb) (o : CodegenOptions) (ws : List (List ℕ)) (w : List ℕ) → Told (state.Options v o) ws → is_name w ≡ true → After (named v o w) (ws ++ w ∷ [])
-told_named verb.Compile o ws w h good = (h.0, h.1, omega arith, (λ k. good k && true), ap (λ z. z ++ w ∷ []) h.2)
-told_named verb.Build o ws w h good = subst (λ z. LineS z (command.Build o w)) (sym (ap (λ z. z ++ w ∷ []) h.2)) (built o h.0 w h.1 good)
-told_named (verb.Run t) o ws w h good = told_sourced t o ws (source_of w) w h (source_is w good)
+pub has_read_named : (v : Verb) (o : CodegenOptions) (ws : List (List ℕ)) (w : List ℕ) → HasRead (state.Options v o) ws → is_name w ≡ true → After (named v o w) (ws ++ w ∷ [])
+has_read_named verb.Compile o ws w h good = (h.0, h.1, omega arith, (λ k. good k && true), ap (λ z. z ++ w ∷ []) h.2)
+has_read_named verb.Build o ws w h good = subst (λ z. LineS z (command.Build o w)) (sym (ap (λ z. z ++ w ∷ []) h.2)) (built o h.0 w h.1 good)
+has_read_named (verb.Run t) o ws w h good = has_read_sourced t o ws (source_of w) w h (source_is w good)
 
 none_given : (t : Option ℕ) → is_some t ≡ false → t ≡ None
 none_given None e = refl
 none_given (Some n) e = cc
 
-told_chosen : (v : Verb) (o : CodegenOptions) (ws : List (List ℕ)) (m : OptionWord) (w : List ℕ) → Told (state.Options v o) ws → IsMarked m w → After (chosen v o m) (ws ++ w ∷ [])
-told_chosen v o ws marked.NoAllow w h is = off_if (λ r. After r (ws ++ w ∷ [])) o.exclude_global_allow_pragmas _ _ tt
+has_read_chosen : (v : Verb) (o : CodegenOptions) (ws : List (List ℕ)) (m : OptionWord) (w : List ℕ) → HasRead (state.Options v o) ws → IsMarked m w → After (chosen v o m) (ws ++ w ∷ [])
+has_read_chosen v o ws marked.NoAllow w h is = off_if (λ r. After r (ws ++ w ∷ [])) o.exclude_global_allow_pragmas _ _ tt
     (λ off. (h.0 ++ codes "--no-allow" ∷ [], begun_more v o h.0 choice.NoAllow (codes "--no-allow" ∷ []) h.1 choice.no_allow (ap not off), λ k. h.2 k ++ is k ∷ []))
-told_chosen v o ws marked.Log w h is = off_if (λ r. After r (ws ++ w ∷ [])) o.emit_logging _ _ tt
+has_read_chosen v o ws marked.Log w h is = off_if (λ r. After r (ws ++ w ∷ [])) o.emit_logging _ _ tt
     (λ off. (h.0 ++ codes "--log" ∷ [], begun_more v o h.0 choice.Log (codes "--log" ∷ []) h.1 choice.log (ap not off), λ k. h.2 k ++ is k ∷ []))
-told_chosen v o ws marked.Split w h is = off_if (λ r. After r (ws ++ w ∷ [])) o.split_match_arms _ _ tt
+has_read_chosen v o ws marked.Split w h is = off_if (λ r. After r (ws ++ w ∷ [])) o.split_match_arms _ _ tt
     (λ off. (h.0 ++ codes "--split" ∷ [], begun_more v o h.0 choice.Split (codes "--split" ∷ []) h.1 choice.split (ap not off), λ k. h.2 k ++ is k ∷ []))
-told_chosen v o ws marked.Threshold w h is = off_if (λ r. After r (ws ++ w ∷ [])) (is_some o.match_arm_split_threshold) _ _ tt
+has_read_chosen v o ws marked.Threshold w h is = off_if (λ r. After r (ws ++ w ∷ [])) (is_some o.match_arm_split_threshold) _ _ tt
     (λ off. (h.0, h.1, off, λ k. h.2 k ++ is k ∷ []))
-told_chosen v o ws marked.Prefix w h is = (h.0, h.1, λ k. h.2 k ++ is k ∷ [])
-told_chosen v o ws marked.Other w h is = tt
+has_read_chosen v o ws marked.Prefix w h is = (h.0, h.1, λ k. h.2 k ++ is k ∷ [])
+has_read_chosen v o ws marked.Other w h is = tt
 
-told_counted : (v : Verb) (o : CodegenOptions) (ws : List (List ℕ)) (r : Option ℕ) (w : List ℕ) → Told (state.Threshold v o) ws → IsCounted r w → After (counted v o r) (ws ++ w ∷ [])
-told_counted v o ws None w h is = tt
-told_counted v o ws (Some n) w h is = (
+has_read_counted : (v : Verb) (o : CodegenOptions) (ws : List (List ℕ)) (r : Option ℕ) (w : List ℕ) → HasRead (state.Threshold v o) ws → IsCounted r w → After (counted v o r) (ws ++ w ∷ [])
+has_read_counted v o ws None w h is = tt
+has_read_counted v o ws (Some n) w h is = (
   h.0 ++ codes "--threshold" ∷ w ∷ [],
   begun_more v o h.0 (choice.Threshold n) (codes "--threshold" ∷ w ∷ []) h.1 (choice.threshold n w is) (ap not h.2),
   ap (λ z. z ++ w ∷ []) h.3 ∙ ap (λ z. verb_word v ∷ z) (append_assoc h.0 (codes "--threshold" ∷ []) (w ∷ [])),
 )
 
-told_prefixed : (v : Verb) (o : CodegenOptions) (ws : List (List ℕ)) (r : Option (List ℕ × List ℕ)) (w : List ℕ) → Told (state.Prefix v o) ws → IsParted r w → After (prefixed v o r) (ws ++ w ∷ [])
-told_prefixed v o ws None w h is = tt
-told_prefixed v o ws (Some p) w h is = on_if (λ r. After r (ws ++ w ∷ [])) (is_name p.1) _ _
+has_read_prefixed : (v : Verb) (o : CodegenOptions) (ws : List (List ℕ)) (r : Option (List ℕ × List ℕ)) (w : List ℕ) → HasRead (state.Prefix v o) ws → IsParted r w → After (prefixed v o r) (ws ++ w ∷ [])
+has_read_prefixed v o ws None w h is = tt
+has_read_prefixed v o ws (Some p) w h is = on_if (λ r. After r (ws ++ w ∷ [])) (is_name p.1) _ _
     (λ good. (
       h.0 ++ codes "--prefix" ∷ w ∷ [],
       begun_more v o h.0 (choice.Prefixed p.0 p.1) (codes "--prefix" ∷ w ∷ []) h.1 (choice.prefixed p.0 p.1 w (record { parts = is.0; first = is.1; named = good })) refl,
@@ -158,87 +158,87 @@ all_push : (ns : List (List ℕ)) (w : List ℕ) → list_all is_name ns ≡ tru
 all_push [] w h k = λ i. k i && true
 all_push (n ∷ ns) w h k = let f = both _ _ h in let rest = all_push ns w f.1 k in λ i. f.0 i && rest i
 
-told_more : (o : CodegenOptions) (ns : List (List ℕ)) (ws : List (List ℕ)) (w : List ℕ) → Told (state.Names o ns) ws → is_name w ≡ true → Told (state.Names o (ns ++ w ∷ [])) (ws ++ w ∷ [])
-told_more o ns ws w h good =
+has_read_more : (o : CodegenOptions) (ns : List (List ℕ)) (ws : List (List ℕ)) (w : List ℕ) → HasRead (state.Names o ns) ws → is_name w ≡ true → HasRead (state.Names o (ns ++ w ∷ [])) (ws ++ w ∷ [])
+has_read_more o ns ws w h good =
     let long = length-append ns (w ∷ []) in
     let some = h.2 in
     (h.0, h.1, omega (arith, long, some), all_push ns w h.3 good, ap (λ z. z ++ w ∷ []) h.4 ∙ ap (λ z. codes "compile" ∷ z) (append_assoc h.0 ns (w ∷ [])))
 
-told_asked : (r : Option Kind) (ws : List (List ℕ)) (w : List ℕ) → ws ≡ codes "prelude" ∷ [] → IsKind r w → After (asked r) (ws ++ w ∷ [])
-told_asked None ws w h is = tt
-told_asked (Some k) ws w h is =
+has_read_asked : (r : Option Kind) (ws : List (List ℕ)) (w : List ℕ) → ws ≡ codes "prelude" ∷ [] → IsKind r w → After (request r) (ws ++ w ∷ [])
+has_read_asked None ws w h is = tt
+has_read_asked (Some k) ws w h is =
     let e : ws ++ w ∷ [] ≡ codes "prelude" ∷ choice.kind_word k ∷ [] = λ i. h i ++ is i ∷ [] in
     subst (λ z. LineS z (command.Prelude k)) (sym e) (choice.prelude k)
 
-told_optional : (v : Verb) (o : CodegenOptions) (ws : List (List ℕ)) (w : List ℕ) → Told (state.Options v o) ws → After (optional v o w) (ws ++ w ∷ [])
-told_optional v o ws w h = on_if (λ r. After r (ws ++ w ∷ [])) (is_name w) _ _ (told_named v o ws w h) (told_chosen v o ws (mark w) w h (mark_is w))
+has_read_optional : (v : Verb) (o : CodegenOptions) (ws : List (List ℕ)) (w : List ℕ) → HasRead (state.Options v o) ws → After (optional v o w) (ws ++ w ∷ [])
+has_read_optional v o ws w h = on_if (λ r. After r (ws ++ w ∷ [])) (is_name w) _ _ (has_read_named v o ws w h) (has_read_chosen v o ws (mark w) w h (mark_is w))
 
-told_run : (ws : List (List ℕ)) (w : List ℕ) → Told state.Run ws → After (next state.Run w) (ws ++ w ∷ [])
-told_run ws w h = on_if (λ r. After r (ws ++ w ∷ [])) (is_trace w) _ _
+has_read_run : (ws : List (List ℕ)) (w : List ℕ) → HasRead state.Run ws → After (next state.Run w) (ws ++ w ∷ [])
+has_read_run ws w h = on_if (λ r. After r (ws ++ w ∷ [])) (is_trace w) _ _
     (λ e. (codes "--trace" ∷ [], ([], chose_none, refl), λ k. h k ++ trace_is w e k ∷ []))
-    (told_optional (verb.Run false) no_options ws w ([], chose_none, h))
+    (has_read_optional (verb.Run false) no_options ws w ([], chose_none, h))
 
-told_valued : (t : Bool) (o : CodegenOptions) (s : Source) (m : List ℕ) (ws : List (List ℕ)) (r : Option Writtens) (w : List ℕ) → Told (state.Values t o s m) ws → IsSpelt r w → After (valued t o s m r) (ws ++ w ∷ [])
-told_valued t o s m ws None w h is = tt
-told_valued t o s m ws (Some vs) w h is = (h.0, h.1, h.2, w, is, ap (λ z. z ++ w ∷ []) h.3 ∙ ap (λ z. codes "run" ∷ z) (append_assoc h.0 (m ∷ []) (w ∷ [])))
+has_read_valued : (t : Bool) (o : CodegenOptions) (s : Source) (m : List ℕ) (ws : List (List ℕ)) (r : Option Writtens) (w : List ℕ) → HasRead (state.Values t o s m) ws → IsSpelt r w → After (valued t o s m r) (ws ++ w ∷ [])
+has_read_valued t o s m ws None w h is = tt
+has_read_valued t o s m ws (Some vs) w h is = (h.0, h.1, h.2, w, is, ap (λ z. z ++ w ∷ []) h.3 ∙ ap (λ z. codes "run" ∷ z) (append_assoc h.0 (m ∷ []) (w ∷ [])))
 
-told_behind : (t : Bool) (o : CodegenOptions) (s : Source) (m : List ℕ) (vs : Writtens) (ws : List (List ℕ)) (w : List ℕ) → Told (state.Behind t o s m vs) ws → After (next (state.Behind t o s m vs) w) (ws ++ w ∷ [])
-told_behind t o s m vs ws w h = on_if (λ r. After r (ws ++ w ∷ [])) (is_answers w) _ _
+has_read_behind : (t : Bool) (o : CodegenOptions) (s : Source) (m : List ℕ) (vs : Writtens) (ws : List (List ℕ)) (w : List ℕ) → HasRead (state.Behind t o s m vs) ws → After (next (state.Behind t o s m vs) w) (ws ++ w ∷ [])
+has_read_behind t o s m vs ws w h = on_if (λ r. After r (ws ++ w ∷ [])) (is_answers w) _ _
     (λ e. (h.0, h.1, h.2, h.3, h.4, (λ k. h.5 k ++ answers_is w e k ∷ []) ∙ ap (λ z. codes "run" ∷ z) (append_assoc h.0 (m ∷ h.3 ∷ []) (codes "--answers" ∷ []))))
     tt
 
-told_answers : (t : Bool) (o : CodegenOptions) (s : Source) (m : List ℕ) (vs : Writtens) (ws : List (List ℕ)) (w : List ℕ) → Told (state.Answers t o s m vs) ws → After (next (state.Answers t o s m vs) w) (ws ++ w ∷ [])
-told_answers t o s m vs ws w h = on_if (λ r. After r (ws ++ w ∷ [])) (is_name w) _ _
+has_read_answers : (t : Bool) (o : CodegenOptions) (s : Source) (m : List ℕ) (vs : Writtens) (ws : List (List ℕ)) (w : List ℕ) → HasRead (state.Answers t o s m vs) ws → After (next (state.Answers t o s m vs) w) (ws ++ w ∷ [])
+has_read_answers t o s m vs ws w h = on_if (λ r. After r (ws ++ w ∷ [])) (is_name w) _ _
     (λ good.
     let e : ws ++ w ∷ [] ≡ codes "run" ∷ (h.0 ++ m ∷ h.3 ∷ codes "--answers" ∷ w ∷ []) = ap (λ z. z ++ w ∷ []) h.5 ∙ ap (λ z. codes "run" ∷ z) (append_assoc h.0 (m ∷ h.3 ∷ codes "--answers" ∷ []) (w ∷ [])) in
     subst (λ z. LineS z (command.Run t o s m vs (Some w))) (sym e) (ran t o s h.0 m h.3 vs (Some w) (codes "--answers" ∷ w ∷ []) h.1 h.2 h.4 (choice.answers w good)))
     tt
 
 -- one word more
-pub told_next : (s : Known) (ws : List (List ℕ)) (w : List ℕ) → Told s ws → After (next s w) (ws ++ w ∷ [])
-told_next state.Begin ws w h = subst (λ z. After (begun (first w)) (z ++ w ∷ [])) (sym h) (told_begun (first w) w (first_is w))
-told_next (state.Whole c) ws w h = tt
-told_next (state.Options v o) ws w h = told_optional v o ws w h
-told_next (state.Threshold v o) ws w h = told_counted v o ws (count w) w h (count_is w)
-told_next (state.Prefix v o) ws w h = told_prefixed v o ws (parts w) w h (parts_is w)
-told_next (state.Names o ns) ws w h = on_if (λ r. After r (ws ++ w ∷ [])) (is_name w) _ _ (told_more o ns ws w h) tt
-told_next state.Kind ws w h = told_asked (kind_of w) ws w h (kind_is w)
-told_next state.Target ws w h = subst (λ z. LineS (z ++ w ∷ []) (command.Isa w)) (sym h) (choice.isa w)
-told_next state.Run ws w h = told_run ws w h
-told_next (state.Term t o s) ws w h = on_if (λ r. After r (ws ++ w ∷ [])) (is_name w) _ _ (λ good. (h.0, h.1, good, ap (λ z. z ++ w ∷ []) h.2)) tt
-told_next (state.Values t o s m) ws w h = told_valued t o s m ws (spelt w) w h (spelt_is w)
-told_next (state.Behind t o s m vs) ws w h = told_behind t o s m vs ws w h
-told_next (state.Answers t o s m vs) ws w h = told_answers t o s m vs ws w h
+pub has_read_next : (s : Known) (ws : List (List ℕ)) (w : List ℕ) → HasRead s ws → After (next s w) (ws ++ w ∷ [])
+has_read_next state.Begin ws w h = subst (λ z. After (begun (first w)) (z ++ w ∷ [])) (sym h) (has_read_begun (first w) w (first_is w))
+has_read_next (state.Whole c) ws w h = tt
+has_read_next (state.Options v o) ws w h = has_read_optional v o ws w h
+has_read_next (state.Threshold v o) ws w h = has_read_counted v o ws (count w) w h (count_is w)
+has_read_next (state.Prefix v o) ws w h = has_read_prefixed v o ws (parts w) w h (parts_is w)
+has_read_next (state.Names o ns) ws w h = on_if (λ r. After r (ws ++ w ∷ [])) (is_name w) _ _ (has_read_more o ns ws w h) tt
+has_read_next state.Kind ws w h = has_read_asked (kind_of w) ws w h (kind_is w)
+has_read_next state.Target ws w h = subst (λ z. LineS (z ++ w ∷ []) (command.Isa w)) (sym h) (choice.isa w)
+has_read_next state.Run ws w h = has_read_run ws w h
+has_read_next (state.Term t o s) ws w h = on_if (λ r. After r (ws ++ w ∷ [])) (is_name w) _ _ (λ good. (h.0, h.1, good, ap (λ z. z ++ w ∷ []) h.2)) tt
+has_read_next (state.Values t o s m) ws w h = has_read_valued t o s m ws (spelt w) w h (spelt_is w)
+has_read_next (state.Behind t o s m vs) ws w h = has_read_behind t o s m vs ws w h
+has_read_next (state.Answers t o s m vs) ws w h = has_read_answers t o s m vs ws w h
 
-told_read : (s : Known) (ws vs : List (List ℕ)) → Told s ws → After (read s vs) (ws ++ vs)
-told_read s ws [] h = subst (Told s) (sym (append-nil ws)) h
-told_read s ws (v ∷ vs) h = by (next s v) (told_next s ws v h) (λ t g. told_read t (ws ++ v ∷ []) vs g)
+has_read : (s : Known) (ws vs : List (List ℕ)) → HasRead s ws → After (read s vs) (ws ++ vs)
+has_read s ws [] h = subst (HasRead s) (sym (append-nil ws)) h
+has_read s ws (v ∷ vs) h = by (next s v) (has_read_next s ws v h) (λ t g. has_read t (ws ++ v ∷ []) vs g)
   where
-    by : (o : Option Known) → After o (ws ++ v ∷ []) → ((t : Known) → Told t (ws ++ v ∷ []) → After (read t vs) ((ws ++ v ∷ []) ++ vs)) → After (onward o (λ t. read t vs)) (ws ++ v ∷ vs)
+    by : (o : Option Known) → After o (ws ++ v ∷ []) → ((t : Known) → HasRead t (ws ++ v ∷ []) → After (read t vs) ((ws ++ v ∷ []) ++ vs)) → After (onward o (λ t. read t vs)) (ws ++ v ∷ vs)
     by None h go = tt
     by (Some t) h go = subst (After (read t vs)) (append_assoc ws (v ∷ []) vs) (go t h)
 
 -- what is known behind words is true of them
 pub told : (ws : List (List ℕ)) → After (read state.Begin ws) ws
-told ws = told_read state.Begin [] ws refl
+told ws = has_read state.Begin [] ws refl
 
-abbrev pub Answers : Option Asked → List (List ℕ) → Type 0
+abbrev pub Answers : Option Request → List (List ℕ) → Type 0
 Answers (Some c) ws = LineS ws c
 Answers None ws = Unit {0}
 
 -- what is asked for then is what the words ask for
-pub told_asks : (s : Known) (ws : List (List ℕ)) → Told s ws → Answers (asks s) ws
-told_asks state.Begin ws h = subst (λ z. LineS z (command.Compile no_options (codes "first.isle" ∷ []))) (sym h) choice.stored
-told_asks (state.Whole c) ws h = h
-told_asks (state.Options v o) ws h = tt
-told_asks (state.Threshold v o) ws h = tt
-told_asks (state.Prefix v o) ws h = tt
-told_asks (state.Names o []) ws h = let some = h.2 in absurd (omega (arith, some))
-told_asks (state.Names o (n ∷ ns)) ws h = subst (λ z. LineS z (command.Compile o (n ∷ ns))) (sym h.4) (compiled o h.0 n ns h.1 h.3)
-told_asks state.Kind ws h = tt
-told_asks state.Target ws h = tt
-told_asks state.Run ws h = tt
-told_asks (state.Term t o s) ws h = tt
-told_asks (state.Values t o s m) ws h = tt
-told_asks (state.Behind t o s m vs) ws h = subst (λ z. LineS z (command.Run t o s m vs None)) (sym h.5) (ran t o s h.0 m h.3 vs None [] h.1 h.2 h.4 choice.no_answers)
-told_asks (state.Answers t o s m vs) ws h = tt
+pub has_read_asks : (s : Known) (ws : List (List ℕ)) → HasRead s ws → Answers (asks s) ws
+has_read_asks state.Begin ws h = subst (λ z. LineS z (command.Compile no_options (codes "first.isle" ∷ []))) (sym h) choice.stored
+has_read_asks (state.Whole c) ws h = h
+has_read_asks (state.Options v o) ws h = tt
+has_read_asks (state.Threshold v o) ws h = tt
+has_read_asks (state.Prefix v o) ws h = tt
+has_read_asks (state.Names o []) ws h = let some = h.2 in absurd (omega (arith, some))
+has_read_asks (state.Names o (n ∷ ns)) ws h = subst (λ z. LineS z (command.Compile o (n ∷ ns))) (sym h.4) (compiled o h.0 n ns h.1 h.3)
+has_read_asks state.Kind ws h = tt
+has_read_asks state.Target ws h = tt
+has_read_asks state.Run ws h = tt
+has_read_asks (state.Term t o s) ws h = tt
+has_read_asks (state.Values t o s m) ws h = tt
+has_read_asks (state.Behind t o s m vs) ws h = subst (λ z. LineS z (command.Run t o s m vs None)) (sym h.5) (ran t o s h.0 m h.3 vs None [] h.1 h.2 h.4 choice.no_answers)
+has_read_asks (state.Answers t o s m vs) ws h = tt

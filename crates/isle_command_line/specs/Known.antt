@@ -2,13 +2,13 @@
 use Rattle.std.specs.Prelude.{ℕ, List, Bool}
 use Rattle.isle_core.specs.declared.options.CodegenOptions.{CodegenOptions}
 use Rattle.isle_values.specs.Written.{Writtens}
-use Rattle.isle_command_line.specs.Asked.{Asked}
+use Rattle.isle_command_line.specs.Request.{Request}
 use Rattle.isle_command_line.specs.declared.commands.Source.{Source}
 use Rattle.isle_command_line.specs.declared.state.Verb.{Verb}
 
 pub data Known : Type 0 where
   Begin : Known
-  Whole : Asked → Known
+  Whole : Request → Known
   Options : Verb → CodegenOptions → Known
   Threshold : Verb → CodegenOptions → Known
   Prefix : Verb → CodegenOptions → Known

@@ -1,5 +1,5 @@
 pub mod Words
-pub mod Asked
+pub mod Request
 pub mod Lines
 pub mod Known
 pub mod Reading

@@ -10,8 +10,8 @@ use Rattle.isle_command_line.specs.declared.commands.Kind.{Kind}
 use Rattle.isle_command_line.specs.declared.commands.Source.{Source}
 use Rattle.isle_command_line.specs.declared.commands.Source.TheVariants as source
 use Rattle.isle_command_line.specs.declared.commands.Kind.TheVariants as kind
-use Rattle.isle_command_line.specs.Asked.{Asked}
-use Rattle.isle_command_line.specs.Asked as command
+use Rattle.isle_command_line.specs.Request.{Request}
+use Rattle.isle_command_line.specs.Request as command
 
 -- one option
 pub data Choice : Type 0 where
@@ -90,7 +90,7 @@ pub data AnswersS : Option (List ℕ) → List (List ℕ) → Type 0 where
   answers : (file : List ℕ) → is_name file ≡ true → AnswersS (Some file) (codes "--answers" ∷ file ∷ [])
 
 -- a line, and what it asks for
-pub data LineS : List (List ℕ) → Asked → Type 0 where
+pub data LineS : List (List ℕ) → Request → Type 0 where
   stored : LineS [] (command.Compile no_options (codes "first.isle" ∷ []))
   help : LineS (codes "--help" ∷ []) command.Help
   version : LineS (codes "--version" ∷ []) command.Version
@@ -107,7 +107,7 @@ pub data LineS : List (List ℕ) → Asked → Type 0 where
 
 -- words with which a line begins
 abbrev pub Continues : List (List ℕ) → Type 0
-Continues words = (more : List (List ℕ)) × (c : Asked) × LineS (words ++ more) c
+Continues words = (more : List (List ℕ)) × (c : Request) × LineS (words ++ more) c
 
 -- the word of this number is the first with which no line continues
 pub record IsBad (words : List (List ℕ)) (i : ℕ) : Type 0 where
@@ -118,4 +118,4 @@ pub record IsBad (words : List (List ℕ)) (i : ℕ) : Type 0 where
 -- a line would go on behind the words, and they are none
 pub record IsMissing (words : List (List ℕ)) : Type 0 where
   pub before : Continues words
-  pub none : (c : Asked) → LineS words c → ⊥
+  pub none : (c : Request) → LineS words c → ⊥

@@ -13,8 +13,8 @@ use Rattle.isle_command_line.specs.declared.commands.Kind.{Kind}
 use Rattle.isle_command_line.specs.declared.commands.Source.{Source}
 use Rattle.isle_command_line.specs.declared.commands.Source.TheVariants as source
 use Rattle.isle_command_line.specs.declared.commands.Kind.TheVariants as kind
-use Rattle.isle_command_line.specs.Asked.{Asked}
-use Rattle.isle_command_line.specs.Asked as command
+use Rattle.isle_command_line.specs.Request.{Request}
+use Rattle.isle_command_line.specs.Request as command
 use Rattle.isle_command_line.specs.declared.word.FirstWord.{FirstWord}
 use Rattle.isle_command_line.specs.declared.word.FirstWord.TheVariants as first_word
 use Rattle.isle_command_line.specs.declared.word.OptionWord.{OptionWord}
@@ -125,9 +125,9 @@ prefixed v o (Some p) = if is_name p.1 then Some (state.Options v (with_choice o
 prefixed v o None = None
 
 -- behind a kind
-abbrev pub asked : Option Kind → Option Known
-asked (Some k) = Some (state.Whole (command.Prelude k))
-asked None = None
+abbrev pub request : Option Kind → Option Known
+request (Some k) = Some (state.Whole (command.Prelude k))
+request None = None
 
 -- behind an option or the first name
 abbrev pub optional : Verb → CodegenOptions → List ℕ → Option Known
@@ -146,7 +146,7 @@ next (state.Options v o) w = optional v o w
 next (state.Threshold v o) w = counted v o (count w)
 next (state.Prefix v o) w = prefixed v o (parts w)
 next (state.Names o ns) w = if is_name w then Some (state.Names o (ns ++ w ∷ [])) else None
-next state.Kind w = asked (kind_of w)
+next state.Kind w = request (kind_of w)
 next state.Target w = Some (state.Whole (command.Isa w))
 next state.Run w = if is_trace w then Some (state.Options (verb.Run true) no_options) else optional (verb.Run false) no_options w
 next (state.Term t o s) w = if is_name w then Some (state.Values t o s w) else None
@@ -165,7 +165,7 @@ read s [] = Some s
 read s (w ∷ ws) = onward (next s w) (λ t. read t ws)
 
 -- what the words so far ask for, where they are a line
-abbrev pub asks : Known → Option Asked
+abbrev pub asks : Known → Option Request
 asks state.Begin = Some (command.Compile no_options (codes "first.isle" ∷ []))
 asks (state.Whole c) = Some c
 asks (state.Names o ns) = Some (command.Compile o ns)

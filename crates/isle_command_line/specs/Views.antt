@@ -1,7 +1,7 @@
 -- What contracts see of what lines ask for.
 use Rattle.isle_values.specs.Views.{seen}
-use Rattle.isle_command_line.specs.Asked as asked
-use Rattle.isle_command_line.specs.Asked.{Asked}
+use Rattle.isle_command_line.specs.Request as request
+use Rattle.isle_command_line.specs.Request.{Request}
 use Rattle.isle_command_line.specs.Known as known
 use Rattle.isle_command_line.specs.Known.{Known}
 use Rattle.isle_command_line.specs.declared.commands.Command.{Command}
@@ -10,15 +10,15 @@ use Rattle.isle_command_line.specs.declared.state.State.{State}
 use Rattle.isle_command_line.specs.declared.state.State.TheVariants as state
 
 -- what a line asks for
-abbrev pub seen_command : Command → Asked
-seen_command command.Help = asked.Help
-seen_command command.Version = asked.Version
-seen_command (command.Compile o ns) = asked.Compile o ns
-seen_command (command.Build o u) = asked.Build o u
-seen_command (command.Prelude k) = asked.Prelude k
-seen_command command.Units = asked.Units
-seen_command (command.Isa t) = asked.Isa t
-seen_command (command.Run t o s m vs a) = asked.Run t o s m (seen vs) a
+abbrev pub seen_command : Command → Request
+seen_command command.Help = request.Help
+seen_command command.Version = request.Version
+seen_command (command.Compile o ns) = request.Compile o ns
+seen_command (command.Build o u) = request.Build o u
+seen_command (command.Prelude k) = request.Prelude k
+seen_command command.Units = request.Units
+seen_command (command.Isa t) = request.Isa t
+seen_command (command.Run t o s m vs a) = request.Run t o s m (seen vs) a
 
 -- what is known
 abbrev pub seen_state : State → Known

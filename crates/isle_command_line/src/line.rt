@@ -1,6 +1,6 @@
 ghost use Rattle.std.specs.Prelude.{◌≡◌, ◌≢◌, ℕ, Err, Some, None, IfOk, IfErr};
 ghost use Rattle.isle_core.specs.Inputs.{bytes_each};
-ghost use Rattle.isle_command_line.specs.Asked.{Asked};
+ghost use Rattle.isle_command_line.specs.Request.{Request};
 ghost use Rattle.isle_command_line.specs.Known.{Begin};
 ghost use Rattle.isle_command_line.specs.Lines.{LineS, IsBad, IsMissing};
 ghost use Rattle.isle_command_line.specs.Reading.{read, asks, StopsAt};
@@ -16,17 +16,17 @@ use std::alloc::Global;
 /// that are `Missing` something begin a line, and are none.
 pub fn command(alloc: Global, words: &[String]) -> Result<Command, LineFail>
     ensures line { IfOk result (λ c. LineS (bytes_each words.now) (seen_command c)) }
-    ensures only { IfOk result (λ c. (other : Asked) → LineS (bytes_each words.now) other → other ≡ seen_command c) }
+    ensures only { IfOk result (λ c. (other : Request) → LineS (bytes_each words.now) other → other ≡ seen_command c) }
     ensures bad { (i : ℕ) → result ≡ Err (Bad i) → IsBad (bytes_each words.now) i }
     ensures missing { result ≡ Err Missing → IsMissing (bytes_each words.now) }
 {
     match known(alloc, words) {
-        Ok(state) => asked(alloc, state),
+        Ok(state) => request(alloc, state),
         Err(fail) => Err(fail),
     }
 }
 
-/// What is known behind all words.
+// What is known behind all words.
 fn known(alloc: Global, words: &[String]) -> Result<State, LineFail>
     ensures known { IfOk result (λ s. read Begin (bytes_each words.now) ≡ Some (seen_state s)) }
     ensures bad { (i : ℕ) → result ≡ Err (Bad i) → StopsAt (bytes_each words.now) i }
@@ -43,8 +43,8 @@ fn known(alloc: Global, words: &[String]) -> Result<State, LineFail>
     Ok(state)
 }
 
-/// What the words ask for behind which this is known.
-fn asked(alloc: Global, state: State) -> Result<Command, LineFail>
+// What the words ask for behind which this is known.
+fn request(alloc: Global, state: State) -> Result<Command, LineFail>
     ensures asks { IfOk result (λ c. asks (seen_state state) ≡ Some (seen_command c)) }
     ensures missing { result ≡ Err Missing → asks (seen_state state) ≡ None }
     ensures good { (i : ℕ) → result ≢ Err (Bad i) }
@@ -73,7 +73,7 @@ fn asked(alloc: Global, state: State) -> Result<Command, LineFail>
     }
 }
 
-/// What no words ask for.
+// What no words ask for.
 fn stored(alloc: Global) -> Result<Command, LineFail>
     ensures asks { IfOk result (λ c. asks Begin ≡ Some (seen_command c)) }
     ensures memory { IfErr result (λ e. e ≡ Memory) }

@@ -29,7 +29,7 @@ pub fn option(
     }
 }
 
-/// What is known behind the first name.
+// What is known behind the first name.
 fn named(alloc: Global, verb: Verb, options: CodegenOptions, word: &str) -> Result<State, WordFail>
     ensures next { IfOk result (λ s. named verb options word.now ≡ Some (seen_state s)) }
     ensures bad { result ≡ Err Bad → named verb options word.now ≡ None }
@@ -47,7 +47,7 @@ fn named(alloc: Global, verb: Verb, options: CodegenOptions, word: &str) -> Resu
     }
 }
 
-/// What is known behind a word that names an option.
+// What is known behind a word that names an option.
 fn chosen(verb: Verb, mut options: CodegenOptions, mark: OptionWord) -> Result<State, WordFail>
     ensures next { IfOk result (λ s. chosen verb options mark ≡ Some (seen_state s)) }
     ensures bad { result ≡ Err Bad → chosen verb options mark ≡ None }
@@ -87,7 +87,7 @@ pub fn threshold(verb: Verb, mut options: CodegenOptions, word: &str) -> Result<
     }
 }
 
-/// What stands before the first `=` and behind it.
+// What stands before the first `=` and behind it.
 #[tactic(auto, unfolding(crate::specs::Reading::parts))]
 fn parts(word: &str) -> Option<(&str, &str)>
     ensures some { IfSome result (λ p. parts word.now ≡ Some (p.0.now, p.1.now)) }
@@ -118,7 +118,7 @@ pub fn prefix(
     }
 }
 
-/// What is known behind this prefix, whose name is one.
+// What is known behind this prefix, whose name is one.
 fn prefixed(
     alloc: Global,
     verb: Verb,

@@ -29,14 +29,14 @@ pub fn run(alloc: Global, word: &str) -> Result<State, WordFail>
     }
 }
 
-/// What stands behind `unit:`, where a word begins with it.
+// What stands behind `unit:`, where a word begins with it.
 fn behind_unit(word: &str) -> Option<&str>
     ensures { option_copied result ≡ after_prefix (codes "unit:") word.now }
 {
     word.strip_prefix("unit:")
 }
 
-/// The source that a name is.
+// The source that a name is.
 #[tactic(auto, unfolding(crate::specs::Reading::source_of))]
 fn source(alloc: Global, word: &str) -> Result<Option<Source>, AllocError>
     ensures { IfOk result (λ s. s ≡ source_of word.now) }
@@ -87,7 +87,7 @@ pub fn term(
     Ok(State::Values(trace, options, source, term))
 }
 
-/// The values that a word spells.
+// The values that a word spells.
 fn spelt(alloc: Global, word: &str) -> Result<Option<List<Written>>, OutOfMemory>
     ensures { IfOk result (λ read. option_map seen read ≡ spelt word.now) }
 {

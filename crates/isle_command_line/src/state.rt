@@ -1,6 +1,6 @@
 ghost use Rattle.std.specs.Prelude.{◌≡◌, Err, Some, None, IfOk};
 ghost use Rattle.isle_command_line.specs.Known as known;
-ghost use Rattle.isle_command_line.specs.Reading.{next, begun, asked};
+ghost use Rattle.isle_command_line.specs.Reading.{next, begun, request};
 ghost use Rattle.isle_command_line.specs.Views.{seen_state};
 ghost use Rattle.isle_command_line.specs.declared.state.WordFail.TheVariants.{Bad};
 
@@ -106,7 +106,7 @@ pub fn next(alloc: Global, state: State, word: &str) -> Result<State, WordFail>
         State::Threshold(verb, options) => threshold(verb, options, word),
         State::Prefix(verb, options) => prefix(alloc, verb, options, word),
         State::Names(options, names) => one_name(alloc, options, names, word),
-        State::Kind => asked(kind_of(word)),
+        State::Kind => request(kind_of(word)),
         State::Target => target(alloc, word),
         State::Run => run(alloc, word),
         State::Term(trace, options, source) => term(alloc, trace, options, source, word),
@@ -122,7 +122,7 @@ pub fn next(alloc: Global, state: State, word: &str) -> Result<State, WordFail>
     }
 }
 
-/// What is known behind the first word.
+// What is known behind the first word.
 fn begun(alloc: Global, word: FirstWord) -> Result<State, WordFail>
     ensures next { IfOk result (λ s. begun word ≡ Some (seen_state s)) }
     ensures bad { result ≡ Err Bad → begun word ≡ None }
@@ -140,10 +140,10 @@ fn begun(alloc: Global, word: FirstWord) -> Result<State, WordFail>
     }
 }
 
-/// What is known behind the kind of a prelude.
-fn asked(kind: Option<Kind>) -> Result<State, WordFail>
-    ensures next { IfOk result (λ s. asked kind ≡ Some (seen_state s)) }
-    ensures bad { result ≡ Err Bad → asked kind ≡ None }
+// What is known behind the kind of a prelude.
+fn request(kind: Option<Kind>) -> Result<State, WordFail>
+    ensures next { IfOk result (λ s. request kind ≡ Some (seen_state s)) }
+    ensures bad { result ≡ Err Bad → request kind ≡ None }
 {
     match kind {
         Some(kind) => Ok(State::Whole(Command::Prelude(kind))),
@@ -151,7 +151,7 @@ fn asked(kind: Option<Kind>) -> Result<State, WordFail>
     }
 }
 
-/// What is known behind a target.
+// What is known behind a target.
 fn target(alloc: Global, word: &str) -> Result<State, WordFail>
     ensures next { IfOk result (λ s. next known.Target word.now ≡ Some (seen_state s)) }
     ensures bad { result ≡ Err Bad → next known.Target word.now ≡ None }

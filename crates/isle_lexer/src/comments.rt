@@ -12,7 +12,7 @@ pub enum Seen {
     Semicolon,
 }
 
-/// What a byte leaves seen in a comment.
+// What a byte leaves seen in a comment.
 fn seen_after(byte: u8) -> Seen
     ensures { seen result ≡ seen_after byte }
 {
@@ -23,8 +23,8 @@ fn seen_after(byte: u8) -> Seen
     }
 }
 
-/// How many comments are open round the innermost behind a byte, and what it leaves seen. None comes where it closes the
-/// outermost.
+// How many comments are open round the innermost behind a byte, and what it leaves seen. None comes where it closes the
+// outermost.
 fn behind(outer: usize, last: Seen, byte: u8) -> Option<(usize, Seen)>
     requires { outer < usize.MAX }
     ensures some { IfSome result (λ r. (from : ℕ) → in_comment from outer (seen last) byte ≡ InComment from r.0 (seen r.1)) }

@@ -26,7 +26,7 @@ pub enum Found {
     End,
 }
 
-/// The place behind a word, of which this place is a part or the end.
+// The place behind a word, of which this place is a part or the end.
 fn word_end(text: &[u8], at: usize) -> usize
     requires { at ≤ length text.now }
     ensures word { (from : ℕ) → coming text.now (InWord from) at ≡ in_front (record { from = from; to = result }) (coming text.now Between result) }
@@ -41,7 +41,7 @@ fn word_end(text: &[u8], at: usize) -> usize
     text.len()
 }
 
-/// What stands at an open parenthesis.
+// What stands at an open parenthesis.
 fn opened(text: &[u8], at: usize) -> Piece
     requires inside { at < length text.now }
     requires opens { begun at (get_or text.now at 0) ≡ AfterOpen at }
@@ -56,7 +56,7 @@ fn opened(text: &[u8], at: usize) -> Piece
     }
 }
 
-/// What stands at a place.
+// What stands at a place.
 fn piece_at(text: &[u8], at: usize) -> Piece
     requires { at < length text.now }
     ensures { IsPiece text.now at result }

@@ -11,7 +11,7 @@ pub struct Signed {
     pub magnitude: u128,
 }
 
-/// A number with one digit more of the base. None comes where the byte is no such digit, or the number is too large.
+// A number with one digit more of the base. None comes where the byte is no such digit, or the number is too large.
 fn grown(base: u32, value: u128, byte: u8) -> Option<u128>
     requires low { 2 ≤ base }
     requires high { base ≤ 36 }
@@ -23,7 +23,7 @@ fn grown(base: u32, value: u128, byte: u8) -> Option<u128>
         .checked_add(u128::from(digit))
 }
 
-/// The number that digits of the base spell, `_` among them, below 2^128.
+// The number that digits of the base spell, `_` among them, below 2^128.
 fn number(base: u32, digits: &[u8]) -> Option<u128>
     requires low { 2 ≤ base }
     requires high { base ≤ 36 }
@@ -41,7 +41,7 @@ fn number(base: u32, digits: &[u8]) -> Option<u128>
     if some { Some(value) } else { None }
 }
 
-/// The base that `0x`, `0o` or `0b` in front names, else ten.
+// The base that `0x`, `0o` or `0b` in front names, else ten.
 fn base_of(word: &[u8]) -> u32
     ensures base { result ≡ base_of word.now }
     ensures low { 2 ≤ result }
@@ -59,7 +59,7 @@ fn base_of(word: &[u8]) -> u32
     }
 }
 
-/// The magnitude that a word without a sign spells.
+// The magnitude that a word without a sign spells.
 #[tactic(auto, unfolding(crate::specs::Integer::magnitude))]
 fn magnitude(word: &[u8]) -> Option<u128>
     ensures { result ≡ magnitude word.now }
@@ -75,7 +75,7 @@ fn magnitude(word: &[u8]) -> Option<u128>
     }
 }
 
-/// Whether a word has a sign.
+// Whether a word has a sign.
 fn is_negative(word: &[u8]) -> bool
     ensures sign { result ≡ (slice_index word.now 0 == 45) }
     ensures some { IsTrue result → 1 ≤ length word.now }
@@ -83,14 +83,14 @@ fn is_negative(word: &[u8]) -> bool
     !word.is_empty() && word[0] == b'-'
 }
 
-/// A magnitude, wrapped to 128 signed bits.
+// A magnitude, wrapped to 128 signed bits.
 fn wrapped(magnitude: u128) -> i128
     ensures { result ≡ wrapped I128 (pos magnitude) }
 {
     magnitude.cast_signed()
 }
 
-/// What lies a magnitude below 0, wrapped to 128 signed bits.
+// What lies a magnitude below 0, wrapped to 128 signed bits.
 fn negated(magnitude: u128) -> i128
     ensures { result ≡ wrapped I128 (neg_ℤ (pos magnitude)) }
 {

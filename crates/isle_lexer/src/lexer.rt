@@ -11,7 +11,7 @@ use crate::token::{Tok, Token};
 use isle_core::Pos;
 use std::alloc::{AllocError, Global};
 
-/// Where a comment begins that never ends, the outermost one.
+// Where a comment begins that never ends, the outermost one.
 fn unclosed(text: &[u8]) -> Option<usize>
     ensures { result ≡ unclosed text.now }
 {

@@ -19,7 +19,7 @@ pub enum Kind {
     Plain,
 }
 
-/// What a symbol without `$` is.
+// What a symbol without `$` is.
 fn symbol_kind(word: &str) -> Kind
     ensures { kind_seen word.now result ≡ symbol_kind word.now }
 {

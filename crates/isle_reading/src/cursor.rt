@@ -142,7 +142,7 @@ impl<'t> Tokens<'t> {
     }
 }
 
-/// Where a token begins.
+// Where a token begins.
 fn place(token: Token<'_>) -> usize
     ensures { result ≡ place (token_seen token.entry) }
 {

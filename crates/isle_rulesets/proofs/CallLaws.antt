@@ -14,7 +14,7 @@ use Rattle.isle_rulesets.specs.declared.numbering.Key.{Key}
 use Rattle.isle_rulesets.specs.declared.numbering.Key.TheVariants as key
 use Rattle.isle_rulesets.specs.Numbering.{key_path, Numbered, Extends, next_call, Calls, IsKeyed, IsCallUpTo, AreNumbered}
 use Rattle.isle_rulesets.proofs.NumberingLaws.{get_push, get_last, get_either, push_extends, extends_more, once_push, place_of, long_paths}
-use Rattle.isle_rulesets.proofs.DraftLaws.{at_get}
+use Rattle.isle_rulesets.proofs.PatternTestLaws.{at_get}
 
 -- ---- kinds of paths
 

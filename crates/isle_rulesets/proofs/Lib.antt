@@ -1,5 +1,5 @@
 pub mod NumberingLaws
-pub mod DraftLaws
+pub mod PatternTestLaws
 pub mod RuleTests
 pub mod CallLaws
 pub mod RightSideLaws

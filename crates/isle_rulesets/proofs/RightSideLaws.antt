@@ -33,9 +33,9 @@ use Rattle.isle_core.specs.Tests.{Places}
 use Rattle.isle_core.specs.Rule.{Environment}
 use Rattle.isle_core.proofs.Contained.{head_contained, contained_cases, none_contained}
 use Rattle.isle_rulesets.specs.Numbering.{Numbered, Extends, Numbers, next_call, Calls}
-use Rattle.isle_rulesets.specs.RightSides.{StandsAt, Stand, IsKnown, AreKnown, Grows, Gives, GivesCall, AllAt, GivesAll}
+use Rattle.isle_rulesets.specs.RightSides.{StandsAt, Stand, IsKnown, AreKnown, Grows, NumbersExpr, NumbersCall, AllAt, NumbersExprs}
 use Rattle.isle_rulesets.proofs.NumberingLaws.{extends_self, extends_more}
-use Rattle.isle_rulesets.proofs.DraftLaws.{at_get, at_kept, contains_there, contains_kept}
+use Rattle.isle_rulesets.proofs.PatternTestLaws.{at_get, at_kept, contains_there, contains_kept}
 
 -- ---- one step after another
 
@@ -76,19 +76,19 @@ gives_key old new bs p b h = record {
 
 -- what the code says of an expression's numbering
 abbrev pub Given : List Term → BTreeMap ℕ BindingId → Numbered → Numbered → List BindingId → List BindingId → Expr → BindingId → Type 0
-Given terms variables old new before after e b = (env : Environment) (places : Places) → env.terms ≡ terms → Stand (paths_of old.bindings) variables places → Gives env places old new before after e b
+Given terms variables old new before after e b = (env : Environment) (places : Places) → env.terms ≡ terms → Stand (paths_of old.bindings) variables places → NumbersExpr env places old new before after e b
 
 -- what the code says of expressions in order
 abbrev pub AllGiven : List Term → BTreeMap ℕ BindingId → Numbered → Numbered → List BindingId → List BindingId → Exprs → List BindingId → Type 0
-AllGiven terms variables old new before after es bs = (env : Environment) (places : Places) → env.terms ≡ terms → Stand (paths_of old.bindings) variables places → GivesAll env places old new before after es bs
+AllGiven terms variables old new before after es bs = (env : Environment) (places : Places) → env.terms ≡ terms → Stand (paths_of old.bindings) variables places → NumbersExprs env places old new before after es bs
 
 pub given_bool : {E : Type 0} (r : Result BindingId E) (terms : List Term) (variables : BTreeMap ℕ BindingId) (old new : Numbered) (bs : List BindingId) (e : Expr) (v : Bool) → e ≡ expr.ConstBool v → IfOk r (Numbers old new (path.ConstBool bool_type v)) → IfOk r (Given terms variables old new bs bs e)
 given_bool (Err x) terms variables old new bs e v is h = tt
-given_bool (Ok b) terms variables old new bs e v is h = λ env places t s. subst (λ d. Gives env places old new bs bs d b) (sym is) (record { grows = gives_key old new bs (path.ConstBool bool_type v) b h; there = h.there })
+given_bool (Ok b) terms variables old new bs e v is h = λ env places t s. subst (λ d. NumbersExpr env places old new bs bs d b) (sym is) (record { grows = gives_key old new bs (path.ConstBool bool_type v) b h; there = h.there })
 
 pub given_int : {E : Type 0} (r : Result BindingId E) (terms : List Term) (variables : BTreeMap ℕ BindingId) (old new : Numbered) (bs : List BindingId) (e : Expr) (ty : TypeId) (n : ℤ) → e ≡ expr.ConstInt ty n → IfOk r (Numbers old new (path.ConstInt ty n)) → IfOk r (Given terms variables old new bs bs e)
 given_int (Err x) terms variables old new bs e ty n is h = tt
-given_int (Ok b) terms variables old new bs e ty n is h = λ env places t s. subst (λ d. Gives env places old new bs bs d b) (sym is) (record { grows = gives_key old new bs (path.ConstInt ty n) b h; there = h.there })
+given_int (Ok b) terms variables old new bs e ty n is h = λ env places t s. subst (λ d. NumbersExpr env places old new bs bs d b) (sym is) (record { grows = gives_key old new bs (path.ConstInt ty n) b h; there = h.there })
 
 var_there : (ps : List Path) (o : Option BindingId) (q : Option Path) (b : BindingId) → o ≡ Some b → StandsAt ps o q → slice_get ps b.0 ≡ Some (path_or q)
 var_there ps (Some c) (Some p) b e h = subst (λ (x : BindingId). slice_get ps x.0 ≡ Some p) (some_same c b e) h
@@ -99,7 +99,7 @@ var_there ps None q b e h = cc
 var_there ps (Some c) None b e h = absurd h
 
 pub given_var : (terms : List Term) (variables : BTreeMap ℕ BindingId) (n : Numbered) (bs : List BindingId) (e : Expr) (ty : TypeId) (x : VarId) (b : BindingId) → e ≡ expr.Var ty x → get nat_cmp variables x.0 ≡ Some b → Given terms variables n n bs bs e b
-given_var terms variables n bs e ty x b is got env places t s = subst (λ d. Gives env places n n bs bs d b) (sym is) (record {
+given_var terms variables n bs e ty x b is got env places t s = subst (λ d. NumbersExpr env places n n bs bs d b) (sym is) (record {
   grows = gives_key n n bs p b (record { there = there; extends = extends_self (paths_of n.bindings); only = λ q c. inl c; calls = refl });
   there = there;
 })
@@ -124,10 +124,10 @@ one_behind (ByCases callee kind) n = omega arith
 one_behind NoCall n = omega arith
 
 -- a call behind its arguments
-call_behind : (env : Environment) (places : Places) (old mid new : Numbered) (before middle after : List BindingId) (ty : TypeId) (term : TermId) (es : Exprs) (bs : List BindingId) (b : BindingId) → GivesAll env places old mid before middle es bs
-    → GivesCall mid new middle after (calling env term) (call_path env term (at_all (paths_of mid.bindings) bs) mid.calls) b → Gives env places old new before after (expr.Term ty term es) b
+call_behind : (env : Environment) (places : Places) (old mid new : Numbered) (before middle after : List BindingId) (ty : TypeId) (term : TermId) (es : Exprs) (bs : List BindingId) (b : BindingId) → NumbersExprs env places old mid before middle es bs
+    → NumbersCall mid new middle after (calling env term) (call_path env term (at_all (paths_of mid.bindings) bs) mid.calls) b → NumbersExpr env places old new before after (expr.Term ty term es) b
 call_behind env places old mid new before middle after ty term es bs b g h =
-    let k = subst (λ p. GivesCall mid new middle after (calling env term) p b) same h in
+    let k = subst (λ p. NumbersCall mid new middle after (calling env term) p b) same h in
     record {
       grows = subst (λ n. Grows old new before after (expr_paths env (expr.Term ty term es) places old.calls) (calls_of env (expr.Term ty term es) places old.calls) n) (one_behind (calling env term) (impure_all env es))
           (grows_then old mid new before middle after (exprs_paths env es places old.calls) (with_inner (calling env term) p) (calls_all env es places old.calls) (if_ordered (calling env term) p) (impure_all env es) (one_more (calling env term) 0) g.grows k.grows);
@@ -176,11 +176,11 @@ turns_of env terms term same h =
 -- a call that was added
 pub call_given : (old new : Numbered) (before after : List BindingId) (terms : List Term) (term : TermId) (t : Term) (partial : Bool) (bs : List BindingId) (call value : BindingId) → IsSomeAnd (slice_get terms term.0) (λ (x : Term). IsImpureKind x.kind) → t ≡ get_or terms term.0 t
     → partial ≡ may_be_nothing (kind_of t.kind) → Calls old new (next_call old term bs) partial call value → after ≡ before ++ call ∷ []
-    → (env : Environment) → env.terms ≡ terms → GivesCall old new before after (calling env term) (call_path env term (at_all (paths_of old.bindings) bs) old.calls) value
+    → (env : Environment) → env.terms ≡ terms → NumbersCall old new before after (calling env term) (call_path env term (at_all (paths_of old.bindings) bs) old.calls) value
 call_given old new before after terms term t partial bs call value h here of k more env same =
     let fallible = may_be_nothing (kind_of t.kind) in
     let added : Calls old new (next_call old term bs) fallible call value = subst (λ b. Calls old new (next_call old term bs) b call value) of k in
-    subst (λ c. GivesCall old new before after c (path.Called term (at_all (paths_of old.bindings) bs) (instance_of c old.calls)) value) (sym turns.1)
+    subst (λ c. NumbersCall old new before after c (path.Called term (at_all (paths_of old.bindings) bs) (instance_of c old.calls)) value) (sym turns.1)
     (record {
       grows = record {
         extends = added.extends;
@@ -211,10 +211,10 @@ call_given old new before after terms term t partial bs call value h here of k m
 -- a call behind its arguments, where it was added
 pub given_call : {E : Type 0} (r : Result BindingId E) (terms : List Term) (variables : BTreeMap ℕ BindingId) (old mid new : Numbered) (before middle after : List BindingId) (e : Expr) (ty : TypeId) (term : TermId) (es : Exprs) (bs : List BindingId) → e ≡ expr.Term ty term es
     → AllGiven terms variables old mid before middle es bs
-    → IfOk r (λ b. (env : Environment) → env.terms ≡ terms → GivesCall mid new middle after (calling env term) (call_path env term (at_all (paths_of mid.bindings) bs) mid.calls) b) → IfOk r (Given terms variables old new before after e)
+    → IfOk r (λ b. (env : Environment) → env.terms ≡ terms → NumbersCall mid new middle after (calling env term) (call_path env term (at_all (paths_of mid.bindings) bs) mid.calls) b) → IfOk r (Given terms variables old new before after e)
 given_call (Err x) terms variables old mid new before middle after e ty term es bs is g h = tt
 given_call (Ok b) terms variables old mid new before middle after e ty term es bs is g h =
-    λ env places t s. subst (λ d. Gives env places old new before after d b) (sym is) (call_behind env places old mid new before middle after ty term es bs b (g env places t s) (h env t))
+    λ env places t s. subst (λ d. NumbersExpr env places old new before after d b) (sym is) (call_behind env places old mid new before middle after ty term es bs b (g env places t s) (h env t))
 
 -- ---- expressions in order
 
@@ -263,11 +263,11 @@ all_push env places ps (c ∷ bs) (x ∷ es) b e n h k =
 all_push env places ps [] (x ∷ es) b e n h k = absurd h
 all_push env places ps (c ∷ bs) [] b e n h k = absurd h
 
-pub gives_none : (env : Environment) (places : Places) (n : Numbered) (bs : List BindingId) → GivesAll env places n n bs bs NoExpr []
+pub gives_none : (env : Environment) (places : Places) (n : Numbered) (bs : List BindingId) → NumbersExprs env places n n bs bs NoExpr []
 gives_none env places n bs = record { grows = grows_self n bs; there = tt }
 
-gives_push : (env : Environment) (places : Places) (old mid new : Numbered) (before middle after : List BindingId) (es : List Expr) (e : Expr) (bs : List BindingId) (b : BindingId) → GivesAll env places old mid before middle (exprs_of es) bs → Gives env places mid new middle after e b
-    → GivesAll env places old new before after (exprs_of (es ++ e ∷ [])) (bs ++ b ∷ [])
+gives_push : (env : Environment) (places : Places) (old mid new : Numbered) (before middle after : List BindingId) (es : List Expr) (e : Expr) (bs : List BindingId) (b : BindingId) → NumbersExprs env places old mid before middle (exprs_of es) bs → NumbersExpr env places mid new middle after e b
+    → NumbersExprs env places old new before after (exprs_of (es ++ e ∷ [])) (bs ++ b ∷ [])
 gives_push env places old mid new before middle after es e bs b g h = record {
   grows = rw (paths_push env places es e old.calls, calls_push env places es e old.calls, impure_push env es e)
       (grows_then old mid new before middle after (exprs_paths env (exprs_of es) places old.calls) (expr_paths env e places n) (calls_all env (exprs_of es) places old.calls) (calls_of env e places n) (impure_all env (exprs_of es)) (impure env e) g.grows
@@ -294,8 +294,8 @@ pub given_more : (terms : List Term) (variables : BTreeMap ℕ BindingId) (old m
     → AllGiven terms variables old new before after (exprs_of (map seen (take (i + 1) es))) items
 given_more terms variables old mid new before middle after es i x bs items b lt is g h more env places t s =
     let first = g env places t s in
-    subst (GivesAll env places old new before after (exprs_of (map seen (take (i + 1) es)))) (sym more)
-    (subst (λ xs. GivesAll env places old new before after (exprs_of xs) (bs ++ b ∷ [])) (sym (map_more seen es i x lt ∙ ap (λ y. map seen (take i es) ++ seen y ∷ []) (sym is)))
+    subst (NumbersExprs env places old new before after (exprs_of (map seen (take (i + 1) es)))) (sym more)
+    (subst (λ xs. NumbersExprs env places old new before after (exprs_of xs) (bs ++ b ∷ [])) (sym (map_more seen es i x lt ∙ ap (λ y. map seen (take i es) ++ seen y ∷ []) (sym is)))
     (gives_push env places old mid new before middle after (map seen (take i es)) (seen x) bs b first (h env places t (stand_kept (paths_of old.bindings) (paths_of mid.bindings) variables places first.grows.extends s))))
 
 -- behind the last one

@@ -30,13 +30,13 @@ use Rattle.isle_core.proofs.NotTrivial.{no_trivial}
 use Rattle.isle_core.proofs.ScopeLaws.{variable_of}
 use Rattle.isle_core.proofs.SetMeans.{without_iflets}
 use Rattle.isle_core.specs.Scope.{all_variables, IsInScope, AreInScope, IsScopedRule}
-use Rattle.isle_rulesets.specs.declared.draft.Draft.{Draft}
+use Rattle.isle_rulesets.specs.declared.pattern_tests.PatternTests.{PatternTests}
 use Rattle.isle_rulesets.specs.Numbering.{Numbered, Extends}
-use Rattle.isle_rulesets.specs.Drafts.{is_constraint, path_at, Drafted}
-use Rattle.isle_rulesets.specs.RightSides.{StandsAt, Stand, IsKnown, AreKnown, Gives}
+use Rattle.isle_rulesets.specs.PatternTests.{is_constraint, path_at, NumbersPatterns}
+use Rattle.isle_rulesets.specs.RightSides.{StandsAt, Stand, IsKnown, AreKnown, NumbersExpr}
 use Rattle.isle_rulesets.specs.FlatRules.{Adds, rules_impure, Covers}
 use Rattle.isle_rulesets.proofs.NumberingLaws.{extends_self, extends_more}
-use Rattle.isle_rulesets.proofs.DraftLaws.{at_get, contains_kept}
+use Rattle.isle_rulesets.proofs.PatternTestLaws.{at_get, contains_kept}
 use Rattle.isle_rulesets.proofs.RuleTests.{rule_can, rule_once, parted, parted_keeps, parted_from, parted_once, stands_at, place_is_arg}
 use Rattle.isle_rulesets.proofs.RightSideLaws.{Given}
 use Rattle.isle_rulesets.proofs.CallsOnce.{rule_firsts}
@@ -47,23 +47,23 @@ is_there : (ps : List Path) (o : Option BindingId) (p : Path) → path_at ps o �
 is_there ps None p e = cc
 is_there ps (Some b) p e = refl
 
--- an environment of nothing: what is known of a draft is so of each
+-- an environment of nothing: what is known of a pattern tests is so of each
 pub no_env : Environment
 no_env = record { types = record { syms = []; types = []; consts = [] }; terms = []; rules = []; converters = [] }
 
 -- an expression that is built and in scope has numbers for its variables
 mutual
-  pub expr_known : (env : Environment) (old new : Numbered) (args : List Pattern) (d : Draft) (e : Expr) → Drafted env old new args d → AllByRecursion IsBuiltPattern args → IsBuiltExpr e → IsInScope (all_variables args) e → IsKnown d.variables e
+  pub expr_known : (env : Environment) (old new : Numbered) (args : List Pattern) (d : PatternTests) (e : Expr) → NumbersPatterns env old new args d → AllByRecursion IsBuiltPattern args → IsBuiltExpr e → IsInScope (all_variables args) e → IsKnown d.variables e
   expr_known env old new args d (expr.Var ty x) h a b k =
       let v = variable_of args x.0 a k in
       let s = stands_at env args v.ty v.var v.among in
-      is_there (paths_of new.bindings) (get nat_cmp d.variables x.0) s.0 ((h.draws (paths_of new.bindings) (extends_self (paths_of new.bindings))).knows.by x.0 ∙ ap (args_after env args 0 no_places) (sym v.is) ∙ s.1)
+      is_there (paths_of new.bindings) (get nat_cmp d.variables x.0) s.0 ((h.tests (paths_of new.bindings) (extends_self (paths_of new.bindings))).knows.by x.0 ∙ ap (args_after env args 0 no_places) (sym v.is) ∙ s.1)
   expr_known env old new args d (expr.ConstBool v) h a b k = tt
   expr_known env old new args d (expr.ConstInt ty v) h a b k = tt
   expr_known env old new args d (expr.Term ty term es) h a b k = exprs_known env old new args d es h a b k
   expr_known env old new args d e h a b k = absurd b
 
-  exprs_known : (env : Environment) (old new : Numbered) (args : List Pattern) (d : Draft) (es : Exprs) → Drafted env old new args d → AllByRecursion IsBuiltPattern args → AreBuiltExprs es → AreInScope (all_variables args) es → AreKnown d.variables es
+  exprs_known : (env : Environment) (old new : Numbered) (args : List Pattern) (d : PatternTests) (es : Exprs) → NumbersPatterns env old new args d → AllByRecursion IsBuiltPattern args → AreBuiltExprs es → AreInScope (all_variables args) es → AreKnown d.variables es
   exprs_known env old new args d NoExpr h a b k = tt
   exprs_known env old new args d (AnExpr e es) h a b k = (expr_known env old new args d e h a b.0 k.0, exprs_known env old new args d es h a b.1 k.1)
 
@@ -85,15 +85,15 @@ var_stands ps None (Some p) e h = cc
 var_stands ps (Some b) None e h = cc
 
 -- the variables' numbers stand for their paths
-draft_stands : (env : Environment) (old new : Numbered) (args : List Pattern) (d : Draft) → Drafted env old new args d → Stand (paths_of new.bindings) d.variables (args_after env args 0 no_places)
-draft_stands env old new args d h = record {
-  by = λ x. var_stands (paths_of new.bindings) (get nat_cmp d.variables x) (args_after env args 0 no_places x) ((h.draws (paths_of new.bindings) (extends_self (paths_of new.bindings))).knows.by x) (place_is_arg env args x);
+tests_stand : (env : Environment) (old new : Numbered) (args : List Pattern) (d : PatternTests) → NumbersPatterns env old new args d → Stand (paths_of new.bindings) d.variables (args_after env args 0 no_places)
+tests_stand env old new args d h = record {
+  by = λ x. var_stands (paths_of new.bindings) (get nat_cmp d.variables x) (args_after env args 0 no_places x) ((h.tests (paths_of new.bindings) (extends_self (paths_of new.bindings))).knows.by x) (place_is_arg env args x);
 }
 
 -- ---- a rule
 
--- a flat rule of a draft, calls and a result
-pub record IsMade (r : Rule) (d : Draft) (calls : List BindingId) (b : BindingId) (f : FlatRule) : Type 0 where
+-- a flat rule of a pattern tests, calls and a result
+pub record IsMade (r : Rule) (d : PatternTests) (calls : List BindingId) (b : BindingId) (f : FlatRule) : Type 0 where
   pub constraints : f.constraints ≡ d.constraints.items
   pub equals : f.equals ≡ d.equals.items
   pub prio : f.prio ≡ r.prio
@@ -102,29 +102,29 @@ pub record IsMade (r : Rule) (d : Draft) (calls : List BindingId) (b : BindingId
   pub ordered : f.ordered ≡ calls
   pub result : f.result ≡ b
 
-pub rule_added : (terms : List Term) (old mid new : Numbered) (r : Rule) (d : Draft) (none calls : List BindingId) (b : BindingId) (f : FlatRule) → IsBuiltRule r → IsScopedRule r → IsImpureRule terms r → ((env : Environment) → Drafted env old mid r.args d) → none ≡ []
+pub rule_added : (terms : List Term) (old mid new : Numbered) (r : Rule) (d : PatternTests) (none calls : List BindingId) (b : BindingId) (f : FlatRule) → IsBuiltRule r → IsScopedRule r → IsImpureRule terms r → ((env : Environment) → NumbersPatterns env old mid r.args d) → none ≡ []
     → Given terms d.variables mid new none calls r.rhs b → IsMade r d calls b f → (env : Environment) → env.terms ≡ terms → Adds env old new r f
-rule_added terms old mid new r d none calls b f built bound impure_terms drafted start given is env same = record {
-  extends = extends_more (paths_of old.bindings) (paths_of mid.bindings) (paths_of new.bindings) (drafted env).extends g.grows.extends;
-  only = λ p c. ⊎_elim (λ k. ⊎_elim (λ x. inl x) (λ x. inr (Contains-append_left (arg_paths r.args 0) (expr_paths env r.rhs (rule_places env r) old.calls) p x)) ((drafted env).only p k))
+rule_added terms old mid new r d none calls b f built bound impure_terms numbered start given is env same = record {
+  extends = extends_more (paths_of old.bindings) (paths_of mid.bindings) (paths_of new.bindings) (numbered env).extends g.grows.extends;
+  only = λ p c. ⊎_elim (λ k. ⊎_elim (λ x. inl x) (λ x. inr (Contains-append_left (arg_paths r.args 0) (expr_paths env r.rhs (rule_places env r) old.calls) p x)) ((numbered env).only p k))
       (λ k. inr (Contains-append_right (arg_paths r.args 0) (expr_paths env r.rhs (rule_places env r) old.calls) p k)) (g.grows.only p c);
-  all = λ p c. ⊎_elim (λ k. contains_kept (paths_of mid.bindings) (paths_of new.bindings) p g.grows.extends ((drafted env).all p k)) (λ k. g.grows.all p k) (Contains-append_cases (arg_paths r.args 0) (expr_paths env r.rhs (rule_places env r) old.calls) p c);
+  all = λ p c. ⊎_elim (λ k. contains_kept (paths_of mid.bindings) (paths_of new.bindings) p g.grows.extends ((numbered env).all p k)) (λ k. g.grows.all p k) (Contains-append_cases (arg_paths r.args 0) (expr_paths env r.rhs (rule_places env r) old.calls) p c);
   flat = λ ps x. flat ps x;
   calls = g.grows.calls;
 }
   where
-    h : Drafted env old mid r.args d
-    h = drafted env
+    h : NumbersPatterns env old mid r.args d
+    h = numbered env
 
-    g : Gives env (rule_places env r) (record { bindings = mid.bindings; calls = old.calls }) new [] calls r.rhs b
+    g : NumbersExpr env (rule_places env r) (record { bindings = mid.bindings; calls = old.calls }) new [] calls r.rhs b
     g =
-        let first = given env (rule_places env r) same (draft_stands env old mid r.args d h) in
-        let second = subst (λ ms. Gives env (rule_places env r) mid new ms calls r.rhs b) start first in
-        subst (λ n. Gives env (rule_places env r) (record { bindings = mid.bindings; calls = n }) new [] calls r.rhs b) h.calls second
+        let first = given env (rule_places env r) same (tests_stand env old mid r.args d h) in
+        let second = subst (λ ms. NumbersExpr env (rule_places env r) mid new ms calls r.rhs b) start first in
+        subst (λ n. NumbersExpr env (rule_places env r) (record { bindings = mid.bindings; calls = n }) new [] calls r.rhs b) h.calls second
 
     flat : (ps : List Path) → Extends (paths_of new.bindings) ps → IsFlat env ps r old.calls f
     flat ps x =
-        let dr = h.draws ps (extends_more (paths_of mid.bindings) (paths_of new.bindings) ps g.grows.extends x) in
+        let dr = h.tests ps (extends_more (paths_of mid.bindings) (paths_of new.bindings) ps g.grows.extends x) in
         let ts = args_tests env r.args 0 no_places in
         let tests : flat_tests ps f ≡ parted (rule_tests env r) =
         ap (λ cs. map (is_test ps) cs ++ map (equal_test ps) f.equals) is.constraints ∙ ap (λ es. map (is_test ps) d.constraints.items ++ map (equal_test ps) es) is.equals

@@ -15,7 +15,7 @@ use Rattle.isle_core.specs.BuiltRule.{IsBuiltPattern, IsBuiltRule}
 use Rattle.isle_core.proofs.SetMeans.{without_iflets}
 use Rattle.isle_core.specs.Rule.{Environment, Rule}
 use Rattle.isle_core.proofs.Contained.{head_contained, tail_contained, contained_cases, none_contained}
-use Rattle.isle_rulesets.specs.Drafts.{is_constraint, is_equality}
+use Rattle.isle_rulesets.specs.PatternTests.{is_constraint, is_equality}
 
 -- ---- each test once
 

@@ -1,5 +1,5 @@
 pub mod Numbering
-pub mod Drafts
+pub mod PatternTests
 pub mod RightSides
 pub mod FlatRules
 pub mod Grouping

@@ -6,13 +6,13 @@ ghost use Rattle.isle_core.specs.StandsFor.{StandsFor};
 ghost use Rattle.isle_core.specs.Rule.{Environment};
 ghost use Rattle.isle_rulesets.specs.FlatRules.{Adds};
 
-use crate::draft::{Draft, number_arguments};
+use crate::pattern_tests::{PatternTests, number_arguments};
 use crate::numbering::Numbering;
 use crate::right_side::{Scope, number_expr};
 use isle_core::{FlatRule, List, Rule, RuleSet, Term};
 use std::alloc::{AllocError, Global};
 
-/// A rule as tests of bindings.
+// A rule as tests of bindings.
 fn flat_rule(
     alloc: Global,
     terms: &[Term],
@@ -24,18 +24,18 @@ fn flat_rule(
     requires impure { IsImpureRule terms.now (seen rule.now) }
     ensures { IfOk result (λ f. (env : Environment) → env.terms ≡ terms.now → Adds env numbering.old numbering.new (seen rule.now) f) }
 {
-    let draft = number_arguments(alloc, numbering, rule.args.as_slice())?;
+    let pattern_tests = number_arguments(alloc, numbering, rule.args.as_slice())?;
     let scope = Scope {
         terms,
-        variables: &draft.variables,
+        variables: &pattern_tests.variables,
     };
     let mut ordered = Vec::new(alloc);
     let result = number_expr(alloc, &scope, numbering, &mut ordered, &rule.rhs)?;
-    let Draft {
+    let PatternTests {
         constraints,
         equals,
         ..
-    } = draft;
+    } = pattern_tests;
     Ok(FlatRule {
         pos: rule.pos,
         constraints: List::new(constraints),
@@ -47,7 +47,7 @@ fn flat_rule(
     })
 }
 
-/// The rule set that stands for rules of one term.
+/// Makes the rule set that stands for rules of one term (`isle_core/specs/StandsFor.antt`). The only error is want of memory.
 pub fn rule_set(alloc: Global, terms: &[Term], rules: &[&Rule]) -> Result<RuleSet, AllocError>
     requires built { All IsBuiltRule (seen_all rules.now) }
     requires bound { All IsScopedRule (seen_all rules.now) }

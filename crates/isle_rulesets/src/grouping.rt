@@ -9,7 +9,7 @@ use crate::flat_rules::rule_set;
 use isle_core::{Rule, RuleSet, TermEnv, TermId};
 use std::alloc::{AllocError, Global};
 
-/// As many groups, each without a rule.
+// As many groups, each without a rule.
 fn no_groups<'a>(alloc: Global, count: usize) -> Result<Vec<Vec<&'a Rule>>, AllocError>
     ensures { IfOk result (λ groups. AreGroups groups.items count []) }
 {
@@ -20,7 +20,7 @@ fn no_groups<'a>(alloc: Global, count: usize) -> Result<Vec<Vec<&'a Rule>>, Allo
     Ok(groups)
 }
 
-/// The rules of each term, in order.
+// The rules of each term, in order.
 fn group<'a>(
     alloc: Global,
     count: usize,
@@ -38,7 +38,7 @@ fn group<'a>(
     Ok(groups)
 }
 
-/// The terms with rules, in order of ids, each with the rule set of its rules.
+/// Makes the rule set of each term with rules, in order of ids (`specs/Grouping.antt`). The only error is want of memory.
 pub fn rule_sets(alloc: Global, terms: &TermEnv) -> Result<Vec<(TermId, RuleSet)>, AllocError>
     requires built { All IsBuiltRule (map seen terms.now.rules) }
     requires bound { All IsScopedRule (map seen terms.now.rules) }

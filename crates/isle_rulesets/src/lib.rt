@@ -1,7 +1,7 @@
 //! From rules to rule sets that stand for them.
 #![tactic(auto)]
 
-mod draft;
+mod pattern_tests;
 mod flat_rules;
 mod grouping;
 mod numbering;

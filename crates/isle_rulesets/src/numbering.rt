@@ -17,7 +17,7 @@ pub enum Key {
 }
 
 impl Key {
-    /// The binding; `bool` is the first of the types.
+    // The binding; `bool` is the first of the types.
     fn binding(self) -> Binding
         ensures { result ≡ key_binding self }
     {
@@ -36,7 +36,7 @@ pub struct Call {
     pub value: BindingId,
 }
 
-/// The number of a key: an argument below the count has its index, and any other key what the map has.
+// The number of a key: an argument below the count has its index, and any other key what the map has.
 fn known(count: usize, numbers: &BTreeMap<Key, BindingId>, key: Key) -> Option<BindingId>
     ensures { result ≡ known count numbers.now key }
 {
@@ -48,7 +48,7 @@ fn known(count: usize, numbers: &BTreeMap<Key, BindingId>, key: Key) -> Option<B
     numbers.get(&key).copied()
 }
 
-/// Whether the key is the argument of this number, and gets that number.
+// Whether the key is the argument of this number, and gets that number.
 fn is_next(count: usize, number: usize, key: Key) -> bool
     ensures { result ≡ is_next count number key }
 {
@@ -79,7 +79,7 @@ impl Model for Numbering {
 }
 
 impl Numbering {
-    /// No binding.
+    /// Makes a numbering with no binding.
     pub fn new(alloc: Global) -> Numbering
         ensures { result ≡ record { bindings = []; calls = 0 } }
     {
@@ -91,7 +91,7 @@ impl Numbering {
         }
     }
 
-    /// The number of the key's binding, which is added where it is not there yet.
+    /// Returns the number of the key's binding, and adds it where it is not there yet. The only error is want of memory.
     pub fn intern(&mut self, key: Key) -> Result<BindingId, AllocError>
         ensures { IfOk result (λ b. Numbers self.old self.new (key_path key) b) }
     {
@@ -113,7 +113,8 @@ impl Numbering {
         }
     }
 
-    /// The next call, of an occurrence of its own; its value is the inner one where it may be nothing.
+    /// Adds the next call, of an occurrence of its own, and its inner value where it may be nothing. The only error is want
+    /// of memory.
     pub fn call(
         &mut self,
         term: TermId,
@@ -141,7 +142,7 @@ impl Numbering {
         Ok(Call { number, value })
     }
 
-    /// The bindings, no two of one path.
+    /// Returns the bindings, no two of one path.
     pub fn into_bindings(self) -> Vec<Binding>
         ensures bindings { result.items ≡ self.bindings }
         ensures once { EachOnce (paths_of result.items) }

@@ -7,7 +7,7 @@ ghost use Rattle.isle_core.specs.Path.{at_all, paths_of};
 ghost use Rattle.isle_core.specs.RightSide.{call_path};
 ghost use Rattle.isle_core.specs.Tests.{Places};
 ghost use Rattle.isle_core.specs.Rule.{Environment};
-ghost use Rattle.isle_rulesets.specs.RightSides.{IsKnown, AreKnown, Stand, Gives, GivesAll, GivesCall};
+ghost use Rattle.isle_rulesets.specs.RightSides.{IsKnown, AreKnown, Stand, NumbersExpr, NumbersExprs, NumbersCall};
 
 use crate::numbering::{Key, Numbering};
 use isle_core::{BindingId, Expr, List, Term, TermId, TermKind};
@@ -21,7 +21,7 @@ pub struct Scope<'a> {
     pub variables: &'a BTreeMap<usize, BindingId>,
 }
 
-/// Whether the single answer of the term may be nothing.
+// Whether the single answer of the term may be nothing.
 fn is_partial(kind: &TermKind) -> bool
     ensures { result ≡ may_be_nothing (kind_of kind.now) }
 {
@@ -36,7 +36,7 @@ fn is_partial(kind: &TermKind) -> bool
     }
 }
 
-/// The number of the value of a call on numbered arguments.
+// The number of the value of a call on numbered arguments.
 fn number_call(
     scope: &Scope,
     numbering: &mut Numbering,
@@ -46,7 +46,7 @@ fn number_call(
 ) -> Result<BindingId, AllocError>
     requires { IsSomeAnd (slice_get scope.now.terms.now term.0) (λ (t : CodeTerm). IsImpureKind t.kind) }
     ensures { IfOk result (λ b. (env : Environment) → env.terms ≡ scope.now.terms.now
-        → GivesCall numbering.old numbering.new ordered.old.items ordered.new.items (calling env term) (call_path env term (at_all (paths_of numbering.old.bindings) parameters.items) numbering.old.calls) b) }
+        → NumbersCall numbering.old numbering.new ordered.old.items ordered.new.items (calling env term) (call_path env term (at_all (paths_of numbering.old.bindings) parameters.items) numbering.old.calls) b) }
 {
     let is_partial = is_partial(&scope.terms[term.index()].kind);
     let call = numbering.call(term, List::new(parameters), is_partial)?;
@@ -54,7 +54,8 @@ fn number_call(
     Ok(call.value)
 }
 
-/// The number of an expression's value; its calls join those before, each behind its arguments.
+/// Numbers an expression, and returns the number of its value; its calls join those before, each behind its arguments. The
+/// only error is want of memory.
 #[cycle(right_side)]
 pub fn number_expr(
     alloc: Global,
@@ -66,7 +67,7 @@ pub fn number_expr(
     requires known { IsKnown scope.now.variables.now (seen expr.now) }
     requires impure { CallsImpure scope.now.terms.now (seen expr.now) }
     ensures { IfOk result (λ b. (env : Environment) (places : Places) → env.terms ≡ scope.now.terms.now → Stand (paths_of numbering.old.bindings) scope.now.variables.now places
-        → Gives env places numbering.old numbering.new ordered.old.items ordered.new.items (seen expr.now) b) }
+        → NumbersExpr env places numbering.old numbering.new ordered.old.items ordered.new.items (seen expr.now) b) }
 {
     match expr {
         Expr::Var(_, var) => Ok(scope.variables[&var.index()]),
@@ -80,7 +81,7 @@ pub fn number_expr(
     }
 }
 
-/// The numbers of the values of expressions, from left to right.
+// The numbers of the values of expressions, from left to right.
 #[cycle(right_side)]
 fn number_exprs(
     alloc: Global,
@@ -92,7 +93,7 @@ fn number_exprs(
     requires known { AreKnown scope.now.variables.now (exprs_of (map seen exprs.now)) }
     requires impure { AllCallImpure scope.now.terms.now (exprs_of (map seen exprs.now)) }
     ensures { IfOk result (λ bs. (env : Environment) (places : Places) → env.terms ≡ scope.now.terms.now → Stand (paths_of numbering.old.bindings) scope.now.variables.now places
-        → GivesAll env places numbering.old numbering.new ordered.old.items ordered.new.items (exprs_of (map seen exprs.now)) bs.items) }
+        → NumbersExprs env places numbering.old numbering.new ordered.old.items ordered.new.items (exprs_of (map seen exprs.now)) bs.items) }
 {
     let mut numbers = Vec::new(alloc);
     for expr in exprs {

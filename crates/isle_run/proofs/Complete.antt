@@ -32,14 +32,14 @@ use Rattle.isle_run_inputs.specs.Forms.{are_built, answers_at, turns_at}
 use Rattle.isle_codegen.specs.Causes.{IsNotOfIt}
 use Rattle.isle_codegen.specs.Checked.{IsChecked}
 use Rattle.isle_codegen.specs.Source.{InLanguage}
-use Rattle.isle_run.specs.declared.trial_error.TrialError.{TrialError}
-use Rattle.isle_run.specs.declared.trial_error.TrialError.TheVariants as trial
+use Rattle.isle_run.specs.declared.refusal.Refusal.{Refusal}
+use Rattle.isle_run.specs.declared.refusal.Refusal.TheVariants as refused
 use Rattle.isle_run.specs.Conforming.{Conforms}
-use Rattle.isle_run.specs.Stopped as stop
-use Rattle.isle_run.specs.Stopped.{IsHalted, IsStopped, HasNoLines}
+use Rattle.isle_run.specs.NoLines as no_lines
+use Rattle.isle_run.specs.NoLines.{IsRunRefused, IsSourceRefused, HasNoLines}
 use Rattle.isle_run.specs.Trial.{args_given}
 use Rattle.isle_run.specs.Valid.{CanRun}
-use Rattle.isle_run.proofs.AskedTerms.{HasFunction, asked_function}
+use Rattle.isle_run.proofs.RequestedTerms.{HasFunction, requested_function}
 use Rattle.isle_run.proofs.NamedTypes.{are_named}
 use Rattle.isle_run.proofs.RightForms.{all_right, answered_back}
 
@@ -87,7 +87,7 @@ module _ (options : CodegenOptions) (files : Files) (term : List ℕ) (ws : Writ
   args = args_given c.env term ws
 
   abbrev the_function : HasFunction files c.env term p.fns c.id
-  the_function = asked_function files c.env term (with_rules c.env) p.fns c.id conforms.functions.declared conforms.functions.blocks c.asked
+  the_function = requested_function files c.env term (with_rules c.env) p.fns c.id conforms.functions.declared conforms.functions.blocks c.requested
 
   some_same : (a b : Term) → Some a ≡ Some b → a ≡ b
   some_same a b e = cc
@@ -109,30 +109,30 @@ module _ (options : CodegenOptions) (files : Files) (term : List ℕ) (ws : Writ
   }
 
   -- such a run isn't refused
-  pub not_halted : (e : TrialError) → IsHalted p c.env term args text e → ⊥
-  not_halted _ (stop.no_term m h) = not_refused p term args answers the_function.function _ may (no_term_of p term args m answers h)
-  not_halted _ (stop.arg_count m h) = not_refused p term args answers the_function.function _ may (count_of p term args m answers h)
-  not_halted _ (stop.arg_type m i h) = not_refused p term args answers the_function.function _ may (type_of p term args m answers i h)
-  not_halted _ (stop.fault at takes h) = fault_unspelt text at c.forms h c.spelt
-  not_halted _ (stop.unbuilt forms takes spelt bad) =
+  pub run_not_refused : (e : Refusal) → IsRunRefused p c.env term args text e → ⊥
+  run_not_refused _ (no_lines.no_term m h) = not_refused p term args answers the_function.function _ may (no_term_of p term args m answers h)
+  run_not_refused _ (no_lines.arg_count m h) = not_refused p term args answers the_function.function _ may (count_of p term args m answers h)
+  run_not_refused _ (no_lines.arg_type m i h) = not_refused p term args answers the_function.function _ may (type_of p term args m answers i h)
+  run_not_refused _ (no_lines.fault at takes h) = fault_unspelt text at c.forms h c.spelt
+  run_not_refused _ (no_lines.unbuilt forms takes spelt bad) =
       let same : true ≡ false = sym c.built ∙ ap are_built (forms_same text c.forms forms c.spelt spelt) ∙ bad in
       absurd cc
-  not_halted _ (stop.wrong forms i spelt built h) =
+  run_not_refused _ (no_lines.wrong forms i spelt built h) =
       not_refused p term args answers the_function.function _ may (subst (λ fs. IsRefused p term args (answers_at c.env fs) (error.BadAnswers i)) (forms_same text forms c.forms spelt c.spelt) h)
 
-not_stopped : (options : CodegenOptions) (files : Files) (term : List ℕ) (ws : Writtens) (text : List ℕ) (e : TrialError) (c : CanRun files term ws text) → IsStopped options files term ws text e → ⊥
-not_stopped options files term ws text e c s =
+source_not_refused : (options : CodegenOptions) (files : Files) (term : List ℕ) (ws : Writtens) (text : List ℕ) (e : Refusal) (c : CanRun files term ws text) → IsSourceRefused options files term ws text e → ⊥
+source_not_refused options files term ws text e c s =
     let same : s.env ≡ c.env = same_env files c.env s.env c.checked s.checked in
-    not_halted options files term ws text c s.program (subst (λ env. Conforms options files env s.program) same s.conforms) e
-    (subst (λ env. IsHalted s.program env term (args_given env term ws) text e) same s.halted)
+    run_not_refused options files term ws text c s.program (subst (λ env. Conforms options files env s.program) same s.conforms) e
+    (subst (λ env. IsRunRefused s.program env term (args_given env term ws) text e) same s.refused)
 
 -- where it can be run, only memory is wanting
-pub only_memory : (options : CodegenOptions) (files : Files) (term : List ℕ) (ws : Writtens) (text : List ℕ) (e : TrialError) → CanRun files term ws text → HasNoLines options files term ws text e → e ≡ trial.Memory
-only_memory options files term ws text _ c (stop.not_of_it h) = absurd (not_of_it files c.env c.checked h)
-only_memory options files term ws text _ c (stop.stopped e s) = absurd (not_stopped options files term ws text e c s)
-only_memory options files term ws text _ c stop.memory = refl
+pub only_memory : (options : CodegenOptions) (files : Files) (term : List ℕ) (ws : Writtens) (text : List ℕ) (e : Refusal) → CanRun files term ws text → HasNoLines options files term ws text e → e ≡ refused.Memory
+only_memory options files term ws text _ c (no_lines.not_of_it h) = absurd (not_of_it files c.env c.checked h)
+only_memory options files term ws text _ c (no_lines.refused e s) = absurd (source_not_refused options files term ws text e c s)
+only_memory options files term ws text _ c no_lines.memory = refl
 
 -- so there are lines, unless memory is wanting
-pub ok_unless : {T : Type 0} (options : CodegenOptions) (files : Files) (term : List ℕ) (ws : Writtens) (text : List ℕ) (r : Result T TrialError) → IfErr r (λ e. HasNoLines options files term ws text e) → CanRun files term ws text → IsOkUnless r trial.Memory
+pub ok_unless : {T : Type 0} (options : CodegenOptions) (files : Files) (term : List ℕ) (ws : Writtens) (text : List ℕ) (r : Result T Refusal) → IfErr r (λ e. HasNoLines options files term ws text e) → CanRun files term ws text → IsOkUnless r refused.Memory
 ok_unless options files term ws text (Ok x) h can = tt
 ok_unless options files term ws text (Err e) h can = only_memory options files term ws text e can h

@@ -19,7 +19,7 @@ use Rattle.isle_simulation.specs.OfTerm.{AreDeclared, IsDeclared}
 -- the term of the function
 pub record Found (files : Files) (env : Environment) (term : List ℕ) (ids : List TermId) (f : Function) : Type 0 where
   pub id : TermId
-  pub asked : find (λ (id : TermId). bytes_eq term (term_name env id)) ids ≡ Some id
+  pub requested : find (λ (id : TermId). bytes_eq term (term_name env id)) ids ≡ Some id
   pub declared : IsDeclared files env id f
   pub among : Contains ids id
   pub named : term ≡ f.term
@@ -43,7 +43,7 @@ both_found files env term (id ∷ ids) (g ∷ fs) f d e = by (same_bytes term g.
         let holds : test id ≡ true = ap (bytes_eq term) (declared_name files env id g d.0) ∙ same_is term g.term ∙ is in
         record {
           id = id;
-          asked = ap (λ b. cond b (Some id) (find test ids)) holds;
+          requested = ap (λ b. cond b (Some id) (find test ids)) holds;
           declared = subst (IsDeclared files env id) same d.0;
           among = Contains-append_left (id ∷ []) ids id (Contains-push [] id);
           named = same_bytes_sound term g.term is ∙ ap (λ (x : Function). x.term) same;
@@ -53,7 +53,7 @@ both_found files env term (id ∷ ids) (g ∷ fs) f d e = by (same_bytes term g.
         let fails : test id ≡ false = ap (bytes_eq term) (declared_name files env id g d.0) ∙ same_is term g.term ∙ is in
         record {
           id = h.id;
-          asked = ap (λ b. cond b (Some id) (find test ids)) fails ∙ h.asked;
+          requested = ap (λ b. cond b (Some id) (find test ids)) fails ∙ h.requested;
           declared = h.declared;
           among = Contains-append_right (id ∷ []) ids h.id h.among;
           named = h.named;

@@ -18,7 +18,7 @@ use Rattle.isle_tree.specs.declared.tree.Ty.{Ty}
 use Rattle.isle_tree.specs.Program.{Program, Function}
 use Rattle.isle_tree.specs.Run.{run}
 use Rattle.isle_simulation.specs.TermFunction.{parameter}
-use Rattle.isle_run_inputs.specs.Asked.{asked_term, asked_types, arg_types}
+use Rattle.isle_run_inputs.specs.Requested.{requested_term, requested_types, arg_types}
 use Rattle.isle_run_inputs.specs.Forms.{answers_at}
 use Rattle.isle_run_inputs.specs.Given.{values_at}
 use Rattle.isle_run_inputs.proofs.HaveTypes.{Matched, have_types}
@@ -44,14 +44,14 @@ as_many : (env : Environment) (tys : List TypeId) → length (type_names (map (p
 as_many env tys = length-map (map (parameter env) tys) (λ (ty : Ty). ty.name) ∙ length-map tys (parameter env)
 
 -- the types that are asked for are those of the term that is found
-types_found : (env : Environment) (term : List ℕ) (id : TermId) (t : Term) → asked_term env term ≡ Some id → slice_get env.terms id.0 ≡ Some t → asked_types env term ≡ t.arg_tys
-types_found env term id t asked there =
-    ap (λ (o : Option TermId). option_map_or (arg_types env) o []) asked ∙ ap (λ (o : Option Term). option_map_or (λ (t : Term). t.arg_tys) o []) there
+types_found : (env : Environment) (term : List ℕ) (id : TermId) (t : Term) → requested_term env term ≡ Some id → slice_get env.terms id.0 ≡ Some t → requested_types env term ≡ t.arg_tys
+types_found env term id t requested there =
+    ap (λ (o : Option TermId). option_map_or (arg_types env) o []) requested ∙ ap (λ (o : Option Term). option_map_or (λ (t : Term). t.arg_tys) o []) there
 
 -- the arguments of a run have the types of the term
 types_fit : (files : Files) (env : Environment) (term : List ℕ) (ws : Writtens) (f : Function) (h : Found files env term (with_rules env) f) → AreNamed (type_names f.params) (args_given env term ws) → HaveTypes env (args_given env term ws) h.declared.term.arg_tys
 types_fit files env term ws f h named =
-    let tys = types_found env term h.id h.declared.term h.asked h.declared.there in
+    let tys = types_found env term h.id h.declared.term h.requested h.declared.there in
     let names = subst (λ ps. AreNamed (type_names ps) (args_given env term ws)) h.declared.of_term.params named in
     let at_types = subst (λ (ts : List TypeId). AreNamed (type_names (map (parameter env) h.declared.term.arg_tys)) (values_at env ts ws)) tys names in
     subst (λ (ts : List TypeId). HaveTypes env (values_at env ts ws) h.declared.term.arg_tys) (sym tys)
@@ -67,7 +67,7 @@ are_lines options files env p term ws f r answers conforms may runs =
     let types = types_fit files env term ws f h may.typed in
     record {
       id = h.id;
-      asked = h.asked;
+      requested = h.requested;
       declared = h.declared.term;
       there = h.declared.there;
       typed = types;

@@ -6,7 +6,7 @@ use Rattle.isle_core.specs.declared.types.Term.{Term}
 use Rattle.isle_core.specs.declared.values.Callee.{Callee}
 use Rattle.isle_core.specs.Rule.{Environment}
 use Rattle.isle_core.specs.Terms.{goes_to, impure_callee, is_impure}
-use Rattle.isle_run_inputs.specs.Asked.{answer_type}
+use Rattle.isle_run_inputs.specs.Requested.{answer_type}
 
 any_found : {A B : Type 0} (test : A → Bool) (f : A → B) (xs : List A) → is_some (option_map f (find test xs)) ≡ list_any test xs
 any_found test f [] = refl

@@ -7,7 +7,7 @@ use Rattle.isle_core.specs.Rule.{Environment}
 use Rattle.isle_core.specs.Terms.{is_impure}
 use Rattle.isle_core.specs.Value.{Made}
 use Rattle.isle_core.specs.ValueViews.{made}
-use Rattle.isle_run_inputs.specs.Asked.{answer_type}
+use Rattle.isle_run_inputs.specs.Requested.{answer_type}
 use Rattle.isle_codegen.specs.Headline.{impure_calls}
 use Rattle.isle_outcomes.specs.Lines.{call_line, call_lines}
 use Rattle.isle_run.proofs.ImpureCalls.{impure_found}

@@ -1,11 +1,11 @@
 pub mod FoundTerms
 pub mod Means
 pub mod ImpureCalls
-pub mod Halting
+pub mod RunRefusals
 pub mod Refusing
 pub mod GivesLines
 pub mod ImpureSteps
-pub mod AskedTerms
+pub mod RequestedTerms
 pub mod NamedTypes
 pub mod ServedCallees
 pub mod RightForms

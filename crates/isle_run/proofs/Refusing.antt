@@ -7,19 +7,20 @@ use Rattle.isle_core.specs.Value.{Value}
 use Rattle.isle_values.specs.Written.{Writtens}
 use Rattle.isle_tree.specs.Program.{Program}
 use Rattle.isle_codegen.specs.Checked.{IsChecked}
-use Rattle.isle_run.specs.declared.trial_error.TrialError.{TrialError}
-use Rattle.isle_run.specs.declared.trial_error.TrialError.TheVariants as trial
+use Rattle.isle_run.specs.declared.refusal.Refusal.{Refusal}
+use Rattle.isle_run.specs.declared.refusal.Refusal.TheVariants as refusal
 use Rattle.isle_run.specs.Conforming.{Conforms}
-use Rattle.isle_run.specs.Stopped.{IsHalted, HasNoLines, stopped, memory}
+use Rattle.isle_run.specs.NoLines.{IsRunRefused, HasNoLines, memory}
+use Rattle.isle_run.specs.NoLines as no_lines
 use Rattle.isle_run.specs.Trial.{args_given}
 
 -- memory ran out
-pub by_memory : {options : CodegenOptions} {files : Files} {term : List ℕ} {ws : Writtens} {text : List ℕ} (e : TrialError) → e ≡ trial.Memory → HasNoLines options files term ws text e
+pub by_memory : {options : CodegenOptions} {files : Files} {term : List ℕ} {ws : Writtens} {text : List ℕ} (e : Refusal) → e ≡ refusal.Memory → HasNoLines options files term ws text e
 by_memory {options} {files} {term} {ws} {text} e is = subst (HasNoLines options files term ws text) (sym is) memory
 
 -- or a program that conforms is not run
-pub by_halt : (options : CodegenOptions) (files : Files) (env : Environment) (p : Program) (term : List ℕ) (ws : Writtens) (args : List Value) (text : List ℕ) (e : TrialError)
-    → IsChecked files env → Conforms options files env p → args ≡ args_given env term ws → (e ≡ trial.Memory) ⊎ IsHalted p env term args text e → HasNoLines options files term ws text e
-by_halt options files env p term ws args text e checked conforms given (inl is) = by_memory e is
-by_halt options files env p term ws args text e checked conforms given (inr halted) =
-    stopped e (record { env = env; checked = checked; program = p; conforms = conforms; halted = subst (λ vs. IsHalted p env term vs text e) given halted })
+pub by_refusal : (options : CodegenOptions) (files : Files) (env : Environment) (p : Program) (term : List ℕ) (ws : Writtens) (args : List Value) (text : List ℕ) (e : Refusal)
+    → IsChecked files env → Conforms options files env p → args ≡ args_given env term ws → (e ≡ refusal.Memory) ⊎ IsRunRefused p env term args text e → HasNoLines options files term ws text e
+by_refusal options files env p term ws args text e checked conforms given (inl is) = by_memory e is
+by_refusal options files env p term ws args text e checked conforms given (inr refused) =
+    no_lines.refused e (record { env = env; checked = checked; program = p; conforms = conforms; refused = subst (λ vs. IsRunRefused p env term vs text e) given refused })

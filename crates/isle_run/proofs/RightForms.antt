@@ -33,7 +33,7 @@ use Rattle.isle_simulation.specs.TermFunction.{parameter, type_text}
 use Rattle.isle_simulation.specs.TraitFns.{constructor_fn, func_of, trait_fns_of}
 use Rattle.isle_run.specs.Conforming.{Conforms}
 use Rattle.isle_run.specs.Valid.{IsServed, external, internal, HasNoTurns, AreRightTurns, AllRight}
-use Rattle.isle_run.proofs.AskedTerms.{asked_function}
+use Rattle.isle_run.proofs.RequestedTerms.{requested_function}
 use Rattle.isle_run.proofs.NamedTypes.{answer_named}
 use Rattle.isle_run.proofs.ServedCallees.{served_fn}
 
@@ -77,8 +77,8 @@ module _ (options : CodegenOptions) (files : Files) (defs : List Def) (env : Env
     ap (option_map trait_signature) (ap (λ (fs : List TraitFn). trait_fn fs (sym_text env func)) conforms.frame.trait_fns ∙ served_fn env env.terms i t func distinct_names at e),
     record { results = refl; kind = refl },
   )
-  served_signature _ _ (internal name id t asked at) =
-      let h = asked_function files env name (with_rules env) p.fns id conforms.functions.declared conforms.functions.blocks asked in
+  served_signature _ _ (internal name id t requested at) =
+      let h = requested_function files env name (with_rules env) p.fns id conforms.functions.declared conforms.functions.blocks requested in
       let same : h.declared.term ≡ t = some_same h.declared.term t (sym h.declared.there ∙ at) in (
         term_signature h.function,
         ap (option_map term_signature) h.found,
@@ -93,7 +93,7 @@ module _ (options : CodegenOptions) (files : Files) (defs : List Def) (env : Env
 
   builtin_result : (c : Callee) (t : Term) → IsServed env c t → AllByRecursion (IsBuiltinType env) (t.ret_ty ∷ [])
   builtin_result _ _ (external i t func at e) = ((typed_types defs env i t typed at).0, tt)
-  builtin_result _ _ (internal name id t asked at) = ((typed_types defs env id.0 t typed at).0, tt)
+  builtin_result _ _ (internal name id t requested at) = ((typed_types defs env id.0 t typed at).0, tt)
 
   turns_right : (earlier : List TurnAnswers) (a : TurnAnswers) → AreRightTurns env earlier a → IsRight p (map Turns earlier) (Turns a)
   turns_right earlier a h =

@@ -1,6 +1,6 @@
 pub mod Conforming
 pub mod Trial
-pub mod Stopped
+pub mod NoLines
 pub mod Ran
-pub mod Told
+pub mod Placed
 pub mod Valid

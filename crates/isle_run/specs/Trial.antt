@@ -16,7 +16,7 @@ use Rattle.isle_values.specs.Written.{Writtens}
 use Rattle.isle_answers.specs.Form.{Form}
 use Rattle.isle_answers.specs.Spelling.{SpellsForms}
 use Rattle.isle_run_inputs.specs.Given.{values_at}
-use Rattle.isle_run_inputs.specs.Asked.{asked_term, asked_types}
+use Rattle.isle_run_inputs.specs.Requested.{requested_term, requested_types}
 use Rattle.isle_run_inputs.specs.Forms.{are_built, answers_at}
 use Rattle.isle_tree.specs.Program.{Program}
 use Rattle.isle_tree.specs.Run.{run}
@@ -30,7 +30,7 @@ use Rattle.isle_run.specs.Conforming.{Conforms}
 
 -- the arguments: the values as they are written, at the types of the term that has rules and this name
 abbrev pub args_given : Environment → List ℕ → Writtens → List Value
-args_given env term ws = values_at env (asked_types env term) ws
+args_given env term ws = values_at env (requested_types env term) ws
 
 -- a run as it is shown: its end, and the calls of impure terms
 abbrev pub shown_run : Environment → Ran → Ran
@@ -52,7 +52,7 @@ pub record AreOutcome (env : Environment) (id : TermId) (t : Term) (args : List 
 -- that conforms to the source, and the lines are those of its run
 pub record AreLines (options : CodegenOptions) (files : Files) (env : Environment) (term : List ℕ) (args : List Value) (answers : Meaning) (lines : List ℕ) : Type 0 where
   pub id : TermId
-  pub asked : asked_term env term ≡ Some id
+  pub requested : requested_term env term ≡ Some id
   pub declared : Term
   pub there : slice_get env.terms id.0 ≡ Some declared
   pub typed : HaveTypes env args declared.arg_tys

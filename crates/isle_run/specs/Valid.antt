@@ -17,7 +17,7 @@ use Rattle.isle_answers.specs.Form.{Form}
 use Rattle.isle_answers.specs.Spelling.{SpellsForms}
 use Rattle.isle_values.specs.Written.{Writtens}
 use Rattle.isle_simulation.specs.TraitFns.{func_of}
-use Rattle.isle_run_inputs.specs.Asked.{asked_term}
+use Rattle.isle_run_inputs.specs.Requested.{requested_term}
 use Rattle.isle_run_inputs.specs.Forms.{are_built, turns_at}
 use Rattle.isle_codegen.specs.CalledBy.{IsCalledBy}
 use Rattle.isle_codegen.specs.Checked.{IsChecked}
@@ -26,7 +26,7 @@ use Rattle.isle_run.specs.Trial.{args_given}
 -- what calls go to: the external constructor of a term, or a term with rules
 pub data IsServed (env : Environment) : Callee → Term → Type 0 where
   external : (i : ℕ) (t : Term) (func : Sym) → slice_get env.terms i ≡ Some t → func_of t.kind ≡ Some func → IsServed env (callee.External (sym_text env func)) t
-  internal : (name : List ℕ) (id : TermId) (t : Term) → asked_term env name ≡ Some id → slice_get env.terms id.0 ≡ Some t → IsServed env (callee.Internal name) t
+  internal : (name : List ℕ) (id : TermId) (t : Term) → requested_term env name ≡ Some id → slice_get env.terms id.0 ≡ Some t → IsServed env (callee.Internal name) t
 
 -- no turns of these are the callee's
 abbrev pub HasNoTurns : Callee → List TurnAnswers → Type 0
@@ -51,7 +51,7 @@ pub record CanRun (files : Files) (term : List ℕ) (ws : Writtens) (text : List
   pub env : Environment
   pub checked : IsChecked files env
   pub id : TermId
-  pub asked : asked_term env term ≡ Some id
+  pub requested : requested_term env term ≡ Some id
   pub declared : Term
   pub there : slice_get env.terms id.0 ≡ Some declared
   pub typed : HaveTypes env (args_given env term ws) declared.arg_tys

@@ -8,10 +8,10 @@ ghost use Rattle.isle_values.specs.Views.{seen};
 ghost use Rattle.isle_emission.specs.Built.{IsBuilt};
 ghost use Rattle.isle_codegen.specs.Checked.{IsChecked};
 ghost use Rattle.isle_run.specs.Trial.{IsTrial};
-ghost use Rattle.isle_run.specs.Stopped.{HasNoLines};
+ghost use Rattle.isle_run.specs.NoLines.{HasNoLines};
 
 use crate::program::of_program;
-use crate::trial_error::TrialError;
+use crate::refusal::Refusal;
 use isle_codegen::{Checked, codegen_tree};
 use isle_core::{CodegenOptions, Files};
 use isle_values::Written;
@@ -26,7 +26,7 @@ pub fn of_checked(
     term: &str,
     given: &[Written],
     answers: &str,
-) -> Result<String, TrialError>
+) -> Result<String, Refusal>
     requires checked { IsChecked files.now (environment checked.now.typeenv checked.now.termenv) }
     requires terms { AreRuleSets (environment checked.now.typeenv checked.now.termenv) checked.now.terms.items }
     requires options { IsBuilt options.now }
@@ -43,7 +43,7 @@ pub fn of_checked(
         options,
     ) {
         Ok(program) => program,
-        Err(_) => return Err(TrialError::Memory),
+        Err(_) => return Err(Refusal::Memory),
     };
     of_program(alloc, checked, &program, term, given, answers)
 }

@@ -2,13 +2,11 @@
 #![tactic(auto)]
 
 mod checked;
-mod halt;
 mod outcome;
 mod program;
+mod refusal;
 mod shown;
-mod trial_error;
 mod trials;
 
-pub use halt::Halt;
-pub use trial_error::TrialError;
+pub use refusal::Refusal;
 pub use trials::trial;

@@ -10,12 +10,11 @@ ghost use Rattle.isle_tree.specs.WellFormed.{IsWellFormed};
 ghost use Rattle.isle_core.specs.Rule.{Environment};
 ghost use Rattle.isle_interpreter.specs.Judged.{Takes};
 ghost use Rattle.isle_run.specs.Ran.{IsUnder, IsOutcome};
-ghost use Rattle.isle_run.specs.Stopped.{IsHalted};
-ghost use Rattle.isle_run.specs.Told.{told};
-ghost use Rattle.isle_run.specs.declared.trial_error.TrialError.TheVariants.{Memory};
+ghost use Rattle.isle_run.specs.NoLines.{IsRunRefused};
+ghost use Rattle.isle_run.specs.Placed.{placed};
+ghost use Rattle.isle_run.specs.declared.refusal.Refusal.TheVariants.{Memory};
 
-use crate::halt::Halt;
-use crate::trial_error::TrialError;
+use crate::refusal::Refusal;
 use isle_answers::{AnswersFail, Form, forms};
 use isle_core::{Outcome, TermEnv, TypeEnv, Value};
 use isle_interpreter::{RunError, run_term, takes};
@@ -31,28 +30,28 @@ pub struct Compiled<'a> {
     pub program: &'a Program,
 }
 
-// What a refusal of a run is called, the number of a form being its place.
-fn told(e: RunError, end: usize, forms: &[Form]) -> TrialError
-    ensures { result ≡ told e end (forms_seen forms.now) }
+// Why a run is refused, the number of a form being its place.
+fn placed(e: RunError, end: usize, forms: &[Form]) -> Refusal
+    ensures { result ≡ placed e end (forms_seen forms.now) }
 {
     match e {
-        RunError::NoTerm => TrialError::Halted(Halt::NoTerm),
-        RunError::ArgCount => TrialError::Halted(Halt::ArgCount),
-        RunError::ArgType(index) => TrialError::Halted(Halt::ArgType(index)),
+        RunError::NoTerm => Refusal::NoTerm,
+        RunError::ArgCount => Refusal::ArgCount,
+        RunError::ArgType(index) => Refusal::ArgType(index),
         RunError::BadAnswers(number) => {
-            TrialError::Halted(Halt::BadAnswers(place_at(end, forms, number)))
+            Refusal::BadAnswers(place_at(end, forms, number))
         }
-        RunError::Memory => TrialError::Memory,
+        RunError::Memory => Refusal::Memory,
     }
 }
 
 // The refusal for the term or the arguments, or else another one.
-fn refused(p: &Program, term: &str, args: &[Value], other: TrialError) -> TrialError
-    ensures { (env : Environment) (text : List ℕ) → (Takes (program p.now) term.now (values args.now) → IsHalted (program p.now) env term.now (values args.now) text other) → IsHalted (program p.now) env term.now (values args.now) text result }
+fn refused(p: &Program, term: &str, args: &[Value], other: Refusal) -> Refusal
+    ensures { (env : Environment) (text : List ℕ) → (Takes (program p.now) term.now (values args.now) → IsRunRefused (program p.now) env term.now (values args.now) text other) → IsRunRefused (program p.now) env term.now (values args.now) text result }
 {
     match takes(p, term, args) {
         Ok(()) => other,
-        Err(e) => told(e, 0, &[]),
+        Err(e) => placed(e, 0, &[]),
     }
 }
 
@@ -64,18 +63,18 @@ fn under_forms(
     args: &[Value],
     forms: &[Form],
     end: usize,
-) -> Result<Outcome, TrialError>
+) -> Result<Outcome, Refusal>
     requires well_formed { IsWellFormed (program compiled.now.program.now) }
     ensures ok { IfOk result (λ o. IsUnder (program compiled.now.program.now) (environment compiled.now.typeenv.now compiled.now.termenv.now) term.now (values args.now) (forms_seen forms.now) (ran o)) }
-    ensures err { IfErr result (λ e. (text : List ℕ) → SpellsForms text (forms_seen forms.now) → end ≡ length text → (e ≡ Memory) ⊎ IsHalted (program compiled.now.program.now) (environment compiled.now.typeenv.now compiled.now.termenv.now) term.now (values args.now) text e) }
+    ensures err { IfErr result (λ e. (text : List ℕ) → SpellsForms text (forms_seen forms.now) → end ≡ length text → (e ≡ Memory) ⊎ IsRunRefused (program compiled.now.program.now) (environment compiled.now.typeenv.now compiled.now.termenv.now) term.now (values args.now) text e) }
 {
     if !are_built(forms) {
-        return Err(refused(compiled.program, term, args, TrialError::NotYet));
+        return Err(refused(compiled.program, term, args, Refusal::NotYet));
     }
     let answers = answers_at(alloc, compiled.typeenv, compiled.termenv, forms)?;
     match run_term(alloc, compiled.program, term, args, &answers) {
         Ok(outcome) => Ok(outcome),
-        Err(e) => Err(told(e, end, forms)),
+        Err(e) => Err(placed(e, end, forms)),
     }
 }
 
@@ -86,17 +85,17 @@ pub fn outcome_under(
     term: &str,
     args: &[Value],
     text: &str,
-) -> Result<Outcome, TrialError>
+) -> Result<Outcome, Refusal>
     requires well_formed { IsWellFormed (program compiled.now.program.now) }
     ensures ok { IfOk result (λ o. IsOutcome (program compiled.now.program.now) (environment compiled.now.typeenv.now compiled.now.termenv.now) term.now (values args.now) text.now (ran o)) }
-    ensures err { IfErr result (λ e. (e ≡ Memory) ⊎ IsHalted (program compiled.now.program.now) (environment compiled.now.typeenv.now compiled.now.termenv.now) term.now (values args.now) text.now e) }
+    ensures err { IfErr result (λ e. (e ≡ Memory) ⊎ IsRunRefused (program compiled.now.program.now) (environment compiled.now.typeenv.now compiled.now.termenv.now) term.now (values args.now) text.now e) }
 {
     match forms(alloc, text) {
         Ok(forms) => under_forms(alloc, compiled, term, args, forms.as_slice(), text.len()),
         Err(AnswersFail::At(at)) => {
-            let other = TrialError::Halted(Halt::BadAnswers(at));
+            let other = Refusal::BadAnswers(at);
             Err(refused(compiled.program, term, args, other))
         }
-        Err(AnswersFail::Memory) => Err(TrialError::Memory),
+        Err(AnswersFail::Memory) => Err(Refusal::Memory),
     }
 }

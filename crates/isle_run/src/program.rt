@@ -13,14 +13,14 @@ ghost use Rattle.isle_tree.specs.WellFormed.{IsWellFormed};
 ghost use Rattle.isle_codegen.specs.Checked.{IsChecked};
 ghost use Rattle.isle_run.specs.Conforming.{Conforms};
 ghost use Rattle.isle_run.specs.Trial.{IsTrial, args_given};
-ghost use Rattle.isle_run.specs.Stopped.{HasNoLines};
+ghost use Rattle.isle_run.specs.NoLines.{HasNoLines};
 
 use crate::outcome::{Compiled, outcome_under};
 use crate::shown::lines_of;
-use crate::trial_error::TrialError;
+use crate::refusal::Refusal;
 use isle_codegen::Checked;
 use isle_core::{OutOfMemory, Value};
-use isle_run_inputs::{asked_term, values_at};
+use isle_run_inputs::{requested_term, values_at};
 use isle_tree::Program;
 use isle_values::Written;
 use std::alloc::Global;
@@ -36,7 +36,7 @@ fn args_given(
     ensures { IfOk result (λ args. values args.items ≡ args_given (environment checked.now.typeenv checked.now.termenv) term.now (seen given.now)) }
 {
     let typeenv = &checked.typeenv;
-    let tys = match asked_term(typeenv, &checked.termenv, checked.terms.as_slice(), term) {
+    let tys = match requested_term(typeenv, &checked.termenv, checked.terms.as_slice(), term) {
         Some(id) => match checked.termenv.terms.as_slice().get(id.index()) {
             Some(term) => term.arg_tys.as_slice(),
             None => &[],
@@ -54,7 +54,7 @@ pub fn of_program(
     term: &str,
     given: &[Written],
     answers: &str,
-) -> Result<String, TrialError>
+) -> Result<String, Refusal>
     requires terms { AreRuleSets (environment checked.now.typeenv checked.now.termenv) checked.now.terms.items }
     requires well_formed { IsWellFormed (program tree.now) }
     ensures ok { IfOk result (λ lines. (options : Options) (files : FileTexts) → IsChecked files (environment checked.now.typeenv checked.now.termenv) → Conforms options files (environment checked.now.typeenv checked.now.termenv) (program tree.now) → IsTrial options files term.now (seen given.now) answers.now (string_bytes lines)) }
@@ -62,7 +62,7 @@ pub fn of_program(
 {
     let args = match args_given(alloc, checked, term, given) {
         Ok(args) => args,
-        Err(_) => return Err(TrialError::Memory),
+        Err(_) => return Err(Refusal::Memory),
     };
     let compiled = Compiled {
         typeenv: &checked.typeenv,
@@ -75,6 +75,6 @@ pub fn of_program(
     };
     match lines_of(alloc, &checked.typeenv, &checked.termenv, &outcome) {
         Ok(lines) => Ok(lines),
-        Err(_) => Err(TrialError::Memory),
+        Err(_) => Err(Refusal::Memory),
     }
 }

@@ -5,7 +5,7 @@ ghost use Rattle.std.specs.String.{string_bytes};
 ghost use Rattle.isle_core.specs.Rule.{Environment};
 ghost use Rattle.isle_core.specs.RuleViews.{environment};
 ghost use Rattle.isle_core.specs.ValueViews.{made, ran};
-ghost use Rattle.isle_run_inputs.specs.Asked.{answer_type};
+ghost use Rattle.isle_run_inputs.specs.Requested.{answer_type};
 ghost use Rattle.isle_codegen.specs.Headline.{impure_calls};
 ghost use Rattle.isle_outcomes.specs.Lines.{call_line, call_lines, run_lines};
 ghost use Rattle.isle_run.specs.Trial.{shown_run};

@@ -8,11 +8,11 @@ ghost use Rattle.isle_values.specs.Views.{seen};
 ghost use Rattle.isle_emission.specs.Built.{IsBuilt};
 ghost use Rattle.isle_codegen.specs.Checked.{IsChecked};
 ghost use Rattle.isle_run.specs.Trial.{IsTrial};
-ghost use Rattle.isle_run.specs.Stopped.{HasNoLines};
+ghost use Rattle.isle_run.specs.NoLines.{HasNoLines};
 ghost use Rattle.isle_run.specs.Valid.{CanRun};
 
 use crate::checked::of_checked;
-use crate::trial_error::TrialError;
+use crate::refusal::Refusal;
 use isle_codegen::{FileError, check_files};
 use isle_core::{CodegenOptions, Files};
 use isle_values::Written;
@@ -29,12 +29,12 @@ pub fn trial(
     term: &str,
     given: &[Written],
     answers: &str,
-) -> Result<String, TrialError>
+) -> Result<String, Refusal>
     requires count { length files.now.file_texts ≡ length files.now.file_names }
     requires options { IsBuilt options.now }
     ensures ok { IfOk result (λ lines. IsTrial options.now files.now term.now (seen given.now) answers.now (string_bytes lines)) }
     ensures err { IfErr result (λ e. HasNoLines options.now files.now term.now (seen given.now) answers.now e) }
-    ensures complete { CanRun files.now term.now (seen given.now) answers.now → IsOkUnless result TrialError.Memory }
+    ensures complete { CanRun files.now term.now (seen given.now) answers.now → IsOkUnless result Refusal.Memory }
 {
     tried(alloc, files, options, term, given, answers)
 }
@@ -47,7 +47,7 @@ fn tried(
     term: &str,
     given: &[Written],
     answers: &str,
-) -> Result<String, TrialError>
+) -> Result<String, Refusal>
     requires count { length files.now.file_texts ≡ length files.now.file_names }
     requires options { IsBuilt options.now }
     ensures ok { IfOk result (λ lines. IsTrial options.now files.now term.now (seen given.now) answers.now (string_bytes lines)) }
@@ -55,10 +55,10 @@ fn tried(
 {
     let checked = match check_files(alloc, files) {
         Ok(checked) => checked,
-        Err(FileError::NotYet) => return Err(TrialError::NotYet),
+        Err(FileError::NotYet) => return Err(Refusal::NotYet),
         Err(FileError::Memory | FileError::Io { .. } | FileError::Errors(_) | FileError::Name(_)) =>
             {
-                return Err(TrialError::Memory);
+                return Err(Refusal::Memory);
             }
     };
     of_checked(alloc, files, options, &checked, term, given, answers)

@@ -25,11 +25,11 @@ abbrev Goes : TypeEnv → Term → Option Callee → Type 0
 Goes types t callee = (env : Environment) → env.types ≡ types → callee ≡ impure_callee env t t.kind
 
 -- the first type, by the term at the place
-first_at : (env : Environment) (terms : List Term) (i : ℕ) (t d : Term) (goes : Option Callee) (asked : Callee) → i < length terms → t ≡ get_or terms i d → goes ≡ impure_callee env t t.kind
-    → first_type env (drop i terms) asked ≡ option_map (λ (x : Term). x.ret_ty) (cond (goes_to asked goes) (Some t) (find (λ (x : Term). goes_to asked (impure_callee env x x.kind)) (drop (i + 1) terms)))
-first_at env terms i t d goes asked lt is e =
-    ap (λ xs. first_type env xs asked) (drop_more terms i d lt ∙ ap (λ x. x ∷ drop (i + 1) terms) (sym is))
-    ∙ ap (λ g. option_map (λ (x : Term). x.ret_ty) (cond (goes_to asked g) (Some t) (find (λ (x : Term). goes_to asked (impure_callee env x x.kind)) (drop (i + 1) terms)))) (sym e)
+first_at : (env : Environment) (terms : List Term) (i : ℕ) (t d : Term) (goes : Option Callee) (requested : Callee) → i < length terms → t ≡ get_or terms i d → goes ≡ impure_callee env t t.kind
+    → first_type env (drop i terms) requested ≡ option_map (λ (x : Term). x.ret_ty) (cond (goes_to requested goes) (Some t) (find (λ (x : Term). goes_to requested (impure_callee env x x.kind)) (drop (i + 1) terms)))
+first_at env terms i t d goes requested lt is e =
+    ap (λ xs. first_type env xs requested) (drop_more terms i d lt ∙ ap (λ x. x ∷ drop (i + 1) terms) (sym is))
+    ∙ ap (λ g. option_map (λ (x : Term). x.ret_ty) (cond (goes_to requested g) (Some t) (find (λ (x : Term). goes_to requested (impure_callee env x x.kind)) (drop (i + 1) terms)))) (sym e)
 
 picked : (here : Bool) (t : Term) (rest : Option Term) → cond here (Some t.ret_ty) (option_map (λ (x : Term). x.ret_ty) rest) ≡ option_map (λ (x : Term). x.ret_ty) (cond here (Some t) rest)
 picked true t rest = refl

@@ -15,7 +15,7 @@ use Rattle.isle_answers.specs.declared.form.Form.{Form as CodeForm}
 use Rattle.isle_answers.specs.Form.{Form}
 use Rattle.isle_answers.specs.Views.{answer_seen, form_seen, forms_seen}
 use Rattle.isle_answers.specs.declared.form.Form.TheVariants as code
-use Rattle.isle_run_inputs.specs.Asked.{answer_type}
+use Rattle.isle_run_inputs.specs.Requested.{answer_type}
 use Rattle.isle_run_inputs.specs.Forms.{answer_at, turns_at}
 
 -- one item more behind those that were

@@ -8,7 +8,7 @@ use Rattle.isle_core.specs.Value as value
 use Rattle.isle_core.specs.Meaning.{TurnAnswers, Meaning}
 use Rattle.isle_answers.specs.Form.{ResultForm, One, Tuple, AnswerForm, Plain, Found, Nothing, Several, Form, Held, Max, Const, Answers, Turns}
 use Rattle.isle_run_inputs.specs.Given.{value_at_any}
-use Rattle.isle_run_inputs.specs.Asked.{answer_type}
+use Rattle.isle_run_inputs.specs.Requested.{answer_type}
 
 -- a result that is built: one value
 abbrev pub is_built_result : ResultForm → Bool

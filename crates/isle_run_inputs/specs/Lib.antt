@@ -1,5 +1,5 @@
 pub mod Given
-pub mod Asked
+pub mod Requested
 pub mod Forms
 pub mod AnswerTypes
 pub mod Called

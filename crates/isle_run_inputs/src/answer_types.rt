@@ -3,7 +3,7 @@
 ghost use Rattle.std.specs.Prelude.{◌≡◌, IfOk};
 ghost use Rattle.isle_core.specs.Rule.{Environment};
 ghost use Rattle.isle_core.specs.Terms.{impure_callee};
-ghost use Rattle.isle_run_inputs.specs.Asked.{answer_type};
+ghost use Rattle.isle_run_inputs.specs.Requested.{answer_type};
 ghost use Rattle.isle_run_inputs.specs.AnswerTypes.{FindsTypes};
 ghost use Rattle.isle_run_inputs.specs.Called.{called};
 

@@ -3,15 +3,15 @@
 
 mod answer_types;
 mod answers;
-mod asked;
 mod built;
 mod names;
 mod number;
+mod requested;
 mod value;
 mod values;
 
 pub use answer_types::AnswerTypes;
 pub use answers::{answers_at, place_at};
-pub use asked::asked_term;
 pub use built::are_built;
+pub use requested::requested_term;
 pub use values::values_at;

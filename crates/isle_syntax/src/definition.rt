@@ -22,7 +22,7 @@ enum Head {
     Extern,
 }
 
-/// What a definition is that begins with the word.
+// What a definition is that begins with the word.
 fn head_of(word: &str) -> Option<Head>
     ensures { option_map head_seen result ≡ head_of word.now }
 {
@@ -34,7 +34,7 @@ fn head_of(word: &str) -> Option<Head>
     }
 }
 
-/// That a word is the flag `partial`.
+// That a word is the flag `partial`.
 fn partial_of(word: &str) -> Option<bool>
     ensures { result ≡ partial_of word.now }
 {
@@ -44,7 +44,7 @@ fn partial_of(word: &str) -> Option<bool>
     }
 }
 
-/// The word, if it is `constructor`.
+// The word, if it is `constructor`.
 fn constructor_of(word: &str) -> Option<&str>
     ensures { option_map (λ found. found.now) result ≡ constructor_of word.now }
 {
@@ -54,7 +54,7 @@ fn constructor_of(word: &str) -> Option<&str>
     }
 }
 
-/// What a definition is, by the word that is next.
+// What a definition is, by the word that is next.
 #[tactic(auto, using(isle_reading::proofs::Steps::next))]
 fn next_head(tokens: &Tokens<'_>) -> Option<Head>
     ensures { option_map head_seen result ≡ next_word head_of (left tokens.now) }
@@ -62,7 +62,7 @@ fn next_head(tokens: &Tokens<'_>) -> Option<Head>
     head_of(tokens.word()?)
 }
 
-/// What a definition is.
+// What a definition is.
 #[tactic(auto, using(isle_reading::proofs::Steps::words), unfolding(crate::specs::Reading::read_head))]
 fn read_head(tokens: &mut Tokens<'_>) -> Result<Head, Fail>
     ensures { Reads head_seen result read_head (left tokens.old) (left tokens.new) }
@@ -76,7 +76,7 @@ fn read_head(tokens: &mut Tokens<'_>) -> Result<Head, Fail>
     }
 }
 
-/// A name that is next and no flag.
+// A name that is next and no flag.
 #[tactic(auto, using(isle_reading::proofs::Steps::next))]
 fn next_decl_name<'t>(tokens: &Tokens<'t>) -> Option<&'t str>
     ensures { option_map (λ word. word.now) result ≡ next_word decl_name_of (left tokens.now) }
@@ -88,7 +88,7 @@ fn next_decl_name<'t>(tokens: &Tokens<'t>) -> Option<&'t str>
     Some(word)
 }
 
-/// A name that is no flag.
+// A name that is no flag.
 #[tactic(auto, using(isle_reading::proofs::Steps::words), unfolding(crate::specs::Reading::read_decl_name))]
 fn decl_name(tokens: &mut Tokens<'_>, alloc: Global) -> Result<Text, Fail>
     ensures { Reads (λ name. name) result read_decl_name (left tokens.old) (left tokens.new) }
@@ -102,7 +102,7 @@ fn decl_name(tokens: &mut Tokens<'_>, alloc: Global) -> Result<Text, Fail>
     }
 }
 
-/// The flag `partial` that is next.
+// The flag `partial` that is next.
 #[tactic(auto, using(isle_reading::proofs::Steps::next))]
 fn next_partial(tokens: &Tokens<'_>) -> Option<bool>
     ensures { result ≡ next_word partial_of (left tokens.now) }
@@ -110,7 +110,7 @@ fn next_partial(tokens: &Tokens<'_>) -> Option<bool>
     partial_of(tokens.word()?)
 }
 
-/// Whether the flag `partial` stands here.
+// Whether the flag `partial` stands here.
 #[tactic(auto, using(isle_reading::proofs::Steps::optionals), unfolding(crate::specs::Reading::read_partial))]
 fn partial(tokens: &mut Tokens<'_>) -> Result<bool, Fail>
     ensures { Reads (λ partial. partial) result read_partial (left tokens.old) (left tokens.new) }
@@ -127,7 +127,7 @@ fn partial(tokens: &mut Tokens<'_>) -> Result<bool, Fail>
     }
 }
 
-/// What stands behind the flag of `( decl`, for the definition at that place.
+// What stands behind the flag of `( decl`, for the definition at that place.
 #[tactic(auto, using(isle_reading::proofs::Steps::chain), unfolding(crate::specs::Reading::read_declared))]
 fn declared(
     tokens: &mut Tokens<'_>,
@@ -155,7 +155,7 @@ fn declared(
     })
 }
 
-/// What stands behind `( decl`, for the definition at that place.
+// What stands behind `( decl`, for the definition at that place.
 #[tactic(auto, using(isle_reading::proofs::Steps::chain), unfolding(crate::specs::Reading::read_decl))]
 fn decl(tokens: &mut Tokens<'_>, alloc: Global, most: usize, pos: Pos) -> Result<Def, Fail>
     ensures { Reads def result (read_decl most pos.file pos.offset) (left tokens.old) (left tokens.new) }
@@ -164,7 +164,7 @@ fn decl(tokens: &mut Tokens<'_>, alloc: Global, most: usize, pos: Pos) -> Result
     declared(tokens, alloc, most, pos, partial)
 }
 
-/// The word `constructor` that is next.
+// The word `constructor` that is next.
 #[tactic(auto, using(isle_reading::proofs::Steps::next))]
 fn next_constructor<'t>(tokens: &Tokens<'t>) -> Option<&'t str>
     ensures { option_map (λ word. word.now) result ≡ next_word constructor_of (left tokens.now) }
@@ -172,7 +172,7 @@ fn next_constructor<'t>(tokens: &Tokens<'t>) -> Option<&'t str>
     constructor_of(tokens.word()?)
 }
 
-/// The word `constructor`.
+// The word `constructor`.
 #[tactic(auto, using(isle_reading::proofs::Steps::words), unfolding(crate::specs::Reading::read_constructor))]
 fn constructor<'t>(tokens: &mut Tokens<'t>) -> Result<&'t str, Fail>
     ensures { Reads (λ word. word.now) result read_constructor (left tokens.old) (left tokens.new) }
@@ -186,7 +186,7 @@ fn constructor<'t>(tokens: &mut Tokens<'t>) -> Result<&'t str, Fail>
     }
 }
 
-/// What stands behind `( extern`, for the definition at that place.
+// What stands behind `( extern`, for the definition at that place.
 #[tactic(auto, using(isle_reading::proofs::Steps::chain), unfolding(crate::specs::Reading::read_extern))]
 fn extern_constructor(tokens: &mut Tokens<'_>, alloc: Global, pos: Pos) -> Result<Def, Fail>
     ensures { Reads def result (read_extern pos.file pos.offset) (left tokens.old) (left tokens.new) }
@@ -198,7 +198,7 @@ fn extern_constructor(tokens: &mut Tokens<'_>, alloc: Global, pos: Pos) -> Resul
     Ok(Def::ExternConstructor { term, func, pos })
 }
 
-/// A rule's head: a term, and the patterns of its arguments.
+// A rule's head: a term, and the patterns of its arguments.
 #[tactic(auto, using(isle_reading::proofs::Steps::chain), unfolding(crate::specs::Reading::read_parts))]
 fn parts(
     tokens: &mut Tokens<'_>,
@@ -213,7 +213,7 @@ fn parts(
     Ok((term, args))
 }
 
-/// What stands behind `( rule`, for the definition at that place.
+// What stands behind `( rule`, for the definition at that place.
 #[tactic(auto, using(isle_reading::proofs::Steps::chain), unfolding(crate::specs::Reading::read_rule))]
 fn rule(tokens: &mut Tokens<'_>, alloc: Global, most: usize, pos: Pos) -> Result<Def, Fail>
     ensures { Reads def result (read_rule most pos.file pos.offset) (left tokens.old) (left tokens.new) }
@@ -234,7 +234,7 @@ fn rule(tokens: &mut Tokens<'_>, alloc: Global, most: usize, pos: Pos) -> Result
     })
 }
 
-/// What stands behind the head of the definition at that place.
+// What stands behind the head of the definition at that place.
 fn behind(
     tokens: &mut Tokens<'_>,
     alloc: Global,

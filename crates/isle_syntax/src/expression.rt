@@ -11,7 +11,7 @@ use isle_lexer::{Kind, is_let, is_name, kind_of, text_of};
 use isle_reading::{Fail, Tokens, most_inside};
 use std::alloc::{AllocError, Global};
 
-/// The expression that a word is.
+// The expression that a word is.
 #[tactic(auto, using(crate::proofs::Sees::sees))]
 fn expr_of(alloc: Global, word: &str) -> Result<Option<AstExpr>, AllocError>
     ensures { IfOk result (λ read. option_map expr read ≡ expr_of word.now (kind word.now)) }
@@ -24,7 +24,7 @@ fn expr_of(alloc: Global, word: &str) -> Result<Option<AstExpr>, AllocError>
     }
 }
 
-/// An expression of one word that is next.
+// An expression of one word that is next.
 #[tactic(auto, using(isle_reading::proofs::Steps::next))]
 fn next_leaf(tokens: &Tokens<'_>, alloc: Global) -> Result<Option<AstExpr>, AllocError>
     ensures { IfOk result (λ next. option_map expr next ≡ next_word (λ w. expr_of w (kind w)) (left tokens.now)) }
@@ -35,7 +35,7 @@ fn next_leaf(tokens: &Tokens<'_>, alloc: Global) -> Result<Option<AstExpr>, Allo
     }
 }
 
-/// An expression of one word.
+// An expression of one word.
 #[tactic(auto, using(isle_reading::proofs::Steps::words), unfolding(crate::specs::Reading::read_leaf))]
 fn leaf(tokens: &mut Tokens<'_>, alloc: Global) -> Result<AstExpr, Fail>
     ensures { Reads expr result read_leaf (left tokens.old) (left tokens.new) }
@@ -49,7 +49,7 @@ fn leaf(tokens: &mut Tokens<'_>, alloc: Global) -> Result<AstExpr, Fail>
     }
 }
 
-/// A name that is next and not `let`.
+// A name that is next and not `let`.
 #[tactic(auto, using(isle_reading::proofs::Steps::next))]
 fn next_callee<'t>(tokens: &Tokens<'t>) -> Option<&'t str>
     ensures { option_map (λ word. word.now) result ≡ next_word callee_of (left tokens.now) }
@@ -61,7 +61,7 @@ fn next_callee<'t>(tokens: &Tokens<'t>) -> Option<&'t str>
     Some(word)
 }
 
-/// A name that is not `let`.
+// A name that is not `let`.
 #[tactic(auto, using(isle_reading::proofs::Steps::words), unfolding(crate::specs::Reading::read_callee))]
 fn callee(tokens: &mut Tokens<'_>, alloc: Global) -> Result<Text, Fail>
     ensures { Reads (λ name. name) result read_callee (left tokens.old) (left tokens.new) }
@@ -75,7 +75,7 @@ fn callee(tokens: &mut Tokens<'_>, alloc: Global) -> Result<Text, Fail>
     }
 }
 
-/// An expression whose parentheses nest at most `depth` deep, its lists of at most `most` tokens.
+// An expression whose parentheses nest at most `depth` deep, its lists of at most `most` tokens.
 #[cycle(expressions)]
 #[tactic(auto, using(crate::proofs::ExpressionSteps::expr_steps, crate::proofs::Sees::sees))]
 fn expression(
@@ -100,7 +100,7 @@ fn expression(
     }
 }
 
-/// Expressions up to a closing parenthesis, which is taken, of at most `most` tokens.
+// Expressions up to a closing parenthesis, which is taken, of at most `most` tokens.
 #[cycle(expressions)]
 #[tactic(auto, using(crate::proofs::ExpressionSteps::lists))]
 fn arguments(

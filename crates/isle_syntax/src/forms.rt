@@ -28,7 +28,7 @@ pub fn rule_name(tokens: &mut Tokens<'_>, alloc: Global) -> Result<Option<Text>,
     }
 }
 
-/// The priority that a word is.
+// The priority that a word is.
 fn prio_of(word: &str) -> Option<i64>
     ensures { result ≡ prio_of (kind word.now) }
 {
@@ -38,7 +38,7 @@ fn prio_of(word: &str) -> Option<i64>
     }
 }
 
-/// A priority that is next.
+// A priority that is next.
 #[tactic(auto, using(isle_reading::proofs::Steps::next))]
 fn next_prio(tokens: &Tokens<'_>) -> Option<i64>
     ensures { result ≡ next_word (λ w. prio_of (kind w)) (left tokens.now) }
@@ -63,7 +63,7 @@ pub fn prio(tokens: &mut Tokens<'_>) -> Result<i64, Fail>
     }
 }
 
-/// The pattern that a word is.
+// The pattern that a word is.
 #[tactic(auto, using(crate::proofs::Sees::sees))]
 fn pattern_of(alloc: Global, word: &str) -> Result<Option<AstPattern>, AllocError>
     ensures { IfOk result (λ read. option_map pattern read ≡ pattern_of word.now (kind word.now)) }
@@ -77,7 +77,7 @@ fn pattern_of(alloc: Global, word: &str) -> Result<Option<AstPattern>, AllocErro
     }
 }
 
-/// A pattern that is next.
+// A pattern that is next.
 #[tactic(auto, using(isle_reading::proofs::Steps::next))]
 fn next_pattern(tokens: &Tokens<'_>, alloc: Global) -> Result<Option<AstPattern>, AllocError>
     ensures { IfOk result (λ next. option_map pattern next ≡ next_word (λ w. pattern_of w (kind w)) (left tokens.now)) }

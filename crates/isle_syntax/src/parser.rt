@@ -24,8 +24,8 @@ pub enum ParseFail {
     Memory,
 }
 
-/// The definitions that tokens of the file of that number spell. `At` comes exactly where they spell none, or nest too
-/// deep, and says how many tokens are left where they go wrong.
+// The definitions that tokens of the file of that number spell. `At` comes exactly where they spell none, or nest too
+// deep, and says how many tokens are left where they go wrong.
 fn definitions(alloc: Global, file: usize, tokens: &[Token<'_>]) -> Result<Vec<Def>, Fail>
     ensures spelt { IfOk result (λ read. FileS file (tokens_seen tokens.now) (defs read.items) × (depth (tokens_seen tokens.now) ≤ most_open)) }
     ensures fault { (left : ℕ) → result ≡ Err (At left) → IsFault (IsFile file) (tokens_seen tokens.now) left }
@@ -33,7 +33,7 @@ fn definitions(alloc: Global, file: usize, tokens: &[Token<'_>]) -> Result<Vec<D
     file_of(&mut Tokens::new(tokens), alloc, tokens.len(), file)
 }
 
-/// The definitions that tokens of the file of that number spell. `NotYet` comes exactly where they spell none.
+// The definitions that tokens of the file of that number spell. `NotYet` comes exactly where they spell none.
 fn of_tokens(alloc: Global, file: usize, tokens: &[Token<'_>]) -> Result<Vec<Def>, ParseFail>
     ensures ok { IfOk result (λ read. SpellsTokens file (tokens_seen tokens.now) (defs read.items)) }
     ensures only { IfOk result (λ read. (others : List PureDef) → SpellsTokens file (tokens_seen tokens.now) others → others ≡ defs read.items) }

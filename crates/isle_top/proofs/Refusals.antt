@@ -5,13 +5,14 @@ use Rattle.std.proofs.lemmas.List.{take-append-drop}
 use Rattle.isle_outside.specs.Directory.{Files, Counts, Rose}
 use Rattle.isle_outside.specs.Sinks.{Took, TookPart}
 use Rattle.isle_outside.specs.declared.errors.IoCause.{IoCause}
-use Rattle.isle_command_line.specs.Asked.{Asked}
+use Rattle.isle_command_line.specs.Request.{Request}
 use Rattle.isle_command_line.specs.Lines.{LineS, IsBad}
-use Rattle.isle_top.specs.declared.refusal.Refusal.TheVariants as refusal
-use Rattle.isle_top.specs.Asking.{inputs_of}
+use Rattle.isle_run.specs.declared.refusal.Refusal.{Refusal}
+use Rattle.isle_run.specs.declared.refusal.Refusal.TheVariants as refusal
+use Rattle.isle_top.specs.Requests.{inputs_of}
 use Rattle.isle_top.specs.Causes.{HasCause}
 use Rattle.isle_top.specs.Lines.{Wrote, unread_line, bad_word_line}
-use Rattle.isle_top.specs.Statuses.{IsUnread, IsNoLine}
+use Rattle.isle_top.specs.Statuses.{IsOfLine, IsNoLine, Tells, Says}
 use Rattle.isle_top.specs.Statuses as statuses
 
 -- a line was written, or a front of it
@@ -26,19 +27,33 @@ at_number (name ∷ names) zero P lt f = f name refl
 at_number (name ∷ names) (suc i) P lt f = at_number names i P (omega (arith, lt)) f
 
 -- an input that is not read
-pub unread : (asked : Asked) (files : Option Files) (before after : Counts) (index : ℕ) (why : IoCause) (wrote : List ℕ → Type 0) → HasCause (refusal.Unread index why) asked files before after
-    → ((name : List ℕ) → slice_get (inputs_of asked) index ≡ Some name → wrote (unread_line name why)) → IsUnread asked files before after wrote
-unread asked files before after index why wrote h f = record {
-  index = index;
-  why = why;
-  cause = h;
-  line = at_number (inputs_of asked) index (λ name. wrote (unread_line name why)) h.1.0 f;
-}
+pub unread : (request : Request) (index : ℕ) (why : IoCause) (wrote : List ℕ → Type 0) → index < length (inputs_of request)
+    → ((name : List ℕ) → slice_get (inputs_of request) index ≡ Some name → wrote (unread_line name why)) → Tells request wrote (refusal.Unread index why)
+unread request index why wrote lt f = at_number (inputs_of request) index (λ name. wrote (unread_line name why)) lt f
+
+-- an input that is told is one of the line
+pub of_line : (request : Request) (e : Refusal) (files : Option Files) (before after : Counts) → HasCause e request files before after → IsOfLine request e
+of_line request refusal.NotYet files before after h = tt
+of_line request (refusal.Unread index why) files before after h = h.1.0
+of_line request refusal.NoTerm files before after h = tt
+of_line request refusal.ArgCount files before after h = tt
+of_line request (refusal.ArgType i) files before after h = tt
+of_line request (refusal.BadAnswers at) files before after h = tt
+of_line request refusal.Memory files before after h = tt
 
 -- a word with which no line goes on
 pub bad_word : (words : List (List ℕ)) (i : ℕ) (wrote : List ℕ → Type 0) → IsBad words i → ((word : List ℕ) → slice_get words i ≡ Some word → wrote (bad_word_line word)) → IsNoLine words wrote
 bad_word words i wrote h f = statuses.bad i h (at_number words i (λ word. wrote (bad_word_line word)) h.there f)
 
 -- words that are a line have none
-pub no_bad_word : (words : List (List ℕ)) (i : ℕ) (asked : Asked) → IsBad words i → LineS words asked → ⊥
-no_bad_word words i asked h line = h.bad (drop (i + 1) words, asked, rw take-append-drop line)
+pub no_bad_word : (words : List (List ℕ)) (i : ℕ) (request : Request) → IsBad words i → LineS words request → ⊥
+no_bad_word words i request h line = h.bad (drop (i + 1) words, request, rw take-append-drop line)
+
+-- what is said of a line is said of the words that ask for it
+pub says_of : {asks others : Request → Type 0} {none fail : Type 0} {files : Option Files} {before after : Counts} {quiet : Type 0} {wrote : List ℕ → Type 0} {status : ℕ} → ((request : Request) → asks request → others request) → (none → fail)
+    → Says asks none files before after quiet wrote status → Says others fail files before after quiet wrote status
+says_of f g (statuses.done h) = statuses.done h
+says_of f g (statuses.no_line h) = statuses.no_line (g h)
+says_of f g (statuses.refused request e a cause line) = statuses.refused request e (f request a) cause line
+says_of f g (statuses.write_fault h) = statuses.write_fault h
+says_of f g (statuses.no_memory h) = statuses.no_memory h

@@ -11,17 +11,14 @@ use Rattle.isle_values.specs.Written.{Writtens}
 use Rattle.isle_codegen.specs.Causes.{printed, IsNotBuilt, IsNotOfIt as IsUncompiled}
 use Rattle.isle_codegen.specs.Names.{are_file_names}
 use Rattle.isle_codegen.specs.Source.{InLanguage}
-use Rattle.isle_command_line.specs.Asked.{Asked, Help, Version, Compile, Build, Prelude, Units, Isa, Run}
+use Rattle.isle_command_line.specs.Request.{Request, Help, Version, Compile, Build, Prelude, Units, Isa, Run}
 use Rattle.isle_command_line.specs.Lines.{no_options}
 use Rattle.isle_run.specs.Valid.{CanRun}
-use Rattle.isle_run.specs.declared.halt.Halt.{Halt}
-use Rattle.isle_run.specs.declared.trial_error.TrialError.{TrialError}
-use Rattle.isle_run.specs.declared.trial_error.TrialError.TheVariants as trial
+use Rattle.isle_run.specs.declared.refusal.Refusal.{Refusal}
+use Rattle.isle_run.specs.declared.refusal.Refusal.TheVariants as refusal
 use Rattle.isle_run.proofs.Complete.{only_memory}
-use Rattle.isle_top.specs.declared.refusal.Refusal.{Refusal}
-use Rattle.isle_top.specs.declared.refusal.Refusal.TheVariants as refusal
-use Rattle.isle_top.specs.Asking.{IsBuilt, IsOne, inputs_of, answers_names, source_name}
-use Rattle.isle_top.specs.Causes.{GivesNoLines, IsNotOfIt, HasCause}
+use Rattle.isle_top.specs.Requests.{IsBuilt, IsOne, inputs_of, answers_names, source_name}
+use Rattle.isle_top.specs.Causes.{GivesNoLines, IsNotOfIt, IsNotRun, HasCause}
 use Rattle.isle_top.specs.Valid.{IsValid, AreValid, IsValidRun, IsValidLine, AreAnswers, one_file}
 
 -- ---- inputs
@@ -63,7 +60,7 @@ run_there fs source term vs answers (suc i) name v e = answers_there fs answers 
 no_input : {A : Type 0} (i : ℕ) (name : List ℕ) → slice_get [] i ≡ Some name → A
 no_input i name e = absurd (let bad : None ≡ Some name = e in cc)
 
-inputs_there : (asked : Asked) (fs : Files) (i : ℕ) (name : List ℕ) → IsValidLine asked fs → slice_get (inputs_of asked) i ≡ Some name → HasText fs name
+inputs_there : (request : Request) (fs : Files) (i : ℕ) (name : List ℕ) → IsValidLine request fs → slice_get (inputs_of request) i ≡ Some name → HasText fs name
 inputs_there Help fs i name v e = no_input i name e
 inputs_there Version fs i name v e = no_input i name e
 inputs_there (Compile options names) fs i name v e = one_there fs names i name v.1 e
@@ -78,10 +75,10 @@ failed_name : (names : List (List ℕ)) (P : List ℕ → Type 0) (o : Option (L
 failed_name names P None h = absurd h
 failed_name names P (Some name) h = (name, refl, h)
 
-all_read : (asked : Asked) (fs : Files) (index : ℕ) (why : IoCause) (before after : Counts) → IsValidLine asked fs → Fails (read.Io index why) (Some fs) (inputs_of asked) before after → (Rose before.faults after.faults → ⊥) → ⊥
-all_read asked fs index why before after v h calm =
-    let at = failed_name (inputs_of asked) (λ name. IsCause why (bytes_of fs name)) (slice_get (inputs_of asked) index) h.3.here in
-    let there = inputs_there asked fs index at.0 v at.1 in
+all_read : (request : Request) (fs : Files) (index : ℕ) (why : IoCause) (before after : Counts) → IsValidLine request fs → Fails (read.Io index why) (Some fs) (inputs_of request) before after → (Rose before.faults after.faults → ⊥) → ⊥
+all_read request fs index why before after v h calm =
+    let at = failed_name (inputs_of request) (λ name. IsCause why (bytes_of fs name)) (slice_get (inputs_of request) index) h.3.here in
+    let there = inputs_there request fs index at.0 v at.1 in
     let fault : why ≡ cause.Fault = only_fault why (bytes_of fs at.0) there.0 there.1 at.2 in
     calm (subst (λ w. RoseAt w before.faults after.faults) fault h.2)
 
@@ -106,7 +103,7 @@ valid_files fs (name ∷ []) v h = valid_file fs name v h
 valid_files fs (name ∷ other ∷ names) v h = v
 
 -- the source and the answers of a run
-has_lines : (fs : Files) (name term : List ℕ) (vs : Writtens) (answers : Option (List ℕ)) (e : TrialError) → IsValidRun fs name term vs answers → GivesNoLines name term vs answers (Some fs) e → e ≡ trial.Memory
+has_lines : (fs : Files) (name term : List ℕ) (vs : Writtens) (answers : Option (List ℕ)) (e : Refusal) → IsValidRun fs name term vs answers → GivesNoLines name term vs answers (Some fs) e → e ≡ refusal.Memory
 has_lines fs name term vs answers e v h =
     let source : v.source ≡ h.source = one_text (bytes_of fs name) v.source h.source v.there h.read.0.0 in
     let given : v.given ≡ h.given = one_answers fs answers v.given h.given v.answered h.read.1 in
@@ -120,7 +117,7 @@ one_name fs [] v = v
 one_name fs (name ∷ []) v = tt
 one_name fs (name ∷ other ∷ names) v = v
 
-built_line : (asked : Asked) (fs : Files) → IsValidLine asked fs → IsBuilt asked
+built_line : (request : Request) (fs : Files) → IsValidLine request fs → IsBuilt request
 built_line Help fs v = tt
 built_line Version fs v = tt
 built_line (Compile options names) fs v = (v.0, one_name fs names v.1)
@@ -130,7 +127,7 @@ built_line Units fs v = v
 built_line (Isa target) fs v = v
 built_line (Run trace options from term vs answers) fs v = v.0
 
-valid_inputs : (asked : Asked) (fs : Files) → IsValidLine asked fs → IsNotOfIt asked (Some fs) → ⊥
+valid_inputs : (request : Request) (fs : Files) → IsValidLine request fs → IsNotOfIt request (Some fs) → ⊥
 valid_inputs Help fs v h = h
 valid_inputs Version fs v h = h
 valid_inputs (Compile options names) fs v h = valid_files fs names v.1 h
@@ -138,28 +135,32 @@ valid_inputs (Build options unit) fs v h = v
 valid_inputs (Prelude kind) fs v h = v
 valid_inputs Units fs v h = v
 valid_inputs (Isa target) fs v h = v
-valid_inputs (Run trace options from term vs answers) fs v h = let e : trial.NotYet ≡ trial.Memory = has_lines fs (source_name from) term vs answers trial.NotYet v.1 h in absurd cc
+valid_inputs (Run trace options from term vs answers) fs v h = let e : refusal.NotYet ≡ refusal.Memory = has_lines fs (source_name from) term vs answers refusal.NotYet v.1 h in absurd cc
 
-not_halted : (asked : Asked) (fs : Files) (halt : Halt) (before after : Counts) → IsValidLine asked fs → HasCause (refusal.Halted halt) asked (Some fs) before after → ⊥
-not_halted Help fs halt before after v h = h
-not_halted Version fs halt before after v h = h
-not_halted (Compile options names) fs halt before after v h = h
-not_halted (Build options unit) fs halt before after v h = v
-not_halted (Prelude kind) fs halt before after v h = v
-not_halted Units fs halt before after v h = v
-not_halted (Isa target) fs halt before after v h = v
-not_halted (Run trace options from term vs answers) fs halt before after v h = let e : trial.Halted halt ≡ trial.Memory = has_lines fs (source_name from) term vs answers (trial.Halted halt) v.1 h.1 in absurd cc
+-- a valid run has lines, or memory is wanting
+not_run : (request : Request) (fs : Files) (e : Refusal) → IsValidLine request fs → IsNotRun request (Some fs) e → e ≡ refusal.Memory
+not_run Help fs e v h = absurd h
+not_run Version fs e v h = absurd h
+not_run (Compile options names) fs e v h = absurd h
+not_run (Build options unit) fs e v h = absurd h
+not_run (Prelude kind) fs e v h = absurd h
+not_run Units fs e v h = absurd h
+not_run (Isa target) fs e v h = absurd h
+not_run (Run trace options from term vs answers) fs e v h = has_lines fs (source_name from) term vs answers e v.1 h.1
 
 -- the only cause is want of memory
-only_memory_wants : (asked : Asked) (e : Refusal) (fs : Files) (before after : Counts) → IsValidLine asked fs → HasCause e asked (Some fs) before after → (Rose before.faults after.faults → ⊥) → e ≡ refusal.Memory
-only_memory_wants asked refusal.Memory fs before after v h calm = refl
-only_memory_wants asked refusal.NotYet fs before after v h calm = absurd (⊎_elim (λ never. never (built_line asked fs v)) (λ bad. valid_inputs asked fs v bad) h)
-only_memory_wants asked (refusal.Unread index why) fs before after v h calm = absurd (all_read asked fs index why before after v h.1 calm)
-only_memory_wants asked (refusal.Halted halt) fs before after v h calm = absurd (not_halted asked fs halt before after v h)
+only_memory_wants : (request : Request) (e : Refusal) (fs : Files) (before after : Counts) → IsValidLine request fs → HasCause e request (Some fs) before after → (Rose before.faults after.faults → ⊥) → e ≡ refusal.Memory
+only_memory_wants request refusal.Memory fs before after v h calm = refl
+only_memory_wants request refusal.NotYet fs before after v h calm = absurd (⊎_elim (λ never. never (built_line request fs v)) (λ bad. valid_inputs request fs v bad) h)
+only_memory_wants request (refusal.Unread index why) fs before after v h calm = absurd (all_read request fs index why before after v h.1 calm)
+only_memory_wants request refusal.NoTerm fs before after v h calm = not_run request fs refusal.NoTerm v h
+only_memory_wants request refusal.ArgCount fs before after v h calm = not_run request fs refusal.ArgCount v h
+only_memory_wants request (refusal.ArgType i) fs before after v h calm = not_run request fs (refusal.ArgType i) v h
+only_memory_wants request (refusal.BadAnswers at) fs before after v h calm = not_run request fs (refusal.BadAnswers at) v h
 
 -- so a valid line is answered, unless memory is wanting
-pub answered_unless : {T : Type 0} (asked : Asked) (r : Result T Refusal) (files : Option Files) (before after : Counts) → IfErr r (λ e. HasCause e asked files before after) → IsSomeAnd files (IsValidLine asked)
+pub answered_unless : {T : Type 0} (request : Request) (r : Result T Refusal) (files : Option Files) (before after : Counts) → IfErr r (λ e. HasCause e request files before after) → IsSomeAnd files (IsValidLine request)
     → (Rose before.faults after.faults → ⊥) → IsOkUnless r refusal.Memory
-answered_unless asked (Ok x) files before after h v calm = tt
-answered_unless asked (Err e) None before after h v calm = absurd v
-answered_unless asked (Err e) (Some fs) before after h v calm = only_memory_wants asked e fs before after v h calm
+answered_unless request (Ok x) files before after h v calm = tt
+answered_unless request (Err e) None before after h v calm = absurd v
+answered_unless request (Err e) (Some fs) before after h v calm = only_memory_wants request e fs before after v h calm

@@ -5,34 +5,50 @@ use Rattle.isle_core.specs.Inputs.{AreRead, Fails}
 use Rattle.isle_core.specs.declared.read_error.ReadError.TheVariants as read
 use Rattle.isle_values.specs.Written.{Writtens}
 use Rattle.isle_codegen.specs.Causes.{IsNotBuilt}
-use Rattle.isle_command_line.specs.Asked.{Asked, Compile, Run}
+use Rattle.isle_command_line.specs.Request.{Request, Help, Version, Compile, Build, Prelude, Units, Isa, Run}
 use Rattle.isle_command_line.specs.Lines.{no_options}
-use Rattle.isle_run.specs.Stopped.{HasNoLines}
-use Rattle.isle_run.specs.declared.trial_error.TrialError.{TrialError}
-use Rattle.isle_run.specs.declared.trial_error.TrialError.TheVariants as trial
-use Rattle.isle_top.specs.declared.refusal.Refusal.{Refusal}
-use Rattle.isle_top.specs.declared.refusal.Refusal.TheVariants as refusal
-use Rattle.isle_top.specs.Asking.{IsBuilt, inputs_of, source_name}
+use Rattle.isle_run.specs.NoLines.{HasNoLines}
+use Rattle.isle_run.specs.declared.refusal.Refusal.{Refusal}
+use Rattle.isle_run.specs.declared.refusal.Refusal.TheVariants as refusal
+use Rattle.isle_top.specs.Requests.{IsBuilt, inputs_of, source_name}
 use Rattle.isle_top.specs.Valid.{AreAnswers, one_file}
 
 -- a run of the term of the source of this name, under the answers of the file, gives no lines
-pub record GivesNoLines (name term : List ℕ) (vs : Writtens) (answers : Option (List ℕ)) (files : Option Files) (e : TrialError) : Type 0 where
+pub record GivesNoLines (name term : List ℕ) (vs : Writtens) (answers : Option (List ℕ)) (files : Option Files) (e : Refusal) : Type 0 where
   pub source : List ℕ
   pub given : List ℕ
   pub read : IfSome files (λ fs. AreRead fs (name ∷ []) (source ∷ []) × AreAnswers fs answers given)
   pub none : HasNoLines no_options (one_file name source) term vs given e
 
 -- the inputs were read, and are not of what is built
-abbrev pub IsNotOfIt : Asked → Option Files → Type 0
+abbrev pub IsNotOfIt : Request → Option Files → Type 0
+IsNotOfIt Help files = ⊥
+IsNotOfIt Version files = ⊥
 IsNotOfIt (Compile options names) files = IfSome files (λ fs. IsNotBuilt no_options fs names)
-IsNotOfIt (Run trace options from term vs answers) files = GivesNoLines (source_name from) term vs answers files trial.NotYet
-IsNotOfIt asked files = ⊥
+IsNotOfIt (Build options unit) files = ⊥
+IsNotOfIt (Prelude kind) files = ⊥
+IsNotOfIt Units files = ⊥
+IsNotOfIt (Isa target) files = ⊥
+IsNotOfIt (Run trace options from term vs answers) files = GivesNoLines (source_name from) term vs answers files refusal.NotYet
+
+-- the line is built, and its term is not run for this
+abbrev pub IsNotRun : Request → Option Files → Refusal → Type 0
+IsNotRun Help files e = ⊥
+IsNotRun Version files e = ⊥
+IsNotRun (Compile options names) files e = ⊥
+IsNotRun (Build options unit) files e = ⊥
+IsNotRun (Prelude kind) files e = ⊥
+IsNotRun Units files e = ⊥
+IsNotRun (Isa target) files e = ⊥
+IsNotRun (Run trace options from term vs answers) files e = IsBuilt (Run trace options from term vs answers) × GivesNoLines (source_name from) term vs answers files e
 
 -- why a line is not answered: it is not built, or its inputs are not; it is built, and an input was not read, the first
 -- that is not, or a term is not run; or want of memory
-abbrev pub HasCause : Refusal → Asked → Option Files → (before after : Counts) → Type 0
-HasCause refusal.NotYet asked files before after = (IsBuilt asked → ⊥) ⊎ IsNotOfIt asked files
-HasCause (refusal.Unread index why) asked files before after = IsBuilt asked × Fails (read.Io index why) files (inputs_of asked) before after
-HasCause (refusal.Halted h) (Run trace options from term vs answers) files before after = IsBuilt (Run trace options from term vs answers) × GivesNoLines (source_name from) term vs answers files (trial.Halted h)
-HasCause (refusal.Halted h) asked files before after = ⊥
-HasCause refusal.Memory asked files before after = Unit {0}
+abbrev pub HasCause : Refusal → Request → Option Files → (before after : Counts) → Type 0
+HasCause refusal.NotYet request files before after = (IsBuilt request → ⊥) ⊎ IsNotOfIt request files
+HasCause (refusal.Unread index why) request files before after = IsBuilt request × Fails (read.Io index why) files (inputs_of request) before after
+HasCause refusal.NoTerm request files before after = IsNotRun request files refusal.NoTerm
+HasCause refusal.ArgCount request files before after = IsNotRun request files refusal.ArgCount
+HasCause (refusal.ArgType i) request files before after = IsNotRun request files (refusal.ArgType i)
+HasCause (refusal.BadAnswers at) request files before after = IsNotRun request files (refusal.BadAnswers at)
+HasCause refusal.Memory request files before after = Unit {0}

@@ -1,5 +1,5 @@
 pub mod About
-pub mod Asking
+pub mod Requests
 pub mod Lines
 pub mod Valid
 pub mod Inputs

@@ -1,8 +1,6 @@
 -- The lines that refusals write.
 use Rattle.std.specs.Prelude.{ℕ, List, [], ◌∷◌, ◌++◌, map, codes, nat_lt, if◌then◌else◌, ◌⊎◌, Option}
 use Rattle.isle_printer.specs.Number.{numeral}
-use Rattle.isle_run.specs.declared.halt.Halt.{Halt}
-use Rattle.isle_run.specs.declared.halt.Halt.TheVariants as halt
 use Rattle.isle_outside.specs.Directory.{Rose}
 use Rattle.isle_outside.specs.Sinks.{Took, TookPart}
 use Rattle.isle_outside.specs.declared.errors.IoCause.{IoCause}
@@ -71,12 +69,17 @@ argument_end = codes " has another type\n"
 unfoldable pub answers_head : List ℕ
 answers_head = codes "isle: bad answers at "
 
--- why a term is not run
-abbrev pub halt_line : List ℕ → Halt → List ℕ
-halt_line term halt.NoTerm = no_term_head ++ (map masked term ++ codes "\n")
-halt_line term halt.ArgCount = count_line
-halt_line term (halt.ArgType i) = argument_head ++ (numeral 10 i ++ argument_end)
-halt_line term (halt.BadAnswers at) = answers_head ++ (numeral 10 at ++ codes "\n")
+-- no term with rules has the name
+abbrev pub no_term_line : List ℕ → List ℕ
+no_term_line term = no_term_head ++ (map masked term ++ codes "\n")
+
+-- the argument of this number is of another type
+abbrev pub argument_line : ℕ → List ℕ
+argument_line i = argument_head ++ (numeral 10 i ++ argument_end)
+
+-- the answers go wrong at this place
+abbrev pub answers_line : ℕ → List ℕ
+answers_line at = answers_head ++ (numeral 10 at ++ codes "\n")
 
 -- memory ran out
 abbrev pub memory_line : List ℕ

@@ -1,34 +1,54 @@
 -- The statuses that a run ends with, and what each says.
-use Rattle.std.specs.Prelude.{◌≡◌, ℕ, ◌⊎◌, List, Option, IsSomeAnd, slice_get}
+use Rattle.std.specs.Prelude.{ℕ, ◌<◌, List, length, Option, IsSomeAnd, slice_get}
 use Rattle.isle_outside.specs.Directory.{Files, Counts}
-use Rattle.isle_outside.specs.declared.errors.IoCause.{IoCause}
-use Rattle.isle_run.specs.declared.halt.Halt.{Halt}
-use Rattle.isle_command_line.specs.Asked.{Asked}
+use Rattle.isle_command_line.specs.Request.{Request}
 use Rattle.isle_command_line.specs.Lines.{IsBad, IsMissing}
-use Rattle.isle_top.specs.declared.refusal.Refusal.TheVariants as refusal
-use Rattle.isle_top.specs.Asking.{inputs_of, term_of}
-use Rattle.isle_top.specs.Lines.{bad_word_line, missing_word_line, unread_line, halt_line}
+use Rattle.isle_run.specs.declared.refusal.Refusal.{Refusal}
+use Rattle.isle_run.specs.declared.refusal.Refusal.TheVariants as refusal
+use Rattle.isle_top.specs.Requests.{inputs_of, term_of}
+use Rattle.isle_top.specs.Lines.{bad_word_line, missing_word_line, not_yet_line, unread_line, no_term_line, count_line, argument_line, answers_line, write_fault_line, memory_line}
 use Rattle.isle_top.specs.Causes.{HasCause}
 
--- done, the words are no line, an input was not read, the output failed, memory ran out, a term is not run, what is asked
--- for is not built
-abbrev pub IsStatus : ℕ → Type 0
-IsStatus n = (n ≡ 0) ⊎ (n ≡ 2) ⊎ (n ≡ 5) ⊎ (n ≡ 11) ⊎ (n ≡ 12) ⊎ (n ≡ 13) ⊎ (n ≡ 14)
+-- the status of a refusal
+abbrev pub status_of : Refusal → ℕ
+status_of refusal.NotYet = 14
+status_of (refusal.Unread index why) = 5
+status_of refusal.NoTerm = 13
+status_of refusal.ArgCount = 13
+status_of (refusal.ArgType i) = 13
+status_of (refusal.BadAnswers at) = 13
+status_of refusal.Memory = 12
+
+-- an input that is not read is one of the line
+abbrev pub IsOfLine : Request → Refusal → Type 0
+IsOfLine request refusal.NotYet = Unit {0}
+IsOfLine request (refusal.Unread index why) = index < length (inputs_of request)
+IsOfLine request refusal.NoTerm = Unit {0}
+IsOfLine request refusal.ArgCount = Unit {0}
+IsOfLine request (refusal.ArgType i) = Unit {0}
+IsOfLine request (refusal.BadAnswers at) = Unit {0}
+IsOfLine request refusal.Memory = Unit {0}
+
+-- the line of a refusal was written, with the name of the input or of the term
+abbrev pub Tells : Request → (wrote : List ℕ → Type 0) → Refusal → Type 0
+Tells request wrote refusal.NotYet = wrote not_yet_line
+Tells request wrote (refusal.Unread index why) = IsSomeAnd (slice_get (inputs_of request) index) (λ name. wrote (unread_line name why))
+Tells request wrote refusal.NoTerm = wrote (no_term_line (term_of request))
+Tells request wrote refusal.ArgCount = wrote count_line
+Tells request wrote (refusal.ArgType i) = wrote (argument_line i)
+Tells request wrote (refusal.BadAnswers at) = wrote (answers_line at)
+Tells request wrote refusal.Memory = wrote memory_line
 
 -- the first word with which no line continues was written, or that one is missing
 pub data IsNoLine (words : List (List ℕ)) (wrote : List ℕ → Type 0) : Type 0 where
   bad : (i : ℕ) → IsBad words i → IsSomeAnd (slice_get words i) (λ word. wrote (bad_word_line word)) → IsNoLine words wrote
   missing : IsMissing words → wrote missing_word_line → IsNoLine words wrote
 
--- the first input that was not read, with its cause, and the line that says so was written
-pub record IsUnread (asked : Asked) (files : Option Files) (before after : Counts) (wrote : List ℕ → Type 0) : Type 0 where
-  pub index : ℕ
-  pub why : IoCause
-  pub cause : HasCause (refusal.Unread index why) asked files before after
-  pub line : IsSomeAnd (slice_get (inputs_of asked) index) (λ name. wrote (unread_line name why))
-
--- the term is not run for this cause, and the line that says so was written
-pub record IsHalt (asked : Asked) (files : Option Files) (before after : Counts) (wrote : List ℕ → Type 0) : Type 0 where
-  pub halt : Halt
-  pub cause : HasCause (refusal.Halted halt) asked files before after
-  pub line : wrote (halt_line (term_of asked) halt)
+-- what a status says: the text was written, and nothing else; the words are no line; the line that is asked for is
+-- refused, for a cause; the output failed; memory ran out. All but the first write their line
+pub data Says (asks : Request → Type 0) (none : Type 0) (files : Option Files) (before after : Counts) (quiet : Type 0) (wrote : List ℕ → Type 0) : ℕ → Type 0 where
+  done : quiet → Says asks none files before after quiet wrote 0
+  no_line : none → Says asks none files before after quiet wrote 2
+  refused : (request : Request) (e : Refusal) → asks request → HasCause e request files before after → Tells request wrote e → Says asks none files before after quiet wrote (status_of e)
+  write_fault : wrote write_fault_line → Says asks none files before after quiet wrote 11
+  no_memory : wrote memory_line → Says asks none files before after quiet wrote 12

@@ -10,12 +10,12 @@ use Rattle.isle_codegen.specs.Source.{InLanguage}
 use Rattle.isle_codegen.specs.Header.{HasHeader}
 use Rattle.isle_codegen.specs.Headline.{SpellsOne}
 use Rattle.isle_codegen.specs.Causes.{IsCompiled, printed}
-use Rattle.isle_command_line.specs.Asked.{Asked, Help, Version, Compile, Build, Prelude, Units, Isa, Run}
+use Rattle.isle_command_line.specs.Request.{Request, Help, Version, Compile, Build, Prelude, Units, Isa, Run}
 use Rattle.isle_command_line.specs.Lines.{no_options}
 use Rattle.isle_run.specs.Trial.{IsTrial}
 use Rattle.isle_run.specs.Valid.{CanRun}
 use Rattle.isle_top.specs.About.{help_text, version_text}
-use Rattle.isle_top.specs.Asking.{source_name, IsBuilt}
+use Rattle.isle_top.specs.Requests.{source_name, IsBuilt}
 
 -- the file of the name holds a text of the language, and its name may be emitted
 pub record IsValid (files : Files) (name : List ℕ) : Type 0 where
@@ -63,7 +63,7 @@ AreValid (name ∷ []) files = IsValid files name
 AreValid (name ∷ other ∷ names) files = ⊥
 
 -- a line that is built, and whose inputs are valid; the others are not built
-abbrev pub IsValidLine : Asked → Files → Type 0
+abbrev pub IsValidLine : Request → Files → Type 0
 IsValidLine Help files = Unit {0}
 IsValidLine Version files = Unit {0}
 IsValidLine (Compile options names) files = (options ≡ no_options) × AreValid names files
@@ -80,13 +80,13 @@ compile_answer (name ∷ []) files text = IsProgramOf name files text
 compile_answer (name ∷ other ∷ names) files text = ⊥
 
 -- the text answers a line of words that is built
-abbrev pub Answers : Asked → Option Files → List ℕ → Type 0
+abbrev pub Answers : Request → Option Files → List ℕ → Type 0
 Answers Help files text = text ≡ help_text
 Answers Version files text = text ≡ version_text
 Answers (Compile options names) files text = compile_answer names files text
 Answers (Run trace options from term vs answers) files text = IsRunOf (source_name from) term vs answers files text
-Answers asked files text = ⊥
+Answers request files text = ⊥
 
 -- the text answers the line
-abbrev pub IsAnswer : Asked → Option Files → List ℕ → Type 0
-IsAnswer asked files text = IsBuilt asked × Answers asked files text
+abbrev pub IsAnswer : Request → Option Files → List ℕ → Type 0
+IsAnswer request files text = IsBuilt request × Answers request files text

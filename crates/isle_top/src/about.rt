@@ -3,7 +3,7 @@
 ghost use Rattle.std.specs.Prelude.{◌≡◌};
 ghost use Rattle.isle_top.specs.About.{help_text, version_text};
 
-/// Every form of line, with what it does and an example.
+/// Returns what `--help` writes: every form of line, with what it does and an example.
 #[tactic(auto, unfolding(crate::specs::About::help_text))]
 pub fn help() -> &'static str
     ensures { result.now ≡ help_text }
@@ -40,7 +40,7 @@ OPTION is --no-allow, --log, --split, --threshold N or --prefix P=NAME (not yet)
 No words mean: isle compile first.isle\n"
 }
 
-/// The program's name and version.
+/// Returns what `--version` writes: the program's name and version.
 #[tactic(auto, unfolding(crate::specs::About::version_text))]
 pub fn version() -> &'static str
     ensures { result.now ≡ version_text }

@@ -5,7 +5,7 @@ ghost use Rattle.std.specs.Option.{option_copied};
 ghost use Rattle.std.specs.String.{string_bytes};
 ghost use Rattle.isle_outside.specs.Directory.{Rose};
 ghost use Rattle.isle_command_line.specs.Views.{seen_command};
-ghost use Rattle.isle_top.specs.Asking.{IsBuilt, inputs_of};
+ghost use Rattle.isle_top.specs.Requests.{IsBuilt, inputs_of};
 ghost use Rattle.isle_top.specs.Valid.{Answers, IsAnswer, IsValidLine};
 ghost use Rattle.isle_top.specs.Causes.{HasCause};
 
@@ -13,9 +13,9 @@ use crate::about::{help, version};
 use crate::built::is_built;
 use crate::compiled::compiled;
 use crate::ran::ran;
-use crate::refusal::Refusal;
 use isle_command_line::{Command, Source};
 use isle_core::{Dir, Text};
+use isle_run::Refusal;
 use std::alloc::Global;
 
 /// Answers a line. Where it is valid and no call of the directory fails, the only refusal is want of memory.

@@ -4,7 +4,7 @@ ghost use Rattle.std.specs.Prelude.{◌≡◌, ◌↔◌, IsTrue};
 ghost use Rattle.isle_values.specs.Views.{written, seen};
 ghost use Rattle.isle_command_line.specs.Lines.{no_options};
 ghost use Rattle.isle_command_line.specs.Views.{seen_command};
-ghost use Rattle.isle_top.specs.Asking.{is_plain, ArePlain, IsBuilt};
+ghost use Rattle.isle_top.specs.Requests.{is_plain, ArePlain, IsBuilt};
 
 use isle_command_line::{Command, Source};
 use isle_core::CodegenOptions;
@@ -43,7 +43,7 @@ fn are_plain(values: &[Written]) -> bool
     true
 }
 
-/// Whether a line is built: one file is compiled, or a term of it run, with no option.
+/// Tells whether a line is built: one file is compiled, or a term of it run, with no option (`specs/Requests.antt`).
 pub fn is_built(command: &Command) -> bool
     ensures { IsTrue result ↔ IsBuilt (seen_command command.now) }
 {

@@ -2,17 +2,17 @@
 
 ghost use Rattle.std.specs.Prelude.{◌≡◌, ◌≤◌, [], ◌∷◌, IfOk, IfErr, ◌+◌, ◌*◌, ◌^◌, length, ◌-◌};
 ghost use Rattle.std.specs.String.{string_bytes};
-ghost use Rattle.isle_command_line.specs.Asked.{Compile};
+ghost use Rattle.isle_command_line.specs.Request.{Compile};
 ghost use Rattle.isle_command_line.specs.Lines.{no_options};
 ghost use Rattle.isle_top.specs.Valid.{IsProgramOf};
 ghost use Rattle.isle_top.specs.Causes.{HasCause};
 
-use crate::refusal::Refusal;
 use isle_codegen::{FileError, from_files};
 use isle_core::{CodegenOptions, Dir};
+use isle_run::Refusal;
 use std::alloc::Global;
 
-/// The text of the program of the file of the name.
+/// Compiles the file of the name, and returns the text of its program. Each refusal has its cause (`specs/Causes.antt`).
 pub fn compiled<D: Dir>(alloc: Global, name: &str, dir: &mut D) -> Result<String, Refusal>
     ensures ok { IfOk result (λ text. IsProgramOf name.now (D.files dir.old) (string_bytes text)) }
     ensures err { IfErr result (λ e. HasCause e (Compile no_options (name.now ∷ [])) (D.files dir.old) (D.counts dir.old) (D.counts dir.new)) }

@@ -5,7 +5,7 @@ ghost use Rattle.std.specs.Option.{option_copied};
 ghost use Rattle.isle_outside.specs.Directory.{bytes_of, raised};
 ghost use Rattle.isle_outside.specs.Reading.{IsText};
 ghost use Rattle.isle_core.specs.Inputs.{Fails};
-ghost use Rattle.isle_top.specs.Asking.{answers_names};
+ghost use Rattle.isle_top.specs.Requests.{answers_names};
 ghost use Rattle.isle_top.specs.Valid.{AreAnswers, one_file};
 ghost use Rattle.isle_top.specs.Inputs.{AreInputs, FailsTo, IsOf};
 
@@ -67,8 +67,8 @@ fn one_file(alloc: Global, name: &str, text: Text) -> Result<Files, OutOfMemory>
     })
 }
 
-/// The inputs of these names, the source first; without a file of answers their text is empty. The first that is not
-/// read is told by its number: 0 is the source, 1 the file of answers.
+/// Reads the source, and then the file of answers; without such a file their text is empty. The first that is not read is
+/// told by its number: 0 is the source, 1 the file of answers (`specs/Inputs.antt`).
 pub fn read_inputs<D: Dir>(
     alloc: Global,
     source: &str,

@@ -3,13 +3,14 @@
 
 mod about;
 mod answer;
-mod asked;
 mod built;
 mod compiled;
 mod inputs;
 mod lines;
 mod ran;
-mod refusal;
+mod request;
 mod run;
+mod status;
 
-pub use run::{Exit, run_words};
+pub use run::run_words;
+pub use status::Exit;

@@ -10,15 +10,16 @@ ghost use Rattle.isle_top.specs.Lines.{
   bad_word_head,
   bad_word_line,
   no_term_head,
+  no_term_line,
   count_line,
   argument_head,
   argument_end,
+  argument_line,
   answers_head,
-  halt_line,
+  answers_line,
 };
 
 use isle_core::{Failed, IoCause, Sink, write_all};
-use isle_run::Halt;
 
 /// What is asked for is not built.
 pub const NOT_YET: &str = "isle: not yet\n";
@@ -32,14 +33,14 @@ pub const OUT_OF_MEMORY: &str = "isle: out of memory\n";
 /// A line would go on.
 pub const MISSING_WORD: &str = "isle: missing word\n";
 
-/// A byte as a line shows it.
+// A byte as a line shows it.
 fn masked(byte: u8) -> u8
     ensures { result ≡ masked byte }
 {
     if byte < 32 { b'?' } else { byte }
 }
 
-/// What stands behind the name of a file that was not read: why, in words.
+// What stands behind the name of a file that was not read: why, in words.
 fn cause_end(cause: IoCause) -> &'static str
     ensures { result.now ≡ cause_end cause }
 {
@@ -51,7 +52,7 @@ fn cause_end(cause: IoCause) -> &'static str
     }
 }
 
-/// Writes a name, each byte below 32 as `?`. It takes no memory.
+// Writes a name, each byte below 32 as `?`. It takes no memory.
 fn write_masked<S: Sink>(sink: &mut S, name: &str) -> Result<(), Failed>
     ensures ok { OnOk result (Took (S.taken sink.old) (S.taken sink.new) (map masked name.now)) }
     ensures part { OnErr result (TookPart (S.taken sink.old) (S.taken sink.new) (map masked name.now)) }
@@ -68,7 +69,7 @@ fn write_masked<S: Sink>(sink: &mut S, name: &str) -> Result<(), Failed>
     Ok(())
 }
 
-/// Writes a name, each byte below 32 as `?`, and what stands behind it. It takes no memory.
+// Writes a name, each byte below 32 as `?`, and what stands behind it. It takes no memory.
 fn write_name<S: Sink>(sink: &mut S, name: &str, end: &str) -> Result<(), Failed>
     ensures ok { OnOk result (Took (S.taken sink.old) (S.taken sink.new) (map masked name.now ++ end.now)) }
     ensures part { OnErr result (TookPart (S.taken sink.old) (S.taken sink.new) (map masked name.now ++ end.now)) }
@@ -94,7 +95,7 @@ pub fn write_unread<S: Sink>(sink: &mut S, name: &str, cause: IoCause) -> Result
     }
 }
 
-/// Writes what stands before the name of a file that was not read.
+// Writes what stands before the name of a file that was not read.
 #[tactic(auto, unfolding(crate::specs::Lines::unread_head))]
 fn write_head<S: Sink>(sink: &mut S) -> Result<(), Failed>
     ensures ok { OnOk result (Took (S.taken sink.old) (S.taken sink.new) unread_head) }
@@ -115,22 +116,47 @@ pub fn write_bad_word<S: Sink>(sink: &mut S, word: &str) -> Result<(), Failed>
     write_named(sink, bad_word_head(), word)
 }
 
-/// Writes the line of a term that is not run. It takes no memory.
-pub fn write_halt<S: Sink>(sink: &mut S, term: &str, halt: Halt) -> Result<(), Failed>
-    ensures ok { OnOk result (Took (S.taken sink.old) (S.taken sink.new) (halt_line term.now halt)) }
-    ensures part { OnErr result (TookPart (S.taken sink.old) (S.taken sink.new) (halt_line term.now halt)) }
+/// Writes that no term with rules has the name, with each byte below 32 as `?`. It takes no memory.
+pub fn write_no_term<S: Sink>(sink: &mut S, term: &str) -> Result<(), Failed>
+    ensures ok { OnOk result (Took (S.taken sink.old) (S.taken sink.new) (no_term_line term.now)) }
+    ensures part { OnErr result (TookPart (S.taken sink.old) (S.taken sink.new) (no_term_line term.now)) }
     ensures failed { OnErr result (Rose (S.faults sink.old) (S.faults sink.new)) }
     ensures later { S.faults sink.old ≤ S.faults sink.new }
 {
-    match halt {
-        Halt::NoTerm => write_named(sink, no_term_head(), term),
-        Halt::ArgCount => write_all(sink, count_line().as_bytes()),
-        Halt::ArgType(argument) => write_numbered(sink, argument_head(), argument, argument_end()),
-        Halt::BadAnswers(place) => write_numbered(sink, answers_head(), place, "\n"),
-    }
+    write_named(sink, no_term_head(), term)
 }
 
-/// Writes a fixed text, a name with each byte below 32 as `?`, and the line's end. It takes no memory.
+/// Writes that the term takes another number of arguments. It takes no memory.
+pub fn write_argument_count<S: Sink>(sink: &mut S) -> Result<(), Failed>
+    ensures ok { OnOk result (Took (S.taken sink.old) (S.taken sink.new) count_line) }
+    ensures part { OnErr result (TookPart (S.taken sink.old) (S.taken sink.new) count_line) }
+    ensures failed { OnErr result (Rose (S.faults sink.old) (S.faults sink.new)) }
+    ensures later { S.faults sink.old ≤ S.faults sink.new }
+{
+    write_all(sink, count_line().as_bytes())
+}
+
+/// Writes that the argument of this number is of another type. It takes no memory.
+pub fn write_argument<S: Sink>(sink: &mut S, argument: usize) -> Result<(), Failed>
+    ensures ok { OnOk result (Took (S.taken sink.old) (S.taken sink.new) (argument_line argument)) }
+    ensures part { OnErr result (TookPart (S.taken sink.old) (S.taken sink.new) (argument_line argument)) }
+    ensures failed { OnErr result (Rose (S.faults sink.old) (S.faults sink.new)) }
+    ensures later { S.faults sink.old ≤ S.faults sink.new }
+{
+    write_numbered(sink, argument_head(), argument, argument_end())
+}
+
+/// Writes the place where the answers go wrong. It takes no memory.
+pub fn write_bad_answers<S: Sink>(sink: &mut S, place: usize) -> Result<(), Failed>
+    ensures ok { OnOk result (Took (S.taken sink.old) (S.taken sink.new) (answers_line place)) }
+    ensures part { OnErr result (TookPart (S.taken sink.old) (S.taken sink.new) (answers_line place)) }
+    ensures failed { OnErr result (Rose (S.faults sink.old) (S.faults sink.new)) }
+    ensures later { S.faults sink.old ≤ S.faults sink.new }
+{
+    write_numbered(sink, answers_head(), place, "\n")
+}
+
+// Writes a fixed text, a name with each byte below 32 as `?`, and the line's end. It takes no memory.
 fn write_named<S: Sink>(sink: &mut S, head: &str, name: &str) -> Result<(), Failed>
     ensures ok { OnOk result (Took (S.taken sink.old) (S.taken sink.new) (head.now ++ (map masked name.now ++ 10 ∷ []))) }
     ensures part { OnErr result (TookPart (S.taken sink.old) (S.taken sink.new) (head.now ++ (map masked name.now ++ 10 ∷ []))) }
@@ -143,7 +169,7 @@ fn write_named<S: Sink>(sink: &mut S, head: &str, name: &str) -> Result<(), Fail
     }
 }
 
-/// Writes a number between two fixed texts. It takes no memory.
+// Writes a number between two fixed texts. It takes no memory.
 fn write_numbered<S: Sink>(sink: &mut S, head: &str, number: usize, end: &str) -> Result<(), Failed>
     ensures ok { OnOk result (Took (S.taken sink.old) (S.taken sink.new) (head.now ++ (numeral 10 number ++ end.now))) }
     ensures part { OnErr result (TookPart (S.taken sink.old) (S.taken sink.new) (head.now ++ (numeral 10 number ++ end.now))) }
@@ -156,7 +182,7 @@ fn write_numbered<S: Sink>(sink: &mut S, head: &str, number: usize, end: &str) -
     }
 }
 
-/// Writes a number, and what stands behind it. It takes no memory.
+// Writes a number, and what stands behind it. It takes no memory.
 fn write_count<S: Sink>(sink: &mut S, number: usize, end: &str) -> Result<(), Failed>
     ensures ok { OnOk result (Took (S.taken sink.old) (S.taken sink.new) (numeral 10 number ++ end.now)) }
     ensures part { OnErr result (TookPart (S.taken sink.old) (S.taken sink.new) (numeral 10 number ++ end.now)) }
@@ -185,7 +211,7 @@ pub fn write_number<S: Sink>(sink: &mut S, number: usize) -> Result<(), Failed>
     }
 }
 
-/// Writes one decimal digit.
+// Writes one decimal digit.
 fn write_digit<S: Sink>(sink: &mut S, digit: usize) -> Result<(), Failed>
     requires { digit < 10 }
     ensures ok { OnOk result (Took (S.taken sink.old) (S.taken sink.new) (glyph digit ∷ [])) }
@@ -197,7 +223,7 @@ fn write_digit<S: Sink>(sink: &mut S, digit: usize) -> Result<(), Failed>
     write_all(sink, &piece)
 }
 
-/// What stands before a word with which no line goes on.
+// What stands before a word with which no line goes on.
 #[tactic(auto, unfolding(crate::specs::Lines::bad_word_head))]
 fn bad_word_head() -> &'static str
     ensures { result.now ≡ bad_word_head }
@@ -205,7 +231,7 @@ fn bad_word_head() -> &'static str
     "isle: bad word "
 }
 
-/// What stands before the name of a term that has no rules.
+// What stands before the name of a term that has no rules.
 #[tactic(auto, unfolding(crate::specs::Lines::no_term_head))]
 fn no_term_head() -> &'static str
     ensures { result.now ≡ no_term_head }
@@ -213,7 +239,7 @@ fn no_term_head() -> &'static str
     "isle: no term "
 }
 
-/// The line of another number of arguments.
+// The line of another number of arguments.
 #[tactic(auto, unfolding(crate::specs::Lines::count_line))]
 fn count_line() -> &'static str
     ensures { result.now ≡ count_line }
@@ -221,7 +247,7 @@ fn count_line() -> &'static str
     "isle: argument count\n"
 }
 
-/// What stands before the number of an argument.
+// What stands before the number of an argument.
 #[tactic(auto, unfolding(crate::specs::Lines::argument_head))]
 fn argument_head() -> &'static str
     ensures { result.now ≡ argument_head }
@@ -229,7 +255,7 @@ fn argument_head() -> &'static str
     "isle: argument "
 }
 
-/// What stands behind the number of an argument.
+// What stands behind the number of an argument.
 #[tactic(auto, unfolding(crate::specs::Lines::argument_end))]
 fn argument_end() -> &'static str
     ensures { result.now ≡ argument_end }
@@ -237,7 +263,7 @@ fn argument_end() -> &'static str
     " has another type\n"
 }
 
-/// What stands before the place where answers go wrong.
+// What stands before the place where answers go wrong.
 #[tactic(auto, unfolding(crate::specs::Lines::answers_head))]
 fn answers_head() -> &'static str
     ensures { result.now ≡ answers_head }

@@ -4,21 +4,21 @@ ghost use Rattle.std.specs.Prelude.{◌≡◌, ◌≤◌, false, IfOk, IfErr, �
 ghost use Rattle.std.specs.Option.{option_copied};
 ghost use Rattle.std.specs.String.{string_bytes};
 ghost use Rattle.isle_values.specs.Views.{seen};
-ghost use Rattle.isle_command_line.specs.Asked.{Run};
+ghost use Rattle.isle_command_line.specs.Request.{Run};
 ghost use Rattle.isle_command_line.specs.Lines.{no_options};
 ghost use Rattle.isle_command_line.specs.declared.commands.Source.TheVariants.{File};
-ghost use Rattle.isle_top.specs.Asking.{ArePlain, answers_names};
+ghost use Rattle.isle_top.specs.Requests.{ArePlain, answers_names};
 ghost use Rattle.isle_top.specs.Valid.{IsRunOf};
 ghost use Rattle.isle_top.specs.Causes.{HasCause};
 
 use crate::inputs::read_inputs;
-use crate::refusal::Refusal;
 use isle_core::{CodegenOptions, Dir, ReadError};
-use isle_run::{TrialError, trial};
+use isle_run::{Refusal, trial};
 use isle_values::Written;
 use std::alloc::Global;
 
-/// Runs the term of the source of this name at the values, which are built, under the answers of a file.
+/// Runs the term of the source of this name at the values, which are built, under the answers of a file, and returns the
+/// lines of the run (`specs/Valid.antt`). Each refusal has its cause (`specs/Causes.antt`).
 pub fn ran<D: Dir>(
     alloc: Global,
     source: &str,
@@ -41,17 +41,12 @@ pub fn ran<D: Dir>(
         Err(ReadError::Memory) => return Err(Refusal::Memory),
     };
     let options = CodegenOptions::new(alloc);
-    match trial(
+    trial(
         alloc,
         &read.files,
         &options,
         term,
         values,
         read.answers.as_str(),
-    ) {
-        Ok(lines) => Ok(lines),
-        Err(TrialError::NotYet) => Err(Refusal::NotYet),
-        Err(TrialError::Halted(halt)) => Err(Refusal::Halted(halt)),
-        Err(TrialError::Memory) => Err(Refusal::Memory),
-    }
+    )
 }

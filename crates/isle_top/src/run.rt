@@ -2,29 +2,20 @@ ghost use Rattle.std.specs.Prelude.{◌≡◌, ◌≢◌, ◌⊎◌, [], ◌∷�
 ghost use Rattle.isle_outside.specs.Directory.{Rose};
 ghost use Rattle.isle_outside.specs.Sinks.{Took, TookPart};
 ghost use Rattle.isle_core.specs.Inputs.{bytes_each};
-ghost use Rattle.isle_command_line.specs.Asked.{Asked, Compile};
+ghost use Rattle.isle_command_line.specs.Request.{Request, Compile};
 ghost use Rattle.isle_command_line.specs.Lines.{LineS, no_options};
 ghost use Rattle.isle_command_line.specs.Views.{seen_command};
-ghost use Rattle.isle_top.specs.Asking.{Asks, IsBuilt, inputs_of};
-ghost use Rattle.isle_top.specs.Causes.{HasCause};
-ghost use Rattle.isle_top.specs.Lines.{not_yet_line, write_fault_line, memory_line, Wrote};
-ghost use Rattle.isle_top.specs.Statuses.{IsStatus, IsNoLine, IsUnread, IsHalt};
+ghost use Rattle.isle_top.specs.Requests.{Asks, IsBuilt, inputs_of};
+ghost use Rattle.isle_top.specs.Lines.{Wrote};
+ghost use Rattle.isle_top.specs.Statuses.{IsNoLine, Says};
 ghost use Rattle.isle_top.specs.Valid.{IsAnswer, IsValidLine};
 
 use crate::answer::answer;
-use crate::asked::{input_name, term_of};
-use crate::lines::{
-    MISSING_WORD, NOT_YET, OUT_OF_MEMORY, WRITE_FAULT, write_bad_word, write_halt, write_unread,
-};
-use crate::refusal::Refusal;
+use crate::lines::{MISSING_WORD, OUT_OF_MEMORY, WRITE_FAULT, write_bad_word};
+use crate::status::{Exit, complain, status_of, tell};
 use isle_command_line::{Command, LineFail, command};
 use isle_core::{Dir, Sink, write_all};
 use std::alloc::Global;
-
-/// The status of a run: 0 done, 2 the words are no line, 5 an input was not read, 11 the output failed, 12 memory ran out,
-/// 13 a term is not run, 14 what is asked for is not built.
-#[derive(Clone, Copy, Debug, PartialEq, Eq)]
-pub struct Exit(pub u8);
 
 /// Runs the program: does what the words ask for, and writes the text that answers them to `out`. Every status but 0 writes
 /// its line to `err`. Writing takes no memory.
@@ -36,54 +27,38 @@ pub fn run_words<D: Dir, O: Sink, E: Sink>(
     err: &mut E,
 ) -> Exit
     // At status 0 `out` took the answer, and nothing else.
-    ensures done { result.0 ≡ 0 → (asked : Asked) × Asks (bytes_each words.now) asked
-        × ((text : List ℕ) × IsAnswer asked (D.files dir.old) text × Took (O.taken out.old) (O.taken out.new) text) }
-    ensures quiet { result.0 ≡ 0 → E.taken err.new ≡ E.taken err.old }
+    ensures done { result.0 ≡ 0 → (request : Request) × Asks (bytes_each words.now) request
+        × ((text : List ℕ) × IsAnswer request (D.files dir.old) text × Took (O.taken out.old) (O.taken out.new) text) }
 
     // At status 11 its count rose, and it took a part of the answer.
-    ensures part { result.0 ≡ 11 → (asked : Asked) × Asks (bytes_each words.now) asked × Rose (O.faults out.old) (O.faults out.new)
-        × ((text : List ℕ) × IsAnswer asked (D.files dir.old) text × TookPart (O.taken out.old) (O.taken out.new) text) }
-    ensures part_line { result.0 ≡ 11 → Wrote (E.taken err.old) (E.taken err.new) (E.faults err.old) (E.faults err.new) write_fault_line }
+    ensures part { result.0 ≡ 11 → (request : Request) × Asks (bytes_each words.now) request × Rose (O.faults out.old) (O.faults out.new)
+        × ((text : List ℕ) × IsAnswer request (D.files dir.old) text × TookPart (O.taken out.old) (O.taken out.new) text) }
 
     // At every other status it took nothing.
     ensures untouched { result.0 ≢ 0 → result.0 ≢ 11 → O.taken out.new ≡ O.taken out.old }
 
-    // Status 2: the words are no line, and the line says why; words that are none end so, or with 12.
-    ensures bad { result.0 ≡ 2 → IsNoLine (bytes_each words.now) (Wrote (E.taken err.old) (E.taken err.new) (E.faults err.old) (E.faults err.new)) }
-    ensures no_line { ((asked : Asked) → LineS (bytes_each words.now) asked → ⊥) → (result.0 ≡ 2) ⊎ (result.0 ≡ 12) }
+    // Each other status has its cause, and its line on `err`; at status 0 nothing stands there.
+    ensures says { let wrote = Wrote (E.taken err.old) (E.taken err.new) (E.faults err.old) (E.faults err.new) in
+        Says (Asks (bytes_each words.now)) (IsNoLine (bytes_each words.now) wrote) (D.files dir.old) (D.counts dir.old) (D.counts dir.new) (E.taken err.new ≡ E.taken err.old) wrote result.0 }
 
-    // Status 14: the line is not built, or its inputs were read and are not. A line that is not built ends so, or with 12.
-    ensures not_yet { result.0 ≡ 14 → (asked : Asked) × Asks (bytes_each words.now) asked × HasCause Refusal.NotYet asked (D.files dir.old) (D.counts dir.old) (D.counts dir.new) }
-    ensures not_yet_line { result.0 ≡ 14 → Wrote (E.taken err.old) (E.taken err.new) (E.faults err.old) (E.faults err.new) not_yet_line }
-    ensures not_built { (asked : Asked) → LineS (bytes_each words.now) asked → (IsBuilt asked → ⊥) → (result.0 ≡ 14) ⊎ (result.0 ≡ 12) }
-
-    // Status 5: an input was not read, and the line says which and why.
-    ensures unread { result.0 ≡ 5 → (asked : Asked) × Asks (bytes_each words.now) asked × IsUnread asked (D.files dir.old) (D.counts dir.old) (D.counts dir.new)
-        (Wrote (E.taken err.old) (E.taken err.new) (E.faults err.old) (E.faults err.new)) }
-
-    // Status 13: the term is not run, and the line says why.
-    ensures halted { result.0 ≡ 13 → (asked : Asked) × Asks (bytes_each words.now) asked × IsHalt asked (D.files dir.old) (D.counts dir.old) (D.counts dir.new)
-        (Wrote (E.taken err.old) (E.taken err.new) (E.faults err.old) (E.faults err.new)) }
-
-    // Status 12: want of memory, free until writing begins.
-    ensures memory_line { result.0 ≡ 12 → Wrote (E.taken err.old) (E.taken err.new) (E.faults err.old) (E.faults err.new) memory_line }
-
-    ensures statuses { IsStatus result.0 }
+    // Words that are no line end in 2, a line that is not built in 14; or with 12, want of memory.
+    ensures no_line { ((request : Request) → LineS (bytes_each words.now) request → ⊥) → (result.0 ≡ 2) ⊎ (result.0 ≡ 12) }
+    ensures not_built { (request : Request) → LineS (bytes_each words.now) request → (IsBuilt request → ⊥) → (result.0 ≡ 14) ⊎ (result.0 ≡ 12) }
 
     // A valid line is answered, where nothing fails and memory suffices.
-    ensures complete { (asked : Asked) → LineS (bytes_each words.now) asked → IsSomeAnd (D.files dir.old) (IsValidLine asked)
+    ensures complete { (request : Request) → LineS (bytes_each words.now) request → IsSomeAnd (D.files dir.old) (IsValidLine request)
         → (Rose (D.counts dir.old).faults (D.counts dir.new).faults → ⊥) → (result.0 ≡ 0) ⊎ (result.0 ≡ 11) ⊎ (result.0 ≡ 12) }
     ensures files { D.files dir.new ≡ D.files dir.old }
 
     // No count falls, of each input at most 2^24 + 1 bytes are taken, and for words that are no built line nothing is read.
-    ensures untried { ((asked : Asked) → LineS (bytes_each words.now) asked → IsBuilt asked → ⊥) → D.counts dir.new ≡ D.counts dir.old }
+    ensures untried { ((request : Request) → LineS (bytes_each words.now) request → IsBuilt request → ⊥) → D.counts dir.new ≡ D.counts dir.old }
     ensures later { (D.counts dir.old).faults ≤ (D.counts dir.new).faults }
     ensures out_later { O.faults out.old ≤ O.faults out.new }
     ensures err_later { E.faults err.old ≤ E.faults err.new }
-    ensures given { (asked : Asked) → LineS (bytes_each words.now) asked → (D.counts dir.new).given ≤ (D.counts dir.old).given + (2 ^ 24 + 1) * length (inputs_of asked) }
+    ensures given { (request : Request) → LineS (bytes_each words.now) request → (D.counts dir.new).given ≤ (D.counts dir.old).given + (2 ^ 24 + 1) * length (inputs_of request) }
 {
     match command(alloc, words) {
-        Ok(asked) => run_command(alloc, &asked, dir, out, err),
+        Ok(request) => run_command(alloc, &request, dir, out, err),
         Err(LineFail::Bad(index)) => {
             let _ = write_bad_word(err, word_at(words, index));
             Exit(2)
@@ -112,37 +87,28 @@ fn word_at(words: &[String], index: usize) -> &str
 // Does what a line asks for.
 fn run_command<D: Dir, O: Sink, E: Sink>(
     alloc: Global,
-    asked: &Command,
+    request: &Command,
     dir: &mut D,
     out: &mut O,
     err: &mut E,
 ) -> Exit
-    ensures done { result.0 ≡ 0 → (text : List ℕ) × IsAnswer (seen_command asked.now) (D.files dir.old) text × Took (O.taken out.old) (O.taken out.new) text }
-    ensures quiet { result.0 ≡ 0 → E.taken err.new ≡ E.taken err.old }
+    ensures done { result.0 ≡ 0 → (text : List ℕ) × IsAnswer (seen_command request.now) (D.files dir.old) text × Took (O.taken out.old) (O.taken out.new) text }
     ensures part { result.0 ≡ 11 → Rose (O.faults out.old) (O.faults out.new)
-        × ((text : List ℕ) × IsAnswer (seen_command asked.now) (D.files dir.old) text × TookPart (O.taken out.old) (O.taken out.new) text) }
-    ensures part_line { result.0 ≡ 11 → Wrote (E.taken err.old) (E.taken err.new) (E.faults err.old) (E.faults err.new) write_fault_line }
+        × ((text : List ℕ) × IsAnswer (seen_command request.now) (D.files dir.old) text × TookPart (O.taken out.old) (O.taken out.new) text) }
     ensures untouched { result.0 ≢ 0 → result.0 ≢ 11 → O.taken out.new ≡ O.taken out.old }
-    ensures known { result.0 ≢ 2 }
-    ensures not_built { (IsBuilt (seen_command asked.now) → ⊥) → result.0 ≡ 14 }
-    ensures untried { (IsBuilt (seen_command asked.now) → ⊥) → D.counts dir.new ≡ D.counts dir.old }
-    ensures not_yet { result.0 ≡ 14 → HasCause Refusal.NotYet (seen_command asked.now) (D.files dir.old) (D.counts dir.old) (D.counts dir.new) }
-    ensures not_yet_line { result.0 ≡ 14 → Wrote (E.taken err.old) (E.taken err.new) (E.faults err.old) (E.faults err.new) not_yet_line }
-    ensures unread { result.0 ≡ 5 → IsUnread (seen_command asked.now) (D.files dir.old) (D.counts dir.old) (D.counts dir.new)
-        (Wrote (E.taken err.old) (E.taken err.new) (E.faults err.old) (E.faults err.new)) }
-    ensures halted { result.0 ≡ 13 → IsHalt (seen_command asked.now) (D.files dir.old) (D.counts dir.old) (D.counts dir.new)
-        (Wrote (E.taken err.old) (E.taken err.new) (E.faults err.old) (E.faults err.new)) }
-    ensures memory_line { result.0 ≡ 12 → Wrote (E.taken err.old) (E.taken err.new) (E.faults err.old) (E.faults err.new) memory_line }
-    ensures statuses { IsStatus result.0 }
-    ensures complete { IsSomeAnd (D.files dir.old) (IsValidLine (seen_command asked.now))
+    ensures says { let wrote = Wrote (E.taken err.old) (E.taken err.new) (E.faults err.old) (E.faults err.new) in
+        Says (λ a. a ≡ seen_command request.now) ⊥ (D.files dir.old) (D.counts dir.old) (D.counts dir.new) (E.taken err.new ≡ E.taken err.old) wrote result.0 }
+    ensures not_built { (IsBuilt (seen_command request.now) → ⊥) → result.0 ≡ 14 }
+    ensures untried { (IsBuilt (seen_command request.now) → ⊥) → D.counts dir.new ≡ D.counts dir.old }
+    ensures complete { IsSomeAnd (D.files dir.old) (IsValidLine (seen_command request.now))
         → (Rose (D.counts dir.old).faults (D.counts dir.new).faults → ⊥) → (result.0 ≡ 0) ⊎ (result.0 ≡ 11) ⊎ (result.0 ≡ 12) }
     ensures files { D.files dir.new ≡ D.files dir.old }
     ensures later { (D.counts dir.old).faults ≤ (D.counts dir.new).faults }
     ensures out_later { O.faults out.old ≤ O.faults out.new }
     ensures err_later { E.faults err.old ≤ E.faults err.new }
-    ensures given { (D.counts dir.new).given ≤ (D.counts dir.old).given + (2 ^ 24 + 1) * length (inputs_of (seen_command asked.now)) }
+    ensures given { (D.counts dir.new).given ≤ (D.counts dir.old).given + (2 ^ 24 + 1) * length (inputs_of (seen_command request.now)) }
 {
-    match answer(alloc, asked, dir) {
+    match answer(alloc, request, dir) {
         Ok(text) => match write_all(out, text.as_bytes()) {
             Ok(()) => Exit(0),
             Err(_) => {
@@ -150,29 +116,9 @@ fn run_command<D: Dir, O: Sink, E: Sink>(
                 Exit(11)
             }
         },
-        Err(Refusal::NotYet) => {
-            complain(err, NOT_YET);
-            Exit(14)
-        }
-        Err(Refusal::Unread(index, cause)) => {
-            let _ = write_unread(err, input_name(asked, index), cause);
-            Exit(5)
-        }
-        Err(Refusal::Halted(halt)) => {
-            let _ = write_halt(err, term_of(asked), halt);
-            Exit(13)
-        }
-        Err(Refusal::Memory) => {
-            complain(err, OUT_OF_MEMORY);
-            Exit(12)
+        Err(refusal) => {
+            tell(err, request, refusal);
+            status_of(refusal)
         }
     }
-}
-
-/// Writes a line, as far as the sink takes it.
-fn complain<E: Sink>(err: &mut E, line: &str)
-    ensures later { E.faults err.old ≤ E.faults err.new }
-    ensures wrote { Wrote (E.taken err.old) (E.taken err.new) (E.faults err.old) (E.faults err.new) line.now }
-{
-    let _ = write_all(err, line.as_bytes());
 }

@@ -10,7 +10,7 @@ use isle_lexer::signed_of;
 use isle_reading::{Fail, Tokens, most_inside};
 use std::alloc::Global;
 
-/// The value that a word is.
+// The value that a word is.
 #[tactic(auto, using(crate::proofs::Sees::sees))]
 fn word_value(word: &str) -> Option<Written>
     ensures { option_map written result ≡ word_value word.now }
@@ -22,7 +22,7 @@ fn word_value(word: &str) -> Option<Written>
     }
 }
 
-/// A value of one word that is next.
+// A value of one word that is next.
 #[tactic(auto, using(isle_reading::proofs::Steps::next))]
 fn next_simple(tokens: &Tokens<'_>) -> Option<Written>
     ensures { option_map written result ≡ next_word word_value (left tokens.now) }

@@ -14,7 +14,7 @@ use isle_lexer::{LexFail, Token, tokens};
 use isle_reading::{Fail, Tokens};
 use std::alloc::Global;
 
-/// The list that tokens spell.
+// The list that tokens spell.
 fn listed(alloc: Global, tokens: &[Token<'_>]) -> Result<Vec<Written>, Fail>
     ensures got { IfOk result (λ read. ListS (seen read.items) (tokens_seen tokens.now) × (depth (tokens_seen tokens.now) ≤ most_open)) }
     ensures refused { IfErr result (λ fail. Refuses fail (values_of (tokens_seen tokens.now))) }

@@ -1,6 +1,6 @@
 use Rattle.std.proofs.Common.{rules, inr}
 use Rattle.isle_core.specs.RuleViews.{environment}
-use Rattle.isle_run.specs.Stopped.{fault}
+use Rattle.isle_run.specs.NoLines.{fault}
 use Rattle.isle_run.proofs.outcome.outcome_under.Goals as goal
 
 pub returns-in-Err-At-clause-err : goal.returns-in-Err-At-clause-err

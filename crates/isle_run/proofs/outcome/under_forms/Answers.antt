@@ -3,8 +3,8 @@ use Rattle.isle_core.specs.RuleViews.{environment}
 use Rattle.isle_core.specs.ValueViews.{values}
 use Rattle.isle_answers.specs.Views.{forms_seen}
 use Rattle.isle_tree.specs.Views.{program}
-use Rattle.isle_run.specs.Stopped.{unbuilt}
-use Rattle.isle_run.proofs.Halting.{halts}
+use Rattle.isle_run.specs.NoLines.{unbuilt}
+use Rattle.isle_run.proofs.RunRefusals.{refuses}
 use Rattle.isle_run.proofs.outcome.under_forms.Goals as goal
 
 pub returns-then-not-are_built-clause-err : goal.returns-then-not-are_built-clause-err
@@ -12,4 +12,4 @@ returns-then-not-are_built-clause-err c text spelt end = inr (c.refused.ensures 
 
 pub returns-clause-err : goal.returns-clause-err
 returns-clause-err c text spelt end =
-    rw c.told.ensures (halts (program c.args.compiled.now.program.now) (environment c.args.compiled.now.typeenv.now c.args.compiled.now.termenv.now) c.args.term.now (values c.args.args.now) text (forms_seen c.args.forms.now) c.args.end c.in-Err.e spelt (search rules) end (search rules))
+    rw c.placed.ensures (refuses (program c.args.compiled.now.program.now) (environment c.args.compiled.now.typeenv.now c.args.compiled.now.termenv.now) c.args.term.now (values c.args.args.now) text (forms_seen c.args.forms.now) c.args.end c.in-Err.e spelt (search rules) end (search rules))

@@ -1,5 +1,5 @@
 use Rattle.std.proofs.Common.{rules}
-use Rattle.isle_run.specs.Stopped.{memory, not_of_it}
+use Rattle.isle_run.specs.NoLines.{memory, not_of_it}
 use Rattle.isle_run.proofs.trials.tried.Goals as goal
 
 pub returns-in-Err-NotYet-clause-err : goal.returns-in-Err-NotYet-clause-err

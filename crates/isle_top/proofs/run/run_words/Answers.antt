@@ -1,15 +1,15 @@
 use Rattle.std.proofs.Common.{◌≤◌, ◌+◌, ◌*◌, ◌^◌, length, sym, ap, inl, subst, Err}
 use Rattle.std.specs.Prelude.{IsSomeAnd}
 use Rattle.isle_core.specs.Inputs.{bytes_each}
-use Rattle.isle_command_line.specs.Asked.{Asked}
+use Rattle.isle_command_line.specs.Request.{Request}
 use Rattle.isle_command_line.specs.Views.{seen_command}
-use Rattle.isle_top.specs.Asking.{IsBuilt, inputs_of}
+use Rattle.isle_top.specs.Requests.{IsBuilt, inputs_of}
 use Rattle.isle_top.specs.Valid.{IsValidLine}
 use Rattle.isle_top.proofs.Refusals.{bad_word, no_bad_word, wrote}
 use Rattle.isle_top.proofs.run.run_words.Goals as goal
 
 pub returns-in-Ok-clause-not_yet : goal.returns-in-Ok-clause-not_yet
-returns-in-Ok-clause-not_yet g c = λ e. (seen_command c.in-Ok.asked, record { line = c.in-Ok.ensures.line; only = c.in-Ok.ensures.only }, c.run_command.ensures.not_yet e)
+returns-in-Ok-clause-not_yet g c = λ e. (seen_command c.in-Ok.request, record { line = c.in-Ok.ensures.line; only = c.in-Ok.ensures.only }, c.run_command.ensures.not_yet e)
 
 pub returns-in-Err-Bad-clause-bad : goal.returns-in-Err-Bad-clause-bad
 returns-in-Err-Bad-clause-bad g c = λ _.
@@ -17,21 +17,21 @@ returns-in-Err-Bad-clause-bad g c = λ _.
     (λ word at. rw (sym (c.word_at.ensures word (rw c.in-Err-Bad.index-is at))) (wrote c.write_bad_word.result _ _ _ _ _ c.write_bad_word.ensures.ok c.write_bad_word.ensures.part c.write_bad_word.ensures.failed))
 
 pub returns-in-Err-Bad-clause-not_built : goal.returns-in-Err-Bad-clause-not_built
-returns-in-Err-Bad-clause-not_built g c = λ asked line never. absurd (no_bad_word (bytes_each c.args.words.now) c.in-Err-Bad.index asked (c.in-Err-Bad.ensures.bad c.in-Err-Bad.index (ap Err c.in-Err-Bad.field-0-is)) line)
+returns-in-Err-Bad-clause-not_built g c = λ request line never. absurd (no_bad_word (bytes_each c.args.words.now) c.in-Err-Bad.index request (c.in-Err-Bad.ensures.bad c.in-Err-Bad.index (ap Err c.in-Err-Bad.field-0-is)) line)
 
 pub returns-in-Err-Bad-clause-complete : goal.returns-in-Err-Bad-clause-complete
-returns-in-Err-Bad-clause-complete g c = λ asked line valid calm. absurd (no_bad_word (bytes_each c.args.words.now) c.in-Err-Bad.index asked (c.in-Err-Bad.ensures.bad c.in-Err-Bad.index (ap Err c.in-Err-Bad.field-0-is)) line)
+returns-in-Err-Bad-clause-complete g c = λ request line valid calm. absurd (no_bad_word (bytes_each c.args.words.now) c.in-Err-Bad.index request (c.in-Err-Bad.ensures.bad c.in-Err-Bad.index (ap Err c.in-Err-Bad.field-0-is)) line)
 
 pub returns-in-Ok-clause-not_built : goal.returns-in-Ok-clause-not_built
-returns-in-Ok-clause-not_built g c = λ asked line never. inl (c.run_command.ensures.not_built (λ built. never (subst IsBuilt (sym (c.in-Ok.ensures.only asked line)) built)))
+returns-in-Ok-clause-not_built g c = λ request line never. inl (c.run_command.ensures.not_built (λ built. never (subst IsBuilt (sym (c.in-Ok.ensures.only request line)) built)))
 
 pub returns-in-Ok-clause-complete : goal.returns-in-Ok-clause-complete
-returns-in-Ok-clause-complete g c = λ asked line valid calm.
-    c.run_command.ensures.complete (subst (λ (a : Asked). IsSomeAnd (g.D.Dir.files c.args.dir.now) (IsValidLine a)) (c.in-Ok.ensures.only asked line) valid) calm
+returns-in-Ok-clause-complete g c = λ request line valid calm.
+    c.run_command.ensures.complete (subst (λ (a : Request). IsSomeAnd (g.D.Dir.files c.args.dir.now) (IsValidLine a)) (c.in-Ok.ensures.only request line) valid) calm
 
 pub returns-in-Ok-clause-given : goal.returns-in-Ok-clause-given
-returns-in-Ok-clause-given g c = λ asked line.
-    subst (λ (a : Asked). (g.D.Dir.counts c.run_command.new.dir).given ≤ (g.D.Dir.counts c.args.dir.now).given + (2 ^ 24 + 1) * length (inputs_of a)) (sym (c.in-Ok.ensures.only asked line)) c.run_command.ensures.given
+returns-in-Ok-clause-given g c = λ request line.
+    subst (λ (a : Request). (g.D.Dir.counts c.run_command.new.dir).given ≤ (g.D.Dir.counts c.args.dir.now).given + (2 ^ 24 + 1) * length (inputs_of a)) (sym (c.in-Ok.ensures.only request line)) c.run_command.ensures.given
 
 pub returns-in-Ok-clause-untried : goal.returns-in-Ok-clause-untried
-returns-in-Ok-clause-untried g c = λ never. c.run_command.ensures.untried (λ built. never (seen_command c.in-Ok.asked) c.in-Ok.ensures.line built)
+returns-in-Ok-clause-untried g c = λ never. c.run_command.ensures.untried (λ built. never (seen_command c.in-Ok.request) c.in-Ok.ensures.line built)

@@ -21,12 +21,12 @@ pub record HasFunction (files : Files) (env : Environment) (term : List ℕ) (fs
   pub declared : IsDeclared files env id function
   pub block : IsFromBlock files env id function
 
-pub asked_function : (files : Files) (env : Environment) (term : List ℕ) (ids : List TermId) (fs : List Function) (id : TermId) → AreDeclared files env ids fs → AreFromBlocks files env ids fs
+pub requested_function : (files : Files) (env : Environment) (term : List ℕ) (ids : List TermId) (fs : List Function) (id : TermId) → AreDeclared files env ids fs → AreFromBlocks files env ids fs
     → find (λ (i : TermId). bytes_eq term (term_name env i)) ids ≡ Some id → HasFunction files env term fs id
-asked_function files env term [] [] id d b e = absurd cc
-asked_function files env term [] (f ∷ fs) id d b e = absurd d
-asked_function files env term (i ∷ ids) [] id d b e = absurd d
-asked_function files env term (i ∷ ids) (f ∷ fs) id d b e = by (bytes_eq term (term_name env i)) refl e (asked_function files env term ids fs id d.1 b.1)
+requested_function files env term [] [] id d b e = absurd cc
+requested_function files env term [] (f ∷ fs) id d b e = absurd d
+requested_function files env term (i ∷ ids) [] id d b e = absurd d
+requested_function files env term (i ∷ ids) (f ∷ fs) id d b e = by (bytes_eq term (term_name env i)) refl e (requested_function files env term ids fs id d.1 b.1)
   where
     named : (x : Bool) → bytes_eq term (term_name env i) ≡ x → same_bytes term f.term ≡ x
     named x is = sym (same_is term f.term) ∙ ap (bytes_eq term) (sym (declared_name files env i f d.0)) ∙ is

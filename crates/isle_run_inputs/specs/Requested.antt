@@ -10,16 +10,16 @@ use Rattle.isle_core.specs.Rule.{Environment}
 use Rattle.isle_core.specs.Terms.{with_rules, term_name, impure_callee, goes_to}
 
 -- the first term with rules that has this name
-abbrev pub asked_term : Environment → List ℕ → Option TermId
-asked_term env name = find (λ (id : TermId). bytes_eq name (term_name env id)) (with_rules env)
+abbrev pub requested_term : Environment → List ℕ → Option TermId
+requested_term env name = find (λ (id : TermId). bytes_eq name (term_name env id)) (with_rules env)
 
 -- the types of a term's arguments
 abbrev pub arg_types : Environment → TermId → List TypeId
 arg_types env id = option_map_or (λ (t : Term). t.arg_tys) (slice_get env.terms id.0) []
 
 -- those of the term that has this name; where none has rules and it, there are none
-abbrev pub asked_types : Environment → List ℕ → List TypeId
-asked_types env name = option_map_or (arg_types env) (asked_term env name) []
+abbrev pub requested_types : Environment → List ℕ → List TypeId
+requested_types env name = option_map_or (arg_types env) (requested_term env name) []
 
 -- the type of what a call of an impure callee answers
 abbrev pub answer_type : Environment → Callee → Option TypeId

@@ -1,7 +1,7 @@
 use Rattle.std.proofs.Common.{rules, ◌≡◌, refl, sym, ◌∙◌, true, false}
 use Rattle.isle_core.specs.RuleViews.{environment}
 use Rattle.isle_run_inputs.proofs.FirstNamed.{first_more}
-use Rattle.isle_run_inputs.proofs.asked.asked_term.Goals as goal
+use Rattle.isle_run_inputs.proofs.requested.requested_term.Goals as goal
 
 pub returns-then-is_named : goal.returns-then-is_named
 returns-then-is_named c =

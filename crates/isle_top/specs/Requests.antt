@@ -1,15 +1,15 @@
 -- What words ask for, and which lines are built.
 use Rattle.std.specs.Prelude.{◌≡◌, ℕ, List, [], ◌∷◌, Bool, true, false, Option, Some, None}
 use Rattle.isle_values.specs.Written.{Written, Writtens, Truth, Number, Made, NoValue, AValue}
-use Rattle.isle_command_line.specs.Asked.{Asked, Help, Version, Compile, Build, Prelude, Units, Isa, Run}
+use Rattle.isle_command_line.specs.Request.{Request, Help, Version, Compile, Build, Prelude, Units, Isa, Run}
 use Rattle.isle_command_line.specs.Lines.{LineS, no_options}
 use Rattle.isle_command_line.specs.declared.commands.Source.{Source}
 use Rattle.isle_command_line.specs.declared.commands.Source.TheVariants as source
 
 -- the words ask for this, and for nothing else
-pub record Asks (words : List (List ℕ)) (asked : Asked) : Type 0 where
-  pub line : LineS words asked
-  pub only : (other : Asked) → LineS words other → other ≡ asked
+pub record Asks (words : List (List ℕ)) (request : Request) : Type 0 where
+  pub line : LineS words request
+  pub only : (other : Request) → LineS words other → other ≡ request
 
 -- a value that is built: a truth or a number
 abbrev pub is_plain : Written → Bool
@@ -34,7 +34,7 @@ IsFile (source.File name) = Unit {0}
 IsFile (source.Unit name) = ⊥
 
 -- a line that is built: one file is compiled, or a term of it run, with no option
-abbrev pub IsBuilt : Asked → Type 0
+abbrev pub IsBuilt : Request → Type 0
 IsBuilt Help = Unit {0}
 IsBuilt Version = Unit {0}
 IsBuilt (Compile options names) = (options ≡ no_options) × IsOne names
@@ -55,7 +55,7 @@ answers_names None = []
 answers_names (Some name) = name ∷ []
 
 -- the names of the inputs, in the order in which they are read
-abbrev pub inputs_of : Asked → List (List ℕ)
+abbrev pub inputs_of : Request → List (List ℕ)
 inputs_of Help = []
 inputs_of Version = []
 inputs_of (Compile options names) = names
@@ -66,6 +66,6 @@ inputs_of (Isa target) = []
 inputs_of (Run trace options from term vs answers) = source_name from ∷ answers_names answers
 
 -- the term that is run
-abbrev pub term_of : Asked → List ℕ
+abbrev pub term_of : Request → List ℕ
 term_of (Run trace options from term vs answers) = term
-term_of asked = []
+term_of request = []

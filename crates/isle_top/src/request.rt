@@ -2,7 +2,7 @@
 
 ghost use Rattle.std.specs.Prelude.{◌≡◌, ◌∷◌, ℕ, List, Some, slice_get};
 ghost use Rattle.isle_command_line.specs.Views.{seen_command};
-ghost use Rattle.isle_top.specs.Asking.{answers_names, inputs_of, source_name, term_of};
+ghost use Rattle.isle_top.specs.Requests.{answers_names, inputs_of, source_name, term_of};
 
 use isle_command_line::{Command, Source};
 use isle_core::Text;
@@ -26,11 +26,11 @@ fn run_input<'c>(source: &'c Source, answers: &'c Option<Text>, index: usize) ->
     }
 }
 
-/// The name of the input of this number.
-pub fn input_name(asked: &Command, index: usize) -> &str
-    ensures { (name : List ℕ) → slice_get (inputs_of (seen_command asked.now)) index ≡ Some name → result.now ≡ name }
+/// Returns the name of the line's input of this number, or an empty one where there is none (`specs/Requests.antt`).
+pub fn input_name(request: &Command, index: usize) -> &str
+    ensures { (name : List ℕ) → slice_get (inputs_of (seen_command request.now)) index ≡ Some name → result.now ≡ name }
 {
-    match asked {
+    match request {
         Command::Compile { names, .. } => match names.as_slice().get(index) {
             Some(name) => name.as_str(),
             None => "",
@@ -49,11 +49,11 @@ pub fn input_name(asked: &Command, index: usize) -> &str
     }
 }
 
-/// The term that is run.
-pub fn term_of(asked: &Command) -> &str
-    ensures { result.now ≡ term_of (seen_command asked.now) }
+/// Returns the name of the term that is run, or an empty one where none is (`specs/Requests.antt`).
+pub fn term_of(request: &Command) -> &str
+    ensures { result.now ≡ term_of (seen_command request.now) }
 {
-    match asked {
+    match request {
         Command::Run { term, .. } => term.as_str(),
         Command::Help
         | Command::Version

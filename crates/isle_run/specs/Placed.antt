@@ -1,0 +1,16 @@
+-- Why a run is refused, with the place of a form that is wrong.
+use Rattle.std.specs.Prelude.{ℕ, List}
+use Rattle.isle_answers.specs.Form.{Form}
+use Rattle.isle_run_inputs.specs.Forms.{place_at}
+use Rattle.isle_interpreter.specs.declared.run_error.RunError.{RunError}
+use Rattle.isle_interpreter.specs.declared.run_error.RunError.TheVariants as error
+use Rattle.isle_run.specs.declared.refusal.Refusal.{Refusal}
+use Rattle.isle_run.specs.declared.refusal.Refusal.TheVariants as refusal
+
+-- the number of a form becomes its place
+abbrev pub placed : RunError → (end : ℕ) → List Form → Refusal
+placed error.NoTerm end forms = refusal.NoTerm
+placed error.ArgCount end forms = refusal.ArgCount
+placed (error.ArgType i) end forms = refusal.ArgType i
+placed (error.BadAnswers i) end forms = refusal.BadAnswers (place_at end forms i)
+placed error.Memory end forms = refusal.Memory
