@@ -9,7 +9,7 @@ use Rattle.isle_syntax.specs.Tree as tree
 use Rattle.isle_syntax.specs.Tree.{Pattern, Def}
 use Rattle.isle_sema.specs.Symbols.{index_of, pattern_names}
 use Rattle.isle_sema.specs.Refused.{repeats_after, any_misplaced, typed_vars, type_in}
-use Rattle.isle_sema.specs.Resolved.{names_of}
+use Rattle.isle_sema.specs.Refused.{names_of}
 use Rattle.isle_sema.specs.Scope.{Scope, bound_at, met, met_by}
 use Rattle.isle_sema.specs.Site.{Site, IntegerAt, TruthAt, WildcardAt, MetAt, NotBuiltAt}
 use Rattle.isle_sema.specs.Whole.{Whole}
@@ -17,7 +17,7 @@ use Rattle.isle_sema.specs.PatternPass.{patterns_pass}
 use Rattle.isle_sema.specs.RuleRows.{is_misplaced, is_met_otherwise, is_other_type}
 use Rattle.isle_sema.specs.Environment.{whole_of}
 use Rattle.isle_sema.proofs.TypesNamed.{IsBelow, integers_at, truths_only, lifted, bound_lifted, lifted_more}
-use Rattle.isle_sema.proofs.Resolving.{same_there}
+use Rattle.isle_sema.proofs.TypedNames.{same_there}
 
 -- the pass over patterns where these types are expected
 abbrev pub sites_in : Whole → List TypeId → Scope → List Pattern → List Site

@@ -27,8 +27,9 @@ pub mod Environment
 pub mod Typing
 pub mod ReadyRule
 pub mod Numbered
-pub mod Resolved
 pub mod Known
 pub mod Tables
 pub mod Forms
 pub mod Sound
+pub mod Judging
+pub mod Taken

@@ -46,6 +46,10 @@ typed_vars (tree.Var name ∷ ps) (ty ∷ tys) = (name, ty) ∷ typed_vars ps ty
 typed_vars (p ∷ ps) (ty ∷ tys) = typed_vars ps tys
 typed_vars ps tys = []
 
+-- the names of variables with their types
+abbrev pub names_of : List (List ℕ × TypeId) → List (List ℕ)
+names_of vars = map (λ (v : List ℕ × TypeId). v.0) vars
+
 -- the type of a variable
 abbrev pub type_in : List (List ℕ × TypeId) → List ℕ → Option TypeId
 type_in [] name = None
