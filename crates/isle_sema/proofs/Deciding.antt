@@ -1,33 +1,35 @@
 -- Definitions give an environment where the code takes them and makes it.
-use Rattle.std.proofs.Common.{◌≡◌, ℕ, Bool, true, false, List, [], ◌∷◌, map, Option, Some, None, refl, sym, ap, ◌∙◌}
+use Rattle.std.proofs.Common.{◌≡◌, Bool, true, false, List, [], ◌∷◌, map, Some, refl, sym, ap, ◌∙◌}
 use Rattle.std.specs.Prelude.{◌&&◌, ◌||◌, not, is_some, option_map, option_and_then}
 use Rattle.std.specs.List.{AllByRecursion, list_all, list_any}
-use Rattle.std.specs.Str.{bytes_eq}
-use Rattle.std.proofs.lemmas.Bool.{or_parts, or_from, and_parts, and_from, not-true, false_from_ne_true}
+use Rattle.std.proofs.lemmas.Bool.{or_parts, or_from, and_parts, and_from, not-true}
 use Rattle.std.proofs.lemmas.Option.{same_Some}
-use Rattle.std.proofs.lemmas.Slice.Eq.{bytes_eq-Decides}
 use Rattle.isle_core.specs.declared.types.Term.{Term}
 use Rattle.isle_core.specs.Rule.{Environment}
 use Rattle.isle_syntax.specs.Tree as tree
 use Rattle.isle_syntax.specs.Tree.{Expr, Exprs, NoExpr, AnExpr, IfLet, Def}
 use Rattle.isle_sema.specs.Symbols.{symbols}
-use Rattle.isle_sema.specs.Signatures.{Signature, RuleDef, signatures, externs, rule_defs, signature_named, func_named, has_rule}
+use Rattle.isle_sema.specs.Signatures.{RuleDef, signatures, externs, rule_defs, func_named, has_rule}
 use Rattle.isle_sema.specs.Elaborated.{term_of}
-use Rattle.isle_sema.specs.Calls.{calls_external, all_call_external, calls_ruled, any_calls_ruled}
+use Rattle.isle_sema.proofs.RightSides.{calls_external, all_call_external}
+use Rattle.isle_sema.specs.Calls.{calls_ruled, any_calls_ruled}
 use Rattle.isle_sema.specs.Heads.{terms_of, extern_terms, heads_of}
-use Rattle.isle_sema.specs.Refused.{repeats, names_no_type, has_too_many, breaks, signatures_fault, externs_fault, rules_fault}
-use Rattle.isle_sema.specs.Language.{is_built_def, are_none, rules_call_external, rules_call_ruled}
-use Rattle.isle_sema.specs.Sound.{has_undeclared}
+use Rattle.isle_sema.specs.Repeats.{repeats}
+use Rattle.isle_sema.specs.Tests.{names_no_type, has_too_many}
+use Rattle.isle_sema.proofs.Wrong.{signatures_fault, externs_fault, rules_fault}
+use Rattle.isle_sema.specs.Language.{is_built_def, are_none, rules_call_ruled}
+use Rattle.isle_sema.proofs.RightSides.{rules_call_external}
+use Rattle.isle_sema.specs.Tests.{has_undeclared}
 use Rattle.isle_sema.specs.Whole.{has_constructor}
 use Rattle.isle_sema.specs.RulePass.{rules_pass}
 use Rattle.isle_sema.specs.Fault.{OfTypes, OfTerms, OfExtractors, OfRules, or_later, fault_in}
 use Rattle.isle_sema.specs.Environment.{types_of, whole_of, env_over, env_of}
 use Rattle.isle_sema.specs.Typing.{Typed}
 use Rattle.isle_sema.proofs.Decided.{env_made, IsDecided}
-use Rattle.isle_sema.proofs.Firsts.{stages_none, none_stages}
-use Rattle.isle_sema.proofs.TermFaults.{types_none, extractors_none, is_headless, terms_kept, terms_none}
+use Rattle.isle_sema.proofs.Firsts.{stages_none}
+use Rattle.isle_sema.proofs.TermFaults.{terms_kept}
 use Rattle.isle_sema.proofs.ExprSites.{calls_made, all_call_made}
-use Rattle.isle_sema.proofs.RuleFaults.{rule_forms, rules_kept, rules_none}
+use Rattle.isle_sema.proofs.RuleFaults.{rule_forms, rules_kept}
 use Rattle.isle_sema.proofs.RuleTrees.{IsRuleBuilt, rules_tree, IsPlain, terms_tree}
 use Rattle.isle_sema.proofs.BuiltForms.{forms_of}
 

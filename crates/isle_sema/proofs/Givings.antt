@@ -11,10 +11,11 @@ use Rattle.isle_core.specs.RuleViews.{rule as elaborated_rule, environment}
 use Rattle.isle_syntax.specs.Tree.{Def}
 use Rattle.isle_sema.specs.Signatures.{Signature, Extern, RuleDef, signatures, externs, rule_defs}
 use Rattle.isle_sema.specs.Heads.{terms_of, extern_terms, heads_of}
-use Rattle.isle_sema.specs.Refused.{repeats, names_no_type, has_too_many}
+use Rattle.isle_sema.specs.Repeats.{repeats}
+use Rattle.isle_sema.specs.Tests.{names_no_type, has_too_many}
 use Rattle.isle_sema.specs.Language.{is_built_def, rules_call_ruled}
-use Rattle.isle_sema.specs.Sound as sound
-use Rattle.isle_sema.specs.Sound.{binds_twice, is_misdeclared, has_undeclared}
+use Rattle.isle_sema.specs.Tests as sound
+use Rattle.isle_sema.specs.Tests.{binds_twice, is_misdeclared, has_undeclared}
 use Rattle.isle_sema.specs.declared.collected.Signature.{Signature as CodeSignature}
 use Rattle.isle_sema.specs.declared.collected.Extern.{Extern as CodeExtern}
 use Rattle.isle_sema.specs.declared.collected.RuleDef.{RuleDef as CodeRule}
@@ -25,7 +26,7 @@ use Rattle.isle_sema.specs.Known.{AreKnown}
 use Rattle.isle_sema.specs.Forms.{is_built_form}
 use Rattle.isle_sema.specs.RulePass.{rules_pass}
 use Rattle.isle_sema.specs.Fault.{OfTypes, OfTerms, OfExtractors, OfRules, or_later, fault_in}
-use Rattle.isle_sema.specs.Environment.{types_of, whole_of, env_over, env_of, terms_pass}
+use Rattle.isle_sema.specs.Environment.{types_of, whole_of, env_over, terms_pass}
 use Rattle.isle_sema.specs.Typing.{Typed}
 use Rattle.isle_sema.specs.Tables.{HasFirsts, any_repeat, HasTables}
 use Rattle.isle_sema.specs.Taken.{taken_rules}

@@ -1,5 +1,5 @@
 -- A name's term is the one at the number of the name.
-use Rattle.std.proofs.Common.{◌≡◌, ℕ, zero, suc, ◌+◌, Bool, List, [], ◌∷◌, map, Option, Some, None, refl, sym, ap, ◌∙◌, subst}
+use Rattle.std.proofs.Common.{◌≡◌, ℕ, zero, suc, List, [], ◌∷◌, map, Option, Some, None, refl, sym, ap, ◌∙◌, subst}
 use Rattle.std.specs.Prelude.{is_some, option_map, option_and_then, slice_get}
 use Rattle.std.proofs.lemmas.Option.{same_Some, slice_get-map}
 use Rattle.isle_core.specs.declared.TypeId.{TypeId}
@@ -15,7 +15,7 @@ use Rattle.isle_sema.specs.TypeNames.{type_named}
 use Rattle.isle_sema.specs.Whole.{Whole, declared}
 use Rattle.isle_sema.specs.PatternPass.{tree_before}
 use Rattle.isle_sema.specs.Environment.{whole_of, types_named, term_from, term_pass, terms_pass}
-use Rattle.isle_sema.specs.Known.{IsCalled, MayBeCalled, AreKnown}
+use Rattle.isle_sema.specs.Known.{MayBeCalled, AreKnown}
 use Rattle.isle_sema.proofs.LookUps.{at_place, named_at}
 use Rattle.isle_sema.proofs.NumberLaws.{has_func, has_head}
 use Rattle.isle_sema.proofs.TypedExprs.{named_is}

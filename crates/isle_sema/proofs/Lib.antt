@@ -1,3 +1,6 @@
+pub mod RightSides
+pub mod Trees
+pub mod Wrong
 pub mod Decided
 pub mod Parts
 pub mod SymbolLaws

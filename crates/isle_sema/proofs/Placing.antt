@@ -12,7 +12,7 @@ use Rattle.isle_sema.specs.Signatures.{Signature, Extern, RuleDef, func_named, h
 use Rattle.isle_sema.specs.Collected.{extern, rule}
 use Rattle.isle_sema.specs.Heads.{terms_of, extern_terms, heads_of}
 use Rattle.isle_sema.specs.Numbered.{AreNumbered, place_in}
-use Rattle.isle_sema.specs.Sound.{has_undeclared, is_headless}
+use Rattle.isle_sema.specs.Tests.{has_undeclared, is_headless}
 use Rattle.isle_sema.specs.Tables.{HasFirsts}
 use Rattle.isle_sema.proofs.LookUps.{at_place, func_at}
 use Rattle.isle_sema.proofs.NumberLaws.{has_head, has_func, map_seen}

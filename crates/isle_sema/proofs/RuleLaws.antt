@@ -1,6 +1,6 @@
 -- The rules that are taken break no row, call no term that has a rule, and have trees.
-use Rattle.std.proofs.Common.{◌≡◌, ℕ, zero, suc, ◌+◌, ◌<◌, ◌≤◌, length, arith, Bool, true, false, cond, List, [], ◌∷◌, ◌++◌, map, Option, Some, None, refl, sym, ap, ◌∙◌}
-use Rattle.std.specs.Prelude.{◌&&◌, ◌||◌, is_some, option_map, option_and_then, slice_get}
+use Rattle.std.proofs.Common.{◌≡◌, ℕ, zero, suc, ◌+◌, ◌≤◌, length, arith, Bool, true, false, cond, List, [], ◌∷◌, ◌++◌, map, Option, Some, None, refl, sym, ap, ◌∙◌}
+use Rattle.std.specs.Prelude.{◌||◌, is_some, option_map, option_and_then, slice_get}
 use Rattle.std.specs.List.{AllByRecursion, list_any}
 use Rattle.std.proofs.lemmas.List.{length-map}
 use Rattle.std.proofs.lemmas.List.Folds.{list_any-append}
@@ -23,7 +23,7 @@ use Rattle.isle_sema.specs.Site.{Site, NotBuiltAt}
 use Rattle.isle_sema.specs.Whole.{Whole, declared, arg_types, ret_type}
 use Rattle.isle_sema.specs.PatternPass.{PatternsPass, patterns_pass, first_expected, later_expected}
 use Rattle.isle_sema.specs.ExprPass.{ExprPass, expr_pass, exprs_pass}
-use Rattle.isle_sema.specs.RulePass.{patterns_of, right_side_of, sites_of, conditions_of, rule_from, rule_pass, rules_pass}
+use Rattle.isle_sema.specs.RulePass.{patterns_of, right_side_of, conditions_of, rule_from, rule_pass, rules_pass}
 use Rattle.isle_sema.specs.RuleRows.{is_unknown, is_call_misfit}
 use Rattle.isle_sema.specs.Context.{on}
 use Rattle.isle_sema.specs.Fault.{OfRules, broken_in, fault_after}

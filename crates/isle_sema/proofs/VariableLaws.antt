@@ -1,11 +1,11 @@
 -- Variables with the types that they are bound at, by their numbers.
-use Rattle.std.proofs.Common.{◌≡◌, ℕ, suc, ◌+◌, Bool, true, false, cond, List, [], ◌∷◌, ◌++◌, length, Option, Some, None, refl, sym, ap, ◌∙◌, arith}
-use Rattle.std.specs.Prelude.{option_map, slice_get, is_some}
+use Rattle.std.proofs.Common.{◌≡◌, ℕ, ◌+◌, Bool, true, false, cond, List, [], ◌∷◌, ◌++◌, length, Option, Some, None, refl, sym, ap, ◌∙◌, arith}
+use Rattle.std.specs.Prelude.{option_map, is_some}
 use Rattle.std.specs.List.{zip}
 use Rattle.std.specs.Str.{bytes_eq}
 use Rattle.isle_core.specs.declared.TypeId.{TypeId}
 use Rattle.isle_sema.specs.Symbols.{index_of, added}
-use Rattle.isle_sema.specs.Scope.{Scope, scope_names, bound_at, met, met_by}
+use Rattle.isle_sema.specs.Scope.{scope_names, bound_at, met, met_by}
 use Rattle.isle_sema.proofs.LookUps.{at_place, at_later}
 
 -- ---- looking up a variable is looking up its place

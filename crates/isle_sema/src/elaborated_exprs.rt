@@ -112,11 +112,11 @@ pub fn expr_at(
             args.as_slice(),
         ),
         AstExpr::Const(_) => {
-            judged.not_built();
+            judged.part();
             Ok(None)
         }
         AstExpr::Let(_, _) => {
-            judged.not_built();
+            judged.part();
             Ok(None)
         }
     }

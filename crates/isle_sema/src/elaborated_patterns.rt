@@ -39,15 +39,6 @@ fn variable_at(vars: &Variables, name: &Text) -> Option<Pattern>
     }
 }
 
-/// A wildcard where this type is expected.
-#[tactic(auto, using(isle_core::proofs::SeesRules::sees))]
-fn wildcard_at(expected: Option<TypeId>) -> Option<Pattern>
-    ensures { option_map elaborated result ≡ option_map core_pattern.Wildcard expected }
-{
-    let ty = expected?;
-    Some(Pattern::Wildcard(ty))
-}
-
 /// A pattern where this type is expected: its tree, where its form is built and its types are known.
 #[tactic(auto, using(crate::proofs::Sees::pattern_sees, isle_core::proofs::SeesRules::sees))]
 fn pattern_at<'d>(
@@ -75,23 +66,26 @@ fn pattern_at<'d>(
             Ok(variable_at(vars, name))
         }
         AstPattern::Wildcard => {
-            judged.wildcard();
-            Ok(wildcard_at(expected))
+            judged.part();
+            match expected {
+                Some(ty) => Ok(Some(Pattern::Wildcard(ty))),
+                None => Ok(None),
+            }
         }
         AstPattern::Const(_) => {
-            judged.not_built();
+            judged.part();
             Ok(None)
         }
         AstPattern::Bind(_, _) => {
-            judged.not_built();
+            judged.part();
             Ok(None)
         }
         AstPattern::And(_) => {
-            judged.not_built();
+            judged.part();
             Ok(None)
         }
         AstPattern::Term(_, _) => {
-            judged.not_built();
+            judged.part();
             Ok(None)
         }
     }

@@ -4,7 +4,7 @@ ghost use Rattle.std.specs.Prelude.{◌≡◌, Option, Some, List, []};
 ghost use Rattle.isle_syntax.specs.Tree.{Def};
 ghost use Rattle.isle_sema.specs.Signatures.{Signature};
 ghost use Rattle.isle_sema.specs.Site.{IntegerAt, TruthAt, WildcardAt, MetAt, UsedAt, CalledAt, NotBuiltAt};
-ghost use Rattle.isle_sema.specs.RuleRows.{differ, is_other_type};
+ghost use Rattle.isle_sema.specs.RuleRows.{is_other_type};
 ghost use Rattle.isle_sema.specs.Environment.{whole_of};
 ghost use Rattle.isle_sema.specs.Known.{IsCalled, MayBeCalled};
 ghost use Rattle.isle_sema.specs.Judging.{unjudged, judge};
@@ -28,23 +28,13 @@ pub struct Judged {
     pub nodes: usize,
 }
 
-/// Whether two types that are both known differ.
-fn differ(ty: Option<TypeId>, expected: Option<TypeId>) -> bool
-    ensures { result ≡ differ ty expected }
-{
-    match (ty, expected) {
-        (Some(ty), Some(expected)) => ty.index() != expected.index(),
-        _ => false,
-    }
-}
-
 /// Whether a type differs from the one that is expected, where there is one.
 fn is_other_type(bound: Option<Option<TypeId>>, expected: Option<TypeId>) -> bool
     ensures { result ≡ is_other_type bound expected }
 {
-    match bound {
-        Some(ty) => differ(ty, expected),
-        None => false,
+    match (bound, expected) {
+        (Some(Some(ty)), Some(expected)) => ty.index() != expected.index(),
+        _ => false,
     }
 }
 
@@ -67,16 +57,10 @@ impl Judged {
         }
     }
 
-    /// A wildcard.
-    pub fn wildcard(&mut self)
-        ensures { self.new ≡ judge (whole_of []) self.old WildcardAt }
-    {
-        self.nodes = self.nodes.saturating_add(1);
-    }
-
-    /// A part of a form that is not built.
-    pub fn not_built(&mut self)
-        ensures { self.new ≡ judge (whole_of []) self.old NotBuiltAt }
+    /// A part that no row looks at: a wildcard, or one of a form that is not built.
+    pub fn part(&mut self)
+        ensures wildcard { self.new ≡ judge (whole_of []) self.old WildcardAt }
+        ensures not_built { self.new ≡ judge (whole_of []) self.old NotBuiltAt }
     {
         self.nodes = self.nodes.saturating_add(1);
     }
@@ -122,7 +106,7 @@ impl Judged {
         self.unknown = (count != callee.args.len())
             | !(callee.external | callee.ruled)
             | self.unknown;
-        self.mistyped = differ(Some(callee.ret), expected) | self.mistyped;
+        self.mistyped = is_other_type(Some(Some(callee.ret)), expected) | self.mistyped;
         self.partial = callee.partial | self.partial;
         self.impure = !callee.pure | self.impure;
         self.multi = callee.multi | self.multi;

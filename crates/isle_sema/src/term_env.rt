@@ -12,7 +12,7 @@ ghost use Rattle.isle_sema.specs.Language.{is_built_def};
 ghost use Rattle.isle_sema.specs.Numbered.{AreNumbered};
 ghost use Rattle.isle_sema.specs.Environment.{whole_of};
 ghost use Rattle.isle_sema.specs.Taken.{taken_rules, Gives};
-ghost use Rattle.isle_sema.specs.Sound.{has_undeclared, is_headless};
+ghost use Rattle.isle_sema.specs.Tests.{has_undeclared, is_headless};
 ghost use Rattle.isle_sema.specs.Tables.{HasTables};
 
 use crate::collected::{Definitions, Extern, RuleDef};

@@ -1,11 +1,11 @@
-use Rattle.std.proofs.Common.{◌≡◌, rules, Some, List, ◌∷◌, [], ◌++◌, true, false, cond, map, refl, ap, sym, ◌∙◌, to_z, of_z}
+use Rattle.std.proofs.Common.{◌≡◌, rules, Some, true, false, map, ap, sym, ◌∙◌, to_z, of_z}
 use Rattle.std.specs.Prelude.{option_map, slice_get}
 use Rattle.std.specs.Int.{w128}
 use Rattle.isle_core.specs.RuleViews.{expr as elaborated, exprs_of as elaborated_of}
 use Rattle.isle_syntax.specs.Tree as tree
 use Rattle.isle_syntax.specs.Views.{expr, exprs_of, defs as seen}
-use Rattle.isle_sema.specs.Signatures.{Signature, signatures, term_named}
-use Rattle.isle_sema.specs.Whole.{declared, arg_types, ret_type}
+use Rattle.isle_sema.specs.Signatures.{signatures, term_named}
+use Rattle.isle_sema.specs.Whole.{declared, ret_type}
 use Rattle.isle_sema.specs.Environment.{whole_of}
 use Rattle.isle_sema.specs.ExprPass.{call_tree, expr_pass, exprs_pass}
 use Rattle.isle_sema.specs.Judging.{judge_all}

@@ -1,4 +1,4 @@
-use Rattle.std.proofs.Common.{◌≡◌, rules, None, subst}
+use Rattle.std.proofs.Common.{subst}
 use Rattle.isle_syntax.specs.Views.{defs as seen_defs}
 use Rattle.isle_sema.specs.Collected.{rule as seen}
 use Rattle.isle_sema.specs.Whole.{declared}

@@ -1,4 +1,4 @@
-use Rattle.std.proofs.Common.{◌≡◌, rules, Some, None, true, false, List, [], length, map, ap, sym, ◌∙◌}
+use Rattle.std.proofs.Common.{◌≡◌, rules, Some, None, true, false, [], length, map, ap, sym, ◌∙◌}
 use Rattle.std.specs.Prelude.{option_map, is_some}
 use Rattle.std.proofs.lemmas.List.{length-map}
 use Rattle.isle_core.specs.RuleViews.{pattern as elaborated_pattern, expr as elaborated_expr}

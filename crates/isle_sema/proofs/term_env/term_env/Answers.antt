@@ -6,9 +6,9 @@ use Rattle.isle_sema.specs.Signatures.{externs, rule_defs}
 use Rattle.isle_sema.specs.Collected.{signature, extern, rule}
 use Rattle.isle_sema.specs.Elaborated.{term_of}
 use Rattle.isle_sema.specs.Environment.{whole_of}
-use Rattle.isle_sema.specs.Sound.{is_misdeclared, has_undeclared, is_headless}
+use Rattle.isle_sema.specs.Tests.{is_misdeclared, has_undeclared, is_headless}
 use Rattle.isle_sema.specs.Heads.{heads_of}
-use Rattle.isle_sema.specs.Refused.{repeats}
+use Rattle.isle_sema.specs.Repeats.{repeats}
 use Rattle.isle_sema.specs.Tables.{any_repeat, HasTables}
 use Rattle.isle_sema.specs.Taken.{taken_rules}
 use Rattle.isle_sema.proofs.Givings.{misdeclared_untyped, repeated_untyped, undeclared_untyped, headless_untyped, untaken_untyped, parts_from, terms_from, known_from, repeated_from, heads_from, given_typed}

@@ -5,7 +5,7 @@ use Rattle.isle_core.specs.declared.types.TypeEnv.{TypeEnv}
 use Rattle.isle_syntax.specs.Views.{defs as seen}
 use Rattle.isle_sema.specs.Collected.{rule}
 use Rattle.isle_sema.specs.Forms.{is_built_form}
-use Rattle.isle_sema.specs.Sound.{binds_twice}
+use Rattle.isle_sema.specs.Tests.{binds_twice}
 use Rattle.isle_sema.specs.Typing.{Typed}
 use Rattle.isle_sema.specs.Taken.{Gives}
 use Rattle.isle_sema.proofs.BuiltForms.{types_from, built_from}

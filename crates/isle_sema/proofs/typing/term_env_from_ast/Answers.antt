@@ -1,4 +1,4 @@
-use Rattle.std.proofs.Common.{◌≡◌, rules, None, Some, sym, subst}
+use Rattle.std.proofs.Common.{rules, None, Some, sym, subst}
 use Rattle.isle_core.specs.RuleViews.{environment}
 use Rattle.isle_core.specs.declared.types.TypeEnv.{TypeEnv}
 use Rattle.isle_syntax.specs.Views.{defs as seen}

@@ -4,7 +4,7 @@ use Rattle.std.specs.Option.{option_copied}
 use Rattle.std.proofs.lemmas.Option.{slice_get-map}
 use Rattle.isle_syntax.specs.declared.tree.Def.{Def}
 use Rattle.isle_syntax.specs.Views.{defs as seen}
-use Rattle.isle_sema.specs.Symbols.{index_of, symbols}
+use Rattle.isle_sema.specs.Symbols.{index_of}
 use Rattle.isle_sema.specs.Known.{AreKnown, MayBeCalled}
 use Rattle.isle_sema.specs.Collected.{signature}
 use Rattle.isle_sema.specs.Numbered.{place_in}

@@ -1,4 +1,4 @@
-use Rattle.std.proofs.Common.{◌≡◌, rules, None, List, ap, sym, ◌∙◌, subst, map}
+use Rattle.std.proofs.Common.{◌≡◌, rules, None, List, ap, ◌∙◌, subst, map}
 use Rattle.isle_syntax.specs.declared.tree.Def.{Def}
 use Rattle.isle_syntax.specs.Views.{defs as seen}
 use Rattle.isle_sema.specs.Symbols.{index_of, symbols}

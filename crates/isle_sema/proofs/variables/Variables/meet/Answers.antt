@@ -1,4 +1,4 @@
-use Rattle.std.proofs.Common.{◌≡◌, rules, ap, sym, ◌∙◌, ◌++◌, ◌∷◌, [], ◌+◌, None, length}
+use Rattle.std.proofs.Common.{◌≡◌, rules, ap, sym, ◌∙◌, ◌∷◌, [], ◌+◌, None, length}
 use Rattle.std.specs.Prelude.{option_map}
 use Rattle.std.specs.List.{zip}
 use Rattle.std.proofs.lemmas.List.{length-append}

@@ -1,32 +1,17 @@
--- What the code refuses of declarations and rules, whole lists at once: the rows of the typing table that built forms can break.
-use Rattle.std.specs.Prelude.{ℕ, ◌+◌, List, [], ◌∷◌, ◌++◌, length, Bool, true, false, ◌==◌, ◌&&◌, ◌||◌, not, Option, Some, None, is_some, map, nat_le, if◌then◌else◌}
-use Rattle.std.specs.List.{list_all, list_any}
+-- What definitions without a fault are not: the rows that built forms can break, whole lists at once.
+use Rattle.isle_sema.specs.Repeats.{repeats}
+use Rattle.isle_sema.specs.Tests.{names_no_type, has_too_many}
+use Rattle.std.specs.Prelude.{ℕ, ◌+◌, List, [], ◌∷◌, length, Bool, true, false, ◌==◌, ◌&&◌, ◌||◌, not, Option, Some, None, is_some, map, nat_le, if◌then◌else◌}
+use Rattle.std.specs.List.{list_any}
 use Rattle.std.specs.Str.{bytes_eq}
 use Rattle.isle_core.specs.declared.TypeId.{TypeId}
 use Rattle.isle_syntax.specs.Tree as tree
 use Rattle.isle_syntax.specs.Tree.{Pattern, Expr, Exprs, NoExpr, AnExpr, Def}
-use Rattle.isle_sema.specs.Symbols.{index_of}
-use Rattle.isle_sema.specs.Builtins.{builtin_named}
 use Rattle.isle_sema.specs.Signatures.{Signature, Extern, RuleDef, signatures, externs, func_named, rule_defs, signature_named}
-use Rattle.isle_sema.specs.Elaborated.{type_of, arg_types}
-use Rattle.isle_sema.specs.Calls.{count_of, calls_partial, nodes}
-
--- a name repeats an earlier one, or one of these
-abbrev pub repeats_after : List (List ℕ) → List (List ℕ) → Bool
-repeats_after before [] = false
-repeats_after before (name ∷ names) = is_some (index_of before name) || repeats_after (before ++ name ∷ []) names
-
--- a name repeats an earlier one
-abbrev pub repeats : List (List ℕ) → Bool
-repeats names = repeats_after [] names
-
--- a declaration names a type that is not declared
-abbrev pub names_no_type : Signature → Bool
-names_no_type s = not (is_some (builtin_named s.ret) && list_all (λ (n : List ℕ). is_some (builtin_named n)) s.args)
-
--- a declaration has more than 256 arguments
-abbrev pub has_too_many : Signature → Bool
-has_too_many s = not (nat_le (length s.args) 256)
+use Rattle.isle_sema.specs.Elaborated.{type_of}
+use Rattle.isle_sema.proofs.Trees.{arg_types}
+use Rattle.isle_sema.specs.Calls.{count_of}
+use Rattle.isle_sema.proofs.RightSides.{calls_partial, nodes}
 
 -- an integer stands at a bool, or a truth at an integer
 abbrev pub is_misplaced : Pattern → TypeId → Bool
