@@ -15,7 +15,7 @@ use Rattle.isle_sema.proofs.RightSides.{calls_external, all_call_external}
 use Rattle.isle_sema.specs.Calls.{calls_ruled, any_calls_ruled}
 use Rattle.isle_sema.specs.Heads.{terms_of, extern_terms, heads_of}
 use Rattle.isle_sema.specs.Repeats.{repeats}
-use Rattle.isle_sema.specs.Tests.{names_no_type, has_too_many}
+use Rattle.isle_sema.proofs.Wrong.{names_no_type, has_too_many}
 use Rattle.isle_sema.proofs.Wrong.{signatures_fault, externs_fault, rules_fault}
 use Rattle.isle_sema.specs.Language.{is_built_def, are_none, rules_call_ruled}
 use Rattle.isle_sema.proofs.RightSides.{rules_call_external}

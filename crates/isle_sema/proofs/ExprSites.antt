@@ -14,7 +14,7 @@ use Rattle.isle_sema.proofs.Trees.{arg_types}
 use Rattle.isle_sema.specs.Calls.{count_of}
 use Rattle.isle_sema.proofs.RightSides.{is_partial_named, calls_partial, any_calls_partial, nodes, all_nodes}
 use Rattle.isle_sema.proofs.Wrong.{type_in, is_other, is_miscalled, is_wrong, any_wrong}
-use Rattle.isle_sema.specs.Tests.{names_no_type}
+use Rattle.isle_sema.proofs.Wrong.{names_no_type}
 use Rattle.isle_sema.specs.Language.{is_built_expr, are_built_exprs}
 use Rattle.isle_sema.specs.Scope.{Scope}
 use Rattle.isle_sema.specs.Site.{Site, IntegerAt, TruthAt}

@@ -12,7 +12,7 @@ use Rattle.isle_syntax.specs.Tree.{Def}
 use Rattle.isle_sema.specs.Signatures.{Signature, Extern, RuleDef, signatures, externs, rule_defs}
 use Rattle.isle_sema.specs.Heads.{terms_of, extern_terms, heads_of}
 use Rattle.isle_sema.specs.Repeats.{repeats}
-use Rattle.isle_sema.specs.Tests.{names_no_type, has_too_many}
+use Rattle.isle_sema.proofs.Wrong.{names_no_type, has_too_many}
 use Rattle.isle_sema.specs.Language.{is_built_def, rules_call_ruled}
 use Rattle.isle_sema.specs.Tests as sound
 use Rattle.isle_sema.specs.Tests.{binds_twice, is_misdeclared, has_undeclared}

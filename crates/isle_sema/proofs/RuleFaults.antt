@@ -13,7 +13,7 @@ use Rattle.isle_sema.specs.Signatures.{Signature, RuleDef, signatures, externs, 
 use Rattle.isle_sema.specs.Elaborated.{type_of}
 use Rattle.isle_sema.proofs.RightSides.{calls_partial, nodes}
 use Rattle.isle_sema.specs.Repeats.{repeats}
-use Rattle.isle_sema.specs.Tests.{names_no_type}
+use Rattle.isle_sema.proofs.Wrong.{names_no_type}
 use Rattle.isle_sema.proofs.Wrong.{any_misplaced, typed_vars, is_wrong, is_rhs_wrong, is_too_large, breaks, rules_fault}
 use Rattle.isle_sema.specs.Language.{is_built_def, is_built_expr, is_built_pattern, are_none}
 use Rattle.isle_sema.specs.Row.{Row}

@@ -28,7 +28,7 @@ use Rattle.isle_sema.proofs.Trees.{var_of, patterns_at, arg_types, term_or, expr
 use Rattle.isle_sema.specs.Calls.{count_of}
 use Rattle.isle_sema.specs.Heads.{terms_of}
 use Rattle.isle_sema.specs.Repeats.{repeats, repeats_after}
-use Rattle.isle_sema.specs.Tests.{names_no_type}
+use Rattle.isle_sema.proofs.Wrong.{names_no_type}
 use Rattle.isle_sema.proofs.Wrong.{any_misplaced, typed_vars, type_in, is_other, is_miscalled, is_wrong, any_wrong, is_rhs_wrong, is_too_large, breaks, rules_fault}
 use Rattle.isle_sema.proofs.Wrong.{names_of}
 use Rattle.isle_sema.specs.Language.{is_built_expr, are_built_exprs, is_built_pattern}

@@ -1,8 +1,8 @@
 -- What definitions without a fault are not: the rows that built forms can break, whole lists at once.
 use Rattle.isle_sema.specs.Repeats.{repeats}
-use Rattle.isle_sema.specs.Tests.{names_no_type, has_too_many}
 use Rattle.std.specs.Prelude.{ℕ, ◌+◌, List, [], ◌∷◌, length, Bool, true, false, ◌==◌, ◌&&◌, ◌||◌, not, Option, Some, None, is_some, map, nat_le, if◌then◌else◌}
-use Rattle.std.specs.List.{list_any}
+use Rattle.std.specs.List.{list_all, list_any}
+use Rattle.isle_sema.specs.Builtins.{builtin_named}
 use Rattle.std.specs.Str.{bytes_eq}
 use Rattle.isle_core.specs.declared.TypeId.{TypeId}
 use Rattle.isle_syntax.specs.Tree as tree
@@ -12,6 +12,14 @@ use Rattle.isle_sema.specs.Elaborated.{type_of}
 use Rattle.isle_sema.proofs.Trees.{arg_types}
 use Rattle.isle_sema.specs.Calls.{count_of}
 use Rattle.isle_sema.proofs.RightSides.{calls_partial, nodes}
+
+-- a declaration names a type that is not declared
+abbrev pub names_no_type : Signature → Bool
+names_no_type s = not (is_some (builtin_named s.ret) && list_all (λ (n : List ℕ). is_some (builtin_named n)) s.args)
+
+-- a declaration has more than 256 arguments
+abbrev pub has_too_many : Signature → Bool
+has_too_many s = not (nat_le (length s.args) 256)
 
 -- an integer stands at a bool, or a truth at an integer
 abbrev pub is_misplaced : Pattern → TypeId → Bool

@@ -1,26 +1,28 @@
 -- What the code tests of declarations, external constructors and rules.
-use Rattle.std.specs.Prelude.{ℕ, List, length, Bool, ◌&&◌, ◌||◌, not, is_some, nat_le, flat_map}
-use Rattle.std.specs.List.{list_all, list_any}
+use Rattle.std.specs.Prelude.{List, [], Bool, ◌||◌, not, is_some, flat_map}
+use Rattle.std.specs.List.{list_any}
 use Rattle.isle_sema.specs.Symbols.{pattern_names}
 use Rattle.isle_sema.specs.Signatures.{Signature, Extern, RuleDef, signature_named, func_named}
-use Rattle.isle_sema.specs.Builtins.{builtin_named}
+use Rattle.isle_syntax.specs.Tree.{Def, Decl}
+use Rattle.isle_sema.specs.Row as row
+use Rattle.isle_sema.specs.Context.{Context}
+use Rattle.isle_sema.specs.Breaks.{breaks}
+use Rattle.isle_sema.specs.Environment.{whole_of}
 use Rattle.isle_sema.specs.Repeats.{repeats}
-
--- a declaration names a type that is not declared
-abbrev pub names_no_type : Signature → Bool
-names_no_type s = not (is_some (builtin_named s.ret) && list_all (λ (n : List ℕ). is_some (builtin_named n)) s.args)
-
--- a declaration has more than 256 arguments
-abbrev pub has_too_many : Signature → Bool
-has_too_many s = not (nat_le (length s.args) 256)
 
 -- a rule binds a variable twice
 abbrev pub binds_twice : RuleDef → Bool
 binds_twice r = repeats (flat_map pattern_names r.args)
 
--- a declaration names a type that is not declared, or has too many arguments
+-- the definition that a declaration is
+abbrev pub decl_of : Signature → Def
+decl_of s = Decl s.term s.pure s.multi s.partial s.recursive s.args s.ret s.pos
+
+-- a declaration breaks one of the rows that look at no other definition
 abbrev pub is_misdeclared : Signature → Bool
-is_misdeclared s = has_too_many s || names_no_type s
+is_misdeclared s =
+    let alone : Context = record { whole = whole_of []; before = [] } in
+    breaks row.ManyArguments alone (decl_of s) || breaks row.TypeMissing alone (decl_of s)
 
 -- an external constructor is of a term that is not declared
 abbrev pub has_undeclared : List Signature → List Extern → Bool
