@@ -9,8 +9,8 @@ use Rattle.isle_core.proofs.Contained.{head_contained, tail_contained}
 use Rattle.isle_syntax.specs.Tree as tree
 use Rattle.isle_syntax.specs.Tree.{Pattern}
 use Rattle.isle_sema.specs.Symbols.{index_of, added, number_or}
-use Rattle.isle_sema.specs.Elaborated.{var_of, pattern_at, vars_behind, patterns_at, vars_of}
-use Rattle.isle_sema.specs.Refused.{typed_vars, type_in}
+use Rattle.isle_sema.proofs.Trees.{var_of, pattern_at, vars_behind, patterns_at, vars_of}
+use Rattle.isle_sema.proofs.Wrong.{typed_vars, type_in}
 use Rattle.isle_sema.proofs.SymbolLaws.{index_of_new}
 
 -- ---- a name keeps its place

@@ -5,7 +5,8 @@ use Rattle.std.proofs.Math.Nat.{min-eq_left}
 use Rattle.std.proofs.lemmas.List.{drop_all}
 use Rattle.isle_syntax.specs.declared.tree.AstExpr.{AstExpr}
 use Rattle.isle_syntax.specs.Views.{expr, exprs_of}
-use Rattle.isle_sema.specs.Calls.{all_nodes, count_of}
+use Rattle.isle_sema.proofs.RightSides.{all_nodes}
+use Rattle.isle_sema.specs.Calls.{count_of}
 
 -- there are as many expressions as the code's list has
 pub counted : (es : List AstExpr) → count_of (exprs_of (map expr es)) ≡ length es

@@ -6,10 +6,13 @@ use Rattle.isle_core.specs.Rule.{Environment}
 use Rattle.isle_syntax.specs.Tree.{Def}
 use Rattle.isle_sema.specs.Symbols.{symbols}
 use Rattle.isle_sema.specs.Signatures.{signatures, externs, rule_defs}
-use Rattle.isle_sema.specs.Elaborated.{term_of, rules_from}
+use Rattle.isle_sema.specs.Elaborated.{term_of}
+use Rattle.isle_sema.proofs.Trees.{rules_from}
 use Rattle.isle_sema.specs.Heads.{heads_of}
-use Rattle.isle_sema.specs.Refused.{repeats, has_fault}
-use Rattle.isle_sema.specs.Language.{is_built_def, rules_call_external}
+use Rattle.isle_sema.specs.Repeats.{repeats}
+use Rattle.isle_sema.proofs.Wrong.{has_fault}
+use Rattle.isle_sema.specs.Language.{is_built_def}
+use Rattle.isle_sema.proofs.RightSides.{rules_call_external}
 use Rattle.isle_sema.specs.Environment.{types_of}
 
 -- each is built, no term has two rules, and only terms with external constructors are called

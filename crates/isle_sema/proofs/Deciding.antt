@@ -1,35 +1,37 @@
 -- Definitions give an environment where the code takes them and makes it.
-use Rattle.std.proofs.Common.{◌≡◌, ℕ, Bool, true, false, List, [], ◌∷◌, map, Option, Some, None, refl, sym, ap, ◌∙◌}
+use Rattle.std.proofs.Common.{◌≡◌, Bool, true, false, List, [], ◌∷◌, map, Some, refl, sym, ap, ◌∙◌}
 use Rattle.std.specs.Prelude.{◌&&◌, ◌||◌, not, is_some, option_map, option_and_then}
 use Rattle.std.specs.List.{AllByRecursion, list_all, list_any}
-use Rattle.std.specs.Str.{bytes_eq}
-use Rattle.std.proofs.lemmas.Bool.{or_parts, or_from, and_parts, and_from, not-true, false_from_ne_true}
+use Rattle.std.proofs.lemmas.Bool.{or_parts, or_from, and_parts, and_from, not-true}
 use Rattle.std.proofs.lemmas.Option.{same_Some}
-use Rattle.std.proofs.lemmas.Slice.Eq.{bytes_eq-Decides}
 use Rattle.isle_core.specs.declared.types.Term.{Term}
 use Rattle.isle_core.specs.Rule.{Environment}
 use Rattle.isle_syntax.specs.Tree as tree
 use Rattle.isle_syntax.specs.Tree.{Expr, Exprs, NoExpr, AnExpr, IfLet, Def}
 use Rattle.isle_sema.specs.Symbols.{symbols}
-use Rattle.isle_sema.specs.Signatures.{Signature, RuleDef, signatures, externs, rule_defs, signature_named, func_named, has_rule}
+use Rattle.isle_sema.specs.Signatures.{RuleDef, signatures, externs, rule_defs, func_named, has_rule}
 use Rattle.isle_sema.specs.Elaborated.{term_of}
-use Rattle.isle_sema.specs.Calls.{calls_external, all_call_external, calls_ruled, any_calls_ruled}
+use Rattle.isle_sema.proofs.RightSides.{calls_external, all_call_external}
+use Rattle.isle_sema.specs.Calls.{calls_ruled, any_calls_ruled}
 use Rattle.isle_sema.specs.Heads.{terms_of, extern_terms, heads_of}
-use Rattle.isle_sema.specs.Refused.{repeats, names_no_type, has_too_many, breaks, signatures_fault, externs_fault, rules_fault}
-use Rattle.isle_sema.specs.Language.{is_built_def, are_none, rules_call_external, rules_call_ruled}
-use Rattle.isle_sema.specs.Sound.{has_undeclared}
+use Rattle.isle_sema.specs.Repeats.{repeats}
+use Rattle.isle_sema.proofs.Wrong.{names_no_type, has_too_many}
+use Rattle.isle_sema.proofs.Wrong.{signatures_fault, externs_fault, rules_fault}
+use Rattle.isle_sema.specs.Language.{is_built_def, are_none, rules_call_ruled}
+use Rattle.isle_sema.proofs.RightSides.{rules_call_external}
+use Rattle.isle_sema.specs.Tests.{has_undeclared}
 use Rattle.isle_sema.specs.Whole.{has_constructor}
 use Rattle.isle_sema.specs.RulePass.{rules_pass}
 use Rattle.isle_sema.specs.Fault.{OfTypes, OfTerms, OfExtractors, OfRules, or_later, fault_in}
 use Rattle.isle_sema.specs.Environment.{types_of, whole_of, env_over, env_of}
 use Rattle.isle_sema.specs.Typing.{Typed}
 use Rattle.isle_sema.proofs.Decided.{env_made, IsDecided}
-use Rattle.isle_sema.proofs.Firsts.{stages_none, none_stages}
-use Rattle.isle_sema.proofs.TermFaults.{types_none, extractors_none, is_headless, terms_kept, terms_none}
+use Rattle.isle_sema.proofs.Firsts.{stages_none}
+use Rattle.isle_sema.proofs.TermFaults.{terms_kept}
 use Rattle.isle_sema.proofs.ExprSites.{calls_made, all_call_made}
-use Rattle.isle_sema.proofs.RuleFaults.{rule_forms, rules_kept, rules_none}
+use Rattle.isle_sema.proofs.RuleFaults.{rule_forms, rules_kept}
 use Rattle.isle_sema.proofs.RuleTrees.{IsRuleBuilt, rules_tree, IsPlain, terms_tree}
-use Rattle.isle_sema.proofs.Soundness.{forms_of}
+use Rattle.isle_sema.proofs.BuiltForms.{forms_of}
 
 -- ---- what is built
 
@@ -44,7 +46,7 @@ plain_flags false false true h = absurd cc
 plain_flags false false false h = (refl, refl, refl)
 
 -- the declarations have at most the flag `partial`
-plain_of : (ds : List Def) → list_all is_built_def ds ≡ true → AllByRecursion IsPlain (signatures ds)
+pub plain_of : (ds : List Def) → list_all is_built_def ds ≡ true → AllByRecursion IsPlain (signatures ds)
 plain_of [] h = tt
 plain_of (tree.Decl term pure multi partial recursive args ret pos ∷ ds) h =
     let k = and_parts (not pure && not multi && not recursive) (list_all is_built_def ds) h in
@@ -59,16 +61,8 @@ plain_of (tree.Extractor term params template pos ∷ ds) h = absurd cc
 plain_of (tree.Converter from to term pos ∷ ds) h = absurd cc
 plain_of (tree.Passed head items pos ∷ ds) h = absurd cc
 
-none_pure : (sigs : List Signature) → AllByRecursion IsPlain sigs → list_any (λ (s : Signature). s.pure) sigs ≡ false
-none_pure [] h = refl
-none_pure (s ∷ sigs) h = or_from s.pure (list_any (λ (x : Signature). x.pure) sigs) h.0.pure (none_pure sigs h.1)
-
-none_multi : (sigs : List Signature) → AllByRecursion IsPlain sigs → list_any (λ (s : Signature). s.multi) sigs ≡ false
-none_multi [] h = refl
-none_multi (s ∷ sigs) h = or_from s.multi (list_any (λ (x : Signature). x.multi) sigs) h.0.multi (none_multi sigs h.1)
-
 -- the rules have built forms
-rules_built : (ds : List Def) → list_all is_built_def ds ≡ true → AllByRecursion IsRuleBuilt (rule_defs ds)
+pub rules_built : (ds : List Def) → list_all is_built_def ds ≡ true → AllByRecursion IsRuleBuilt (rule_defs ds)
 rules_built [] h = tt
 rules_built (tree.Rule name prio term args iflets rhs pos ∷ ds) h =
     let k = and_parts (is_built_def (tree.Rule name prio term args iflets rhs pos)) (list_all is_built_def ds) h in
@@ -117,64 +111,6 @@ rules_external all (r ∷ rules) made ruled =
     let n = or_parts (calls_ruled (rule_defs all) r.rhs) (list_any (λ (x : RuleDef). calls_ruled (rule_defs all) x.rhs) rules) ruled in
     and_from (calls_external (externs all) r.rhs) (rules_call_external (externs all) rules) (made_external all r.rhs m.0 n.0) (rules_external all rules m.1 n.1)
 
--- a term with an external constructor has no rule
-Unruled : List Def → Type 0
-Unruled all = (name : List ℕ) → is_some (func_named (externs all) name) ≡ true → has_rule (rule_defs all) name ≡ false
-
-unruled_in : (all : List Def) (rules : List RuleDef) (name : List ℕ) → rules_fault (signatures all) (externs all) rules ≡ false → is_some (func_named (externs all) name) ≡ true → has_rule rules name ≡ false
-unruled_in all [] name right func = refl
-unruled_in all (r ∷ rules) name right func =
-    let o = signature_named (signatures all) r.term in
-    let k = or_parts (is_some (func_named (externs all) r.term) || breaks (signatures all) r o) (rules_fault (signatures all) (externs all) rules) right in
-    let own = or_parts (is_some (func_named (externs all) r.term)) (breaks (signatures all) r o) k.0 in
-    or_from (bytes_eq r.term name) (has_rule rules name)
-    (false_from_ne_true (bytes_eq r.term name) (λ e. (let bad : true ≡ false = sym func ∙ ap (λ n. is_some (func_named (externs all) n)) (sym ((bytes_eq-Decides r.term name).0 e)) ∙ own.0 in absurd cc))) (unruled_in all rules name k.1 func)
-
-mutual
-  unfolding Unruled
-
-  external_made : (all : List Def) → Unruled all → (e : Expr) → calls_external (externs all) e ≡ true → (calls_made all e ≡ true) × (calls_ruled (rule_defs all) e ≡ false)
-  external_made all none (tree.Number n) h = (refl, refl)
-  external_made all none (tree.Fact b) h = (refl, refl)
-  external_made all none (tree.Name name) h = (refl, refl)
-  external_made all none (tree.Constant name) h = (refl, refl)
-  external_made all none (tree.Let ls inner) h = (refl, refl)
-  external_made all none (tree.Call name es) h =
-      let k = and_parts (is_some (func_named (externs all) name)) (all_call_external (externs all) es) h in
-      let rest = all_external_made all none es k.1 in
-      (and_from (has_constructor (whole_of all) name) (all_call_made all es) (ap (λ b. b || has_rule (rule_defs all) name) k.0) rest.0, or_from (has_rule (rule_defs all) name) (any_calls_ruled (rule_defs all) es) (none name k.0) rest.1)
-
-  all_external_made : (all : List Def) → Unruled all → (es : Exprs) → all_call_external (externs all) es ≡ true → (all_call_made all es ≡ true) × (any_calls_ruled (rule_defs all) es ≡ false)
-  all_external_made all none NoExpr h = (refl, refl)
-  all_external_made all none (AnExpr e es) h =
-      let k = and_parts (calls_external (externs all) e) (all_call_external (externs all) es) h in
-      let first = external_made all none e k.0 in
-      let rest = all_external_made all none es k.1 in
-      (and_from (calls_made all e) (all_call_made all es) first.0 rest.0, or_from (calls_ruled (rule_defs all) e) (any_calls_ruled (rule_defs all) es) first.1 rest.1)
-
--- the calls of rules
-rules_made : (all : List Def) (rules : List RuleDef) → Unruled all → rules_call_external (externs all) rules ≡ true → (list_all (λ (r : RuleDef). calls_made all r.rhs) rules ≡ true) × (list_any (λ (r : RuleDef). calls_ruled (rule_defs all) r.rhs) rules ≡ false)
-rules_made all [] none h = (refl, refl)
-rules_made all (r ∷ rules) none h =
-    let k = and_parts (calls_external (externs all) r.rhs) (rules_call_external (externs all) rules) h in
-    let first = external_made all none r.rhs k.0 in
-    let rest = rules_made all rules none k.1 in
-    (and_from (calls_made all r.rhs) (list_all (λ (x : RuleDef). calls_made all x.rhs) rules) first.0 rest.0, or_from (calls_ruled (rule_defs all) r.rhs) (list_any (λ (x : RuleDef). calls_ruled (rule_defs all) x.rhs) rules) first.1 rest.1)
-
--- ---- heads
-
-head_here : (sigs : List Signature) (r : RuleDef) (o : Option Signature) → breaks sigs r o ≡ false → not (is_some o) ≡ false
-head_here sigs r None h = absurd cc
-head_here sigs r (Some s) h = refl
-
-heads_here : (all : List Def) (rules : List RuleDef) → rules_fault (signatures all) (externs all) rules ≡ false → list_any (is_headless all) rules ≡ false
-heads_here all [] h = refl
-heads_here all (r ∷ rules) h =
-    let o = signature_named (signatures all) r.term in
-    let k = or_parts (is_some (func_named (externs all) r.term) || breaks (signatures all) r o) (rules_fault (signatures all) (externs all) rules) h in
-    let own = or_parts (is_some (func_named (externs all) r.term)) (breaks (signatures all) r o) k.0 in
-    or_from (is_headless all r) (list_any (is_headless all) rules) (or_from (not (is_some o)) (is_some (func_named (externs all) r.term)) (head_here (signatures all) r o own.1) own.0) (heads_here all rules k.1)
-
 -- ---- the environment
 
 -- definitions that are taken give what is made of them
@@ -206,31 +142,4 @@ decided {ds = ds} {env = env} t =
       built = and_from (list_all is_built_def ds && heads) (rules_call_external (externs ds) (rule_defs ds)) a.0 external;
       sound = or_from (signatures_fault sigs || externs_fault sigs (externs ds)) (rules_fault sigs (externs ds) (rule_defs ds)) (or_from (signatures_fault sigs) (externs_fault sigs (externs ds)) terms xs) r.right;
       given = same_Some env (env_made ds) (sym t.given ∙ env_is ds b.0 p.typed r.right);
-    }
-
--- and definitions that are taken give what is made of them
-pub typed_from_decided : {ds : List Def} {env : Environment} → IsDecided ds env → Typed ds env
-unfolding Unruled
-typed_from_decided {ds = ds} {env = env} t =
-    let heads = not (repeats (heads_of (rule_defs ds))) in
-    let sigs = signatures ds in
-    let w = whole_of ds in
-    let a = and_parts (list_all is_built_def ds && heads) (rules_call_external (externs ds) (rule_defs ds)) t.built in
-    let b = and_parts (list_all is_built_def ds) heads a.0 in
-    let k = or_parts (signatures_fault sigs || externs_fault sigs (externs ds)) (rules_fault sigs (externs ds) (rule_defs ds)) t.sound in
-    let l = or_parts (signatures_fault sigs) (externs_fault sigs (externs ds)) k.0 in
-    let m = or_parts (repeats (terms_of sigs) || list_any names_no_type sigs) (list_any has_too_many sigs) l.0 in
-    let n = or_parts (repeats (terms_of sigs)) (list_any names_no_type sigs) m.0 in
-    let x = or_parts (repeats (extern_terms (externs ds))) (has_undeclared sigs (externs ds)) l.1 in
-    let made = rules_made ds (rule_defs ds) (λ name func. unruled_in ds (rule_defs ds) name k.1 func) a.1 in
-    let forms = forms_of ds b.0 in
-    let plain = plain_of ds b.0 in
-    let terms = terms_none ds [] ds forms (record { apart = n.0; typed = n.1; few = m.1; externs_apart = x.0; known = x.1; heads = heads_here ds (rule_defs ds) k.1 }) in
-    let rules = rules_none ds [] ds n.1 (record { pure = none_pure sigs plain; multi = none_multi sigs plain }) b.0 (record { right = k.1; made = made.0 }) in
-    record {
-      built = and_from (list_all is_built_def ds && heads) (not (rules_call_ruled (rule_defs ds) (rule_defs ds))) a.0 (ap not made.1);
-      sound =
-          none_stages (fault_in OfTypes w) (or_later (fault_in OfTerms w) (or_later (fault_in OfExtractors w) (fault_in OfRules w))) (types_none w [] ds)
-          (none_stages (fault_in OfTerms w) (or_later (fault_in OfExtractors w) (fault_in OfRules w)) terms (none_stages (fault_in OfExtractors w) (fault_in OfRules w) (extractors_none w [] ds forms) rules));
-      given = env_is ds b.0 n.1 k.1 ∙ ap Some (sym t.given);
     }

@@ -14,7 +14,7 @@ use Rattle.isle_syntax.specs.Tree.{Def}
 use Rattle.isle_sema.specs.Symbols.{index_of, added, number_or, def_names, symbols}
 use Rattle.isle_sema.specs.Signatures.{Signature, Extern, RuleDef, signatures, externs, rule_defs}
 use Rattle.isle_sema.specs.Elaborated.{term_of}
-use Rattle.isle_sema.specs.Refused.{repeats, repeats_after}
+use Rattle.isle_sema.specs.Repeats.{repeats, repeats_after}
 use Rattle.isle_sema.specs.Heads.{terms_of}
 use Rattle.isle_sema.proofs.Decided.{env_made}
 use Rattle.isle_sema.proofs.SymbolLaws.{index_of_more}

@@ -9,20 +9,24 @@ use Rattle.isle_syntax.specs.Tree as tree
 use Rattle.isle_syntax.specs.Tree.{Expr, Exprs, NoExpr, AnExpr, Def}
 use Rattle.isle_sema.specs.Builtins.{builtin_named}
 use Rattle.isle_sema.specs.Signatures.{Signature, signatures, signature_named}
-use Rattle.isle_sema.specs.Elaborated.{type_of, arg_types}
-use Rattle.isle_sema.specs.Calls.{count_of, is_partial_named, calls_partial, any_calls_partial, nodes, all_nodes}
-use Rattle.isle_sema.specs.Refused.{type_in, is_other, is_miscalled, is_wrong, any_wrong, names_no_type}
+use Rattle.isle_sema.specs.Elaborated.{type_of}
+use Rattle.isle_sema.proofs.Trees.{arg_types}
+use Rattle.isle_sema.specs.Calls.{count_of}
+use Rattle.isle_sema.proofs.RightSides.{is_partial_named, calls_partial, any_calls_partial, nodes, all_nodes}
+use Rattle.isle_sema.proofs.Wrong.{type_in, is_other, is_miscalled, is_wrong, any_wrong}
+use Rattle.isle_sema.proofs.Wrong.{names_no_type}
 use Rattle.isle_sema.specs.Language.{is_built_expr, are_built_exprs}
-use Rattle.isle_sema.specs.Scope.{Scope, bound_at}
-use Rattle.isle_sema.specs.Site.{Site, IntegerAt, TruthAt, UsedAt, CalledAt, NotBuiltAt}
+use Rattle.isle_sema.specs.Scope.{Scope}
+use Rattle.isle_sema.specs.Site.{Site, IntegerAt, TruthAt}
 use Rattle.isle_sema.specs.Whole.{Whole, declared, has_constructor}
 use Rattle.isle_sema.specs.Whole as whole
 use Rattle.isle_sema.specs.PatternPass.{first_expected, later_expected}
 use Rattle.isle_sema.specs.ExprPass.{expr_pass, exprs_pass}
-use Rattle.isle_sema.specs.RuleRows.{differ, is_misplaced, is_other_type, is_call_misfit, is_unknown, is_mistyped, is_call_of}
+use Rattle.isle_sema.specs.RuleRows.{differ, is_misplaced, is_other_type, is_call_misfit, is_unknown, is_mistyped}
 use Rattle.isle_sema.specs.Context.{on}
+use Rattle.isle_sema.specs.Judging.{is_partial_call}
 use Rattle.isle_sema.specs.Environment.{whole_of}
-use Rattle.isle_sema.proofs.Firsts.{any_parts, any_from}
+use Rattle.isle_sema.proofs.Firsts.{any_parts}
 use Rattle.isle_sema.proofs.TypedConstants.{type_below}
 use Rattle.isle_sema.proofs.TypesNamed.{has_types, found_keeps, integers_at, truths_only, lifted, bound_lifted}
 use Rattle.isle_sema.proofs.TypedExprs.{named_is}
@@ -61,13 +65,6 @@ kept_parts all xs ys k =
     let u = any_parts (is_unknown (whole_of all)) xs ys k.known in
     let t = any_parts (is_mistyped (whole_of all)) xs ys k.typed in
     (record { placed = p.0; known = u.0; typed = t.0 }, record { placed = p.1; known = u.1; typed = t.1 })
-
-pub kept_both : (all : List Def) (xs ys : List Site) → AreKept all xs → AreKept all ys → AreKept all (xs ++ ys)
-kept_both all xs ys k l = record {
-  placed = any_from (is_misplaced (whole_of all)) xs ys k.placed l.placed;
-  known = any_from (is_unknown (whole_of all)) xs ys k.known l.known;
-  typed = any_from (is_mistyped (whole_of all)) xs ys k.typed l.typed;
-}
 
 -- ---- what is kept is not wrong
 
@@ -135,61 +132,6 @@ mutual
       let rest = exprs_taken all vars names es declared (omega arith) b.1 p.1 in
       record { right = or_from (is_wrong (signatures all) vars e (type_of name)) (any_wrong (signatures all) vars es (map type_of names)) first.right rest.right; made = and_from (calls_made all e) (all_call_made all es) first.made rest.made }
 
--- ---- and what is not wrong is kept
-
-used_kept : (ty : TypeId) (o : Option TypeId) → is_other o ty ≡ false → (not (is_some (option_map Some o)) || false ≡ false) × (is_other_type (option_map Some o) (Some ty) || false ≡ false)
-used_kept ty None h = absurd cc
-used_kept ty (Some of) h = (refl, or_from (not (of.0 == ty.0)) false h refl)
-
-call_kept : (all : List Def) (vars : List (List ℕ × TypeId)) (ty : TypeId) (name : List ℕ) (es : Exprs) (o : Option Signature) → on o names_no_type ≡ false → ((s : Signature) → o ≡ Some s → s.term ≡ name)
-    → is_miscalled o (count_of es) ty || any_wrong (signatures all) vars es (arg_types o) ≡ false → has_constructor (whole_of all) name && all_call_made all es ≡ true
-    → ((names : List (List ℕ)) → count_of es ≡ length names → AreTaken all vars (map type_of names) es → AreKept all (all_parts all vars (map type_of names) es))
-    → AreKept all (CalledAt (Some ty) o (count_of es) ∷ (exprs_pass (whole_of all) (lifted vars) (whole.arg_types (whole_of all) o) es).sites)
-call_kept all vars ty name es None declared named right made kept = absurd cc
-call_kept all vars ty name es (Some s) declared named right made kept =
-    let t = has_types s declared in
-    let r = or_parts (not (count_of es == length s.args) || not ((type_of s.ret).0 == ty.0)) (any_wrong (signatures all) vars es (map type_of s.args)) right in
-    let c = or_parts (not (count_of es == length s.args)) (not ((type_of s.ret).0 == ty.0)) r.0 in
-    let m = and_parts (has_constructor (whole_of all) name) (all_call_made all es) made in
-    let count = eqb-true (count_of es) (length s.args) (not-false (count_of es == length s.args) c.0) in
-    let sites = (exprs_pass (whole_of all) (lifted vars) (map builtin_named s.args) es).sites in
-    let a = subst (λ (os : List (Option TypeId)). AreKept all (exprs_pass (whole_of all) (lifted vars) os es).sites) (sym t.args) (kept s.args count (record { right = r.1; made = m.1 })) in
-    record {
-      placed = a.placed;
-      known = or_from (not (count_of es == length s.args) || not (has_constructor (whole_of all) s.term)) (list_any (is_unknown (whole_of all)) sites) (or_from (not (count_of es == length s.args)) (not (has_constructor (whole_of all) s.term)) c.0 (ap not (ap (has_constructor (whole_of all)) (named s refl) ∙ m.0))) a.known;
-      typed = or_from (differ (builtin_named s.ret) (Some ty)) (list_any (is_mistyped (whole_of all)) sites) (ap (λ o. differ o (Some ty)) t.ret ∙ c.1) a.typed;
-    }
-
-mutual
-  pub expr_kept : (all : List Def) (vars : List (List ℕ × TypeId)) (ty : TypeId) (e : Expr) → list_any names_no_type (signatures all) ≡ false → ty.0 < 13 → is_built_expr e ≡ true → IsTaken all vars ty e → AreKept all (parts all vars ty e)
-  expr_kept all vars ty (tree.Number n) declared below built t = record { placed = or_from (is_misplaced (whole_of all) (IntegerAt (Some ty))) false (integers_at all ty below ∙ t.right) refl; known = refl; typed = refl }
-  expr_kept all vars ty (tree.Fact b) declared below built t = record { placed = or_from (is_misplaced (whole_of all) (TruthAt (Some ty))) false (truths_only all ty below ∙ t.right) refl; known = refl; typed = refl }
-  expr_kept all vars ty (tree.Name name) declared below built t =
-      let u = used_kept ty (type_in vars name) t.right in
-      record {
-        placed = refl;
-        known = ap (λ (o : Option (Option TypeId)). not (is_some o) || false) (bound_lifted vars name) ∙ u.0;
-        typed = ap (λ (o : Option (Option TypeId)). is_other_type o (Some ty) || false) (bound_lifted vars name) ∙ u.1;
-      }
-  expr_kept all vars ty (tree.Constant name) declared below built t = absurd cc
-  expr_kept all vars ty (tree.Let ls inner) declared below built t = absurd cc
-  expr_kept all vars ty (tree.Call name es) declared below built t =
-      call_kept all vars ty name es (signature_named (signatures all) name) (found_keeps names_no_type (signatures all) name declared) (named_is (signatures all) name) t.right t.made
-      (λ names count taken. exprs_kept all vars names es declared count built taken)
-
-  pub exprs_kept : (all : List Def) (vars : List (List ℕ × TypeId)) (names : List (List ℕ)) (es : Exprs) → list_any names_no_type (signatures all) ≡ false → count_of es ≡ length names → are_built_exprs es ≡ true
-      → AreTaken all vars (map type_of names) es → AreKept all (all_parts all vars (map type_of names) es)
-  exprs_kept all vars [] NoExpr declared count built t = record { placed = refl; known = refl; typed = refl }
-  exprs_kept all vars (name ∷ names) NoExpr declared count built t = absurd (omega arith)
-  exprs_kept all vars [] (AnExpr e es) declared count built t = absurd (omega arith)
-  exprs_kept all vars (name ∷ names) (AnExpr e es) declared count built t =
-      let b = and_parts (is_built_expr e) (are_built_exprs es) built in
-      let r = or_parts (is_wrong (signatures all) vars e (type_of name)) (any_wrong (signatures all) vars es (map type_of names)) t.right in
-      let m = and_parts (calls_made all e) (all_call_made all es) t.made in
-      kept_both all (parts all vars (type_of name) e) (all_parts all vars (map type_of names) es)
-      (expr_kept all vars (type_of name) e declared (type_below name) b.0 (record { right = r.0; made = m.0 }))
-      (exprs_kept all vars names es declared (omega arith) b.1 (record { right = r.1; made = m.1 }))
-
 -- ---- what is called
 
 partial_on : (o : Option Signature) → on o (λ (t : Signature). t.partial) ≡ is_partial_named o
@@ -203,10 +145,6 @@ any_both test (x ∷ xs) ys = ap (λ b. test x || b) (any_both test xs ys) ∙ o
     or_in : (a b c : Bool) → (a || (b || c)) ≡ ((a || b) || c)
     or_in true b c = refl
     or_in false b c = refl
-
--- a partial call
-abbrev pub is_partial_call : Site → Bool
-is_partial_call = is_call_of (λ (t : Signature). t.partial)
 
 mutual
   pub partial_parts : (all : List Def) (scope : Scope) (ty : Option TypeId) (e : Expr) → list_any is_partial_call (expr_pass (whole_of all) scope ty e).sites ≡ calls_partial (signatures all) e
@@ -225,30 +163,6 @@ mutual
       any_both is_partial_call (expr_pass (whole_of all) scope (first_expected tys) e).sites (exprs_pass (whole_of all) scope (later_expected tys) es).sites
       ∙ ap (λ b. b || list_any is_partial_call (exprs_pass (whole_of all) scope (later_expected tys) es).sites) (partial_parts all scope (first_expected tys) e)
       ∙ ap (λ b. calls_partial (signatures all) e || b) (all_partial_parts all scope (later_expected tys) es)
-
--- a row that is only about calls of which no declaration has this
-pub record IsCalm (all : List Def) (test : Site → Bool) : Type 0 where
-  pub of_integer : (e : Option TypeId) → test (IntegerAt e) ≡ false
-  pub of_truth : (e : Option TypeId) → test (TruthAt e) ≡ false
-  pub of_variable : (e : Option TypeId) (b : Option (Option TypeId)) → test (UsedAt e b) ≡ false
-  pub of_call : (e : Option TypeId) (name : List ℕ) (count : ℕ) → test (CalledAt e (signature_named (signatures all) name) count) ≡ false
-  pub of_others : test NotBuiltAt ≡ false
-
-mutual
-  pub expr_calm : (all : List Def) (test : Site → Bool) → IsCalm all test → (scope : Scope) (ty : Option TypeId) (e : Expr) → list_any test (expr_pass (whole_of all) scope ty e).sites ≡ false
-  expr_calm all test q scope ty (tree.Number n) = or_from (test (IntegerAt ty)) false (q.of_integer ty) refl
-  expr_calm all test q scope ty (tree.Fact b) = or_from (test (TruthAt ty)) false (q.of_truth ty) refl
-  expr_calm all test q scope ty (tree.Name name) = or_from (test (UsedAt ty (bound_at scope name))) false (q.of_variable ty (bound_at scope name)) refl
-  expr_calm all test q scope ty (tree.Constant name) = or_from (test NotBuiltAt) false q.of_others refl
-  expr_calm all test q scope ty (tree.Let ls inner) = or_from (test NotBuiltAt) false q.of_others refl
-  expr_calm all test q scope ty (tree.Call name es) =
-      let o = signature_named (signatures all) name in
-      or_from (test (CalledAt ty o (count_of es))) (list_any test (exprs_pass (whole_of all) scope (whole.arg_types (whole_of all) o) es).sites) (q.of_call ty name (count_of es)) (exprs_calm all test q scope (whole.arg_types (whole_of all) o) es)
-
-  exprs_calm : (all : List Def) (test : Site → Bool) → IsCalm all test → (scope : Scope) (tys : List (Option TypeId)) (es : Exprs) → list_any test (exprs_pass (whole_of all) scope tys es).sites ≡ false
-  exprs_calm all test q scope tys NoExpr = refl
-  exprs_calm all test q scope tys (AnExpr e es) =
-      any_from test (expr_pass (whole_of all) scope (first_expected tys) e).sites (exprs_pass (whole_of all) scope (later_expected tys) es).sites (expr_calm all test q scope (first_expected tys) e) (exprs_calm all test q scope (later_expected tys) es)
 
 -- ---- how many there are
 

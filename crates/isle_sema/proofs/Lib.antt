@@ -1,3 +1,6 @@
+pub mod RightSides
+pub mod Trees
+pub mod Wrong
 pub mod Decided
 pub mod Parts
 pub mod SymbolLaws
@@ -12,12 +15,12 @@ pub mod TypedExprs
 pub mod Firsts
 pub mod TermFaults
 pub mod TypesNamed
-pub mod Resolving
+pub mod TypedNames
 pub mod PatternSites
 pub mod ExprSites
 pub mod RuleFaults
 pub mod RuleTrees
-pub mod Soundness
+pub mod BuiltForms
 pub mod Deciding
 pub mod TypedOnce
 pub mod TypedRules
@@ -37,4 +40,6 @@ pub mod KnownLaws
 pub mod VariableLaws
 pub mod Steps
 pub mod Placing
-pub mod TermEnvs
+pub mod Judgements
+pub mod RuleLaws
+pub mod Givings

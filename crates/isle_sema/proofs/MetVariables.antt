@@ -5,7 +5,7 @@ use Rattle.std.proofs.lemmas.List.{drop_more}
 use Rattle.isle_syntax.specs.declared.tree.AstPattern.{AstPattern}
 use Rattle.isle_syntax.specs.Views.{pattern}
 use Rattle.isle_sema.specs.Symbols.{pattern_names}
-use Rattle.isle_sema.specs.Refused.{repeats_after}
+use Rattle.isle_sema.specs.Repeats.{repeats_after}
 
 -- the names of the patterns from the i-th on
 abbrev pub names_from : ℕ → List AstPattern → List (List ℕ)

@@ -10,7 +10,7 @@ use Rattle.std.proofs.lemmas.Slice.Eq.{bytes_eq-Decides}
 use Rattle.isle_sema.specs.Symbols.{index_of, added}
 use Rattle.isle_sema.specs.Signatures.{Extern, RuleDef, func_named, has_rule}
 use Rattle.isle_sema.specs.Heads.{heads_of, extern_terms}
-use Rattle.isle_sema.specs.Refused.{repeats_after}
+use Rattle.isle_sema.specs.Repeats.{repeats_after}
 use Rattle.isle_sema.specs.Numbered.{place_of, repeat_after, repeat_numbers, place_in, joined, ArePlaces, HasPlaces, AreNumbered}
 use Rattle.isle_sema.specs.Tables.{IsTable}
 use Rattle.isle_sema.proofs.DeclaredNames.{stands, kept}

@@ -9,8 +9,9 @@ use Rattle.isle_core.specs.Rule.{Rule, Environment, rules_of}
 use Rattle.isle_syntax.specs.Tree.{Def}
 use Rattle.isle_sema.specs.Symbols.{index_of, symbols}
 use Rattle.isle_sema.specs.Signatures.{Signature, Extern, RuleDef, signatures, externs, rule_defs, term_named, func_named, signature_named}
-use Rattle.isle_sema.specs.Elaborated.{term_or, rule_over, rules_from}
-use Rattle.isle_sema.specs.Refused.{repeats_after, breaks, rules_fault}
+use Rattle.isle_sema.proofs.Trees.{term_or, rule_over, rules_from}
+use Rattle.isle_sema.specs.Repeats.{repeats_after}
+use Rattle.isle_sema.proofs.Wrong.{breaks, rules_fault}
 use Rattle.isle_sema.specs.Heads.{terms_of, heads_of}
 use Rattle.isle_sema.specs.Typing.{Typed}
 use Rattle.isle_sema.proofs.Deciding.{decided}

@@ -1,23 +1,24 @@
 -- The parts of a rule's patterns: which rows they break, the variables after them, and their trees.
-use Rattle.std.proofs.Common.{◌≡◌, ℕ, suc, Bool, false, List, [], ◌∷◌, ◌++◌, length, map, Option, Some, None, refl, sym, ap, ◌∙◌, arith}
+use Rattle.std.proofs.Common.{◌≡◌, ℕ, suc, false, List, [], ◌∷◌, ◌++◌, length, map, Option, Some, None, refl, sym, ap, ◌∙◌, arith}
 use Rattle.std.specs.Prelude.{◌==◌, ◌||◌, not, is_some, option_map, flat_map}
 use Rattle.std.specs.List.{AllByRecursion, list_any}
-use Rattle.std.proofs.lemmas.Bool.{or_parts, or_from}
+use Rattle.std.proofs.lemmas.Bool.{or_parts}
 use Rattle.std.proofs.lemmas.List.{append-nil, append_assoc}
 use Rattle.isle_core.specs.declared.TypeId.{TypeId}
 use Rattle.isle_syntax.specs.Tree as tree
 use Rattle.isle_syntax.specs.Tree.{Pattern, Def}
 use Rattle.isle_sema.specs.Symbols.{index_of, pattern_names}
-use Rattle.isle_sema.specs.Refused.{repeats_after, any_misplaced, typed_vars, type_in}
-use Rattle.isle_sema.specs.Resolved.{names_of}
+use Rattle.isle_sema.specs.Repeats.{repeats_after}
+use Rattle.isle_sema.proofs.Wrong.{any_misplaced, typed_vars, type_in}
+use Rattle.isle_sema.proofs.Wrong.{names_of}
 use Rattle.isle_sema.specs.Scope.{Scope, bound_at, met, met_by}
-use Rattle.isle_sema.specs.Site.{Site, IntegerAt, TruthAt, WildcardAt, MetAt, NotBuiltAt}
+use Rattle.isle_sema.specs.Site.{Site}
 use Rattle.isle_sema.specs.Whole.{Whole}
 use Rattle.isle_sema.specs.PatternPass.{patterns_pass}
-use Rattle.isle_sema.specs.RuleRows.{is_misplaced, is_met_otherwise, is_other_type}
+use Rattle.isle_sema.specs.RuleRows.{is_misplaced}
 use Rattle.isle_sema.specs.Environment.{whole_of}
 use Rattle.isle_sema.proofs.TypesNamed.{IsBelow, integers_at, truths_only, lifted, bound_lifted, lifted_more}
-use Rattle.isle_sema.proofs.Resolving.{same_there}
+use Rattle.isle_sema.proofs.TypedNames.{same_there}
 
 -- the pass over patterns where these types are expected
 abbrev pub sites_in : Whole → List TypeId → Scope → List Pattern → List Site
@@ -40,32 +41,6 @@ patterns_misplaced all (ty ∷ tys) scope (tree.Const name ∷ ps) below same = 
 patterns_misplaced all (ty ∷ tys) scope (tree.Bind name p ∷ ps) below same = patterns_misplaced all tys scope ps below.1 (omega arith)
 patterns_misplaced all (ty ∷ tys) scope (tree.And qs ∷ ps) below same = patterns_misplaced all tys scope ps below.1 (omega arith)
 patterns_misplaced all (ty ∷ tys) scope (tree.Term name qs ∷ ps) below same = patterns_misplaced all tys scope ps below.1 (omega arith)
-
--- a row that is not about patterns
-pub record IsQuiet (test : Site → Bool) : Type 0 where
-  pub of_integer : (e : Option TypeId) → test (IntegerAt e) ≡ false
-  pub of_truth : (e : Option TypeId) → test (TruthAt e) ≡ false
-  pub of_wildcard : test WildcardAt ≡ false
-  pub of_variable : (e : Option TypeId) (b : Option (Option TypeId)) → test (MetAt e b) ≡ false
-  pub of_others : test NotBuiltAt ≡ false
-
--- no pattern breaks it
-quiet_first : (w : Whole) (test : Site → Bool) → IsQuiet test → (ty : Option TypeId) (tys : List (Option TypeId)) (scope : Scope) (p : Pattern) (ps : List Pattern) → ((more : Scope) → list_any test (patterns_pass w tys more ps).sites ≡ false)
-    → list_any test (patterns_pass w (ty ∷ tys) scope (p ∷ ps)).sites ≡ false
-quiet_first w test q ty tys scope (tree.Int n) ps h = or_from (test (IntegerAt ty)) (list_any test (patterns_pass w tys scope ps).sites) (q.of_integer ty) (h scope)
-quiet_first w test q ty tys scope (tree.Truth b) ps h = or_from (test (TruthAt ty)) (list_any test (patterns_pass w tys scope ps).sites) (q.of_truth ty) (h scope)
-quiet_first w test q ty tys scope tree.Wildcard ps h = or_from (test WildcardAt) (list_any test (patterns_pass w tys scope ps).sites) q.of_wildcard (h scope)
-quiet_first w test q ty tys scope (tree.Var name) ps h = or_from (test (MetAt ty (bound_at scope name))) (list_any test (patterns_pass w tys (met scope name ty) ps).sites) (q.of_variable ty (bound_at scope name)) (h (met scope name ty))
-quiet_first w test q ty tys scope (tree.Const name) ps h = or_from (test NotBuiltAt) (list_any test (patterns_pass w tys scope ps).sites) q.of_others (h scope)
-quiet_first w test q ty tys scope (tree.Bind name p) ps h = or_from (test NotBuiltAt) (list_any test (patterns_pass w tys scope ps).sites) q.of_others (h scope)
-quiet_first w test q ty tys scope (tree.And qs) ps h = or_from (test NotBuiltAt) (list_any test (patterns_pass w tys scope ps).sites) q.of_others (h scope)
-quiet_first w test q ty tys scope (tree.Term name qs) ps h = or_from (test NotBuiltAt) (list_any test (patterns_pass w tys scope ps).sites) q.of_others (h scope)
-
-pub patterns_quiet : (w : Whole) (test : Site → Bool) → IsQuiet test → (tys : List TypeId) (scope : Scope) (ps : List Pattern) → length ps ≡ length tys → list_any test (sites_in w tys scope ps) ≡ false
-patterns_quiet w test q [] scope [] same = refl
-patterns_quiet w test q [] scope (p ∷ ps) same = absurd (omega arith)
-patterns_quiet w test q (ty ∷ tys) scope [] same = absurd (omega arith)
-patterns_quiet w test q (ty ∷ tys) scope (p ∷ ps) same = quiet_first w test q (Some ty) (map Some tys) scope p ps (λ more. patterns_quiet w test q tys more ps (omega arith))
 
 -- each pattern is one part
 pub patterns_count : (w : Whole) (tys : List TypeId) (scope : Scope) (ps : List Pattern) → length ps ≡ length tys → length (sites_in w tys scope ps) ≡ length ps
@@ -104,23 +79,6 @@ names_more (v ∷ vars) name ty = ap (λ ns. v.0 ∷ ns) (names_more vars name t
 -- what is left does not repeat
 pub left_apart : (vars : List (List ℕ × TypeId)) (name : List ℕ) (ty : TypeId) (names : List (List ℕ)) → repeats_after (names_of vars ++ name ∷ []) names ≡ false → repeats_after (names_of (vars ++ (name, ty) ∷ [])) names ≡ false
 left_apart vars name ty names h = ap (λ ns. repeats_after ns names) (names_more vars name ty) ∙ h
-
--- no variable is met at another type
-pub patterns_once : (w : Whole) (tys : List TypeId) (vars : List (List ℕ × TypeId)) (ps : List Pattern) → length ps ≡ length tys → repeats_after (names_of vars) (flat_map pattern_names ps) ≡ false → list_any is_met_otherwise (sites_in w tys (lifted vars) ps) ≡ false
-patterns_once w [] vars [] same h = refl
-patterns_once w [] vars (p ∷ ps) same h = absurd (omega arith)
-patterns_once w (ty ∷ tys) vars [] same h = absurd (omega arith)
-patterns_once w (ty ∷ tys) vars (tree.Var name ∷ ps) same h =
-    let k = or_parts (is_some (index_of (names_of vars) name)) (repeats_after (names_of vars ++ name ∷ []) (flat_map pattern_names ps)) h in
-    or_from (is_other_type (bound_at (lifted vars) name) (Some ty)) (list_any is_met_otherwise (sites_in w tys (met (lifted vars) name (Some ty)) ps)) (ap (λ o. is_other_type o (Some ty)) (new_unbound vars name k.0))
-    (ap (λ sc. list_any is_met_otherwise (sites_in w tys sc ps)) (met_new vars name ty k.0) ∙ patterns_once w tys (vars ++ (name, ty) ∷ []) ps (omega arith) (left_apart vars name ty (flat_map pattern_names ps) k.1))
-patterns_once w (ty ∷ tys) vars (tree.Int n ∷ ps) same h = patterns_once w tys vars ps (omega arith) h
-patterns_once w (ty ∷ tys) vars (tree.Truth b ∷ ps) same h = patterns_once w tys vars ps (omega arith) h
-patterns_once w (ty ∷ tys) vars (tree.Wildcard ∷ ps) same h = patterns_once w tys vars ps (omega arith) h
-patterns_once w (ty ∷ tys) vars (tree.Const name ∷ ps) same h = patterns_once w tys vars ps (omega arith) h
-patterns_once w (ty ∷ tys) vars (tree.Bind name p ∷ ps) same h = patterns_once w tys vars ps (omega arith) h
-patterns_once w (ty ∷ tys) vars (tree.And qs ∷ ps) same h = patterns_once w tys vars ps (omega arith) h
-patterns_once w (ty ∷ tys) vars (tree.Term name qs ∷ ps) same h = patterns_once w tys vars ps (omega arith) h
 
 -- the variables after patterns that bind none twice
 pub patterns_scope : (w : Whole) (tys : List TypeId) (vars : List (List ℕ × TypeId)) (ps : List Pattern) → length ps ≡ length tys → repeats_after (names_of vars) (flat_map pattern_names ps) ≡ false

@@ -1,20 +1,21 @@
 -- What stands at a place has its number, and a term is found by its number.
 use Rattle.std.proofs.Common.{◌≡◌, ℕ, ◌+◌, ◌<◌, Bool, true, false, cond, List, [], ◌∷◌, ◌++◌, length, map, get_or, take, Option, Some, None, refl, sym, ap, ◌∙◌}
 use Rattle.std.specs.Prelude.{◌||◌, not, is_some, option_map, slice_get, drop}
-use Rattle.std.specs.List.{find}
+use Rattle.std.specs.List.{find, list_any}
 use Rattle.std.specs.Str.{bytes_eq}
 use Rattle.std.proofs.lemmas.Option.{same_Some, slice_get-map, slice_get-get_or}
 use Rattle.std.proofs.lemmas.List.{drop_more, take_more, map-append}
 use Rattle.isle_sema.specs.declared.collected.Extern.{Extern as CodeExtern}
+use Rattle.isle_sema.specs.declared.collected.RuleDef.{RuleDef as CodeRule}
 use Rattle.isle_sema.specs.Symbols.{index_of, number_or}
 use Rattle.isle_sema.specs.Signatures.{Signature, Extern, RuleDef, func_named, has_rule, signature_named}
-use Rattle.isle_sema.specs.Collected.{extern}
+use Rattle.isle_sema.specs.Collected.{extern, rule}
 use Rattle.isle_sema.specs.Heads.{terms_of, extern_terms, heads_of}
 use Rattle.isle_sema.specs.Numbered.{AreNumbered, place_in}
-use Rattle.isle_sema.specs.Sound.{has_undeclared}
+use Rattle.isle_sema.specs.Tests.{has_undeclared, is_headless}
 use Rattle.isle_sema.specs.Tables.{HasFirsts}
 use Rattle.isle_sema.proofs.LookUps.{at_place, func_at}
-use Rattle.isle_sema.proofs.NumberLaws.{has_head, map_seen}
+use Rattle.isle_sema.proofs.NumberLaws.{has_head, has_func, map_seen}
 use Rattle.isle_sema.proofs.KnownLaws.{seen_alike}
 
 -- what stands at a place has the number of its name
@@ -79,3 +80,14 @@ undeclared_more sigs syms table xs i x d found t h lt is at =
     let number = item_number (λ (x : CodeExtern). x.term.now) (λ (x : CodeExtern). x.number) syms xs i x d h lt is in
     let known : is_some (signature_named sigs x.term.now) ≡ found = has_signature sigs x.term.now ∙ ap is_some (t.firsts x.term.now) ∙ ap (λ o. is_some (place_in table o)) number ∙ at in
     ap (λ ys. has_undeclared sigs (map extern ys)) (drop_more xs i d lt ∙ ap (λ y. y ∷ drop (i + 1) xs) (sym is)) ∙ ap (λ b. not b || has_undeclared sigs (map extern (drop (i + 1) xs))) known
+
+-- one rule more
+pub headless_more : (sigs : List Signature) (xs : List Extern) (syms : List (List ℕ)) (declared external : List (Option ℕ)) (rs : List CodeRule) (i : ℕ) (r d : CodeRule) (found given : Bool) → HasFirsts syms (terms_of sigs) declared → HasFirsts syms (extern_terms xs) external
+    → AreNumbered syms (map (λ (r : CodeRule). r.term.now) rs) (map (λ (r : CodeRule). r.number) rs) → i < length rs → r ≡ get_or rs i d → is_some (place_in declared (Some r.number)) ≡ found → is_some (place_in external (Some r.number)) ≡ given
+    → list_any (is_headless sigs xs) (map rule (drop i rs)) ≡ (not found || given) || list_any (is_headless sigs xs) (map rule (drop (i + 1) rs))
+headless_more sigs xs syms declared external rs i r d found given t u h lt is at by =
+    let number = item_number (λ (r : CodeRule). r.term.now) (λ (r : CodeRule). r.number) syms rs i r d h lt is in
+    let known : is_some (signature_named sigs r.term.now) ≡ found = has_signature sigs r.term.now ∙ ap is_some (t.firsts r.term.now) ∙ ap (λ o. is_some (place_in declared o)) number ∙ at in
+    let made : is_some (func_named xs r.term.now) ≡ given = has_func xs r.term.now ∙ ap is_some (u.firsts r.term.now) ∙ ap (λ o. is_some (place_in external o)) number ∙ by in
+    let rest = list_any (is_headless sigs xs) (map rule (drop (i + 1) rs)) in
+    ap (λ ys. list_any (is_headless sigs xs) (map rule ys)) (drop_more rs i d lt ∙ ap (λ y. y ∷ drop (i + 1) rs) (sym is)) ∙ ap (λ b. (not b || is_some (func_named xs r.term.now)) || rest) known ∙ ap (λ b. (not found || b) || rest) made

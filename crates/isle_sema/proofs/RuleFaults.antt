@@ -1,5 +1,5 @@
 -- The rows of rules are kept where the code takes them.
-use Rattle.std.proofs.Common.{◌≡◌, ℕ, ◌+◌, Bool, true, false, cond, List, [], ◌∷◌, ◌++◌, length, map, Option, Some, None, refl, sym, ap, ◌∙◌, subst}
+use Rattle.std.proofs.Common.{◌≡◌, ℕ, ◌+◌, Bool, true, false, List, [], ◌∷◌, ◌++◌, length, map, Option, Some, None, refl, sym, ap, ◌∙◌, subst}
 use Rattle.std.specs.Prelude.{ℤ, ◌==◌, ◌&&◌, ◌||◌, not, is_some, flat_map, nat_le}
 use Rattle.isle_core.specs.declared.position.Pos.{Pos}
 use Rattle.std.specs.List.{list_all, list_any}
@@ -11,36 +11,31 @@ use Rattle.isle_syntax.specs.Tree.{Pattern, Expr, Def}
 use Rattle.isle_sema.specs.Symbols.{pattern_names}
 use Rattle.isle_sema.specs.Signatures.{Signature, RuleDef, signatures, externs, rule_defs, signature_named, func_named}
 use Rattle.isle_sema.specs.Elaborated.{type_of}
-use Rattle.isle_sema.specs.Calls.{calls_partial, nodes}
-use Rattle.isle_sema.specs.Refused.{repeats, names_no_type, any_misplaced, typed_vars, is_wrong, is_rhs_wrong, is_too_large, breaks, rules_fault}
+use Rattle.isle_sema.proofs.RightSides.{calls_partial, nodes}
+use Rattle.isle_sema.specs.Repeats.{repeats}
+use Rattle.isle_sema.proofs.Wrong.{names_no_type}
+use Rattle.isle_sema.proofs.Wrong.{any_misplaced, typed_vars, is_wrong, is_rhs_wrong, is_too_large, breaks, rules_fault}
 use Rattle.isle_sema.specs.Language.{is_built_def, is_built_expr, is_built_pattern, are_none}
-use Rattle.isle_sema.specs.Row as row
 use Rattle.isle_sema.specs.Row.{Row}
 use Rattle.isle_sema.specs.Scope.{Scope}
 use Rattle.isle_sema.specs.Site.{Site}
 use Rattle.isle_sema.specs.Whole as whole
 use Rattle.isle_sema.specs.PatternPass.{patterns_pass}
 use Rattle.isle_sema.specs.ExprPass.{expr_pass}
-use Rattle.isle_sema.specs.RuleRows.{is_misplaced, is_met_otherwise, is_unknown, is_mistyped, is_call_of}
+use Rattle.isle_sema.specs.RuleRows.{is_misplaced, is_met_otherwise, is_unknown, is_mistyped}
 use Rattle.isle_sema.specs.Context.{on}
 use Rattle.isle_sema.specs.Fault.{OfRules, broken_in, fault_after}
 use Rattle.isle_sema.specs.Environment.{whole_of}
-use Rattle.isle_sema.proofs.Firsts.{later_none, none_later, any_from}
+use Rattle.isle_sema.proofs.Firsts.{later_none}
 use Rattle.isle_sema.proofs.TypedConstants.{type_below}
 use Rattle.isle_sema.proofs.TypesNamed.{all_below, HasTypesOf, has_types, found_keeps, lifted}
-use Rattle.isle_sema.proofs.PatternSites.{IsQuiet, sites_in, patterns_misplaced, patterns_quiet, patterns_count, patterns_once, patterns_scope}
-use Rattle.isle_sema.proofs.ExprSites.{parts, calls_made, AreKept, kept_parts, kept_both, expr_taken, expr_kept, is_partial_call, partial_parts, IsCalm, expr_calm, expr_count}
+use Rattle.isle_sema.proofs.PatternSites.{sites_in, patterns_misplaced, patterns_count, patterns_scope}
+use Rattle.isle_sema.specs.Judging.{is_partial_call, is_impure_call, is_multi_call}
+use Rattle.isle_sema.proofs.Judgements.{tests}
+use Rattle.isle_sema.proofs.ExprSites.{parts, calls_made, AreKept, kept_parts, expr_taken, partial_parts, expr_count}
 use Rattle.isle_sema.proofs.TermFaults.{is_headless}
 
 -- ---- the tests of a rule
-
--- a call of a term that is not `pure`
-abbrev pub is_impure_call : Site → Bool
-is_impure_call = is_call_of (λ (t : Signature). not t.pure)
-
--- a call of a `multi` term
-abbrev pub is_multi_call : Site → Bool
-is_multi_call = is_call_of (λ (t : Signature). t.multi)
 
 -- the parts of a rule's patterns and of its right side break no row under this declaration
 pub record IsRuleKept (all : List Def) (s : Signature) (ps rs : List Site) : Type 0 where
@@ -50,12 +45,6 @@ pub record IsRuleKept (all : List Def) (s : Signature) (ps rs : List Site) : Typ
   pub impure : s.pure && list_any is_impure_call rs ≡ false
   pub multi : not s.multi && list_any is_multi_call (ps ++ rs) ≡ false
   pub small : not (nat_le (length (ps ++ rs)) 4096) ≡ false
-
--- nine tests in order
-abbrev pub tests : (a b c d e f g h i : Bool) → Option Row
-tests a b c d e f g h i =
-    cond a (Some row.PatternTermMisfit) (cond b (Some row.LiteralMisfit) (cond c (Some row.VariableTypeMisfit) (cond d (Some row.ExprNameMisfit) (cond e (Some row.ExprTypeMisfit)
-    (cond f (Some row.PartialCall) (cond g (Some row.ImpureCall) (cond h (Some row.MultiCall) (cond i (Some row.ManyNodes) None))))))))
 
 pub record AllFail (a b c d e f g h i : Bool) : Type 0 where
   pub arity : a ≡ false
@@ -80,13 +69,6 @@ tests_fail false false false false false false false true i none = absurd cc
 tests_fail false false false false false false false false true none = absurd cc
 tests_fail false false false false false false false false false none = record { arity = refl; literal = refl; met = refl; name = refl; typing = refl; partial = refl; impure = refl; multi = refl; size = refl }
 
-fail_tests : (a b c d e f g h i : Bool) → AllFail a b c d e f g h i → tests a b c d e f g h i ≡ None
-fail_tests a b c d e f g h i k =
-    ap (λ x. tests x b c d e f g h i) k.arity ∙ ap (λ x. tests false x c d e f g h i) k.literal ∙ ap (λ x. tests false false x d e f g h i) k.met
-    ∙ ap (λ x. tests false false false x e f g h i) k.name ∙ ap (λ x. tests false false false false x f g h i) k.typing ∙ ap (λ x. tests false false false false false x g h i) k.partial
-    ∙ ap (λ x. tests false false false false false false x h i) k.impure ∙ ap (λ x. tests false false false false false false false x i) k.multi
-    ∙ ap (λ x. tests false false false false false false false false x) k.size
-
 -- ---- under the types of a declaration
 
 -- the parts of the patterns, and of the right side
@@ -110,13 +92,6 @@ seen_from all s args rhs t same apart k =
     let a = subst (λ (xs : List (Option TypeId)). IsRuleKept all s (pattern_parts all xs args) (rhs_parts all xs (whole.ret_type (whole_of all) (Some s)) args rhs)) t.args k in
     let b = subst (λ (x : Option TypeId). IsRuleKept all s (pattern_parts all (map Some tys) args) (rhs_parts all (map Some tys) x args rhs)) t.ret a in
     subst (λ (scope : Scope). IsRuleKept all s (pattern_parts all (map Some tys) args) (expr_pass (whole_of all) scope (Some (type_of s.ret)) rhs).sites) (patterns_scope (whole_of all) tys [] args same apart) b
-
-kept_from : (all : List Def) (s : Signature) (args : List Pattern) (rhs : Expr) → HasTypesOf s → length args ≡ length (map type_of s.args) → repeats (flat_map pattern_names args) ≡ false → IsSeen all s args rhs → IsKeptAt all s args rhs
-kept_from all s args rhs t same apart k =
-    let tys = map type_of s.args in
-    let a = subst (λ (scope : Scope). IsRuleKept all s (pattern_parts all (map Some tys) args) (expr_pass (whole_of all) scope (Some (type_of s.ret)) rhs).sites) (sym (patterns_scope (whole_of all) tys [] args same apart)) k in
-    let b = subst (λ (x : Option TypeId). IsRuleKept all s (pattern_parts all (map Some tys) args) (rhs_parts all (map Some tys) x args rhs)) (sym t.ret) a in
-    subst (λ (xs : List (Option TypeId)). IsRuleKept all s (pattern_parts all xs args) (rhs_parts all xs (whole.ret_type (whole_of all) (Some s)) args rhs)) (sym t.args) b
 
 -- how many parts there are
 counted : (all : List Def) (s : Signature) (args : List Pattern) (rhs : Expr) → length args ≡ length (map type_of s.args)
@@ -146,60 +121,6 @@ seen_taken all r s declared built arity same k =
       taken.made,
     )
 
--- what all declarations of built forms keep
-pub record ArePlain (all : List Def) : Type 0 where
-  pub pure : list_any (λ (s : Signature). s.pure) (signatures all) ≡ false
-  pub multi : list_any (λ (s : Signature). s.multi) (signatures all) ≡ false
-
-misplaced_quiet : (all : List Def) → IsQuiet (is_unknown (whole_of all))
-misplaced_quiet all = record { of_integer = λ e. refl; of_truth = λ e. refl; of_wildcard = refl; of_variable = λ e b. refl; of_others = refl }
-
-mistyped_quiet : (all : List Def) → IsQuiet (is_mistyped (whole_of all))
-mistyped_quiet all = record { of_integer = λ e. refl; of_truth = λ e. refl; of_wildcard = refl; of_variable = λ e b. refl; of_others = refl }
-
-multi_quiet : IsQuiet is_multi_call
-multi_quiet = record { of_integer = λ e. refl; of_truth = λ e. refl; of_wildcard = refl; of_variable = λ e b. refl; of_others = refl }
-
-multi_calm : (all : List Def) → ArePlain all → IsCalm all is_multi_call
-multi_calm all plain = record { of_integer = λ e. refl; of_truth = λ e. refl; of_variable = λ e b. refl; of_call = λ e name count. found_keeps (λ (t : Signature). t.multi) (signatures all) name plain.multi; of_others = refl }
-
-met_calm : (all : List Def) → IsCalm all is_met_otherwise
-met_calm all = record { of_integer = λ e. refl; of_truth = λ e. refl; of_variable = λ e b. refl; of_call = λ e name count. refl; of_others = refl }
-
-right_false : (a b : Bool) → b ≡ false → a && b ≡ false
-right_false true b h = h
-right_false false b h = refl
-
-left_false : (a b : Bool) → a ≡ false → a && b ≡ false
-left_false true b h = absurd cc
-left_false false b h = refl
-
--- and one that is taken keeps them
-taken_seen : (all : List Def) (r : RuleDef) (s : Signature) → list_any names_no_type (signatures all) ≡ false → ArePlain all → s.pure ≡ false → is_built_expr r.rhs ≡ true → repeats (flat_map pattern_names r.args) ≡ false
-    → length r.args ≡ length (map type_of s.args) → breaks (signatures all) r (Some s) ≡ false → calls_made all r.rhs ≡ true → IsSeen all s r.args r.rhs
-taken_seen all r s declared plain pure built apart same right made =
-    let tys = map type_of s.args in
-    let vars = typed_vars r.args tys in
-    let ps = sites_in (whole_of all) tys [] r.args in
-    let rs = parts all vars (type_of s.ret) r.rhs in
-    let k = or_parts (not (length r.args == length s.args) || any_misplaced r.args tys || is_rhs_wrong (signatures all) r s) (is_too_large r) right in
-    let l = or_parts (not (length r.args == length s.args) || any_misplaced r.args tys) (is_rhs_wrong (signatures all) r s) k.0 in
-    let m = or_parts (not (length r.args == length s.args)) (any_misplaced r.args tys) l.0 in
-    let h = or_parts (is_wrong (signatures all) vars r.rhs (type_of s.ret)) (not s.partial && calls_partial (signatures all) r.rhs) l.1 in
-    let first : AreKept all ps = record {
-      placed = patterns_misplaced all tys [] r.args (all_below s.args) same ∙ m.1;
-      known = patterns_quiet (whole_of all) (is_unknown (whole_of all)) (misplaced_quiet all) tys [] r.args same;
-      typed = patterns_quiet (whole_of all) (is_mistyped (whole_of all)) (mistyped_quiet all) tys [] r.args same;
-    } in
-    record {
-      kept = kept_both all ps rs first (expr_kept all vars (type_of s.ret) r.rhs declared (type_below s.ret) built (record { right = h.0; made = made }));
-      met = any_from is_met_otherwise ps rs (patterns_once (whole_of all) tys [] r.args same apart) (expr_calm all is_met_otherwise (met_calm all) (lifted vars) (Some (type_of s.ret)) r.rhs);
-      partial = ap (λ b. not s.partial && b) (partial_parts all (lifted vars) (Some (type_of s.ret)) r.rhs) ∙ h.1;
-      impure = left_false s.pure (list_any is_impure_call rs) pure;
-      multi = right_false (not s.multi) (list_any is_multi_call (ps ++ rs)) (any_from is_multi_call ps rs (patterns_quiet (whole_of all) is_multi_call multi_quiet tys [] r.args same) (expr_calm all is_multi_call (multi_calm all plain) (lifted vars) (Some (type_of s.ret)) r.rhs));
-      small = ap (λ n. not (nat_le n 4096)) (counted all s r.args r.rhs same) ∙ k.1;
-    }
-
 -- ---- a rule under what declares its head
 
 -- the rule's tests, whatever declares its head
@@ -226,22 +147,6 @@ rule_taken all r (Some s) declared typed here built apart h =
     let same = as_many r s arity in
     let at : IsKeptAt all s r.args r.rhs = record { kept = record { placed = f.literal; known = f.name; typed = f.typing }; met = f.met; partial = f.partial; impure = f.impure; multi = f.multi; small = f.size } in
     seen_taken all r s declared built arity same (seen_from all s r.args r.rhs (has_types s typed) same apart at)
-
-rule_none : (all : List Def) (r : RuleDef) (o : Option Signature) → list_any names_no_type (signatures all) ≡ false → ArePlain all → on o names_no_type ≡ false → on o (λ (s : Signature). s.pure) ≡ false → is_built_expr r.rhs ≡ true → repeats (flat_map pattern_names r.args) ≡ false
-    → breaks (signatures all) r o ≡ false → calls_made all r.rhs ≡ true → rule_tests all r o ≡ None
-rule_none all r None declared plain typed pure built apart right made = absurd cc
-rule_none all r (Some s) declared plain typed pure built apart right made =
-    let ps = pattern_parts all (whole.arg_types (whole_of all) (Some s)) r.args in
-    let rs = rhs_parts all (whole.arg_types (whole_of all) (Some s)) (whole.ret_type (whole_of all) (Some s)) r.args r.rhs in
-    let tys = map type_of s.args in
-    let k = or_parts (not (length r.args == length s.args) || any_misplaced r.args tys || is_rhs_wrong (signatures all) r s) (is_too_large r) right in
-    let l = or_parts (not (length r.args == length s.args) || any_misplaced r.args tys) (is_rhs_wrong (signatures all) r s) k.0 in
-    let m = or_parts (not (length r.args == length s.args)) (any_misplaced r.args tys) l.0 in
-    let same = as_many r s (not-false (length r.args == length s.args) m.0) in
-    let at = kept_from all s r.args r.rhs (has_types s typed) same apart (taken_seen all r s declared plain pure built apart same right made) in
-    fail_tests (not (length r.args == length s.args)) (list_any (is_misplaced (whole_of all)) (ps ++ rs)) (list_any is_met_otherwise (ps ++ rs)) (list_any (is_unknown (whole_of all)) (ps ++ rs)) (list_any (is_mistyped (whole_of all)) (ps ++ rs))
-    (not s.partial && list_any is_partial_call rs) (s.pure && list_any is_impure_call rs) (not s.multi && list_any is_multi_call (ps ++ rs)) (not (nat_le (length (ps ++ rs)) 4096))
-    (record { arity = m.0; literal = at.kept.placed; met = at.met; name = at.kept.known; typing = at.kept.typed; partial = at.partial; impure = at.impure; multi = at.multi; size = at.small })
 
 -- ---- all rules
 
@@ -294,31 +199,3 @@ rules_kept all before (tree.ExternConst name ty pos ∷ ds) declared heads built
 rules_kept all before (tree.Extractor term params template pos ∷ ds) declared heads built h = absurd cc
 rules_kept all before (tree.Converter from to term pos ∷ ds) declared heads built h = absurd cc
 rules_kept all before (tree.Passed head items pos ∷ ds) declared heads built h = absurd cc
-
-pub rules_none : (all before ds : List Def) → list_any names_no_type (signatures all) ≡ false → ArePlain all → list_all is_built_def ds ≡ true → AreRulesTaken all (rule_defs ds) → fault_after OfRules (whole_of all) before ds ≡ None
-rules_none all before [] declared plain built t = refl
-rules_none all before (tree.Decl term pure multi partial recursive args ret pos ∷ ds) declared plain built t =
-    rules_none all (before ++ tree.Decl term pure multi partial recursive args ret pos ∷ []) ds declared plain (and_parts (is_built_def (tree.Decl term pure multi partial recursive args ret pos)) (list_all is_built_def ds) built).1 t
-rules_none all before (tree.ExternConstructor term func pos ∷ ds) declared plain built t = rules_none all (before ++ tree.ExternConstructor term func pos ∷ []) ds declared plain built t
-rules_none all before (tree.Rule name prio term args (c ∷ cs) rhs pos ∷ ds) declared plain built t =
-    let b = and_parts (is_built_def (tree.Rule name prio term args (c ∷ cs) rhs pos)) (list_all is_built_def ds) built in
-    let bad : false ≡ true = (rule_forms name prio term args (c ∷ cs) rhs pos b.0).conditions in
-    absurd cc
-rules_none all before (tree.Rule name prio term args [] rhs pos ∷ ds) declared plain built t =
-    let d = tree.Rule name prio term args [] rhs pos in
-    let r : RuleDef = record { name = name; prio = prio; term = term; args = args; iflets = []; rhs = rhs; pos = pos } in
-    let o = signature_named (signatures all) term in
-    let b = and_parts (is_built_def d) (list_all is_built_def ds) built in
-    let forms = rule_forms name prio term args [] rhs pos b.0 in
-    let k = or_parts (is_some (func_named (externs all) term) || breaks (signatures all) r o) (rules_fault (signatures all) (externs all) (rule_defs ds)) t.right in
-    let own = or_parts (is_some (func_named (externs all) term)) (breaks (signatures all) r o) k.0 in
-    let m = and_parts (calls_made all rhs) (list_all (λ (x : RuleDef). calls_made all x.rhs) (rule_defs ds)) t.made in
-    let rest = rules_none all (before ++ d ∷ []) ds declared plain b.1 (record { right = k.1; made = m.1 }) in
-    none_later (λ (x : Row). (x, pos)) (broken_in OfRules (record { whole = whole_of all; before = before }) d) (fault_after OfRules (whole_of all) (before ++ d ∷ []) ds)
-    (rule_none all r o declared plain (found_keeps names_no_type (signatures all) term declared) (found_keeps (λ (s : Signature). s.pure) (signatures all) term plain.pure) forms.right forms.apart own.1 m.0) rest
-rules_none all before (tree.TypeDecl name is_extern is_nodebug body pos ∷ ds) declared plain built t = absurd cc
-rules_none all before (tree.ExternExtractor term func infallible pos ∷ ds) declared plain built t = absurd cc
-rules_none all before (tree.ExternConst name ty pos ∷ ds) declared plain built t = absurd cc
-rules_none all before (tree.Extractor term params template pos ∷ ds) declared plain built t = absurd cc
-rules_none all before (tree.Converter from to term pos ∷ ds) declared plain built t = absurd cc
-rules_none all before (tree.Passed head items pos ∷ ds) declared plain built t = absurd cc

@@ -23,11 +23,14 @@ use Rattle.isle_sema.specs.Symbols.{index_of, added, number_or, pattern_names, s
 use Rattle.isle_sema.specs.Builtins.{builtin_named, type_id}
 use Rattle.isle_sema.specs.Reduced.{reduced_at, typed_integer}
 use Rattle.isle_sema.specs.Signatures.{Signature, RuleDef, signatures, externs, rule_defs, signature_named, term_named, func_named, has_rule}
-use Rattle.isle_sema.specs.Elaborated.{type_of, var_of, patterns_at, arg_types, constructor_of, term_or, expr_at, exprs_at, term_of, rule_over, rules_from}
+use Rattle.isle_sema.specs.Elaborated.{type_of, constructor_of, term_of}
+use Rattle.isle_sema.proofs.Trees.{var_of, patterns_at, arg_types, term_or, expr_at, exprs_at, rule_over, rules_from}
 use Rattle.isle_sema.specs.Calls.{count_of}
 use Rattle.isle_sema.specs.Heads.{terms_of}
-use Rattle.isle_sema.specs.Refused.{repeats, repeats_after, names_no_type, any_misplaced, typed_vars, type_in, is_other, is_miscalled, is_wrong, any_wrong, is_rhs_wrong, is_too_large, breaks, rules_fault}
-use Rattle.isle_sema.specs.Resolved.{names_of}
+use Rattle.isle_sema.specs.Repeats.{repeats, repeats_after}
+use Rattle.isle_sema.proofs.Wrong.{names_no_type}
+use Rattle.isle_sema.proofs.Wrong.{any_misplaced, typed_vars, type_in, is_other, is_miscalled, is_wrong, any_wrong, is_rhs_wrong, is_too_large, breaks, rules_fault}
+use Rattle.isle_sema.proofs.Wrong.{names_of}
 use Rattle.isle_sema.specs.Language.{is_built_expr, are_built_exprs, is_built_pattern}
 use Rattle.isle_sema.specs.Scope.{Scope, bound_at, met, variable, variable_by, scope_names}
 use Rattle.isle_sema.specs.Whole as whole
@@ -42,7 +45,7 @@ use Rattle.isle_sema.proofs.LookUps.{at_place, named_at}
 use Rattle.isle_sema.proofs.TypedConstants.{type_below}
 use Rattle.isle_sema.proofs.TypesNamed.{some_or, IsBelow, all_below, has_types, found_keeps, integer_is, lifted, bound_lifted, names_lifted}
 use Rattle.isle_sema.proofs.PatternSites.{met_new, left_apart, names_more, patterns_scope}
-use Rattle.isle_sema.proofs.Resolving.{same_there, typed_names}
+use Rattle.isle_sema.proofs.TypedNames.{same_there, typed_names}
 
 -- ---- trees in order
 

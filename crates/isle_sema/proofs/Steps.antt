@@ -1,7 +1,8 @@
--- Patterns, expressions and rules that get their types one after the other: what is left.
-use Rattle.std.proofs.Common.{◌≡◌, ℕ, ◌+◌, ◌<◌, ◌≤◌, List, [], ◌∷◌, ◌++◌, length, map, get_or, Option, Some, None, Bool, refl, sym, ap, ◌∙◌}
+-- Patterns and expressions that are passed one after the other: what is left.
+use Rattle.std.proofs.Common.{◌≡◌, ℕ, zero, suc, ◌+◌, ◌<◌, ◌≤◌, Bool, true, false, cond, List, [], ◌∷◌, ◌++◌, length, map, get_or, Option, Some, None, refl, sym, ap, ◌∙◌, arith}
 use Rattle.std.specs.Prelude.{drop, option_map, slice_get}
 use Rattle.std.proofs.lemmas.List.{drop_all, drop_more, map-append, append-nil, append_assoc}
+use Rattle.std.proofs.lemmas.List.Sums.{fold-append}
 use Rattle.isle_core.specs.declared.TypeId.{TypeId}
 use Rattle.isle_core.specs.declared.rules.Pattern.{Pattern as CodePattern}
 use Rattle.isle_core.specs.declared.rules.Expr.{Expr as CodeExpr}
@@ -12,66 +13,125 @@ use Rattle.isle_core.specs.Rule.{Rule}
 use Rattle.isle_core.specs.RuleViews.{pattern as elaborated_pattern, expr as elaborated_expr, exprs_of, rule as elaborated_rule}
 use Rattle.isle_syntax.specs.declared.tree.AstPattern.{AstPattern}
 use Rattle.isle_syntax.specs.declared.tree.AstExpr.{AstExpr}
-use Rattle.isle_syntax.specs.Tree as tree
+use Rattle.isle_syntax.specs.Tree.{Def}
 use Rattle.isle_syntax.specs.Views.{pattern, expr, exprs_of as seen_exprs}
 use Rattle.isle_sema.specs.declared.collected.RuleDef.{RuleDef as CodeRuleDef}
+use Rattle.isle_sema.specs.declared.judged.Judged.{Judged}
 use Rattle.isle_sema.specs.Collected.{rule as seen_rule}
-use Rattle.isle_sema.specs.Resolved.{Names, pattern_in, pattern_then, patterns_in, expr_in, expr_then, exprs_in, rule_in, rule_then, rules_in}
-use Rattle.isle_sema.proofs.LookUps.{drop_got}
+use Rattle.isle_sema.specs.Scope.{Scope}
+use Rattle.isle_sema.specs.Whole.{Whole}
+use Rattle.isle_sema.specs.Environment.{whole_of}
+use Rattle.isle_sema.specs.PatternPass.{PatternPass, PatternsPass, pattern_pass, patterns_pass, first_expected, later_expected, tree_before}
+use Rattle.isle_sema.specs.ExprPass.{ExprPass, ExprsPass, expr_pass, exprs_pass, expr_before}
+use Rattle.isle_sema.specs.Judging.{judge, judge_all}
+use Rattle.isle_sema.specs.Taken.{taken_rule, taken_rules}
 
--- ---- patterns
+-- ---- expected types
 
--- patterns before others, and the variables behind those
-abbrev pub patterns_before : List Pattern → Option (List Pattern × List (List ℕ × TypeId)) → Option (List Pattern × List (List ℕ × TypeId))
-patterns_before xs o = option_map (λ (r : List Pattern × List (List ℕ × TypeId)). (xs ++ r.0, r.1)) o
+first_got : (tys : List TypeId) (i : ℕ) → first_expected (map Some (drop i tys)) ≡ slice_get tys i
+first_got [] zero = refl
+first_got [] (suc i) = refl
+first_got (ty ∷ tys) zero = refl
+first_got (ty ∷ tys) (suc i) = first_got tys i
 
--- the patterns from the i-th on
-abbrev pub patterns_left : List TypeId → List AstPattern → ℕ → List (List ℕ × TypeId) → Option (List Pattern × List (List ℕ × TypeId))
-patterns_left tys ps i vars = patterns_in (drop i tys) (map pattern (drop i ps)) vars
+later_by : (tys : List TypeId) (i : ℕ) → later_expected (map Some (drop i tys)) ≡ map Some (drop (suc i) tys)
+later_by [] zero = refl
+later_by [] (suc i) = refl
+later_by (ty ∷ tys) zero = refl
+later_by (ty ∷ tys) (suc i) = later_by tys i
 
-no_pattern : (tys : List TypeId) (vars : List (List ℕ × TypeId)) → patterns_in tys [] vars ≡ Some ([], vars)
-no_pattern [] vars = refl
-no_pattern (ty ∷ tys) vars = refl
+later_got : (tys : List TypeId) (i : ℕ) → later_expected (map Some (drop i tys)) ≡ map Some (drop (i + 1) tys)
+later_got tys i = let next : suc i ≡ i + 1 = omega arith in later_by tys i ∙ ap (λ n. map Some (drop n tys)) next
 
-pub none_before : (o : Option (List Pattern × List (List ℕ × TypeId))) → o ≡ patterns_before [] o
+-- ---- trees in order
+
+-- trees before others
+abbrev pub before : {X : Type 0} → List X → Option (List X) → Option (List X)
+before xs o = option_map (λ (ys : List _). xs ++ ys) o
+
+pub none_before : {X : Type 0} (o : Option (List X)) → o ≡ before [] o
 none_before None = refl
 none_before (Some r) = refl
 
-one_before : (xs : List Pattern) (x : Pattern) (o : Option (List Pattern × List (List ℕ × TypeId))) → patterns_before xs (option_map (λ (r : List Pattern × List (List ℕ × TypeId)). (x ∷ r.0, r.1)) o) ≡ patterns_before (xs ++ x ∷ []) o
+one_before : {X : Type 0} (xs : List X) (x : X) (o : Option (List X)) → before xs (tree_before (Some x) o) ≡ before (xs ++ x ∷ []) o
 one_before xs x None = refl
-one_before xs x (Some r) = ap (λ ys. Some (ys, r.1)) (sym (append_assoc xs (x ∷ []) r.0))
+one_before xs x (Some r) = ap Some (sym (append_assoc xs (x ∷ []) r))
 
-first_pattern : (tys : List TypeId) (ps : List AstPattern) (i : ℕ) (vars : List (List ℕ × TypeId)) (p d : AstPattern) (ty : TypeId) → i < length ps → p ≡ get_or ps i d → slice_get tys i ≡ Some ty
-    → patterns_left tys ps i vars ≡ pattern_then (pattern_in ty (pattern p) vars) (λ more. patterns_left tys ps (i + 1) more)
-first_pattern tys ps i vars p d ty lt is at =
-    ap (λ ts. patterns_in ts (map pattern (drop i ps)) vars) (drop_got tys i ty at)
-    ∙ ap (λ qs. patterns_in (ty ∷ drop (i + 1) tys) (map pattern qs) vars) (drop_more ps i d lt ∙ ap (λ y. y ∷ drop (i + 1) ps) (sym is))
+nothing_there : {X : Type 0} (b : Bool) (o : Option X) → o ≡ None → cond b o None ≡ None
+nothing_there true o h = h
+nothing_there false o h = refl
+
+-- two tests of one value
+pub same_cond : {X : Type 0} (o : Option X) (a b : Bool) → a ≡ b → cond a o None ≡ cond b o None
+same_cond o a b h = ap (λ c. cond c o None) h
+
+-- ---- patterns
+
+-- the patterns from the i-th on
+abbrev pub patterns_left : List Def → List TypeId → List AstPattern → ℕ → Scope → PatternsPass
+patterns_left defs tys ps i vars = patterns_pass (whole_of defs) (map Some (drop i tys)) vars (map pattern (drop i ps))
+
+-- what all patterns come to is what was made and what is left
+pub record AreMade (defs : List Def) (all left : PatternsPass) (first now : Judged) (typed : List CodePattern) (complete : Bool) : Type 0 where
+  pub trees : all.trees ≡ cond complete (before (map elaborated_pattern typed) left.trees) None
+  pub scope : all.scope ≡ left.scope
+  pub sites : judge_all (whole_of defs) first all.sites ≡ judge_all (whole_of defs) now left.sites
+
+-- at the first
+pub made_none : (defs : List Def) (all : PatternsPass) (j : Judged) → AreMade defs all all j j [] true
+made_none defs all j = record { trees = none_before all.trees; scope = refl; sites = refl }
+
+-- a pattern and those behind it
+abbrev joined : PatternPass → PatternsPass → PatternsPass
+joined first rest = record { trees = tree_before first.tree rest.trees; scope = rest.scope; sites = first.sites ++ rest.sites }
+
+left_is : (defs : List Def) (tys : List TypeId) (ps : List AstPattern) (i : ℕ) (vars new : Scope) (p d : AstPattern) (expected : Option TypeId) → i < length ps → p ≡ get_or ps i d → expected ≡ slice_get tys i
+    → new ≡ (pattern_pass (whole_of defs) expected vars (pattern p)).scope → patterns_left defs tys ps i vars ≡ joined (pattern_pass (whole_of defs) expected vars (pattern p)) (patterns_left defs tys ps (i + 1) new)
+left_is defs tys ps i vars new p d expected lt is at scope =
+    let w = whole_of defs in
+    let qs = map pattern (drop (i + 1) ps) in
+    ap (λ xs. patterns_pass w (map Some (drop i tys)) vars (map pattern xs)) (drop_more ps i d lt ∙ ap (λ y. y ∷ drop (i + 1) ps) (sym is))
+    ∙ ap (λ ty. joined (pattern_pass w ty vars (pattern p)) (patterns_pass w (later_expected (map Some (drop i tys))) (pattern_pass w ty vars (pattern p)).scope qs)) (first_got tys i ∙ sym at)
+    ∙ ap (λ os. joined (pattern_pass w expected vars (pattern p)) (patterns_pass w os (pattern_pass w expected vars (pattern p)).scope qs)) (later_got tys i)
+    ∙ ap (λ (s : Scope). joined (pattern_pass w expected vars (pattern p)) (patterns_pass w (map Some (drop (i + 1) tys)) s qs)) (sym scope)
 
 -- one pattern more
-pub pattern_more : (tys : List TypeId) (ps : List AstPattern) (i : ℕ) (vars new : List (List ℕ × TypeId)) (typed more : List CodePattern) (p d : AstPattern) (ty : TypeId) (x : CodePattern) (all : Option (List Pattern × List (List ℕ × TypeId)))
-    → i < length ps → p ≡ get_or ps i d → slice_get tys i ≡ Some ty → more ≡ typed ++ x ∷ [] → Some (elaborated_pattern x, new) ≡ pattern_in ty (pattern p) vars
-    → all ≡ patterns_before (map elaborated_pattern typed) (patterns_left tys ps i vars) → all ≡ patterns_before (map elaborated_pattern more) (patterns_left tys ps (i + 1) new)
-pattern_more tys ps i vars new typed more p d ty x all lt is at added one h =
-    h ∙ ap (patterns_before (map elaborated_pattern typed)) (first_pattern tys ps i vars p d ty lt is at ∙ ap (λ o. pattern_then o (λ more. patterns_left tys ps (i + 1) more)) (sym one))
-    ∙ one_before (map elaborated_pattern typed) (elaborated_pattern x) (patterns_left tys ps (i + 1) new)
-    ∙ ap (λ ys. patterns_before ys (patterns_left tys ps (i + 1) new)) (sym (map-append elaborated_pattern typed (x ∷ [])) ∙ ap (map elaborated_pattern) (sym added))
+pub made_more : (defs : List Def) (tys : List TypeId) (ps : List AstPattern) (i : ℕ) (vars new : Scope) (first now next : Judged) (typed more : List CodePattern) (complete after : Bool) (p d : AstPattern) (expected : Option TypeId) (all : PatternsPass)
+    → i < length ps → p ≡ get_or ps i d → expected ≡ slice_get tys i → new ≡ (pattern_pass (whole_of defs) expected vars (pattern p)).scope → next ≡ judge_all (whole_of defs) now (pattern_pass (whole_of defs) expected vars (pattern p)).sites
+    → ((rest : Option (List Pattern)) → cond complete (before (map elaborated_pattern typed) (tree_before (pattern_pass (whole_of defs) expected vars (pattern p)).tree rest)) None ≡ cond after (before (map elaborated_pattern more) rest) None)
+    → AreMade defs all (patterns_left defs tys ps i vars) first now typed complete → AreMade defs all (patterns_left defs tys ps (i + 1) new) first next more after
+made_more defs tys ps i vars new first now next typed more complete after p d expected all lt is at scope sites tree h =
+    let w = whole_of defs in
+    let one = pattern_pass w expected vars (pattern p) in
+    let rest = patterns_left defs tys ps (i + 1) new in
+    let step = left_is defs tys ps i vars new p d expected lt is at scope in
+    record {
+      trees = h.trees ∙ ap (λ (x : PatternsPass). cond complete (before (map elaborated_pattern typed) x.trees) None) step ∙ tree rest.trees;
+      scope = h.scope ∙ ap (λ (x : PatternsPass). x.scope) step;
+      sites = h.sites ∙ ap (λ (x : PatternsPass). judge_all w now x.sites) step ∙ fold-append (judge w) now one.sites rest.sites ∙ ap (λ (j : Judged). judge_all w j rest.sites) (sym sites);
+    }
 
--- a pattern that is wrong
-pub pattern_wrong : (tys : List TypeId) (ps : List AstPattern) (i : ℕ) (vars : List (List ℕ × TypeId)) (typed : List CodePattern) (p d : AstPattern) (ty : TypeId) (all : Option (List Pattern × List (List ℕ × TypeId)))
-    → i < length ps → p ≡ get_or ps i d → slice_get tys i ≡ Some ty → None ≡ pattern_in ty (pattern p) vars → all ≡ patterns_before (map elaborated_pattern typed) (patterns_left tys ps i vars) → None ≡ all
-pattern_wrong tys ps i vars typed p d ty all lt is at none h =
-    sym (h ∙ ap (patterns_before (map elaborated_pattern typed)) (first_pattern tys ps i vars p d ty lt is at ∙ ap (λ o. pattern_then o (λ more. patterns_left tys ps (i + 1) more)) (sym none)))
+-- a pattern with a tree
+pub tree_more : (typed more : List CodePattern) (x : CodePattern) (complete : Bool) (o : Option Pattern) → more ≡ typed ++ x ∷ [] → Some (elaborated_pattern x) ≡ o → (rest : Option (List Pattern))
+    → cond complete (before (map elaborated_pattern typed) (tree_before o rest)) None ≡ cond complete (before (map elaborated_pattern more) rest) None
+tree_more typed more x complete o added is rest =
+    ap (λ y. cond complete (before (map elaborated_pattern typed) (tree_before y rest)) None) (sym is)
+    ∙ ap (λ y. cond complete y None) (one_before (map elaborated_pattern typed) (elaborated_pattern x) rest ∙ ap (λ ys. before ys rest) (sym (map-append elaborated_pattern typed (x ∷ [])) ∙ ap (map elaborated_pattern) (sym added)))
 
-pub patterns_end : (tys : List TypeId) (ps : List AstPattern) (i : ℕ) (vars : List (List ℕ × TypeId)) (typed : List CodePattern) (all : Option (List Pattern × List (List ℕ × TypeId))) → length ps ≤ i
-    → all ≡ patterns_before (map elaborated_pattern typed) (patterns_left tys ps i vars) → Some (map elaborated_pattern typed, vars) ≡ all
-patterns_end tys ps i vars typed all le h =
-    sym (h ∙ ap (λ qs. patterns_before (map elaborated_pattern typed) (patterns_in (drop i tys) (map pattern qs) vars)) (drop_all i ps le) ∙ ap (patterns_before (map elaborated_pattern typed)) (no_pattern (drop i tys) vars)
-    ∙ ap (λ xs. Some (xs, vars)) (append-nil (map elaborated_pattern typed)))
+-- a pattern without one
+pub tree_missing : (typed : List CodePattern) (complete : Bool) (o : Option Pattern) → None ≡ o → (rest : Option (List Pattern))
+    → cond complete (before (map elaborated_pattern typed) (tree_before o rest)) None ≡ cond false (before (map elaborated_pattern typed) rest) None
+tree_missing typed complete o is rest = ap (λ y. cond complete (before (map elaborated_pattern typed) (tree_before y rest)) None) (sym is) ∙ nothing_there complete (before (map elaborated_pattern typed) (tree_before None rest)) refl
 
-pub patterns_past : (tys : List TypeId) (ps : List AstPattern) (i : ℕ) (vars : List (List ℕ × TypeId)) (typed : List CodePattern) (all : Option (List Pattern × List (List ℕ × TypeId))) → length tys ≤ i
-    → all ≡ patterns_before (map elaborated_pattern typed) (patterns_left tys ps i vars) → Some (map elaborated_pattern typed, vars) ≡ all
-patterns_past tys ps i vars typed all le h =
-    sym (h ∙ ap (λ ts. patterns_before (map elaborated_pattern typed) (patterns_in ts (map pattern (drop i ps)) vars)) (drop_all i tys le) ∙ ap (λ xs. Some (xs, vars)) (append-nil (map elaborated_pattern typed)))
+-- behind the last
+pub made_all : (defs : List Def) (tys : List TypeId) (ps : List AstPattern) (i : ℕ) (vars : Scope) (first now : Judged) (typed : List CodePattern) (complete : Bool) (all : PatternsPass) → length ps ≤ i
+    → AreMade defs all (patterns_left defs tys ps i vars) first now typed complete → (all.trees ≡ cond complete (Some (map elaborated_pattern typed)) None) × (all.scope ≡ vars) × (judge_all (whole_of defs) first all.sites ≡ now)
+made_all defs tys ps i vars first now typed complete all le h =
+    let none : patterns_left defs tys ps i vars ≡ record { trees = Some []; scope = vars; sites = [] } = ap (λ xs. patterns_pass (whole_of defs) (map Some (drop i tys)) vars (map pattern xs)) (drop_all i ps le) in (
+      h.trees ∙ ap (λ (x : PatternsPass). cond complete (before (map elaborated_pattern typed) x.trees) None) none ∙ ap (λ xs. cond complete (Some xs) None) (append-nil (map elaborated_pattern typed)),
+      h.scope ∙ ap (λ (x : PatternsPass). x.scope) none,
+      h.sites ∙ ap (λ (x : PatternsPass). judge_all (whole_of defs) now x.sites) none,
+    )
 
 -- ---- expressions
 
@@ -84,19 +144,7 @@ all_before (x ∷ xs) es = AnExpr x (all_before xs es)
 abbrev pub exprs_before : List Expr → Option Exprs → Option Exprs
 exprs_before xs o = option_map (all_before xs) o
 
--- the expressions from the i-th on
-abbrev pub exprs_left : Names → List (List ℕ × TypeId) → Bool → List TypeId → List AstExpr → ℕ → Option Exprs
-exprs_left k vars allowed tys es i = exprs_in k vars allowed (drop i tys) (seen_exprs (map expr (drop i es)))
-
-no_expr : (k : Names) (vars : List (List ℕ × TypeId)) (allowed : Bool) (tys : List TypeId) → exprs_in k vars allowed tys tree.NoExpr ≡ Some NoExpr
-no_expr k vars allowed [] = refl
-no_expr k vars allowed (ty ∷ tys) = refl
-
-no_type : (k : Names) (vars : List (List ℕ × TypeId)) (allowed : Bool) (es : tree.Exprs) → exprs_in k vars allowed [] es ≡ Some NoExpr
-no_type k vars allowed tree.NoExpr = refl
-no_type k vars allowed (tree.AnExpr e es) = refl
-
-pub nothing_before : (o : Option Exprs) → o ≡ exprs_before [] o
+nothing_before : (o : Option Exprs) → o ≡ exprs_before [] o
 nothing_before None = refl
 nothing_before (Some r) = refl
 
@@ -108,76 +156,93 @@ all_end : (xs : List Expr) → all_before xs NoExpr ≡ exprs_of xs
 all_end [] = refl
 all_end (x ∷ xs) = ap (AnExpr x) (all_end xs)
 
-one_expr : (xs : List Expr) (x : Expr) (o : Option Exprs) → exprs_before xs (option_map (AnExpr x) o) ≡ exprs_before (xs ++ x ∷ []) o
+one_expr : (xs : List Expr) (x : Expr) (o : Option Exprs) → exprs_before xs (expr_before (Some x) o) ≡ exprs_before (xs ++ x ∷ []) o
 one_expr xs x None = refl
 one_expr xs x (Some r) = ap Some (all_more xs x r)
 
-first_expr : (k : Names) (vars : List (List ℕ × TypeId)) (allowed : Bool) (tys : List TypeId) (es : List AstExpr) (i : ℕ) (e d : AstExpr) (ty : TypeId) → i < length es → e ≡ get_or es i d → slice_get tys i ≡ Some ty
-    → exprs_left k vars allowed tys es i ≡ expr_then (expr_in k vars allowed ty (expr e)) (exprs_left k vars allowed tys es (i + 1))
-first_expr k vars allowed tys es i e d ty lt is at =
-    ap (λ ts. exprs_in k vars allowed ts (seen_exprs (map expr (drop i es)))) (drop_got tys i ty at)
-    ∙ ap (λ xs. exprs_in k vars allowed (ty ∷ drop (i + 1) tys) (seen_exprs (map expr xs))) (drop_more es i d lt ∙ ap (λ y. y ∷ drop (i + 1) es) (sym is))
+-- the expressions from the i-th on
+abbrev pub exprs_left : List Def → List TypeId → Scope → List AstExpr → ℕ → ExprsPass
+exprs_left defs tys vars es i = exprs_pass (whole_of defs) vars (map Some (drop i tys)) (seen_exprs (map expr (drop i es)))
+
+-- what all expressions come to is what was made and what is left
+pub record ExprsMade (defs : List Def) (all left : ExprsPass) (first now : Judged) (typed : List CodeExpr) (complete : Bool) : Type 0 where
+  pub trees : all.trees ≡ cond complete (exprs_before (map elaborated_expr typed) left.trees) None
+  pub sites : judge_all (whole_of defs) first all.sites ≡ judge_all (whole_of defs) now left.sites
+
+-- at the first
+pub exprs_none : (defs : List Def) (all : ExprsPass) (j : Judged) → ExprsMade defs all all j j [] true
+exprs_none defs all j = record { trees = nothing_before all.trees; sites = refl }
+
+-- an expression and those behind it
+abbrev exprs_joined : ExprPass → ExprsPass → ExprsPass
+exprs_joined first rest = record { trees = expr_before first.tree rest.trees; sites = first.sites ++ rest.sites }
+
+exprs_are : (defs : List Def) (tys : List TypeId) (vars : Scope) (es : List AstExpr) (i : ℕ) (e d : AstExpr) (expected : Option TypeId) → i < length es → e ≡ get_or es i d → expected ≡ slice_get tys i
+    → exprs_left defs tys vars es i ≡ exprs_joined (expr_pass (whole_of defs) vars expected (expr e)) (exprs_left defs tys vars es (i + 1))
+exprs_are defs tys vars es i e d expected lt is at =
+    let w = whole_of defs in
+    let others = seen_exprs (map expr (drop (i + 1) es)) in
+    ap (λ xs. exprs_pass w vars (map Some (drop i tys)) (seen_exprs (map expr xs))) (drop_more es i d lt ∙ ap (λ y. y ∷ drop (i + 1) es) (sym is))
+    ∙ ap (λ ty. exprs_joined (expr_pass w vars ty (expr e)) (exprs_pass w vars (later_expected (map Some (drop i tys))) others)) (first_got tys i ∙ sym at)
+    ∙ ap (λ os. exprs_joined (expr_pass w vars expected (expr e)) (exprs_pass w vars os others)) (later_got tys i)
 
 -- one expression more
-pub expr_more : (k : Names) (vars : List (List ℕ × TypeId)) (allowed : Bool) (tys : List TypeId) (es : List AstExpr) (i : ℕ) (typed more : List CodeExpr) (e d : AstExpr) (ty : TypeId) (x : CodeExpr) (all : Option Exprs)
-    → i < length es → e ≡ get_or es i d → slice_get tys i ≡ Some ty → more ≡ typed ++ x ∷ [] → Some (elaborated_expr x) ≡ expr_in k vars allowed ty (expr e)
-    → all ≡ exprs_before (map elaborated_expr typed) (exprs_left k vars allowed tys es i) → all ≡ exprs_before (map elaborated_expr more) (exprs_left k vars allowed tys es (i + 1))
-expr_more k vars allowed tys es i typed more e d ty x all lt is at added one h =
-    h ∙ ap (exprs_before (map elaborated_expr typed)) (first_expr k vars allowed tys es i e d ty lt is at ∙ ap (λ o. expr_then o (exprs_left k vars allowed tys es (i + 1))) (sym one))
-    ∙ one_expr (map elaborated_expr typed) (elaborated_expr x) (exprs_left k vars allowed tys es (i + 1))
-    ∙ ap (λ ys. exprs_before ys (exprs_left k vars allowed tys es (i + 1))) (sym (map-append elaborated_expr typed (x ∷ [])) ∙ ap (map elaborated_expr) (sym added))
+pub exprs_more : (defs : List Def) (tys : List TypeId) (vars : Scope) (es : List AstExpr) (i : ℕ) (first now next : Judged) (typed more : List CodeExpr) (complete after : Bool) (e d : AstExpr) (expected : Option TypeId) (all : ExprsPass)
+    → i < length es → e ≡ get_or es i d → expected ≡ slice_get tys i → next ≡ judge_all (whole_of defs) now (expr_pass (whole_of defs) vars expected (expr e)).sites
+    → ((rest : Option Exprs) → cond complete (exprs_before (map elaborated_expr typed) (expr_before (expr_pass (whole_of defs) vars expected (expr e)).tree rest)) None ≡ cond after (exprs_before (map elaborated_expr more) rest) None)
+    → ExprsMade defs all (exprs_left defs tys vars es i) first now typed complete → ExprsMade defs all (exprs_left defs tys vars es (i + 1)) first next more after
+exprs_more defs tys vars es i first now next typed more complete after e d expected all lt is at sites tree h =
+    let w = whole_of defs in
+    let one = expr_pass w vars expected (expr e) in
+    let rest = exprs_left defs tys vars es (i + 1) in
+    let step = exprs_are defs tys vars es i e d expected lt is at in
+    record {
+      trees = h.trees ∙ ap (λ (x : ExprsPass). cond complete (exprs_before (map elaborated_expr typed) x.trees) None) step ∙ tree rest.trees;
+      sites = h.sites ∙ ap (λ (x : ExprsPass). judge_all w now x.sites) step ∙ fold-append (judge w) now one.sites rest.sites ∙ ap (λ (j : Judged). judge_all w j rest.sites) (sym sites);
+    }
 
--- an expression that is wrong
-pub expr_wrong : (k : Names) (vars : List (List ℕ × TypeId)) (allowed : Bool) (tys : List TypeId) (es : List AstExpr) (i : ℕ) (typed : List CodeExpr) (e d : AstExpr) (ty : TypeId) (all : Option Exprs)
-    → i < length es → e ≡ get_or es i d → slice_get tys i ≡ Some ty → None ≡ expr_in k vars allowed ty (expr e) → all ≡ exprs_before (map elaborated_expr typed) (exprs_left k vars allowed tys es i) → None ≡ all
-expr_wrong k vars allowed tys es i typed e d ty all lt is at none h =
-    sym (h ∙ ap (exprs_before (map elaborated_expr typed)) (first_expr k vars allowed tys es i e d ty lt is at ∙ ap (λ o. expr_then o (exprs_left k vars allowed tys es (i + 1))) (sym none)))
+-- an expression with a tree
+pub expr_more : (typed more : List CodeExpr) (x : CodeExpr) (complete : Bool) (o : Option Expr) → more ≡ typed ++ x ∷ [] → Some (elaborated_expr x) ≡ o → (rest : Option Exprs)
+    → cond complete (exprs_before (map elaborated_expr typed) (expr_before o rest)) None ≡ cond complete (exprs_before (map elaborated_expr more) rest) None
+expr_more typed more x complete o added is rest =
+    ap (λ y. cond complete (exprs_before (map elaborated_expr typed) (expr_before y rest)) None) (sym is)
+    ∙ ap (λ y. cond complete y None) (one_expr (map elaborated_expr typed) (elaborated_expr x) rest ∙ ap (λ ys. exprs_before ys rest) (sym (map-append elaborated_expr typed (x ∷ [])) ∙ ap (map elaborated_expr) (sym added)))
 
-pub exprs_end : (k : Names) (vars : List (List ℕ × TypeId)) (allowed : Bool) (tys : List TypeId) (es : List AstExpr) (i : ℕ) (typed : List CodeExpr) (all : Option Exprs) → length es ≤ i
-    → all ≡ exprs_before (map elaborated_expr typed) (exprs_left k vars allowed tys es i) → Some (exprs_of (map elaborated_expr typed)) ≡ all
-exprs_end k vars allowed tys es i typed all le h =
-    sym (h ∙ ap (λ xs. exprs_before (map elaborated_expr typed) (exprs_in k vars allowed (drop i tys) (seen_exprs (map expr xs)))) (drop_all i es le)
-    ∙ ap (exprs_before (map elaborated_expr typed)) (no_expr k vars allowed (drop i tys)) ∙ ap Some (all_end (map elaborated_expr typed)))
+-- an expression without one
+pub expr_missing : (typed : List CodeExpr) (complete : Bool) (o : Option Expr) → None ≡ o → (rest : Option Exprs)
+    → cond complete (exprs_before (map elaborated_expr typed) (expr_before o rest)) None ≡ cond false (exprs_before (map elaborated_expr typed) rest) None
+expr_missing typed complete o is rest = ap (λ y. cond complete (exprs_before (map elaborated_expr typed) (expr_before y rest)) None) (sym is) ∙ nothing_there complete (exprs_before (map elaborated_expr typed) (expr_before None rest)) refl
 
-pub exprs_past : (k : Names) (vars : List (List ℕ × TypeId)) (allowed : Bool) (tys : List TypeId) (es : List AstExpr) (i : ℕ) (typed : List CodeExpr) (all : Option Exprs) → length tys ≤ i
-    → all ≡ exprs_before (map elaborated_expr typed) (exprs_left k vars allowed tys es i) → Some (exprs_of (map elaborated_expr typed)) ≡ all
-exprs_past k vars allowed tys es i typed all le h =
-    sym (h ∙ ap (λ ts. exprs_before (map elaborated_expr typed) (exprs_in k vars allowed ts (seen_exprs (map expr (drop i es))))) (drop_all i tys le)
-    ∙ ap (exprs_before (map elaborated_expr typed)) (no_type k vars allowed (seen_exprs (map expr (drop i es)))) ∙ ap Some (all_end (map elaborated_expr typed)))
+-- behind the last
+pub exprs_all : (defs : List Def) (tys : List TypeId) (vars : Scope) (es : List AstExpr) (i : ℕ) (first now : Judged) (typed : List CodeExpr) (complete : Bool) (all : ExprsPass) → length es ≤ i
+    → ExprsMade defs all (exprs_left defs tys vars es i) first now typed complete → (all.trees ≡ cond complete (Some (exprs_of (map elaborated_expr typed))) None) × (judge_all (whole_of defs) first all.sites ≡ now)
+exprs_all defs tys vars es i first now typed complete all le h =
+    let none : exprs_left defs tys vars es i ≡ record { trees = Some NoExpr; sites = [] } = ap (λ xs. exprs_pass (whole_of defs) vars (map Some (drop i tys)) (seen_exprs (map expr xs))) (drop_all i es le) in (
+      h.trees ∙ ap (λ (x : ExprsPass). cond complete (exprs_before (map elaborated_expr typed) x.trees) None) none ∙ ap (λ xs. cond complete (Some xs) None) (all_end (map elaborated_expr typed)),
+      h.sites ∙ ap (λ (x : ExprsPass). judge_all (whole_of defs) now x.sites) none,
+    )
 
 -- ---- rules
 
--- rules before others
-abbrev pub rules_before : List Rule → Option (List Rule) → Option (List Rule)
-rules_before xs o = option_map (λ (ys : List Rule). xs ++ ys) o
-
-pub no_rules_before : (o : Option (List Rule)) → o ≡ rules_before [] o
-no_rules_before None = refl
-no_rules_before (Some r) = refl
-
-one_rule : (xs : List Rule) (x : Rule) (o : Option (List Rule)) → rules_before xs (option_map (λ (ys : List Rule). x ∷ ys) o) ≡ rules_before (xs ++ x ∷ []) o
-one_rule xs x None = refl
-one_rule xs x (Some r) = ap Some (sym (append_assoc xs (x ∷ []) r))
-
-first_rule : (k : Names) (rs : List CodeRuleDef) (i : ℕ) (r d : CodeRuleDef) → i < length rs → r ≡ get_or rs i d
-    → rules_in k i (map seen_rule (drop i rs)) ≡ rule_then (rule_in k i (seen_rule r)) (rules_in k (i + 1) (map seen_rule (drop (i + 1) rs)))
-first_rule k rs i r d lt is = ap (λ xs. rules_in k i (map seen_rule xs)) (drop_more rs i d lt ∙ ap (λ y. y ∷ drop (i + 1) rs) (sym is))
+first_rule : (w : Whole) (rs : List CodeRuleDef) (i : ℕ) (r d : CodeRuleDef) → i < length rs → r ≡ get_or rs i d
+    → taken_rules w i (map seen_rule (drop i rs)) ≡ tree_before (taken_rule w i (seen_rule r)) (taken_rules w (i + 1) (map seen_rule (drop (i + 1) rs)))
+first_rule w rs i r d lt is = ap (λ xs. taken_rules w i (map seen_rule xs)) (drop_more rs i d lt ∙ ap (λ y. y ∷ drop (i + 1) rs) (sym is))
 
 -- one rule more
-pub rule_more : (k : Names) (rs : List CodeRuleDef) (i : ℕ) (typed more : List CodeRule) (r d : CodeRuleDef) (x : CodeRule) (all : Option (List Rule)) → i < length rs → r ≡ get_or rs i d → more ≡ typed ++ x ∷ []
-    → Some (elaborated_rule x) ≡ rule_in k i (seen_rule r) → all ≡ rules_before (map elaborated_rule typed) (rules_in k i (map seen_rule (drop i rs))) → all ≡ rules_before (map elaborated_rule more) (rules_in k (i + 1) (map seen_rule (drop (i + 1) rs)))
-rule_more k rs i typed more r d x all lt is added one h =
-    let rest = rules_in k (i + 1) (map seen_rule (drop (i + 1) rs)) in
-    h ∙ ap (rules_before (map elaborated_rule typed)) (first_rule k rs i r d lt is ∙ ap (λ o. rule_then o rest) (sym one)) ∙ one_rule (map elaborated_rule typed) (elaborated_rule x) rest
-    ∙ ap (λ ys. rules_before ys rest) (sym (map-append elaborated_rule typed (x ∷ [])) ∙ ap (map elaborated_rule) (sym added))
+pub rule_more : (w : Whole) (rs : List CodeRuleDef) (i : ℕ) (typed more : List CodeRule) (r d : CodeRuleDef) (x : CodeRule) (all : Option (List Rule)) → i < length rs → r ≡ get_or rs i d → more ≡ typed ++ x ∷ []
+    → Some (elaborated_rule x) ≡ taken_rule w i (seen_rule r) → all ≡ before (map elaborated_rule typed) (taken_rules w i (map seen_rule (drop i rs))) → all ≡ before (map elaborated_rule more) (taken_rules w (i + 1) (map seen_rule (drop (i + 1) rs)))
+rule_more w rs i typed more r d x all lt is added one h =
+    let rest = taken_rules w (i + 1) (map seen_rule (drop (i + 1) rs)) in
+    h ∙ ap (before (map elaborated_rule typed)) (first_rule w rs i r d lt is ∙ ap (λ o. tree_before o rest) (sym one)) ∙ one_before (map elaborated_rule typed) (elaborated_rule x) rest
+    ∙ ap (λ ys. before ys rest) (sym (map-append elaborated_rule typed (x ∷ [])) ∙ ap (map elaborated_rule) (sym added))
 
--- a rule that is wrong
-pub rule_wrong : (k : Names) (rs : List CodeRuleDef) (i : ℕ) (typed : List CodeRule) (r d : CodeRuleDef) (all : Option (List Rule)) → i < length rs → r ≡ get_or rs i d → None ≡ rule_in k i (seen_rule r)
-    → all ≡ rules_before (map elaborated_rule typed) (rules_in k i (map seen_rule (drop i rs))) → None ≡ all
-rule_wrong k rs i typed r d all lt is none h =
-    sym (h ∙ ap (rules_before (map elaborated_rule typed)) (first_rule k rs i r d lt is ∙ ap (λ o. rule_then o (rules_in k (i + 1) (map seen_rule (drop (i + 1) rs)))) (sym none)))
+-- a rule that is not taken
+pub rule_wrong : (w : Whole) (rs : List CodeRuleDef) (i : ℕ) (typed : List CodeRule) (r d : CodeRuleDef) (all : Option (List Rule)) → i < length rs → r ≡ get_or rs i d → None ≡ taken_rule w i (seen_rule r)
+    → all ≡ before (map elaborated_rule typed) (taken_rules w i (map seen_rule (drop i rs))) → None ≡ all
+rule_wrong w rs i typed r d all lt is none h =
+    sym (h ∙ ap (before (map elaborated_rule typed)) (first_rule w rs i r d lt is ∙ ap (λ o. tree_before o (taken_rules w (i + 1) (map seen_rule (drop (i + 1) rs)))) (sym none)))
 
-pub rules_end : (k : Names) (rs : List CodeRuleDef) (i : ℕ) (typed : List CodeRule) (all : Option (List Rule)) → length rs ≤ i
-    → all ≡ rules_before (map elaborated_rule typed) (rules_in k i (map seen_rule (drop i rs))) → Some (map elaborated_rule typed) ≡ all
-rules_end k rs i typed all le h =
-    sym (h ∙ ap (λ xs. rules_before (map elaborated_rule typed) (rules_in k i (map seen_rule xs))) (drop_all i rs le) ∙ ap Some (append-nil (map elaborated_rule typed)))
+pub rules_end : (w : Whole) (rs : List CodeRuleDef) (i : ℕ) (typed : List CodeRule) (all : Option (List Rule)) → length rs ≤ i
+    → all ≡ before (map elaborated_rule typed) (taken_rules w i (map seen_rule (drop i rs))) → Some (map elaborated_rule typed) ≡ all
+rules_end w rs i typed all le h =
+    sym (h ∙ ap (λ xs. before (map elaborated_rule typed) (taken_rules w i (map seen_rule xs))) (drop_all i rs le) ∙ ap Some (append-nil (map elaborated_rule typed)))

@@ -8,9 +8,10 @@ use Rattle.isle_syntax.specs.Tree.{Def}
 use Rattle.isle_sema.specs.Symbols.{index_of}
 use Rattle.isle_sema.specs.Signatures.{Signature, Extern, RuleDef, signature_of, extern_of, signatures, externs, rule_defs, signature_named, func_named}
 use Rattle.isle_sema.specs.Heads.{terms_of, extern_terms}
-use Rattle.isle_sema.specs.Refused.{repeats_after, names_no_type, has_too_many}
+use Rattle.isle_sema.specs.Repeats.{repeats_after}
+use Rattle.isle_sema.proofs.Wrong.{names_no_type, has_too_many}
 use Rattle.isle_sema.specs.Forms.{is_built_form}
-use Rattle.isle_sema.specs.Sound.{has_undeclared}
+use Rattle.isle_sema.specs.Tests.{has_undeclared}
 use Rattle.isle_sema.specs.Row as row
 use Rattle.isle_sema.specs.Row.{Row}
 use Rattle.isle_sema.specs.Whole.{Whole}

@@ -26,9 +26,11 @@ use Rattle.isle_syntax.specs.Tree.{Pattern, Expr, Exprs, NoExpr, AnExpr, Def}
 use Rattle.isle_sema.specs.Symbols.{index_of, symbols}
 use Rattle.isle_sema.specs.Builtins.{builtins, type_id}
 use Rattle.isle_sema.specs.Signatures.{Signature, signatures, externs, rule_defs, func_named, has_rule, signature_named}
-use Rattle.isle_sema.specs.Elaborated.{type_of, patterns_at, vars_of, expr_at, exprs_at, constructor_of, term_of, arg_types, term_or}
-use Rattle.isle_sema.specs.Calls.{calls_external, all_call_external, is_partial_named, calls_partial, any_calls_partial, count_of}
-use Rattle.isle_sema.specs.Refused.{typed_vars, type_in, is_other, is_miscalled, is_wrong, any_wrong}
+use Rattle.isle_sema.specs.Elaborated.{type_of, constructor_of, term_of}
+use Rattle.isle_sema.proofs.Trees.{patterns_at, vars_of, expr_at, exprs_at, arg_types, term_or}
+use Rattle.isle_sema.proofs.RightSides.{calls_external, all_call_external, is_partial_named, calls_partial, any_calls_partial}
+use Rattle.isle_sema.specs.Calls.{count_of}
+use Rattle.isle_sema.proofs.Wrong.{typed_vars, type_in, is_other, is_miscalled, is_wrong, any_wrong}
 use Rattle.isle_sema.specs.Language.{is_built_expr, are_built_exprs}
 use Rattle.isle_sema.specs.Heads.{terms_of}
 use Rattle.isle_sema.specs.TypedRule.{IsExternalKind, IsExprOf, AreExprsOf}

@@ -13,8 +13,9 @@ use Rattle.isle_sema.specs.Builtins.{builtins, builtin_named}
 use Rattle.isle_sema.specs.Reduced.{reduced_at, integer_by, reduced_by, typed_integer}
 use Rattle.isle_sema.specs.Signatures.{Signature, signature_named}
 use Rattle.isle_sema.specs.Elaborated.{type_of, type_or}
-use Rattle.isle_sema.specs.Refused.{names_no_type, type_in}
-use Rattle.isle_sema.specs.Resolved.{names_of}
+use Rattle.isle_sema.proofs.Wrong.{names_no_type}
+use Rattle.isle_sema.proofs.Wrong.{type_in}
+use Rattle.isle_sema.proofs.Wrong.{names_of}
 use Rattle.isle_sema.specs.TypeNames.{is_integer_def, is_bool_def, takes_integers, takes_truths}
 use Rattle.isle_sema.specs.Scope.{Scope, scope_names, bound_at}
 use Rattle.isle_sema.specs.Context.{on}

@@ -10,8 +10,8 @@ use Rattle.isle_core.specs.StandsFor.{EachOnce}
 use Rattle.isle_syntax.specs.Tree as tree
 use Rattle.isle_syntax.specs.Tree.{Pattern}
 use Rattle.isle_sema.specs.Symbols.{index_of, added, pattern_names, number_or}
-use Rattle.isle_sema.specs.Elaborated.{patterns_at}
-use Rattle.isle_sema.specs.Refused.{repeats_after}
+use Rattle.isle_sema.proofs.Trees.{patterns_at}
+use Rattle.isle_sema.specs.Repeats.{repeats_after}
 use Rattle.isle_sema.specs.TypedRule.{numbers}
 use Rattle.isle_sema.proofs.SymbolLaws.{index_of_new}
 use Rattle.isle_sema.proofs.BoundVariables.{none_of}

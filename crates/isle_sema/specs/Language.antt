@@ -4,9 +4,9 @@ use Rattle.std.specs.List.{list_all, list_any}
 use Rattle.isle_syntax.specs.Tree as tree
 use Rattle.isle_syntax.specs.Tree.{Pattern, Expr, Exprs, NoExpr, AnExpr, IfLet, Def, Decl, ExternConstructor, Rule}
 use Rattle.isle_sema.specs.Symbols.{pattern_names}
-use Rattle.isle_sema.specs.Signatures.{Extern, RuleDef, rule_defs}
-use Rattle.isle_sema.specs.Calls.{calls_external, calls_ruled}
-use Rattle.isle_sema.specs.Refused.{repeats}
+use Rattle.isle_sema.specs.Signatures.{RuleDef, rule_defs}
+use Rattle.isle_sema.specs.Calls.{calls_ruled}
+use Rattle.isle_sema.specs.Repeats.{repeats}
 
 -- an integer, a truth, a wildcard or a variable
 abbrev pub is_built_pattern : Pattern → Bool
@@ -42,10 +42,6 @@ is_built_def (Decl term pure multi partial recursive args ret pos) = not pure &&
 is_built_def (ExternConstructor term func pos) = true
 is_built_def (Rule name prio term args iflets rhs pos) = list_all is_built_pattern args && are_none iflets && is_built_expr rhs && not (repeats (flat_map pattern_names args))
 is_built_def d = false
-
--- rules call only terms with external constructors
-abbrev pub rules_call_external : List Extern → List RuleDef → Bool
-rules_call_external xs rules = list_all (λ (r : RuleDef). calls_external xs r.rhs) rules
 
 -- rules call no term that has a rule
 abbrev pub rules_call_ruled : List RuleDef → List RuleDef → Bool

@@ -6,7 +6,7 @@ pub mod Collected
 pub mod Elaborated
 pub mod Calls
 pub mod Heads
-pub mod Refused
+pub mod Repeats
 pub mod Language
 pub mod TypedRule
 pub mod LookedUp
@@ -27,8 +27,9 @@ pub mod Environment
 pub mod Typing
 pub mod ReadyRule
 pub mod Numbered
-pub mod Resolved
 pub mod Known
 pub mod Tables
 pub mod Forms
-pub mod Sound
+pub mod Tests
+pub mod Judging
+pub mod Taken

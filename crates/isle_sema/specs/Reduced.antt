@@ -30,6 +30,15 @@ abbrev pub typed_integer : TypeEnv → Option TypeId → ℤ → Option (TypeId 
 typed_integer types None z = None
 typed_integer types (Some ty) z = option_map (λ (n : ℤ). (ty, n)) (integer_by (slice_get types.types ty.0) z)
 
+-- the integer type that a definition is
+abbrev pub int_type_by : Option TypeDef → Option IntType
+int_type_by None = None
+int_type_by (Some (Builtin Truths)) = None
+int_type_by (Some (Builtin (Int ty))) = Some ty
+int_type_by (Some (Primitive name rust pos)) = None
+int_type_by (Some (Enum name is_extern is_nodebug variants pos)) = None
+int_type_by (Some (Struct name is_extern is_nodebug fields pos)) = None
+
 -- a number of a type of this definition; of no other definition is it built
 abbrev pub reduced_by : Option TypeDef → ℤ → ℤ
 reduced_by (Some (Builtin (Int ty))) z = reduced ty z

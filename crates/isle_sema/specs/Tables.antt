@@ -5,7 +5,7 @@ use Rattle.isle_sema.specs.Symbols.{index_of}
 use Rattle.isle_sema.specs.Numbered.{place_in}
 use Rattle.isle_sema.specs.Signatures.{Signature, Extern, RuleDef}
 use Rattle.isle_sema.specs.Heads.{terms_of, extern_terms, heads_of}
-use Rattle.isle_sema.specs.Refused.{repeats}
+use Rattle.isle_sema.specs.Repeats.{repeats}
 
 -- the table has the first place of each name, by its number, and none repeats
 pub record HasFirsts (syms names : List (List ℕ)) (table : List (Option ℕ)) : Type 0 where

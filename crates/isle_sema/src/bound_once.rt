@@ -5,8 +5,8 @@ ghost use Rattle.std.specs.List.{list_any};
 ghost use Rattle.isle_syntax.specs.Views.{pattern};
 ghost use Rattle.isle_sema.specs.Symbols.{pattern_names};
 ghost use Rattle.isle_sema.specs.Collected.{rule as seen};
-ghost use Rattle.isle_sema.specs.Refused.{repeats, repeats_after};
-ghost use Rattle.isle_sema.specs.Sound.{binds_twice};
+ghost use Rattle.isle_sema.specs.Repeats.{repeats, repeats_after};
+ghost use Rattle.isle_sema.specs.Tests.{binds_twice};
 
 use crate::collected::RuleDef;
 use crate::symbols::Symbols;

@@ -1,131 +1,168 @@
 //! Expressions with types in them, their variables and terms as numbers.
 
-ghost use Rattle.std.specs.Prelude.{◌≡◌, IfOk, map, option_map};
-ghost use Rattle.isle_syntax.specs.Views.{expr, exprs_of};
+ghost use Rattle.std.specs.Prelude.{◌≡◌, List, Option, IfOk, OnOk, Some, map, option_map, option_and_then};
+ghost use Rattle.isle_syntax.specs.Tree as tree;
+ghost use Rattle.isle_syntax.specs.Tree.{Def};
+ghost use Rattle.isle_syntax.specs.Views.{expr, exprs_of, defs as seen};
+ghost use Rattle.isle_core.specs.Expr as core_expr;
 ghost use Rattle.isle_core.specs.RuleViews.{expr as elaborated, exprs_of as elaborated_of};
-ghost use Rattle.isle_sema.specs.Known.{seen_called};
-ghost use Rattle.isle_sema.specs.Resolved.{is_refused, var_named, variable_in, called, call_of, expr_in, exprs_in};
-ghost use Rattle.isle_sema.specs.Calls.{count_of};
+ghost use Rattle.isle_sema.specs.Signatures.{Signature, signatures, term_named};
+ghost use Rattle.isle_sema.specs.Reduced.{typed_integer};
+ghost use Rattle.isle_sema.specs.Scope.{variable};
+ghost use Rattle.isle_sema.specs.Whole.{arg_types, ret_type};
+ghost use Rattle.isle_sema.specs.Environment.{types_of, whole_of};
+ghost use Rattle.isle_sema.specs.Known.{MayBeCalled};
+ghost use Rattle.isle_sema.specs.ExprPass.{call_tree, expr_pass, exprs_pass};
+ghost use Rattle.isle_sema.specs.Judging.{judge_all};
 
+use crate::judged::Judged;
 use crate::known::{Called, Known};
-use crate::reduced::reduced_at;
+use crate::reduced::{int_type, reduced};
 use crate::variables::Variables;
-use isle_core::{Expr, List, Text, TypeId};
+use isle_core::{Expr, List, Text, TypeId, VarId};
 use isle_syntax::AstExpr;
 use std::alloc::{AllocError, Global};
 
-/// A variable where this type is expected: nothing where it is not bound, or has another type.
+/// An integer where this type is expected.
 #[tactic(auto, using(isle_core::proofs::SeesRules::sees))]
-fn variable_at(vars: &Variables, ty: TypeId, name: &Text) -> Option<Expr>
-    ensures { option_map elaborated result ≡ variable_in ty (var_named vars.now name.now) }
+fn integer_at(expected: Option<TypeId>, n: i128) -> Option<Expr>
+    ensures { (defs : List Def) → option_map elaborated result ≡ option_map (λ v. core_expr.ConstInt v.0 v.1) (typed_integer (types_of defs) expected n) }
 {
-    let (var, of) = vars.find(name)?;
-    if of.index() == ty.index() {
-        Some(Expr::Var(ty, var))
-    } else {
-        None
+    let ty = expected?;
+    let of = int_type(ty)?;
+    Some(Expr::ConstInt(ty, reduced(of, n)))
+}
+
+/// A variable, where it is bound at a type that is known.
+#[tactic(auto, using(isle_core::proofs::SeesRules::sees))]
+fn variable_at(
+    vars: &Variables,
+    judged: &mut Judged,
+    expected: Option<TypeId>,
+    name: &Text,
+) -> Option<Expr>
+    ensures tree { (defs : List Def) → option_map elaborated result ≡ (expr_pass (whole_of defs) vars.now expected (tree.Name name.now)).tree }
+    ensures sites { (defs : List Def) → judged.new ≡ judge_all (whole_of defs) judged.old (expr_pass (whole_of defs) vars.now expected (tree.Name name.now)).sites }
+{
+    match vars.find(name) {
+        Some((ty, number)) => {
+            judged.used(expected, Some(ty));
+            Some(Expr::Var(ty?, VarId(number)))
+        }
+        None => {
+            judged.used(expected, None);
+            None
+        }
     }
 }
 
-/// Whether a call is wrong whatever its arguments are.
-#[tactic(auto, using(crate::proofs::CallLaws::counted))]
-fn is_refused(allowed: bool, ty: TypeId, called: &Called, args: &[AstExpr]) -> bool
-    ensures { result ≡ is_refused allowed ty (seen_called called.now) (count_of (exprs_of (map expr args.now))) }
+/// The types of a term's arguments: of a term that is not declared, none.
+fn argument_types<'s>(callee: &Option<Called<'s>>) -> &'s [TypeId]
+    ensures { (defs : List Def) (s : Option Signature) → MayBeCalled (whole_of defs) s callee.now → arg_types (whole_of defs) s ≡ map Some result.now }
 {
-    args.len() != called.args.len()
-        || called.ret.index() != ty.index()
-        || !called.external
-        || (called.partial && !allowed)
+    match callee {
+        Some(callee) => callee.args,
+        None => &[],
+    }
 }
 
-/// An expression where this type is expected: nothing where it is wrong. A term that may answer nothing is called only
-/// where that is allowed.
+/// A call of a term on these expressions, where all are there.
+#[tactic(auto, using(isle_core::proofs::SeesRules::sees))]
+fn call_of(callee: &Option<Called>, args: Option<Vec<Expr>>) -> Option<Expr>
+    ensures { (defs : List Def) (s : Option Signature) → MayBeCalled (whole_of defs) s callee.now → option_map elaborated result ≡ call_tree (ret_type (whole_of defs) s) (option_and_then (λ (d : Signature). term_named (signatures defs) d.term) s) (option_map (λ xs. elaborated_of (map elaborated xs.items)) args) }
+{
+    let args = args?;
+    match callee {
+        Some(callee) => Some(Expr::Term(callee.ret, callee.term, List::new(args))),
+        None => None,
+    }
+}
+
+/// An expression where this type is expected: its tree, where its form is built and its types are known.
 #[cycle(exprs)]
 #[tactic(auto, using(crate::proofs::Sees::expr_sees, isle_core::proofs::SeesRules::sees))]
 pub fn expr_at(
     alloc: Global,
     known: &Known,
     vars: &Variables,
-    allowed: bool,
-    ty: TypeId,
+    judged: &mut Judged,
+    expected: Option<TypeId>,
     e: &AstExpr,
 ) -> Result<Option<Expr>, AllocError>
-    ensures { IfOk result (λ found. option_map elaborated found ≡ expr_in known.now vars.now allowed ty (expr e.now)) }
+    ensures tree { IfOk result (λ found. option_map elaborated found ≡ (expr_pass (whole_of (seen known.now)) vars.now expected (expr e.now)).tree) }
+    ensures sites { OnOk result (judged.new ≡ judge_all (whole_of (seen known.now)) judged.old (expr_pass (whole_of (seen known.now)) vars.now expected (expr e.now)).sites) }
 {
     match e {
         AstExpr::Int(n) => {
-            if ty.index() == 0 {
-                return Ok(None);
-            }
-            Ok(Some(Expr::ConstInt(ty, reduced_at(ty, *n))))
+            judged.integer(expected);
+            Ok(integer_at(expected, *n))
         }
         AstExpr::Bool(b) => {
-            if ty.index() != 0 {
-                return Ok(None);
-            }
+            judged.truth(expected);
             Ok(Some(Expr::ConstBool(*b)))
         }
-        AstExpr::Var(name) => Ok(variable_at(vars, ty, name)),
+        AstExpr::Var(name) => Ok(variable_at(vars, judged, expected, name)),
         AstExpr::Term(name, args) => call_at(
             alloc,
             known,
             vars,
-            allowed,
-            ty,
+            judged,
+            expected,
             name,
             args.as_slice(),
         ),
-        _ => Ok(Some(Expr::ConstBool(false))),
+        AstExpr::Const(_) => {
+            judged.part();
+            Ok(None)
+        }
+        AstExpr::Let(_, _) => {
+            judged.part();
+            Ok(None)
+        }
     }
 }
 
 /// A call where this type is expected.
 #[cycle(exprs)]
-#[tactic(auto, using(isle_core::proofs::SeesRules::sees))]
+#[tactic(auto, using(crate::proofs::CallLaws::counted))]
 fn call_at(
     alloc: Global,
     known: &Known,
     vars: &Variables,
-    allowed: bool,
-    ty: TypeId,
+    judged: &mut Judged,
+    expected: Option<TypeId>,
     name: &Text,
     args: &[AstExpr],
 ) -> Result<Option<Expr>, AllocError>
-    ensures { IfOk result (λ found. option_map elaborated found ≡ call_of allowed ty (called known.now name.now) (count_of (exprs_of (map expr args.now))) (λ tys. exprs_in known.now vars.now allowed tys (exprs_of (map expr args.now)))) }
+    ensures tree { IfOk result (λ found. option_map elaborated found ≡ (expr_pass (whole_of (seen known.now)) vars.now expected (tree.Call name.now (exprs_of (map expr args.now)))).tree) }
+    ensures sites { OnOk result (judged.new ≡ judge_all (whole_of (seen known.now)) judged.old (expr_pass (whole_of (seen known.now)) vars.now expected (tree.Call name.now (exprs_of (map expr args.now)))).sites) }
 {
-    let Some(called) = known.called(name) else {
-        return Ok(None);
-    };
-    if is_refused(allowed, ty, &called, args) {
-        return Ok(None);
-    }
-    match exprs_at(alloc, known, vars, allowed, called.args, args)? {
-        Some(typed) => Ok(Some(Expr::Term(ty, called.term, List::new(typed)))),
-        None => Ok(None),
-    }
+    let callee = known.called(name);
+    judged.called(expected, &callee, args.len());
+    let typed = exprs_at(alloc, known, vars, judged, argument_types(&callee), args)?;
+    Ok(call_of(&callee, typed))
 }
 
-/// Expressions where these types are expected; those beyond them are left out.
+/// Expressions where these types are expected, beyond them none: their trees, where all have one.
 #[cycle(exprs)]
 fn exprs_at(
     alloc: Global,
     known: &Known,
     vars: &Variables,
-    allowed: bool,
+    judged: &mut Judged,
     types: &[TypeId],
     es: &[AstExpr],
 ) -> Result<Option<Vec<Expr>>, AllocError>
-    ensures { IfOk result (λ found. option_map (λ xs. elaborated_of (map elaborated xs.items)) found ≡ exprs_in known.now vars.now allowed types.now (exprs_of (map expr es.now))) }
+    ensures trees { IfOk result (λ found. option_map (λ xs. elaborated_of (map elaborated xs.items)) found ≡ (exprs_pass (whole_of (seen known.now)) vars.now (map Some types.now) (exprs_of (map expr es.now))).trees) }
+    ensures sites { OnOk result (judged.new ≡ judge_all (whole_of (seen known.now)) judged.old (exprs_pass (whole_of (seen known.now)) vars.now (map Some types.now) (exprs_of (map expr es.now))).sites) }
 {
     let mut typed = Vec::with_capacity(alloc, es.len())?;
+    let mut complete = true;
     for (index, e) in es.iter().enumerate() {
-        let Some(ty) = types.get(index) else {
-            return Ok(Some(typed));
-        };
-        match expr_at(alloc, known, vars, allowed, *ty, e)? {
+        match expr_at(alloc, known, vars, judged, types.get(index).copied(), e)? {
             Some(found) => typed.push(found)?,
-            None => return Ok(None),
+            None => complete = false,
         }
     }
-    Ok(Some(typed))
+    Ok(if complete { Some(typed) } else { None })
 }

@@ -1,75 +1,115 @@
 //! Patterns with types in them, their variables as numbers.
 
-ghost use Rattle.std.specs.Prelude.{◌≡◌, IfOk, map, option_map};
+ghost use Rattle.std.specs.Prelude.{◌≡◌, List, IfOk, OnOk, map, option_map};
+ghost use Rattle.isle_syntax.specs.Tree.{Def};
 ghost use Rattle.isle_syntax.specs.Views.{pattern};
 ghost use Rattle.isle_core.specs.RuleViews.{pattern as elaborated};
-ghost use Rattle.isle_sema.specs.Resolved.{variable_pattern, pattern_in, patterns_in};
+ghost use Rattle.isle_core.specs.Pattern as core_pattern;
+ghost use Rattle.isle_sema.specs.Reduced.{typed_integer};
+ghost use Rattle.isle_sema.specs.Scope.{variable};
+ghost use Rattle.isle_sema.specs.Environment.{types_of, whole_of};
+ghost use Rattle.isle_sema.specs.PatternPass.{pattern_pass, patterns_pass};
+ghost use Rattle.isle_sema.specs.Judging.{judge_all};
 
-use crate::reduced::reduced_at;
+use crate::judged::Judged;
+use crate::reduced::{int_type, reduced};
 use crate::variables::Variables;
-use isle_core::{Pattern, Text, TypeId};
+use isle_core::{Pattern, Text, TypeId, VarId};
 use isle_syntax::AstPattern;
 use std::alloc::{AllocError, Global};
 
-/// A variable where this type is expected.
-fn variable_at<'d>(
-    vars: &mut Variables<'d>,
-    ty: TypeId,
-    name: &'d Text,
-) -> Result<Option<Pattern>, AllocError>
-    ensures { IfOk result (λ found. option_map (λ p. (elaborated p, vars.new)) found ≡ variable_pattern ty name.now vars.old) }
+/// An integer where this type is expected.
+#[tactic(auto, using(isle_core::proofs::SeesRules::sees))]
+fn integer_at(expected: Option<TypeId>, n: i128) -> Option<Pattern>
+    ensures { (defs : List Def) → option_map elaborated result ≡ option_map (λ v. core_pattern.ConstInt v.0 v.1) (typed_integer (types_of defs) expected n) }
 {
-    match vars.bind(name, ty)? {
-        Some(var) => Ok(Some(Pattern::Var(ty, var))),
-        None => Ok(None),
+    let ty = expected?;
+    let of = int_type(ty)?;
+    Some(Pattern::ConstInt(ty, reduced(of, n)))
+}
+
+/// A variable, where it is bound at a type that is known.
+#[tactic(auto, using(isle_core::proofs::SeesRules::sees))]
+fn variable_at(vars: &Variables, name: &Text) -> Option<Pattern>
+    ensures { option_map elaborated result ≡ option_map (λ v. core_pattern.Var v.0 v.1) (variable vars.now name.now) }
+{
+    match vars.find(name)? {
+        (Some(ty), number) => Some(Pattern::Var(ty, VarId(number))),
+        (None, _) => None,
     }
 }
 
-/// A pattern where this type is expected: nothing where it is misplaced, or binds a variable again.
+/// A pattern where this type is expected: its tree, where its form is built and its types are known.
 #[tactic(auto, using(crate::proofs::Sees::pattern_sees, isle_core::proofs::SeesRules::sees))]
 fn pattern_at<'d>(
     vars: &mut Variables<'d>,
-    ty: TypeId,
+    judged: &mut Judged,
+    expected: Option<TypeId>,
     p: &'d AstPattern,
 ) -> Result<Option<Pattern>, AllocError>
-    ensures { IfOk result (λ found. option_map (λ p. (elaborated p, vars.new)) found ≡ pattern_in ty (pattern p.now) vars.old) }
+    ensures tree { (defs : List Def) → IfOk result (λ found. option_map elaborated found ≡ (pattern_pass (whole_of defs) expected vars.old (pattern p.now)).tree) }
+    ensures scope { (defs : List Def) → OnOk result (vars.new ≡ (pattern_pass (whole_of defs) expected vars.old (pattern p.now)).scope) }
+    ensures sites { (defs : List Def) → OnOk result (judged.new ≡ judge_all (whole_of defs) judged.old (pattern_pass (whole_of defs) expected vars.old (pattern p.now)).sites) }
 {
     match p {
         AstPattern::Int(n) => {
-            if ty.index() == 0 {
-                return Ok(None);
-            }
-            Ok(Some(Pattern::ConstInt(ty, reduced_at(ty, *n))))
+            judged.integer(expected);
+            Ok(integer_at(expected, *n))
         }
         AstPattern::Bool(b) => {
-            if ty.index() != 0 {
-                return Ok(None);
-            }
+            judged.truth(expected);
             Ok(Some(Pattern::ConstBool(*b)))
         }
-        AstPattern::Var(name) => variable_at(vars, ty, name),
-        _ => Ok(Some(Pattern::Wildcard(ty))),
+        AstPattern::Var(name) => {
+            let bound = vars.meet(name, expected)?;
+            judged.met(expected, bound);
+            Ok(variable_at(vars, name))
+        }
+        AstPattern::Wildcard => {
+            judged.part();
+            match expected {
+                Some(ty) => Ok(Some(Pattern::Wildcard(ty))),
+                None => Ok(None),
+            }
+        }
+        AstPattern::Const(_) => {
+            judged.part();
+            Ok(None)
+        }
+        AstPattern::Bind(_, _) => {
+            judged.part();
+            Ok(None)
+        }
+        AstPattern::And(_) => {
+            judged.part();
+            Ok(None)
+        }
+        AstPattern::Term(_, _) => {
+            judged.part();
+            Ok(None)
+        }
     }
 }
 
-/// Patterns where these types are expected; those beyond them are left out.
+/// Patterns where these types are expected, beyond them none: their trees, where all have one.
 pub fn patterns_at<'d>(
     alloc: Global,
     vars: &mut Variables<'d>,
+    judged: &mut Judged,
     types: &[TypeId],
     patterns: &'d [AstPattern],
 ) -> Result<Option<Vec<Pattern>>, AllocError>
-    ensures { IfOk result (λ found. option_map (λ ps. (map elaborated ps.items, vars.new)) found ≡ patterns_in types.now (map pattern patterns.now) vars.old) }
+    ensures trees { (defs : List Def) → IfOk result (λ found. option_map (λ ps. map elaborated ps.items) found ≡ (patterns_pass (whole_of defs) (map Some types.now) vars.old (map pattern patterns.now)).trees) }
+    ensures scope { (defs : List Def) → OnOk result (vars.new ≡ (patterns_pass (whole_of defs) (map Some types.now) vars.old (map pattern patterns.now)).scope) }
+    ensures sites { (defs : List Def) → OnOk result (judged.new ≡ judge_all (whole_of defs) judged.old (patterns_pass (whole_of defs) (map Some types.now) vars.old (map pattern patterns.now)).sites) }
 {
     let mut typed = Vec::with_capacity(alloc, patterns.len())?;
+    let mut complete = true;
     for (index, p) in patterns.iter().enumerate() {
-        let Some(ty) = types.get(index) else {
-            return Ok(Some(typed));
-        };
-        match pattern_at(vars, *ty, p)? {
+        match pattern_at(vars, judged, types.get(index).copied(), p)? {
             Some(found) => typed.push(found)?,
-            None => return Ok(None),
+            None => complete = false,
         }
     }
-    Ok(Some(typed))
+    Ok(if complete { Some(typed) } else { None })
 }

@@ -3,17 +3,19 @@
 
 mod bound_once;
 mod builtins;
-mod calls;
 mod collected;
 mod elaborated_exprs;
 mod elaborated_patterns;
 mod elaborated_rules;
 mod elaborated_terms;
+mod expected;
 mod first_places;
 mod interning;
+mod judged;
 mod known;
 mod language;
 mod reduced;
+mod rows;
 mod signature_faults;
 mod symbols;
 mod tables;

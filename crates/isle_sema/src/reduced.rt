@@ -1,9 +1,10 @@
 //! Integers as the values of their type.
 
-ghost use Rattle.std.specs.Prelude.{◌≡◌};
+ghost use Rattle.std.specs.Prelude.{◌≡◌, slice_get};
 ghost use Rattle.std.specs.Int.{w8, w16, w32, w64};
 ghost use Rattle.isle_core.specs.Int.{residue};
-ghost use Rattle.isle_sema.specs.Reduced.{reduced, reduced_at};
+ghost use Rattle.isle_sema.specs.Builtins.{builtins};
+ghost use Rattle.isle_sema.specs.Reduced.{reduced, int_type_by};
 
 use isle_core::{IntType, TypeId};
 
@@ -53,9 +54,9 @@ pub fn reduced(ty: IntType, n: i128) -> i128
     }
 }
 
-/// A number of a type.
-pub fn reduced_at(ty: TypeId, n: i128) -> i128
-    ensures { result ≡ reduced_at ty n }
+/// The integer type that a type is.
+pub fn int_type(ty: TypeId) -> Option<IntType>
+    ensures { result ≡ int_type_by (slice_get builtins ty.0) }
 {
     let of = match ty.index() {
         1 => IntType::U8,
@@ -70,7 +71,7 @@ pub fn reduced_at(ty: TypeId, n: i128) -> i128
         10 => IntType::I64,
         11 => IntType::I128,
         12 => IntType::ISize,
-        _ => return n,
+        _ => return None,
     };
-    reduced(of, n)
+    Some(of)
 }

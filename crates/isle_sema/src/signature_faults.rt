@@ -4,7 +4,7 @@ ghost use Rattle.std.specs.Prelude.{◌≡◌, ℕ, List, map, is_some};
 ghost use Rattle.std.specs.List.{list_all, list_any};
 ghost use Rattle.isle_sema.specs.Builtins.{builtin_named};
 ghost use Rattle.isle_sema.specs.Collected.{signature as seen};
-ghost use Rattle.isle_sema.specs.Sound.{is_misdeclared};
+ghost use Rattle.isle_sema.specs.Tests.{is_misdeclared};
 
 use crate::builtins::type_named;
 use crate::collected::Signature;

@@ -84,7 +84,7 @@ pub fn term_env_from_ast(alloc: Global, env: &TypeEnv, defs: &[Def]) -> Result<T
 {
     let _given = env;
     let collected = definitions(alloc, defs)?;
-    match term_env(alloc, &collected)? {
+    match term_env(alloc, defs, &collected)? {
         Some(terms) => Ok(terms),
         None => Err(EnvError::NotYet),
     }
@@ -100,7 +100,10 @@ pub fn env_from_ast(alloc: Global, defs: &[Def]) -> Result<(TypeEnv, TermEnv), E
         return Err(EnvError::NotYet);
     }
     let collected = definitions(alloc, defs)?;
-    match term_env(alloc, &collected)? {
+    if any_binds_twice(alloc, collected.rules.as_slice())? {
+        return Err(EnvError::NotYet);
+    }
+    match term_env(alloc, defs, &collected)? {
         Some(terms) => Ok((types_over(alloc, &collected.symbols)?, terms)),
         None => Err(EnvError::NotYet),
     }

@@ -1,27 +1,28 @@
-//! The variables that patterns bind, with their types.
+//! The variables that patterns bind, with the types that they are bound at.
 
-ghost use Rattle.std.specs.Prelude.{◌≡◌, ◌++◌, ◌∷◌, [], None, IfOk, IfSome, is_some, if◌then◌else◌, length};
+ghost use Rattle.std.specs.Prelude.{◌≡◌, [], IfOk, OnOk, option_map};
 ghost use Rattle.isle_sema.specs.Symbols.{index_of};
-ghost use Rattle.isle_sema.specs.Resolved.{names_of, var_named, var_number};
+ghost use Rattle.isle_sema.specs.Scope.{scope_names, bound_at, met};
 
 use crate::symbols::Symbols;
-use isle_core::{Text, TypeId, VarId};
+use isle_core::{Text, TypeId};
 use std::alloc::{AllocError, Global};
 use std::marker::Model;
 
-/// Variables, each once, with their types. Contracts see the names with the types.
+/// Variables, each once, with the types that they are bound at, where those are known. Contracts see the names with the
+/// types.
 #[derive(Drop)]
 pub struct Variables<'d> {
     names: Symbols<'d>,
-    types: Vec<TypeId>,
+    types: Vec<Option<TypeId>>,
 }
 
 impl<'d> Model for Variables<'d> {
-    ghost use Rattle.std.specs.Prelude.{◌≡◌, List, ℕ, length};
+    ghost use Rattle.std.specs.Prelude.{◌≡◌, List, ℕ, Option, length};
     ghost use Rattle.std.specs.List.{zip};
     ghost use Rattle.isle_core.specs.declared.TypeId.{TypeId as OfType};
 
-    ghost Value = { List (List ℕ × OfType) };
+    ghost Value = { List (List ℕ × Option OfType) };
 
     ghost view = { λ v. zip v.names v.types.items };
 
@@ -39,34 +40,36 @@ impl<'d> Variables<'d> {
         }
     }
 
-    /// One variable more, with its number; `None` where it is there.
-    pub fn bind(&mut self, name: &'d Text, ty: TypeId) -> Result<Option<VarId>, AllocError>
-        ensures number { IfOk result (λ var. var ≡ (if is_some (index_of (names_of self.old) name.now) then None else var_number (length self.old))) }
-        ensures behind { IfOk result (λ var. IfSome var (λ v. self.new ≡ self.old ++ (name.now, ty) ∷ [])) }
+    /// The type that a variable is bound at and its number, where it is bound.
+    pub fn find(&self, name: &Text) -> Option<(Option<TypeId>, usize)>
+        ensures bound { option_map (λ v. v.0) result ≡ bound_at self.now name.now }
+        ensures number { option_map (λ v. v.1) result ≡ index_of (scope_names self.now) name.now }
     {
-        let next = self.types.len();
-        self.types.push(ty)?;
+        let place = self.names.find(name.as_str())?;
+        let ty = self.types.get(place)?;
+        Some((*ty, place))
+    }
+
+    /// A variable of a pattern, which is bound at this type where it is met first; gives the type that it was bound at
+    /// before, where it was.
+    pub fn meet(
+        &mut self,
+        name: &'d Text,
+        expected: Option<TypeId>,
+    ) -> Result<Option<Option<TypeId>>, AllocError>
+        ensures bound { IfOk result (λ bound. bound ≡ bound_at self.old name.now) }
+        ensures scope { OnOk result (self.new ≡ met self.old name.now expected) }
+    {
+        if let Some(found) = self.find(name) {
+            return Ok(Some(found.0));
+        }
+        self.types.push(expected)?;
         match self.names.intern(name.as_str()) {
-            Ok(place) => {
-                if place == next {
-                    return Ok(Some(VarId(place)));
-                }
-                self.types.pop();
-                Ok(None)
-            }
+            Ok(_) => Ok(None),
             Err(_) => {
                 self.types.pop();
                 Err(AllocError)
             }
         }
-    }
-
-    /// The variable of a name, with its type.
-    pub fn find(&self, name: &Text) -> Option<(VarId, TypeId)>
-        ensures { result ≡ var_named self.now name.now }
-    {
-        let place = self.names.find(name.as_str())?;
-        let ty = self.types.get(place)?;
-        Some((VarId(place), *ty))
     }
 }

@@ -2,7 +2,7 @@ use Rattle.std.proofs.Common.{◌≡◌, map}
 use Rattle.std.specs.Prelude.{drop}
 use Rattle.std.specs.List.{list_any}
 use Rattle.isle_sema.specs.Collected.{rule}
-use Rattle.isle_sema.specs.Sound.{binds_twice}
+use Rattle.isle_sema.specs.Tests.{binds_twice}
 use Rattle.isle_sema.proofs.bound_once.any_binds_twice.Given as goal
 
 abbrev pub invariant-loop-rule : goal.invariant-loop-rule

@@ -1,5 +1,5 @@
 use Rattle.std.proofs.Common.{sym, ap, ◌∙◌, cond, true, ◌+◌}
-use Rattle.isle_sema.specs.Refused.{repeats_after}
+use Rattle.isle_sema.specs.Repeats.{repeats_after}
 use Rattle.isle_sema.proofs.MetVariables.{met_more, names_from}
 use Rattle.isle_sema.proofs.bound_once.repeats_variable.Goals as goal
 

@@ -1,18 +1,66 @@
-use Rattle.std.proofs.Common.{rules}
-use Rattle.isle_sema.proofs.LookUps.{there, past}
-use Rattle.isle_sema.proofs.Steps.{expr_more, exprs_end, exprs_past}
+use Rattle.std.proofs.Common.{◌≡◌, rules, Some, true, false, map, ap, sym, ◌∙◌, to_z, of_z}
+use Rattle.std.specs.Prelude.{option_map, slice_get}
+use Rattle.std.specs.Int.{w128}
+use Rattle.isle_core.specs.RuleViews.{expr as elaborated, exprs_of as elaborated_of}
+use Rattle.isle_syntax.specs.Tree as tree
+use Rattle.isle_syntax.specs.Views.{expr, exprs_of, defs as seen}
+use Rattle.isle_sema.specs.Signatures.{signatures, term_named}
+use Rattle.isle_sema.specs.Whole.{declared, ret_type}
+use Rattle.isle_sema.specs.Environment.{whole_of}
+use Rattle.isle_sema.specs.ExprPass.{call_tree, expr_pass, exprs_pass}
+use Rattle.isle_sema.specs.Judging.{judge_all}
+use Rattle.isle_sema.proofs.Sees.{expr-number, expr-name}
+use Rattle.isle_sema.proofs.LookUps.{got}
+use Rattle.isle_sema.proofs.RuleLaws.{number_of}
+use Rattle.isle_sema.proofs.Steps.{exprs_before, same_cond, exprs_more, expr_more, expr_missing, exprs_all}
+use Rattle.isle_sema.proofs.elaborated_exprs.+exprs.Goals.{exprs_at-in-Some+in_ok-push-in-Some, exprs_at-in-None, exprs_at-then-complete, exprs_at-else-complete}
 use Rattle.isle_sema.proofs.elaborated_exprs.+exprs.Goals as goal
 
-pub exprs_at-returns-in_default : goal.exprs_at-returns-in_default
-exprs_at-returns-in_default t c =
-    let h = c.get.ensures.lookup in
-    exprs_past c.args.known.now c.args.vars.now c.args.allowed c.args.types.now c.args.es.now c.loop-index.index c.loop-index.typed.items _ (past c.args.types.now c.loop-index.index c.get.result h.3 c.in_default.is) c.loop-index.invariant
+pub call_at-returns-clause-tree : goal.call_at-returns-clause-tree
+call_at-returns-clause-tree t c =
+    let w = whole_of (seen c.args.known.now) in
+    let o = declared w c.args.name.now in
+    let es = exprs_of (map expr c.args.args.now) in
+    let trees : option_map (λ xs. elaborated_of (map elaborated xs.items)) c.in_ok-typed.typed ≡ (exprs_pass w c.args.vars.now (map Some c.argument_types.result.now) es).trees = c.in_ok-typed.ensures.trees in
+    c.call_of.ensures (seen c.args.known.now) o c.called-callee.ensures ∙ ap (λ n. call_tree (ret_type w o) n (option_map (λ xs. elaborated_of (map elaborated xs.items)) c.in_ok-typed.typed)) (number_of (signatures (seen c.args.known.now)) c.args.name.now)
+    ∙ ap (call_tree (ret_type w o) (term_named (signatures (seen c.args.known.now)) c.args.name.now)) (trees ∙ ap (λ os. (exprs_pass w c.args.vars.now os es).trees) (sym (c.argument_types.ensures (seen c.args.known.now) o c.called-callee.ensures)))
+
+pub expr_at-returns-in-Int-clause-tree : goal.expr_at-returns-in-Int-clause-tree
+expr_at-returns-in-Int-clause-tree t c =
+    let is : expr c.args.e.now ≡ tree.Number c.in-Int.n = ap expr c.in-Int.is ∙ expr-number c.in-Int.n in
+    let same : to_z w128 (of_z w128 c.in-Int.n) ≡ c.in-Int.n = search rules in
+    let w = whole_of (seen c.args.known.now) in
+    c.integer_at.ensures (seen c.args.known.now) ∙ ap (λ n. (expr_pass w c.args.vars.now c.args.expected (tree.Number n)).tree) same ∙ ap (λ q. (expr_pass w c.args.vars.now c.args.expected q).tree) (sym is)
+
+pub expr_at-returns-in-Var-clause-tree : goal.expr_at-returns-in-Var-clause-tree
+expr_at-returns-in-Var-clause-tree t c =
+    let is : expr c.args.e.now ≡ tree.Name c.in-Var.name = ap expr c.in-Var.is ∙ expr-name c.in-Var.name in
+    c.variable_at.ensures.tree (seen c.args.known.now) ∙ ap (λ q. (expr_pass (whole_of (seen c.args.known.now)) c.args.vars.now c.args.expected q).tree) (sym is)
+
+pub expr_at-returns-in-Var-clause-sites : goal.expr_at-returns-in-Var-clause-sites
+expr_at-returns-in-Var-clause-sites t c =
+    let is : expr c.args.e.now ≡ tree.Name c.in-Var.name = ap expr c.in-Var.is ∙ expr-name c.in-Var.name in
+    c.variable_at.ensures.sites (seen c.args.known.now) ∙ ap (λ q. judge_all (whole_of (seen c.args.known.now)) c.args.judged.now (expr_pass (whole_of (seen c.args.known.now)) c.args.vars.now c.args.expected q).sites) (sym is)
 
 pub exprs_at-loop-index-preserved : goal.exprs_at-loop-index-preserved
 exprs_at-loop-index-preserved t c =
     let h = c.get.ensures.lookup in
-    expr_more c.args.known.now c.args.vars.now c.args.allowed c.args.types.now c.args.es.now c.loop-index.index c.loop-index.typed.items c.push.new.self.items c.index-es-index.result _ c.in-Some.ty.now c.in-Some-2.found _ c.loop-index-test.true c.index-es-index.is
-    (there c.args.types.now c.loop-index.index c.get.result c.in-Some.ty h.1 h.3 c.in-Some.is) c.in_ok-push-in-Some-2.ensures.items (search rules) c.loop-index.invariant
+    let at : c.copied.result ≡ slice_get c.args.types.now c.loop-index.index = c.copied.ensures ∙ got c.args.types.now c.loop-index.index c.get.result h.1 h.3 in
+    let made = exprs_more (seen c.args.known.now) c.args.types.now c.args.vars.now c.args.es.now c.loop-index.index c.args.judged.now c.loop-index.judged c.expr_at.new.judged c.loop-index.typed.items c.match-branch-3.typed.items c.loop-index.complete c.match-branch-3.complete
+    c.index-es-index.result _ c.copied.result _ c.loop-index-test.true c.index-es-index.is at c.in_ok-found.ensures.sites in
+    elim c.match-branch-3.branch [
+      | exprs_at-in-Some+in_ok-push-in-Some w ↦ made
+          (λ rest. expr_more c.loop-index.typed.items c.match-branch-3.typed.items w.in-Some.found c.loop-index.complete _ (ap (λ v. v.items) w.typed-is ∙ w.in_ok-push-in-Some.ensures.items) (ap (option_map elaborated) (sym w.in-Some.is) ∙ c.in_ok-found.ensures.tree) rest
+          ∙ same_cond (exprs_before (map elaborated c.match-branch-3.typed.items) rest) c.loop-index.complete c.match-branch-3.complete (sym w.complete-is)) c.loop-index.invariant
+      | exprs_at-in-None w ↦ made
+          (λ rest. expr_missing c.loop-index.typed.items c.loop-index.complete _ (ap (option_map elaborated) (sym w.in-None.is) ∙ c.in_ok-found.ensures.tree) rest
+          ∙ same_cond (exprs_before (map elaborated c.match-branch-3.typed.items) rest) false c.match-branch-3.complete (sym w.complete-is)) c.loop-index.invariant
+    ]
 
-pub exprs_at-returns : goal.exprs_at-returns
-exprs_at-returns t c = exprs_end c.args.known.now c.args.vars.now c.args.allowed c.args.types.now c.args.es.now c.loop-index.index c.loop-index.typed.items _ (search rules) c.loop-index.invariant
+pub exprs_at-returns-clause-trees : goal.exprs_at-returns-clause-trees
+exprs_at-returns-clause-trees t c =
+    let all = exprs_all (seen c.args.known.now) c.args.types.now c.args.vars.now c.args.es.now c.loop-index.index c.args.judged.now c.loop-index.judged c.loop-index.typed.items c.loop-index.complete _ (search rules) c.loop-index.invariant in
+    elim c.if-complete.branch [
+      | exprs_at-then-complete w ↦ ap (option_map (λ xs. elaborated_of (map elaborated xs.items))) w.result-is ∙ sym (all.0 ∙ same_cond (Some (elaborated_of (map elaborated c.loop-index.typed.items))) c.loop-index.complete true w.if-complete.true)
+      | exprs_at-else-complete w ↦ ap (option_map (λ xs. elaborated_of (map elaborated xs.items))) w.result-is ∙ sym (all.0 ∙ same_cond (Some (elaborated_of (map elaborated c.loop-index.typed.items))) c.loop-index.complete false w.if-complete.false)
+    ]

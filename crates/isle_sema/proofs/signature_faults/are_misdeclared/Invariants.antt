@@ -2,7 +2,7 @@ use Rattle.std.proofs.Common.{◌≡◌, map}
 use Rattle.std.specs.Prelude.{drop}
 use Rattle.std.specs.List.{list_any}
 use Rattle.isle_sema.specs.Collected.{signature}
-use Rattle.isle_sema.specs.Sound.{is_misdeclared}
+use Rattle.isle_sema.specs.Tests.{is_misdeclared}
 use Rattle.isle_sema.proofs.signature_faults.are_misdeclared.Given as goal
 
 abbrev pub invariant-loop-given : goal.invariant-loop-given

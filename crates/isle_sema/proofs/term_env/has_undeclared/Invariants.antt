@@ -1,7 +1,7 @@
 use Rattle.std.proofs.Common.{◌≡◌, map}
 use Rattle.std.specs.Prelude.{drop}
 use Rattle.isle_sema.specs.Collected.{signature, extern}
-use Rattle.isle_sema.specs.Sound.{has_undeclared}
+use Rattle.isle_sema.specs.Tests.{has_undeclared}
 use Rattle.isle_sema.proofs.term_env.has_undeclared.Given as goal
 
 abbrev pub invariant-loop-given : goal.invariant-loop-given

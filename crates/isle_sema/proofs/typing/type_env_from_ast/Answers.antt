@@ -3,10 +3,10 @@ use Rattle.std.specs.List.{list_all, list_any}
 use Rattle.isle_syntax.specs.Views.{defs as seen}
 use Rattle.isle_sema.specs.Collected.{rule}
 use Rattle.isle_sema.specs.Forms.{is_built_form}
-use Rattle.isle_sema.specs.Sound.{binds_twice}
+use Rattle.isle_sema.specs.Tests.{binds_twice}
 use Rattle.isle_sema.specs.Environment.{whole_of}
 use Rattle.isle_sema.proofs.TermFaults.{types_none}
-use Rattle.isle_sema.proofs.Soundness.{unformed, bound_twice, built_from, types_from}
+use Rattle.isle_sema.proofs.BuiltForms.{unformed, bound_twice, built_from, types_from}
 use Rattle.isle_sema.proofs.typing.type_env_from_ast.Goals as goal
 
 pub returns-then-not-are_built_forms-clause-not_yet : goal.returns-then-not-are_built_forms-clause-not_yet

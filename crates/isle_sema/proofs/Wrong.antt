@@ -1,24 +1,17 @@
--- What the code refuses of declarations and rules, whole lists at once: the rows of the typing table that built forms can break.
-use Rattle.std.specs.Prelude.{ℕ, ◌+◌, List, [], ◌∷◌, ◌++◌, length, Bool, true, false, ◌==◌, ◌&&◌, ◌||◌, not, Option, Some, None, is_some, map, nat_le, if◌then◌else◌}
+-- What definitions without a fault are not: the rows that built forms can break, whole lists at once.
+use Rattle.isle_sema.specs.Repeats.{repeats}
+use Rattle.std.specs.Prelude.{ℕ, ◌+◌, List, [], ◌∷◌, length, Bool, true, false, ◌==◌, ◌&&◌, ◌||◌, not, Option, Some, None, is_some, map, nat_le, if◌then◌else◌}
 use Rattle.std.specs.List.{list_all, list_any}
+use Rattle.isle_sema.specs.Builtins.{builtin_named}
 use Rattle.std.specs.Str.{bytes_eq}
 use Rattle.isle_core.specs.declared.TypeId.{TypeId}
 use Rattle.isle_syntax.specs.Tree as tree
 use Rattle.isle_syntax.specs.Tree.{Pattern, Expr, Exprs, NoExpr, AnExpr, Def}
-use Rattle.isle_sema.specs.Symbols.{index_of}
-use Rattle.isle_sema.specs.Builtins.{builtin_named}
 use Rattle.isle_sema.specs.Signatures.{Signature, Extern, RuleDef, signatures, externs, func_named, rule_defs, signature_named}
-use Rattle.isle_sema.specs.Elaborated.{type_of, arg_types}
-use Rattle.isle_sema.specs.Calls.{count_of, calls_partial, nodes}
-
--- a name repeats an earlier one, or one of these
-abbrev pub repeats_after : List (List ℕ) → List (List ℕ) → Bool
-repeats_after before [] = false
-repeats_after before (name ∷ names) = is_some (index_of before name) || repeats_after (before ++ name ∷ []) names
-
--- a name repeats an earlier one
-abbrev pub repeats : List (List ℕ) → Bool
-repeats names = repeats_after [] names
+use Rattle.isle_sema.specs.Elaborated.{type_of}
+use Rattle.isle_sema.proofs.Trees.{arg_types}
+use Rattle.isle_sema.specs.Calls.{count_of}
+use Rattle.isle_sema.proofs.RightSides.{calls_partial, nodes}
 
 -- a declaration names a type that is not declared
 abbrev pub names_no_type : Signature → Bool
@@ -45,6 +38,10 @@ abbrev pub typed_vars : List Pattern → List TypeId → List (List ℕ × TypeI
 typed_vars (tree.Var name ∷ ps) (ty ∷ tys) = (name, ty) ∷ typed_vars ps tys
 typed_vars (p ∷ ps) (ty ∷ tys) = typed_vars ps tys
 typed_vars ps tys = []
+
+-- the names of variables with their types
+abbrev pub names_of : List (List ℕ × TypeId) → List (List ℕ)
+names_of vars = map (λ (v : List ℕ × TypeId). v.0) vars
 
 -- the type of a variable
 abbrev pub type_in : List (List ℕ × TypeId) → List ℕ → Option TypeId

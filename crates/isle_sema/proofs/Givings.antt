@@ -1,0 +1,188 @@
+-- The environment of definitions that no test refuses.
+use Rattle.std.proofs.Common.{◌≡◌, ℕ, Bool, true, false, List, [], ◌∷◌, map, Option, Some, None, refl, sym, ap, ◌∙◌, subst}
+use Rattle.std.specs.Prelude.{◌&&◌, ◌||◌, not, option_map, option_and_then}
+use Rattle.std.specs.List.{list_all, list_any}
+use Rattle.std.proofs.lemmas.Option.{same_Some}
+use Rattle.std.proofs.lemmas.Bool.{or_parts, or_from, and_parts, and_from, not-true}
+use Rattle.isle_core.specs.declared.types.Term.{Term}
+use Rattle.isle_core.specs.declared.types.TermEnv.{TermEnv}
+use Rattle.isle_core.specs.Rule.{Rule as CoreRule, Environment}
+use Rattle.isle_core.specs.RuleViews.{rule as elaborated_rule, environment}
+use Rattle.isle_syntax.specs.Tree.{Def}
+use Rattle.isle_sema.specs.Signatures.{Signature, Extern, RuleDef, signatures, externs, rule_defs}
+use Rattle.isle_sema.specs.Heads.{terms_of, extern_terms, heads_of}
+use Rattle.isle_sema.specs.Repeats.{repeats}
+use Rattle.isle_sema.proofs.Wrong.{names_no_type, has_too_many}
+use Rattle.isle_sema.specs.Language.{is_built_def, rules_call_ruled}
+use Rattle.isle_sema.specs.Tests as sound
+use Rattle.isle_sema.specs.Tests.{binds_twice, is_misdeclared, has_undeclared}
+use Rattle.isle_sema.specs.declared.collected.Signature.{Signature as CodeSignature}
+use Rattle.isle_sema.specs.declared.collected.Extern.{Extern as CodeExtern}
+use Rattle.isle_sema.specs.declared.collected.RuleDef.{RuleDef as CodeRule}
+use Rattle.isle_sema.specs.declared.tables.Tables.{Tables}
+use Rattle.isle_sema.specs.Collected.{signature, extern, rule, AreCollected}
+use Rattle.isle_sema.specs.Elaborated.{term_of}
+use Rattle.isle_sema.specs.Known.{AreKnown}
+use Rattle.isle_sema.specs.Forms.{is_built_form}
+use Rattle.isle_sema.specs.RulePass.{rules_pass}
+use Rattle.isle_sema.specs.Fault.{OfTypes, OfTerms, OfExtractors, OfRules, or_later, fault_in}
+use Rattle.isle_sema.specs.Environment.{types_of, whole_of, env_over, terms_pass}
+use Rattle.isle_sema.specs.Typing.{Typed}
+use Rattle.isle_sema.specs.Tables.{HasFirsts, any_repeat, HasTables}
+use Rattle.isle_sema.specs.Taken.{taken_rules}
+use Rattle.isle_sema.proofs.BuiltForms.{both, forms_of, unformed, bound_twice}
+use Rattle.isle_sema.proofs.Firsts.{stages_none, none_stages}
+use Rattle.isle_sema.proofs.TermFaults.{types_none, extractors_none, is_headless, TermParts, terms_kept, terms_none}
+use Rattle.isle_sema.proofs.RuleLaws.{fault_none, none_fault, taken_are, are_taken}
+use Rattle.isle_sema.proofs.Deciding.{plain_of, rules_built}
+use Rattle.isle_sema.proofs.RuleTrees.{terms_tree}
+
+-- ---- declarations that are wrong by themselves
+
+misdeclared_bools : (a b f g : Bool) → (a || b) || (f || g) ≡ (a || f) || (b || g)
+misdeclared_bools true b f g = refl
+misdeclared_bools false true true g = refl
+misdeclared_bools false true false g = refl
+misdeclared_bools false false true g = refl
+misdeclared_bools false false false g = refl
+
+misdeclared_parts : (sigs : List Signature) → list_any is_misdeclared sigs ≡ list_any has_too_many sigs || list_any names_no_type sigs
+misdeclared_parts [] = refl
+misdeclared_parts (s ∷ sigs) = ap (λ b. is_misdeclared s || b) (misdeclared_parts sigs) ∙ misdeclared_bools (has_too_many s) (names_no_type s) (list_any has_too_many sigs) (list_any names_no_type sigs)
+
+-- ---- what typed definitions keep
+
+-- the tests of definitions that give an environment
+pub record IsKept (ds : List Def) : Type 0 where
+  pub parts : TermParts ds [] ds
+  pub heads : repeats (heads_of (rule_defs ds)) ≡ false
+  pub rules : List CoreRule
+  pub taken : taken_rules (whole_of ds) 0 (rule_defs ds) ≡ Some rules
+
+over_terms : (ds : List Def) (ts : Option (List Term)) (rs : Option (List CoreRule)) (env : Environment) → option_and_then (λ (terms : List Term). option_map (env_over (types_of ds) terms) rs) ts ≡ Some env → rs ≡ Some env.rules
+over_terms ds None rs env h = absurd cc
+over_terms ds (Some ts) None env h = absurd cc
+over_terms ds (Some ts) (Some rs) env h = ap (λ (e : Environment). Some e.rules) (same_Some (env_over (types_of ds) ts rs) env h)
+
+pub kept : {ds : List Def} {env : Environment} → Typed ds env → IsKept ds
+kept {ds = ds} {env = env} t =
+    let apart = not (repeats (heads_of (rule_defs ds))) in
+    let a = and_parts (list_all is_built_def ds && apart) (not (rules_call_ruled (rule_defs ds) (rule_defs ds))) t.built in
+    let b = and_parts (list_all is_built_def ds) apart a.0 in
+    let w = whole_of ds in
+    let s = stages_none (fault_in OfTypes w) (or_later (fault_in OfTerms w) (or_later (fault_in OfExtractors w) (fault_in OfRules w))) t.sound in
+    let u = stages_none (fault_in OfTerms w) (or_later (fault_in OfExtractors w) (fault_in OfRules w)) s.1 in
+    let v = stages_none (fault_in OfExtractors w) (fault_in OfRules w) u.1 in
+    let trees = over_terms ds (terms_pass w (signatures ds)) (rules_pass w 0 (rule_defs ds)) env t.given in
+    record {
+      parts = terms_kept ds [] ds (forms_of ds b.0) u.0;
+      heads = not-true (repeats (heads_of (rule_defs ds))) b.1;
+      rules = env.rules;
+      taken = are_taken w 0 (rule_defs ds) env.rules (rules_built ds b.0) (record { kept = none_fault w [] ds v.1; calls = not-true (rules_call_ruled (rule_defs ds) (rule_defs ds)) a.1; trees = trees });
+    }
+
+built_of : {ds : List Def} {env : Environment} → Typed ds env → list_all is_built_def ds ≡ true
+built_of {ds = ds} t =
+    let apart = not (repeats (heads_of (rule_defs ds))) in
+    (and_parts (list_all is_built_def ds) apart (and_parts (list_all is_built_def ds && apart) (not (rules_call_ruled (rule_defs ds) (rule_defs ds))) t.built).0).0
+
+-- definitions of other forms give none
+pub unformed_untyped : (ds : List Def) → list_all is_built_form ds ≡ false → (env : Environment) → Typed ds env → ⊥
+unformed_untyped ds h env t = unformed ds h (built_of t)
+
+-- nor do those that bind a variable twice
+pub twice_untyped : (ds : List Def) → list_any binds_twice (rule_defs ds) ≡ true → (env : Environment) → Typed ds env → ⊥
+twice_untyped ds h env t = bound_twice ds h (built_of t)
+
+pub misdeclared_untyped : (ds : List Def) → list_any is_misdeclared (signatures ds) ≡ true → (env : Environment) → Typed ds env → ⊥
+misdeclared_untyped ds h env t =
+    let p = (kept t).parts in
+    both h (misdeclared_parts (signatures ds) ∙ or_from (list_any has_too_many (signatures ds)) (list_any names_no_type (signatures ds)) p.few p.typed)
+
+pub repeated_untyped : (ds : List Def) → any_repeat (signatures ds) (externs ds) (rule_defs ds) ≡ true → (env : Environment) → Typed ds env → ⊥
+repeated_untyped ds h env t =
+    let k = kept t in
+    both h (or_from (repeats (terms_of (signatures ds)) || repeats (extern_terms (externs ds))) (repeats (heads_of (rule_defs ds))) (or_from (repeats (terms_of (signatures ds))) (repeats (extern_terms (externs ds))) k.parts.apart k.parts.externs_apart) k.heads)
+
+pub undeclared_untyped : (ds : List Def) → has_undeclared (signatures ds) (externs ds) ≡ true → (env : Environment) → Typed ds env → ⊥
+undeclared_untyped ds h env t = both h (kept t).parts.known
+
+pub headless_untyped : (ds : List Def) → list_any (is_headless ds) (rule_defs ds) ≡ true → (env : Environment) → Typed ds env → ⊥
+headless_untyped ds h env t = both h (kept t).parts.heads
+
+pub untaken_untyped : (ds : List Def) → None ≡ taken_rules (whole_of ds) 0 (rule_defs ds) → (env : Environment) → Typed ds env → ⊥
+untaken_untyped ds h env t = let k = kept t in let bad : None ≡ Some k.rules = h ∙ k.taken in cc
+
+-- ---- collected definitions
+
+-- the heads of collected rules
+pub heads_from : (ds : List Def) (syms : List (List ℕ)) (sigs : List CodeSignature) (xs : List CodeExtern) (rules : List CodeRule) → AreCollected ds syms sigs xs rules
+    → list_any (is_headless ds) (rule_defs ds) ≡ list_any (sound.is_headless (map signature sigs) (map extern xs)) (map rule rules)
+heads_from ds syms sigs xs rules k =
+    ap (λ (s : List Signature). list_any (sound.is_headless s (externs ds)) (rule_defs ds)) (sym k.declared) ∙ ap (λ (e : List Extern). list_any (sound.is_headless (map signature sigs) e) (rule_defs ds)) (sym k.external)
+    ∙ ap (list_any (sound.is_headless (map signature sigs) (map extern xs))) (sym k.ruled)
+
+-- no test of what was collected refuses the definitions
+pub parts_from : (ds : List Def) (syms : List (List ℕ)) (sigs : List CodeSignature) (xs : List CodeExtern) (rules : List CodeRule) (t : Tables) → AreCollected ds syms sigs xs rules → HasTables syms (map signature sigs) (map extern xs) (map rule rules) t
+    → list_any is_misdeclared (map signature sigs) ≡ false → has_undeclared (map signature sigs) (map extern xs) ≡ false → list_any (sound.is_headless (map signature sigs) (map extern xs)) (map rule rules) ≡ false → TermParts ds [] ds
+parts_from ds syms sigs xs rules t k h declared known heads =
+    let d = or_parts (list_any has_too_many (map signature sigs)) (list_any names_no_type (map signature sigs)) (sym (misdeclared_parts (map signature sigs)) ∙ declared) in
+    record {
+      apart = ap (λ (s : List Signature). repeats (terms_of s)) (sym k.declared) ∙ h.declared.apart;
+      typed = ap (list_any names_no_type) (sym k.declared) ∙ d.1;
+      few = ap (list_any has_too_many) (sym k.declared) ∙ d.0;
+      externs_apart = ap (λ (e : List Extern). repeats (extern_terms e)) (sym k.external) ∙ h.external.apart;
+      known = ap (λ (s : List Signature). has_undeclared s (externs ds)) (sym k.declared) ∙ ap (has_undeclared (map signature sigs)) (sym k.external) ∙ known;
+      heads = heads_from ds syms sigs xs rules k ∙ heads;
+    }
+
+-- their terms
+pub terms_from : (ds : List Def) (syms : List (List ℕ)) (sigs : List CodeSignature) (xs : List CodeExtern) (rules : List CodeRule) (terms : List Term) → AreCollected ds syms sigs xs rules → list_all is_built_def ds ≡ true → list_any is_misdeclared (map signature sigs) ≡ false
+    → terms ≡ map (term_of syms (map extern xs) (map rule rules)) (map signature sigs) → terms_pass (whole_of ds) (signatures ds) ≡ Some terms
+terms_from ds syms sigs xs rules terms k built declared is =
+    let d = or_parts (list_any has_too_many (map signature sigs)) (list_any names_no_type (map signature sigs)) (sym (misdeclared_parts (map signature sigs)) ∙ declared) in
+    terms_tree ds (signatures ds) (plain_of ds built) (ap (list_any names_no_type) (sym k.declared) ∙ d.1)
+    ∙ ap (λ (s : List (List ℕ)). Some (map (term_of s (externs ds) (rule_defs ds)) (signatures ds))) (sym k.named)
+    ∙ ap (λ (e : List Extern). Some (map (term_of syms e (rule_defs ds)) (signatures ds))) (sym k.external)
+    ∙ ap (λ (r : List RuleDef). Some (map (term_of syms (map extern xs) r) (signatures ds))) (sym k.ruled)
+    ∙ ap (λ (s : List Signature). Some (map (term_of syms (map extern xs) (map rule rules)) s)) (sym k.declared) ∙ ap Some (sym is)
+
+-- what is known of them
+pub known_from : (ds : List Def) (syms : List (List ℕ)) (sigs : List CodeSignature) (xs : List CodeExtern) (rules : List CodeRule) (terms : List Term) (t : Tables) → AreCollected ds syms sigs xs rules → HasTables syms (map signature sigs) (map extern xs) (map rule rules) t
+    → terms_pass (whole_of ds) (signatures ds) ≡ Some terms → AreKnown ds syms (map signature sigs) terms t.declared.items t.external.items t.ruled.items
+known_from ds syms sigs xs rules terms t k h made = record {
+  named = k.named;
+  given = k.declared;
+  made = made;
+  declared_at = subst (λ (s : List Signature). HasFirsts syms (terms_of s) t.declared.items) k.declared h.declared;
+  external_at = subst (λ (e : List Extern). HasFirsts syms (extern_terms e) t.external.items) k.external h.external;
+  ruled_at = subst (λ (r : List RuleDef). HasFirsts syms (heads_of r) t.ruled.items) k.ruled h.ruled;
+}
+
+-- a name repeats among what was collected
+pub repeated_from : (ds : List Def) (syms : List (List ℕ)) (sigs : List CodeSignature) (xs : List CodeExtern) (rules : List CodeRule) → AreCollected ds syms sigs xs rules → any_repeat (map signature sigs) (map extern xs) (map rule rules) ≡ true
+    → any_repeat (signatures ds) (externs ds) (rule_defs ds) ≡ true
+repeated_from ds syms sigs xs rules k h =
+    ap (λ (s : List Signature). any_repeat s (externs ds) (rule_defs ds)) (sym k.declared) ∙ ap (λ (e : List Extern). any_repeat (map signature sigs) e (rule_defs ds)) (sym k.external)
+    ∙ ap (any_repeat (map signature sigs) (map extern xs)) (sym k.ruled) ∙ h
+
+-- ---- the environment
+
+-- definitions that no test refuses give what is made of them
+pub given_typed : (ds : List Def) (t : TermEnv) → list_all is_built_def ds ≡ true → repeats (heads_of (rule_defs ds)) ≡ false → TermParts ds [] ds → terms_pass (whole_of ds) (signatures ds) ≡ Some t.terms
+    → taken_rules (whole_of ds) 0 (rule_defs ds) ≡ Some (map elaborated_rule t.rules) → t.converters ≡ [] → Typed ds (environment (types_of ds) t)
+given_typed ds t built heads parts terms rules none =
+    let w = whole_of ds in
+    let forms = forms_of ds built in
+    let k = taken_are w 0 (rule_defs ds) (map elaborated_rule t.rules) (rules_built ds built) rules in
+    record {
+      built = and_from (list_all is_built_def ds && not (repeats (heads_of (rule_defs ds)))) (not (rules_call_ruled (rule_defs ds) (rule_defs ds)))
+          (and_from (list_all is_built_def ds) (not (repeats (heads_of (rule_defs ds)))) built (ap not heads)) (ap not k.calls);
+      sound =
+          none_stages (fault_in OfTypes w) (or_later (fault_in OfTerms w) (or_later (fault_in OfExtractors w) (fault_in OfRules w))) (types_none w [] ds)
+          (none_stages (fault_in OfTerms w) (or_later (fault_in OfExtractors w) (fault_in OfRules w)) (terms_none ds [] ds forms parts) (none_stages (fault_in OfExtractors w) (fault_in OfRules w) (extractors_none w [] ds forms) (fault_none w [] ds k.kept)));
+      given =
+          ap (λ o. option_and_then (λ (ts : List Term). option_map (env_over (types_of ds) ts) (rules_pass w 0 (rule_defs ds))) o) terms
+          ∙ ap (λ o. option_map (env_over (types_of ds) t.terms) o) k.trees
+          ∙ ap (λ (cs : List _). Some (record { types = types_of ds; terms = t.terms; rules = map elaborated_rule t.rules; converters = cs })) (sym none);
+    }

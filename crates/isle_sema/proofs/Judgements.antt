@@ -1,0 +1,204 @@
+-- What is judged of parts, one after the other, is what the rows say of all.
+use Rattle.std.proofs.Common.{◌≡◌, ℕ, ◌+◌, ◌-◌, ◌^◌, ◌≤◌, Bool, true, false, cond, List, [], ◌∷◌, ◌++◌, length, map, Option, Some, None, refl, sym, ap, ◌∙◌, arith}
+use Rattle.std.specs.Prelude.{◌==◌, ◌&&◌, ◌||◌, not, is_some, min, nat_le}
+use Rattle.std.specs.List.{list_any}
+use Rattle.std.proofs.Math.Nat.{min-le_right}
+use Rattle.std.proofs.lemmas.Bool.{leb-true, le-leb}
+use Rattle.std.proofs.lemmas.List.{length-map, length-append}
+use Rattle.std.proofs.lemmas.List.Folds.{list_any-append}
+use Rattle.isle_core.specs.declared.TypeId.{TypeId}
+use Rattle.isle_syntax.specs.Tree.{IfLet}
+use Rattle.isle_sema.specs.declared.judged.Judged.{Judged}
+use Rattle.isle_sema.specs.declared.known.Called.{Called}
+use Rattle.isle_sema.specs.Signatures.{Signature, RuleDef, externs, rule_defs, func_named, has_rule}
+use Rattle.isle_sema.specs.Site.{Site, CalledAt, NotBuiltAt}
+use Rattle.isle_sema.specs.Whole.{Whole, declared}
+use Rattle.isle_sema.specs.TypeNames.{type_named}
+use Rattle.isle_sema.specs.Row as row
+use Rattle.isle_sema.specs.Row.{Row}
+use Rattle.isle_sema.specs.Context.{on}
+use Rattle.isle_sema.specs.RulePass.{patterns_of, right_side_of, sites_of}
+use Rattle.isle_sema.specs.RuleRows.{differ, is_misplaced, is_met_otherwise, is_unknown, is_mistyped}
+use Rattle.isle_sema.specs.Known.{IsCalled}
+use Rattle.isle_sema.specs.Judging.{is_ruled_call, is_partial_call, is_impure_call, is_multi_call, unjudged, judge, judge_all, lowest}
+use Rattle.isle_sema.specs.Taken.{row_of}
+
+-- ---- a call
+
+-- a call of a declared term, by what is known of it
+pub called_judged : (w : Whole) (s : Signature) (c : Called) (j : Judged) (expected : Option TypeId) (count nodes : ℕ) (differs : Bool) → differs ≡ differ (Some c.ret) expected → nodes ≡ min (j.nodes + 1) (2 ^ 64 - 1) → IsCalled w s c
+    → record {
+      misplaced = j.misplaced;
+      met_otherwise = j.met_otherwise;
+      unknown = (not (count == length c.args.now) || not (c.external || c.ruled)) || j.unknown;
+      mistyped = differs || j.mistyped;
+      partial = c.partial || j.partial;
+      impure = not c.pure || j.impure;
+      multi = c.multi || j.multi;
+      ruled = c.ruled || j.ruled;
+      nodes = nodes;
+    }
+    ≡ judge w j (CalledAt expected (Some s) count)
+called_judged w s c j expected count nodes differs other more h =
+    let put : ℕ → Bool → Bool → Option TypeId → Bool → Bool → Bool → Judged = λ n external ruled ty partial pure multi. record {
+      misplaced = j.misplaced;
+      met_otherwise = j.met_otherwise;
+      unknown = (not (count == n) || not (external || ruled)) || j.unknown;
+      mistyped = differ ty expected || j.mistyped;
+      partial = partial || j.partial;
+      impure = not pure || j.impure;
+      multi = multi || j.multi;
+      ruled = ruled || j.ruled;
+      nodes = min (j.nodes + 1) (2 ^ 64 - 1);
+    } in
+    let long : length c.args.now ≡ length s.args = sym (length-map c.args.now Some) ∙ ap length (sym h.args) ∙ length-map s.args (type_named w.types) in
+    let external = is_some (func_named (externs w.defs) s.term) in
+    let ruled = has_rule (rule_defs w.defs) s.term in
+    ap (λ b. record {
+      misplaced = j.misplaced;
+      met_otherwise = j.met_otherwise;
+      unknown = (not (count == length c.args.now) || not (c.external || c.ruled)) || j.unknown;
+      mistyped = b || j.mistyped;
+      partial = c.partial || j.partial;
+      impure = not c.pure || j.impure;
+      multi = c.multi || j.multi;
+      ruled = c.ruled || j.ruled;
+      nodes = nodes;
+    }) other
+    ∙ ap (λ n. record {
+      misplaced = j.misplaced;
+      met_otherwise = j.met_otherwise;
+      unknown = (not (count == length c.args.now) || not (c.external || c.ruled)) || j.unknown;
+      mistyped = differ (Some c.ret) expected || j.mistyped;
+      partial = c.partial || j.partial;
+      impure = not c.pure || j.impure;
+      multi = c.multi || j.multi;
+      ruled = c.ruled || j.ruled;
+      nodes = n;
+    }) more
+    ∙ ap (λ n. put n c.external c.ruled (Some c.ret) c.partial c.pure c.multi) long
+    ∙ ap (λ b. put (length s.args) b c.ruled (Some c.ret) c.partial c.pure c.multi) (sym h.external)
+    ∙ ap (λ b. put (length s.args) external b (Some c.ret) c.partial c.pure c.multi) (sym h.ruled)
+    ∙ ap (λ ty. put (length s.args) external ruled ty c.partial c.pure c.multi) (sym h.ret)
+    ∙ ap (λ b. put (length s.args) external ruled (type_named w.types s.ret) b c.pure c.multi) (sym h.partial)
+    ∙ ap (λ b. put (length s.args) external ruled (type_named w.types s.ret) s.partial b c.multi) (sym h.pure)
+    ∙ ap (λ b. put (length s.args) external ruled (type_named w.types s.ret) s.partial s.pure b) (sym h.multi)
+
+-- ---- parts in order
+
+or_swap : (a t b : Bool) → a || (t || b) ≡ (t || a) || b
+or_swap true true b = refl
+or_swap true false b = refl
+or_swap false true b = refl
+or_swap false false b = refl
+
+or_false : (a : Bool) → a || false ≡ a
+or_false true = refl
+or_false false = refl
+
+any_of : (w : Whole) (f : Judged → Bool) (test : Site → Bool) → ((j : Judged) (s : Site) → f (judge w j s) ≡ test s || f j) → (j : Judged) (sites : List Site) → f (judge_all w j sites) ≡ list_any test sites || f j
+any_of w f test step j [] = refl
+any_of w f test step j (s ∷ sites) = any_of w f test step (judge w j s) sites ∙ ap (λ b. list_any test sites || b) (step j s) ∙ or_swap (list_any test sites) (test s) (f j)
+
+any_new : (w : Whole) (f : Judged → Bool) (test : Site → Bool) → ((j : Judged) (s : Site) → f (judge w j s) ≡ test s || f j) → f unjudged ≡ false → (sites : List Site) → f (judge_all w unjudged sites) ≡ list_any test sites
+any_new w f test step new sites = any_of w f test step unjudged sites ∙ ap (λ b. list_any test sites || b) new ∙ or_false (list_any test sites)
+
+-- a row's answer to the parts of both sides
+any_both : (w : Whole) (f : Judged → Bool) (test : Site → Bool) → ((j : Judged) (s : Site) → f (judge w j s) ≡ test s || f j) → f unjudged ≡ false → (ps rs : List Site)
+    → f (judge_all w unjudged ps) || f (judge_all w unjudged rs) ≡ list_any test (ps ++ rs)
+any_both w f test step new ps rs =
+    ap (λ b. b || f (judge_all w unjudged rs)) (any_new w f test step new ps) ∙ ap (λ b. list_any test ps || b) (any_new w f test step new rs) ∙ sym (list_any-append test ps rs)
+
+-- a call of a term that has a rule
+pub ruled_all : (w : Whole) (sites : List Site) → (judge_all w unjudged sites).ruled ≡ list_any (is_ruled_call w) sites
+ruled_all w sites = any_new w (λ j. j.ruled) (is_ruled_call w) (λ j s. refl) refl sites
+
+-- ---- how many there are
+
+nodes_of : (w : Whole) (j : Judged) (sites : List Site) → j.nodes ≤ 2 ^ 64 - 1 → (judge_all w j sites).nodes ≡ min (j.nodes + length sites) (2 ^ 64 - 1)
+nodes_of w j [] le = omega (arith, le)
+nodes_of w j (s ∷ sites) le = let h = nodes_of w (judge w j s) sites (min-le_right (j.nodes + 1) (2 ^ 64 - 1)) in omega (arith, h, le)
+
+small_by : (a b : Bool) → ((a ≡ true) → (b ≡ true)) → ((b ≡ true) → (a ≡ true)) → a ≡ b
+small_by true b f g = sym (f refl)
+small_by false true f g = g refl
+small_by false false f g = refl
+
+small_both : (w : Whole) (ps rs : List Site) → nat_le ((judge_all w unjudged ps).nodes + (judge_all w unjudged rs).nodes) 4096 ≡ nat_le (length (ps ++ rs)) 4096
+small_both w ps rs =
+    let p = nodes_of w unjudged ps (omega arith) in
+    let r = nodes_of w unjudged rs (omega arith) in
+    let both = length-append ps rs in
+    let n = (judge_all w unjudged ps).nodes + (judge_all w unjudged rs).nodes in
+    small_by (nat_le n 4096) (nat_le (length (ps ++ rs)) 4096)
+    (λ h. (let l = leb-true n 4096 h in le-leb (length (ps ++ rs)) 4096 (omega (arith, l, p, r, both))))
+    (λ h. (let l = leb-true (length (ps ++ rs)) 4096 h in le-leb n 4096 (omega (arith, l, p, r, both))))
+
+-- ---- the row of a rule
+
+-- nine tests in order
+abbrev pub tests : (a b c d e f g h i : Bool) → Option Row
+tests a b c d e f g h i =
+    cond a (Some row.PatternTermMisfit) (cond b (Some row.LiteralMisfit) (cond c (Some row.VariableTypeMisfit) (cond d (Some row.ExprNameMisfit) (cond e (Some row.ExprTypeMisfit)
+    (cond f (Some row.PartialCall) (cond g (Some row.ImpureCall) (cond h (Some row.MultiCall) (cond i (Some row.ManyNodes) None))))))))
+
+-- the tests of a rule under what declares its head, over the parts of both sides
+abbrev pub tests_of : Whole → RuleDef → Option Signature → List Site → List Site → Option Row
+tests_of w r o sites rs =
+    tests (on o (λ (s : Signature). not (length r.args == length s.args))) (list_any (is_misplaced w) sites) (list_any is_met_otherwise sites) (list_any (is_unknown w) sites)
+    (list_any (is_mistyped w) sites) (on o (λ (s : Signature). not s.partial && list_any is_partial_call rs)) (on o (λ (s : Signature). s.pure && list_any is_impure_call rs))
+    (on o (λ (s : Signature). not s.multi && list_any is_multi_call sites)) (not (nat_le (length sites) 4096))
+
+row_tests : (w : Whole) (r : RuleDef) → row_of w r ≡ tests_of w r (declared w r.term) (sites_of w r) (right_side_of w r).sites
+row_tests w r = refl
+
+-- where a term is declared, its types are expected
+sites_at : (w : Whole) (r : RuleDef) (s : Signature) → declared w r.term ≡ Some s → r.iflets ≡ [] → row_of w r ≡ tests_of w r (Some s) ((patterns_of w r).sites ++ (right_side_of w r).sites) (right_side_of w r).sites
+sites_at w r s is none =
+    row_tests w r ∙ ap (λ (o : Option Signature). tests_of w r o (sites_of w r) (right_side_of w r).sites) is
+    ∙ ap (λ (cs : List IfLet). tests_of w r (Some s) ((patterns_of w r).sites ++ (map (λ (c : IfLet). NotBuiltAt) cs ++ (right_side_of w r).sites)) (right_side_of w r).sites) none
+
+-- what is judged of both sides of a rule is the row that it breaks
+pub lowest_is : (w : Whole) (r : RuleDef) (s : Signature) (own : Called) → declared w r.term ≡ Some s → IsCalled w s own → r.iflets ≡ []
+    → lowest own (length r.args) (judge_all w unjudged (patterns_of w r).sites) (judge_all w unjudged (right_side_of w r).sites) ≡ row_of w r
+lowest_is w r s own is h none =
+    let ps = (patterns_of w r).sites in
+    let rs = (right_side_of w r).sites in
+    let long : length own.args.now ≡ length s.args = sym (length-map own.args.now Some) ∙ ap length (sym h.args) ∙ length-map s.args (type_named w.types) in
+    let l = judge_all w unjudged ps in
+    let m = judge_all w unjudged rs in
+    ap (λ n. tests (not (length r.args == n)) (l.misplaced || m.misplaced) (l.met_otherwise || m.met_otherwise) (l.unknown || m.unknown) (l.mistyped || m.mistyped) (not own.partial && m.partial) (own.pure && m.impure) (not own.multi && (l.multi || m.multi)) (not (nat_le (l.nodes + m.nodes) 4096))) long
+    ∙ ap (λ x. tests (not (length r.args == length s.args)) x (l.met_otherwise || m.met_otherwise) (l.unknown || m.unknown) (l.mistyped || m.mistyped) (not own.partial && m.partial) (own.pure && m.impure) (not own.multi && (l.multi || m.multi)) (not (nat_le (l.nodes + m.nodes) 4096)))
+    (any_both w (λ j. j.misplaced) (is_misplaced w) (λ j x. refl) refl ps rs)
+    ∙ ap (λ x. tests (not (length r.args == length s.args)) (list_any (is_misplaced w) (ps ++ rs)) x (l.unknown || m.unknown) (l.mistyped || m.mistyped) (not own.partial && m.partial) (own.pure && m.impure) (not own.multi && (l.multi || m.multi)) (not (nat_le (l.nodes + m.nodes) 4096)))
+    (any_both w (λ j. j.met_otherwise) is_met_otherwise (λ j x. refl) refl ps rs)
+    ∙ ap (λ x. tests (not (length r.args == length s.args)) (list_any (is_misplaced w) (ps ++ rs)) (list_any is_met_otherwise (ps ++ rs)) x (l.mistyped || m.mistyped) (not own.partial && m.partial) (own.pure && m.impure) (not own.multi && (l.multi || m.multi)) (not (nat_le (l.nodes + m.nodes) 4096)))
+    (any_both w (λ j. j.unknown) (is_unknown w) (λ j x. refl) refl ps rs)
+    ∙ ap (λ x. tests (not (length r.args == length s.args)) (list_any (is_misplaced w) (ps ++ rs)) (list_any is_met_otherwise (ps ++ rs)) (list_any (is_unknown w) (ps ++ rs)) x (not own.partial && m.partial) (own.pure && m.impure) (not own.multi && (l.multi || m.multi)) (not (nat_le (l.nodes + m.nodes) 4096)))
+    (any_both w (λ j. j.mistyped) (is_mistyped w) (λ j x. refl) refl ps rs)
+    ∙ ap (λ x. tests_from w r s ps rs x (own.pure && m.impure) (not own.multi && (l.multi || m.multi)) (not (nat_le (l.nodes + m.nodes) 4096)))
+    (ap (λ b. not b && m.partial) (sym h.partial) ∙ ap (λ b. not s.partial && b) (any_new w (λ j. j.partial) is_partial_call (λ j x. refl) refl rs))
+    ∙ ap (λ x. tests_from w r s ps rs (not s.partial && list_any is_partial_call rs) x (not own.multi && (l.multi || m.multi)) (not (nat_le (l.nodes + m.nodes) 4096)))
+    (ap (λ b. b && m.impure) (sym h.pure) ∙ ap (λ b. s.pure && b) (any_new w (λ j. j.impure) is_impure_call (λ j x. refl) refl rs))
+    ∙ ap (λ x. tests_from w r s ps rs (not s.partial && list_any is_partial_call rs) (s.pure && list_any is_impure_call rs) x (not (nat_le (l.nodes + m.nodes) 4096)))
+    (ap (λ b. not b && (l.multi || m.multi)) (sym h.multi) ∙ ap (λ b. not s.multi && b) (any_both w (λ j. j.multi) is_multi_call (λ j x. refl) refl ps rs))
+    ∙ ap (λ b. tests_from w r s ps rs (not s.partial && list_any is_partial_call rs) (s.pure && list_any is_impure_call rs) (not s.multi && list_any is_multi_call (ps ++ rs)) (not b)) (small_both w ps rs)
+    ∙ sym (sites_at w r s is none)
+  where
+    tests_from : Whole → RuleDef → Signature → List Site → List Site → Bool → Bool → Bool → Bool → Option Row
+    tests_from w r s ps rs f g h i = tests (not (length r.args == length s.args)) (list_any (is_misplaced w) (ps ++ rs)) (list_any is_met_otherwise (ps ++ rs)) (list_any (is_unknown w) (ps ++ rs)) (list_any (is_mistyped w) (ps ++ rs)) f g h i
+
+-- where a rule breaks no row, no part of its right side is unknown
+pub all_known : (w : Whole) (r : RuleDef) → row_of w r ≡ None → list_any (is_unknown w) (sites_of w r) ≡ false
+all_known w r h =
+    let o = declared w r.term in
+    let sites = sites_of w r in
+    let rs = (right_side_of w r).sites in
+    fourth (on o (λ (s : Signature). not (length r.args == length s.args))) (list_any (is_misplaced w) sites) (list_any is_met_otherwise sites) (list_any (is_unknown w) sites) _ h
+  where
+    fourth : (a b c d : Bool) (rest : Option Row) → cond a (Some row.PatternTermMisfit) (cond b (Some row.LiteralMisfit) (cond c (Some row.VariableTypeMisfit) (cond d (Some row.ExprNameMisfit) rest))) ≡ None → d ≡ false
+    fourth true b c d rest h = absurd cc
+    fourth false true c d rest h = absurd cc
+    fourth false false true d rest h = absurd cc
+    fourth false false false true rest h = absurd cc
+    fourth false false false false rest h = refl

@@ -1,0 +1,318 @@
+-- The rules that are taken break no row, call no term that has a rule, and have trees.
+use Rattle.std.proofs.Common.{◌≡◌, ℕ, zero, suc, ◌+◌, ◌≤◌, length, arith, Bool, true, false, cond, List, [], ◌∷◌, ◌++◌, map, Option, Some, None, refl, sym, ap, ◌∙◌}
+use Rattle.std.specs.Prelude.{◌||◌, is_some, option_map, option_and_then, slice_get}
+use Rattle.std.specs.List.{AllByRecursion, list_any}
+use Rattle.std.proofs.lemmas.List.{length-map}
+use Rattle.std.proofs.lemmas.List.Folds.{list_any-append}
+use Rattle.std.proofs.lemmas.Bool.{or_parts, or_from, and_parts}
+use Rattle.isle_core.specs.declared.TermId.{TermId}
+use Rattle.isle_core.specs.declared.TypeId.{TypeId}
+use Rattle.isle_core.specs.Pattern.{Pattern as CorePattern}
+use Rattle.isle_core.specs.Expr.{Expr as CoreExpr}
+use Rattle.isle_core.specs.Rule.{Rule as CoreRule, IfLet as CoreIfLet}
+use Rattle.isle_syntax.specs.declared.tree.AstIfLet.{AstIfLet}
+use Rattle.isle_syntax.specs.Views.{iflet}
+use Rattle.isle_syntax.specs.Tree as tree
+use Rattle.isle_syntax.specs.Tree.{Expr, Exprs, NoExpr, AnExpr, IfLet, Def}
+use Rattle.isle_sema.specs.Signatures.{Signature, RuleDef, signatures, rule_defs, has_rule, signature_named, term_named}
+use Rattle.isle_sema.specs.Calls.{count_of, calls_ruled, any_calls_ruled}
+use Rattle.isle_sema.specs.Language.{is_built_expr, are_built_exprs}
+use Rattle.isle_sema.specs.Row.{Row}
+use Rattle.isle_sema.specs.Scope.{Scope}
+use Rattle.isle_sema.specs.Site.{Site, NotBuiltAt}
+use Rattle.isle_sema.specs.Whole.{Whole, declared, arg_types, ret_type}
+use Rattle.isle_sema.specs.PatternPass.{PatternsPass, patterns_pass, first_expected, later_expected}
+use Rattle.isle_sema.specs.ExprPass.{ExprPass, expr_pass, exprs_pass}
+use Rattle.isle_sema.specs.RulePass.{patterns_of, right_side_of, conditions_of, rule_from, rule_pass, rules_pass}
+use Rattle.isle_sema.specs.RuleRows.{is_unknown, is_call_misfit}
+use Rattle.isle_sema.specs.Context.{on}
+use Rattle.isle_sema.specs.Fault.{OfRules, broken_in, fault_after}
+use Rattle.isle_sema.specs.Judging.{is_ruled_call, unjudged, judge_all, seen_row, lowest}
+use Rattle.isle_sema.specs.declared.rows.Row.{Row as CodeRow}
+use Rattle.isle_sema.specs.Known.{IsCalled, MayBeCalled}
+use Rattle.isle_sema.specs.declared.judged.Judged.{Judged}
+use Rattle.isle_sema.specs.declared.known.Called.{Called}
+use Rattle.isle_sema.specs.Symbols.{index_of}
+use Rattle.isle_sema.specs.Heads.{terms_of}
+use Rattle.isle_sema.specs.Taken.{row_of, calls_rule, taken_rule, taken_rules}
+use Rattle.isle_sema.proofs.Firsts.{later_none, none_later, any_parts}
+use Rattle.isle_sema.proofs.Judgements.{ruled_all, lowest_is, all_known}
+use Rattle.isle_sema.proofs.LookUps.{at_place, named_at}
+use Rattle.isle_sema.proofs.NumberLaws.{index_below}
+use Rattle.isle_sema.proofs.TypedExprs.{named_is}
+use Rattle.isle_sema.proofs.KnownLaws.{first_there, before_both}
+use Rattle.isle_sema.proofs.RuleTrees.{IsRuleBuilt}
+
+-- a rule breaks a row
+abbrev pub is_broken : Whole → RuleDef → Bool
+is_broken w r = is_some (row_of w r)
+
+none_is : (o : Option Row) → is_some o ≡ false → o ≡ None
+none_is None h = refl
+none_is (Some r) h = absurd cc
+
+-- ---- no rule breaks a row
+
+pub fault_none : (w : Whole) (before ds : List Def) → list_any (is_broken w) (rule_defs ds) ≡ false → fault_after OfRules w before ds ≡ None
+fault_none w before [] h = refl
+fault_none w before (tree.Rule name prio term args iflets rhs pos ∷ ds) h =
+    let d = tree.Rule name prio term args iflets rhs pos in
+    let r : RuleDef = record { name = name; prio = prio; term = term; args = args; iflets = iflets; rhs = rhs; pos = pos } in
+    let k = or_parts (is_broken w r) (list_any (is_broken w) (rule_defs ds)) h in
+    none_later (λ (x : Row). (x, pos)) (broken_in OfRules (record { whole = w; before = before }) d) (fault_after OfRules w (before ++ d ∷ []) ds) (none_is (row_of w r) k.0) (fault_none w (before ++ d ∷ []) ds k.1)
+fault_none w before (tree.Decl term pure multi partial recursive args ret pos ∷ ds) h = fault_none w (before ++ tree.Decl term pure multi partial recursive args ret pos ∷ []) ds h
+fault_none w before (tree.ExternConstructor term func pos ∷ ds) h = fault_none w (before ++ tree.ExternConstructor term func pos ∷ []) ds h
+fault_none w before (tree.TypeDecl name is_extern is_nodebug body pos ∷ ds) h = fault_none w (before ++ tree.TypeDecl name is_extern is_nodebug body pos ∷ []) ds h
+fault_none w before (tree.ExternExtractor term func infallible pos ∷ ds) h = fault_none w (before ++ tree.ExternExtractor term func infallible pos ∷ []) ds h
+fault_none w before (tree.ExternConst name ty pos ∷ ds) h = fault_none w (before ++ tree.ExternConst name ty pos ∷ []) ds h
+fault_none w before (tree.Extractor term params template pos ∷ ds) h = fault_none w (before ++ tree.Extractor term params template pos ∷ []) ds h
+fault_none w before (tree.Converter from to term pos ∷ ds) h = fault_none w (before ++ tree.Converter from to term pos ∷ []) ds h
+fault_none w before (tree.Passed head items pos ∷ ds) h = fault_none w (before ++ tree.Passed head items pos ∷ []) ds h
+
+pub none_fault : (w : Whole) (before ds : List Def) → fault_after OfRules w before ds ≡ None → list_any (is_broken w) (rule_defs ds) ≡ false
+none_fault w before [] h = refl
+none_fault w before (tree.Rule name prio term args iflets rhs pos ∷ ds) h =
+    let d = tree.Rule name prio term args iflets rhs pos in
+    let r : RuleDef = record { name = name; prio = prio; term = term; args = args; iflets = iflets; rhs = rhs; pos = pos } in
+    let l = later_none (λ (x : Row). (x, pos)) (broken_in OfRules (record { whole = w; before = before }) d) (fault_after OfRules w (before ++ d ∷ []) ds) h in
+    let own : row_of w r ≡ None = l.0 in
+    or_from (is_broken w r) (list_any (is_broken w) (rule_defs ds)) (ap is_some own) (none_fault w (before ++ d ∷ []) ds l.1)
+none_fault w before (tree.Decl term pure multi partial recursive args ret pos ∷ ds) h = none_fault w (before ++ tree.Decl term pure multi partial recursive args ret pos ∷ []) ds h
+none_fault w before (tree.ExternConstructor term func pos ∷ ds) h = none_fault w (before ++ tree.ExternConstructor term func pos ∷ []) ds h
+none_fault w before (tree.TypeDecl name is_extern is_nodebug body pos ∷ ds) h = none_fault w (before ++ tree.TypeDecl name is_extern is_nodebug body pos ∷ []) ds h
+none_fault w before (tree.ExternExtractor term func infallible pos ∷ ds) h = none_fault w (before ++ tree.ExternExtractor term func infallible pos ∷ []) ds h
+none_fault w before (tree.ExternConst name ty pos ∷ ds) h = none_fault w (before ++ tree.ExternConst name ty pos ∷ []) ds h
+none_fault w before (tree.Extractor term params template pos ∷ ds) h = none_fault w (before ++ tree.Extractor term params template pos ∷ []) ds h
+none_fault w before (tree.Converter from to term pos ∷ ds) h = none_fault w (before ++ tree.Converter from to term pos ∷ []) ds h
+none_fault w before (tree.Passed head items pos ∷ ds) h = none_fault w (before ++ tree.Passed head items pos ∷ []) ds h
+
+-- ---- calls of terms that have rules
+
+ruled_at : (w : Whole) (name : List ℕ) (o : Option Signature) (count : ℕ) → declared w name ≡ o → is_call_misfit w o count ≡ false → on o (λ (s : Signature). has_rule (rule_defs w.defs) s.term) ≡ has_rule (rule_defs w.defs) name
+ruled_at w name None count is h = absurd cc
+ruled_at w name (Some s) count is h = ap (has_rule (rule_defs w.defs)) (named_is (signatures w.defs) name s is)
+
+both_are : (a b c d : Bool) → a ≡ c → b ≡ d → a || b ≡ c || d
+both_are a b c d e f = ap (λ x. x || b) e ∙ ap (λ x. c || x) f
+
+split_any : (test : Site → Bool) (xs ys : List Site) → list_any test (xs ++ ys) ≡ list_any test xs || list_any test ys
+split_any test xs ys = list_any-append test xs ys
+
+mutual
+  -- an expression whose names are known calls a term that has a rule where one of its parts does
+  pub calls_here : (w : Whole) (scope : Scope) (expected : Option TypeId) (e : Expr) → is_built_expr e ≡ true → list_any (is_unknown w) (expr_pass w scope expected e).sites ≡ false
+      → list_any (is_ruled_call w) (expr_pass w scope expected e).sites ≡ calls_ruled (rule_defs w.defs) e
+  calls_here w scope expected (tree.Number n) built h = refl
+  calls_here w scope expected (tree.Fact b) built h = refl
+  calls_here w scope expected (tree.Name name) built h = refl
+  calls_here w scope expected (tree.Constant name) built h = absurd cc
+  calls_here w scope expected (tree.Let ls inner) built h = absurd cc
+  calls_here w scope expected (tree.Call name es) built h =
+      let sites = (exprs_pass w scope (arg_types w (declared w name)) es).sites in
+      let k = or_parts (is_call_misfit w (declared w name) (count_of es)) (list_any (is_unknown w) sites) h in
+      both_are (on (declared w name) (λ (s : Signature). has_rule (rule_defs w.defs) s.term)) (list_any (is_ruled_call w) sites) (has_rule (rule_defs w.defs) name) (any_calls_ruled (rule_defs w.defs) es)
+      (ruled_at w name (declared w name) (count_of es) refl k.0) (calls_in w scope (arg_types w (declared w name)) es built k.1)
+
+  calls_in : (w : Whole) (scope : Scope) (expected : List (Option TypeId)) (es : Exprs) → are_built_exprs es ≡ true → list_any (is_unknown w) (exprs_pass w scope expected es).sites ≡ false
+      → list_any (is_ruled_call w) (exprs_pass w scope expected es).sites ≡ any_calls_ruled (rule_defs w.defs) es
+  calls_in w scope expected NoExpr built h = refl
+  calls_in w scope expected (AnExpr e es) built h =
+      let b = and_parts (is_built_expr e) (are_built_exprs es) built in
+      let first = (expr_pass w scope (first_expected expected) e).sites in
+      let rest = (exprs_pass w scope (later_expected expected) es).sites in
+      let k = any_parts (is_unknown w) first rest h in
+      split_any (is_ruled_call w) first rest
+      ∙ both_are (list_any (is_ruled_call w) first) (list_any (is_ruled_call w) rest) (calls_ruled (rule_defs w.defs) e) (any_calls_ruled (rule_defs w.defs) es)
+      (calls_here w scope (first_expected expected) e b.0 k.0) (calls_in w scope (later_expected expected) es b.1 k.1)
+
+-- the same of a rule that breaks no row
+rule_calls : (w : Whole) (r : RuleDef) → is_built_expr r.rhs ≡ true → is_broken w r ≡ false → calls_rule w r ≡ calls_ruled (rule_defs w.defs) r.rhs
+rule_calls w r built h =
+    let known = all_known w r (none_is (row_of w r) h) in
+    let right = any_parts (is_unknown w) (patterns_of w r).sites (map (λ (c : IfLet). NotBuiltAt) r.iflets ++ (right_side_of w r).sites) known in
+    calls_here w (patterns_of w r).scope _ r.rhs built (any_parts (is_unknown w) (map (λ (c : IfLet). NotBuiltAt) r.iflets) (right_side_of w r).sites right.1).1
+
+-- ---- what the code knows of a rule
+
+beyond : (xs : List Signature) (n : ℕ) → slice_get xs n ≡ None → length xs ≤ n
+beyond [] n e = omega arith
+beyond (x ∷ xs) zero e = absurd cc
+beyond (x ∷ xs) (suc n) e = let h = beyond xs n e in omega (arith, h)
+
+none_named : (sigs : List Signature) (name : List ℕ) → signature_named sigs name ≡ None → term_named sigs name ≡ None
+none_named sigs name h = by (index_of (terms_of sigs) name) refl
+  where
+    by : (o : Option ℕ) → index_of (terms_of sigs) name ≡ o → term_named sigs name ≡ None
+    by None e = ap (option_map (λ (n : ℕ). record { 0 = n })) e
+    by (Some n) e =
+        let lt = index_below (terms_of sigs) name n e in
+        let past = beyond sigs n (sym (named_at sigs name ∙ ap (at_place sigs) e) ∙ h) in
+        let long = length-map sigs (λ (s : Signature). s.term) in
+        absurd (omega (arith, lt, past, long))
+
+-- the number of a declared term
+pub number_of : (sigs : List Signature) (name : List ℕ) → option_and_then (λ (d : Signature). term_named sigs d.term) (signature_named sigs name) ≡ term_named sigs name
+number_of sigs name = by (signature_named sigs name) refl
+  where
+    by : (o : Option Signature) → signature_named sigs name ≡ o → option_and_then (λ (d : Signature). term_named sigs d.term) o ≡ term_named sigs name
+    by None e = sym (none_named sigs name e)
+    by (Some s) e = ap (term_named sigs) (named_is sigs name s e)
+
+-- the trees and the judgement of both sides are those of the pass
+pub record IsPassed (w : Whole) (r : RuleDef) (trees : Option (List CorePattern)) (tree : Option CoreExpr) (left right : Judged) : Type 0 where
+  pub trees_are : trees ≡ (patterns_of w r).trees
+  pub tree_is : tree ≡ (right_side_of w r).tree
+  pub left_is : left ≡ judge_all w unjudged (patterns_of w r).sites
+  pub right_is : right ≡ judge_all w unjudged (right_side_of w r).sites
+
+pub passed : (w : Whole) (r : RuleDef) (s : Signature) (own : Called) (vars : Scope) (trees : Option (List CorePattern)) (tree : Option CoreExpr) (left right : Judged) → declared w r.term ≡ Some s → IsCalled w s own
+    → trees ≡ (patterns_pass w (map Some own.args.now) [] r.args).trees → vars ≡ (patterns_pass w (map Some own.args.now) [] r.args).scope → left ≡ judge_all w unjudged (patterns_pass w (map Some own.args.now) [] r.args).sites
+    → tree ≡ (expr_pass w vars (Some own.ret) r.rhs).tree → right ≡ judge_all w unjudged (expr_pass w vars (Some own.ret) r.rhs).sites → IsPassed w r trees tree left right
+passed w r s own vars trees tree left right is h ts vs l t j =
+    let first : patterns_pass w (map Some own.args.now) [] r.args ≡ patterns_of w r = ap (λ os. patterns_pass w os [] r.args) (sym h.args) ∙ ap (λ o. patterns_pass w (arg_types w o) [] r.args) (sym is) in
+    let second : expr_pass w vars (Some own.ret) r.rhs ≡ right_side_of w r =
+    ap (λ (scope : Scope). expr_pass w scope (Some own.ret) r.rhs) (vs ∙ ap (λ (p : PatternsPass). p.scope) first) ∙ ap (λ ty. expr_pass w (patterns_of w r).scope ty r.rhs) (sym h.ret)
+    ∙ ap (λ o. expr_pass w (patterns_of w r).scope (ret_type w o) r.rhs) (sym is) in
+    record {
+      trees_are = ts ∙ ap (λ (p : PatternsPass). p.trees) first;
+      tree_is = t ∙ ap (λ (e : ExprPass). e.tree) second;
+      left_is = l ∙ ap (λ (p : PatternsPass). judge_all w unjudged p.sites) first;
+      right_is = j ∙ ap (λ (e : ExprPass). judge_all w unjudged e.sites) second;
+    }
+
+refused : (w : Whole) (i : ℕ) (r : RuleDef) → is_broken w r || calls_rule w r ≡ true → None ≡ taken_rule w i r
+refused w i r h = sym (ap (λ b. cond b None (rule_pass w i r)) h)
+
+or_true : (a b : Bool) → b ≡ true → a || b ≡ true
+or_true true b h = refl
+or_true false b h = h
+
+untreed : (w : Whole) (i : ℕ) (r : RuleDef) → rule_pass w i r ≡ None → None ≡ taken_rule w i r
+untreed w i r h = by (is_broken w r || calls_rule w r)
+  where
+    by : (b : Bool) → None ≡ cond b None (rule_pass w i r)
+    by true = refl
+    by false = sym h
+
+-- a rule with conditions
+pub with_conditions : (w : Whole) (i : ℕ) (r : RuleDef) → (length r.iflets ≡ 0 → ⊥) → None ≡ taken_rule w i r
+with_conditions w i r h = untreed w i r (by r.iflets h (term_named (signatures w.defs) r.term) (patterns_of w r).trees)
+  where
+    by : (cs : List IfLet) → (length cs ≡ 0 → ⊥) → (term : Option TermId) (trees : Option (List CorePattern))
+        → option_and_then (λ (term : TermId). option_and_then (λ (args : List CorePattern). option_and_then (λ (iflets : List CoreIfLet). option_map (rule_from w i r term args iflets) (right_side_of w r).tree) (conditions_of cs)) trees) term ≡ None
+    by [] h term trees = absurd (h refl)
+    by (c ∷ cs) h None trees = refl
+    by (c ∷ cs) h (Some term) None = refl
+    by (c ∷ cs) h (Some term) (Some args) = refl
+
+-- a rule that calls a term that has a rule
+pub with_ruled : (w : Whole) (i : ℕ) (r : RuleDef) (trees : Option (List CorePattern)) (tree : Option CoreExpr) (left right : Judged) → IsPassed w r trees tree left right → right.ruled ≡ true → None ≡ taken_rule w i r
+with_ruled w i r trees tree left right p h =
+    refused w i r (or_true (is_broken w r) (calls_rule w r) (sym (ruled_all w (right_side_of w r).sites) ∙ ap (λ (j : Judged). j.ruled) (sym p.right_is) ∙ h))
+
+pub unruled_calls : (w : Whole) (r : RuleDef) (trees : Option (List CorePattern)) (tree : Option CoreExpr) (left right : Judged) → IsPassed w r trees tree left right → right.ruled ≡ false → calls_rule w r ≡ false
+unruled_calls w r trees tree left right p h = sym (ruled_all w (right_side_of w r).sites) ∙ ap (λ (j : Judged). j.ruled) (sym p.right_is) ∙ h
+
+pub no_conditions : (cs : List AstIfLet) → length cs ≡ 0 → map iflet cs ≡ []
+no_conditions [] h = refl
+no_conditions (c ∷ cs) h = absurd (omega (arith, h))
+
+-- the row of a rule without conditions
+pub row_seen : (w : Whole) (r : RuleDef) (s : Signature) (own : Called) (trees : Option (List CorePattern)) (tree : Option CoreExpr) (left right : Judged) → declared w r.term ≡ Some s → IsCalled w s own → r.iflets ≡ [] → IsPassed w r trees tree left right
+    → lowest own (length r.args) left right ≡ row_of w r
+row_seen w r s own trees tree left right is h none p =
+    ap (λ (j : Judged). lowest own (length r.args) j right) p.left_is ∙ ap (λ (j : Judged). lowest own (length r.args) (judge_all w unjudged (patterns_of w r).sites) j) p.right_is ∙ lowest_is w r s own is h none
+
+some_seen : (o : Option CodeRow) → is_some (option_map seen_row o) ≡ is_some o
+some_seen None = refl
+some_seen (Some x) = refl
+
+-- what the code finds is a row where the rule breaks one
+pub row_found : (w : Whole) (r : RuleDef) (s : Signature) (own : Called) (trees : Option (List CorePattern)) (tree : Option CoreExpr) (left right : Judged) (found : Option CodeRow) (count : ℕ) → declared w r.term ≡ Some s → IsCalled w s own → r.iflets ≡ []
+    → IsPassed w r trees tree left right → count ≡ length r.args → option_map seen_row found ≡ lowest own count left right → is_some (row_of w r) ≡ is_some found
+row_found w r s own trees tree left right found count is h none p as_many f =
+    ap is_some (sym (row_seen w r s own trees tree left right is h none p) ∙ ap (λ n. lowest own n left right) (sym as_many) ∙ sym f) ∙ some_seen found
+
+-- a rule that breaks a row
+pub with_row : (w : Whole) (i : ℕ) (r : RuleDef) → is_some (row_of w r) ≡ true → None ≡ taken_rule w i r
+with_row w i r h = refused w i r (ap (λ b. b || calls_rule w r) h)
+
+-- a rule without trees
+pub without_trees : (w : Whole) (i : ℕ) (r : RuleDef) → (patterns_of w r).trees ≡ None → None ≡ taken_rule w i r
+without_trees w i r h = untreed w i r (ap (λ o. option_and_then (λ (term : TermId). option_and_then (λ (args : List CorePattern). option_and_then (λ (iflets : List CoreIfLet). option_map (rule_from w i r term args iflets) (right_side_of w r).tree) (conditions_of r.iflets)) o) (term_named (signatures w.defs) r.term)) h ∙ by (term_named (signatures w.defs) r.term))
+  where
+    no_rule : Option CoreRule
+    no_rule = None
+
+    by : (o : Option TermId) → option_and_then (λ (term : TermId). no_rule) o ≡ None
+    by None = refl
+    by (Some term) = refl
+
+pub without_tree : (w : Whole) (i : ℕ) (r : RuleDef) → (right_side_of w r).tree ≡ None → None ≡ taken_rule w i r
+without_tree w i r h = untreed w i r (by (term_named (signatures w.defs) r.term) (patterns_of w r).trees (conditions_of r.iflets))
+  where
+    by : (term : Option TermId) (trees : Option (List CorePattern)) (cs : Option (List CoreIfLet))
+        → option_and_then (λ (term : TermId). option_and_then (λ (args : List CorePattern). option_and_then (λ (iflets : List CoreIfLet). option_map (rule_from w i r term args iflets) (right_side_of w r).tree) cs) trees) term ≡ None
+    by None trees cs = refl
+    by (Some term) None cs = refl
+    by (Some term) (Some args) None = refl
+    by (Some term) (Some args) (Some iflets) = ap (option_map (rule_from w i r term args iflets)) h
+
+-- a rule that is taken
+pub taken_made : (w : Whole) (i : ℕ) (r : RuleDef) (s : Signature) (own : Called) (args : List CorePattern) (rhs : CoreExpr) → declared w r.term ≡ Some s → IsCalled w s own → r.iflets ≡ [] → is_some (row_of w r) ≡ false → calls_rule w r ≡ false
+    → (patterns_of w r).trees ≡ Some args → (right_side_of w r).tree ≡ Some rhs → Some (rule_from w i r own.term args [] rhs) ≡ taken_rule w i r
+taken_made w i r s own args rhs is h none row calls trees tree =
+    let all : Option TermId → Option (List CorePattern) → List IfLet → Option CoreExpr → Option CoreRule = λ term ts cs t.
+    option_and_then (λ (term : TermId). option_and_then (λ (xs : List CorePattern). option_and_then (λ (iflets : List CoreIfLet). option_map (rule_from w i r term xs iflets) t) (conditions_of cs)) ts) term in
+    let number : term_named (signatures w.defs) r.term ≡ Some own.term = ap (term_named (signatures w.defs)) (sym (named_is (signatures w.defs) r.term s is)) ∙ h.term in
+    sym (ap (λ b. cond b None (rule_pass w i r)) (or_from (is_broken w r) (calls_rule w r) row calls)
+    ∙ ap (λ o. all o (patterns_of w r).trees r.iflets (right_side_of w r).tree) number
+    ∙ ap (λ o. all (Some own.term) o r.iflets (right_side_of w r).tree) trees
+    ∙ ap (λ cs. all (Some own.term) (Some args) cs (right_side_of w r).tree) none
+    ∙ ap (λ o. all (Some own.term) (Some args) [] o) tree)
+
+pub none_called : (w : Whole) (o : Option Signature) → MayBeCalled w o None → o ≡ None
+none_called w None h = refl
+none_called w (Some s) h = absurd h
+
+-- a rule whose head is not declared
+pub without_term : (w : Whole) (i : ℕ) (r : RuleDef) → declared w r.term ≡ None → None ≡ taken_rule w i r
+without_term w i r h = untreed w i r (ap (λ o. option_and_then (λ (term : TermId). option_and_then (λ (args : List CorePattern). option_and_then (λ (iflets : List CoreIfLet). option_map (rule_from w i r term args iflets) (right_side_of w r).tree) (conditions_of r.iflets)) (patterns_of w r).trees) o) (none_named (signatures w.defs) r.term h))
+
+-- ---- the rules that are taken
+
+-- no rule breaks a row or calls a term that has a rule, and these are the trees
+pub record AreTaken (w : Whole) (all : List RuleDef) (i : ℕ) (rules : List RuleDef) (xs : List CoreRule) : Type 0 where
+  pub kept : list_any (is_broken w) rules ≡ false
+  pub calls : list_any (λ (r : RuleDef). calls_ruled all r.rhs) rules ≡ false
+  pub trees : rules_pass w i rules ≡ Some xs
+
+refused_first : {X : Type 0} (b : Bool) (o : Option X) (x : X) → cond b None o ≡ Some x → (b ≡ false) × (o ≡ Some x)
+refused_first true o x h = absurd cc
+refused_first false o x h = (refl, h)
+
+pub taken_are : (w : Whole) (i : ℕ) (rules : List RuleDef) (xs : List CoreRule) → AllByRecursion IsRuleBuilt rules → taken_rules w i rules ≡ Some xs → AreTaken w (rule_defs w.defs) i rules xs
+taken_are w i [] xs built h = record { kept = refl; calls = refl; trees = h }
+taken_are w i (r ∷ rules) xs built h =
+    let f = first_there (taken_rule w i r) (taken_rules w (i + 1) rules) xs h in
+    let own = refused_first (is_broken w r || calls_rule w r) (rule_pass w i r) f.first f.here in
+    let k = or_parts (is_broken w r) (calls_rule w r) own.0 in
+    let rest = taken_are w (i + 1) rules f.others built.1 f.there in
+    record {
+      kept = or_from (is_broken w r) (list_any (is_broken w) rules) k.0 rest.kept;
+      calls = or_from (calls_ruled (rule_defs w.defs) r.rhs) (list_any (λ (x : RuleDef). calls_ruled (rule_defs w.defs) x.rhs) rules) (sym (rule_calls w r built.0.right k.0) ∙ k.1) rest.calls;
+      trees = before_both (rule_pass w i r) (rules_pass w (i + 1) rules) f.first f.others own.1 rest.trees ∙ ap Some (sym f.all);
+    }
+
+kept_rule : {X : Type 0} (b : Bool) (o : Option X) → b ≡ false → cond b None o ≡ o
+kept_rule true o h = absurd cc
+kept_rule false o h = refl
+
+pub are_taken : (w : Whole) (i : ℕ) (rules : List RuleDef) (xs : List CoreRule) → AllByRecursion IsRuleBuilt rules → AreTaken w (rule_defs w.defs) i rules xs → taken_rules w i rules ≡ Some xs
+are_taken w i [] xs built t = t.trees
+are_taken w i (r ∷ rules) xs built t =
+    let f = first_there (rule_pass w i r) (rules_pass w (i + 1) rules) xs t.trees in
+    let k = or_parts (is_broken w r) (list_any (is_broken w) rules) t.kept in
+    let c = or_parts (calls_ruled (rule_defs w.defs) r.rhs) (list_any (λ (x : RuleDef). calls_ruled (rule_defs w.defs) x.rhs) rules) t.calls in
+    let own : taken_rule w i r ≡ Some f.first = kept_rule (is_broken w r || calls_rule w r) (rule_pass w i r) (or_from (is_broken w r) (calls_rule w r) k.0 (rule_calls w r built.0.right k.0 ∙ c.0)) ∙ f.here in
+    before_both (taken_rule w i r) (taken_rules w (i + 1) rules) f.first f.others own (are_taken w (i + 1) rules f.others built.1 (record { kept = k.1; calls = c.1; trees = f.there })) ∙ ap Some (sym f.all)

@@ -1,0 +1,76 @@
+-- What the typing table says of parts of a rule that were met so far.
+use Rattle.std.specs.Prelude.{ℕ, ◌+◌, ◌-◌, ◌^◌, List, length, Bool, false, ◌==◌, ◌&&◌, ◌||◌, not, Option, Some, None, fold, min, nat_le, if◌then◌else◌}
+use Rattle.isle_sema.specs.declared.judged.Judged.{Judged}
+use Rattle.isle_sema.specs.declared.known.Called.{Called}
+use Rattle.isle_sema.specs.declared.rows.Row.{Row as CodeRow}
+use Rattle.isle_sema.specs.declared.rows.Row.TheVariants as code
+use Rattle.isle_sema.specs.Row as row
+use Rattle.isle_sema.specs.Row.{Row}
+use Rattle.isle_sema.specs.Signatures.{Signature, rule_defs, has_rule}
+use Rattle.isle_sema.specs.Site.{Site}
+use Rattle.isle_sema.specs.Whole.{Whole}
+use Rattle.isle_sema.specs.RuleRows.{is_misplaced, is_met_otherwise, is_unknown, is_mistyped, is_call_of}
+
+-- a call of a term that has a rule, which is not built
+abbrev pub is_ruled_call : Whole → Site → Bool
+is_ruled_call w site = is_call_of (λ (s : Signature). has_rule (rule_defs w.defs) s.term) site
+
+-- a call of a term that may answer nothing
+abbrev pub is_partial_call : Site → Bool
+is_partial_call site = is_call_of (λ (s : Signature). s.partial) site
+
+-- a call of a term that is not `pure`
+abbrev pub is_impure_call : Site → Bool
+is_impure_call site = is_call_of (λ (s : Signature). not s.pure) site
+
+-- a call of a `multi` term
+abbrev pub is_multi_call : Site → Bool
+is_multi_call site = is_call_of (λ (s : Signature). s.multi) site
+
+-- before any part
+abbrev pub unjudged : Judged
+unjudged = record { misplaced = false; met_otherwise = false; unknown = false; mistyped = false; partial = false; impure = false; multi = false; ruled = false; nodes = 0 }
+
+-- one part more, at most as many as are counted
+abbrev pub judge : Whole → Judged → Site → Judged
+judge w j site = record {
+  misplaced = is_misplaced w site || j.misplaced;
+  met_otherwise = is_met_otherwise site || j.met_otherwise;
+  unknown = is_unknown w site || j.unknown;
+  mistyped = is_mistyped w site || j.mistyped;
+  partial = is_partial_call site || j.partial;
+  impure = is_impure_call site || j.impure;
+  multi = is_multi_call site || j.multi;
+  ruled = is_ruled_call w site || j.ruled;
+  nodes = min (j.nodes + 1) (2 ^ 64 - 1);
+}
+
+-- these parts more
+abbrev pub judge_all : Whole → Judged → List Site → Judged
+judge_all w j sites = fold (judge w) j sites
+
+-- a row that the code names
+abbrev pub seen_row : CodeRow → Row
+seen_row code.PatternTermMisfit = row.PatternTermMisfit
+seen_row code.LiteralMisfit = row.LiteralMisfit
+seen_row code.VariableTypeMisfit = row.VariableTypeMisfit
+seen_row code.ExprNameMisfit = row.ExprNameMisfit
+seen_row code.ExprTypeMisfit = row.ExprTypeMisfit
+seen_row code.PartialCall = row.PartialCall
+seen_row code.ImpureCall = row.ImpureCall
+seen_row code.MultiCall = row.MultiCall
+seen_row code.ManyNodes = row.ManyNodes
+
+-- the lowest row that a rule of this term breaks, with so many patterns that are judged so, and its right side so
+abbrev pub lowest : Called → ℕ → Judged → Judged → Option Row
+lowest own count left right =
+    if not (count == length own.args.now) then Some row.PatternTermMisfit
+    else if left.misplaced || right.misplaced then Some row.LiteralMisfit
+    else if left.met_otherwise || right.met_otherwise then Some row.VariableTypeMisfit
+    else if left.unknown || right.unknown then Some row.ExprNameMisfit
+    else if left.mistyped || right.mistyped then Some row.ExprTypeMisfit
+    else if not own.partial && right.partial then Some row.PartialCall
+    else if own.pure && right.impure then Some row.ImpureCall
+    else if not own.multi && (left.multi || right.multi) then Some row.MultiCall
+    else if not (nat_le (left.nodes + right.nodes) 4096) then Some row.ManyNodes
+    else None

@@ -1,0 +1,33 @@
+-- What the code tests of declarations, external constructors and rules.
+use Rattle.std.specs.Prelude.{List, [], Bool, ◌||◌, not, is_some, flat_map}
+use Rattle.std.specs.List.{list_any}
+use Rattle.isle_sema.specs.Symbols.{pattern_names}
+use Rattle.isle_sema.specs.Signatures.{Signature, Extern, RuleDef, signature_named, func_named}
+use Rattle.isle_syntax.specs.Tree.{Def, Decl}
+use Rattle.isle_sema.specs.Row as row
+use Rattle.isle_sema.specs.Context.{Context}
+use Rattle.isle_sema.specs.Breaks.{breaks}
+use Rattle.isle_sema.specs.Environment.{whole_of}
+use Rattle.isle_sema.specs.Repeats.{repeats}
+
+-- a rule binds a variable twice
+abbrev pub binds_twice : RuleDef → Bool
+binds_twice r = repeats (flat_map pattern_names r.args)
+
+-- the definition that a declaration is
+abbrev pub decl_of : Signature → Def
+decl_of s = Decl s.term s.pure s.multi s.partial s.recursive s.args s.ret s.pos
+
+-- a declaration breaks one of the rows that look at no other definition
+abbrev pub is_misdeclared : Signature → Bool
+is_misdeclared s =
+    let alone : Context = record { whole = whole_of []; before = [] } in
+    breaks row.ManyArguments alone (decl_of s) || breaks row.TypeMissing alone (decl_of s)
+
+-- an external constructor is of a term that is not declared
+abbrev pub has_undeclared : List Signature → List Extern → Bool
+has_undeclared sigs xs = list_any (λ (x : Extern). not (is_some (signature_named sigs x.term))) xs
+
+-- a rule's head is not declared, or its term has an external constructor
+abbrev pub is_headless : List Signature → List Extern → RuleDef → Bool
+is_headless sigs xs r = not (is_some (signature_named sigs r.term)) || is_some (func_named xs r.term)

@@ -1,0 +1,128 @@
+//! What the typing table says of the parts of a rule.
+
+ghost use Rattle.std.specs.Prelude.{◌≡◌, Option, Some, List, []};
+ghost use Rattle.isle_syntax.specs.Tree.{Def};
+ghost use Rattle.isle_sema.specs.Signatures.{Signature};
+ghost use Rattle.isle_sema.specs.Site.{IntegerAt, TruthAt, WildcardAt, MetAt, UsedAt, CalledAt, NotBuiltAt};
+ghost use Rattle.isle_sema.specs.RuleRows.{is_other_type};
+ghost use Rattle.isle_sema.specs.Environment.{whole_of};
+ghost use Rattle.isle_sema.specs.Known.{IsCalled, MayBeCalled};
+ghost use Rattle.isle_sema.specs.Judging.{unjudged, judge};
+
+use crate::expected::{takes_integers, takes_truths};
+use crate::known::Called;
+use isle_core::TypeId;
+
+/// Which rows the parts of a rule that were met so far break, whether one calls a term that has a rule, and how many
+/// parts there are.
+#[derive(Clone, Copy)]
+pub struct Judged {
+    pub misplaced: bool,
+    pub met_otherwise: bool,
+    pub unknown: bool,
+    pub mistyped: bool,
+    pub partial: bool,
+    pub impure: bool,
+    pub multi: bool,
+    pub ruled: bool,
+    pub nodes: usize,
+}
+
+/// Whether a type differs from the one that is expected, where there is one.
+fn is_other_type(bound: Option<Option<TypeId>>, expected: Option<TypeId>) -> bool
+    ensures { result ≡ is_other_type bound expected }
+{
+    match (bound, expected) {
+        (Some(Some(ty)), Some(expected)) => ty.index() != expected.index(),
+        _ => false,
+    }
+}
+
+// The rows look at the definitions at integers, truths and calls alone: elsewhere it is all one what definitions there are.
+impl Judged {
+    /// No part.
+    pub fn new() -> Judged
+        ensures { result ≡ unjudged }
+    {
+        Judged {
+            misplaced: false,
+            met_otherwise: false,
+            unknown: false,
+            mistyped: false,
+            partial: false,
+            impure: false,
+            multi: false,
+            ruled: false,
+            nodes: 0,
+        }
+    }
+
+    /// A part that no row looks at: a wildcard, or one of a form that is not built.
+    pub fn part(&mut self)
+        ensures wildcard { self.new ≡ judge (whole_of []) self.old WildcardAt }
+        ensures not_built { self.new ≡ judge (whole_of []) self.old NotBuiltAt }
+    {
+        self.nodes = self.nodes.saturating_add(1);
+    }
+
+    /// An integer where this type is expected.
+    pub fn integer(&mut self, expected: Option<TypeId>)
+        ensures { (defs : List Def) → self.new ≡ judge (whole_of defs) self.old (IntegerAt expected) }
+    {
+        self.nodes = self.nodes.saturating_add(1);
+        self.misplaced = !takes_integers(expected) | self.misplaced;
+    }
+
+    /// `true` or `false` where this type is expected.
+    pub fn truth(&mut self, expected: Option<TypeId>)
+        ensures { (defs : List Def) → self.new ≡ judge (whole_of defs) self.old (TruthAt expected) }
+    {
+        self.nodes = self.nodes.saturating_add(1);
+        self.misplaced = !takes_truths(expected) | self.misplaced;
+    }
+
+    /// A variable in a pattern, and the type that it was bound at before, where it was.
+    pub fn met(&mut self, expected: Option<TypeId>, bound: Option<Option<TypeId>>)
+        ensures { self.new ≡ judge (whole_of []) self.old (MetAt expected bound) }
+    {
+        self.nodes = self.nodes.saturating_add(1);
+        self.met_otherwise = is_other_type(bound, expected) | self.met_otherwise;
+    }
+
+    /// A variable in an expression, and the type that it was bound at, where it was.
+    pub fn used(&mut self, expected: Option<TypeId>, bound: Option<Option<TypeId>>)
+        ensures { self.new ≡ judge (whole_of []) self.old (UsedAt expected bound) }
+    {
+        self.nodes = self.nodes.saturating_add(1);
+        self.unknown = bound.is_none() | self.unknown;
+        self.mistyped = is_other_type(bound, expected) | self.mistyped;
+    }
+
+    /// A call of a declared term.
+    fn term(&mut self, expected: Option<TypeId>, callee: &Called, count: usize)
+        ensures { (defs : List Def) (s : Signature) → IsCalled (whole_of defs) s callee.now → self.new ≡ judge (whole_of defs) self.old (CalledAt expected (Some s) count) }
+    {
+        self.nodes = self.nodes.saturating_add(1);
+        self.unknown = (count != callee.args.len())
+            | !(callee.external | callee.ruled)
+            | self.unknown;
+        self.mistyped = is_other_type(Some(Some(callee.ret)), expected) | self.mistyped;
+        self.partial = callee.partial | self.partial;
+        self.impure = !callee.pure | self.impure;
+        self.multi = callee.multi | self.multi;
+        self.ruled = callee.ruled | self.ruled;
+    }
+
+    /// A call of a term on so many arguments.
+    pub fn called(&mut self, expected: Option<TypeId>, callee: &Option<Called>, count: usize)
+        ensures { (defs : List Def) (s : Option Signature) → MayBeCalled (whole_of defs) s callee.now → self.new ≡ judge (whole_of defs) self.old (CalledAt expected s count) }
+    {
+        match callee {
+            Some(callee) => self.term(expected, callee, count),
+            None => {
+                self.nodes = self.nodes.saturating_add(1);
+                self.unknown = true;
+            }
+        }
+    }
+}

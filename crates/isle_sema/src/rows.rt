@@ -1,0 +1,48 @@
+//! The row of the typing table that a rule breaks.
+
+ghost use Rattle.std.specs.Prelude.{◌≡◌, option_map};
+ghost use Rattle.isle_sema.specs.Judging.{seen_row, lowest};
+
+use crate::judged::Judged;
+use crate::known::Called;
+
+/// A row of the typing table that a rule may break.
+#[derive(Clone, Copy)]
+pub enum Row {
+    PatternTermMisfit,
+    LiteralMisfit,
+    VariableTypeMisfit,
+    ExprNameMisfit,
+    ExprTypeMisfit,
+    PartialCall,
+    ImpureCall,
+    MultiCall,
+    ManyNodes,
+}
+
+/// The lowest row that a rule of a term breaks, on so many patterns, by what its patterns and its right side are judged.
+pub fn lowest_row(own: &Called, count: usize, left: &Judged, right: &Judged) -> Option<Row>
+    ensures { option_map seen_row result ≡ lowest own.now count left.now right.now }
+{
+    if count != own.args.len() {
+        Some(Row::PatternTermMisfit)
+    } else if left.misplaced || right.misplaced {
+        Some(Row::LiteralMisfit)
+    } else if left.met_otherwise || right.met_otherwise {
+        Some(Row::VariableTypeMisfit)
+    } else if left.unknown || right.unknown {
+        Some(Row::ExprNameMisfit)
+    } else if left.mistyped || right.mistyped {
+        Some(Row::ExprTypeMisfit)
+    } else if !own.partial && right.partial {
+        Some(Row::PartialCall)
+    } else if own.pure && right.impure {
+        Some(Row::ImpureCall)
+    } else if !own.multi && (left.multi || right.multi) {
+        Some(Row::MultiCall)
+    } else if left.nodes.saturating_add(right.nodes) > 4096 {
+        Some(Row::ManyNodes)
+    } else {
+        None
+    }
+}
