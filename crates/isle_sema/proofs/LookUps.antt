@@ -1,12 +1,11 @@
 -- Looking up a thing by its name is looking up its place.
 use Rattle.std.proofs.Common.{◌≡◌, ℕ, suc, ◌+◌, ◌<◌, ◌≤◌, length, get_or, Bool, true, false, cond, List, [], ◌∷◌, map, Option, Some, None, refl, sym, ap, ◌∙◌, arith}
-use Rattle.std.specs.Prelude.{drop, option_map, slice_get, IfSome, MatchOption}
+use Rattle.std.specs.Prelude.{option_map, slice_get, IfSome, MatchOption}
 use Rattle.std.specs.Option.{option_copied}
 use Rattle.std.specs.List.{HoldsAt, find}
 use denote.Ref.{Bor}
 use Rattle.std.specs.Str.{bytes_eq}
-use Rattle.std.proofs.lemmas.Option.{slice_get_past, slice_get_read, slice_get_within, get_or_from_slice_get}
-use Rattle.std.proofs.lemmas.List.{drop_more}
+use Rattle.std.proofs.lemmas.Option.{slice_get_past, slice_get_read}
 use Rattle.isle_sema.specs.Symbols.{index_of}
 use Rattle.isle_sema.specs.Signatures.{Signature, Extern, func_named, signature_named}
 use Rattle.isle_sema.specs.Heads.{terms_of, extern_terms}
@@ -42,12 +41,6 @@ got xs i None e h = sym (slice_get_past xs i h)
 got xs i (Some x) e h = sym (slice_get_read xs (length xs) i x.now refl h.0 e)
 
 -- ---- the rest of a list
-
--- what stands at a place is the first of the rest
-pub drop_got : {A : Type 0} (xs : List A) (i : ℕ) (x : A) → slice_get xs i ≡ Some x → drop i xs ≡ x ∷ drop (i + 1) xs
-drop_got xs i x e =
-    let lt = slice_get_within xs i x e in
-    drop_more xs i x lt ∙ ap (λ y. y ∷ drop (i + 1) xs) (get_or_from_slice_get xs i x x e)
 
 -- what is behind a reference stands at the place
 pub there : {X : Type 0} (xs : List X) (i : ℕ) (r : Option (Bor X)) (x : Bor X) → IfSome r (λ x. x.now ≡ get_or xs i x.now) → MatchOption r (length xs ≤ i) (λ x. (i < length xs) × HoldsAt (λ y. x.now ≡ y) xs i) → r ≡ Some x → slice_get xs i ≡ Some x.now
