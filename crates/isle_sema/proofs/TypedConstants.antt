@@ -16,6 +16,8 @@ use Rattle.isle_core.specs.declared.types.BuiltinType.TheVariants.{Bool as Truth
 use Rattle.isle_core.specs.declared.types.TypeDef.{TypeDef}
 use Rattle.isle_core.specs.declared.types.TypeDef.TheVariants.{Builtin}
 use Rattle.isle_core.specs.Int.{residue, wrapped}
+use Rattle.isle_core.specs.BuiltinType.{IsBuiltinDef}
+use Rattle.isle_core.specs.Rule.{Environment}
 use Rattle.isle_core.specs.HasType.{IsHeld, IsOfDef}
 use Rattle.isle_core.specs.Constants.{int_of_def}
 use Rattle.isle_sema.specs.Symbols.{index_of}
@@ -90,7 +92,11 @@ type_below name = below_at (index_of builtin_names name) (λ n e. index_within b
 -- ---- constants
 
 -- an integer of a type that is not bool
-pub integer_typed : (n : ℕ) (z : ℤ) → n < 13 → n == 0 ≡ false → IsSomeAnd (slice_get builtins n) (λ d. IsOfDef d (int_of_def (slice_get builtins n) (reduced_by (slice_get builtins n) z)))
-integer_typed n z lt e =
+pub integer_typed : (env : Environment) (n : ℕ) (z : ℤ) → n < 13 → n == 0 ≡ false → IsSomeAnd (slice_get builtins n) (λ d. IsOfDef env d (int_of_def env (slice_get builtins n) (reduced_by (slice_get builtins n) z)))
+integer_typed env n z lt e =
     let h = integer_at n lt e in
-    subst (λ o. IsSomeAnd o (λ d. IsOfDef d (int_of_def o (reduced_by o z)))) (sym h.1) (refl, held h.0 z)
+    subst (λ o. IsSomeAnd o (λ d. IsOfDef env d (int_of_def env o (reduced_by o z)))) (sym h.1) (refl, held h.0 z)
+
+-- and its type is builtin
+pub integer_builtin : (n : ℕ) → n < 13 → n == 0 ≡ false → IsSomeAnd (slice_get builtins n) IsBuiltinDef
+integer_builtin n lt e = subst (λ o. IsSomeAnd o IsBuiltinDef) (sym (integer_at n lt e).1) tt

@@ -36,7 +36,7 @@ use Rattle.isle_sema.specs.Heads.{terms_of}
 use Rattle.isle_sema.specs.TypedRule.{IsExternalKind, IsExprOf, AreExprsOf}
 use Rattle.isle_sema.proofs.Decided.{env_made}
 use Rattle.isle_sema.proofs.LookUps.{at_place, named_at}
-use Rattle.isle_sema.proofs.TypedConstants.{type_below, integer_typed}
+use Rattle.isle_sema.proofs.TypedConstants.{type_below, integer_typed, integer_builtin}
 use Rattle.isle_sema.proofs.BoundVariables.{bound_in}
 
 -- ---- constants and variables
@@ -47,7 +47,7 @@ is_bool ty h = ap type_id (eqb-true ty.0 0 (not-false (ty.0 == 0) h))
 pub truth_typed : (defs : List Def) (b : Bool) (ty : TypeId) → not (ty.0 == 0) ≡ false → HasType (env_made defs) (Truth b) ty
 truth_typed defs b ty h =
     let is : ty.0 ≡ 0 = eqb-true ty.0 0 (not-false (ty.0 == 0) h) in
-    subst (λ n. IsSomeAnd (slice_get builtins n) (λ d. IsOfDef d (Truth b))) (sym is) tt
+    subst (λ n. IsSomeAnd (slice_get builtins n) (λ d. IsOfDef (env_made defs) d (Truth b))) (sym is) tt
 
 same_type : (of ty : TypeId) → is_other (Some of) ty ≡ false → of ≡ ty
 same_type of ty h = ap type_id (eqb-true of.0 ty.0 (not-false (of.0 == ty.0) h))
@@ -107,7 +107,7 @@ mutual
   pub expr_typed : (defs : List Def) (allowed : Bool) (ps : List Pattern) (tys : List TypeId) (name : List ℕ) (e : Expr) → is_built_expr e ≡ true → calls_external (externs defs) e ≡ true
       → is_wrong (signatures defs) (typed_vars ps tys) e (type_of name) ≡ false → not allowed && calls_partial (signatures defs) e ≡ false
       → IsExprOf (env_made defs) allowed (patterns_at tys ps []) (type_of name) (expr_at (signatures defs) (type_of name) e (vars_of ps []))
-  expr_typed defs allowed ps tys name (tree.Number n) built external h partial = (refl, integer_typed (type_of name).0 n (type_below name) h)
+  expr_typed defs allowed ps tys name (tree.Number n) built external h partial = (refl, integer_typed (env_made defs) (type_of name).0 n (type_below name) h, integer_builtin (type_of name).0 (type_below name) h)
   expr_typed defs allowed ps tys name (tree.Fact b) built external h partial = (sym (is_bool (type_of name) h), truth_typed defs b (type_of name) h)
   expr_typed defs allowed ps tys name (tree.Name x) built external h partial = variable_typed defs allowed (type_of name) ps tys x (type_in (typed_vars ps tys) x) refl h
   expr_typed defs allowed ps tys name (tree.Constant x) built external h partial = cc

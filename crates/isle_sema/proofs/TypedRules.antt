@@ -34,7 +34,7 @@ use Rattle.isle_sema.proofs.Deciding.{decided}
 use Rattle.isle_sema.proofs.Decided.{env_made}
 use Rattle.isle_sema.proofs.LookUps.{at_place, named_at}
 use Rattle.isle_sema.proofs.Parts.{forms, calls, sound_rules}
-use Rattle.isle_sema.proofs.TypedConstants.{type_below, integer_typed}
+use Rattle.isle_sema.proofs.TypedConstants.{type_below, integer_typed, integer_builtin}
 use Rattle.isle_sema.proofs.TypedExprs.{truth_typed, expr_typed, built_expr, scoped_expr, impure_expr}
 use Rattle.isle_sema.proofs.BoundVariables.{some_same}
 use Rattle.isle_sema.proofs.VariablesOnce.{apart_numbers}
@@ -42,7 +42,7 @@ use Rattle.isle_sema.proofs.VariablesOnce.{apart_numbers}
 -- ---- patterns
 
 pattern_typed : (defs : List Def) (name : List ℕ) (p : Pattern) (vars : List (List ℕ)) → is_misplaced p (type_of name) ≡ false → IsPatternOf (env_made defs) (type_of name) (pattern_at (type_of name) p vars)
-pattern_typed defs name (tree.Int n) vars h = (refl, integer_typed (type_of name).0 n (type_below name) h)
+pattern_typed defs name (tree.Int n) vars h = (refl, integer_typed (env_made defs) (type_of name).0 n (type_below name) h, integer_builtin (type_of name).0 (type_below name) h)
 pattern_typed defs name (tree.Truth b) vars h = truth_typed defs b (type_of name) h
 pattern_typed defs name (tree.Var x) vars h = refl
 pattern_typed defs name (tree.Const x) vars h = refl

@@ -12,6 +12,7 @@ use Rattle.isle_core.specs.declared.types.ConstructorKind.TheVariants as constru
 use Rattle.isle_core.specs.Calling.{kind_of, may_be_nothing}
 use Rattle.isle_core.specs.Rule.{Rule, Environment}
 use Rattle.isle_core.specs.Value.{Truth}
+use Rattle.isle_core.specs.BuiltinType.{IsBuiltinType}
 use Rattle.isle_core.specs.HasType.{HasType}
 use Rattle.isle_core.specs.Constants.{int_value}
 use Rattle.isle_core.specs.StandsFor.{EachOnce}
@@ -21,7 +22,7 @@ use Rattle.isle_core.specs.RightSide.{bool_type}
 abbrev pub IsPatternOf : Environment → TypeId → Pattern → Type 0
 IsPatternOf env ty (pattern.Var of x) = of ≡ ty
 IsPatternOf env ty (pattern.ConstBool b) = HasType env (Truth b) ty
-IsPatternOf env ty (pattern.ConstInt of n) = (of ≡ ty) × HasType env (int_value env ty n) ty
+IsPatternOf env ty (pattern.ConstInt of n) = (of ≡ ty) × HasType env (int_value env ty n) ty × IsBuiltinType env ty
 IsPatternOf env ty (pattern.Wildcard of) = of ≡ ty
 IsPatternOf env ty p = ⊥
 
@@ -50,7 +51,7 @@ abbrev mutual
   pub IsExprOf : Environment → (allowed : Bool) → List Pattern → TypeId → Expr → Type 0
   IsExprOf env allowed args ty (expr.Var of x) = (of ≡ ty) × Contains args (pattern.Var ty x)
   IsExprOf env allowed args ty (expr.ConstBool b) = (bool_type ≡ ty) × HasType env (Truth b) ty
-  IsExprOf env allowed args ty (expr.ConstInt of n) = (of ≡ ty) × HasType env (int_value env ty n) ty
+  IsExprOf env allowed args ty (expr.ConstInt of n) = (of ≡ ty) × HasType env (int_value env ty n) ty × IsBuiltinType env ty
   IsExprOf env allowed args ty (expr.Term of term es) =
       (of ≡ ty) × IsSomeAnd (slice_get env.terms term.0) (λ (c : Term). IsExternalKind allowed c.kind × (c.ret_ty ≡ ty) × AreExprsOf env allowed args c.arg_tys es)
   IsExprOf env allowed args ty e = ⊥
