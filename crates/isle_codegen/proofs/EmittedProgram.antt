@@ -36,7 +36,9 @@ use Rattle.isle_codegen.specs.Headline.{FunctionsMean}
 use Rattle.isle_codegen.proofs.EmittedNames.{emitted_names, distinct_names}
 use Rattle.isle_codegen.proofs.MeanRules.{HasFunction, has_function, means_rules, of_term}
 use Rattle.isle_codegen.proofs.CalledTerms.{bound_called}
-use Rattle.isle_sema.proofs.TypedRules.{typed_impure}
+use Rattle.isle_sema.proofs.TypedRules.{typed_impure, typed_of}
+use Rattle.isle_sema.specs.TypedRule.{IsRuleOf}
+use Rattle.isle_codegen.proofs.Answerable.{answerable}
 use Rattle.isle_core.specs.BuiltRule.{IsImpureRule}
 use Rattle.isle_simulation.proofs.GivenFunctions.{emitted_well_formed, has_shape, of_its_term, function_calls}
 
@@ -131,21 +133,21 @@ module _ (defs : List Def) (files : Files) (env : Environment) (typed : Typed de
       (subst (λ (ids : List TermId). Contains ids id) (sym stand.ids) c)
 
   -- there is something to say of each term
-  meant_of : (id : TermId) (t : Term) → slice_get env.terms id.0 ≡ Some t → IsMeant env id
-  meant_of id t there = record {
+  meant_of : HasFnNames env → (id : TermId) (t : Term) → slice_get env.terms id.0 ≡ Some t → IsMeant env id
+  meant_of names id t there = record {
     term = t;
     there = there;
     arguments = arguments_of env t.arg_tys (typed_types defs env id.0 t typed there).1;
-    meanings = λ can none h history. lawful_with env id h can none history;
+    meanings = λ none values h history. lawful_with env id h (answerable env t (rules_of env id) names (recursion_from_All (IsRuleOf env t) (rules_of env id) (typed_of defs env id t typed there)) values) none history;
   }
 
   -- and its functions mean the rules
-  pub program_means : (p : Program) → p.fns ≡ fs → FunctionsMean files env p
-  program_means p e =
+  pub program_means : (p : Program) → HasFnNames env → p.fns ≡ fs → FunctionsMean files env p
+  program_means p names e =
       record {
         names = ap (map (λ (f : Function). f.term)) e ∙ names_of;
         declared = subst (λ (xs : List Function). AreDeclared files env (with_rules env) xs) (sym e) (subst (λ (ids : List TermId). AreDeclared files env ids fs) stand.ids (are_declared files env sets fs emitted));
         blocks = subst (λ (xs : List Function). AreFromBlocks files env (with_rules env) xs) (sym e) (subst (λ (ids : List TermId). AreFromBlocks files env ids fs) stand.ids (are_from_blocks files env sets fs (λ id. recursion_from_All (IsImpureRule env.terms) (rules_of env id) (of_term (IsImpureRule env.terms) env id (typed_impure defs env typed))) (recursion_from_All (λ (s : TermId × RuleSet). StandsFor env s.1 (rules_of env s.0)) sets stand.stand) emitted));
         mean = λ id c. means_rules defs files env p id typed (subst (λ (xs : List Function). HasFunction files env xs id) (sym e) (function_for id c));
-        meant = λ id c. meant_of id (function_for id c).emitted.term (function_for id c).emitted.there;
+        meant = λ id c. meant_of names id (function_for id c).emitted.term (function_for id c).emitted.there;
       }

@@ -10,3 +10,4 @@ pub mod Placed
 pub mod ListedNames
 pub mod PlainTerms
 pub mod Emissions
+pub mod Answerable

@@ -62,7 +62,7 @@ at_option (Some g) fs f e = subst (λ x. Contains (x ∷ fs) f) (sym (same_fn g 
     same_fn : (a b : TraitFn) → Some a ≡ Some b → a ≡ b
     same_fn a b e = cc
 
-fn_contained : (env : Environment) (ts : List Term) (i : ℕ) (t : Term) (f : TraitFn) → slice_get ts i ≡ Some t → constructor_fn_of env t ≡ Some f → Contains (trait_fns_in env ts) f
+pub fn_contained : (env : Environment) (ts : List Term) (i : ℕ) (t : Term) (f : TraitFn) → slice_get ts i ≡ Some t → constructor_fn_of env t ≡ Some f → Contains (trait_fns_in env ts) f
 fn_contained env [] i t f e is = cc
 fn_contained env (u ∷ ts) zero t f e is =
     behind_option (extractor_fn_of env u) (cons_option (constructor_fn_of env u) (trait_fns_in env ts)) f
@@ -74,7 +74,7 @@ fn_contained env (u ∷ ts) (suc i) t f e is =
     behind_option (extractor_fn_of env u) (cons_option (constructor_fn_of env u) (trait_fns_in env ts)) f
     (behind_option (constructor_fn_of env u) (trait_fns_in env ts) f (fn_contained env ts i t f e is))
 
-name_contained : (fs : List TraitFn) (f : TraitFn) → Contains fs f → Contains (fn_names fs) f.name
+pub name_contained : (fs : List TraitFn) (f : TraitFn) → Contains fs f → Contains (fn_names fs) f.name
 name_contained [] f c = absurd (none_contained f c)
 name_contained (x ∷ fs) f c =
     ⊎_elim

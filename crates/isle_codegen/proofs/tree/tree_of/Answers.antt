@@ -20,4 +20,4 @@ returns-clause-well_formed c =
 pub returns-clause-functions : goal.returns-clause-functions
 returns-clause-functions c =
     program_means c.requires.given.defs c.args.files.now (environment c.args.typeenv.now c.args.termenv.now) c.requires.given.compilable.typed c.args.terms.now c.requires.terms
-    (map function c.in_ok-fns.fns.items) c.in_ok-fns.ensures _ (ap (map function) c.new-4.ensures)
+    (map function c.in_ok-fns.fns.items) c.in_ok-fns.ensures _ c.requires.given.compilable.fns (ap (map function) c.new-4.ensures)
