@@ -10,3 +10,4 @@ pub mod NamedTypes
 pub mod ServedCallees
 pub mod RightForms
 pub mod Complete
+pub mod OfRun

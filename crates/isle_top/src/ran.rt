@@ -41,12 +41,15 @@ pub fn ran<D: Dir>(
         Err(ReadError::Memory) => return Err(Refusal::Memory),
     };
     let options = CodegenOptions::new(alloc);
-    trial(
+    match trial(
         alloc,
         &read.files,
         &options,
         term,
         values,
         read.answers.as_str(),
-    )
+    ) {
+        Ok(lines) => Ok(lines),
+        Err(e) => Err(e),
+    }
 }

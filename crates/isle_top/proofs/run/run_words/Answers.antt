@@ -1,20 +1,13 @@
-use Rattle.std.proofs.Common.{◌≤◌, ◌+◌, ◌*◌, ◌^◌, length, sym, ap, inl, subst, Err}
+use Rattle.std.proofs.Common.{rules, ◌≤◌, ◌+◌, ◌*◌, ◌^◌, length, sym, ap, inl, subst, Err}
 use Rattle.std.specs.Prelude.{IsSomeAnd}
 use Rattle.isle_core.specs.Inputs.{bytes_each}
 use Rattle.isle_command_line.specs.Request.{Request}
 use Rattle.isle_command_line.specs.Views.{seen_command}
-use Rattle.isle_top.specs.Requests.{IsBuilt, inputs_of}
+use Rattle.isle_top.specs.Requests.{Asks, IsBuilt, inputs_of}
 use Rattle.isle_top.specs.Valid.{IsValidLine}
-use Rattle.isle_top.proofs.Refusals.{bad_word, no_bad_word, wrote}
+use Rattle.isle_top.specs.Statuses as statuses
+use Rattle.isle_top.proofs.Refusals.{bad_word, no_bad_word, says_of, wrote}
 use Rattle.isle_top.proofs.run.run_words.Goals as goal
-
-pub returns-in-Ok-clause-not_yet : goal.returns-in-Ok-clause-not_yet
-returns-in-Ok-clause-not_yet g c = λ e. (seen_command c.in-Ok.request, record { line = c.in-Ok.ensures.line; only = c.in-Ok.ensures.only }, c.run_command.ensures.not_yet e)
-
-pub returns-in-Err-Bad-clause-bad : goal.returns-in-Err-Bad-clause-bad
-returns-in-Err-Bad-clause-bad g c = λ _.
-    bad_word (bytes_each c.args.words.now) c.in-Err-Bad.index _ (c.in-Err-Bad.ensures.bad c.in-Err-Bad.index (ap Err c.in-Err-Bad.field-0-is))
-    (λ word at. rw (sym (c.word_at.ensures word (rw c.in-Err-Bad.index-is at))) (wrote c.write_bad_word.result _ _ _ _ _ c.write_bad_word.ensures.ok c.write_bad_word.ensures.part c.write_bad_word.ensures.failed))
 
 pub returns-in-Err-Bad-clause-not_built : goal.returns-in-Err-Bad-clause-not_built
 returns-in-Err-Bad-clause-not_built g c = λ request line never. absurd (no_bad_word (bytes_each c.args.words.now) c.in-Err-Bad.index request (c.in-Err-Bad.ensures.bad c.in-Err-Bad.index (ap Err c.in-Err-Bad.field-0-is)) line)
@@ -35,3 +28,19 @@ returns-in-Ok-clause-given g c = λ request line.
 
 pub returns-in-Ok-clause-untried : goal.returns-in-Ok-clause-untried
 returns-in-Ok-clause-untried g c = λ never. c.run_command.ensures.untried (λ built. never (seen_command c.in-Ok.request) c.in-Ok.ensures.line built)
+
+pub returns-in-Ok-clause-says : goal.returns-in-Ok-clause-says
+returns-in-Ok-clause-says g c =
+    says_of (λ request e. subst (Asks (bytes_each c.args.words.now)) (sym e) (record { line = c.in-Ok.ensures.line; only = c.in-Ok.ensures.only })) (λ never. absurd never) c.run_command.ensures.says
+
+pub returns-in-Err-Bad-clause-says : goal.returns-in-Err-Bad-clause-says
+returns-in-Err-Bad-clause-says g c =
+    statuses.no_line
+    (bad_word (bytes_each c.args.words.now) c.in-Err-Bad.index _ (c.in-Err-Bad.ensures.bad c.in-Err-Bad.index (ap Err c.in-Err-Bad.field-0-is))
+    (λ word at. rw (sym (c.word_at.ensures word (rw c.in-Err-Bad.index-is at))) (wrote c.write_bad_word.result _ _ _ _ _ c.write_bad_word.ensures.ok c.write_bad_word.ensures.part c.write_bad_word.ensures.failed)))
+
+pub returns-in-Err-Missing-clause-says : goal.returns-in-Err-Missing-clause-says
+returns-in-Err-Missing-clause-says g c = statuses.no_line (statuses.missing (search rules) (search rules))
+
+pub returns-in-Err-Memory-clause-says : goal.returns-in-Err-Memory-clause-says
+returns-in-Err-Memory-clause-says g c = statuses.no_memory (search rules)
