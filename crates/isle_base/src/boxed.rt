@@ -18,14 +18,14 @@ impl<T> Model for Boxed<T> {
 }
 
 impl<T> Boxed<T> {
-    /// The value, to read.
+    /// Returns the value, to read.
     pub fn get(&self) -> &T
         ensures { result.now ≡ self.now }
     {
         &self.inner
     }
 
-    /// The value, given up.
+    /// Gives the value up.
     pub fn into_inner(self) -> T
         ensures { result ≡ self }
     {
@@ -35,7 +35,7 @@ impl<T> Boxed<T> {
 }
 
 impl<T: Drop> Boxed<T> {
-    /// The value in a box of its own. `AllocError` comes for want of memory, and the value is dropped then.
+    /// Puts the value into a box of its own. `AllocError` comes for want of memory, and the value is dropped then.
     pub fn new(alloc: Global, value: T) -> Result<Boxed<T>, AllocError>
         ensures { IfOk result (λ boxed. boxed ≡ value) }
     {

@@ -5,7 +5,7 @@ ghost use Rattle.std.specs.Prelude.{◌≡◌};
 pub struct TypeId(pub usize);
 
 impl TypeId {
-    /// The number.
+    /// Returns the number.
     pub fn index(self) -> usize
         ensures { result ≡ self.0 }
     {
@@ -18,7 +18,7 @@ impl TypeId {
 pub struct TermId(pub usize);
 
 impl TermId {
-    /// The number.
+    /// Returns the number.
     pub fn index(self) -> usize
         ensures { result ≡ self.0 }
     {
@@ -31,7 +31,7 @@ impl TermId {
 pub struct RuleId(pub usize);
 
 impl RuleId {
-    /// The number.
+    /// Returns the number.
     pub fn index(self) -> usize
         ensures { result ≡ self.0 }
     {
@@ -44,7 +44,7 @@ impl RuleId {
 pub struct VariantId(pub usize);
 
 impl VariantId {
-    /// The number.
+    /// Returns the number.
     pub fn index(self) -> usize
         ensures { result ≡ self.0 }
     {
@@ -57,7 +57,7 @@ impl VariantId {
 pub struct FieldId(pub usize);
 
 impl FieldId {
-    /// The number.
+    /// Returns the number.
     pub fn index(self) -> usize
         ensures { result ≡ self.0 }
     {
@@ -70,7 +70,7 @@ impl FieldId {
 pub struct Sym(pub usize);
 
 impl Sym {
-    /// The number.
+    /// Returns the number.
     pub fn index(self) -> usize
         ensures { result ≡ self.0 }
     {
@@ -83,7 +83,7 @@ impl Sym {
 pub struct BindingId(pub usize);
 
 impl BindingId {
-    /// The number.
+    /// Returns the number.
     pub fn index(self) -> usize
         ensures { result ≡ self.0 }
     {
@@ -96,7 +96,7 @@ impl BindingId {
 pub struct VarId(pub usize);
 
 impl VarId {
-    /// The number.
+    /// Returns the number.
     pub fn index(self) -> usize
         ensures { result ≡ self.0 }
     {
@@ -109,7 +109,7 @@ impl VarId {
 pub struct TupleIndex(pub u8);
 
 impl TupleIndex {
-    /// The number.
+    /// Returns the number.
     pub fn index(self) -> usize
         ensures { result ≡ self.0 }
     {

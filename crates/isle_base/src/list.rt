@@ -20,21 +20,21 @@ impl<T> Model for List<T> {
 }
 
 impl<T> List<T> {
-    /// The list of these items, in their order. It takes no memory.
+    /// Makes the list of these items, in their order. It takes no memory.
     pub fn new(items: Vec<T>) -> List<T>
         ensures { result ≡ items.items }
     {
         List { items }
     }
 
-    /// The items, to read.
+    /// Returns the items, to read.
     pub fn as_slice(&self) -> &[T]
         ensures { result.now ≡ self.now }
     {
         self.items.as_slice()
     }
 
-    /// The items, given up. It takes no memory.
+    /// Gives the items up. It takes no memory.
     pub fn into_vec(self) -> Vec<T>
         ensures { result.items ≡ self }
     {

@@ -18,7 +18,7 @@ pub struct Files {
 }
 
 impl Files {
-    /// The texts of the files of these names, in order, with the names as printed: of each the first prefix that
+    /// Reads the files of these names, in order, and notes the names as printed: of each the first prefix that
     /// begins it is replaced. `Io` gives the first input that was not read; see `IoCause` for its causes. Each name is
     /// looked up once, none behind that input's, and of each input at most 2^24 + 1 bytes are taken.
     pub fn from_paths<D: Dir>(
@@ -47,7 +47,7 @@ impl Files {
     }
 }
 
-/// The texts of the files of these names, in order.
+// The texts of the files of these names, in order.
 fn all_texts<D: Dir>(alloc: Global, dir: &mut D, names: &[String]) -> Result<Vec<Text>, ReadError>
     ensures texts { IfOk result (λ read. IfSome (D.files dir.old) (λ fs. AreRead fs (bytes_each names.now) read.items)) }
     ensures count { IfOk result (λ read. length read.items ≡ length names.now) }
@@ -70,7 +70,7 @@ fn all_texts<D: Dir>(alloc: Global, dir: &mut D, names: &[String]) -> Result<Vec
     Ok(read)
 }
 
-/// The names as printed, in order.
+// The names as printed, in order.
 fn all_shown(alloc: Global, names: &[String], prefixes: &[Prefix]) -> Result<Vec<Text>, OutOfMemory>
     ensures { IfOk result (λ printed. printed.items ≡ map (shown prefixes.now) (bytes_each names.now)) }
 {
@@ -81,7 +81,7 @@ fn all_shown(alloc: Global, names: &[String], prefixes: &[Prefix]) -> Result<Vec
     Ok(printed)
 }
 
-/// A name as printed.
+// A name as printed.
 fn name_shown(alloc: Global, name: &str, prefixes: &[Prefix]) -> Result<Text, OutOfMemory>
     ensures { IfOk result (λ printed. printed ≡ shown prefixes.now name.now) }
 {
@@ -95,7 +95,7 @@ fn name_shown(alloc: Global, name: &str, prefixes: &[Prefix]) -> Result<Text, Ou
     Ok(Text::new(String::from_str(alloc, name)?))
 }
 
-/// What stands behind the prefix, where the name begins with it.
+// What stands behind the prefix, where the name begins with it.
 fn behind<'a>(name: &'a str, prefix: &str) -> Option<&'a str>
     ensures { option_copied result ≡ after_prefix prefix.now name.now }
 {

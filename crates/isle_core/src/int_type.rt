@@ -6,7 +6,7 @@ ghost use Rattle.isle_core.specs.HasType.{IsHeld};
 use crate::types::IntType;
 
 impl IntType {
-    /// Whether a number is one of the type, as a value holds it: `u128` as its 128 signed bits.
+    /// Tells whether a number is one of the type, as a value holds it: `u128` as its 128 signed bits.
     pub fn holds(self, number: i128) -> bool
         ensures { IsTrue result ↔ IsHeld self number }
     {

@@ -26,7 +26,7 @@ pub struct CodegenOptions {
 }
 
 impl CodegenOptions {
-    /// All false, no prefixes, no threshold. It takes no memory.
+    /// Makes options: all false, no prefixes, no threshold. It takes no memory.
     pub fn new(alloc: Global) -> CodegenOptions
         ensures allow { result.exclude_global_allow_pragmas ≡ false }
         ensures prefixes { result.prefixes ≡ [] }

@@ -22,7 +22,7 @@ pub struct Span {
 }
 
 impl Span {
-    /// The span that begins and ends at the place.
+    /// Makes the span that begins and ends at the place.
     pub fn new_single(pos: Pos) -> Span
         ensures from { result.from ≡ pos }
         ensures to { result.to ≡ pos }
@@ -32,7 +32,7 @@ impl Span {
 }
 
 impl Pos {
-    /// The place as it is printed: the file's name as printed, ` line ` and the number of the line, from 1.
+    /// Returns the place as it is printed: the file's name as printed, ` line ` and the number of the line, from 1.
     pub fn pretty_print_line(self, alloc: Global, files: &Files) -> Result<String, OutOfMemory>
         requires { LiesIn files.now self }
         ensures { IfOk result (λ text. string_bytes text ≡ place_in files.now self) }
@@ -44,7 +44,7 @@ impl Pos {
     }
 }
 
-/// The number of the line of a place in a text, from 1.
+// The number of the line of a place in a text, from 1.
 fn line_number(text: &[u8], offset: usize) -> usize
     requires { offset ≤ length text.now }
     ensures { result ≡ line_of text.now offset }

@@ -16,7 +16,7 @@ impl ReadError {
     ghost use Rattle.std.specs.Prelude.{◌≡◌};
     ghost use Rattle.isle_core.specs.Inputs.{failure_at};
 
-    /// The failure of the input at the place.
+    /// Returns the failure of the input at the place.
     pub(crate) fn at(index: usize, fail: ReadFail) -> ReadError
         ensures { result ≡ failure_at index fail }
     {

@@ -14,8 +14,8 @@ use isle_scope::Scope;
 use isle_tree::{Operand, Read, TCall, TExpr};
 use std::alloc::{AllocError, Global};
 
-/// Returns what a call of the term of this number goes to: its external function, or the function of the text that its
-/// rules give.
+// Returns what a call of the term of this number goes to: its external function, or the function of the text that its
+// rules give.
 fn callee_of(
     alloc: Global,
     context: &Context<'_>,
@@ -44,7 +44,7 @@ fn callee_of(
     }
 }
 
-/// Makes the operands of bindings as they are read, in order, where each has one.
+// Makes the operands of bindings as they are read, in order, where each has one.
 fn reads(
     alloc: Global,
     context: &Context<'_>,
@@ -63,7 +63,7 @@ fn reads(
     Ok(Some(reads))
 }
 
-/// Makes a call of what is called on what is read.
+// Makes a call of what is called on what is read.
 fn call_on(callee: Option<Callee>, args: Option<Vec<Read>>) -> Option<TExpr>
     ensures { result ≡ Statements.call_on callee (items_of args) }
 {
@@ -76,7 +76,7 @@ fn call_on(callee: Option<Callee>, args: Option<Vec<Read>>) -> Option<TExpr>
     })
 }
 
-/// Makes the inner value of an option.
+// Makes the inner value of an option.
 fn inner_of(source: Option<Operand>) -> Option<TExpr>
     ensures { result ≡ Statements.inner_of source }
 {
@@ -86,7 +86,7 @@ fn inner_of(source: Option<Operand>) -> Option<TExpr>
     })
 }
 
-/// Makes a read of an operand.
+// Makes a read of an operand.
 fn read_of(operand: Option<Operand>) -> Option<TExpr>
     ensures { result ≡ Statements.read_of operand }
 {

@@ -14,7 +14,7 @@ use isle_core::{
 use isle_tree::TraitFn;
 use std::alloc::{AllocError, Global};
 
-/// Makes the function of this symbol that makes what a term gives.
+// Makes the function of this symbol that makes what a term gives.
 fn constructor_fn(
     alloc: Global,
     typeenv: &TypeEnv,
@@ -33,7 +33,7 @@ fn constructor_fn(
     })
 }
 
-/// Makes the function of this symbol that takes what a term gives apart.
+// Makes the function of this symbol that takes what a term gives apart.
 fn extractor_fn(
     alloc: Global,
     typeenv: &TypeEnv,
@@ -52,7 +52,7 @@ fn extractor_fn(
     })
 }
 
-/// Returns the symbol of a term's external constructor, where it has one.
+// Returns the symbol of a term's external constructor, where it has one.
 fn constructed(term: &Term) -> Option<Sym>
     ensures { result ≡ TraitFns.func_of term.now.kind }
 {
@@ -65,7 +65,7 @@ fn constructed(term: &Term) -> Option<Sym>
     }
 }
 
-/// Returns how often an external extractor answers.
+// Returns how often an external extractor answers.
 fn extractor_kind(multi: bool, infallible: bool) -> ReturnKind
     ensures { result ≡ extractor_kind multi infallible }
 {
@@ -78,7 +78,7 @@ fn extractor_kind(multi: bool, infallible: bool) -> ReturnKind
     }
 }
 
-/// Returns the symbol of a term's external extractor and how often it answers, where it has one.
+// Returns the symbol of a term's external extractor and how often it answers, where it has one.
 fn extracted(term: &Term) -> Option<(Sym, ReturnKind)>
     ensures { result ≡ TraitFns.extracted_of term.now.kind }
 {
@@ -92,7 +92,7 @@ fn extracted(term: &Term) -> Option<(Sym, ReturnKind)>
     }
 }
 
-/// Adds the function of a term's external extractor, where it has one.
+// Adds the function of a term's external extractor, where it has one.
 fn push_extractor(
     alloc: Global,
     typeenv: &TypeEnv,
@@ -108,7 +108,7 @@ fn push_extractor(
     Ok(())
 }
 
-/// Adds the function of a term's external constructor, where it has one.
+// Adds the function of a term's external constructor, where it has one.
 fn push_constructor(
     alloc: Global,
     typeenv: &TypeEnv,

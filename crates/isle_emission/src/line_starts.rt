@@ -24,7 +24,7 @@ impl Model for LineStarts {
     ghost view = { λ table. table.files.items };
 }
 
-/// Makes the places where the lines of a text begin, but the first.
+// Makes the places where the lines of a text begin, but the first.
 fn starts_of(alloc: Global, text: &str) -> Result<Vec<usize>, AllocError>
     ensures { IfOk result (λ starts. starts.items ≡ starts_of text.now) }
 {
@@ -37,7 +37,7 @@ fn starts_of(alloc: Global, text: &str) -> Result<Vec<usize>, AllocError>
     Ok(starts)
 }
 
-/// Returns the number of the line of a place in a text whose lines begin there, from 1.
+// Returns the number of the line of a place in a text whose lines begin there, from 1.
 fn line_number(starts: &[usize], offset: usize) -> usize
     ensures { (text : ListOf ℕ) → starts.now ≡ starts_of text → result ≡ line_of text offset }
 {

@@ -11,7 +11,7 @@ use isle_core::{Binding, BindingId, BuiltinType, Constraint, TypeDef, TypeId};
 use isle_scope::Scope;
 use isle_tree::Operand;
 
-/// Returns a number as an operand of a type.
+// Returns a number as an operand of a type.
 fn number(context: &Context<'_>, ty: TypeId, val: i128) -> Option<Operand>
     ensures { result ≡ Operands.constant (int_value (env_of context.now) ty val) }
 {
@@ -25,7 +25,7 @@ fn number(context: &Context<'_>, ty: TypeId, val: i128) -> Option<Operand>
     }
 }
 
-/// Returns what is read in place for a binding.
+// Returns what is read in place for a binding.
 fn of_binding(context: &Context<'_>, binding: &Binding) -> Option<Operand>
     ensures { (ps : ListOf Path) → result ≡ Operands.in_place (env_of context.now) (path_over ps binding.now) }
 {
@@ -71,7 +71,7 @@ pub fn tested(context: &Context<'_>, constraint: Constraint) -> Option<Operand>
     }
 }
 
-/// Returns whether the binding's local is bound.
+// Returns whether the binding's local is bound.
 fn is_bound(bound: &Scope, binding: BindingId) -> bool
     ensures { result ≡ Operands.is_bound bound.now binding }
 {

@@ -21,7 +21,7 @@ use isle_scope::Scope;
 use isle_tree::Stmt;
 use std::alloc::Global;
 
-/// Makes the tail of a function, where it has one.
+// Makes the tail of a function, where it has one.
 #[tactic(auto, using(isle_tree::proofs::Sees::sees))]
 fn tail(
     alloc: Global,
@@ -45,7 +45,7 @@ fn tail(
     }
 }
 
-/// Returns whether a step ends the run.
+// Returns whether a step ends the run.
 #[tactic(auto, using(isle_core::proofs::SeesBlocks::sees_blocks))]
 fn is_return(control: &ControlFlow) -> bool
     ensures { result ≡ TermFunction.is_return (BlockViews.control control.now) }
@@ -56,7 +56,7 @@ fn is_return(control: &ControlFlow) -> bool
     }
 }
 
-/// Returns whether the last step of a block ends the run.
+// Returns whether the last step of a block ends the run.
 #[tactic(auto, using(isle_core::proofs::SeesBlocks::sees_blocks))]
 fn ends_in_return(block: &Block) -> bool
     ensures { result ≡ TermFunction.ends_in_return (BlockViews.block block.now) }

@@ -9,7 +9,7 @@ use isle_spelling::type_name;
 use isle_tree::Ty;
 use std::alloc::{AllocError, Global};
 
-/// Returns the text of a symbol.
+// Returns the text of a symbol.
 fn sym_text(typeenv: &TypeEnv, sym: Sym) -> &str
     ensures { result.now ≡ slice_index_or typeenv.now.syms sym.0 [] }
 {
@@ -19,7 +19,7 @@ fn sym_text(typeenv: &TypeEnv, sym: Sym) -> &str
     }
 }
 
-/// Returns the name of a type as it is emitted.
+// Returns the name of a type as it is emitted.
 fn type_text(typeenv: &TypeEnv, ty: TypeId) -> &str
     ensures { result.now ≡ def_text typeenv.now (slice_get typeenv.now.types ty.0) }
 {
@@ -34,7 +34,7 @@ fn type_text(typeenv: &TypeEnv, ty: TypeId) -> &str
     }
 }
 
-/// Returns whether a parameter of the type stands behind a reference.
+// Returns whether a parameter of the type stands behind a reference.
 fn is_by_ref(typeenv: &TypeEnv, ty: TypeId) -> bool
     ensures { result ≡ is_by_ref (slice_get typeenv.now.types ty.0) }
 {
@@ -44,7 +44,7 @@ fn is_by_ref(typeenv: &TypeEnv, ty: TypeId) -> bool
     }
 }
 
-/// Makes a text of its own.
+// Makes a text of its own.
 fn owned(alloc: Global, text: &str) -> Result<Text, AllocError>
     ensures { IfOk result (λ owned. owned ≡ text.now) }
 {

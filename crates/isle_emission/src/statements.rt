@@ -18,7 +18,7 @@ use isle_scope::Scope;
 use isle_tree::{Operand, Read, Stmt, TExpr};
 use std::alloc::{AllocError, Global};
 
-/// Binds each binding in its local, behind what is there, and returns whether each has something that its local computes.
+// Binds each binding in its local, behind what is there, and returns whether each has something that its local computes.
 #[tactic(auto, using(isle_tree::proofs::Sees::sees))]
 fn push_lets(
     alloc: Global,
@@ -41,7 +41,7 @@ fn push_lets(
     Ok(true)
 }
 
-/// Makes a return: of a term that may answer nothing an option.
+// Makes a return: of a term that may answer nothing an option.
 fn return_of(kind: ReturnKind, operand: Option<Operand>) -> Option<Stmt>
     ensures { option_map stmt result ≡ Statements.return_of kind operand }
 {
@@ -53,7 +53,7 @@ fn return_of(kind: ReturnKind, operand: Option<Operand>) -> Option<Stmt>
     }
 }
 
-/// Makes a test of two operands.
+// Makes a test of two operands.
 #[tactic(auto, using(isle_tree::proofs::Sees::sees))]
 fn if_eq(a: Option<Operand>, b: Option<Operand>, inside: Option<Vec<Stmt>>) -> Option<Stmt>
     ensures { option_map stmt result ≡ Statements.if_eq a b (onto (stmts_of inside) (Some Done)) }
@@ -79,7 +79,7 @@ pub fn block_stmts(
     Ok(stmts)
 }
 
-/// Makes the statements of steps in order.
+// Makes the statements of steps in order.
 #[cycle(statements)]
 #[tactic(auto, using(isle_core::proofs::SeesBlocks::sees_blocks))]
 fn step_stmts(
@@ -104,7 +104,7 @@ fn step_stmts(
     Ok(Some(out))
 }
 
-/// Makes the statement of what a step does.
+// Makes the statement of what a step does.
 #[cycle(statements)]
 #[tactic(auto, using(isle_core::proofs::SeesBlocks::sees_blocks, isle_tree::proofs::Sees::sees))]
 fn control_stmt(
@@ -134,7 +134,7 @@ fn control_stmt(
     }
 }
 
-/// Makes the test of an operand against the one arm's constraint.
+// Makes the test of an operand against the one arm's constraint.
 #[cycle(statements)]
 #[tactic(auto, using(isle_core::proofs::SeesBlocks::sees_blocks, isle_tree::proofs::Sees::sees))]
 fn arms_stmt(

@@ -41,7 +41,7 @@ pub trait Dir {
         ensures given { (counts self.new).given ≡ (counts self.old).given }
         ensures nothing { OnErr result (current self.new ≡ Nothing) };
 
-    /// The number of the next bytes of the current file, which stand at the front of the buffer then; 0 is the end.
+    /// Puts the next bytes of the current file at the front of the buffer, and returns how many they are; 0 is the end.
     fn next(&mut self, buf: &mut [u8]) -> Result<usize, Failed>
         requires reading { IsReading (current self.old) }
         requires room { 0 < length buf.old }
@@ -57,7 +57,7 @@ pub trait Dir {
         ensures ungiven { OnErr result ((counts self.new).given ≡ (counts self.old).given) }
         ensures nothing { OnErr result (current self.new ≡ Nothing) };
 
-    /// The names of the files directly in the current folder, in any order. A name that isn't UTF-8 is a fault.
+    /// Returns the names of the files directly in the current folder, in any order. A name that isn't UTF-8 is a fault.
     fn list(&mut self, alloc: Global, name: &str) -> Result<Vec<String>, DirFault>
         requires { current self.old ≡ InFolder name.now }
         ensures names { IfOk result (λ names. Lists (files self.old) name.now (map string_bytes names.items)) }
@@ -70,7 +70,8 @@ pub trait Dir {
         ensures given { (counts self.new).given ≡ (counts self.old).given }
         ensures nothing { current self.new ≡ Nothing };
 
-    /// Makes the file of the name hold these bytes. After `Failed` that file may hold anything, after `Memory` all files are as before.
+    /// Makes the file of the name hold these bytes. After `Failed` that file may hold anything, after `Memory` all files are as
+    /// before.
     fn write_file(&mut self, name: &str, bytes: &[u8]) -> Result<(), DirFault>
         ensures holds { OnOk result (Holds (files self.new) name.now bytes.now) }
         ensures others { KeepsOthers (files self.old) (files self.new) name.now }

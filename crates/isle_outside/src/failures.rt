@@ -9,7 +9,7 @@ pub struct Failures {
 }
 
 impl Failures {
-    /// No call yet.
+    /// Begins with no call.
     pub fn new(numbers: Vec<usize>) -> Failures
         ensures numbers { result.numbers ≡ numbers }
         ensures calls { result.calls ≡ 0 }

@@ -8,14 +8,14 @@ use crate::errors::DirFault;
 use crate::names::{entry, part_behind};
 use std::alloc::Global;
 
-/// The place of the first file of the name.
+/// Returns the place of the first file of the name.
 pub fn place_of(files: &[(String, Vec<u8>)], name: &str) -> Option<usize>
     ensures { result ≡ position (λ kept. bytes_eq (string_bytes kept.0) name.now) files.now }
 {
     files.iter().position(|file| file.0.as_str() == name)
 }
 
-/// The place of the first file whose name goes on behind this one and a slash.
+/// Returns the place of the first file whose name goes on behind this one and a slash.
 pub fn place_below(files: &[(String, Vec<u8>)], name: &str) -> Option<usize>
     ensures { result ≡ position (λ kept. is_some (behind name.now (string_bytes kept.0))) files.now }
 {
@@ -24,7 +24,7 @@ pub fn place_below(files: &[(String, Vec<u8>)], name: &str) -> Option<usize>
         .position(|file| part_behind(file.0.as_str(), name).is_some())
 }
 
-/// The names of the files directly in the folder, in their order.
+/// Returns the names of the files directly in the folder, in their order.
 pub fn entries(
     alloc: Global,
     files: &[(String, Vec<u8>)],

@@ -35,7 +35,7 @@ impl MemDir {
     ghost use Rattle.isle_outside.specs.Directory.{Nothing, Rose};
     ghost use Rattle.isle_outside.specs.Memory.{IsCounted, IsUnused, current_in, faults_in, files_in, files_of, piece_in};
 
-    /// A directory of these files, in which nothing is current. The first call of a method of `Dir` has number 1.
+    /// Makes a directory of these files, in which nothing is current. The first call of a method of `Dir` has number 1.
     pub fn new(
         alloc: Global,
         files: Vec<(String, Vec<u8>)>,
@@ -61,21 +61,21 @@ impl MemDir {
         }
     }
 
-    /// The files that it keeps, in their order.
+    /// Returns the files that it keeps, in their order.
     pub fn files(&self) -> &[(String, Vec<u8>)]
         ensures { files_of result.now ≡ files_in self.now }
     {
         &self.files
     }
 
-    /// How often it has failed, up to 2^64 - 1.
+    /// Returns how often it has failed, up to 2^64 - 1.
     pub fn faults(&self) -> u64
         ensures { result ≡ faults_in self.now }
     {
         self.faults
     }
 
-    /// Counts a call, and says whether it is to fail; then it is a fault, and nothing is current.
+    // Counts a call, and says whether it is to fail; then it is a fault, and nothing is current.
     fn fails_now(&mut self) -> bool
         ensures counts { IsCounted self.old self.new result }
         ensures files { self.new.files ≡ self.old.files }

@@ -23,7 +23,7 @@ pub struct MemSink {
 }
 
 impl MemSink {
-    /// An empty sink. Its room is reserved at once, so no `put` runs out of memory. The first `put` has number 1.
+    /// Makes an empty sink. Its room is reserved at once, so no `put` runs out of memory. The first `put` has number 1.
     pub fn new(
         alloc: Global,
         room: usize,
@@ -48,21 +48,21 @@ impl MemSink {
         })
     }
 
-    /// The bytes taken.
+    /// Returns the bytes taken.
     pub fn bytes(&self) -> &[u8]
         ensures { result.now ≡ self.now.bytes.items }
     {
         self.bytes.as_slice()
     }
 
-    /// How often it has failed, up to 2^64 - 1.
+    /// Returns how often it has failed, up to 2^64 - 1.
     pub fn faults(&self) -> u64
         ensures { result ≡ self.now.faults }
     {
         self.faults
     }
 
-    /// Counts a fault.
+    // Counts a fault.
     fn fault(&mut self) -> Failed
         ensures bytes { self.new.bytes ≡ self.old.bytes }
         ensures faults { self.new.faults ≡ counted true self.old.faults }
@@ -74,7 +74,7 @@ impl MemSink {
         Failed
     }
 
-    /// How many bytes of a piece of this length are taken now.
+    // How many bytes of a piece of this length are taken now.
     fn taken_of(&self, len: usize) -> usize
         ensures { result ≡ min (min len self.now.piece) (self.now.room - vec_len self.now.bytes) }
     {

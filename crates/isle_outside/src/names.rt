@@ -2,7 +2,7 @@ ghost use Rattle.std.specs.Prelude.{◌≡◌, option_and_then};
 ghost use Rattle.std.specs.Option.{option_copied};
 ghost use Rattle.isle_outside.specs.Directory.{behind, plain};
 
-/// What stands in a file's name behind the folder's name and a slash.
+/// Returns what stands in a file's name behind the folder's name and a slash.
 pub fn part_behind<'a>(file: &'a str, folder: &str) -> Option<&'a str>
     ensures { option_copied result ≡ behind folder.now file.now }
 {
@@ -12,7 +12,7 @@ pub fn part_behind<'a>(file: &'a str, folder: &str) -> Option<&'a str>
     }
 }
 
-/// The name within the folder of a file that lies directly in it.
+/// Returns the name within the folder of a file that lies directly in it.
 pub fn entry<'a>(file: &'a str, folder: &str) -> Option<&'a str>
     ensures { option_copied result ≡ option_and_then plain (behind folder.now file.now) }
 {

@@ -10,7 +10,7 @@ use std::alloc::Global;
 /// The most bytes of an input.
 const MAX_BYTES: usize = 1 << 24;
 
-/// The text of the file of a name. The name is looked up once, and at most 2^24 + 1 bytes are taken, at least one a turn.
+/// Reads the text of the file of a name. The name is looked up once, and at most 2^24 + 1 bytes are taken, at least one a turn.
 ///
 /// `Io` gives the cause; `Fault` comes only where the directory's count of faults rose, and at every other answer that
 /// count is what it was.
@@ -38,7 +38,7 @@ pub fn read_text<D: Dir>(alloc: Global, dir: &mut D, name: &str) -> Result<Strin
     }
 }
 
-/// What is left of the current file. It takes at most 2^24 + 1 bytes.
+// What is left of the current file. It takes at most 2^24 + 1 bytes.
 fn rest<D: Dir>(alloc: Global, dir: &mut D) -> Result<Vec<u8>, ReadFail>
     requires { IsReading (D.current dir.old) }
     ensures exact { IfSome (left_of (D.current dir.old)) (Told (λ bytes. bytes.items) result) }

@@ -33,7 +33,7 @@ pub struct StdDir<R: Files> {
 }
 
 impl<R: Files + AllocGlobal + Clone + Drop> StdDir<R> {
-    /// The directory below a folder of the machine; the empty name is the current folder. Nothing is opened yet.
+    /// Returns the directory below a folder of the machine; the empty name is the current folder. Nothing is opened yet.
     pub fn new(rt: R, folder: String) -> StdDir<R>
         ensures root { result.root ≡ folder }
         ensures file { result.file ≡ None }
@@ -51,14 +51,14 @@ impl<R: Files + AllocGlobal + Clone + Drop> StdDir<R> {
         }
     }
 
-    /// How often it has failed, up to 2^64 - 1.
+    /// Returns how often it has failed, up to 2^64 - 1.
     pub fn faults(&self) -> u64
         ensures { result ≡ self.now.faults }
     {
         self.faults
     }
 
-    /// Makes nothing current.
+    // Makes nothing current.
     fn close(&mut self)
         ensures file { self.new.file ≡ None }
         ensures folder { self.new.folder ≡ None }
@@ -70,7 +70,7 @@ impl<R: Files + AllocGlobal + Clone + Drop> StdDir<R> {
         self.folder = None;
     }
 
-    /// Counts a fault, and makes nothing current.
+    // Counts a fault, and makes nothing current.
     fn fault(&mut self) -> Failed
         ensures file { self.new.file ≡ None }
         ensures folder { self.new.folder ≡ None }
@@ -87,7 +87,7 @@ impl<R: Files + AllocGlobal + Clone + Drop> StdDir<R> {
         Failed
     }
 
-    /// Makes what stands at the path current, where nothing is. A file takes no memory.
+    // Makes what stands at the path current, where nothing is. A file takes no memory.
     fn open(&mut self, path: Path<'_>, name: &str) -> Result<Found, Failed>
         requires { opened self.old.file self.old.folder ≡ Nothing }
         ensures found { IfOk result (λ found. Finds None name.now found (opened self.new.file self.new.folder)) }
@@ -122,7 +122,7 @@ impl<R: Files + AllocGlobal + Clone + Drop> StdDir<R> {
         }
     }
 
-    /// A name as a path of the machine.
+    // A name as a path of the machine.
     fn path(&self, name: &str) -> Result<PathBuf, AllocError>
         ensures { IfOk result (λ path. path_buf_bytes path ≡ path_join (string_bytes self.now.root) name.now) }
     {
@@ -242,7 +242,7 @@ impl<R: Files + AllocGlobal + Clone + Drop> Dir for StdDir<R> {
     }
 }
 
-/// The names of the files of a folder of the machine. A folder in it, and what is absent behind a link, is left out.
+// The names of the files of a folder of the machine. A folder in it, and what is absent behind a link, is left out.
 fn names_in<R: Files + AllocGlobal + Clone + Drop>(
     rt: &R,
     alloc: Global,
@@ -264,7 +264,7 @@ fn names_in<R: Files + AllocGlobal + Clone + Drop>(
     Ok(names)
 }
 
-/// Whether something other than a folder stands at the path.
+// Whether something other than a folder stands at the path.
 fn is_file(rt: &impl Files, path: Path<'_>) -> Result<bool, DirFault> {
     match fs::metadata(rt, path) {
         Ok(found) => Ok(!found.is_dir()),
@@ -273,7 +273,7 @@ fn is_file(rt: &impl Files, path: Path<'_>) -> Result<bool, DirFault> {
     }
 }
 
-/// Whether an error says that nothing stands at a path; a path that goes on behind a file is one such.
+// Whether an error says that nothing stands at a path; a path that goes on behind a file is one such.
 fn is_absence(e: &io::Error) -> bool
     ensures { IsTrue result ↔ (error_kind e.now ≡ ErrorKind.NotFound) ⊎ (error_kind e.now ≡ ErrorKind.NotADirectory) }
 {
@@ -281,7 +281,7 @@ fn is_absence(e: &io::Error) -> bool
     kind == ErrorKind::NotFound || kind == ErrorKind::NotADirectory
 }
 
-/// Want of memory, or a fault.
+// Want of memory, or a fault.
 fn fault_of(e: &io::Error) -> DirFault
     ensures { (result ≡ DirFault.Memory) ↔ (error_kind e.now ≡ ErrorKind.OutOfMemory) }
 {

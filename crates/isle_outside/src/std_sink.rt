@@ -15,7 +15,7 @@ pub struct StdSink<W> {
 }
 
 impl<W: Write> StdSink<W> {
-    /// A sink that writes straight to the writer.
+    /// Makes a sink that writes straight to the writer.
     pub fn new(writer: W) -> StdSink<W>
         ensures writer { result.writer ≡ writer }
         ensures faults { result.faults ≡ 0 }
@@ -23,7 +23,7 @@ impl<W: Write> StdSink<W> {
         StdSink { writer, faults: 0 }
     }
 
-    /// How often it has failed, up to 2^64 - 1.
+    /// Returns how often it has failed, up to 2^64 - 1.
     pub fn faults(&self) -> u64
         ensures { result ≡ self.now.faults }
     {

@@ -12,7 +12,7 @@ use std::path::Path;
 use std::test::Fail;
 use std::{env, fs};
 
-/// A folder of the machine that is empty now.
+// A folder of the machine that is empty now.
 fn empty_folder(rt: &HostRuntime, name: &str) -> Result<String, Fail> {
     let path = env::temp_dir(rt)?.as_path().join(rt.alloc(), name)?;
     let _ = fs::remove_dir_all(rt, path.as_path());
@@ -20,12 +20,12 @@ fn empty_folder(rt: &HostRuntime, name: &str) -> Result<String, Fail> {
     Ok(path.into_string())
 }
 
-/// The directory below a folder of the machine.
+// The directory below a folder of the machine.
 fn machine(rt: &HostRuntime, root: &str) -> Result<StdDir<HostRuntime>, Fail> {
     Ok(StdDir::new(rt.clone()?, String::from_str(rt.alloc(), root)?))
 }
 
-/// How many names are in a folder, if it is found as one.
+// How many names are in a folder, if it is found as one.
 fn count<D: Dir>(alloc: Global, dir: &mut D, folder: &str) -> Result<usize, DirFault> {
     match dir.find(folder) {
         Ok(Found::Folder) => Ok(dir.list(alloc, folder)?.len()),

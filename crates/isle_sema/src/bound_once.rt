@@ -13,7 +13,7 @@ use crate::symbols::Symbols;
 use isle_syntax::AstPattern;
 use std::alloc::{AllocError, Global};
 
-/// Whether a pattern is a variable that was met before; it is met now.
+// Whether a pattern is a variable that was met before; it is met now.
 #[tactic(auto, using(crate::proofs::Sees::pattern_sees))]
 fn meets_again<'d>(before: &mut Symbols<'d>, p: &'d AstPattern) -> Result<bool, AllocError>
     ensures { IfOk result (λ found. (rest : List (List ℕ)) → repeats_after before.old (pattern_names (pattern p.now) ++ rest) ≡ (if found then true else repeats_after before.new rest)) }
@@ -30,7 +30,7 @@ fn meets_again<'d>(before: &mut Symbols<'d>, p: &'d AstPattern) -> Result<bool, 
     }
 }
 
-/// Whether a variable stands in two of the patterns.
+// Whether a variable stands in two of the patterns.
 fn repeats_variable(alloc: Global, patterns: &[AstPattern]) -> Result<bool, AllocError>
     ensures { IfOk result (λ found. found ≡ repeats (flat_map pattern_names (map pattern patterns.now))) }
 {
@@ -43,7 +43,7 @@ fn repeats_variable(alloc: Global, patterns: &[AstPattern]) -> Result<bool, Allo
     Ok(false)
 }
 
-/// Whether one of the rules binds a variable twice.
+/// Tells whether one of the rules binds a variable twice.
 pub fn any_binds_twice(alloc: Global, rules: &[RuleDef]) -> Result<bool, AllocError>
     ensures { IfOk result (λ found. found ≡ list_any binds_twice (map seen rules.now)) }
 {

@@ -6,7 +6,7 @@ ghost use Rattle.isle_sema.specs.Elaborated.{type_of};
 
 use isle_core::{Text, TypeId};
 
-/// The type of a name.
+/// Returns the type of a name.
 pub fn type_named(name: &str) -> Option<TypeId>
     ensures { result ≡ builtin_named name.now }
 {
@@ -29,7 +29,7 @@ pub fn type_named(name: &str) -> Option<TypeId>
     Some(TypeId(number))
 }
 
-/// The type of a name, or bool.
+/// Returns the type of a name, or bool.
 pub fn type_of(name: &Text) -> TypeId
     ensures { result ≡ type_of name.now }
 {

@@ -62,7 +62,7 @@ pub struct Definitions<'d> {
     pub rules: Vec<RuleDef<'d>>,
 }
 
-/// One item more.
+/// Keeps one item more. The only error is want of memory.
 pub fn keep<'d>(
     signatures: &mut Vec<Signature<'d>>,
     externs: &mut Vec<Extern<'d>>,

@@ -23,7 +23,7 @@ use isle_core::{Expr, List, Text, TypeId, VarId};
 use isle_syntax::AstExpr;
 use std::alloc::{AllocError, Global};
 
-/// An integer where this type is expected.
+// An integer where this type is expected.
 #[tactic(auto, using(isle_core::proofs::SeesRules::sees))]
 fn integer_at(expected: Option<TypeId>, n: i128) -> Option<Expr>
     ensures { (defs : List Def) → option_map elaborated result ≡ option_map (λ v. core_expr.ConstInt v.0 v.1) (typed_integer (types_of defs) expected n) }
@@ -33,7 +33,7 @@ fn integer_at(expected: Option<TypeId>, n: i128) -> Option<Expr>
     Some(Expr::ConstInt(ty, reduced(of, n)))
 }
 
-/// A variable, where it is bound at a type that is known.
+// A variable, where it is bound at a type that is known.
 #[tactic(auto, using(isle_core::proofs::SeesRules::sees))]
 fn variable_at(
     vars: &Variables,
@@ -56,7 +56,7 @@ fn variable_at(
     }
 }
 
-/// The types of a term's arguments: of a term that is not declared, none.
+// The types of a term's arguments: of a term that is not declared, none.
 fn argument_types<'s>(callee: &Option<Called<'s>>) -> &'s [TypeId]
     ensures { (defs : List Def) (s : Option Signature) → MayBeCalled (whole_of defs) s callee.now → arg_types (whole_of defs) s ≡ map Some result.now }
 {
@@ -66,7 +66,7 @@ fn argument_types<'s>(callee: &Option<Called<'s>>) -> &'s [TypeId]
     }
 }
 
-/// A call of a term on these expressions, where all are there.
+// A call of a term on these expressions, where all are there.
 #[tactic(auto, using(isle_core::proofs::SeesRules::sees))]
 fn call_of(callee: &Option<Called>, args: Option<Vec<Expr>>) -> Option<Expr>
     ensures { (defs : List Def) (s : Option Signature) → MayBeCalled (whole_of defs) s callee.now → option_map elaborated result ≡ call_tree (ret_type (whole_of defs) s) (option_and_then (λ (d : Signature). term_named (signatures defs) d.term) s) (option_map (λ xs. elaborated_of (map elaborated xs.items)) args) }
@@ -78,7 +78,8 @@ fn call_of(callee: &Option<Called>, args: Option<Vec<Expr>>) -> Option<Expr>
     }
 }
 
-/// An expression where this type is expected: its tree, where its form is built and its types are known.
+/// Elaborates an expression where this type is expected: gives its tree, where its form is built and its types are known
+/// (`specs/ExprPass.antt`).
 #[cycle(exprs)]
 #[tactic(auto, using(crate::proofs::Sees::expr_sees, isle_core::proofs::SeesRules::sees))]
 pub fn expr_at(
@@ -122,7 +123,7 @@ pub fn expr_at(
     }
 }
 
-/// A call where this type is expected.
+// A call where this type is expected.
 #[cycle(exprs)]
 #[tactic(auto, using(crate::proofs::CallLaws::counted))]
 fn call_at(
@@ -143,7 +144,7 @@ fn call_at(
     Ok(call_of(&callee, typed))
 }
 
-/// Expressions where these types are expected, beyond them none: their trees, where all have one.
+// Expressions where these types are expected, beyond them none: their trees, where all have one.
 #[cycle(exprs)]
 fn exprs_at(
     alloc: Global,

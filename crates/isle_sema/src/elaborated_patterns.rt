@@ -18,7 +18,7 @@ use isle_core::{Pattern, Text, TypeId, VarId};
 use isle_syntax::AstPattern;
 use std::alloc::{AllocError, Global};
 
-/// An integer where this type is expected.
+// An integer where this type is expected.
 #[tactic(auto, using(isle_core::proofs::SeesRules::sees))]
 fn integer_at(expected: Option<TypeId>, n: i128) -> Option<Pattern>
     ensures { (defs : List Def) → option_map elaborated result ≡ option_map (λ v. core_pattern.ConstInt v.0 v.1) (typed_integer (types_of defs) expected n) }
@@ -28,7 +28,7 @@ fn integer_at(expected: Option<TypeId>, n: i128) -> Option<Pattern>
     Some(Pattern::ConstInt(ty, reduced(of, n)))
 }
 
-/// A variable, where it is bound at a type that is known.
+// A variable, where it is bound at a type that is known.
 #[tactic(auto, using(isle_core::proofs::SeesRules::sees))]
 fn variable_at(vars: &Variables, name: &Text) -> Option<Pattern>
     ensures { option_map elaborated result ≡ option_map (λ v. core_pattern.Var v.0 v.1) (variable vars.now name.now) }
@@ -39,7 +39,7 @@ fn variable_at(vars: &Variables, name: &Text) -> Option<Pattern>
     }
 }
 
-/// A pattern where this type is expected: its tree, where its form is built and its types are known.
+// A pattern where this type is expected: its tree, where its form is built and its types are known.
 #[tactic(auto, using(crate::proofs::Sees::pattern_sees, isle_core::proofs::SeesRules::sees))]
 fn pattern_at<'d>(
     vars: &mut Variables<'d>,

@@ -23,7 +23,7 @@ use crate::variables::Variables;
 use isle_core::{Expr, List, Pattern, Rule, RuleId, Sym, Text};
 use std::alloc::{AllocError, Global};
 
-/// The symbol of a rule's own name, where it has one.
+// The symbol of a rule's own name, where it has one.
 fn name_of(known: &Known, name: &Option<&Text>) -> Option<Sym>
     ensures { result ≡ option_map (λ n. sym_of (symbols (seen_defs known.now)) n.now) name.now }
 {
@@ -36,7 +36,7 @@ fn name_of(known: &Known, name: &Option<&Text>) -> Option<Sym>
     }
 }
 
-/// The rule of that number, of this term with these parts.
+// The rule of that number, of this term with these parts.
 fn rule_from(
     alloc: Global,
     known: &Known,
@@ -60,7 +60,7 @@ fn rule_from(
     }
 }
 
-/// The rule of that number, of this term: nothing where it breaks a row, calls a term that has a rule, or has no tree.
+// The rule of that number, of this term: nothing where it breaks a row, calls a term that has a rule, or has no tree.
 fn rule_of(
     alloc: Global,
     known: &Known,
@@ -93,7 +93,7 @@ fn rule_of(
     Ok(Some(rule_from(alloc, known, own, number, given, args, rhs)))
 }
 
-/// The rule of that number, where its term is declared.
+// The rule of that number, where its term is declared.
 fn rule_at(
     alloc: Global,
     known: &Known,
@@ -109,7 +109,7 @@ fn rule_at(
     }
 }
 
-/// The rules, numbered in order: nothing where one is not taken.
+/// Returns the rules, numbered in order: nothing where one is not taken.
 pub fn rules_at(
     alloc: Global,
     known: &Known,

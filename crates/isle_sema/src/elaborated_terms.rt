@@ -15,7 +15,7 @@ use crate::tables::Tables;
 use isle_core::{ConstructorKind, ExtractorKind, List, Sym, Term, TermKind, Text, TypeId};
 use std::alloc::{AllocError, Global};
 
-/// The number of the function at a place.
+// The number of the function at a place.
 fn func_at(externs: &[Extern], place: usize) -> Option<usize>
     ensures { result ≡ option_map (λ x. x.func_number) (slice_get externs.now place) }
 {
@@ -23,7 +23,7 @@ fn func_at(externs: &[Extern], place: usize) -> Option<usize>
     Some(found.func_number)
 }
 
-/// The number of the function of a term's external constructor, where it has one.
+// The number of the function of a term's external constructor, where it has one.
 fn func_of(d: &Definitions, tables: &Tables, signature: &Signature) -> Option<usize>
     requires numbers { HaveNumbers d.now.symbols d.now.signatures.items d.now.externs.items d.now.rules.items }
     requires tables { HasTables d.now.symbols (map seen d.now.signatures.items) (map extern d.now.externs.items) (map rule d.now.rules.items) tables.now }
@@ -36,7 +36,7 @@ fn func_of(d: &Definitions, tables: &Tables, signature: &Signature) -> Option<us
     }
 }
 
-/// Whether a term has a rule.
+// Whether a term has a rule.
 fn has_rule(d: &Definitions, tables: &Tables, signature: &Signature) -> bool
     requires tables { HasTables d.now.symbols (map seen d.now.signatures.items) (map extern d.now.externs.items) (map rule d.now.rules.items) tables.now }
     requires number { index_of d.now.symbols signature.now.term.now ≡ Some signature.now.number }
@@ -46,7 +46,7 @@ fn has_rule(d: &Definitions, tables: &Tables, signature: &Signature) -> bool
     place_in(tables.ruled.as_slice(), signature.number).is_some()
 }
 
-/// A term comes from its external constructor, or else from its rules, where it has some.
+// A term comes from its external constructor, or else from its rules, where it has some.
 fn constructor_of(d: &Definitions, tables: &Tables, signature: &Signature) -> ConstructorKind
     requires numbers { HaveNumbers d.now.symbols d.now.signatures.items d.now.externs.items d.now.rules.items }
     requires tables { HasTables d.now.symbols (map seen d.now.signatures.items) (map extern d.now.externs.items) (map rule d.now.rules.items) tables.now }
@@ -65,7 +65,7 @@ fn constructor_of(d: &Definitions, tables: &Tables, signature: &Signature) -> Co
     }
 }
 
-/// The types of names.
+// The types of names.
 fn types_of(alloc: Global, names: &[Text]) -> Result<Vec<TypeId>, AllocError>
     ensures { IfOk result (λ types. types.items ≡ map type_of names.now) }
 {
@@ -76,7 +76,7 @@ fn types_of(alloc: Global, names: &[Text]) -> Result<Vec<TypeId>, AllocError>
     Ok(types)
 }
 
-/// The term of a declaration.
+// The term of a declaration.
 fn term_of(
     alloc: Global,
     d: &Definitions,
@@ -104,7 +104,7 @@ fn term_of(
     })
 }
 
-/// The terms of declarations, in order.
+/// Returns the terms of declarations, in order.
 pub fn terms_of(
     alloc: Global,
     d: &Definitions,

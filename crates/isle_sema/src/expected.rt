@@ -8,7 +8,7 @@ ghost use Rattle.isle_sema.specs.Environment.{types_of};
 use crate::reduced::int_type;
 use isle_core::TypeId;
 
-/// Whether an integer may stand where this type is expected: where none is, it may not.
+/// Tells whether an integer may stand where this type is expected: where none is, it may not.
 pub fn takes_integers(expected: Option<TypeId>) -> bool
     ensures { (defs : List Def) → result ≡ takes_integers (types_of defs) expected }
 {
@@ -18,7 +18,7 @@ pub fn takes_integers(expected: Option<TypeId>) -> bool
     }
 }
 
-/// Whether `true` and `false` may stand where this type is expected: where none is, they may.
+/// Tells whether `true` and `false` may stand where this type is expected: where none is, they may.
 pub fn takes_truths(expected: Option<TypeId>) -> bool
     ensures { (defs : List Def) → result ≡ takes_truths (types_of defs) expected }
 {

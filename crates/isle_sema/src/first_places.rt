@@ -6,7 +6,7 @@ ghost use Rattle.isle_sema.specs.Numbered.{ArePlaces, place_in};
 
 use std::alloc::{AllocError, Global};
 
-/// What a table has at a number.
+/// Returns what a table has at a number.
 pub fn place_in(table: &[Option<usize>], number: usize) -> Option<usize>
     ensures { result ≡ place_in table.now (Some number) }
 {
@@ -16,7 +16,7 @@ pub fn place_in(table: &[Option<usize>], number: usize) -> Option<usize>
     }
 }
 
-/// The first places of numbers, which are less than the count; nothing where a number repeats.
+/// Returns the first places of numbers, which are less than the count; nothing where a number repeats.
 pub fn first_places(
     alloc: Global,
     count: usize,

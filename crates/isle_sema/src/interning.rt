@@ -11,7 +11,7 @@ use isle_core::Text;
 use isle_syntax::{AstExpr, AstPattern, Def};
 use std::alloc::{AllocError, Global};
 
-/// One name.
+// One name.
 fn intern<'d>(names: &mut Symbols<'d>, name: &'d Text) -> Result<(), AllocError>
     ensures { OnOk result (names.new ≡ added names.old name.now) }
 {
@@ -19,7 +19,7 @@ fn intern<'d>(names: &mut Symbols<'d>, name: &'d Text) -> Result<(), AllocError>
     Ok(())
 }
 
-/// Names in order.
+// Names in order.
 fn intern_texts<'d>(names: &mut Symbols<'d>, texts: &'d [Text]) -> Result<(), AllocError>
     ensures { OnOk result (names.new ≡ fold added names.old texts.now) }
 {
@@ -29,7 +29,7 @@ fn intern_texts<'d>(names: &mut Symbols<'d>, texts: &'d [Text]) -> Result<(), Al
     Ok(())
 }
 
-/// The names in a pattern.
+// The names in a pattern.
 #[tactic(auto, using(crate::proofs::Sees::pattern_sees))]
 fn intern_pattern<'d>(names: &mut Symbols<'d>, p: &'d AstPattern) -> Result<(), AllocError>
     ensures { OnOk result (names.new ≡ fold added names.old (pattern_names (pattern p.now))) }
@@ -40,7 +40,7 @@ fn intern_pattern<'d>(names: &mut Symbols<'d>, p: &'d AstPattern) -> Result<(), 
     }
 }
 
-/// The names in patterns, in order.
+// The names in patterns, in order.
 fn intern_patterns<'d>(
     names: &mut Symbols<'d>,
     patterns: &'d [AstPattern],
@@ -53,7 +53,7 @@ fn intern_patterns<'d>(
     Ok(())
 }
 
-/// The names in an expression, a call's own before those of its arguments.
+// The names in an expression, a call's own before those of its arguments.
 #[cycle(names)]
 #[tactic(auto, using(crate::proofs::Sees::expr_sees))]
 fn intern_expr<'d>(names: &mut Symbols<'d>, e: &'d AstExpr) -> Result<(), AllocError>
@@ -69,7 +69,7 @@ fn intern_expr<'d>(names: &mut Symbols<'d>, e: &'d AstExpr) -> Result<(), AllocE
     }
 }
 
-/// The names in expressions, in order.
+// The names in expressions, in order.
 #[cycle(names)]
 fn intern_exprs<'d>(names: &mut Symbols<'d>, es: &'d [AstExpr]) -> Result<(), AllocError>
     ensures { OnOk result (names.new ≡ fold added names.old (exprs_names (exprs_of (map expr es.now)))) }
@@ -80,7 +80,7 @@ fn intern_exprs<'d>(names: &mut Symbols<'d>, es: &'d [AstExpr]) -> Result<(), Al
     Ok(())
 }
 
-/// The names in a declaration, and its name's number.
+// The names in a declaration, and its name's number.
 fn intern_decl<'d>(
     names: &mut Symbols<'d>,
     term: &'d Text,
@@ -96,7 +96,7 @@ fn intern_decl<'d>(
     Ok(number)
 }
 
-/// The names in an external constructor, and their numbers.
+// The names in an external constructor, and their numbers.
 fn intern_extern<'d>(
     names: &mut Symbols<'d>,
     term: &'d Text,
@@ -110,7 +110,7 @@ fn intern_extern<'d>(
     Ok((number, func_number))
 }
 
-/// A rule's own name.
+// A rule's own name.
 fn intern_name<'d>(names: &mut Symbols<'d>, name: &'d Option<Text>) -> Result<(), AllocError>
     ensures { OnOk result (names.new ≡ fold added names.old (option_to_list name.now)) }
 {
@@ -120,7 +120,7 @@ fn intern_name<'d>(names: &mut Symbols<'d>, name: &'d Option<Text>) -> Result<()
     }
 }
 
-/// The names in a rule, and the number of its term's.
+// The names in a rule, and the number of its term's.
 fn intern_rule<'d>(
     names: &mut Symbols<'d>,
     name: &'d Option<Text>,
@@ -138,7 +138,7 @@ fn intern_rule<'d>(
     Ok(number)
 }
 
-/// A definition by its kind, and the names in it from left to right.
+// A definition by its kind, and the names in it from left to right.
 #[tactic(auto, using(crate::proofs::Gathered::numbered_one))]
 fn intern_def<'d>(names: &mut Symbols<'d>, given: &'d Def) -> Result<Item<'d>, AllocError>
     ensures names { OnOk result (names.new ≡ fold added names.old (def_names (def given.now))) }
@@ -202,7 +202,7 @@ fn intern_def<'d>(names: &mut Symbols<'d>, given: &'d Def) -> Result<Item<'d>, A
     }
 }
 
-/// The definitions by their kinds, and their symbols.
+/// Returns the definitions by their kinds, and their symbols.
 pub fn definitions<'d>(alloc: Global, defs: &'d [Def]) -> Result<Definitions<'d>, AllocError>
     ensures { IfOk result (λ d. AreCollected (seen defs.now) d.symbols d.signatures.items d.externs.items d.rules.items) }
 {

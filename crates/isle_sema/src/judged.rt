@@ -28,7 +28,7 @@ pub struct Judged {
     pub nodes: usize,
 }
 
-/// Whether a type differs from the one that is expected, where there is one.
+// Whether a type differs from the one that is expected, where there is one.
 fn is_other_type(bound: Option<Option<TypeId>>, expected: Option<TypeId>) -> bool
     ensures { result ≡ is_other_type bound expected }
 {
@@ -40,7 +40,7 @@ fn is_other_type(bound: Option<Option<TypeId>>, expected: Option<TypeId>) -> boo
 
 // The rows look at the definitions at integers, truths and calls alone: elsewhere it is all one what definitions there are.
 impl Judged {
-    /// No part.
+    /// Begins with no part.
     pub fn new() -> Judged
         ensures { result ≡ unjudged }
     {
@@ -57,7 +57,7 @@ impl Judged {
         }
     }
 
-    /// A part that no row looks at: a wildcard, or one of a form that is not built.
+    /// Judges a part that no row looks at: a wildcard, or one of a form that is not built.
     pub fn part(&mut self)
         ensures wildcard { self.new ≡ judge (whole_of []) self.old WildcardAt }
         ensures not_built { self.new ≡ judge (whole_of []) self.old NotBuiltAt }
@@ -65,7 +65,7 @@ impl Judged {
         self.nodes = self.nodes.saturating_add(1);
     }
 
-    /// An integer where this type is expected.
+    /// Judges an integer where this type is expected.
     pub fn integer(&mut self, expected: Option<TypeId>)
         ensures { (defs : List Def) → self.new ≡ judge (whole_of defs) self.old (IntegerAt expected) }
     {
@@ -73,7 +73,7 @@ impl Judged {
         self.misplaced = !takes_integers(expected) | self.misplaced;
     }
 
-    /// `true` or `false` where this type is expected.
+    /// Judges `true` or `false` where this type is expected.
     pub fn truth(&mut self, expected: Option<TypeId>)
         ensures { (defs : List Def) → self.new ≡ judge (whole_of defs) self.old (TruthAt expected) }
     {
@@ -81,7 +81,7 @@ impl Judged {
         self.misplaced = !takes_truths(expected) | self.misplaced;
     }
 
-    /// A variable in a pattern, and the type that it was bound at before, where it was.
+    /// Judges a variable in a pattern by the type that it was bound at before, where it was.
     pub fn met(&mut self, expected: Option<TypeId>, bound: Option<Option<TypeId>>)
         ensures { self.new ≡ judge (whole_of []) self.old (MetAt expected bound) }
     {
@@ -89,7 +89,7 @@ impl Judged {
         self.met_otherwise = is_other_type(bound, expected) | self.met_otherwise;
     }
 
-    /// A variable in an expression, and the type that it was bound at, where it was.
+    /// Judges a variable in an expression by the type that it was bound at, where it was.
     pub fn used(&mut self, expected: Option<TypeId>, bound: Option<Option<TypeId>>)
         ensures { self.new ≡ judge (whole_of []) self.old (UsedAt expected bound) }
     {
@@ -98,7 +98,7 @@ impl Judged {
         self.mistyped = is_other_type(bound, expected) | self.mistyped;
     }
 
-    /// A call of a declared term.
+    // A call of a declared term.
     fn term(&mut self, expected: Option<TypeId>, callee: &Called, count: usize)
         ensures { (defs : List Def) (s : Signature) → IsCalled (whole_of defs) s callee.now → self.new ≡ judge (whole_of defs) self.old (CalledAt expected (Some s) count) }
     {
@@ -113,7 +113,7 @@ impl Judged {
         self.ruled = callee.ruled | self.ruled;
     }
 
-    /// A call of a term on so many arguments.
+    /// Judges a call of a term on so many arguments.
     pub fn called(&mut self, expected: Option<TypeId>, callee: &Option<Called>, count: usize)
         ensures { (defs : List Def) (s : Option Signature) → MayBeCalled (whole_of defs) s callee.now → self.new ≡ judge (whole_of defs) self.old (CalledAt expected s count) }
     {

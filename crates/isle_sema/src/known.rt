@@ -59,14 +59,14 @@ impl<'s, 'd> Model for Known<'s, 'd> {
 }
 
 impl<'s, 'd> Known<'s, 'd> {
-    /// The number of a name.
+    /// Returns the number of a name.
     pub fn number(&self, name: &Text) -> Option<usize>
         ensures { result ≡ index_of (symbols (seen self.now)) name.now }
     {
         self.symbols.find(name.as_str())
     }
 
-    /// The term of the name of this number.
+    /// Returns the term of the name of this number.
     pub fn at(&self, number: usize) -> Option<Called<'s>>
         ensures { (name : List ℕ) → index_of (symbols (seen self.now)) name ≡ Some number → MayBeCalled (whole_of (seen self.now)) (declared (whole_of (seen self.now)) name) result }
     {
@@ -85,7 +85,7 @@ impl<'s, 'd> Known<'s, 'd> {
         })
     }
 
-    /// The term of a name.
+    /// Returns the term of a name.
     pub fn called(&self, name: &Text) -> Option<Called<'s>>
         ensures { MayBeCalled (whole_of (seen self.now)) (declared (whole_of (seen self.now)) name.now) result }
     {

@@ -8,7 +8,7 @@ ghost use Rattle.isle_sema.specs.Forms.{is_built_form};
 
 use isle_syntax::{AstExpr, AstPattern, Def};
 
-/// Whether the form of a pattern is built.
+// Whether the form of a pattern is built.
 #[tactic(auto, using(crate::proofs::Sees::pattern_sees))]
 fn is_built_pattern(p: &AstPattern) -> bool
     ensures { result ≡ is_built_pattern (pattern p.now) }
@@ -25,7 +25,7 @@ fn is_built_pattern(p: &AstPattern) -> bool
     }
 }
 
-/// Whether the form of an expression is built.
+// Whether the form of an expression is built.
 #[cycle(built)]
 #[tactic(auto, using(crate::proofs::Sees::expr_sees))]
 fn is_built_expr(e: &AstExpr) -> bool
@@ -41,7 +41,7 @@ fn is_built_expr(e: &AstExpr) -> bool
     }
 }
 
-/// Whether the form of each expression is built.
+// Whether the form of each expression is built.
 #[cycle(built)]
 fn are_built_exprs(es: &[AstExpr]) -> bool
     ensures { result ≡ are_built_exprs (exprs_of (map expr es.now)) }
@@ -54,7 +54,7 @@ fn are_built_exprs(es: &[AstExpr]) -> bool
     true
 }
 
-/// Whether the form of each pattern is built.
+// Whether the form of each pattern is built.
 fn are_built_patterns(patterns: &[AstPattern]) -> bool
     ensures { result ≡ list_all is_built_pattern (map pattern patterns.now) }
 {
@@ -66,8 +66,8 @@ fn are_built_patterns(patterns: &[AstPattern]) -> bool
     true
 }
 
-/// Whether the form of a definition is built: a declaration with at most the flag `partial`, an external constructor, or a
-/// rule without conditions whose forms are built.
+// Whether the form of a definition is built: a declaration with at most the flag `partial`, an external constructor, or a
+// rule without conditions whose forms are built.
 fn is_built_form(given: &Def) -> bool
     ensures { result ≡ is_built_form (def given.now) }
 {
@@ -93,7 +93,7 @@ fn is_built_form(given: &Def) -> bool
     }
 }
 
-/// Whether the form of each definition is built.
+/// Tells whether the form of each definition is built.
 pub fn are_built_forms(given: &[Def]) -> bool
     ensures { result ≡ list_all is_built_form (seen given.now) }
 {

@@ -8,35 +8,35 @@ ghost use Rattle.isle_sema.specs.Reduced.{reduced, int_type_by};
 
 use isle_core::{IntType, TypeId};
 
-/// The lowest 8 bits.
+// The lowest 8 bits.
 fn low_8(n: i128) -> u8
     ensures { result ≡ residue w8 n }
 {
     n.rem_euclid(0x100).unsigned_abs() as u8
 }
 
-/// The lowest 16 bits.
+// The lowest 16 bits.
 fn low_16(n: i128) -> u16
     ensures { result ≡ residue w16 n }
 {
     n.rem_euclid(0x1_0000).unsigned_abs() as u16
 }
 
-/// The lowest 32 bits.
+// The lowest 32 bits.
 fn low_32(n: i128) -> u32
     ensures { result ≡ residue w32 n }
 {
     n.rem_euclid(0x1_0000_0000).unsigned_abs() as u32
 }
 
-/// The lowest 64 bits.
+// The lowest 64 bits.
 fn low_64(n: i128) -> u64
     ensures { result ≡ residue w64 n }
 {
     n.rem_euclid(0x1_0000_0000_0000_0000).unsigned_abs() as u64
 }
 
-/// The number of the type that a number wraps to, u128 as its 128 signed bits.
+/// Returns the number of the type that a number wraps to, u128 as its 128 signed bits.
 #[tactic(auto, using(crate::proofs::ReducedLaws::reduced_is))]
 pub fn reduced(ty: IntType, n: i128) -> i128
     ensures { result ≡ reduced ty n }
@@ -54,7 +54,7 @@ pub fn reduced(ty: IntType, n: i128) -> i128
     }
 }
 
-/// The integer type that a type is.
+/// Returns the integer type that a type is.
 pub fn int_type(ty: TypeId) -> Option<IntType>
     ensures { result ≡ int_type_by (slice_get builtins ty.0) }
 {

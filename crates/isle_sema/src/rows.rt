@@ -20,7 +20,8 @@ pub enum Row {
     ManyNodes,
 }
 
-/// The lowest row that a rule of a term breaks, on so many patterns, by what its patterns and its right side are judged.
+/// Returns the lowest row that a rule of a term breaks, on so many patterns, by what its patterns and its right side are
+/// judged.
 pub fn lowest_row(own: &Called, count: usize, left: &Judged, right: &Judged) -> Option<Row>
     ensures { option_map seen_row result ≡ lowest own.now count left.now right.now }
 {

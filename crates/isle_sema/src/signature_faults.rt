@@ -10,7 +10,7 @@ use crate::builtins::type_named;
 use crate::collected::Signature;
 use isle_core::Text;
 
-/// Whether each of the names is that of a type.
+// Whether each of the names is that of a type.
 fn are_types(names: &[Text]) -> bool
     ensures { result ≡ list_all (λ (n : List ℕ). is_some (builtin_named n)) names.now }
 {
@@ -22,14 +22,14 @@ fn are_types(names: &[Text]) -> bool
     true
 }
 
-/// Whether a declaration has more than 256 arguments, or names a type that is not declared.
+// Whether a declaration has more than 256 arguments, or names a type that is not declared.
 fn is_misdeclared(given: &Signature) -> bool
     ensures { result ≡ is_misdeclared (seen given.now) }
 {
     given.args.len() > 256 || type_named(given.ret.as_str()).is_none() || !are_types(given.args)
 }
 
-/// Whether one of the declarations is wrong so.
+/// Tells whether one of the declarations is wrong so.
 pub fn are_misdeclared(signatures: &[Signature]) -> bool
     ensures { result ≡ list_any is_misdeclared (map seen signatures.now) }
 {

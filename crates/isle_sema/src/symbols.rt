@@ -28,7 +28,7 @@ impl<'d> Model for Symbols<'d> {
 }
 
 impl<'d> Symbols<'d> {
-    /// No names.
+    /// Makes a table without names.
     pub fn new(alloc: Global) -> Symbols<'d>
         ensures { result ≡ [] }
     {
@@ -38,14 +38,14 @@ impl<'d> Symbols<'d> {
         }
     }
 
-    /// How many names there are.
+    /// Returns how many names there are.
     pub fn len(&self) -> usize
         ensures { result ≡ length self.now }
     {
         self.names.len()
     }
 
-    /// The number of a name, which is the next one where it is met first.
+    /// Returns the number of a name, the next one where it is met first. The only error is want of memory.
     pub fn intern(&mut self, name: &'d str) -> Result<usize, AllocError>
         ensures place { IfOk result (λ place. index_of self.new name.now ≡ Some place) }
         ensures names { OnOk result (self.new ≡ added self.old name.now) }
@@ -65,7 +65,7 @@ impl<'d> Symbols<'d> {
         }
     }
 
-    /// The number of a name, where it is there.
+    /// Returns the number of a name, where it is there.
     pub fn find(&self, name: &str) -> Option<usize>
         ensures { result ≡ index_of self.now name.now }
     {
@@ -80,7 +80,7 @@ impl<'d> Symbols<'d> {
     }
 }
 
-/// Copies of texts.
+// Copies of texts.
 fn copies(alloc: Global, names: &[&str]) -> Result<Vec<Text>, AllocError>
     ensures { IfOk result (λ copies. copies.items ≡ texts names.now) }
 {

@@ -17,7 +17,7 @@ pub struct Tables {
     pub ruled: Vec<Option<usize>>,
 }
 
-/// The numbers of the names of declarations.
+// The numbers of the names of declarations.
 fn signature_numbers(alloc: Global, signatures: &[Signature]) -> Result<Vec<usize>, AllocError>
     ensures { IfOk result (λ numbers. numbers.items ≡ map (λ s. s.number) signatures.now) }
 {
@@ -28,7 +28,7 @@ fn signature_numbers(alloc: Global, signatures: &[Signature]) -> Result<Vec<usiz
     Ok(numbers)
 }
 
-/// The numbers of the terms of external constructors.
+// The numbers of the terms of external constructors.
 fn extern_numbers(alloc: Global, externs: &[Extern]) -> Result<Vec<usize>, AllocError>
     ensures { IfOk result (λ numbers. numbers.items ≡ map (λ x. x.number) externs.now) }
 {
@@ -39,7 +39,7 @@ fn extern_numbers(alloc: Global, externs: &[Extern]) -> Result<Vec<usize>, Alloc
     Ok(numbers)
 }
 
-/// The numbers of the terms of rules.
+// The numbers of the terms of rules.
 fn rule_numbers(alloc: Global, rules: &[RuleDef]) -> Result<Vec<usize>, AllocError>
     ensures { IfOk result (λ numbers. numbers.items ≡ map (λ r. r.number) rules.now) }
 {
@@ -50,7 +50,7 @@ fn rule_numbers(alloc: Global, rules: &[RuleDef]) -> Result<Vec<usize>, AllocErr
     Ok(numbers)
 }
 
-/// The places of declarations; nothing where two are of one name.
+// The places of declarations; nothing where two are of one name.
 fn declared_places(alloc: Global, d: &Definitions) -> Result<Option<Vec<Option<usize>>>, AllocError>
     requires { HaveNumbers d.now.symbols d.now.signatures.items d.now.externs.items d.now.rules.items }
     ensures { IfOk result (λ found. IsTable d.now.symbols (terms_of (map signature d.now.signatures.items)) (option_map (λ t. t.items) found)) }
@@ -59,7 +59,7 @@ fn declared_places(alloc: Global, d: &Definitions) -> Result<Option<Vec<Option<u
     first_places(alloc, d.symbols.len(), numbers.as_slice())
 }
 
-/// The places of external constructors; nothing where two are of one term.
+// The places of external constructors; nothing where two are of one term.
 fn external_places(alloc: Global, d: &Definitions) -> Result<Option<Vec<Option<usize>>>, AllocError>
     requires { HaveNumbers d.now.symbols d.now.signatures.items d.now.externs.items d.now.rules.items }
     ensures { IfOk result (λ found. IsTable d.now.symbols (extern_terms (map extern d.now.externs.items)) (option_map (λ t. t.items) found)) }
@@ -68,7 +68,7 @@ fn external_places(alloc: Global, d: &Definitions) -> Result<Option<Vec<Option<u
     first_places(alloc, d.symbols.len(), numbers.as_slice())
 }
 
-/// The places of rules; nothing where two are of one term.
+// The places of rules; nothing where two are of one term.
 fn ruled_places(alloc: Global, d: &Definitions) -> Result<Option<Vec<Option<usize>>>, AllocError>
     requires { HaveNumbers d.now.symbols d.now.signatures.items d.now.externs.items d.now.rules.items }
     ensures { IfOk result (λ found. IsTable d.now.symbols (heads_of (map rule d.now.rules.items)) (option_map (λ t. t.items) found)) }
@@ -77,7 +77,7 @@ fn ruled_places(alloc: Global, d: &Definitions) -> Result<Option<Vec<Option<usiz
     first_places(alloc, d.symbols.len(), numbers.as_slice())
 }
 
-/// The tables of definitions; nothing where one of the three has two of one term.
+/// Returns the tables of definitions; nothing where one of the three has two of one term.
 pub fn places_of(alloc: Global, d: &Definitions) -> Result<Option<Tables>, AllocError>
     requires { HaveNumbers d.now.symbols d.now.signatures.items d.now.externs.items d.now.rules.items }
     ensures { IfOk result (λ found. AreTables d.now.symbols (map signature d.now.signatures.items) (map extern d.now.externs.items) (map rule d.now.rules.items) found) }

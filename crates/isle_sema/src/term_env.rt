@@ -26,7 +26,7 @@ use isle_core::{List, Rule, Term, TermEnv};
 use isle_syntax::Def;
 use std::alloc::{AllocError, Global};
 
-/// Whether an external constructor is of a term that is not declared.
+// Whether an external constructor is of a term that is not declared.
 fn has_undeclared(d: &Definitions, tables: &Tables, externs: &[Extern]) -> bool
     requires tables { HasTables d.now.symbols (map signature d.now.signatures.items) (map extern d.now.externs.items) (map rule d.now.rules.items) tables.now }
     requires numbered { AreNumbered d.now.symbols (map (λ x. x.term.now) externs.now) (map (λ x. x.number) externs.now) }
@@ -40,7 +40,7 @@ fn has_undeclared(d: &Definitions, tables: &Tables, externs: &[Extern]) -> bool
     false
 }
 
-/// Whether a rule's head is not declared, or its term has an external constructor.
+// Whether a rule's head is not declared, or its term has an external constructor.
 fn has_misfit_head(d: &Definitions, tables: &Tables, rules: &[RuleDef]) -> bool
     requires tables { HasTables d.now.symbols (map signature d.now.signatures.items) (map extern d.now.externs.items) (map rule d.now.rules.items) tables.now }
     requires numbered { AreNumbered d.now.symbols (map (λ r. r.term.now) rules.now) (map (λ r. r.number) rules.now) }
@@ -57,7 +57,7 @@ fn has_misfit_head(d: &Definitions, tables: &Tables, rules: &[RuleDef]) -> bool
     false
 }
 
-/// The rules of definitions over their terms.
+// The rules of definitions over their terms.
 fn rules_of(
     alloc: Global,
     defs: &[Def],
@@ -81,7 +81,7 @@ fn rules_of(
     rules_at(alloc, &known, d.rules.as_slice())
 }
 
-/// The terms and rules of definitions: nothing where they break a row of the typing table, or are not built.
+/// Returns the terms and rules of definitions: nothing where they break a row of the typing table, or are not built.
 pub fn term_env(alloc: Global, defs: &[Def], d: &Definitions) -> Result<Option<TermEnv>, AllocError>
     requires built { list_all is_built_def (seen defs.now) ≡ true }
     requires collected { AreCollected (seen defs.now) d.now.symbols d.now.signatures.items d.now.externs.items d.now.rules.items }

@@ -34,7 +34,7 @@ impl From<AllocError> for EnvError {
     }
 }
 
-/// The types over these symbols, without constants.
+// The types over these symbols, without constants.
 fn types_over(alloc: Global, symbols: &Symbols) -> Result<TypeEnv, AllocError>
     ensures { IfOk result (λ env. env ≡ record { syms = symbols.now; types = builtins; consts = [] }) }
 {
@@ -59,8 +59,8 @@ fn types_over(alloc: Global, symbols: &Symbols) -> Result<TypeEnv, AllocError>
     })
 }
 
-/// The symbols, types and constants of the definitions. `NotYet` comes exactly where they are not all of forms that
-/// are built.
+/// Types the definitions' symbols, types and constants (`specs/Typing.antt`). `NotYet` comes exactly where they are not all
+/// of forms that are built; beside it only want of memory.
 pub fn type_env_from_ast(alloc: Global, defs: &[Def]) -> Result<TypeEnv, EnvError>
     ensures ok { IfOk result (λ env. TypesFrom (seen defs.now) env) }
     ensures not_yet { result ≡ Err EnvError.NotYet → (env : TheTypes) → TypesFrom (seen defs.now) env → ⊥ }
@@ -75,8 +75,9 @@ pub fn type_env_from_ast(alloc: Global, defs: &[Def]) -> Result<TypeEnv, EnvErro
     Ok(types_over(alloc, &collected.symbols)?)
 }
 
-/// The terms, rules and converters of the definitions, whose types are given. `NotYet` as of `type_env_from_ast`, and
-/// where two rules are of one term, one calls a term without an external constructor, or a definition is wrong.
+/// Types the terms, rules and converters of the definitions, whose types are given (`specs/Typing.antt`). `NotYet` comes as
+/// of `type_env_from_ast`, and where two rules are of one term, one calls a term without an external constructor, or a
+/// definition is wrong; beside it only want of memory.
 pub fn term_env_from_ast(alloc: Global, env: &TypeEnv, defs: &[Def]) -> Result<TermEnv, EnvError>
     requires { TypesFrom (seen defs.now) env.now }
     ensures ok { IfOk result (λ terms. TypedOnly (seen defs.now) (environment env.now terms)) }
@@ -90,8 +91,8 @@ pub fn term_env_from_ast(alloc: Global, env: &TypeEnv, defs: &[Def]) -> Result<T
     }
 }
 
-/// The environment of the definitions, as `type_env_from_ast` and `term_env_from_ast` give it, with each name looked up
-/// once where it stands.
+/// Types the definitions: returns their environment, as `type_env_from_ast` and `term_env_from_ast` give it, with each name
+/// looked up once where it stands. The errors are theirs.
 pub fn env_from_ast(alloc: Global, defs: &[Def]) -> Result<(TypeEnv, TermEnv), EnvError>
     ensures ok { IfOk result (λ envs. TypedOnly (seen defs.now) (environment envs.0 envs.1)) }
     ensures not_yet { result ≡ Err EnvError.NotYet → (all : Environment) → Typed (seen defs.now) all → ⊥ }

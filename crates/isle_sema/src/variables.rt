@@ -30,7 +30,7 @@ impl<'d> Model for Variables<'d> {
 }
 
 impl<'d> Variables<'d> {
-    /// No variables.
+    /// Begins with no variables.
     pub fn new(alloc: Global) -> Variables<'d>
         ensures { result ≡ [] }
     {
@@ -40,7 +40,7 @@ impl<'d> Variables<'d> {
         }
     }
 
-    /// The type that a variable is bound at and its number, where it is bound.
+    /// Returns the type that a variable is bound at and its number, where it is bound.
     pub fn find(&self, name: &Text) -> Option<(Option<TypeId>, usize)>
         ensures bound { option_map (λ v. v.0) result ≡ bound_at self.now name.now }
         ensures number { option_map (λ v. v.1) result ≡ index_of (scope_names self.now) name.now }
@@ -50,8 +50,8 @@ impl<'d> Variables<'d> {
         Some((*ty, place))
     }
 
-    /// A variable of a pattern, which is bound at this type where it is met first; gives the type that it was bound at
-    /// before, where it was.
+    /// Meets a variable of a pattern, which is bound at this type where it is met first; returns the type that it was bound
+    /// at before, where it was.
     pub fn meet(
         &mut self,
         name: &'d Text,
