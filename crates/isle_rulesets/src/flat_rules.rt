@@ -6,8 +6,8 @@ ghost use Rattle.isle_core.specs.StandsFor.{StandsFor};
 ghost use Rattle.isle_core.specs.Rule.{Environment};
 ghost use Rattle.isle_rulesets.specs.FlatRules.{Adds};
 
-use crate::pattern_tests::{PatternTests, number_arguments};
 use crate::numbering::Numbering;
+use crate::pattern_tests::{PatternTests, number_arguments};
 use crate::right_side::{Scope, number_expr};
 use isle_core::{FlatRule, List, Rule, RuleSet, Term};
 use std::alloc::{AllocError, Global};

@@ -1,10 +1,10 @@
 //! From rules to rule sets that stand for them.
 #![tactic(auto)]
 
-mod pattern_tests;
 mod flat_rules;
 mod grouping;
 mod numbering;
+mod pattern_tests;
 mod right_side;
 
 pub use flat_rules::rule_set;

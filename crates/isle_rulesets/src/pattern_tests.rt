@@ -33,7 +33,11 @@ impl PatternTests {
 }
 
 // A variable: its first occurrence binds, a later one tests equality.
-fn bind_or_equate(pattern_tests: &mut PatternTests, var: VarId, argument: BindingId) -> Result<(), AllocError>
+fn bind_or_equate(
+    pattern_tests: &mut PatternTests,
+    var: VarId,
+    argument: BindingId,
+) -> Result<(), AllocError>
     ensures { OnOk result ((ps : List Path) (places : Places) (ts : List Test) → HasTests ps places ts pattern_tests.old
         → HasTests ps (met_after (places var.0) var.0 (at ps argument) places) (ts ++ met_tests (places var.0) (at ps argument)) pattern_tests.new) }
 {

@@ -38,9 +38,7 @@ fn placed(e: RunError, end: usize, forms: &[Form]) -> Refusal
         RunError::NoTerm => Refusal::NoTerm,
         RunError::ArgCount => Refusal::ArgCount,
         RunError::ArgType(index) => Refusal::ArgType(index),
-        RunError::BadAnswers(number) => {
-            Refusal::BadAnswers(place_at(end, forms, number))
-        }
+        RunError::BadAnswers(number) => { Refusal::BadAnswers(place_at(end, forms, number)) }
         RunError::Memory => Refusal::Memory,
     }
 }

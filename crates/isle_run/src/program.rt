@@ -16,8 +16,8 @@ ghost use Rattle.isle_run.specs.Trial.{IsTrial, args_given};
 ghost use Rattle.isle_run.specs.NoLines.{HasNoLines};
 
 use crate::outcome::{Compiled, outcome_under};
-use crate::shown::lines_of;
 use crate::refusal::Refusal;
+use crate::shown::lines_of;
 use isle_codegen::Checked;
 use isle_core::{OutOfMemory, Value};
 use isle_run_inputs::{requested_term, values_at};

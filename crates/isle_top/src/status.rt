@@ -5,11 +5,11 @@ ghost use Rattle.isle_command_line.specs.Views.{seen_command};
 ghost use Rattle.isle_top.specs.Lines.{Wrote};
 ghost use Rattle.isle_top.specs.Statuses.{IsOfLine, Tells, status_of};
 
-use crate::request::{input_name, term_of};
 use crate::lines::{
     NOT_YET, OUT_OF_MEMORY, write_argument, write_argument_count, write_bad_answers, write_no_term,
     write_unread,
 };
+use crate::request::{input_name, term_of};
 use isle_command_line::Command;
 use isle_core::{Sink, write_all};
 use isle_run::Refusal;
@@ -26,10 +26,9 @@ pub fn status_of(refusal: Refusal) -> Exit
     match refusal {
         Refusal::NotYet => Exit(14),
         Refusal::Unread(..) => Exit(5),
-        Refusal::NoTerm
-        | Refusal::ArgCount
-        | Refusal::ArgType(_)
-        | Refusal::BadAnswers(_) => Exit(13),
+        Refusal::NoTerm | Refusal::ArgCount | Refusal::ArgType(_) | Refusal::BadAnswers(_) => Exit(
+            13,
+        ),
         Refusal::Memory => Exit(12),
     }
 }
