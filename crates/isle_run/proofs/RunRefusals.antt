@@ -5,7 +5,8 @@ use Rattle.isle_core.specs.Rule.{Environment}
 use Rattle.isle_core.specs.Value.{Value}
 use Rattle.isle_answers.specs.Form.{Form}
 use Rattle.isle_answers.specs.Spelling.{SpellsForms}
-use Rattle.isle_run_inputs.specs.Forms.{are_built, answers_at, place_at}
+use Rattle.isle_run_inputs.specs.Forms.{are_built, answers_at}
+use Rattle.isle_run_inputs.specs.Places.{place_at}
 use Rattle.isle_tree.specs.Program.{Program}
 use Rattle.isle_interpreter.specs.Judged.{IsEarly}
 use Rattle.isle_interpreter.specs.Refusals.{IsRefused}

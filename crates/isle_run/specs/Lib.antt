@@ -4,3 +4,4 @@ pub mod NoLines
 pub mod Ran
 pub mod Placed
 pub mod Valid
+pub mod Compiled

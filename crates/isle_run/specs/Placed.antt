@@ -1,7 +1,7 @@
 -- Why a run is refused, with the place of a form that is wrong.
 use Rattle.std.specs.Prelude.{ℕ, List}
 use Rattle.isle_answers.specs.Form.{Form}
-use Rattle.isle_run_inputs.specs.Forms.{place_at}
+use Rattle.isle_run_inputs.specs.Places.{place_at}
 use Rattle.isle_interpreter.specs.declared.run_error.RunError.{RunError}
 use Rattle.isle_interpreter.specs.declared.run_error.RunError.TheVariants as error
 use Rattle.isle_run.specs.declared.refusal.Refusal.{Refusal}

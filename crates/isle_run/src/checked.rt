@@ -2,11 +2,11 @@
 
 ghost use Rattle.std.specs.Prelude.{IfOk, IfErr};
 ghost use Rattle.std.specs.String.{string_bytes};
-ghost use Rattle.isle_core.specs.RuleViews.{environment};
 ghost use Rattle.isle_rulesets.specs.Grouping.{AreRuleSets};
 ghost use Rattle.isle_values.specs.Views.{seen};
 ghost use Rattle.isle_emission.specs.Built.{IsBuilt};
 ghost use Rattle.isle_codegen.specs.Checked.{IsChecked};
+ghost use Rattle.isle_run.specs.Compiled.{env_checked};
 ghost use Rattle.isle_run.specs.Trial.{IsTrial};
 ghost use Rattle.isle_run.specs.NoLines.{HasNoLines};
 
@@ -27,8 +27,8 @@ pub fn of_checked(
     given: &[Written],
     answers: &str,
 ) -> Result<String, Refusal>
-    requires checked { IsChecked files.now (environment checked.now.typeenv checked.now.termenv) }
-    requires terms { AreRuleSets (environment checked.now.typeenv checked.now.termenv) checked.now.terms.items }
+    requires checked { IsChecked files.now (env_checked checked.now) }
+    requires terms { AreRuleSets (env_checked checked.now) checked.now.terms.items }
     requires options { IsBuilt options.now }
     ensures ok { IfOk result (λ lines. IsTrial options.now files.now term.now (seen given.now) answers.now (string_bytes lines)) }
     ensures err { IfErr result (λ e. HasNoLines options.now files.now term.now (seen given.now) answers.now e) }

@@ -1,7 +1,6 @@
 //! The outcome of a run under the answers that a text spells.
 
 ghost use Rattle.std.specs.Prelude.{◌≡◌, ◌⊎◌, ℕ, List, IfOk, IfErr, length};
-ghost use Rattle.isle_core.specs.RuleViews.{environment};
 ghost use Rattle.isle_core.specs.ValueViews.{values, ran};
 ghost use Rattle.isle_answers.specs.Views.{forms_seen};
 ghost use Rattle.isle_answers.specs.Spelling.{SpellsForms};
@@ -9,6 +8,7 @@ ghost use Rattle.isle_tree.specs.Views.{program};
 ghost use Rattle.isle_tree.specs.WellFormed.{IsWellFormed};
 ghost use Rattle.isle_core.specs.Rule.{Environment};
 ghost use Rattle.isle_interpreter.specs.Judged.{Takes};
+ghost use Rattle.isle_run.specs.Compiled.{env_of, program_of};
 ghost use Rattle.isle_run.specs.Ran.{IsUnder, IsOutcome};
 ghost use Rattle.isle_run.specs.NoLines.{IsRunRefused};
 ghost use Rattle.isle_run.specs.Placed.{placed};
@@ -62,9 +62,9 @@ fn under_forms(
     forms: &[Form],
     end: usize,
 ) -> Result<Outcome, Refusal>
-    requires well_formed { IsWellFormed (program compiled.now.program.now) }
-    ensures ok { IfOk result (λ o. IsUnder (program compiled.now.program.now) (environment compiled.now.typeenv.now compiled.now.termenv.now) term.now (values args.now) (forms_seen forms.now) (ran o)) }
-    ensures err { IfErr result (λ e. (text : List ℕ) → SpellsForms text (forms_seen forms.now) → end ≡ length text → (e ≡ Memory) ⊎ IsRunRefused (program compiled.now.program.now) (environment compiled.now.typeenv.now compiled.now.termenv.now) term.now (values args.now) text e) }
+    requires well_formed { IsWellFormed (program_of compiled.now) }
+    ensures ok { IfOk result (λ o. IsUnder (program_of compiled.now) (env_of compiled.now) term.now (values args.now) (forms_seen forms.now) (ran o)) }
+    ensures err { IfErr result (λ e. (text : List ℕ) → SpellsForms text (forms_seen forms.now) → end ≡ length text → (e ≡ Memory) ⊎ IsRunRefused (program_of compiled.now) (env_of compiled.now) term.now (values args.now) text e) }
 {
     if !are_built(forms) {
         return Err(refused(compiled.program, term, args, Refusal::NotYet));
@@ -84,9 +84,9 @@ pub fn outcome_under(
     args: &[Value],
     text: &str,
 ) -> Result<Outcome, Refusal>
-    requires well_formed { IsWellFormed (program compiled.now.program.now) }
-    ensures ok { IfOk result (λ o. IsOutcome (program compiled.now.program.now) (environment compiled.now.typeenv.now compiled.now.termenv.now) term.now (values args.now) text.now (ran o)) }
-    ensures err { IfErr result (λ e. (e ≡ Memory) ⊎ IsRunRefused (program compiled.now.program.now) (environment compiled.now.typeenv.now compiled.now.termenv.now) term.now (values args.now) text.now e) }
+    requires well_formed { IsWellFormed (program_of compiled.now) }
+    ensures ok { IfOk result (λ o. IsOutcome (program_of compiled.now) (env_of compiled.now) term.now (values args.now) text.now (ran o)) }
+    ensures err { IfErr result (λ e. (e ≡ Memory) ⊎ IsRunRefused (program_of compiled.now) (env_of compiled.now) term.now (values args.now) text.now e) }
 {
     match forms(alloc, text) {
         Ok(forms) => under_forms(alloc, compiled, term, args, forms.as_slice(), text.len()),

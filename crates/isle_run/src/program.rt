@@ -2,16 +2,12 @@
 
 ghost use Rattle.std.specs.Prelude.{◌≡◌, IfOk, IfErr};
 ghost use Rattle.std.specs.String.{string_bytes};
-ghost use Rattle.isle_core.specs.declared.files.Files.{Files as FileTexts};
-ghost use Rattle.isle_core.specs.declared.options.CodegenOptions.{CodegenOptions as Options};
-ghost use Rattle.isle_core.specs.RuleViews.{environment};
 ghost use Rattle.isle_core.specs.ValueViews.{values};
 ghost use Rattle.isle_rulesets.specs.Grouping.{AreRuleSets};
 ghost use Rattle.isle_values.specs.Views.{seen};
 ghost use Rattle.isle_tree.specs.Views.{program};
 ghost use Rattle.isle_tree.specs.WellFormed.{IsWellFormed};
-ghost use Rattle.isle_codegen.specs.Checked.{IsChecked};
-ghost use Rattle.isle_run.specs.Conforming.{Conforms};
+ghost use Rattle.isle_run.specs.Compiled.{env_checked, OfSource};
 ghost use Rattle.isle_run.specs.Trial.{IsTrial, args_given};
 ghost use Rattle.isle_run.specs.NoLines.{HasNoLines};
 
@@ -32,8 +28,8 @@ fn args_given(
     term: &str,
     given: &[Written],
 ) -> Result<Vec<Value>, OutOfMemory>
-    requires { AreRuleSets (environment checked.now.typeenv checked.now.termenv) checked.now.terms.items }
-    ensures { IfOk result (λ args. values args.items ≡ args_given (environment checked.now.typeenv checked.now.termenv) term.now (seen given.now)) }
+    requires { AreRuleSets (env_checked checked.now) checked.now.terms.items }
+    ensures { IfOk result (λ args. values args.items ≡ args_given (env_checked checked.now) term.now (seen given.now)) }
 {
     let typeenv = &checked.typeenv;
     let tys = match requested_term(typeenv, &checked.termenv, checked.terms.as_slice(), term) {
@@ -55,10 +51,10 @@ pub fn of_program(
     given: &[Written],
     answers: &str,
 ) -> Result<String, Refusal>
-    requires terms { AreRuleSets (environment checked.now.typeenv checked.now.termenv) checked.now.terms.items }
+    requires terms { AreRuleSets (env_checked checked.now) checked.now.terms.items }
     requires well_formed { IsWellFormed (program tree.now) }
-    ensures ok { IfOk result (λ lines. (options : Options) (files : FileTexts) → IsChecked files (environment checked.now.typeenv checked.now.termenv) → Conforms options files (environment checked.now.typeenv checked.now.termenv) (program tree.now) → IsTrial options files term.now (seen given.now) answers.now (string_bytes lines)) }
-    ensures err { IfErr result (λ e. (options : Options) (files : FileTexts) → IsChecked files (environment checked.now.typeenv checked.now.termenv) → Conforms options files (environment checked.now.typeenv checked.now.termenv) (program tree.now) → HasNoLines options files term.now (seen given.now) answers.now e) }
+    ensures ok { IfOk result (λ lines. OfSource (env_checked checked.now) (program tree.now) (λ options files. IsTrial options files term.now (seen given.now) answers.now (string_bytes lines))) }
+    ensures err { IfErr result (λ e. OfSource (env_checked checked.now) (program tree.now) (λ options files. HasNoLines options files term.now (seen given.now) answers.now e)) }
 {
     let args = match args_given(alloc, checked, term, given) {
         Ok(args) => args,

@@ -4,4 +4,4 @@ mod FindTypes
 mod Rest
 mod FirstNamed
 mod Turns
-mod PlaceOf
+pub mod KindPlaces

@@ -1,5 +1,5 @@
 -- The answers that forms give.
-use Rattle.std.specs.Prelude.{ℕ, zero, suc, List, [], ◌∷◌, map, Bool, true, false, ◌&&◌, Option}
+use Rattle.std.specs.Prelude.{List, [], ◌∷◌, map, Bool, true, false, ◌&&◌, Option}
 use Rattle.std.specs.List.{list_all}
 use Rattle.isle_core.specs.declared.TypeId.{TypeId}
 use Rattle.isle_core.specs.Rule.{Environment}
@@ -56,17 +56,3 @@ turns_at env (Answers callee cases rest at ∷ forms) = turns_at env forms
 -- the answers of forms that are built: nothing is held at entry, and a hundred results are the limit
 abbrev pub answers_at : Environment → List Form → Meaning
 answers_at env forms = record { consts = []; pure = []; turns = turns_at env forms; held = 0; max_returns = 100 }
-
--- where a form begins
-abbrev pub place_of : Form → ℕ
-place_of (Held count at) = at
-place_of (Max count at) = at
-place_of (Const name v at) = at
-place_of (Answers callee cases rest at) = at
-place_of (Turns callee turns rest at) = at
-
--- the place that the number of a wrong form tells: where it begins, or the end of the file where one is missing
-abbrev pub place_at : (end : ℕ) → List Form → ℕ → ℕ
-place_at end [] i = end
-place_at end (form ∷ forms) zero = place_of form
-place_at end (form ∷ forms) (suc i) = place_at end forms i

@@ -13,7 +13,7 @@ use Rattle.isle_core.specs.Value.{Value, Truth, Int, Opaque}
 use Rattle.isle_values.specs.Written as written
 use Rattle.isle_values.specs.Written.{Written, Writtens, NoValue, AValue}
 
--- what is given for a written value that is none of its type: a value of no type
+-- what is given for a written value that is none of its type: an opaque number under no name, which no type has
 abbrev pub misfit : Value
 misfit = Opaque [] (pos 0)
 
@@ -33,8 +33,15 @@ number_at ty n = if is_of ty n then Int ty (wrapped I128 n) else misfit
 -- a written value at a type of this definition; only those of bool and of the integer types are built
 abbrev pub value_of_def : Option TypeDef → Written → Value
 value_of_def (Some (def.Builtin builtin.Bool)) (written.Truth b) = Truth b
+value_of_def (Some (def.Builtin builtin.Bool)) (written.Number n) = misfit
+value_of_def (Some (def.Builtin builtin.Bool)) (written.Made name parts) = misfit
 value_of_def (Some (def.Builtin (builtin.Int ty))) (written.Number n) = number_at ty n
-value_of_def d w = misfit
+value_of_def (Some (def.Builtin (builtin.Int ty))) (written.Truth b) = misfit
+value_of_def (Some (def.Builtin (builtin.Int ty))) (written.Made name parts) = misfit
+value_of_def (Some (def.Primitive name rust at)) w = misfit
+value_of_def (Some (def.Enum name is_extern is_nodebug variants at)) w = misfit
+value_of_def (Some (def.Struct name is_extern is_nodebug fields at)) w = misfit
+value_of_def None w = misfit
 
 -- a written value at a type of the environment
 abbrev pub value_at : Environment → TypeId → Written → Value

@@ -3,3 +3,4 @@ pub mod Requested
 pub mod Forms
 pub mod AnswerTypes
 pub mod Called
+pub mod Places

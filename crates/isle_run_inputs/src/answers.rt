@@ -8,7 +8,7 @@ ghost use Rattle.isle_answers.specs.Form as pure_form;
 ghost use Rattle.isle_answers.specs.Views.{result_seen, answer_seen, form_seen, forms_seen};
 ghost use Rattle.isle_core.specs.RuleViews.{environment};
 ghost use Rattle.isle_core.specs.Rule.{Environment};
-ghost use Rattle.isle_run_inputs.specs.Forms.{result_at, answer_at, turns_at, answers_at, place_of, place_at};
+ghost use Rattle.isle_run_inputs.specs.Forms.{result_at, answer_at, turns_at, answers_at};
 
 use crate::answer_types::AnswerTypes;
 use crate::value::value_at_any;
@@ -144,28 +144,4 @@ pub fn answers_at(
         held: 0,
         max_returns: 100,
     })
-}
-
-// Where a form begins.
-fn place_of(form: &Form) -> usize
-    ensures { result ≡ place_of (form_seen form.now) }
-{
-    match form {
-        Form::Held { at, .. }
-        | Form::Max { at, .. }
-        | Form::Const { at, .. }
-        | Form::Answers { at, .. }
-        | Form::Turns { at, .. } => *at,
-    }
-}
-
-/// Returns the place that the number of a wrong form tells: where the form begins, or the end of the file where one is
-/// missing.
-pub fn place_at(end: usize, forms: &[Form], number: usize) -> usize
-    ensures { result ≡ place_at end (forms_seen forms.now) number }
-{
-    match forms.get(number) {
-        Some(form) => place_of(form),
-        None => end,
-    }
 }

@@ -6,12 +6,14 @@ mod answers;
 mod built;
 mod names;
 mod number;
+mod places;
 mod requested;
 mod value;
 mod values;
 
 pub use answer_types::AnswerTypes;
-pub use answers::{answers_at, place_at};
+pub use answers::answers_at;
 pub use built::are_built;
+pub use places::place_at;
 pub use requested::requested_term;
 pub use values::values_at;
