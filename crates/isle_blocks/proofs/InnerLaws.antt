@@ -13,7 +13,7 @@ use Rattle.isle_core.specs.declared.rule_sets.Binding.TheVariants as binding
 use Rattle.isle_core.specs.declared.types.Term.{Term}
 use Rattle.isle_core.specs.Path.{Path, Inner, at, paths_of}
 use Rattle.isle_core.specs.StandsFor.{EachOnce}
-use Rattle.isle_core.specs.Ready.{IsReadyCall}
+use Rattle.isle_core.specs.Serializable.{IsSerializableCall}
 use Rattle.isle_core.specs.Rule.{Environment}
 use Rattle.isle_blocks.specs.Inners.{source_at, FindsInners}
 use Rattle.isle_core.proofs.BindingPaths.{IsThere, contains_at, placed, place_once, inner_path, inner_at}
@@ -117,7 +117,7 @@ pub data HasInner (bs : List Binding) (inners : ℕ → Option BindingId) (c : B
   has_one : (b : BindingId) → inners c.0 ≡ Some b → slice_get bs b.0 ≡ Some (binding.MatchSome c) → at (paths_of bs) b ≡ Inner (at (paths_of bs) c) → HasInner bs inners c true
 
 pub has_inner : (env : Environment) (t : Term) (bs : List Binding) (inners : ℕ → Option BindingId) (done : List Path) (c : BindingId) → FindsInners bs inners → EachOnce (paths_of bs)
-    → (h : IsReadyCall env t (paths_of bs) done (at (paths_of bs) c)) → HasInner bs inners c (may_be_nothing h.kind)
+    → (h : IsSerializableCall env t (paths_of bs) done (at (paths_of bs) c)) → HasInner bs inners c (may_be_nothing h.kind)
 has_inner env t bs inners done c f once h = pick (inners c.0) refl (may_be_nothing h.kind) h.inner
   where
     ps : List Path

@@ -17,7 +17,7 @@ use Rattle.isle_core.specs.ExternalCall.{IsCall}
 use Rattle.isle_core.specs.PathType.{IsPathOf, IsOptionOf, ArePathsOf}
 use Rattle.isle_core.specs.Readable.{IsInPlace, IsReadAs, AreReadAs, IsReadable, is_bound}
 use Rattle.isle_core.specs.StandsFor.{EachOnce}
-use Rattle.isle_core.specs.Ready.{StandsOn, AllStandOn, IsReadyCall, AreReadyCalls}
+use Rattle.isle_core.specs.Serializable.{StandsOn, AllStandOn, IsSerializableCall, AreSerializableCalls}
 use Rattle.isle_core.specs.Rule.{Environment}
 use Rattle.isle_core.specs.Setting.{setting}
 use Rattle.isle_blocks.specs.Inners.{FindsInners}
@@ -106,7 +106,7 @@ all_read env t bs done bound k (b ∷ more) (ty ∷ tys) h s = (read_as env t bs
 
 -- ---- what may be bound
 
-call_bound : (env : Environment) (t : Term) (bs : List Binding) (done : List Path) (bound : List ℕ) (c : BindingId) → IsBehind (paths_of bs) done bound → IsReadyCall env t (paths_of bs) done (at (paths_of bs) c)
+call_bound : (env : Environment) (t : Term) (bs : List Binding) (done : List Path) (bound : List ℕ) (c : BindingId) → IsBehind (paths_of bs) done bound → IsSerializableCall env t (paths_of bs) done (at (paths_of bs) c)
     → IsBindable (setting env t bs) bound (at (paths_of bs) c) (slice_get bs c.0)
 call_bound env t bs done bound c k h =
     let is = call_at bs c h.term h.parameters h.instance (paths_there env t h.parameters h.called.arg_tys h.args) h.path in
@@ -125,7 +125,7 @@ option_kind return_kind.Option e = refl
 option_kind return_kind.Plain e = cc
 option_kind return_kind.Iterator e = cc
 
-inner_bound : (env : Environment) (t : Term) (bs : List Binding) (done : List Path) (bound : List ℕ) (c b : BindingId) → (h : IsReadyCall env t (paths_of bs) done (at (paths_of bs) c)) → may_be_nothing h.kind ≡ true
+inner_bound : (env : Environment) (t : Term) (bs : List Binding) (done : List Path) (bound : List ℕ) (c b : BindingId) → (h : IsSerializableCall env t (paths_of bs) done (at (paths_of bs) c)) → may_be_nothing h.kind ≡ true
     → slice_get bs b.0 ≡ Some (binding.MatchSome c) → at (paths_of bs) b ≡ Inner (at (paths_of bs) c) → Contains bound c.0 → IsBindable (setting env t bs) bound (at (paths_of bs) b) (slice_get bs b.0)
 inner_bound env t bs done bound c b h is there path k =
     let external : IsCall return_kind.Option (calling env h.term) = subst (λ x. IsCall x (calling env h.term)) (option_kind h.kind is) h.external in
@@ -164,7 +164,7 @@ pub record BindsAll (env : Environment) (t : Term) (bs : List Binding) (bound : 
   pub behind : IsBehind (paths_of bs) made (bound_by bound order)
 
 one_binds : (env : Environment) (t : Term) (bs : List Binding) (inners : ℕ → Option BindingId) (done made : List Path) (bound : List ℕ) (c : BindingId) (rest : List BindingId) → EachOnce (paths_of bs) → IsBehind (paths_of bs) done bound
-    → (h : IsReadyCall env t (paths_of bs) done (at (paths_of bs) c))
+    → (h : IsSerializableCall env t (paths_of bs) done (at (paths_of bs) c))
     → ((bound' : List ℕ) → IsBehind (paths_of bs) (at (paths_of bs) c ∷ done) bound' → BindsAll env t bs bound' made rest)
     → (partial : Bool) → may_be_nothing h.kind ≡ partial → HasInner bs inners c partial → BindsAll env t bs bound made (with_inner (inners c.0) c rest)
 one_binds env t bs inners done made bound c rest once k h go false is (has_none e without) =
@@ -182,7 +182,7 @@ one_binds env t bs inners done made bound c rest once k h go true is (has_one b 
     subst (λ o. BindsAll env t bs bound made (with_inner o c rest)) (sym e) all
 
 pub binds_all : (env : Environment) (t : Term) (bs : List Binding) (inners : ℕ → Option BindingId) → FindsInners bs inners → EachOnce (paths_of bs) → (cs : List BindingId) (done : List Path) (bound : List ℕ)
-    → IsBehind (paths_of bs) done bound → AreReadyCalls env t (paths_of bs) done (map (at (paths_of bs)) cs) → BindsAll env t bs bound (made_behind done (map (at (paths_of bs)) cs)) (binds inners cs)
+    → IsBehind (paths_of bs) done bound → AreSerializableCalls env t (paths_of bs) done (map (at (paths_of bs)) cs) → BindsAll env t bs bound (made_behind done (map (at (paths_of bs)) cs)) (binds inners cs)
 binds_all env t bs inners f once [] done bound k h = record { bindable = tt; behind = k }
 binds_all env t bs inners f once (c ∷ cs) done bound k h =
     one_binds env t bs inners done (made_behind (at (paths_of bs) c ∷ done) (map (at (paths_of bs)) cs)) bound c (binds inners cs) once k h.0

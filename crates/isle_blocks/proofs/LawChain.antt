@@ -11,13 +11,13 @@ use Rattle.isle_core.specs.Value.{Value, Made}
 use Rattle.isle_core.specs.Meaning.{Meaning}
 use Rattle.isle_core.specs.Path.{Path, at, paths_of}
 use Rattle.isle_core.specs.Tests.{Test}
-use Rattle.isle_core.specs.Held.{Known, nothing_known, value_at, meets, equal_held, all_hold}
+use Rattle.isle_core.specs.ValueAt.{Known, nothing_known, value_at, meets, equal_held, all_hold}
 use Rattle.isle_core.specs.CallRun.{Went, Goes, Ends, then_go, returns, run_calls}
 use Rattle.isle_core.specs.RuleSet.{is_test, equal_test, flat_tests, flat_holds, flat_run, gave, given, set_outcome}
 use Rattle.isle_core.specs.BlockViews.{SeenStep, block_of}
 use Rattle.isle_core.specs.BlockRun.{bind_all, block_run, control_run, block_outcome}
 use Rattle.isle_core.specs.StandsFor.{EachOnce}
-use Rattle.isle_core.specs.Ready.{IsReadyRule}
+use Rattle.isle_core.specs.Serializable.{IsSerializableRule}
 use Rattle.isle_core.specs.Rule.{Environment}
 use Rattle.isle_blocks.specs.Order.{by_priority}
 use Rattle.isle_blocks.specs.Inners.{FindsInners}
@@ -55,11 +55,11 @@ equated_does (e ∷ es) inner env m args ps =
 
 -- ---- rules that are ready
 
-last_runs : (env : Environment) (t : Term) (m : Meaning) (args : List Value) (bs : List Binding) (inners : ℕ → Option BindingId) (f : FlatRule) → FindsInners bs inners → EachOnce (paths_of bs) → IsReadyRule env t (paths_of bs) f
+last_runs : (env : Environment) (t : Term) (m : Meaning) (args : List Value) (bs : List Binding) (inners : ℕ → Option BindingId) (f : FlatRule) → FindsInners bs inners → EachOnce (paths_of bs) → IsSerializableRule env t (paths_of bs) f
     → step_run env m args (paths_of bs) (last_step inners f) ≡ flat_run env m args (paths_of bs) f
 last_runs env t m args bs inners f found once h = ap (λ w. then_go w (returns env m args (at (paths_of bs) f.result))) (binds_run env t m args bs inners found once f.ordered [] h.calls nothing_known [])
 
-pub rule_does : (env : Environment) (t : Term) (m : Meaning) (args : List Value) (bs : List Binding) (inners : ℕ → Option BindingId) (f : FlatRule) → FindsInners bs inners → EachOnce (paths_of bs) → IsReadyRule env t (paths_of bs) f
+pub rule_does : (env : Environment) (t : Term) (m : Meaning) (args : List Value) (bs : List Binding) (inners : ℕ → Option BindingId) (f : FlatRule) → FindsInners bs inners → EachOnce (paths_of bs) → IsSerializableRule env t (paths_of bs) f
     → DoesWhere env m args (paths_of bs) (rule_step inners f) (flat_tests (paths_of bs) f) (flat_run env m args (paths_of bs) f)
 rule_does env t m args bs inners f found once h =
     let ps = paths_of bs in
@@ -79,7 +79,7 @@ result_ends (Goes known made) env m args p more = refl
 result_ends (Ends o) env m args p more = refl
 
 chain_gives : (env : Environment) (t : Term) (m : Meaning) (args : List Value) (bs : List Binding) (inners : ℕ → Option BindingId) (kind : ReturnKind) → FindsInners bs inners → EachOnce (paths_of bs)
-    → (fs : List FlatRule) → AllByRecursion (IsReadyRule env t (paths_of bs)) fs
+    → (fs : List FlatRule) → AllByRecursion (IsSerializableRule env t (paths_of bs)) fs
     → gave kind (block_run env m args (paths_of bs) (block_of (chain_steps inners fs)) nothing_known []) ≡ given env m args (paths_of bs) kind (first (flat_holds env m args (paths_of bs)) fs)
 chain_gives env t m args bs inners kind found once [] h = refl
 chain_gives env t m args bs inners kind found once (f ∷ fs) h =
@@ -96,6 +96,6 @@ chain_gives env t m args bs inners kind found once (f ∷ fs) h =
     pick false true k e = let bad = k refl in cc
 
 pub chain_means : (env : Environment) (t : Term) (m : Meaning) (args : List Value) (bs : List Binding) (inners : ℕ → Option BindingId) (kind : ReturnKind) → FindsInners bs inners → EachOnce (paths_of bs)
-    → (fs : List FlatRule) → AllByRecursion (IsReadyRule env t (paths_of bs)) fs → block_outcome env m args (paths_of bs) (chain inners fs) kind ≡ set_outcome env m args (paths_of bs) fs kind
+    → (fs : List FlatRule) → AllByRecursion (IsSerializableRule env t (paths_of bs)) fs → block_outcome env m args (paths_of bs) (chain inners fs) kind ≡ set_outcome env m args (paths_of bs) fs kind
 chain_means env t m args bs inners kind found once fs h =
-    chain_gives env t m args bs inners kind found once (by_priority fs) (all_in_order (IsReadyRule env t (paths_of bs)) fs h) ∙ ap (given env m args (paths_of bs) kind) (first_is_highest (flat_holds env m args (paths_of bs)) fs)
+    chain_gives env t m args bs inners kind found once (by_priority fs) (all_in_order (IsSerializableRule env t (paths_of bs)) fs h) ∙ ap (given env m args (paths_of bs) kind) (first_is_highest (flat_holds env m args (paths_of bs)) fs)

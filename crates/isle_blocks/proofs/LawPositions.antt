@@ -11,7 +11,7 @@ use Rattle.isle_core.specs.Value.{Value, Made}
 use Rattle.isle_core.specs.Meaning.{Meaning}
 use Rattle.isle_core.specs.Path.{Path, at, paths_of}
 use Rattle.isle_core.specs.Tests.{Test}
-use Rattle.isle_core.specs.Held.{Known, nothing_known, value_at, meets, equal_held, all_hold}
+use Rattle.isle_core.specs.ValueAt.{Known, nothing_known, value_at, meets, equal_held, all_hold}
 use Rattle.isle_core.specs.CallRun.{Went, Goes, Ends, then_go, returns, run_calls}
 use Rattle.isle_core.specs.RuleSet.{is_test, equal_test, flat_tests, flat_holds, flat_run}
 use Rattle.isle_core.specs.Block.{Block, Stop, Step, Control}
@@ -19,7 +19,7 @@ use Rattle.isle_core.specs.BlockViews.{SeenStep, block_of}
 use Rattle.isle_core.specs.BlockRun.{bind_all, control_run}
 use Rattle.isle_core.specs.ReturnPosition.{then_position, or_else, block_position, control_position, rule_position, set_position}
 use Rattle.isle_core.specs.StandsFor.{EachOnce}
-use Rattle.isle_core.specs.Ready.{IsReadyRule}
+use Rattle.isle_core.specs.Serializable.{IsSerializableRule}
 use Rattle.isle_core.specs.Rule.{Environment}
 use Rattle.isle_blocks.specs.Order.{by_priority}
 use Rattle.isle_blocks.specs.Inners.{FindsInners}
@@ -77,7 +77,7 @@ equated_returns (e ∷ es) inner env m args ps =
     if_within (equal_held (value_at env m args nothing_known (at ps e.0)) (value_at env m args nothing_known (at ps e.1))) (all_hold env (value_at env m args nothing_known) (map (equal_test ps) es)) _ _
     (alone_position env m args ps (all_equated es inner) ∙ equated_returns es inner env m args ps)
 
-rule_returns : (env : Environment) (t : Term) (m : Meaning) (args : List Value) (bs : List Binding) (inners : ℕ → Option BindingId) (f : FlatRule) → FindsInners bs inners → EachOnce (paths_of bs) → IsReadyRule env t (paths_of bs) f
+rule_returns : (env : Environment) (t : Term) (m : Meaning) (args : List Value) (bs : List Binding) (inners : ℕ → Option BindingId) (f : FlatRule) → FindsInners bs inners → EachOnce (paths_of bs) → IsSerializableRule env t (paths_of bs) f
     → ReturnsWhere env m args (paths_of bs) (rule_step inners f) (flat_tests (paths_of bs) f) (rule_position env m args (paths_of bs) (Some f))
 rule_returns env t m args bs inners f found once h =
     let ps = paths_of bs in
@@ -93,7 +93,7 @@ none_after (Goes known made) env m args p more = refl
 none_after (Ends o) env m args p more = refl
 
 chain_returns : (env : Environment) (t : Term) (m : Meaning) (args : List Value) (bs : List Binding) (inners : ℕ → Option BindingId) → FindsInners bs inners → EachOnce (paths_of bs)
-    → (fs : List FlatRule) → AllByRecursion (IsReadyRule env t (paths_of bs)) fs
+    → (fs : List FlatRule) → AllByRecursion (IsSerializableRule env t (paths_of bs)) fs
     → block_position env m args (paths_of bs) (block_of (chain_steps inners fs)) nothing_known [] ≡ rule_position env m args (paths_of bs) (first (flat_holds env m args (paths_of bs)) fs)
 chain_returns env t m args bs inners found once [] h = refl
 chain_returns env t m args bs inners found once (f ∷ fs) h =
@@ -118,6 +118,6 @@ chain_returns env t m args bs inners found once (f ∷ fs) h =
     pick false true k e = let bad = k refl in cc
 
 pub chain_positions : (env : Environment) (t : Term) (m : Meaning) (args : List Value) (bs : List Binding) (inners : ℕ → Option BindingId) → FindsInners bs inners → EachOnce (paths_of bs)
-    → (fs : List FlatRule) → AllByRecursion (IsReadyRule env t (paths_of bs)) fs → block_position env m args (paths_of bs) (chain inners fs) nothing_known [] ≡ set_position env m args (paths_of bs) fs
+    → (fs : List FlatRule) → AllByRecursion (IsSerializableRule env t (paths_of bs)) fs → block_position env m args (paths_of bs) (chain inners fs) nothing_known [] ≡ set_position env m args (paths_of bs) fs
 chain_positions env t m args bs inners found once fs h =
-    chain_returns env t m args bs inners found once (by_priority fs) (all_in_order (IsReadyRule env t (paths_of bs)) fs h) ∙ ap (rule_position env m args (paths_of bs)) (first_is_highest (flat_holds env m args (paths_of bs)) fs)
+    chain_returns env t m args bs inners found once (by_priority fs) (all_in_order (IsSerializableRule env t (paths_of bs)) fs h) ∙ ap (rule_position env m args (paths_of bs)) (first_is_highest (flat_holds env m args (paths_of bs)) fs)

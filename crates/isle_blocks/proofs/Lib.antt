@@ -5,4 +5,4 @@ pub mod LawBinds
 pub mod LawBound
 pub mod LawChain
 pub mod LawPositions
-pub mod LawReady
+pub mod LawSerializable

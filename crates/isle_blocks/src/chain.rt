@@ -7,13 +7,13 @@ ghost use Rattle.isle_core.specs.Value.{Value};
 ghost use Rattle.isle_core.specs.Meaning.{Meaning};
 ghost use Rattle.isle_core.specs.Rule.{Environment};
 ghost use Rattle.isle_core.specs.Path.{paths_of};
-ghost use Rattle.isle_core.specs.Held.{nothing_known};
+ghost use Rattle.isle_core.specs.ValueAt.{nothing_known};
 ghost use Rattle.isle_core.specs.ReturnPosition.{block_position, set_position};
 ghost use Rattle.isle_core.specs.RuleSet.{set_outcome};
 ghost use Rattle.isle_core.specs.BlockViews as BlockViews;
 ghost use Rattle.isle_core.specs.BlockRun.{block_outcome};
 ghost use Rattle.isle_core.specs.BlockLawful.{IsLawfulBlock};
-ghost use Rattle.isle_core.specs.Ready.{IsReady};
+ghost use Rattle.isle_core.specs.Serializable.{IsSerializable};
 ghost use Rattle.isle_core.specs.Setting.{setting};
 ghost use Rattle.isle_core.specs.SingleArms.{HasSingleArms};
 ghost use Rattle.isle_blocks.specs.Chain as Chain;
@@ -71,11 +71,11 @@ fn chained(
 /// term is `multi`; of such terms no block is built. The only error is want of memory.
 pub fn serialize(alloc: Global, rules: &RuleSet, iterator: bool) -> Result<Block, OutOfMemory>
     requires { iterator ≡ false }
-    ensures means { IfOk result (λ b. (env : Environment) (m : Meaning) (t : Term) (args : ListOf Value) (kind : ReturnKind) → IsReady env t rules.now →
+    ensures means { IfOk result (λ b. (env : Environment) (m : Meaning) (t : Term) (args : ListOf Value) (kind : ReturnKind) → IsSerializable env t rules.now →
         block_outcome env m args (paths_of rules.now.bindings) (BlockViews.block b) kind ≡ set_outcome env m args (paths_of rules.now.bindings) rules.now.rules kind) }
-    ensures positions { IfOk result (λ b. (env : Environment) (m : Meaning) (t : Term) (args : ListOf Value) → IsReady env t rules.now →
+    ensures positions { IfOk result (λ b. (env : Environment) (m : Meaning) (t : Term) (args : ListOf Value) → IsSerializable env t rules.now →
         block_position env m args (paths_of rules.now.bindings) (BlockViews.block b) nothing_known [] ≡ set_position env m args (paths_of rules.now.bindings) rules.now.rules) }
-    ensures lawful { IfOk result (λ b. (env : Environment) (t : Term) → IsReady env t rules.now → IsLawfulBlock (setting env t rules.now.bindings) (BlockViews.block b)) }
+    ensures lawful { IfOk result (λ b. (env : Environment) (t : Term) → IsSerializable env t rules.now → IsLawfulBlock (setting env t rules.now.bindings) (BlockViews.block b)) }
     ensures single { IfOk result (λ b. HasSingleArms (BlockViews.block b)) }
 {
     let inners = inner_values(alloc, rules.bindings.as_slice())?;

@@ -32,7 +32,7 @@ use Rattle.isle_simulation.proofs.BlockCalls.{IsBoundCall}
 use Rattle.isle_simulation.specs.Emitted.{AnswersBindings}
 use Rattle.isle_simulation.specs.Statements.{callee_of}
 use Rattle.isle_codegen.specs.CalledBy.{GoesTo, IsCalledBy}
-use Rattle.isle_sema.proofs.ReadyRules.{IsArgument, args_argument}
+use Rattle.isle_sema.proofs.SerializableRules.{IsArgument, args_argument}
 
 -- ---- the calls among paths
 

@@ -10,7 +10,7 @@ use Rattle.isle_core.specs.declared.types.Term.{Term}
 use Rattle.isle_core.specs.Block.{Block}
 use Rattle.isle_core.specs.BlockLawful.{IsLawfulBlock}
 use Rattle.isle_core.specs.Rule.{Environment}
-use Rattle.isle_core.specs.Ready.{IsReady}
+use Rattle.isle_core.specs.Serializable.{IsSerializable}
 use Rattle.isle_core.specs.Setting.{setting}
 use Rattle.isle_core.specs.SingleArms.{HasSingleArms}
 use Rattle.isle_tree.specs.Program.{Function}
@@ -28,7 +28,7 @@ at_place ts i x t is e = slice_get-get_or ts i x (slice_get_within ts i t e) ∙
 
 -- the function of a block of the rule set is emitted for it
 pub is_emitted : (files : Files) (env : Environment) (id : TermId) (s : RuleSet) (t : Term) (b : Block) (f : Function) → CanEmit files env (id, s) → slice_get env.terms id.0 ≡ Some t
-    → ((u : Term) → IsReady env u s → IsLawfulBlock (setting env u s.bindings) b) → HasSingleArms b → MeansSet env s b → term_function files env t s.bindings b ≡ Some f → IsEmitted files env id s f
+    → ((u : Term) → IsSerializable env u s → IsLawfulBlock (setting env u s.bindings) b) → HasSingleArms b → MeansSet env s b → term_function files env t s.bindings b ≡ Some f → IsEmitted files env id s f
 is_emitted files env id s t b f h there lawful single means given = record {
   term = h.term;
   there = h.there;
@@ -42,7 +42,7 @@ is_emitted files env id s t b f h there lawful single means given = record {
 
 -- and its function is there
 pub is_given : (files : Files) (env : Environment) (id : TermId) (s : RuleSet) (t : Term) (b : Block) → CanEmit files env (id, s) → slice_get env.terms id.0 ≡ Some t
-    → ((u : Term) → IsReady env u s → IsLawfulBlock (setting env u s.bindings) b) → HasSingleArms b → None ≡ term_function files env t s.bindings b → ⊥
+    → ((u : Term) → IsSerializable env u s → IsLawfulBlock (setting env u s.bindings) b) → HasSingleArms b → None ≡ term_function files env t s.bindings b → ⊥
 is_given files env id s t b h there lawful single none =
     let same = some_one h.term t (sym h.there ∙ there) in
     let made = function_made files env h.term s.bindings b h.emittable.once (lawful h.term h.ready) single in

@@ -16,7 +16,7 @@ use Rattle.isle_core.proofs.Contained.{head_contained, tail_contained}
 use Rattle.isle_syntax.specs.Tree.{Def}
 use Rattle.isle_rulesets.specs.Grouping.{AreRuleSets}
 use Rattle.isle_sema.specs.Typing.{Typed}
-use Rattle.isle_sema.proofs.ReadyRules.{set_ready}
+use Rattle.isle_sema.proofs.SerializableRules.{set_serializable}
 use Rattle.isle_sema.proofs.TypedTerms.{typed_types, typed_there}
 use Rattle.isle_codegen.specs.Names.{is_term_name, are_term_names}
 use Rattle.isle_codegen.specs.Emission.{ArePlaced}
@@ -43,7 +43,7 @@ one defs files env s h placed c name fns stands =
       there = t.1;
       placed = placed_at files env.terms s.0.0 t.0 placed t.1;
       emittable = record { name = subst (λ n. IsTrue (is_term_name n)) (name_of_term env s.0 t.0 t.1) name; types = typed_types defs env s.0.0 t.0 h t.1; once = typed_once defs env s.0.0 t.0 h t.1 };
-      ready = set_ready defs env s.0 t.0 s.1 h t.1 stands;
+      ready = set_serializable defs env s.0 t.0 s.1 h t.1 stands;
       fns = fns;
     }
 

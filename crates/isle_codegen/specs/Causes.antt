@@ -1,6 +1,6 @@
 -- What compiling files answers, and why.
 use Rattle.std.specs.Prelude.{◌≡◌, ℕ, ◌⊎◌, List, length, map, false, Option, IfSome}
-use Rattle.isle_outside.specs.Directory.{Files, Counts}
+use Rattle.isle_outside.specs.Directory.{Contents, Counts}
 use Rattle.isle_core.specs.declared.options.CodegenOptions.{CodegenOptions}
 use Rattle.isle_core.specs.declared.files.Files.{Files as FileTexts}
 use Rattle.isle_core.specs.declared.read_error.ReadError.TheVariants as read
@@ -25,7 +25,7 @@ pub record CompilesTo (options : CodegenOptions) (files : FileTexts) (text : Lis
   pub headline : HasHeadline options files defs text
 
 -- the text is that of the definitions that the files of these names spell
-pub record IsCompiled (options : CodegenOptions) (files : Files) (names : List (List ℕ)) (text : List ℕ) : Type 0 where
+pub record IsCompiled (options : CodegenOptions) (files : Contents) (names : List (List ℕ)) (text : List ℕ) : Type 0 where
   pub texts : List (List ℕ)
   pub read : AreRead files names texts
   pub compiles : CompilesTo options (record { file_names = printed options names; file_texts = texts }) text
@@ -43,7 +43,7 @@ IsRefusal (error.Errors errors) names texts = ⊥
 IsRefusal (error.Name name) names texts = ⊥
 
 -- all inputs were read, and they are not of the language, or a name may not be emitted
-pub record IsNotBuilt (options : CodegenOptions) (files : Files) (names : List (List ℕ)) : Type 0 where
+pub record IsNotBuilt (options : CodegenOptions) (files : Contents) (names : List (List ℕ)) : Type 0 where
   pub texts : List (List ℕ)
   pub read : AreRead files names texts
   pub refused : IsNotOfIt (printed options names) texts
@@ -53,7 +53,7 @@ abbrev pub AllTried : List (List ℕ) → Counts → Counts → Type 0
 AllTried names before after = IsTried (length names) before after × (after.faults ≡ before.faults)
 
 -- why files give no text
-abbrev pub HasCause : FileError → CodegenOptions → Option Files → List (List ℕ) → Counts → Counts → Type 0
+abbrev pub HasCause : FileError → CodegenOptions → Option Contents → List (List ℕ) → Counts → Counts → Type 0
 HasCause (error.Io index why) options files names before after = Fails (read.Io index why) files names before after
 HasCause error.NotYet options files names before after = AllTried names before after × IfSome files (λ fs. IsNotBuilt options fs names)
 HasCause (error.Errors errors) options files names before after = ⊥

@@ -15,7 +15,7 @@ use Rattle.isle_core.specs.BlockRun.{block_outcome}
 use Rattle.isle_core.specs.BlockLawful.{IsLawfulBlock}
 use Rattle.isle_core.specs.Places.{LiesIn}
 use Rattle.isle_core.specs.Rule.{Environment}
-use Rattle.isle_core.specs.Ready.{IsReady}
+use Rattle.isle_core.specs.Serializable.{IsSerializable}
 use Rattle.isle_core.specs.Setting.{setting}
 use Rattle.isle_core.specs.SingleArms.{HasSingleArms}
 use Rattle.isle_tree.specs.Program.{Function}
@@ -30,7 +30,7 @@ pub record CanEmit (files : Files) (env : Environment) (s : TermId × RuleSet) :
   pub there : slice_get env.terms s.0.0 ≡ Some term
   pub placed : LiesIn files term.decl_pos
   pub emittable : IsEmittable env term
-  pub ready : IsReady env term s.1
+  pub ready : IsSerializable env term s.1
   pub fns : HasFnNames env
 
 -- the block means the rule set

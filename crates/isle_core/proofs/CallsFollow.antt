@@ -19,7 +19,7 @@ use Rattle.isle_core.specs.Path.{Path, Called, Paths, APath}
 use Rattle.isle_core.specs.OrderedCalls.{if_ordered, calls, calls_all}
 use Rattle.isle_core.specs.RightSide.{path_or, answer_path, path, paths}
 use Rattle.isle_core.specs.Tests.{Places}
-use Rattle.isle_core.specs.Held.{Known, held_of, inner_held, value_before, call_held, value_at, values_at}
+use Rattle.isle_core.specs.ValueAt.{Known, held_of, inner_held, value_before, call_held, value_at, values_at}
 use Rattle.isle_core.specs.CallRun.{Went, Goes, Ends, then_go, take_turn, make_call, check_call, unless_nothing, run_call, run_calls}
 use Rattle.isle_core.specs.Rule.{Environment}
 use Rattle.isle_core.proofs.PatternTests.{StandsAt, Agree}

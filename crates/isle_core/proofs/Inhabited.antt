@@ -10,12 +10,12 @@ use Rattle.isle_core.specs.declared.types.BuiltinType.TheVariants as builtin
 use Rattle.isle_core.specs.declared.types.TypeDef.{TypeDef}
 use Rattle.isle_core.specs.declared.types.TypeDef.TheVariants as def
 use Rattle.isle_core.specs.BuiltinType.{IsBuiltinDef, IsBuiltinType}
-use Rattle.isle_core.specs.HasType.{IsHeld, IsOfDef, HasType}
+use Rattle.isle_core.specs.HasType.{IsReduced, IsOfDef, HasType}
 use Rattle.isle_core.specs.Value.{Value, Truth, Int}
 use Rattle.isle_core.specs.Rule.{Environment}
 
 -- zero is a number of each integer type
-zero_held : (ty : IntType) → IsHeld ty (pos 0)
+zero_held : (ty : IntType) → IsReduced ty (pos 0)
 zero_held U8 = omega arith
 zero_held U16 = omega arith
 zero_held U32 = omega arith

@@ -4,21 +4,21 @@ use Rattle.std.specs.Prelude.{IfSome}
 use Rattle.std.specs.String.{string_bytes}
 use Rattle.std.proofs.lemmas.Option.{slice_get_read, slice_get-map}
 use Rattle.std.proofs.lemmas.List.{take-map, take_more, length-map, map-append}
-use Rattle.isle_outside.specs.Directory.{Files, bytes_of, Counts, raised}
-use Rattle.isle_outside.specs.Reading.{IsText, IsCause, Answers, CountsFault, RoseAt}
+use Rattle.isle_outside.specs.Directory.{Contents, bytes_of, Counts, raised}
+use Rattle.isle_outside.specs.Reading.{IsText, IsCause, ReadsFile, CountsFault, RoseAt}
 use Rattle.isle_outside.specs.declared.errors.IoCause.{IoCause}
 use Rattle.isle_outside.specs.declared.errors.ReadFail.{ReadFail}
 use Rattle.isle_outside.specs.declared.errors.ReadFail.TheVariants as fail
 use Rattle.isle_core.specs.Inputs.{bytes_each, AreRead, Fails, FailsAt, IsTried, failure_at}
 
-one_more : (files : Files) (names texts : List (List ℕ)) (name text : List ℕ) → AreRead files names texts → IsText text (bytes_of files name) → AreRead files (names ++ name ∷ []) (texts ++ text ∷ [])
+one_more : (files : Contents) (names texts : List (List ℕ)) (name text : List ℕ) → AreRead files names texts → IsText text (bytes_of files name) → AreRead files (names ++ name ∷ []) (texts ++ text ∷ [])
 one_more files [] [] name text h k = (k, tt)
 one_more files (n ∷ names) (t ∷ texts) name text h k = (h.0, one_more files names texts name text h.1 k)
 one_more files [] (t ∷ texts) name text h k = absurd h
 one_more files (n ∷ names) [] name text h k = absurd h
 
 -- the next input is read too
-pub read_more : (files : Option Files) (names : List (String Global)) (texts : List (List ℕ)) (i : ℕ) (x : String Global) (text : List ℕ)
+pub read_more : (files : Option Contents) (names : List (String Global)) (texts : List (List ℕ)) (i : ℕ) (x : String Global) (text : List ℕ)
     → i < length names → x ≡ get_or names i x → IfSome files (λ fs. AreRead fs (bytes_each (take i names)) texts)
     → IfSome files (λ fs. IsText text (bytes_of fs (string_bytes x))) → IfSome files (λ fs. AreRead fs (bytes_each (take (i + 1) names)) (texts ++ text ∷ []))
 read_more None names texts i x text lt is h k = tt
@@ -35,7 +35,7 @@ rose_at : (why : IoCause) (start before after : ℕ) → before ≡ start → Ro
 rose_at why start before after h r = rw (← h) r
 
 -- the input at the place is the first that is not read
-fails_here : (why : IoCause) (files : Option Files) (names : List (String Global)) (texts : List (List ℕ)) (i : ℕ) (x : String Global)
+fails_here : (why : IoCause) (files : Option Contents) (names : List (String Global)) (texts : List (List ℕ)) (i : ℕ) (x : String Global)
     → i < length names → x ≡ get_or names i x → IfSome files (λ fs. AreRead fs (bytes_each (take i names)) texts)
     → IfSome files (λ fs. IsCause why (bytes_of fs (string_bytes x))) → IfSome files (λ fs. FailsAt fs (bytes_each names) i why)
 fails_here why None names texts i x lt is r f = tt
@@ -45,9 +45,9 @@ fails_here why (Some fs) names texts i x lt is r f = record {
 }
 
 -- the failure of the input at the place
-pub fails_at : (f : ReadFail) (files : Option Files) (names : List (String Global)) (texts : List (List ℕ)) (i : ℕ) (x : String Global) (old before after : Counts)
+pub fails_at : (f : ReadFail) (files : Option Contents) (names : List (String Global)) (texts : List (List ℕ)) (i : ℕ) (x : String Global) (old before after : Counts)
     → i < length names → x ≡ get_or names i x → IfSome files (λ fs. AreRead fs (bytes_each (take i names)) texts)
-    → IfSome files (λ fs. Answers {X = String Global} string_bytes (Err f) (bytes_of fs (string_bytes x)))
+    → IfSome files (λ fs. ReadsFile {X = String Global} string_bytes (Err f) (bytes_of fs (string_bytes x)))
     → (let r : Result (String Global) ReadFail = Err f in CountsFault r before.faults after.faults) → before.faults ≡ old.faults
     → IsTried i old before → after.finds ≡ raised 1 before.finds
     → Fails (failure_at i f) files (bytes_each names) old after

@@ -10,7 +10,7 @@ use Rattle.isle_core.specs.Match.{Names}
 use Rattle.isle_core.specs.Path.{Path, Arg, Called, Inner, Paths, NoPath, APath}
 use Rattle.isle_core.specs.RightSide.{path_or, call_path, answer_path, path, paths}
 use Rattle.isle_core.specs.Tests.{Places, no_places, met_after, after, args_after}
-use Rattle.isle_core.specs.Held.{Known, nothing_known, inner_held, value_before, call_held, value_at, values_at}
+use Rattle.isle_core.specs.ValueAt.{Known, nothing_known, inner_held, value_before, call_held, value_at, values_at}
 use Rattle.isle_core.specs.Rule.{Environment}
 use Rattle.isle_core.proofs.PatternTests.{StandsAt, Agree}
 

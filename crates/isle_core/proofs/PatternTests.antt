@@ -12,7 +12,7 @@ use Rattle.isle_core.specs.Pattern.{Pattern, Var, ConstBool, ConstInt, Wildcard}
 use Rattle.isle_core.specs.Match.{Names, no_names, with, if_holds, met, matches, matches_all}
 use Rattle.isle_core.specs.Path.{Path, Arg}
 use Rattle.isle_core.specs.Tests.{Places, no_places, met_tests, met_after, tests, after, args_tests, args_after}
-use Rattle.isle_core.specs.Held.{Held, a_value, held, meets, equal_held, holds, all_hold}
+use Rattle.isle_core.specs.ValueAt.{Held, a_value, held, meets, equal_held, holds, all_hold}
 use Rattle.isle_core.specs.BuiltRule.{IsBuiltPattern}
 use Rattle.isle_core.specs.Rule.{Environment}
 

@@ -14,7 +14,7 @@ use Rattle.isle_core.specs.Pattern as pure_pattern
 use Rattle.isle_core.specs.Pattern.{Pattern}
 use Rattle.isle_core.specs.Expr as pure_expr
 use Rattle.isle_core.specs.Expr.{Expr}
-use Rattle.isle_core.specs.RuleViews.{patterns_of, pattern_step, pattern, exprs_of, expr_step, Bound, bound_step, expr}
+use Rattle.isle_core.specs.RuleViews.{patterns_of, pattern_step, pattern, exprs_of, expr_step, SeenBinding, bound_step, expr}
 
 pub pattern-bind : (ty : TypeId) (x : VarId) (p : CodePattern) → pattern (code_pattern.BindPattern ty x p) ≡ pure_pattern.BindPattern ty x (pattern p)
 pattern-bind ty x p = ap pattern (sym (code_pattern.rolls-BindPattern ty x p)) ∙ fold-roll-Pattern Pattern pattern_step _
@@ -41,18 +41,18 @@ pub pattern-and : (ty : TypeId) (ps : List CodePattern) → pattern (code_patter
 pattern-and ty ps = ap pattern (sym (code_pattern.rolls-And ty ps)) ∙ fold-roll-Pattern Pattern pattern_step _
 
 pub expr-term : (ty : TypeId) (term : TermId) (es : List CodeExpr) → expr (code_expr.Term ty term es) ≡ pure_expr.Term ty term (exprs_of (map expr es))
-expr-term ty term es = ap expr (sym (code_expr.rolls-Term ty term es)) ∙ fold-roll-Expr Expr Bound expr_step bound_step _
+expr-term ty term es = ap expr (sym (code_expr.rolls-Term ty term es)) ∙ fold-roll-Expr Expr SeenBinding expr_step bound_step _
 
 pub expr-var : (ty : TypeId) (x : VarId) → expr (code_expr.Var ty x) ≡ pure_expr.Var ty x
-expr-var ty x = ap expr (sym (code_expr.rolls-Var ty x)) ∙ fold-roll-Expr Expr Bound expr_step bound_step _
+expr-var ty x = ap expr (sym (code_expr.rolls-Var ty x)) ∙ fold-roll-Expr Expr SeenBinding expr_step bound_step _
 
 pub expr-bool : (b : Bool) → expr (code_expr.ConstBool b) ≡ pure_expr.ConstBool b
-expr-bool b = ap expr (sym (code_expr.rolls-ConstBool b)) ∙ fold-roll-Expr Expr Bound expr_step bound_step _
+expr-bool b = ap expr (sym (code_expr.rolls-ConstBool b)) ∙ fold-roll-Expr Expr SeenBinding expr_step bound_step _
 
 pub expr-int : (ty : TypeId) (n : ℤ) → expr (code_expr.ConstInt ty n) ≡ pure_expr.ConstInt ty n
-expr-int ty n = ap expr (sym (code_expr.rolls-ConstInt ty n)) ∙ fold-roll-Expr Expr Bound expr_step bound_step _
+expr-int ty n = ap expr (sym (code_expr.rolls-ConstInt ty n)) ∙ fold-roll-Expr Expr SeenBinding expr_step bound_step _
 
 pub expr-prim : (ty : TypeId) (name : Sym) → expr (code_expr.ConstPrim ty name) ≡ pure_expr.ConstPrim ty name
-expr-prim ty name = ap expr (sym (code_expr.rolls-ConstPrim ty name)) ∙ fold-roll-Expr Expr Bound expr_step bound_step _
+expr-prim ty name = ap expr (sym (code_expr.rolls-ConstPrim ty name)) ∙ fold-roll-Expr Expr SeenBinding expr_step bound_step _
 
 pub ruleset sees = (pattern-bind, pattern-var, pattern-bool, pattern-int, pattern-prim, pattern-term, pattern-wildcard, pattern-and, expr-term, expr-var, expr-bool, expr-int, expr-prim)

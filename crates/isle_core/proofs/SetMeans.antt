@@ -18,7 +18,7 @@ use Rattle.isle_core.specs.Path.{Path, Arg, at}
 use Rattle.isle_core.specs.OrderedCalls.{rule_calls}
 use Rattle.isle_core.specs.RightSide.{rule_result}
 use Rattle.isle_core.specs.Tests.{no_places, args_tests, args_after, iflets_tests, rule_tests, rule_places}
-use Rattle.isle_core.specs.Held.{Known, nothing_known, value_at, holds, all_hold}
+use Rattle.isle_core.specs.ValueAt.{Known, nothing_known, value_at, holds, all_hold}
 use Rattle.isle_core.specs.CallRun.{Went, Goes, Ends, then_go, returns, run_calls}
 use Rattle.isle_core.specs.RuleSet.{flat_tests, flat_holds, gave, flat_run, higher, highest, given, set_outcome}
 use Rattle.isle_core.specs.StandsFor.{IsFlat, AreFlat}

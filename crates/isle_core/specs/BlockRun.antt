@@ -7,7 +7,7 @@ use Rattle.isle_core.specs.Meaning.{Meaning}
 use Rattle.isle_core.specs.Outcome.{Prescription}
 use Rattle.isle_core.specs.Path.{Path, Inner, at}
 use Rattle.isle_core.specs.Answered.{Held}
-use Rattle.isle_core.specs.Held.{Known, nothing_known, value_at, meets, equal_held}
+use Rattle.isle_core.specs.ValueAt.{Known, nothing_known, value_at, meets, equal_held}
 use Rattle.isle_core.specs.CallRun.{Went, Goes, then_go, returns, make, unless_nothing}
 use Rattle.isle_core.specs.RuleSet.{gave}
 use Rattle.isle_core.specs.Block.{Block, Stop, Step, Control, Match, Equal, Loop, Return, Arms, NoArm, Arm}

@@ -8,7 +8,7 @@ use Rattle.isle_core.specs.Answered.{AValue, ATuple, Held, Absent, One, Optional
 use Rattle.isle_core.specs.Match.{with}
 use Rattle.isle_core.specs.Outcome.{Result, Value', Failure, Prescription}
 use Rattle.isle_core.specs.Path.{Path, Called}
-use Rattle.isle_core.specs.Held.{Known, value_at, values_at}
+use Rattle.isle_core.specs.ValueAt.{Known, value_at, values_at}
 use Rattle.isle_core.specs.Rule.{Environment}
 
 -- a run goes on, with the answers known and the calls made, or it ends

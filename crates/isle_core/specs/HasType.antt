@@ -22,9 +22,9 @@ use Rattle.isle_core.specs.Terms.{sym_text}
 -- ---- numbers
 
 -- a number as a value of the type holds it: u128 as its 128 signed bits
-abbrev pub IsHeld : IntType → ℤ → Type 0
-IsHeld int.U128 n = FitsSigned w128 n
-IsHeld ty n = IsOf ty n
+abbrev pub IsReduced : IntType → ℤ → Type 0
+IsReduced int.U128 n = FitsSigned w128 n
+IsReduced ty n = IsOf ty n
 
 -- bool takes the truths
 abbrev pub TakesTruths : TypeDef → Type 0
@@ -36,7 +36,7 @@ TakesTruths (def.Struct name is_extern is_nodebug fields pos) = ⊥
 
 -- an integer type takes its numbers
 abbrev pub TakesInteger : TypeDef → IntType → ℤ → Type 0
-TakesInteger (def.Builtin (builtin.Int ty)) of n = (of ≡ ty) × IsHeld ty n
+TakesInteger (def.Builtin (builtin.Int ty)) of n = (of ≡ ty) × IsReduced ty n
 TakesInteger (def.Builtin builtin.Bool) of n = ⊥
 TakesInteger (def.Primitive name rust pos) of n = ⊥
 TakesInteger (def.Enum name is_extern is_nodebug variants pos) of n = ⊥

@@ -24,7 +24,7 @@ pub mod Tests
 pub mod RightSide
 pub mod OrderedCalls
 pub mod RulePaths
-pub mod Held
+pub mod ValueAt
 pub mod CallRun
 pub mod RuleSet
 pub mod StandsFor
@@ -42,7 +42,7 @@ pub mod Occurrences
 pub mod ArmPlaces
 pub mod BlockLawful
 pub mod SingleArms
-pub mod Ready
+pub mod Serializable
 pub mod Having
 pub mod CalledTerms
 pub mod OccurringConstants

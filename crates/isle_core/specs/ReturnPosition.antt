@@ -6,7 +6,7 @@ use Rattle.isle_core.specs.Value.{Value, Made}
 use Rattle.isle_core.specs.Meaning.{Meaning}
 use Rattle.isle_core.specs.Path.{Path, at}
 use Rattle.isle_core.specs.Answered.{Held}
-use Rattle.isle_core.specs.Held.{Known, nothing_known, value_at, meets, equal_held}
+use Rattle.isle_core.specs.ValueAt.{Known, nothing_known, value_at, meets, equal_held}
 use Rattle.isle_core.specs.CallRun.{Went, Goes, Ends, run_calls}
 use Rattle.isle_core.specs.RuleSet.{flat_holds, highest}
 use Rattle.isle_core.specs.Block.{Block, Stop, Step, Control, Match, Equal, Loop, Return, Arms, NoArm, Arm}

@@ -10,7 +10,7 @@ use Rattle.isle_core.specs.Meaning.{Meaning}
 use Rattle.isle_core.specs.Outcome.{Prescription, unmatched}
 use Rattle.isle_core.specs.Path.{Path, at}
 use Rattle.isle_core.specs.Tests.{Test, Is, Equal}
-use Rattle.isle_core.specs.Held.{nothing_known, value_at, all_hold}
+use Rattle.isle_core.specs.ValueAt.{nothing_known, value_at, all_hold}
 use Rattle.isle_core.specs.CallRun.{Went, Goes, Ends, then_go, returns, run_calls}
 use Rattle.isle_core.specs.Rule.{Environment}
 

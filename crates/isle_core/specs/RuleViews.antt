@@ -47,16 +47,16 @@ exprs_of [] = NoExpr
 exprs_of (e ∷ es) = AnExpr e (exprs_of es)
 
 -- a binding of a `let`, its value seen already
-abbrev pub Bound : Type 0
+abbrev pub SeenBinding : Type 0
 Bound = VarId × TypeId × Expr
 
 -- bindings of a list
-abbrev pub bindings_of : List Bound → LetBindings
+abbrev pub bindings_of : List SeenBinding → LetBindings
 bindings_of [] = NoBinding
 bindings_of (b ∷ bs) = ABinding b.0 b.1 b.2 (bindings_of bs)
 
 -- one expression, where those inside it are seen already
-abbrev pub expr_step : Expr-F Expr Bound → Expr
+abbrev pub expr_step : Expr-F Expr SeenBinding → Expr
 expr_step (code_expr.Term ty term args) = pure_expr.Term ty term (exprs_of args)
 expr_step (code_expr.Var ty var) = pure_expr.Var ty var
 expr_step (code_expr.ConstBool b) = pure_expr.ConstBool b
@@ -65,12 +65,12 @@ expr_step (code_expr.ConstPrim ty name) = pure_expr.ConstPrim ty name
 expr_step (code_expr.Let ty bindings inner) = pure_expr.Let ty (bindings_of bindings) inner
 
 -- one binding
-abbrev pub bound_step : LetBinding-F Expr Bound → Bound
+abbrev pub bound_step : LetBinding-F Expr SeenBinding → SeenBinding
 bound_step b = (b.var, b.ty, b.val)
 
 -- an expression
 abbrev pub expr : CodeExpr → Expr
-expr = fold-Expr Expr Bound expr_step bound_step
+expr = fold-Expr Expr SeenBinding expr_step bound_step
 
 -- a condition
 abbrev pub iflet : CodeIfLet → IfLet

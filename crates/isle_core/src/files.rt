@@ -86,7 +86,7 @@ fn name_shown(alloc: Global, name: &str, prefixes: &[Prefix]) -> Result<Text, Ou
     ensures { IfOk result (λ printed. printed ≡ shown prefixes.now name.now) }
 {
     for p in prefixes {
-        if let Some(rest) = behind(name, p.prefix.as_str()) {
+        if let Some(rest) = after_prefix(name, p.prefix.as_str()) {
             let mut printed = String::from_str(alloc, p.name.as_str())?;
             printed.push_str(rest)?;
             return Ok(Text::new(printed));
@@ -96,7 +96,7 @@ fn name_shown(alloc: Global, name: &str, prefixes: &[Prefix]) -> Result<Text, Ou
 }
 
 // What stands behind the prefix, where the name begins with it.
-fn behind<'a>(name: &'a str, prefix: &str) -> Option<&'a str>
+fn after_prefix<'a>(name: &'a str, prefix: &str) -> Option<&'a str>
     ensures { option_copied result ≡ after_prefix prefix.now name.now }
 {
     name.strip_prefix(prefix)

@@ -1,14 +1,14 @@
 //! The numbers of an integer type.
 
 ghost use Rattle.std.specs.Prelude.{◌↔◌, IsTrue};
-ghost use Rattle.isle_core.specs.HasType.{IsHeld};
+ghost use Rattle.isle_core.specs.HasType.{IsReduced};
 
 use crate::types::IntType;
 
 impl IntType {
     /// Tells whether a number is one of the type, as a value holds it: `u128` as its 128 signed bits.
     pub fn holds(self, number: i128) -> bool
-        ensures { IsTrue result ↔ IsHeld self number }
+        ensures { IsTrue result ↔ IsReduced self number }
     {
         match self {
             IntType::U8 => (0..0x100).contains(&number),

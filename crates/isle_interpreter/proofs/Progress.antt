@@ -11,7 +11,7 @@ use Rattle.isle_core.specs.Value.{Value, Made, End, GivesSome}
 use Rattle.isle_core.specs.SameInRun.{same_in_run}
 use Rattle.isle_core.specs.Meaning.{Meaning}
 use Rattle.isle_core.specs.Answered.{AValue, ATuple, Held, Absent, One, Optional, Listed, a_value, an_option, answer_held, answer}
-use Rattle.isle_core.specs.Held.{held, value_before}
+use Rattle.isle_core.specs.ValueAt.{held, value_before}
 use Rattle.isle_tree.specs.declared.holds.Holds.{Holds}
 use Rattle.isle_tree.specs.declared.holds.Holds.TheVariants as holds
 use Rattle.isle_tree.specs.declared.holds.Item.TheVariants as item

@@ -5,7 +5,7 @@ use Rattle.isle_core.specs.declared.types.ReturnKind.TheVariants as kind
 use Rattle.isle_core.specs.declared.values.Callee.{Callee}
 use Rattle.isle_core.specs.declared.values.Callee.TheVariants as callee
 use Rattle.isle_core.specs.Value.{Value, Truth, Int, Answer, Plain, Found, Nothing}
-use Rattle.isle_core.specs.HasType.{IsHeld}
+use Rattle.isle_core.specs.HasType.{IsReduced}
 use Rattle.isle_printer.specs.Bytes.{same_bytes}
 use Rattle.isle_tree.specs.declared.tree.Ty.{Ty}
 use Rattle.isle_tree.specs.declared.tree.TraitFn.{TraitFn}
@@ -40,7 +40,7 @@ signature_of p (callee.Internal term) = option_map term_signature (function_of t
 -- a value of the type of this name; only bool and the integer types are built
 abbrev pub IsNamed : List ℕ → Value → Type 0
 IsNamed name (Truth b) = IsTrue (same_bytes (codes "bool") name)
-IsNamed name (Int ty n) = (type_named name ≡ Some ty) × IsHeld ty n
+IsNamed name (Int ty n) = (type_named name ≡ Some ty) × IsReduced ty n
 IsNamed name v = ⊥
 
 -- as many values as names, each of its type

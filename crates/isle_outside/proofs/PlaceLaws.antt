@@ -10,7 +10,7 @@ use Rattle.std.proofs.lemmas.Option.{slice_get-get_or, slice_get_read}
 use Rattle.std.proofs.lemmas.List.{drop-drop, length-drop, map-append, take_more}
 use Rattle.std.proofs.lemmas.List.Elements.{filter_map-append}
 use Rattle.std.proofs.Math.Bool.{or-true}
-use Rattle.isle_outside.specs.Directory.{Reading, InFolder, Gives, IsReading, behind, directly_in, plain, bytes_of, is_folder}
+use Rattle.isle_outside.specs.Directory.{Reading, InFolder, GivesNext, IsReading, inside_folder, directly_in, plain, bytes_of, is_folder}
 use Rattle.isle_outside.specs.Memory.{Kept, current_at, file_of, files_of, folder_before, left_in, reading_from, written}
 use Rattle.isle_outside.specs.declared.mem_dir.State.TheVariants as state
 use Rattle.isle_outside.proofs.NameLaws.{front_of_name}
@@ -21,7 +21,7 @@ has_name name kept = bytes_eq (string_bytes kept.0) name
 
 -- the test for a folder
 abbrev pub lies_below : List ℕ → Kept → Bool
-lies_below name kept = is_some (behind name (string_bytes kept.0))
+lies_below name kept = is_some (inside_folder name (string_bytes kept.0))
 
 -- a search that finds nothing fails at each place
 none_at : {X : Type 0} (t : Bool) (k : ℕ) (r : Option ℕ) (x y goal : X) → cond t (Some k) r ≡ None → (r ≡ None → y ≡ goal) → cond t x y ≡ goal
@@ -105,7 +105,7 @@ same_file files name bytes i x kept e is held =
 
 -- the next bytes of a kept file
 pub gives_part : (files : List Kept) (file at n : ℕ) (x : Kept) (buf : List ℕ) → file < length files → x ≡ get_or files file x → 0 < n → at + n ≤ length x.1.items → take n buf ≡ take n (drop at x.1.items)
-    → Gives (current_at (state.Reading file at) files) (reading_from (slice_get files file) (at + n)) n buf
+    → GivesNext (current_at (state.Reading file at) files) (reading_from (slice_get files file) (at + n)) n buf
 gives_part files file at n x buf lt is some within same =
     rw (slice_get_read files (length files) file x refl lt is)
     (omega (arith, length-drop at x.1.items), same, ap (λ (left : List ℕ). Reading (Some left)) (sym (drop-drop n at x.1.items)), λ z. absurd (omega arith))
@@ -122,12 +122,12 @@ reads_within (x ∷ files) (suc file) at reading = omega (arith, reads_within fi
 
 -- the names in a folder with those of one more file
 pub more_entries : (files : List Kept) (i : ℕ) (x : Kept) (folder : List ℕ) (had names : List (List ℕ)) → i < length files → x ≡ get_or files i x → had ≡ directly_in (files_of (take i files)) folder
-    → names ≡ had ++ cons_option (option_and_then plain (behind folder (string_bytes x.0))) [] → names ≡ directly_in (files_of (take (i + 1) files)) folder
+    → names ≡ had ++ cons_option (option_and_then plain (inside_folder folder (string_bytes x.0))) [] → names ≡ directly_in (files_of (take (i + 1) files)) folder
 more_entries files i x folder had names lt is before new =
-    new ∙ ap (λ front. front ++ cons_option (option_and_then plain (behind folder (string_bytes x.0))) []) before
+    new ∙ ap (λ front. front ++ cons_option (option_and_then plain (inside_folder folder (string_bytes x.0))) []) before
     ∙ sym (ap (λ fs. directly_in (files_of fs) folder) (take_more files i x lt ∙ ap (λ y. take i files ++ y ∷ []) (sym is))
     ∙ ap (λ fs. directly_in fs folder) (map-append file_of (take i files) (x ∷ []))
-    ∙ filter_map-append (λ file. option_and_then plain (behind folder file.0)) (files_of (take i files)) (file_of x ∷ []))
+    ∙ filter_map-append (λ file. option_and_then plain (inside_folder folder file.0)) (files_of (take i files)) (file_of x ∷ []))
 
 -- the names with one that was pushed
 pub pushed_entry : (had names : List (String Global)) (text : String Global) (name : List ℕ) (entry : Option (List ℕ)) → names ≡ had ++ text ∷ [] → string_bytes text ≡ name → Some name ≡ entry

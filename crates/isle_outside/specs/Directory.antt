@@ -7,8 +7,8 @@ use Rattle.isle_outside.specs.declared.dir.Found.{Found}
 use Rattle.isle_outside.specs.declared.dir.Found.TheVariants.{Absent, File, Folder}
 
 -- the files of a directory: a name and the bytes of each
-abbrev pub Files : Type 0
-Files = List (List ℕ × List ℕ)
+abbrev pub Contents : Type 0
+Contents = List (List ℕ × List ℕ)
 
 -- what is current: nothing, a file with its bytes left where the directory tells them, or a folder
 pub data Current : Type 0 where
@@ -17,28 +17,28 @@ pub data Current : Type 0 where
   InFolder : (name : List ℕ) → Current
 
 -- the bytes of the first file of the name
-abbrev pub bytes_of : Files → List ℕ → Option (List ℕ)
+abbrev pub bytes_of : Contents → List ℕ → Option (List ℕ)
 bytes_of [] name = None
 bytes_of (file ∷ files) name = if bytes_eq file.0 name then Some file.1 else bytes_of files name
 
 -- what stands in a file's name behind the folder's name and a slash
-abbrev pub behind : List ℕ → List ℕ → Option (List ℕ)
-behind [] [] = None
-behind [] (b ∷ file) = if b == 47 then Some file else None
-behind (c ∷ folder) [] = None
-behind (c ∷ folder) (b ∷ file) = if b == c then behind folder file else None
+abbrev pub inside_folder : List ℕ → List ℕ → Option (List ℕ)
+inside_folder [] [] = None
+inside_folder [] (b ∷ file) = if b == 47 then Some file else None
+inside_folder (c ∷ folder) [] = None
+inside_folder (c ∷ folder) (b ∷ file) = if b == c then inside_folder folder file else None
 
 -- a name that stands before a slash in a file's name
-abbrev pub is_folder : Files → List ℕ → Bool
-is_folder files name = list_any (λ file. is_some (behind name file.0)) files
+abbrev pub is_folder : Contents → List ℕ → Bool
+is_folder files name = list_any (λ file. is_some (inside_folder name file.0)) files
 
 -- a name in which no slash stands
 abbrev pub plain : List ℕ → Option (List ℕ)
 plain name = if list_any (λ b. b == 47) name then None else Some name
 
 -- the names of the files that lie directly in the folder
-abbrev pub directly_in : Files → List ℕ → List (List ℕ)
-directly_in files folder = filter_map (λ file. option_and_then plain (behind folder file.0)) files
+abbrev pub directly_in : Contents → List ℕ → List (List ℕ)
+directly_in files folder = filter_map (λ file. option_and_then plain (inside_folder folder file.0)) files
 
 -- the counts of a directory, each up to 2^64 - 1: how often it failed, how often a name was looked up, and how many bytes
 -- of files it gave
@@ -56,7 +56,7 @@ abbrev pub Rose : ℕ → ℕ → Type 0
 Rose before after = (before < after) ⊎ (before ≡ 2 ^ 64 - 1)
 
 -- what `find` may answer, and what is current then
-abbrev pub Finds : Option Files → List ℕ → Found → Current → Type 0
+abbrev pub Finds : Option Contents → List ℕ → Found → Current → Type 0
 Finds None name File now = now ≡ Reading None
 Finds None name Folder now = now ≡ InFolder name
 Finds None name Absent now = now ≡ Nothing
@@ -71,36 +71,36 @@ IsReading Nothing = ⊥
 IsReading (InFolder name) = ⊥
 
 -- what `next` may give: n bytes at the front of the buffer, and none only at the end
-abbrev pub Gives : Current → Current → ℕ → List ℕ → Type 0
-Gives (Reading None) now n buf = now ≡ Reading None
-Gives (Reading (Some left)) now n buf = (n ≤ length left) × (take n buf ≡ take n left) × (now ≡ Reading (Some (drop n left))) × (n ≡ 0 → left ≡ [])
-Gives Nothing now n buf = ⊥
-Gives (InFolder name) now n buf = ⊥
+abbrev pub GivesNext : Current → Current → ℕ → List ℕ → Type 0
+GivesNext (Reading None) now n buf = now ≡ Reading None
+GivesNext (Reading (Some left)) now n buf = (n ≤ length left) × (take n buf ≡ take n left) × (now ≡ Reading (Some (drop n left))) × (n ≡ 0 → left ≡ [])
+GivesNext Nothing now n buf = ⊥
+GivesNext (InFolder name) now n buf = ⊥
 
 -- the names are those of the files directly in the folder, in any order
-abbrev pub Lists : Option Files → List ℕ → List (List ℕ) → Type 0
+abbrev pub Lists : Option Contents → List ℕ → List (List ℕ) → Type 0
 Lists files folder names = IfSome files (λ fs. IsPermutation (directly_in fs folder) names)
 
 -- every file but that of the name is as before
-abbrev pub KeepsOthers : Option Files → Option Files → List ℕ → Type 0
+abbrev pub KeepsOthers : Option Contents → Option Contents → List ℕ → Type 0
 KeepsOthers None new name = new ≡ None
 KeepsOthers (Some old) new name = IsSomeAnd new (λ fs. (other : List ℕ) → (other ≡ name → ⊥) → bytes_of fs other ≡ bytes_of old other)
 
 -- the file of the name holds the bytes, where the directory tells
-abbrev pub Holds : Option Files → List ℕ → List ℕ → Type 0
+abbrev pub Holds : Option Contents → List ℕ → List ℕ → Type 0
 Holds files name bytes = IfSome files (λ fs. bytes_of fs name ≡ Some bytes)
 
 -- how many entries of a name there are
-abbrev pub entries_of : Files → List ℕ → ℕ
+abbrev pub entries_of : Contents → List ℕ → ℕ
 entries_of [] name = 0
 entries_of (file ∷ files) name = if bytes_eq file.0 name then entries_of files name + 1 else entries_of files name
 
 -- the file of a name joins no second entry of the name, and every other name has the entries that it had
-pub record AddsNoSecond (old new : Files) (name : List ℕ) : Type 0 where
+pub record AddsNoSecond (old new : Contents) (name : List ℕ) : Type 0 where
   pub here : entries_of new name ≤ max 1 (entries_of old name)
   pub others : (other : List ℕ) → (other ≡ name → ⊥) → entries_of new other ≡ entries_of old other
 
 -- the same where the directory tells its files
-abbrev pub KeepsEntries : Option Files → Option Files → List ℕ → Type 0
+abbrev pub KeepsEntries : Option Contents → Option Contents → List ℕ → Type 0
 KeepsEntries None new name = new ≡ None
 KeepsEntries (Some old) new name = IsSomeAnd new (λ fs. AddsNoSecond old fs name)

@@ -3,7 +3,7 @@ use Rattle.std.specs.Prelude.{◌≡◌, ℕ, ◌^◌, ◌+◌, ◌-◌, List, [
 use Rattle.std.specs.String.{string_bytes}
 use Rattle.std.specs.Str.{bytes_eq}
 use Rattle.std.specs.declared.alloc.Global.{Global}
-use Rattle.isle_outside.specs.Directory.{Files, Current, Nothing, Reading, InFolder, Counts}
+use Rattle.isle_outside.specs.Directory.{Contents, Current, Nothing, Reading, InFolder, Counts}
 use Rattle.isle_outside.specs.Failures.{counted, is_failing}
 use Rattle.isle_outside.specs.declared.mem_dir.MemDir.{MemDir}
 use Rattle.isle_outside.specs.declared.mem_dir.State.{State}
@@ -18,7 +18,7 @@ abbrev pub file_of : Kept → List ℕ × List ℕ
 file_of kept = (string_bytes kept.0, kept.1.items)
 
 -- the files that are kept, in their order
-abbrev pub files_of : List Kept → Files
+abbrev pub files_of : List Kept → Contents
 files_of = map file_of
 
 -- the bytes of the kept file from a place on
@@ -38,7 +38,7 @@ current_at (state.Reading file at) files = reading_from (slice_get files file) a
 current_at (state.Folder file len) files = folder_before (slice_get files file) len
 
 -- the files of a directory in memory
-abbrev pub files_in : MemDir → Files
+abbrev pub files_in : MemDir → Contents
 files_in dir = files_of dir.files.items
 
 -- what is current in a directory in memory
@@ -77,6 +77,6 @@ IsCounted old new failed = (failed ≡ is_failing old.failures.calls old.failure
     × (new.faults ≡ counted failed old.faults)
 
 -- the files with these bytes in the first file of the name, or in a new file at their end
-abbrev pub written : Files → List ℕ → List ℕ → Files
+abbrev pub written : Contents → List ℕ → List ℕ → Contents
 written [] name bytes = (name, bytes) ∷ []
 written (file ∷ files) name bytes = if bytes_eq file.0 name then (file.0, bytes) ∷ files else file ∷ written files name bytes

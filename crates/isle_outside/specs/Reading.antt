@@ -19,10 +19,10 @@ abbrev pub IsText : List ℕ → Option (List ℕ) → Type 0
 IsText text file = (file ≡ Some text) × (length text ≤ 2 ^ 24) × IsUtf8 text
 
 -- the answer to reading a file, where its directory tells it; `view` shows the bytes of what was read
-abbrev pub Answers : {X : Type 0} → (X → List ℕ) → Result X ReadFail → Option (List ℕ) → Type 0
-Answers view (Ok x) file = IsText (view x) file
-Answers view (Err (fail.Io why)) file = IsCause why file
-Answers view (Err fail.Memory) file = Unit {0}
+abbrev pub ReadsFile : {X : Type 0} → (X → List ℕ) → Result X ReadFail → Option (List ℕ) → Type 0
+ReadsFile view (Ok x) file = IsText (view x) file
+ReadsFile view (Err (fail.Io why)) file = IsCause why file
+ReadsFile view (Err fail.Memory) file = Unit {0}
 
 -- of the file's bytes at most so many were taken, where the directory tells them
 abbrev pub TakenAtMost : ℕ → Option (List ℕ) → Current → Type 0
@@ -45,13 +45,13 @@ Front Nothing now bytes = ⊥
 Front (InFolder name) now bytes = ⊥
 
 -- the answer to reading all bytes that are left; `view` shows those that were read
-abbrev pub Told : {X : Type 0} → (X → List ℕ) → Result X ReadFail → List ℕ → Type 0
-Told view (Ok x) all = (view x ≡ all) × (length all ≤ 2 ^ 24)
-Told view (Err (fail.Io cause.TooLong)) all = 2 ^ 24 < length all
-Told view (Err (fail.Io cause.Fault)) all = Unit {0}
-Told view (Err (fail.Io cause.Absent)) all = ⊥
-Told view (Err (fail.Io cause.NotUtf8)) all = ⊥
-Told view (Err fail.Memory) all = Unit {0}
+abbrev pub ReadsRest : {X : Type 0} → (X → List ℕ) → Result X ReadFail → List ℕ → Type 0
+ReadsRest view (Ok x) all = (view x ≡ all) × (length all ≤ 2 ^ 24)
+ReadsRest view (Err (fail.Io cause.TooLong)) all = 2 ^ 24 < length all
+ReadsRest view (Err (fail.Io cause.Fault)) all = Unit {0}
+ReadsRest view (Err (fail.Io cause.Absent)) all = ⊥
+ReadsRest view (Err (fail.Io cause.NotUtf8)) all = ⊥
+ReadsRest view (Err fail.Memory) all = Unit {0}
 
 -- the count of faults rose where the cause is a fault, and is what it was where it is another
 abbrev pub RoseAt : IoCause → ℕ → ℕ → Type 0

@@ -1,6 +1,6 @@
 ghost use Rattle.std.specs.Prelude.{◌≡◌, ◌-◌, ◌^◌, ◌≤◌, ◌<◌, Option, None, Err, false, length, take, map, IfOk, OnOk, OnErr};
 ghost use Rattle.std.specs.String.{string_bytes};
-ghost use Rattle.isle_outside.specs.Directory.{Files, Current, Nothing, InFolder, Finds, IsReading, Gives, Lists, KeepsOthers, KeepsEntries, Holds, Counts, raised, Rose};
+ghost use Rattle.isle_outside.specs.Directory.{Contents, Current, Nothing, InFolder, Finds, IsReading, GivesNext, Lists, KeepsOthers, KeepsEntries, Holds, Counts, raised, Rose};
 ghost use Rattle.isle_outside.specs.Failures.{is_fault};
 
 use crate::errors::{DirFault, Failed};
@@ -21,7 +21,7 @@ pub enum Found {
 /// `write_file` nothing is current.
 pub trait Dir {
     /// The files, where it tells them.
-    ghost files: { Self → Option Files };
+    ghost files: { Self → Option Contents };
 
     /// What is current.
     ghost current: { Self → Current };
@@ -46,7 +46,7 @@ pub trait Dir {
         requires reading { IsReading (current self.old) }
         requires room { 0 < length buf.old }
         ensures within { IfOk result (λ n. n ≤ length buf.new) }
-        ensures gives { IfOk result (λ n. Gives (current self.old) (current self.new) n buf.new) }
+        ensures gives { IfOk result (λ n. GivesNext (current self.old) (current self.new) n buf.new) }
         ensures files { files self.new ≡ files self.old }
         ensures later { (counts self.old).faults ≤ (counts self.new).faults }
         ensures stays { (counts self.old).faults ≡ 2 ^ 64 - 1 → (counts self.new).faults ≡ 2 ^ 64 - 1 }

@@ -1,11 +1,11 @@
 ghost use Rattle.std.specs.Prelude.{◌≡◌, Err, map, is_some, IfOk, IfErr, OnOk, OnErr, position};
 ghost use Rattle.std.specs.String.{string_bytes};
 ghost use Rattle.std.specs.Str.{bytes_eq};
-ghost use Rattle.isle_outside.specs.Directory.{behind, directly_in};
+ghost use Rattle.isle_outside.specs.Directory.{inside_folder, directly_in};
 ghost use Rattle.isle_outside.specs.Memory.{files_of, written};
 
 use crate::errors::DirFault;
-use crate::names::{entry, part_behind};
+use crate::names::{entry, part_inside};
 use std::alloc::Global;
 
 /// Returns the place of the first file of the name.
@@ -17,11 +17,11 @@ pub fn place_of(files: &[(String, Vec<u8>)], name: &str) -> Option<usize>
 
 /// Returns the place of the first file whose name goes on behind this one and a slash.
 pub fn place_below(files: &[(String, Vec<u8>)], name: &str) -> Option<usize>
-    ensures { result ≡ position (λ kept. is_some (behind name.now (string_bytes kept.0))) files.now }
+    ensures { result ≡ position (λ kept. is_some (inside_folder name.now (string_bytes kept.0))) files.now }
 {
     files
         .iter()
-        .position(|file| part_behind(file.0.as_str(), name).is_some())
+        .position(|file| part_inside(file.0.as_str(), name).is_some())
 }
 
 /// Returns the names of the files directly in the folder, in their order.

@@ -99,7 +99,7 @@ impl MemDir {
 impl Dir for MemDir {
     ghost use Rattle.std.specs.Prelude.{◌≤◌, Some, Err, false, min, length, map, is_err, IfOk, OnOk, OnErr};
     ghost use Rattle.std.specs.String.{string_bytes};
-    ghost use Rattle.isle_outside.specs.Directory.{Nothing, InFolder, Finds, IsReading, Gives, Lists, KeepsOthers, KeepsEntries, Holds, raised, Rose};
+    ghost use Rattle.isle_outside.specs.Directory.{Nothing, InFolder, Finds, IsReading, GivesNext, Lists, KeepsOthers, KeepsEntries, Holds, raised, Rose};
     ghost use Rattle.isle_outside.specs.Failures.{is_fault};
     ghost use Rattle.isle_outside.specs.Memory.{IsCounted, counts_in, current_in, files_in, left_in, piece_in, written};
 
@@ -141,7 +141,7 @@ impl Dir for MemDir {
         requires reading { IsReading (current_in self.old) }
         requires room { 0 < length buf.old }
         ensures within { IfOk result (λ n. n ≤ length buf.new) }
-        ensures gives { IfOk result (λ n. Gives (current_in self.old) (current_in self.new) n buf.new) }
+        ensures gives { IfOk result (λ n. GivesNext (current_in self.old) (current_in self.new) n buf.new) }
         ensures files { Some (files_in self.new) ≡ Some (files_in self.old) }
         ensures later { (counts_in self.old).faults ≤ (counts_in self.new).faults }
         ensures stays { (counts_in self.old).faults ≡ 2 ^ 64 - 1 → (counts_in self.new).faults ≡ 2 ^ 64 - 1 }

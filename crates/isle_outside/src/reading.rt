@@ -1,7 +1,7 @@
 ghost use Rattle.std.specs.Prelude.{◌≡◌, ◌≤◌, ◌^◌, ◌+◌, ◌-◌, IfSome};
 ghost use Rattle.std.specs.String.{string_bytes};
 ghost use Rattle.isle_outside.specs.Directory.{IsReading, bytes_of, raised};
-ghost use Rattle.isle_outside.specs.Reading.{Answers, CountsFault, TakenAtMost, Told, left_of};
+ghost use Rattle.isle_outside.specs.Reading.{ReadsFile, CountsFault, TakenAtMost, ReadsRest, left_of};
 
 use crate::dir::{Dir, Found};
 use crate::errors::{IoCause, ReadFail};
@@ -16,7 +16,7 @@ const MAX_BYTES: usize = 1 << 24;
 /// count is what it was.
 #[tactic(auto, using(crate::proofs::ReadLaws::texts))]
 pub fn read_text<D: Dir>(alloc: Global, dir: &mut D, name: &str) -> Result<String, ReadFail>
-    ensures exact { IfSome (D.files dir.old) (λ files. Answers string_bytes result (bytes_of files name.now)) }
+    ensures exact { IfSome (D.files dir.old) (λ files. ReadsFile string_bytes result (bytes_of files name.now)) }
     ensures bounded { IfSome (D.files dir.old) (λ files. TakenAtMost (2 ^ 24 + 1) (bytes_of files name.now) (D.current dir.new)) }
     ensures faults { CountsFault result (D.counts dir.old).faults (D.counts dir.new).faults }
     ensures files { D.files dir.new ≡ D.files dir.old }
@@ -41,7 +41,7 @@ pub fn read_text<D: Dir>(alloc: Global, dir: &mut D, name: &str) -> Result<Strin
 // What is left of the current file. It takes at most 2^24 + 1 bytes.
 fn rest<D: Dir>(alloc: Global, dir: &mut D) -> Result<Vec<u8>, ReadFail>
     requires { IsReading (D.current dir.old) }
-    ensures exact { IfSome (left_of (D.current dir.old)) (Told (λ bytes. bytes.items) result) }
+    ensures exact { IfSome (left_of (D.current dir.old)) (ReadsRest (λ bytes. bytes.items) result) }
     ensures bounded { TakenAtMost (2 ^ 24 + 1) (left_of (D.current dir.old)) (D.current dir.new) }
     ensures faults { CountsFault result (D.counts dir.old).faults (D.counts dir.new).faults }
     ensures files { D.files dir.new ≡ D.files dir.old }

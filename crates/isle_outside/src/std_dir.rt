@@ -133,7 +133,7 @@ impl<R: Files + AllocGlobal + Clone + Drop> StdDir<R> {
 impl<R: Files + AllocGlobal + Clone + Drop> Dir for StdDir<R> {
     ghost use Rattle.std.specs.Prelude.{◌≤◌, ◌<◌, None, Err, false, length, take, is_err, IfSome, IfOk, OnOk, OnErr};
     ghost use Rattle.std.specs.Io.KnownBytes.{Consumes, IsAtEnd};
-    ghost use Rattle.isle_outside.specs.Directory.{Nothing, InFolder, Finds, IsReading, Gives, raised};
+    ghost use Rattle.isle_outside.specs.Directory.{Nothing, InFolder, Finds, IsReading, GivesNext, raised};
     ghost use Rattle.isle_outside.specs.Failures.{counted, is_fault};
     ghost use Rattle.isle_outside.specs.Machine.{opened};
 
@@ -169,7 +169,7 @@ impl<R: Files + AllocGlobal + Clone + Drop> Dir for StdDir<R> {
         requires reading { IsReading (opened self.old.file self.old.folder) }
         requires room { 0 < length buf.old }
         ensures within { IfOk result (λ n. n ≤ length buf.new) }
-        ensures gives { IfOk result (λ n. Gives (opened self.old.file self.old.folder) (opened self.new.file self.new.folder) n buf.new) }
+        ensures gives { IfOk result (λ n. GivesNext (opened self.old.file self.old.folder) (opened self.new.file self.new.folder) n buf.new) }
         ensures later { self.old.faults ≤ self.new.faults }
         ensures stays { self.old.faults ≡ 2 ^ 64 - 1 → self.new.faults ≡ 2 ^ 64 - 1 }
         ensures failed { OnErr result (Rose self.old.faults self.new.faults) }

@@ -14,7 +14,7 @@ use Rattle.isle_core.specs.declared.types.BuiltinType.TheVariants as builtin
 use Rattle.isle_core.specs.declared.types.TypeDef.{TypeDef}
 use Rattle.isle_core.specs.declared.types.TypeDef.TheVariants as def
 use Rattle.isle_core.specs.Int.{IsBelow, wrapped}
-use Rattle.isle_core.specs.HasType.{IsHeld, IsOfDef, HaveTypes}
+use Rattle.isle_core.specs.HasType.{IsReduced, IsOfDef, HaveTypes}
 use Rattle.isle_core.specs.Rule.{Environment}
 use Rattle.isle_core.specs.Value.{Value, Int}
 use Rattle.isle_spelling.proofs.Wraps.{wraps, wraps_only}
@@ -62,7 +62,7 @@ fits w (negsuc n) h = record { sfits = grind (arith, nat_tests) }
 within : (w : Width) (n : ℤ) → lies w n ≡ true → FitsSigned w (wrapped int.I128 n)
 within w n h = subst (FitsSigned w) (sym (kept n (wide w n (fits w n h)))) (fits w n h)
 
-held : (ty : IntType) (n : ℤ) → is_of ty n ≡ true → IsHeld ty (wrapped int.I128 n)
+held : (ty : IntType) (n : ℤ) → is_of ty n ≡ true → IsReduced ty (wrapped int.I128 n)
 held int.U8 (pos n) h = below (2 ^ 8) n (omega arith) h
 held int.U8 (negsuc n) h = absurd cc
 held int.U16 (pos n) h = below (2 ^ 16) n (omega arith) h

@@ -32,8 +32,8 @@ pub mod PlaceLaws
 pub mod CallLaws
 pub mod LookUps
 pub mod ReducedLaws
-pub mod ReadyCalls
-pub mod ReadyRules
+pub mod SerializableCalls
+pub mod SerializableRules
 pub mod NumberLaws
 pub mod Gathered
 pub mod KnownLaws

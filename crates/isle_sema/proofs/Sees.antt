@@ -10,7 +10,7 @@ use Rattle.isle_syntax.specs.declared.tree.AstExpr.TheVariants as code_expr
 use Rattle.isle_syntax.specs.declared.tree.AstExpr.TheFolds.{fold-roll-AstExpr, fold-AstLet}
 use Rattle.isle_syntax.specs.Tree as tree
 use Rattle.isle_syntax.specs.Tree.{Pattern, Expr}
-use Rattle.isle_syntax.specs.Views.{Bound, patterns_of, pattern_step, pattern, exprs_of, lets_of, expr_step, bound_step, expr}
+use Rattle.isle_syntax.specs.Views.{SeenBinding, patterns_of, pattern_step, pattern, exprs_of, lets_of, expr_step, bound_step, expr}
 
 pub pattern-int : (n : ℤ) → pattern (code_pattern.Int n) ≡ tree.Int n
 pattern-int n = ap pattern (sym (code_pattern.rolls-Int n)) ∙ fold-roll-AstPattern Pattern pattern_step _
@@ -37,22 +37,22 @@ pub pattern-term : (name : List ℕ) (args : List AstPattern) → pattern (code_
 pattern-term name args = ap pattern (sym (code_pattern.rolls-Term name args)) ∙ fold-roll-AstPattern Pattern pattern_step _
 
 pub expr-number : (n : ℤ) → expr (code_expr.Int n) ≡ tree.Number n
-expr-number n = ap expr (sym (code_expr.rolls-Int n)) ∙ fold-roll-AstExpr Expr Bound expr_step bound_step _
+expr-number n = ap expr (sym (code_expr.rolls-Int n)) ∙ fold-roll-AstExpr Expr SeenBinding expr_step bound_step _
 
 pub expr-fact : (b : Bool) → expr (code_expr.Bool b) ≡ tree.Fact b
-expr-fact b = ap expr (sym (code_expr.rolls-Bool b)) ∙ fold-roll-AstExpr Expr Bound expr_step bound_step _
+expr-fact b = ap expr (sym (code_expr.rolls-Bool b)) ∙ fold-roll-AstExpr Expr SeenBinding expr_step bound_step _
 
 pub expr-constant : (name : List ℕ) → expr (code_expr.Const name) ≡ tree.Constant name
-expr-constant name = ap expr (sym (code_expr.rolls-Const name)) ∙ fold-roll-AstExpr Expr Bound expr_step bound_step _
+expr-constant name = ap expr (sym (code_expr.rolls-Const name)) ∙ fold-roll-AstExpr Expr SeenBinding expr_step bound_step _
 
 pub expr-name : (name : List ℕ) → expr (code_expr.Var name) ≡ tree.Name name
-expr-name name = ap expr (sym (code_expr.rolls-Var name)) ∙ fold-roll-AstExpr Expr Bound expr_step bound_step _
+expr-name name = ap expr (sym (code_expr.rolls-Var name)) ∙ fold-roll-AstExpr Expr SeenBinding expr_step bound_step _
 
-pub expr-let : (lets : List AstLet) (inner : AstExpr) → expr (code_expr.Let lets inner) ≡ tree.Let (lets_of (map (fold-AstLet Expr Bound expr_step bound_step) lets)) (expr inner)
-expr-let lets inner = ap expr (sym (code_expr.rolls-Let lets inner)) ∙ fold-roll-AstExpr Expr Bound expr_step bound_step _
+pub expr-let : (lets : List AstLet) (inner : AstExpr) → expr (code_expr.Let lets inner) ≡ tree.Let (lets_of (map (fold-AstLet Expr SeenBinding expr_step bound_step) lets)) (expr inner)
+expr-let lets inner = ap expr (sym (code_expr.rolls-Let lets inner)) ∙ fold-roll-AstExpr Expr SeenBinding expr_step bound_step _
 
 pub expr-call : (name : List ℕ) (args : List AstExpr) → expr (code_expr.Term name args) ≡ tree.Call name (exprs_of (map expr args))
-expr-call name args = ap expr (sym (code_expr.rolls-Term name args)) ∙ fold-roll-AstExpr Expr Bound expr_step bound_step _
+expr-call name args = ap expr (sym (code_expr.rolls-Term name args)) ∙ fold-roll-AstExpr Expr SeenBinding expr_step bound_step _
 
 pub ruleset pattern_sees = (pattern-int, pattern-truth, pattern-const, pattern-wildcard, pattern-var, pattern-bind, pattern-and, pattern-term)
 

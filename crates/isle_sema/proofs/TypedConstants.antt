@@ -18,7 +18,7 @@ use Rattle.isle_core.specs.declared.types.TypeDef.TheVariants.{Builtin}
 use Rattle.isle_core.specs.Int.{residue, wrapped}
 use Rattle.isle_core.specs.BuiltinType.{IsBuiltinDef}
 use Rattle.isle_core.specs.Rule.{Environment}
-use Rattle.isle_core.specs.HasType.{IsHeld, IsOfDef}
+use Rattle.isle_core.specs.HasType.{IsReduced, IsOfDef}
 use Rattle.isle_core.specs.Constants.{int_of_def}
 use Rattle.isle_sema.specs.Symbols.{index_of}
 use Rattle.isle_sema.specs.Builtins.{builtins, builtin_names, type_id}
@@ -31,7 +31,7 @@ residue_below : (w : Width) (z : ℤ) → residue w z < 2 ^ bits w
 residue_below w (pos a) = mod-lt a (pow_pos (bits w))
 residue_below w (negsuc a) = let some = pow_pos (bits w) in omega (arith, mod-lt a some)
 
-held : (ty : IntType) (z : ℤ) → IsHeld ty (reduced ty z)
+held : (ty : IntType) (z : ℤ) → IsReduced ty (reduced ty z)
 unfolding wrapped int_wrap
 held U8 z = residue_below w8 z
 held U16 z = residue_below w16 z

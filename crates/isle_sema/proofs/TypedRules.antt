@@ -139,8 +139,8 @@ env_typed defs built sound =
     All-from_recursion (IsTypedRule (env_made defs)) (env_made defs).rules (rules_typed defs 0 (rule_defs defs) (built_rules defs (forms defs built)) (calls defs built) (sound_rules defs sound))
 
 -- the rules of an environment are typed
-pub typed_ready : (defs : List Def) (env : Environment) → Typed defs env → All (IsTypedRule env) env.rules
-typed_ready defs env h = subst (λ (e : Environment). All (IsTypedRule e) e.rules) (sym (decided h).given) (env_typed defs (decided h).built (decided h).sound)
+pub typed_rules : (defs : List Def) (env : Environment) → Typed defs env → All (IsTypedRule env) env.rules
+typed_rules defs env h = subst (λ (e : Environment). All (IsTypedRule e) e.rules) (sym (decided h).given) (env_typed defs (decided h).built (decided h).sound)
 
 -- ---- what typed rules are
 
@@ -169,7 +169,7 @@ as_many env (ty ∷ tys) [] h = absurd h
 -- the rules are built
 pub typed_built : (defs : List Def) (env : Environment) → Typed defs env → All IsBuiltRule env.rules
 typed_built defs env h k d lt =
-    let t = typed_ready defs env h k d lt in
+    let t = typed_rules defs env h k d lt in
     record { args = All-from_recursion IsBuiltPattern _ (built_patterns env t.term.arg_tys _ t.typed.args); iflets = t.typed.iflets; rhs = built_expr env (may_be_nothing (kind_of t.term.kind)) _ t.term.ret_ty _ t.typed.rhs }
 
 -- a right side in scope of the patterns of a rule without conditions
@@ -182,13 +182,13 @@ without_conditions r e h = record {
 -- each variable of a right side is in scope
 pub typed_scoped : (defs : List Def) (env : Environment) → Typed defs env → All IsScopedRule env.rules
 typed_scoped defs env h k d lt =
-    let t = typed_ready defs env h k d lt in
+    let t = typed_rules defs env h k d lt in
     let rhs = scoped_expr env (may_be_nothing (kind_of t.term.kind)) _ t.term.ret_ty _ t.typed.rhs in
     without_conditions _ t.typed.iflets rhs
 
 -- each term that a right side calls is impure, and has a constructor
 pub typed_impure : (defs : List Def) (env : Environment) → Typed defs env → All (IsImpureRule env.terms) env.rules
-typed_impure defs env h k d lt = let t = typed_ready defs env h k d lt in impure_expr env (may_be_nothing (kind_of t.term.kind)) _ t.term.ret_ty _ t.typed.rhs
+typed_impure defs env h k d lt = let t = typed_rules defs env h k d lt in impure_expr env (may_be_nothing (kind_of t.term.kind)) _ t.term.ret_ty _ t.typed.rhs
 
 -- ---- the rules of a term
 
@@ -208,7 +208,7 @@ of_terms env id t (r ∷ rs) at h = among env id t r (filter (λ (r : Rule). r.r
 
 -- the rules of a term have its types
 pub typed_of : (defs : List Def) (env : Environment) (id : TermId) (t : Term) → Typed defs env → slice_get env.terms id.0 ≡ Some t → All (IsRuleOf env t) (rules_of env id)
-typed_of defs env id t h at = All-from_recursion (IsRuleOf env t) (rules_of env id) (of_terms env id t env.rules at (recursion_from_All (IsTypedRule env) env.rules (typed_ready defs env h)))
+typed_of defs env id t h at = All-from_recursion (IsRuleOf env t) (rules_of env id) (of_terms env id t env.rules at (recursion_from_All (IsTypedRule env) env.rules (typed_rules defs env h)))
 
 -- they have as many patterns as the term has arguments
 pub typed_args : (defs : List Def) (env : Environment) (id : TermId) (t : Term) → Typed defs env → slice_get env.terms id.0 ≡ Some t → All (λ (r : Rule). length r.args ≡ length t.arg_tys) (rules_of env id)

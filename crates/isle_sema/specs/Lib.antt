@@ -25,7 +25,7 @@ pub mod Breaks
 pub mod Fault
 pub mod Environment
 pub mod Typing
-pub mod ReadyRule
+pub mod SerializableRule
 pub mod Numbered
 pub mod Known
 pub mod Tables

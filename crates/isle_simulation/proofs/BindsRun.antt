@@ -21,7 +21,7 @@ use Rattle.isle_core.specs.Outcome.{Failure}
 use Rattle.isle_core.specs.HasType.{HasType, HaveTypes}
 use Rattle.isle_core.specs.Lawful.{AnswersFit}
 use Rattle.isle_core.specs.Path.{Path, Paths, Arg, ConstBool, ConstInt, Called, Inner, at, at_all, paths_of}
-use Rattle.isle_core.specs.Held.{Held, Absent, One, Optional, Listed, Known, a_value, an_option, inner_held, value_at, values_at}
+use Rattle.isle_core.specs.ValueAt.{Held, Absent, One, Optional, Listed, Known, a_value, an_option, inner_held, value_at, values_at}
 use Rattle.isle_core.specs.CallRun as went
 use Rattle.isle_core.specs.CallRun.{Went, then_go, take_turn, make_call, unless_nothing}
 use Rattle.isle_core.specs.BlockRun.{bind_one, bind_all}

@@ -4,7 +4,7 @@ use Rattle.isle_core.specs.Value.{Value, Answer}
 use Rattle.isle_core.specs.Meaning.{Meaning}
 use Rattle.isle_core.specs.Calling.{Calling, ByTurns, ByCases, NoCall, calling}
 use Rattle.isle_core.specs.Path.{Path, Arg, ConstBool, ConstInt, Called, Inner, Paths, NoPath, APath}
-use Rattle.isle_core.specs.Held.{Held, AValue, ATuple, Absent, One, Optional, Listed, Known, held_of, inner_held, value_before, case_held, call_held, value_at, values_at}
+use Rattle.isle_core.specs.ValueAt.{Held, AValue, ATuple, Absent, One, Optional, Listed, Known, held_of, inner_held, value_before, case_held, call_held, value_at, values_at}
 use Rattle.isle_core.specs.Rule.{Environment}
 
 -- something stands there

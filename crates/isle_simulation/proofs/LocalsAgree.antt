@@ -12,7 +12,7 @@ use Rattle.isle_core.specs.Value.{Value}
 use Rattle.isle_core.specs.Meaning.{Meaning}
 use Rattle.isle_core.specs.HasType.{HasType, HaveTypes}
 use Rattle.isle_core.specs.Path.{Path, at, at_all, paths_of}
-use Rattle.isle_core.specs.Held.{Held, Absent, Known, a_value, an_option, value_before, value_at, values_at}
+use Rattle.isle_core.specs.ValueAt.{Held, Absent, Known, a_value, an_option, value_before, value_at, values_at}
 use Rattle.isle_core.specs.PathType.{IsPathOf, IsOptionOf}
 use Rattle.isle_core.specs.Readable.{IsReadAs, AreReadAs}
 use Rattle.isle_core.specs.Rule.{Environment}

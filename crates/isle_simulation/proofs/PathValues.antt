@@ -14,7 +14,7 @@ use Rattle.isle_core.specs.BuiltinType.{IsBuiltinDef, IsBuiltinType}
 use Rattle.isle_core.specs.HasType.{IsOfDef, HasType, HaveTypes}
 use Rattle.isle_core.specs.Constants.{int_of_def, int_value}
 use Rattle.isle_core.specs.Path.{Path, Arg, ConstBool, ConstInt}
-use Rattle.isle_core.specs.Held.{Known, a_value, held, value_at, meets}
+use Rattle.isle_core.specs.ValueAt.{Known, a_value, held, value_at, meets}
 use Rattle.isle_core.specs.ConstraintType.{IsConstraintOf}
 use Rattle.isle_core.specs.PathType.{IsPathOf}
 use Rattle.isle_core.specs.Readable.{IsInPlace}

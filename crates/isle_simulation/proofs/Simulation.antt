@@ -15,7 +15,7 @@ use Rattle.isle_core.specs.Meaning.{Meaning}
 use Rattle.isle_core.specs.HasType.{HaveTypes}
 use Rattle.isle_core.specs.Outcome.{Result, Value', Failure, Unmatched, Prescription}
 use Rattle.isle_core.specs.Path.{paths_of}
-use Rattle.isle_core.specs.Held.{Known, a_value, nothing_known, meets}
+use Rattle.isle_core.specs.ValueAt.{Known, a_value, nothing_known, meets}
 use Rattle.isle_core.specs.Places.{place_in}
 use Rattle.isle_core.specs.Block as block
 use Rattle.isle_core.specs.Block.{Block, Stop, Step, Control}

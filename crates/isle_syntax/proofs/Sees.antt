@@ -7,7 +7,7 @@ use Rattle.isle_syntax.specs.declared.tree.AstExpr.TheVariants as code_expr
 use Rattle.isle_syntax.specs.declared.tree.AstExpr.TheFolds.{fold-roll-AstExpr}
 use Rattle.isle_syntax.specs.Tree.{Pattern, Expr}
 use Rattle.isle_syntax.specs.Tree as tree
-use Rattle.isle_syntax.specs.Views.{Bound, pattern, pattern_step, exprs_of, expr, expr_step, bound_step}
+use Rattle.isle_syntax.specs.Views.{SeenBinding, pattern, pattern_step, exprs_of, expr, expr_step, bound_step}
 
 pub pattern-int : (n : ℤ) → pattern (code_pattern.Int n) ≡ tree.Int n
 pattern-int n = ap pattern (sym (code_pattern.rolls-Int n)) ∙ fold-roll-AstPattern Pattern pattern_step _
@@ -22,15 +22,15 @@ pub pattern-var : (name : List ℕ) → pattern (code_pattern.Var name) ≡ tree
 pattern-var name = ap pattern (sym (code_pattern.rolls-Var name)) ∙ fold-roll-AstPattern Pattern pattern_step _
 
 pub expr-int : (n : ℤ) → expr (code_expr.Int n) ≡ tree.Number n
-expr-int n = ap expr (sym (code_expr.rolls-Int n)) ∙ fold-roll-AstExpr Expr Bound expr_step bound_step _
+expr-int n = ap expr (sym (code_expr.rolls-Int n)) ∙ fold-roll-AstExpr Expr SeenBinding expr_step bound_step _
 
 pub expr-bool : (b : Bool) → expr (code_expr.Bool b) ≡ tree.Fact b
-expr-bool b = ap expr (sym (code_expr.rolls-Bool b)) ∙ fold-roll-AstExpr Expr Bound expr_step bound_step _
+expr-bool b = ap expr (sym (code_expr.rolls-Bool b)) ∙ fold-roll-AstExpr Expr SeenBinding expr_step bound_step _
 
 pub expr-var : (name : List ℕ) → expr (code_expr.Var name) ≡ tree.Name name
-expr-var name = ap expr (sym (code_expr.rolls-Var name)) ∙ fold-roll-AstExpr Expr Bound expr_step bound_step _
+expr-var name = ap expr (sym (code_expr.rolls-Var name)) ∙ fold-roll-AstExpr Expr SeenBinding expr_step bound_step _
 
 pub expr-term : (name : List ℕ) (args : List AstExpr) → expr (code_expr.Term name args) ≡ tree.Call name (exprs_of (map expr args))
-expr-term name args = ap expr (sym (code_expr.rolls-Term name args)) ∙ fold-roll-AstExpr Expr Bound expr_step bound_step _
+expr-term name args = ap expr (sym (code_expr.rolls-Term name args)) ∙ fold-roll-AstExpr Expr SeenBinding expr_step bound_step _
 
 pub ruleset sees = (pattern-int, pattern-bool, pattern-wildcard, pattern-var, expr-int, expr-bool, expr-var, expr-term)

@@ -44,16 +44,16 @@ exprs_of [] = NoExpr
 exprs_of (e ∷ es) = AnExpr e (exprs_of es)
 
 -- a variable of a `let`, its value seen already
-abbrev pub Bound : Type 0
+abbrev pub SeenBinding : Type 0
 Bound = List ℕ × List ℕ × Expr
 
 -- variables of a list
-abbrev pub lets_of : List Bound → Lets
+abbrev pub lets_of : List SeenBinding → Lets
 lets_of [] = NoLet
 lets_of (l ∷ ls) = ALet l.0 l.1 l.2 (lets_of ls)
 
 -- one expression, where those inside it are seen already
-abbrev pub expr_step : AstExpr-F Expr Bound → Expr
+abbrev pub expr_step : AstExpr-F Expr SeenBinding → Expr
 expr_step (code_expr.Int n) = tree.Number n
 expr_step (code_expr.Bool b) = tree.Fact b
 expr_step (code_expr.Const name) = tree.Constant name
@@ -62,12 +62,12 @@ expr_step (code_expr.Let lets inner) = tree.Let (lets_of lets) inner
 expr_step (code_expr.Term name args) = tree.Call name (exprs_of args)
 
 -- one variable of a `let`
-abbrev pub bound_step : AstLet-F Expr Bound → Bound
+abbrev pub bound_step : AstLet-F Expr SeenBinding → SeenBinding
 bound_step l = (l.var, l.ty, l.val)
 
 -- an expression
 abbrev pub expr : AstExpr → Expr
-expr = fold-AstExpr Expr Bound expr_step bound_step
+expr = fold-AstExpr Expr SeenBinding expr_step bound_step
 
 -- things of a list
 abbrev pub anys_of : List Any → Anys

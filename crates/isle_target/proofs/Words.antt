@@ -11,13 +11,13 @@ use lib.IntN.{neg_ℤ}
 use Rattle.isle_core.specs.declared.types.IntType.{IntType}
 use Rattle.isle_core.specs.declared.types.IntType.TheVariants.{U8, U16, U32, U64, U128, USize, I8, I16, I32, I64, I128, ISize}
 use Rattle.isle_core.specs.Int.{IsOf, wrapped}
-use Rattle.isle_core.specs.HasType.{IsHeld}
+use Rattle.isle_core.specs.HasType.{IsReduced}
 use Rattle.isle_printer.specs.Token.{Token}
 use Rattle.isle_printer.specs.Number.{numeral, glyph}
 use Rattle.isle_printer.proofs.Readback.{numeral_again}
 use Rattle.isle_tree.specs.declared.tree.Operand.{Operand}
 use Rattle.isle_tree.specs.declared.tree.Operand.TheVariants as operand
-use Rattle.isle_spelling.specs.Literal.{literal_word, literal_tokens, held}
+use Rattle.isle_spelling.specs.Literal.{literal_word, literal_tokens, signed_bits}
 use Rattle.isle_target.specs.Spelling.{operand_tokens}
 use Rattle.isle_tree.specs.WellFormed.{IsOperand}
 use Rattle.isle_target.specs.Reading.{is_number, number_at, read_operand}
@@ -66,7 +66,7 @@ back z h =
     let e = w.congruent.1 in
     sym (wraps_only I128 (wrapped U128 z) z (record { within = h; congruent = (neg_ℤ k, same_in _ _ (omega (arith, same_out, sum_is_lem, product_is, neg_is k, e))) }))
 
-held_again : (ty : IntType) (z : ℤ) → IsHeld ty z → held ty (wrapped ty z) ≡ z
+held_again : (ty : IntType) (z : ℤ) → IsReduced ty z → held ty (wrapped ty z) ≡ z
 held_again U128 z h = back z h
 held_again U8 z h = within U8 z h
 held_again U16 z h = within U16 z h

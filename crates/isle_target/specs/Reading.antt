@@ -19,7 +19,7 @@ use Rattle.isle_tree.specs.declared.tree.Read.TheVariants as read
 use Rattle.isle_tree.specs.declared.tree.TExpr.{TExpr}
 use Rattle.isle_tree.specs.declared.tree.TExpr.TheVariants as expr
 use Rattle.isle_spelling.specs.Fixed.{allow_tokens, uses_tokens, fixed_tokens}
-use Rattle.isle_spelling.specs.Literal.{literal_of, held}
+use Rattle.isle_spelling.specs.Literal.{literal_of, signed_bits}
 use Rattle.isle_target.specs.Spelling.{param_token, generics, context_param, self_param, comma, trait_head, close, no_rule, unreachable_head}
 use Rattle.isle_tree.specs.Program.{Stmt, Let, IfEq, Return, Tail, Body, Done, Then, Function, Program}
 use Rattle.isle_tree.specs.WellFormed.{IsWellFormed}

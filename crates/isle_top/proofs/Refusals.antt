@@ -2,7 +2,7 @@
 use Rattle.std.proofs.Common.{◌≡◌, ℕ, zero, suc, ◌+◌, ◌<◌, length, List, [], ◌∷◌, drop, Option, Some, Result, Ok, Err, refl, inl, inr, arith}
 use Rattle.std.specs.Prelude.{IsSomeAnd, slice_get, OnOk, OnErr}
 use Rattle.std.proofs.lemmas.List.{take-append-drop}
-use Rattle.isle_outside.specs.Directory.{Files, Counts, Rose}
+use Rattle.isle_outside.specs.Directory.{Contents, Counts, Rose}
 use Rattle.isle_outside.specs.Sinks.{Took, TookPart}
 use Rattle.isle_outside.specs.declared.errors.IoCause.{IoCause}
 use Rattle.isle_command_line.specs.Request.{Request}
@@ -32,7 +32,7 @@ pub unread : (request : Request) (index : ℕ) (why : IoCause) (wrote : List ℕ
 unread request index why wrote lt f = at_number (inputs_of request) index (λ name. wrote (unread_line name why)) lt f
 
 -- an input that is told is one of the line
-pub of_line : (request : Request) (e : Refusal) (files : Option Files) (before after : Counts) → HasCause e request files before after → IsOfLine request e
+pub of_line : (request : Request) (e : Refusal) (files : Option Contents) (before after : Counts) → HasCause e request files before after → IsOfLine request e
 of_line request refusal.NotYet files before after h = tt
 of_line request (refusal.Unread index why) files before after h = h.1.0
 of_line request refusal.NoTerm files before after h = tt
@@ -50,7 +50,7 @@ pub no_bad_word : (words : List (List ℕ)) (i : ℕ) (request : Request) → Is
 no_bad_word words i request h line = h.bad (drop (i + 1) words, request, rw take-append-drop line)
 
 -- what is said of a line is said of the words that ask for it
-pub says_of : {asks others : Request → Type 0} {none fail : Type 0} {files : Option Files} {before after : Counts} {quiet : Type 0} {wrote : List ℕ → Type 0} {status : ℕ} → ((request : Request) → asks request → others request) → (none → fail)
+pub says_of : {asks others : Request → Type 0} {none fail : Type 0} {files : Option Contents} {before after : Counts} {quiet : Type 0} {wrote : List ℕ → Type 0} {status : ℕ} → ((request : Request) → asks request → others request) → (none → fail)
     → Says asks none files before after quiet wrote status → Says others fail files before after quiet wrote status
 says_of f g (statuses.done h) = statuses.done h
 says_of f g (statuses.no_line h) = statuses.no_line (g h)

@@ -1,6 +1,6 @@
 -- Why a run gives no lines is the cause of its refusal.
 use Rattle.std.proofs.Common.{◌≡◌, inr, ℕ, List, [], ◌∷◌, false, Option, refl}
-use Rattle.isle_outside.specs.Directory.{Files, Counts}
+use Rattle.isle_outside.specs.Directory.{Contents, Counts}
 use Rattle.isle_values.specs.Written.{Writtens}
 use Rattle.isle_command_line.specs.Request.{Run}
 use Rattle.isle_command_line.specs.Lines.{no_options}
@@ -12,7 +12,7 @@ use Rattle.isle_top.specs.Requests.{ArePlain, IsBuilt}
 use Rattle.isle_top.specs.Causes.{GivesNoLines, HasCause}
 
 -- the cause of a refusal of a run whose line is built
-pub run_cause : (name term : List ℕ) (vs : Writtens) (answers : Option (List ℕ)) (files : Option Files) (before after : Counts) (e : Refusal) → ArePlain vs → GivesNoLines name term vs answers files e
+pub run_cause : (name term : List ℕ) (vs : Writtens) (answers : Option (List ℕ)) (files : Option Contents) (before after : Counts) (e : Refusal) → ArePlain vs → GivesNoLines name term vs answers files e
     → HasCause e (Run false no_options (File name) term vs answers) files before after
 run_cause name term vs answers files before after refusal.NotYet plain h = inr h
 run_cause name term vs answers files before after (refusal.Unread index why) plain h = absurd (lines_of no_options _ term vs h.given (refusal.Unread index why) h.none)

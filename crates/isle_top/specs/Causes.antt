@@ -1,6 +1,6 @@
 -- Why a line of words is not answered.
 use Rattle.std.specs.Prelude.{ℕ, ◌⊎◌, List, [], ◌∷◌, Option, IfSome}
-use Rattle.isle_outside.specs.Directory.{Files, Counts}
+use Rattle.isle_outside.specs.Directory.{Contents, Counts}
 use Rattle.isle_core.specs.Inputs.{AreRead, Fails}
 use Rattle.isle_core.specs.declared.read_error.ReadError.TheVariants as read
 use Rattle.isle_values.specs.Written.{Writtens}
@@ -14,14 +14,14 @@ use Rattle.isle_top.specs.Requests.{IsBuilt, inputs_of, source_name}
 use Rattle.isle_top.specs.Valid.{AreAnswers, one_file}
 
 -- a run of the term of the source of this name, under the answers of the file, gives no lines
-pub record GivesNoLines (name term : List ℕ) (vs : Writtens) (answers : Option (List ℕ)) (files : Option Files) (e : Refusal) : Type 0 where
+pub record GivesNoLines (name term : List ℕ) (vs : Writtens) (answers : Option (List ℕ)) (files : Option Contents) (e : Refusal) : Type 0 where
   pub source : List ℕ
   pub given : List ℕ
   pub read : IfSome files (λ fs. AreRead fs (name ∷ []) (source ∷ []) × AreAnswers fs answers given)
   pub none : HasNoLines no_options (one_file name source) term vs given e
 
 -- the inputs were read, and are not of what is built
-abbrev pub IsNotOfIt : Request → Option Files → Type 0
+abbrev pub IsNotOfIt : Request → Option Contents → Type 0
 IsNotOfIt Help files = ⊥
 IsNotOfIt Version files = ⊥
 IsNotOfIt (Compile options names) files = IfSome files (λ fs. IsNotBuilt no_options fs names)
@@ -32,7 +32,7 @@ IsNotOfIt (Isa target) files = ⊥
 IsNotOfIt (Run trace options from term vs answers) files = GivesNoLines (source_name from) term vs answers files refusal.NotYet
 
 -- the line is built, and its term is not run for this
-abbrev pub IsNotRun : Request → Option Files → Refusal → Type 0
+abbrev pub IsNotRun : Request → Option Contents → Refusal → Type 0
 IsNotRun Help files e = ⊥
 IsNotRun Version files e = ⊥
 IsNotRun (Compile options names) files e = ⊥
@@ -44,7 +44,7 @@ IsNotRun (Run trace options from term vs answers) files e = IsBuilt (Run trace o
 
 -- why a line is not answered: it is not built, or its inputs are not; it is built, and an input was not read, the first
 -- that is not, or a term is not run; or want of memory
-abbrev pub HasCause : Refusal → Request → Option Files → (before after : Counts) → Type 0
+abbrev pub HasCause : Refusal → Request → Option Contents → (before after : Counts) → Type 0
 HasCause refusal.NotYet request files before after = (IsBuilt request → ⊥) ⊎ IsNotOfIt request files
 HasCause (refusal.Unread index why) request files before after = IsBuilt request × Fails (read.Io index why) files (inputs_of request) before after
 HasCause refusal.NoTerm request files before after = IsNotRun request files refusal.NoTerm

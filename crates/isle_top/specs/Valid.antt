@@ -1,6 +1,6 @@
 -- What the program answers to lines of words.
 use Rattle.std.specs.Prelude.{◌≡◌, ℕ, List, [], ◌∷◌, true, Option, Some, None, IfSome}
-use Rattle.isle_outside.specs.Directory.{Files, bytes_of}
+use Rattle.isle_outside.specs.Directory.{Contents, bytes_of}
 use Rattle.isle_outside.specs.Reading.{IsText}
 use Rattle.isle_core.specs.Inputs.{AreRead}
 use Rattle.isle_core.specs.declared.files.Files.{Files as FileTexts}
@@ -18,7 +18,7 @@ use Rattle.isle_top.specs.About.{help_text, version_text}
 use Rattle.isle_top.specs.Requests.{source_name, IsBuilt}
 
 -- the file of the name holds a text of the language, and its name may be emitted
-pub record IsValid (files : Files) (name : List ℕ) : Type 0 where
+pub record IsValid (files : Contents) (name : List ℕ) : Type 0 where
   pub text : List ℕ
   pub there : IsText text (bytes_of files name)
   pub language : InLanguage (text ∷ [])
@@ -26,14 +26,14 @@ pub record IsValid (files : Files) (name : List ℕ) : Type 0 where
 
 -- the text is what the file of the name is compiled to: the name may be emitted, and behind its header comment the text
 -- spells exactly one program, that of the file where the directory tells its files
-pub record IsProgramOf (name : List ℕ) (files : Option Files) (text : List ℕ) : Type 0 where
+pub record IsProgramOf (name : List ℕ) (files : Option Contents) (text : List ℕ) : Type 0 where
   pub emitted : is_file_name name ≡ true
   pub header : HasHeader (name ∷ []) text
   pub spells : SpellsOne text
   pub compiled : IfSome files (λ fs. IsCompiled no_options fs (name ∷ []) text)
 
 -- the text of a file of answers; without a file it is empty
-abbrev pub AreAnswers : Files → Option (List ℕ) → List ℕ → Type 0
+abbrev pub AreAnswers : Contents → Option (List ℕ) → List ℕ → Type 0
 AreAnswers files None text = text ≡ []
 AreAnswers files (Some name) text = IsText text (bytes_of files name)
 
@@ -42,14 +42,14 @@ abbrev pub one_file : (name text : List ℕ) → FileTexts
 one_file name text = record { file_names = printed no_options (name ∷ []); file_texts = text ∷ [] }
 
 -- the lines are those of a run of the term, of the source of this name, under the answers of the file
-pub record IsRunOf (name term : List ℕ) (vs : Writtens) (answers : Option (List ℕ)) (files : Option Files) (lines : List ℕ) : Type 0 where
+pub record IsRunOf (name term : List ℕ) (vs : Writtens) (answers : Option (List ℕ)) (files : Option Contents) (lines : List ℕ) : Type 0 where
   pub source : List ℕ
   pub given : List ℕ
   pub read : IfSome files (λ fs. AreRead fs (name ∷ []) (source ∷ []) × AreAnswers fs answers given)
   pub trial : IsTrial no_options (one_file name source) term vs given lines
 
 -- a source and answers under which the term can be run at the values
-pub record IsValidRun (files : Files) (name term : List ℕ) (vs : Writtens) (answers : Option (List ℕ)) : Type 0 where
+pub record IsValidRun (files : Contents) (name term : List ℕ) (vs : Writtens) (answers : Option (List ℕ)) : Type 0 where
   pub source : List ℕ
   pub given : List ℕ
   pub there : IsText source (bytes_of files name)
@@ -57,13 +57,13 @@ pub record IsValidRun (files : Files) (name term : List ℕ) (vs : Writtens) (an
   pub can : CanRun (one_file name source) term vs given
 
 -- the one name of a `compile` is that of a valid file
-abbrev pub AreValid : List (List ℕ) → Files → Type 0
+abbrev pub AreValid : List (List ℕ) → Contents → Type 0
 AreValid [] files = ⊥
 AreValid (name ∷ []) files = IsValid files name
 AreValid (name ∷ other ∷ names) files = ⊥
 
 -- a line that is built, and whose inputs are valid; the others are not built
-abbrev pub IsValidLine : Request → Files → Type 0
+abbrev pub IsValidLine : Request → Contents → Type 0
 IsValidLine Help files = Unit {0}
 IsValidLine Version files = Unit {0}
 IsValidLine (Compile options names) files = (options ≡ no_options) × AreValid names files
@@ -74,13 +74,13 @@ IsValidLine (Isa target) files = ⊥
 IsValidLine (Run trace options from term vs answers) files = IsBuilt (Run trace options from term vs answers) × IsValidRun files (source_name from) term vs answers
 
 -- what the names of a `compile` are answered
-abbrev pub compile_answer : List (List ℕ) → Option Files → List ℕ → Type 0
+abbrev pub compile_answer : List (List ℕ) → Option Contents → List ℕ → Type 0
 compile_answer [] files text = ⊥
 compile_answer (name ∷ []) files text = IsProgramOf name files text
 compile_answer (name ∷ other ∷ names) files text = ⊥
 
 -- the text answers a line of words that is built
-abbrev pub Answers : Request → Option Files → List ℕ → Type 0
+abbrev pub Answers : Request → Option Contents → List ℕ → Type 0
 Answers Help files text = text ≡ help_text
 Answers Version files text = text ≡ version_text
 Answers (Compile options names) files text = compile_answer names files text
@@ -88,5 +88,5 @@ Answers (Run trace options from term vs answers) files text = IsRunOf (source_na
 Answers request files text = ⊥
 
 -- the text answers the line
-abbrev pub IsAnswer : Request → Option Files → List ℕ → Type 0
+abbrev pub IsAnswer : Request → Option Contents → List ℕ → Type 0
 IsAnswer request files text = IsBuilt request × Answers request files text

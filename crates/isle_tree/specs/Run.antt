@@ -4,7 +4,7 @@ use Rattle.isle_core.specs.Value.{Value, Truth, Int, Made, End, Gives, GivesSome
 use Rattle.isle_core.specs.SameInRun.{same_in_run}
 use Rattle.isle_core.specs.Meaning.{Meaning}
 use Rattle.isle_core.specs.Answered.{AValue, ATuple, Held, Absent, One, Optional, Listed, a_value, an_option, answer_held, answer}
-use Rattle.isle_core.specs.Held.{held, value_before}
+use Rattle.isle_core.specs.ValueAt.{held, value_before}
 use Rattle.isle_core.specs.declared.values.Callee.{Callee}
 use Rattle.isle_printer.specs.Bytes.{same_bytes}
 use Rattle.isle_tree.specs.declared.tree.Operand.{Operand}

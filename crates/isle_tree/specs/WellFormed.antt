@@ -2,7 +2,7 @@
 use Rattle.std.specs.Prelude.{◌≡◌, ℕ, ◌==◌, nat_lt, List, [], ◌∷◌, ◌++◌, length, map, fold, find, Bool, true, false, is_some, ◌||◌, if◌then◌else◌, IsTrue, IsSome, Option, Some, None, codes}
 use Rattle.std.specs.List.{AllByRecursion, IsDistinct, list_all}
 use Rattle.std.specs.Str.{bytes_eq}
-use Rattle.isle_core.specs.HasType.{IsHeld}
+use Rattle.isle_core.specs.HasType.{IsReduced}
 use Rattle.isle_core.specs.declared.values.Callee.{Callee}
 use Rattle.isle_core.specs.declared.values.Callee.TheVariants as callee
 use Rattle.isle_core.specs.declared.types.ReturnKind.{ReturnKind}
@@ -33,7 +33,7 @@ abbrev pub IsOperand : Operand → Type 0
 IsOperand (operand.Local n) = Unit {0}
 IsOperand (operand.Arg n) = Unit {0}
 IsOperand (operand.Bool b) = Unit {0}
-IsOperand (operand.Int ty z) = IsHeld ty z
+IsOperand (operand.Int ty z) = IsReduced ty z
 IsOperand (operand.Raw z) = ⊥
 IsOperand (operand.Name name) = ⊥
 

@@ -5,7 +5,7 @@ use Rattle.isle_core.specs.declared.BindingId.{BindingId}
 use Rattle.isle_core.specs.Path.{paths_of}
 use Rattle.isle_core.specs.BlockViews.{block}
 use Rattle.isle_core.specs.BlockRun.{block_outcome}
-use Rattle.isle_core.specs.Held.{nothing_known}
+use Rattle.isle_core.specs.ValueAt.{nothing_known}
 use Rattle.isle_core.specs.ReturnPosition.{block_position}
 use Rattle.isle_core.specs.BlockLawful.{IsLawfulBlock}
 use Rattle.isle_core.specs.Setting.{setting}
@@ -13,7 +13,7 @@ use Rattle.isle_core.specs.SingleArms.{HasSingleArms}
 use Rattle.isle_blocks.specs.Inners.{FindsInners}
 use Rattle.isle_blocks.specs.Chain.{chain}
 use Rattle.isle_blocks.proofs.LawChain.{chain_means}
-use Rattle.isle_blocks.proofs.LawReady.{chain_lawful, chain_single}
+use Rattle.isle_blocks.proofs.LawSerializable.{chain_lawful, chain_single}
 use Rattle.isle_blocks.proofs.LawPositions.{chain_positions}
 use Rattle.isle_blocks.proofs.chain.serialize.Goals as goal
 

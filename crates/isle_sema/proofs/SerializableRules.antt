@@ -18,7 +18,7 @@ use Rattle.isle_core.specs.Match.{with}
 use Rattle.isle_core.specs.Path.{Path, Nowhere, Arg, Called, Inner, Paths, at, paths_of}
 use Rattle.isle_core.specs.Pattern.{Pattern, Var, ConstBool, ConstInt, Wildcard, BindPattern, ConstPrim, And}
 use Rattle.isle_core.specs.Pattern as pattern
-use Rattle.isle_core.specs.Ready.{StandsOn, AreReadyCalls, IsReadyRule, IsReady}
+use Rattle.isle_core.specs.Serializable.{StandsOn, AreSerializableCalls, IsSerializableRule, IsSerializable}
 use Rattle.isle_core.specs.Rule.{Rule, Environment, rules_of}
 use Rattle.isle_core.specs.RuleSet.{is_test, equal_test}
 use Rattle.isle_core.specs.RulePaths.{rules_paths}
@@ -33,9 +33,9 @@ use Rattle.isle_core.proofs.KeptPlaces.{args_keep}
 use Rattle.isle_core.proofs.SetMeans.{without_iflets}
 use Rattle.isle_syntax.specs.Tree.{Def}
 use Rattle.isle_sema.specs.TypedRule.{IsPatternOf, ArePatternsOf, IsRuleOf, numbers}
-use Rattle.isle_sema.specs.ReadyRule.{IsReadyTest}
+use Rattle.isle_sema.specs.SerializableRule.{IsSerializableTest}
 use Rattle.isle_sema.specs.Typing.{Typed}
-use Rattle.isle_sema.proofs.ReadyCalls.{ArePlacedAs, path_typed, path_stands, calls_ready, expr_rises, ordered_once}
+use Rattle.isle_sema.proofs.SerializableCalls.{ArePlacedAs, path_typed, path_stands, calls_serializable, expr_rises, ordered_once}
 use Rattle.isle_sema.proofs.TypedRules.{typed_of}
 
 -- ---- types of arguments, and variables without a path
@@ -92,26 +92,26 @@ all_both : {A : Type 0} (P : A → Type 0) (xs ys : List A) → AllByRecursion P
 all_both P [] ys h k = k
 all_both P (x ∷ xs) ys h k = (h.0, all_both P xs ys h.1 k)
 
-test_ready : (env : Environment) (t : Term) (ty : TypeId) (q : Pattern) (qs : List Pattern) (i : ℕ) (places : Places) → slice_get t.arg_tys i ≡ Some ty → IsPatternOf env ty q → AreNew places (numbers (q ∷ qs))
-    → AllByRecursion (IsReadyTest env t) (tests env q (Arg i) places)
+test_serializable : (env : Environment) (t : Term) (ty : TypeId) (q : Pattern) (qs : List Pattern) (i : ℕ) (places : Places) → slice_get t.arg_tys i ≡ Some ty → IsPatternOf env ty q → AreNew places (numbers (q ∷ qs))
+    → AllByRecursion (IsSerializableTest env t) (tests env q (Arg i) places)
 unfolding AreNew
-test_ready env t ty (Var of x) qs i places here h new = subst (λ o. AllByRecursion (IsReadyTest env t) (met_tests o (Arg i))) (sym new.0) tt
-test_ready env t ty (ConstBool b) qs i places here h new = (record { ty = ty; path = here; in_place = tt; constraint = h }, tt)
-test_ready env t ty (ConstInt of n) qs i places here h new = (record { ty = ty; path = here; in_place = tt; constraint = h }, tt)
-test_ready env t ty (Wildcard of) qs i places here h new = tt
-test_ready env t ty (BindPattern of x q) qs i places here h new = absurd h
-test_ready env t ty (ConstPrim of name) qs i places here h new = absurd h
-test_ready env t ty (pattern.Term of term rs) qs i places here h new = absurd h
-test_ready env t ty (And of rs) qs i places here h new = absurd h
+test_serializable env t ty (Var of x) qs i places here h new = subst (λ o. AllByRecursion (IsSerializableTest env t) (met_tests o (Arg i))) (sym new.0) tt
+test_serializable env t ty (ConstBool b) qs i places here h new = (record { ty = ty; path = here; in_place = tt; constraint = h }, tt)
+test_serializable env t ty (ConstInt of n) qs i places here h new = (record { ty = ty; path = here; in_place = tt; constraint = h }, tt)
+test_serializable env t ty (Wildcard of) qs i places here h new = tt
+test_serializable env t ty (BindPattern of x q) qs i places here h new = absurd h
+test_serializable env t ty (ConstPrim of name) qs i places here h new = absurd h
+test_serializable env t ty (pattern.Term of term rs) qs i places here h new = absurd h
+test_serializable env t ty (And of rs) qs i places here h new = absurd h
 
-tests_ready : (env : Environment) (t : Term) (tys : List TypeId) (ps : List Pattern) (i : ℕ) (places : Places) → AtFrom t i tys → ArePatternsOf env tys ps → EachOnce (numbers ps) → AreNew places (numbers ps)
-    → AllByRecursion (IsReadyTest env t) (args_tests env ps i places)
-tests_ready env t [] [] i places from h once new = tt
-tests_ready env t [] (q ∷ qs) i places from h once new = absurd h
-tests_ready env t (ty ∷ tys) [] i places from h once new = absurd h
-tests_ready env t (ty ∷ tys) (q ∷ qs) i places from h once new =
-    all_both (IsReadyTest env t) (tests env q (Arg i) places) (args_tests env qs (suc i) (after env q (Arg i) places)) (test_ready env t ty q qs i places (at_first t i ty tys from) h.0 new)
-    (tests_ready env t tys qs (suc i) (after env q (Arg i) places) (at_rest t i ty tys from) h.1 (once_behind q qs once) (new_behind env q qs (Arg i) places once new))
+tests_serializable : (env : Environment) (t : Term) (tys : List TypeId) (ps : List Pattern) (i : ℕ) (places : Places) → AtFrom t i tys → ArePatternsOf env tys ps → EachOnce (numbers ps) → AreNew places (numbers ps)
+    → AllByRecursion (IsSerializableTest env t) (args_tests env ps i places)
+tests_serializable env t [] [] i places from h once new = tt
+tests_serializable env t [] (q ∷ qs) i places from h once new = absurd h
+tests_serializable env t (ty ∷ tys) [] i places from h once new = absurd h
+tests_serializable env t (ty ∷ tys) (q ∷ qs) i places from h once new =
+    all_both (IsSerializableTest env t) (tests env q (Arg i) places) (args_tests env qs (suc i) (after env q (Arg i) places)) (test_serializable env t ty q qs i places (at_first t i ty tys from) h.0 new)
+    (tests_serializable env t tys qs (suc i) (after env q (Arg i) places) (at_rest t i ty tys from) h.1 (once_behind q qs once) (new_behind env q qs (Arg i) places once new))
 
 -- ---- the result
 
@@ -238,36 +238,36 @@ contained_map f [] x c = absurd (none_contained x c)
 contained_map f (y ∷ xs) x c = ⊎_elim (λ (s : y ≡ x). subst (λ z. Contains (map f (y ∷ xs)) (f z)) s (head_contained (f y) (map f xs))) (λ d. tail_contained (f y) (map f xs) (f x) (contained_map f xs x d)) (contained_cases y xs x c)
 
 module _ (env : Environment) (t : Term) (ps : List Path) (fit : Fallible env ps) where
-  flat_ready : (r : Rule) (n : ℕ) (f : FlatRule) → IsFlat env ps r n f → IsRuleOf env t r → ((p : Path) → Contains (rule_paths env r n) p → Contains ps p) → IsReadyRule env t ps f
-  flat_ready r n f flat h among =
+  flat_serializable : (r : Rule) (n : ℕ) (f : FlatRule) → IsFlat env ps r n f → IsRuleOf env t r → ((p : Path) → Contains (rule_paths env r n) p → Contains ps p) → IsSerializableRule env t ps f
+  flat_serializable r n f flat h among =
       let at_args = rule_placed env t r.args h.args h.once in
       let rises = expr_rises env t (may_be_nothing (kind_of t.kind)) r.args (rule_places env r) at_args r.rhs n t.ret_ty h.rhs in
       let same : map (at ps) f.ordered ≡ rule_calls env r n = rising_firsts n (rule_calls env r n) (map (at ps) f.ordered) rises flat.ordered in
       record {
         constraints = each _ f.constraints (λ c d. let k = ready (is_test ps c) (Contains-append_left (map (is_test ps) f.constraints) (map (equal_test ps) f.equals) (is_test ps c) (contained_map (is_test ps) f.constraints c d)) in record { ty = k.ty; path = k.path; in_place = k.in_place; constraint = k.constraint });
         equals = each _ f.equals (λ e d. let k = ready (equal_test ps e) (Contains-append_right (map (is_test ps) f.constraints) (map (equal_test ps) f.equals) (equal_test ps e) (contained_map (equal_test ps) f.equals e d)) in record { ty = k.ty; left = k.left; left_in_place = k.left_in_place; right = k.right; right_in_place = k.right_in_place });
-        calls = subst (AreReadyCalls env t ps []) (sym same) (calls_ready env t (may_be_nothing (kind_of t.kind)) r.args (rule_places env r) at_args r.rhs n t.ret_ty ps [] h.rhs refl fit (λ p c. among p (Contains-append_right (arg_paths r.args 0) (expr_paths env r.rhs (rule_places env r) n) p c)));
+        calls = subst (AreSerializableCalls env t ps []) (sym same) (calls_serializable env t (may_be_nothing (kind_of t.kind)) r.args (rule_places env r) at_args r.rhs n t.ret_ty ps [] h.rhs refl fit (λ p c. among p (Contains-append_right (arg_paths r.args 0) (expr_paths env r.rhs (rule_places env r) n) p c)));
         once = ordered_once env ps f.ordered n (subst (AreRising n) (sym same) rises);
         result = subst (λ p. IsPathOf env t p t.ret_ty) (sym flat.result) (path_typed env t (may_be_nothing (kind_of t.kind)) r.args (rule_places env r) at_args r.rhs n t.ret_ty h.rhs);
         stands = subst (StandsOn (map (at ps) f.ordered)) (sym flat.result) (subst (λ done. StandsOn done (path env r.rhs (rule_places env r) n)) (sym same) (path_stands env t (may_be_nothing (kind_of t.kind)) r.args (rule_places env r) at_args r.rhs n t.ret_ty (rule_calls env r n) h.rhs (λ p c. c)));
       }
     where
-      ready : (x : Test) → Contains (map (is_test ps) f.constraints ++ map (equal_test ps) f.equals) x → IsReadyTest env t x
-      ready x c = All-contains (IsReadyTest env t) (rule_tests env r) x (All-from_recursion (IsReadyTest env t) (rule_tests env r) (subst (AllByRecursion (IsReadyTest env t)) (sym (without_iflets env r h.iflets)) (tests_ready env t t.arg_tys r.args 0 no_places (from_start t) h.args h.once (all_new (numbers r.args))))) (flat.no_other x c).0
+      ready : (x : Test) → Contains (map (is_test ps) f.constraints ++ map (equal_test ps) f.equals) x → IsSerializableTest env t x
+      ready x c = All-contains (IsSerializableTest env t) (rule_tests env r) x (All-from_recursion (IsSerializableTest env t) (rule_tests env r) (subst (AllByRecursion (IsSerializableTest env t)) (sym (without_iflets env r h.iflets)) (tests_serializable env t t.arg_tys r.args 0 no_places (from_start t) h.args h.once (all_new (numbers r.args))))) (flat.no_other x c).0
 
-  flats_ready : (rs : List Rule) (n : ℕ) (fs : List FlatRule) → AreFlat env ps rs n fs → AllByRecursion (IsRuleOf env t) rs → ((p : Path) → Contains (rules_paths env rs n) p → Contains ps p) → AllByRecursion (IsReadyRule env t ps) fs
-  flats_ready [] n [] flat h among = tt
-  flats_ready [] n (f ∷ fs) flat h among = absurd flat
-  flats_ready (r ∷ rs) n [] flat h among = absurd flat
-  flats_ready (r ∷ rs) n (f ∷ fs) flat h among = (
-    flat_ready r n f flat.0 h.0 (λ p c. among p (Contains-append_left (rule_paths env r n) (rules_paths env rs (n + impure env r.rhs)) p c)),
-    flats_ready rs (n + impure env r.rhs) fs flat.1 h.1 (λ p c. among p (Contains-append_right (rule_paths env r n) (rules_paths env rs (n + impure env r.rhs)) p c)),
+  flats_serializable : (rs : List Rule) (n : ℕ) (fs : List FlatRule) → AreFlat env ps rs n fs → AllByRecursion (IsRuleOf env t) rs → ((p : Path) → Contains (rules_paths env rs n) p → Contains ps p) → AllByRecursion (IsSerializableRule env t ps) fs
+  flats_serializable [] n [] flat h among = tt
+  flats_serializable [] n (f ∷ fs) flat h among = absurd flat
+  flats_serializable (r ∷ rs) n [] flat h among = absurd flat
+  flats_serializable (r ∷ rs) n (f ∷ fs) flat h among = (
+    flat_serializable r n f flat.0 h.0 (λ p c. among p (Contains-append_left (rule_paths env r n) (rules_paths env rs (n + impure env r.rhs)) p c)),
+    flats_serializable rs (n + impure env r.rhs) fs flat.1 h.1 (λ p c. among p (Contains-append_right (rule_paths env r n) (rules_paths env rs (n + impure env r.rhs)) p c)),
   )
 
 -- a rule set that stands for the rules of a term is ready
-pub set_ready : (defs : List Def) (env : Environment) (id : TermId) (t : Term) (s : RuleSet) → Typed defs env → slice_get env.terms id.0 ≡ Some t → StandsFor env s (rules_of env id) → IsReady env t s
-set_ready defs env id t s h there stands = record {
+pub set_serializable : (defs : List Def) (env : Environment) (id : TermId) (t : Term) (s : RuleSet) → Typed defs env → slice_get env.terms id.0 ≡ Some t → StandsFor env s (rules_of env id) → IsSerializable env t s
+set_serializable defs env id t s h there stands = record {
   once = stands.once;
-  rules = flats_ready env t (paths_of s.bindings) (λ term qs k c. rules_fallible (rules_of env id) env 0 term qs k ((stands.paths (Inner (Called term qs k))).0 c)) (rules_of env id) 0 s.rules stands.flat
+  rules = flats_serializable env t (paths_of s.bindings) (λ term qs k c. rules_fallible (rules_of env id) env 0 term qs k ((stands.paths (Inner (Called term qs k))).0 c)) (rules_of env id) 0 s.rules stands.flat
       (recursion_from_All (IsRuleOf env t) (rules_of env id) (typed_of defs env id t h there)) (λ p c. (stands.paths p).1 c);
 }

@@ -15,7 +15,7 @@ use Rattle.isle_core.specs.Bindable.{bound_by}
 use Rattle.isle_core.specs.BlockLawful.{IsLawfulFrom, IsLawfulBlock}
 use Rattle.isle_core.specs.Readable.{IsReadAs}
 use Rattle.isle_core.specs.StandsFor.{EachOnce}
-use Rattle.isle_core.specs.Ready.{IsTestable, AreComparable, IsReadyRule}
+use Rattle.isle_core.specs.Serializable.{IsTestable, AreComparable, IsSerializableRule}
 use Rattle.isle_core.specs.Rule.{Environment}
 use Rattle.isle_core.specs.ArmPlaces.{ArePlacesOf}
 use Rattle.isle_core.specs.ConstraintType.{IsConstraintOf}
@@ -50,7 +50,7 @@ no_place s source (constraint.Struct of) ty h = absurd h
 no_place s source constraint.Some ty h = absurd h
 
 -- calls and a result that is last
-last_lawful : (env : Environment) (t : Term) (bs : List Binding) (inners : ℕ → Option BindingId) (f : FlatRule) → FindsInners bs inners → EachOnce (paths_of bs) → IsReadyRule env t (paths_of bs) f → IsLawfulStep env t bs (last_step inners f) Stop
+last_lawful : (env : Environment) (t : Term) (bs : List Binding) (inners : ℕ → Option BindingId) (f : FlatRule) → FindsInners bs inners → EachOnce (paths_of bs) → IsSerializableRule env t (paths_of bs) f → IsLawfulStep env t bs (last_step inners f) Stop
 last_lawful env t bs inners f found once h =
     let ps = paths_of bs in
     let calls = map (at ps) f.ordered in
@@ -90,7 +90,7 @@ matched_lawful (c ∷ cs) es last env t bs more h k l stop r =
       after = after;
     }
 
-steps_lawful : (env : Environment) (t : Term) (bs : List Binding) (inners : ℕ → Option BindingId) → FindsInners bs inners → EachOnce (paths_of bs) → (fs : List FlatRule) → AllByRecursion (IsReadyRule env t (paths_of bs)) fs
+steps_lawful : (env : Environment) (t : Term) (bs : List Binding) (inners : ℕ → Option BindingId) → FindsInners bs inners → EachOnce (paths_of bs) → (fs : List FlatRule) → AllByRecursion (IsSerializableRule env t (paths_of bs)) fs
     → IsLawfulBlock (setting env t bs) (block_of (chain_steps inners fs))
 steps_lawful env t bs inners found once [] h = tt
 steps_lawful env t bs inners found once (f ∷ fs) h =
@@ -105,9 +105,9 @@ steps_lawful env t bs inners found once (f ∷ fs) h =
     rest true r = tt
     rest false r = r
 
-pub chain_lawful : (env : Environment) (t : Term) (bs : List Binding) (inners : ℕ → Option BindingId) → FindsInners bs inners → EachOnce (paths_of bs) → (fs : List FlatRule) → AllByRecursion (IsReadyRule env t (paths_of bs)) fs
+pub chain_lawful : (env : Environment) (t : Term) (bs : List Binding) (inners : ℕ → Option BindingId) → FindsInners bs inners → EachOnce (paths_of bs) → (fs : List FlatRule) → AllByRecursion (IsSerializableRule env t (paths_of bs)) fs
     → IsLawfulBlock (setting env t bs) (chain inners fs)
-chain_lawful env t bs inners found once fs h = steps_lawful env t bs inners found once (by_priority fs) (all_in_order (IsReadyRule env t (paths_of bs)) fs h)
+chain_lawful env t bs inners found once fs h = steps_lawful env t bs inners found once (by_priority fs) (all_in_order (IsSerializableRule env t (paths_of bs)) fs h)
 
 -- ---- single arms
 

@@ -24,7 +24,7 @@ use Rattle.isle_core.specs.Expr.{Expr, Exprs, NoExpr, AnExpr}
 use Rattle.isle_core.specs.Path.{Path, Arg, Called, Inner, Paths, at}
 use Rattle.isle_core.specs.Pattern as pattern
 use Rattle.isle_core.specs.Pattern.{Pattern}
-use Rattle.isle_core.specs.Ready.{StandsOn, AllStandOn, IsReadyCall, AreReadyCalls}
+use Rattle.isle_core.specs.Serializable.{StandsOn, AllStandOn, IsSerializableCall, AreSerializableCalls}
 use Rattle.isle_core.specs.Rule.{Environment}
 use Rattle.isle_core.specs.StandsFor.{EachOnce}
 use Rattle.isle_core.specs.Terms.{sym_text, impure_callee}
@@ -137,18 +137,18 @@ module _ (env : Environment) (t : Term) (allowed : Bool) (args : List Pattern) (
   abbrev InnersFit : List Path → Type 0
   InnersFit ps = (term : TermId) (qs : Paths) (k : ℕ) → Contains ps (Inner (Called term qs k)) → is_fallible (calling env term) ≡ true
 
-  ready_more : (ps done xs ys : List Path) → AreReadyCalls env t ps done xs → ((later : List Path) → Among done later → Among xs later → AreReadyCalls env t ps later ys) → AreReadyCalls env t ps done (xs ++ ys)
-  ready_more ps done [] ys h go = go done (λ p c. c) (λ p c. absurd (none_contained p c))
-  ready_more ps done (x ∷ xs) ys h go = (h.0, ready_more ps (x ∷ done) xs ys h.1 (λ later a b. go later (λ p c. a p (tail_contained x done p c)) (λ p c. ⊎_elim (λ (e : x ≡ p). a p (subst (Contains (x ∷ done)) e (head_contained x done))) (b p) (contained_cases x xs p c))))
+  serializable_more : (ps done xs ys : List Path) → AreSerializableCalls env t ps done xs → ((later : List Path) → Among done later → Among xs later → AreSerializableCalls env t ps later ys) → AreSerializableCalls env t ps done (xs ++ ys)
+  serializable_more ps done [] ys h go = go done (λ p c. c) (λ p c. absurd (none_contained p c))
+  serializable_more ps done (x ∷ xs) ys h go = (h.0, serializable_more ps (x ∷ done) xs ys h.1 (λ later a b. go later (λ p c. a p (tail_contained x done p c)) (λ p c. ⊎_elim (λ (e : x ≡ p). a p (subst (Contains (x ∷ done)) e (head_contained x done))) (b p) (contained_cases x xs p c))))
 
   inner_of : (kind : ReturnKind) (callee : Callee) (q : Path) (ps : List Path) → Among (with_inner (ByTurns callee kind) q) ps → IsTrue (may_be_nothing kind) → Contains ps (Inner q)
   inner_of return_kind.Option callee q ps a h = a (Inner q) (tail_contained q (Inner q ∷ []) (Inner q) (head_contained (Inner q) []))
   inner_of return_kind.Plain callee q ps a h = cc
   inner_of return_kind.Iterator callee q ps a h = cc
 
-  one_ready : (ps done : List Path) (term : TermId) (c : Term) (k : TakesTurns env allowed term c) (qs : Paths) (j : ℕ) → slice_get env.terms term.0 ≡ Some c → ArePathsOf env t qs c.arg_tys → AllStandOn done qs → allowed ≡ may_be_nothing (kind_of t.kind) → InnersFit ps
-      → Among (with_inner (ByTurns (External k.name) (kind_of c.kind)) (Called term qs j)) ps → IsReadyCall env t ps done (Called term qs j)
-  one_ready ps done term c k qs j there are stand same fit a = record {
+  one_serializable : (ps done : List Path) (term : TermId) (c : Term) (k : TakesTurns env allowed term c) (qs : Paths) (j : ℕ) → slice_get env.terms term.0 ≡ Some c → ArePathsOf env t qs c.arg_tys → AllStandOn done qs → allowed ≡ may_be_nothing (kind_of t.kind) → InnersFit ps
+      → Among (with_inner (ByTurns (External k.name) (kind_of c.kind)) (Called term qs j)) ps → IsSerializableCall env t ps done (Called term qs j)
+  one_serializable ps done term c k qs j there are stand same fit a = record {
     term = term;
     parameters = qs;
     instance = j;
@@ -164,34 +164,34 @@ module _ (env : Environment) (t : Term) (allowed : Bool) (args : List Pattern) (
   }
 
   mutual
-    pub calls_ready : (e : Expr) (n : ℕ) (ty : TypeId) (ps done : List Path) → IsExprOf env allowed args ty e → allowed ≡ may_be_nothing (kind_of t.kind) → InnersFit ps → Among (expr_paths env e places n) ps → AreReadyCalls env t ps done (calls env e places n)
-    calls_ready (expr.Var of x) n ty ps done h same fit a = tt
-    calls_ready (expr.ConstBool b) n ty ps done h same fit a = tt
-    calls_ready (expr.ConstInt of v) n ty ps done h same fit a = tt
-    calls_ready (expr.Term of term es) n ty ps done h same fit a =
+    pub calls_serializable : (e : Expr) (n : ℕ) (ty : TypeId) (ps done : List Path) → IsExprOf env allowed args ty e → allowed ≡ may_be_nothing (kind_of t.kind) → InnersFit ps → Among (expr_paths env e places n) ps → AreSerializableCalls env t ps done (calls env e places n)
+    calls_serializable (expr.Var of x) n ty ps done h same fit a = tt
+    calls_serializable (expr.ConstBool b) n ty ps done h same fit a = tt
+    calls_serializable (expr.ConstInt of v) n ty ps done h same fit a = tt
+    calls_serializable (expr.Term of term es) n ty ps done h same fit a =
         let c = some_of (slice_get env.terms term.0) _ h.1 in
         let k = turns env allowed term c.0 c.1 c.2.0 in
         let qs = all_paths env es places n in
         let q = call_path env term qs (n + impure_all env es) in
-        ready_more ps done (calls_all env es places n) (if_ordered (calling env term) q)
-        (all_calls_ready es n c.0.arg_tys ps done c.2.2 same fit (λ p d. a p (Contains-append_left (exprs_paths env es places n) (with_inner (calling env term) q) p d)))
-        (λ later among made. subst (λ d. AreReadyCalls env t ps later (if_ordered d q)) (sym k.is) (
-          one_ready ps later term c.0 k qs _ c.1 (paths_typed es n c.0.arg_tys c.2.2) (paths_stand es n c.0.arg_tys later c.2.2 made) same fit
+        serializable_more ps done (calls_all env es places n) (if_ordered (calling env term) q)
+        (all_calls_serializable es n c.0.arg_tys ps done c.2.2 same fit (λ p d. a p (Contains-append_left (exprs_paths env es places n) (with_inner (calling env term) q) p d)))
+        (λ later among made. subst (λ d. AreSerializableCalls env t ps later (if_ordered d q)) (sym k.is) (
+          one_serializable ps later term c.0 k qs _ c.1 (paths_typed es n c.0.arg_tys c.2.2) (paths_stand es n c.0.arg_tys later c.2.2 made) same fit
               (λ p d. a p (Contains-append_right (exprs_paths env es places n) (with_inner (calling env term) q) p (subst (λ x. Contains (with_inner x q) p) (sym k.is) d))),
           tt,
         ))
-    calls_ready (expr.ConstPrim of name) n ty ps done h same fit a = absurd h
-    calls_ready (expr.Let of bindings inner) n ty ps done h same fit a = absurd h
+    calls_serializable (expr.ConstPrim of name) n ty ps done h same fit a = absurd h
+    calls_serializable (expr.Let of bindings inner) n ty ps done h same fit a = absurd h
 
-    all_calls_ready : (es : Exprs) (n : ℕ) (tys : List TypeId) (ps done : List Path) → AreExprsOf env allowed args tys es → allowed ≡ may_be_nothing (kind_of t.kind) → InnersFit ps → Among (exprs_paths env es places n) ps → AreReadyCalls env t ps done (calls_all env es places n)
-    all_calls_ready NoExpr n [] ps done h same fit a = tt
-    all_calls_ready (AnExpr e es) n (ty ∷ tys) ps done h same fit a =
+    all_calls_serializable : (es : Exprs) (n : ℕ) (tys : List TypeId) (ps done : List Path) → AreExprsOf env allowed args tys es → allowed ≡ may_be_nothing (kind_of t.kind) → InnersFit ps → Among (exprs_paths env es places n) ps → AreSerializableCalls env t ps done (calls_all env es places n)
+    all_calls_serializable NoExpr n [] ps done h same fit a = tt
+    all_calls_serializable (AnExpr e es) n (ty ∷ tys) ps done h same fit a =
         let n1 = n + impure env e in
-        ready_more ps done (calls env e places n) (calls_all env es places n1)
-        (calls_ready e n ty ps done h.0 same fit (λ p c. a p (Contains-append_left (expr_paths env e places n) (exprs_paths env es places n1) p c)))
-        (λ later among made. all_calls_ready es n1 tys ps later h.1 same fit (λ p c. a p (Contains-append_right (expr_paths env e places n) (exprs_paths env es places n1) p c)))
-    all_calls_ready NoExpr n (ty ∷ tys) ps done h same fit a = absurd h
-    all_calls_ready (AnExpr e es) n [] ps done h same fit a = absurd h
+        serializable_more ps done (calls env e places n) (calls_all env es places n1)
+        (calls_serializable e n ty ps done h.0 same fit (λ p c. a p (Contains-append_left (expr_paths env e places n) (exprs_paths env es places n1) p c)))
+        (λ later among made. all_calls_serializable es n1 tys ps later h.1 same fit (λ p c. a p (Contains-append_right (expr_paths env e places n) (exprs_paths env es places n1) p c)))
+    all_calls_serializable NoExpr n (ty ∷ tys) ps done h same fit a = absurd h
+    all_calls_serializable (AnExpr e es) n [] ps done h same fit a = absurd h
 
   -- ---- their occurrences rise
 

@@ -51,7 +51,7 @@ AllStandOn done (APath p ps) = StandsOn done p × AllStandOn done ps
 
 -- a call of an external term on values of its types, which stand on earlier calls; it has an inner value exactly where it
 -- may be nothing, which is only so in a term that may answer nothing
-pub record IsReadyCall (env : Environment) (t : Term) (ps done : List Path) (p : Path) : Type 0 where
+pub record IsSerializableCall (env : Environment) (t : Term) (ps done : List Path) (p : Path) : Type 0 where
   pub term : TermId
   pub parameters : Paths
   pub instance : ℕ
@@ -66,23 +66,23 @@ pub record IsReadyCall (env : Environment) (t : Term) (ps done : List Path) (p :
   pub fits : IsTrue (may_be_nothing kind) → may_be_nothing (kind_of t.kind) ≡ true
 
 -- calls in order, behind those that were made
-abbrev pub AreReadyCalls : Environment → Term → (ps done : List Path) → List Path → Type 0
-AreReadyCalls env t ps done [] = Unit {0}
-AreReadyCalls env t ps done (p ∷ more) = IsReadyCall env t ps done p × AreReadyCalls env t ps (p ∷ done) more
+abbrev pub AreSerializableCalls : Environment → Term → (ps done : List Path) → List Path → Type 0
+AreSerializableCalls env t ps done [] = Unit {0}
+AreSerializableCalls env t ps done (p ∷ more) = IsSerializableCall env t ps done p × AreSerializableCalls env t ps (p ∷ done) more
 
 -- ---- rules
 
 -- the tests of a rule fit the types of what they test, its calls are ready, each with its own occurrence, and its result
 -- is of the term's type and stands on them
-pub record IsReadyRule (env : Environment) (t : Term) (ps : List Path) (f : FlatRule) : Type 0 where
+pub record IsSerializableRule (env : Environment) (t : Term) (ps : List Path) (f : FlatRule) : Type 0 where
   pub constraints : AllByRecursion (IsTestable env t ps) f.constraints
   pub equals : AllByRecursion (AreComparable env t ps) f.equals
-  pub calls : AreReadyCalls env t ps [] (map (at ps) f.ordered)
+  pub calls : AreSerializableCalls env t ps [] (map (at ps) f.ordered)
   pub once : EachOnce (occurrences env ps f.ordered)
   pub result : IsPathOf env t (at ps f.result) t.ret_ty
   pub stands : StandsOn (map (at ps) f.ordered) (at ps f.result)
 
 -- no path stands twice, and each rule of the set is ready
-pub record IsReady (env : Environment) (t : Term) (s : RuleSet) : Type 0 where
+pub record IsSerializable (env : Environment) (t : Term) (s : RuleSet) : Type 0 where
   pub once : EachOnce (paths_of s.bindings)
-  pub rules : AllByRecursion (IsReadyRule env t (paths_of s.bindings)) s.rules
+  pub rules : AllByRecursion (IsSerializableRule env t (paths_of s.bindings)) s.rules

@@ -10,14 +10,14 @@ use Rattle.isle_core.specs.Tests.{Test, Is, Equal, Never}
 use Rattle.isle_core.specs.Rule.{Environment}
 
 -- a constraint of the type of its path, which may be read in place
-pub record IsReadyConstraint (env : Environment) (t : Term) (p : Path) (c : Constraint) : Type 0 where
+pub record IsSerializableConstraint (env : Environment) (t : Term) (p : Path) (c : Constraint) : Type 0 where
   pub ty : TypeId
   pub path : IsPathOf env t p ty
   pub in_place : IsInPlace p
   pub constraint : IsConstraintOf env c ty
 
 -- two paths of one type that may be read in place
-pub record AreReadyEqual (env : Environment) (t : Term) (p q : Path) : Type 0 where
+pub record AreSerializableEqual (env : Environment) (t : Term) (p q : Path) : Type 0 where
   pub ty : TypeId
   pub left : IsPathOf env t p ty
   pub left_in_place : IsInPlace p
@@ -25,7 +25,7 @@ pub record AreReadyEqual (env : Environment) (t : Term) (p q : Path) : Type 0 wh
   pub right_in_place : IsInPlace q
 
 -- a test whose sides have one type
-abbrev pub IsReadyTest : Environment → Term → Test → Type 0
-IsReadyTest env t (Is p c) = IsReadyConstraint env t p c
-IsReadyTest env t (Equal p q) = AreReadyEqual env t p q
-IsReadyTest env t Never = ⊥
+abbrev pub IsSerializableTest : Environment → Term → Test → Type 0
+IsSerializableTest env t (Is p c) = IsSerializableConstraint env t p c
+IsSerializableTest env t (Equal p q) = AreSerializableEqual env t p q
+IsSerializableTest env t Never = ⊥
