@@ -113,7 +113,7 @@ call_bound env t bs done bound c k h =
     let bound_call : IsCallBound (setting env t bs) bound (at (paths_of bs) c) h.term is.0 h.instance = record {
       path = h.path ∙ ap (λ q. Called h.term q h.instance) is.2;
       called = h.called;
-      there = h.there;
+      found = h.found;
       args = all_read env t bs done bound k is.0 h.called.arg_tys (subst (λ q. ArePathsOf env t q h.called.arg_tys) is.2 h.args) (subst (AllStandOn done) is.2 h.stand);
       kind = h.kind;
       external = h.external;
@@ -130,7 +130,7 @@ inner_bound : (env : Environment) (t : Term) (bs : List Binding) (done : List Pa
 inner_bound env t bs done bound c b h is there path k =
     let external : IsCall return_kind.Option (calling env h.term) = subst (λ x. IsCall x (calling env h.term)) (option_kind h.kind is) h.external in
     let typed : IsSomeAnd (slice_get env.terms h.term.0) (λ (x : Term). (x.ret_ty ≡ h.called.ret_ty) × ArePathsOf env t h.parameters x.arg_tys) =
-    subst (λ o. IsSomeAnd o (λ (x : Term). (x.ret_ty ≡ h.called.ret_ty) × ArePathsOf env t h.parameters x.arg_tys)) (sym h.there) (refl, h.args) in
+    subst (λ o. IsSomeAnd o (λ (x : Term). (x.ret_ty ≡ h.called.ret_ty) × ArePathsOf env t h.parameters x.arg_tys)) (sym h.found) (refl, h.args) in
     let bound_inner : IsInnerBound (setting env t bs) bound (at (paths_of bs) b) c = record {
       path = path;
       ty = h.called.ret_ty;

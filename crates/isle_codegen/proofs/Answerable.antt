@@ -75,7 +75,7 @@ mutual
       let k = external_kind allowed t.0.kind t.2.0 in
       ⊎_elim (λ d. exprs_external env allowed args t.0.arg_tys es t.2.2 o d)
       (λ d. subst (IsExternal env) (in_unless (is_made env term) (record { term = term; role = Constructor }) o d)
-      (record { term = t.0; there = t.1; role = refl; partial = k.0; func = k.1; extractor = k.2; kind = k.3 }))
+      (record { term = t.0; found = t.1; role = refl; partial = k.0; func = k.1; extractor = k.2; kind = k.3 }))
       (Contains-append_cases (called_by_all env es) (unless_made env Constructor term) o c)
   expr_external env allowed args ty (expr.ConstPrim of name) h o c = absurd h
   expr_external env allowed args ty (expr.Let of bindings inner) h o c = absurd h
@@ -119,7 +119,7 @@ asked_of env o x = record { callee = External (sym_text env x.func); pure = fals
 service_is : (env : Environment) (o : CalledTerm) (x : IsExternal env o) → service_of env o ≡ Some (asked_of env o x)
 service_is env o x =
     subst (λ (r : Role). service_by r (slice_get env.terms o.term.0) (called_as env o.term r) ≡ Some (asked_of env o x)) (sym x.role)
-    (subst (λ (t : Option Term). service_by Constructor t (calling_of env t) ≡ Some (asked_of env o x)) (sym x.there)
+    (subst (λ (t : Option Term). service_by Constructor t (calling_of env t) ≡ Some (asked_of env o x)) (sym x.found)
     (subst (λ (k : TermKind). service_by Constructor (Some x.term) (calling_by (kind_of k) (impure_callee env x.term k) (pure_callee env x.term k)) ≡ Some (asked_of env o x)) (sym x.kind) refl))
 
 answer_fits : (env : Environment) (partial : Bool) (ty : TypeId) (v : Value) → HasType env v ty → (a : Answer) × Fits env (kind_by false partial) (ty ∷ []) a
@@ -177,14 +177,14 @@ asked_alike env names o p x y s t a b same =
     let first : asked_of env o x ≡ s = the_service (asked_of env o x) s (sym (service_is env o x) ∙ a) in
     let second : asked_of env p y ≡ t = the_service (asked_of env p y) t (sym (service_is env p y) ∙ b) in
     let name = callee_name (sym_text env x.func) (sym_text env y.func) (ap (λ (z : Service). z.callee) first ∙ same ∙ sym (ap (λ (z : Service). z.callee) second)) in
-    let place = one_place env env.terms o.term.0 p.term.0 x.term y.term (constructor_fn env x.term x.func) (constructor_fn env y.term y.func) names.distinct x.there y.there (fn_is env o x) (fn_is env p y) name in
+    let place = one_place env env.terms o.term.0 p.term.0 x.term y.term (constructor_fn env x.term x.func) (constructor_fn env y.term y.func) names.distinct x.found y.found (fn_is env o x) (fn_is env p y) name in
     let one : o ≡ p = ap (λ (r : Role). record { term = o.term; role = r }) x.role ∙ ap (λ (n : ℕ). record { term = record { 0 = n }; role = Constructor }) place ∙ sym (ap (λ (r : Role). record { term = p.term; role = r }) y.role) in
     the_service s t (sym a ∙ ap (service_of env) one ∙ b)
 
 -- ---- the law
 
 inhabited : (env : Environment) (o : CalledTerm) (x : IsExternal env o) → AnswersInhabited env o → (v : Value) × HasType env v x.term.ret_ty
-inhabited env o x h = of x.role (subst (λ (t : Option Term). IsSomeAnd t (λ (u : Term). AllByRecursion (λ ty. (v : Value) × HasType env v ty) (result_types o.role u))) x.there h)
+inhabited env o x h = of x.role (subst (λ (t : Option Term). IsSomeAnd t (λ (u : Term). AllByRecursion (λ ty. (v : Value) × HasType env v ty) (result_types o.role u))) x.found h)
   where
     of : o.role ≡ Constructor → AllByRecursion (λ ty. (v : Value) × HasType env v ty) (result_types o.role x.term) → (v : Value) × HasType env v x.term.ret_ty
     of is k = (subst (λ (r : Role). AllByRecursion (λ ty. (v : Value) × HasType env v ty) (result_types r x.term)) is k).0

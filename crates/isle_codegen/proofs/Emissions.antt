@@ -31,20 +31,20 @@ pub is_emitted : (files : Files) (env : Environment) (id : TermId) (s : RuleSet)
     → ((u : Term) → IsSerializable env u s → IsLawfulBlock (setting env u s.bindings) b) → HasSingleArms b → MeansSet env s b → term_function files env t s.bindings b ≡ Some f → IsEmitted files env id s f
 is_emitted files env id s t b f h there lawful single means given = record {
   term = h.term;
-  there = h.there;
+  found = h.found;
   block = b;
   lawful = lawful h.term h.ready;
   single = single;
   means = means;
   once = h.emittable.once;
-  given = ap (λ (u : Term). term_function files env u s.bindings b) (sym (some_one t h.term (sym there ∙ h.there))) ∙ given;
+  given = ap (λ (u : Term). term_function files env u s.bindings b) (sym (some_one t h.term (sym there ∙ h.found))) ∙ given;
 }
 
 -- and its function is there
 pub is_given : (files : Files) (env : Environment) (id : TermId) (s : RuleSet) (t : Term) (b : Block) → CanEmit files env (id, s) → slice_get env.terms id.0 ≡ Some t
     → ((u : Term) → IsSerializable env u s → IsLawfulBlock (setting env u s.bindings) b) → HasSingleArms b → None ≡ term_function files env t s.bindings b → ⊥
 is_given files env id s t b h there lawful single none =
-    let same = some_one h.term t (sym h.there ∙ there) in
+    let same = some_one h.term t (sym h.found ∙ there) in
     let made = function_made files env h.term s.bindings b h.emittable.once (lawful h.term h.ready) single in
     let bad : None ≡ Some (function_of files env h.term s.bindings b) = none ∙ ap (λ (u : Term). term_function files env u s.bindings b) (sym same) ∙ made in
     cc

@@ -48,7 +48,7 @@ are_declared files env [] [] h = tt
 are_declared files env (s ∷ sets) (f ∷ fs) h = (
   record {
     term = h.0.term;
-    there = h.0.there;
+    found = h.0.found;
     of_term = of_its_term files env h.0.term s.1.bindings h.0.block f h.0.lawful h.0.single h.0.once h.0.given;
   },
   are_declared files env sets fs h.1,
@@ -71,7 +71,7 @@ are_from_blocks files env [] [] impures stand h = tt
 are_from_blocks files env (s ∷ sets) (f ∷ fs) impures stand h = (
   record {
     term = h.0.term;
-    there = h.0.there;
+    found = h.0.found;
     set = s.1;
     stands = stand.0;
     block = h.0.block;
@@ -93,7 +93,7 @@ some_same a b e = cc
 are_well_formed : (files : Files) (env : Environment) (p : Program) (sets : List (TermId × RuleSet)) (fs : List Function) → p.trait_fns ≡ trait_fns_of env → AllByRecursion (CanEmit files env) sets → AreEmitted files env sets fs → AllByRecursion (IsFunction p) fs
 are_well_formed files env p [] [] same c h = tt
 are_well_formed files env p (s ∷ sets) (f ∷ fs) same c h =
-    let e : IsEmittable env h.0.term = subst (IsEmittable env) (some_same c.0.term h.0.term (sym c.0.there ∙ h.0.there)) c.0.emittable in (
+    let e : IsEmittable env h.0.term = subst (IsEmittable env) (some_same c.0.term h.0.term (sym c.0.found ∙ h.0.found)) c.0.emittable in (
       emitted_well_formed files env h.0.term s.1.bindings h.0.block f h.0.lawful h.0.single h.0.once h.0.given e c.0.fns p same,
       are_well_formed files env p sets fs same c.1 h.1,
     )
@@ -136,7 +136,7 @@ module _ (defs : List Def) (files : Files) (env : Environment) (typed : Typed de
   meant_of : HasFnNames env → (id : TermId) (t : Term) → slice_get env.terms id.0 ≡ Some t → IsMeant env id
   meant_of names id t there = record {
     term = t;
-    there = there;
+    found = there;
     arguments = arguments_of env t.arg_tys (typed_types defs env id.0 t typed there).1;
     meanings = λ none values h history. lawful_with env id h (answerable env t (rules_of env id) names (recursion_from_All (IsRuleOf env t) (rules_of env id) (typed_of defs env id t typed there)) values) none history;
   }
@@ -149,5 +149,5 @@ module _ (defs : List Def) (files : Files) (env : Environment) (typed : Typed de
         declared = subst (λ (xs : List Function). AreDeclared files env (with_rules env) xs) (sym e) (subst (λ (ids : List TermId). AreDeclared files env ids fs) stand.ids (are_declared files env sets fs emitted));
         blocks = subst (λ (xs : List Function). AreFromBlocks files env (with_rules env) xs) (sym e) (subst (λ (ids : List TermId). AreFromBlocks files env ids fs) stand.ids (are_from_blocks files env sets fs (λ id. recursion_from_All (IsImpureRule env.terms) (rules_of env id) (of_term (IsImpureRule env.terms) env id (typed_impure defs env typed))) (recursion_from_All (λ (s : TermId × RuleSet). StandsFor env s.1 (rules_of env s.0)) sets stand.stand) emitted));
         mean = λ id c. means_rules defs files env p id typed (subst (λ (xs : List Function). HasFunction files env xs id) (sym e) (function_for id c));
-        meant = λ id c. meant_of names id (function_for id c).emitted.term (function_for id c).emitted.there;
+        meant = λ id c. meant_of names id (function_for id c).emitted.term (function_for id c).emitted.found;
       }

@@ -40,7 +40,7 @@ one defs files env s h placed c name fns stands =
     let t = typed_there defs env s.0 h c in
     record {
       term = t.0;
-      there = t.1;
+      found = t.1;
       placed = placed_at files env.terms s.0.0 t.0 placed t.1;
       emittable = record { name = subst (λ n. IsTrue (is_term_name n)) (name_of_term env s.0 t.0 t.1) name; types = typed_types defs env s.0.0 t.0 h t.1; once = typed_once defs env s.0.0 t.0 h t.1 };
       ready = set_serializable defs env s.0 t.0 s.1 h t.1 stands;

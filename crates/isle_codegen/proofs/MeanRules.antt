@@ -145,11 +145,11 @@ module _ (defs : List Def) (files : Files) (env : Environment) (p : Program) (id
       h.emitted.means m args kind
       ∙ set_means env m args (paths_of h.set.bindings) (rules_of env id) h.set.rules kind
       (of_term IsBuiltRule env id (typed_built defs env typed)) (of_term IsScopedRule env id (typed_scoped defs env typed)) (of_term (IsImpureRule env.terms) env id (typed_impure defs env typed)) lawful.answers
-      (λ k d lt. typed_args defs env id the_term typed h.emitted.there k d lt ∙ sym (as_many env args the_term.arg_tys types)) h.stands.flat
+      (λ k d lt. typed_args defs env id the_term typed h.emitted.found k d lt ∙ sym (as_many env args the_term.arg_tys types)) h.stands.flat
 
   runs : (args : List Value) (m : Meaning) → HaveTypes env args the_term.arg_tys → IsLawful env id m → run p (term_name env id) args m ≡ ran_of the_term (outcome_of env m args (rules_of env id) kind [])
   runs args m types lawful =
-      let named = name_of_term env id the_term h.emitted.there in
+      let named = name_of_term env id the_term h.emitted.found in
       ap (λ (n : List ℕ). run p n args m) named
       ∙ runs_as_block files env the_term h.set.bindings h.emitted.block h.function h.emitted.lawful h.emitted.single h.emitted.once h.emitted.given p args m
       (ap (λ (n : List ℕ). function_of n p.fns) (sym named) ∙ h.found) types (bindings_answered env id m h.set h.stands (recursion_from_All (IsImpureRule env.terms) (rules_of env id) (of_term (IsImpureRule env.terms) env id (typed_impure defs env typed))) lawful)
@@ -169,5 +169,5 @@ module _ (defs : List Def) (files : Files) (env : Environment) (p : Program) (id
   -- the function of the term means its rules
   pub means_rules : MeansRules env p id
   means_rules =
-      subst (λ (o : Option Term). IsSomeAnd o (λ (t : Term). (args : List Value) (m : Meaning) → HaveTypes env args t.arg_tys → IsLawful env id m → GivesOutcome env p id t args m)) (sym h.emitted.there)
+      subst (λ (o : Option Term). IsSomeAnd o (λ (t : Term). (args : List Value) (m : Meaning) → HaveTypes env args t.arg_tys → IsLawful env id m → GivesOutcome env p id t args m)) (sym h.emitted.found)
       (λ args m types lawful. gives_outcome args m types lawful)

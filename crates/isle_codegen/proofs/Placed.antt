@@ -20,7 +20,7 @@ within_files files file text [] n t e h = tt
 within_files files file text (d ∷ defs) n t e h = (
   record {
     named = subst (λ (x : ℕ). x < length files.file_names) (sym h.0.named) n;
-    there = subst (λ (x : ℕ). x < length files.file_texts) (sym h.0.named) t;
+    found = subst (λ (x : ℕ). x < length files.file_texts) (sym h.0.named) t;
     within = subst (λ (x : ℕ). (place_of d).offset ≤ length (text_in files x)) (sym h.0.named) (subst (λ (bs : List ℕ). (place_of d).offset ≤ length bs) (sym e) (omega (arith, h.0.before)));
   },
   within_files files file text defs n t e h.1,

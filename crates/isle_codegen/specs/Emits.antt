@@ -27,7 +27,7 @@ use Rattle.isle_simulation.specs.TraitFns.{HasFnNames}
 -- functions of the trait may be called by their names
 pub record CanEmit (files : Files) (env : Environment) (s : TermId × RuleSet) : Type 0 where
   pub term : Term
-  pub there : slice_get env.terms s.0.0 ≡ Some term
+  pub found : slice_get env.terms s.0.0 ≡ Some term
   pub placed : LiesIn files term.decl_pos
   pub emittable : IsEmittable env term
   pub ready : IsSerializable env term s.1
@@ -41,7 +41,7 @@ MeansSet env s b = (m : Meaning) (args : List Value) (kind : ReturnKind) → blo
 -- Match and means the set
 pub record IsEmitted (files : Files) (env : Environment) (id : TermId) (s : RuleSet) (f : Function) : Type 0 where
   pub term : Term
-  pub there : slice_get env.terms id.0 ≡ Some term
+  pub found : slice_get env.terms id.0 ≡ Some term
   pub block : Block
   pub lawful : IsLawfulBlock (setting env term s.bindings) block
   pub single : HasSingleArms block

@@ -21,7 +21,7 @@ use Rattle.isle_codegen.specs.Emits.{MeansSet}
 -- the block's shape, its head, its statements and its tail are those of the block, and its calls are those of the rules
 pub record IsFromBlock (files : Files) (env : Environment) (id : TermId) (f : Function) : Type 0 where
   pub term : Term
-  pub there : slice_get env.terms id.0 ≡ Some term
+  pub found : slice_get env.terms id.0 ≡ Some term
   pub set : RuleSet
   pub stands : StandsFor env set (rules_of env id)
   pub block : Block

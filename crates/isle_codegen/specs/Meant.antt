@@ -26,6 +26,6 @@ HasMeanings env id =
 -- the term has well-typed arguments, and lawful meanings
 pub record IsMeant (env : Environment) (id : TermId) : Type 0 where
   pub term : Term
-  pub there : slice_get env.terms id.0 ≡ Some term
+  pub found : slice_get env.terms id.0 ≡ Some term
   pub arguments : (args : List Value) × HaveTypes env args term.arg_tys
   pub meanings : HasMeanings env id

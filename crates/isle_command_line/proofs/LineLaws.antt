@@ -81,7 +81,7 @@ not_continued ws e h =
 -- the first word with which no line continues
 pub bad_at : (ws : List (List ℕ)) (i : ℕ) → StopsAt ws i → IsBad ws i
 bad_at ws i h = record {
-  there = h.there;
+  found = h.found;
   before = known_continues (read state.Begin (take i ws)) (take i ws) h.before (told (take i ws));
   bad = not_continued (take (i + 1) ws) h.bad;
 }

@@ -36,7 +36,7 @@ one_word words i x s o lt is before e =
 pub stops_at : (words : List (String Global)) (i : ℕ) (x : String Global) (s : Known) → i < length words → x ≡ get_or words i x
     → read Begin (bytes_each (take i words)) ≡ Some s → next s (string_bytes x) ≡ None → StopsAt (bytes_each words) i
 stops_at words i x s lt is before e = record {
-  there = subst (λ n. i < n) (sym (length-map words string_bytes)) lt;
+  found = subst (λ n. i < n) (sym (length-map words string_bytes)) lt;
   before = subst IsSome (sym (ap (read Begin) (take-map string_bytes i words) ∙ before)) refl;
   bad = ap (read Begin) (take-map string_bytes (i + 1) words) ∙ one_word words i x s None lt is before e;
 }

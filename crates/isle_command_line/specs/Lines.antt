@@ -111,7 +111,7 @@ Continues words = (more : List (List ℕ)) × (c : Request) × LineS (words ++ m
 
 -- the word of this number is the first with which no line continues
 pub record IsBad (words : List (List ℕ)) (i : ℕ) : Type 0 where
-  pub there : i < length words
+  pub found : i < length words
   pub before : Continues (take i words)
   pub bad : Continues (take (i + 1) words) → ⊥
 

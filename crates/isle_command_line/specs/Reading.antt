@@ -174,6 +174,6 @@ asks s = None
 
 -- the word of this number is the first with which no line continues
 pub record StopsAt (words : List (List ℕ)) (i : ℕ) : Type 0 where
-  pub there : i < length words
+  pub found : i < length words
   pub before : IsSome (read state.Begin (take i words))
   pub bad : read state.Begin (take (i + 1) words) ≡ None

@@ -19,7 +19,7 @@ use Rattle.isle_core.specs.Setting.{Setting, paths_in}
 pub record IsCallBound (s : Setting) (bound : List ℕ) (p : Path) (term : TermId) (parameters : List BindingId) (instance : ℕ) : Type 0 where
   pub path : p ≡ Called term (at_all (paths_in s) parameters) instance
   pub called : Term
-  pub there : slice_get s.env.terms term.0 ≡ Some called
+  pub found : slice_get s.env.terms term.0 ≡ Some called
   pub args : AreReadAs s bound parameters called.arg_tys
   pub kind : ReturnKind
   pub external : IsCall kind (calling s.env term)

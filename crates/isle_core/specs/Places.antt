@@ -15,7 +15,7 @@ text_in files file = slice_index_or files.file_texts file []
 -- the place lies in the files: its file has a name and a text, and its offset is at most the text's length
 pub record LiesIn (files : Files) (pos : Pos) : Type 0 where
   pub named : pos.file < length files.file_names
-  pub there : pos.file < length files.file_texts
+  pub found : pos.file < length files.file_texts
   pub within : pos.offset ≤ length (text_in files pos.file)
 
 -- a place as it is printed

@@ -57,7 +57,7 @@ pub record IsSerializableCall (env : Environment) (t : Term) (ps done : List Pat
   pub instance : ℕ
   pub path : p ≡ Called term parameters instance
   pub called : Term
-  pub there : slice_get env.terms term.0 ≡ Some called
+  pub found : slice_get env.terms term.0 ≡ Some called
   pub args : ArePathsOf env t parameters called.arg_tys
   pub stand : AllStandOn done parameters
   pub kind : ReturnKind

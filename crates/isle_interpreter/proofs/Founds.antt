@@ -9,7 +9,7 @@ use Rattle.isle_interpreter.specs.Refusals.{MayRun}
 use Rattle.isle_interpreter.proofs.Runs.{runs}
 
 pub run_is : (p : Program) (term : List ℕ) (args : List Value) (m : Meaning) (f : Function) → MayRun p term args m f → run p term args m ≡ function_run p m args (Some f)
-run_is p term args m f may = ap (function_run p m args) may.there
+run_is p term args m f may = ap (function_run p m args) may.found
 
 -- it isn't absent
 pub not_none : (p : Program) (term : List ℕ) (args : List Value) (m : Meaning) (f : Function) → IsWellFormed p → MayRun p term args m f → None ≡ function_run p m args (Some f) → ⊥

@@ -71,10 +71,10 @@ right_at p earlier (g ∷ fs) zero f right e =
 right_at p earlier (g ∷ fs) (suc i) f right e = subst (λ gs. IsRight p gs f) (append_assoc earlier (g ∷ []) (take i fs)) (right_at p (earlier ++ g ∷ []) fs i f right.1 e)
 
 not_right : (p : Program) (fs : List Form) (i : ℕ) → IsWrongForm p fs i → AreRight p [] fs → ⊥
-not_right p fs i w right = w.wrong (right_at p [] fs i w.form right w.there)
+not_right p fs i w right = w.wrong (right_at p [] fs i w.form right w.found)
 
 earlier_form : (p : Program) (fs : List Form) (i j : ℕ) → IsWrongForm p fs i → IsWrongForm p fs j → i < j → ⊥
-earlier_form p fs i j v w lt = v.wrong (subst (λ gs. IsRight p gs v.form) (taken_twice i j fs lt) (right_at p [] (take j fs) i v.form w.before (get_taken i j fs lt ∙ v.there)))
+earlier_form p fs i j v w lt = v.wrong (subst (λ gs. IsRight p gs v.form) (taken_twice i j fs lt) (right_at p [] (take j fs) i v.form w.before (get_taken i j fs lt ∙ v.found)))
 
 one_form : (p : Program) (fs : List Form) (i j : ℕ) → IsWrongForm p fs i → IsWrongForm p fs j → i ≡ j
 one_form p fs i j v w = same_number i j (earlier_form p fs i j v w) (earlier_form p fs j i w v)
@@ -130,8 +130,8 @@ module _ (p : Program) (term : List ℕ) (args : List Value) (m : Meaning) where
 
   -- where the function may run there is none
   pub not_refused : (f : Function) (d : RunError) → MayRun p term args m f → IsRefused p term args m d → ⊥
-  not_refused f _ may (no_term b) = let none : None ≡ Some f = sym b ∙ may.there in cc
-  not_refused f _ may (arg_count g h k) = not_counted g f h may.there k may.typed
-  not_refused f _ may (arg_type g j h k w) = not_typed g f j h may.there w may.typed
+  not_refused f _ may (no_term b) = let none : None ≡ Some f = sym b ∙ may.found in cc
+  not_refused f _ may (arg_count g h k) = not_counted g f h may.found k may.typed
+  not_refused f _ may (arg_type g j h k w) = not_typed g f j h may.found w may.typed
   not_refused f _ may (wrong_form g j h t w) = not_right p (forms m) j w may.right
-  not_refused f _ may (missing g h t r l) = may.answered l.callee (subst (λ (x : Function). Contains (body_calls x.body) l.callee) (same g f h may.there) l.called) l.none
+  not_refused f _ may (missing g h t r l) = may.answered l.callee (subst (λ (x : Function). Contains (body_calls x.body) l.callee) (same g f h may.found) l.called) l.none

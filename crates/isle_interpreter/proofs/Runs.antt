@@ -72,12 +72,12 @@ answering p m f all right some (callee.Internal term) k count h e vs made = absu
 -- in a well-formed program
 pub runs : (p : Program) (term : List ℕ) (args : List Value) (m : Meaning) (f : Function) → IsWellFormed p → MayRun p term args m f → HasRun p term args m
 runs p term args m f well may =
-    let is : IsFunction p f = found_function p term p.fns f well.fns may.there in
+    let is : IsFunction p f = found_function p term p.fns f well.fns may.found in
     let count : length args ≡ length f.params = named_length (type_names f.params) args may.typed ∙ length-map f.params (λ (ty : Ty). ty.name) in
-    let there : IsBodyThere p.trait_fns f.kind (length args) [] f.body = subst (λ n. IsBodyThere p.trait_fns f.kind n [] f.body) (sym count) is.there in
+    let there : IsBodyThere p.trait_fns f.kind (length args) [] f.body = subst (λ n. IsBodyThere p.trait_fns f.kind n [] f.body) (sym count) is.found in
     let around : Around = record { meaning = m; program = p; function = f; args = args; limit = None } in
     let ends = function_ends p.trait_fns around f.kind f.body [] [] nothing_done is.forms there is.fits (answering p m f well.trait_fns may.right may.answered) tt in
     record {
       ran = record { end = ends.end; calls = ends.left.made };
-      is = ap (function_run p m args) may.there ∙ ap ended ends.is;
+      is = ap (function_run p m args) may.found ∙ ap ended ends.is;
     }

@@ -32,7 +32,7 @@ AreBad p f fs e = ⊥
 -- the function of the term takes the arguments
 pub record Takes (p : Program) (term : List ℕ) (args : List Value) : Type 0 where
   pub function : Function
-  pub there : function_of term p.fns ≡ Some function
+  pub found : function_of term p.fns ≡ Some function
   pub typed : AreNamed (type_names function.params) args
 
 -- the term, the arguments and the answers fit the function of the term

@@ -23,7 +23,7 @@ pub record IsWrongArg (names : List (List ℕ)) (args : List Value) (i : ℕ) : 
 -- the form of this number is the first wrong one
 pub record IsWrongForm (p : Program) (fs : List Form) (i : ℕ) : Type 0 where
   pub form : Form
-  pub there : slice_get fs i ≡ Some form
+  pub found : slice_get fs i ≡ Some form
   pub before : AreRight p [] (take i fs)
   pub wrong : IsRight p (take i fs) form → ⊥
 
@@ -39,7 +39,7 @@ AreAnswered f fs = (callee : Callee) → Contains (body_calls f.body) callee →
 
 -- the term, the arguments and the answers fit the function
 pub record MayRun (p : Program) (term : List ℕ) (args : List Value) (m : Meaning) (f : Function) : Type 0 where
-  pub there : function_of term p.fns ≡ Some f
+  pub found : function_of term p.fns ≡ Some f
   pub typed : AreNamed (type_names f.params) args
   pub right : AreRight p [] (forms m)
   pub answered : AreAnswered f (forms m)

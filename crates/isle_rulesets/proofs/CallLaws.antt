@@ -67,7 +67,7 @@ pub call_more : (old : Numbered) (items : List Binding) (numbers : Key → Optio
 call_more old items numbers term bs m k a count long is = (
   call_pushed old items numbers p k a paths le up (none_later old numbers p a (λ q. key_no_call q term qs (suc old.calls)) (λ h. omega arith)),
   record {
-    there = last_there old.bindings items p m paths long;
+    found = last_there old.bindings items p m paths long;
     value = last_there old.bindings items p m paths long;
     extends = push_extends (paths_of old.bindings) (paths_of items) p paths;
     only = λ q c. ⊎_elim (λ h. inl h) (λ h. inr (subst (Contains (p ∷ [])) h (head_contained p []))) (Contains-push_cases (paths_of old.bindings) p q (subst (λ ps. Contains ps q) paths c));
@@ -97,7 +97,7 @@ pub inner_more : (old mid : Numbered) (items : List Binding) (numbers : Key → 
 inner_more old mid items numbers term bs call value a b h long is = (
   call_pushed mid items numbers (Inner p) mid.calls b paths le up new,
   record {
-    there = more.kept call.0 p h.there;
+    found = more.kept call.0 p h.found;
     value = last_there mid.bindings items (Inner p) value.0 paths long;
     extends = extends_more (paths_of old.bindings) (paths_of mid.bindings) (paths_of items) h.extends more;
     only = λ q c. ⊎_elim (λ d. ⊎_elim (λ k. inl k) (λ k. inr (first q k)) (h.only q d)) (λ k. inr (subst (Contains (p ∷ Inner p ∷ [])) k (tail_contained p (Inner p ∷ []) (Inner p) (head_contained (Inner p) []))))
@@ -110,7 +110,7 @@ inner_more old mid items numbers term bs call value a b h long is = (
     p = Called term (at_all (paths_of old.bindings) bs) (suc old.calls)
 
     paths : paths_of items ≡ paths_of mid.bindings ++ Inner (next_call old term bs) ∷ []
-    paths = paths_more mid.bindings items (binding.MatchSome call) (Inner p) is (ap Inner (at_get (paths_of mid.bindings) call.0 p h.there))
+    paths = paths_more mid.bindings items (binding.MatchSome call) (Inner p) is (ap Inner (at_get (paths_of mid.bindings) call.0 p h.found))
 
     more : Extends (paths_of mid.bindings) (paths_of items)
     more = push_extends (paths_of mid.bindings) (paths_of items) (Inner p) paths

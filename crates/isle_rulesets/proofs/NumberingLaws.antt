@@ -199,7 +199,7 @@ numbered_more old items numbers new k n a none l is u = (
     once = subst EachOnce (sym paths) (once_push ps (key_path k) a.once (new_key old numbers k a none));
   },
   record {
-    there = ap (λ qs. slice_get qs n) paths ∙ ap (slice_get (ps ++ key_path k ∷ [])) long ∙ get_last ps (key_path k);
+    found = ap (λ qs. slice_get qs n) paths ∙ ap (slice_get (ps ++ key_path k ∷ [])) long ∙ get_last ps (key_path k);
     extends = push_extends ps (paths_of items) (key_path k) paths;
     only = λ q c. ⊎_elim (λ h. inl h) (λ h. inr (sym h)) (Contains-push_cases ps (key_path k) q (subst (λ qs. Contains qs q) paths c));
     calls = refl;

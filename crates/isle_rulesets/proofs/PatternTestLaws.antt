@@ -63,7 +63,7 @@ numbers_push : (env : Environment) (old mid new : Numbered) (qs : List Pattern) 
 numbers_push env old mid new qs q d e b h n t = record {
   extends = extends_more (paths_of old.bindings) (paths_of mid.bindings) (paths_of new.bindings) h.extends n.extends;
   only = λ p c. ⊎_elim (λ k. ⊎_elim (λ x. inl x) (λ x. inr (more p (Contains-append_left (arg_paths qs 0) (Arg (length qs) ∷ []) p x))) (h.only p k)) (λ k. inr (more p (last p k))) (n.only p c);
-  all = λ p c. ⊎_elim (λ x. contains_kept (paths_of mid.bindings) (paths_of new.bindings) p n.extends (h.all p x)) (λ x. subst (Contains (paths_of new.bindings)) x (contains_there (paths_of new.bindings) b.0 (Arg (length qs)) n.there))
+  all = λ p c. ⊎_elim (λ x. contains_kept (paths_of mid.bindings) (paths_of new.bindings) p n.extends (h.all p x)) (λ x. subst (Contains (paths_of new.bindings)) x (contains_there (paths_of new.bindings) b.0 (Arg (length qs)) n.found))
       (Contains-push_cases (arg_paths qs 0) (Arg (length qs)) p (subst (λ ps. Contains ps p) paths c));
   tests = λ ps x. gathered ps x;
   calls = n.calls ∙ h.calls;
@@ -85,7 +85,7 @@ numbers_push env old mid new qs q d e b h n t = record {
     gathered ps x =
         let places = args_after env qs 0 no_places in
         let ts = args_tests env qs 0 no_places in
-        let place : at ps b ≡ Arg (0 + length qs) = at_kept (paths_of new.bindings) ps b (Arg (length qs)) x n.there ∙ ap Arg (sym zero_plus) in
+        let place : at ps b ≡ Arg (0 + length qs) = at_kept (paths_of new.bindings) ps b (Arg (length qs)) x n.found ∙ ap Arg (sym zero_plus) in
         let base = subst (λ p. HasTests ps (after env q p places) (ts ++ tests env q p places) e) place (t ps places ts (h.tests ps (extends_more (paths_of mid.bindings) (paths_of new.bindings) ps n.extends x))) in
         subst (λ us. HasTests ps (args_after env (qs ++ q ∷ []) 0 no_places) us e) (sym (tests_push env qs q 0 no_places))
         (subst (λ ls. HasTests ps ls (ts ++ tests env q (Arg (0 + length qs)) places) e) (sym (after_push env qs q 0 no_places)) base)

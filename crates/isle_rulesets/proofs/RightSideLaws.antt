@@ -66,7 +66,7 @@ gives_key : (old new : Numbered) (bs : List BindingId) (p : Path) (b : BindingId
 gives_key old new bs p b h = record {
   extends = h.extends;
   only = λ q c. ⊎_elim (λ d. inl d) (λ e. inr (subst (Contains (p ∷ [])) (sym e) (head_contained p []))) (h.only q c);
-  all = λ q c. ⊎_elim (λ e. subst (Contains (paths_of new.bindings)) e (contains_there (paths_of new.bindings) b.0 p h.there)) (λ d. absurd (none_contained q d)) (contained_cases p [] q c);
+  all = λ q c. ⊎_elim (λ e. subst (Contains (paths_of new.bindings)) e (contains_there (paths_of new.bindings) b.0 p h.found)) (λ d. absurd (none_contained q d)) (contained_cases p [] q c);
   ordered = λ qs x. sym (append-nil (map (at qs) bs));
   calls = h.calls ∙ zero_more;
 }
@@ -84,11 +84,11 @@ AllGiven terms variables old new before after es bs = (env : Environment) (place
 
 pub given_bool : {E : Type 0} (r : Result BindingId E) (terms : List Term) (variables : BTreeMap ℕ BindingId) (old new : Numbered) (bs : List BindingId) (e : Expr) (v : Bool) → e ≡ expr.ConstBool v → IfOk r (Numbers old new (path.ConstBool bool_type v)) → IfOk r (Given terms variables old new bs bs e)
 given_bool (Err x) terms variables old new bs e v is h = tt
-given_bool (Ok b) terms variables old new bs e v is h = λ env places t s. subst (λ d. NumbersExpr env places old new bs bs d b) (sym is) (record { grows = gives_key old new bs (path.ConstBool bool_type v) b h; there = h.there })
+given_bool (Ok b) terms variables old new bs e v is h = λ env places t s. subst (λ d. NumbersExpr env places old new bs bs d b) (sym is) (record { grows = gives_key old new bs (path.ConstBool bool_type v) b h; found = h.found })
 
 pub given_int : {E : Type 0} (r : Result BindingId E) (terms : List Term) (variables : BTreeMap ℕ BindingId) (old new : Numbered) (bs : List BindingId) (e : Expr) (ty : TypeId) (n : ℤ) → e ≡ expr.ConstInt ty n → IfOk r (Numbers old new (path.ConstInt ty n)) → IfOk r (Given terms variables old new bs bs e)
 given_int (Err x) terms variables old new bs e ty n is h = tt
-given_int (Ok b) terms variables old new bs e ty n is h = λ env places t s. subst (λ d. NumbersExpr env places old new bs bs d b) (sym is) (record { grows = gives_key old new bs (path.ConstInt ty n) b h; there = h.there })
+given_int (Ok b) terms variables old new bs e ty n is h = λ env places t s. subst (λ d. NumbersExpr env places old new bs bs d b) (sym is) (record { grows = gives_key old new bs (path.ConstInt ty n) b h; found = h.found })
 
 var_there : (ps : List Path) (o : Option BindingId) (q : Option Path) (b : BindingId) → o ≡ Some b → StandsAt ps o q → slice_get ps b.0 ≡ Some (path_or q)
 var_there ps (Some c) (Some p) b e h = subst (λ (x : BindingId). slice_get ps x.0 ≡ Some p) (some_same c b e) h
@@ -100,15 +100,15 @@ var_there ps (Some c) None b e h = absurd h
 
 pub given_var : (terms : List Term) (variables : BTreeMap ℕ BindingId) (n : Numbered) (bs : List BindingId) (e : Expr) (ty : TypeId) (x : VarId) (b : BindingId) → e ≡ expr.Var ty x → get nat_cmp variables x.0 ≡ Some b → Given terms variables n n bs bs e b
 given_var terms variables n bs e ty x b is got env places t s = subst (λ d. NumbersExpr env places n n bs bs d b) (sym is) (record {
-  grows = gives_key n n bs p b (record { there = there; extends = extends_self (paths_of n.bindings); only = λ q c. inl c; calls = refl });
-  there = there;
+  grows = gives_key n n bs p b (record { found = there; extends = extends_self (paths_of n.bindings); only = λ q c. inl c; calls = refl });
+  found = there;
 })
   where
     p : Path
     p = path_or (places x.0)
 
     there : slice_get (paths_of n.bindings) b.0 ≡ Some (path_or (places x.0))
-    there = var_there (paths_of n.bindings) (get nat_cmp variables x.0) (places x.0) b got (s.by x.0)
+    found = var_there (paths_of n.bindings) (get nat_cmp variables x.0) (places x.0) b got (s.by x.0)
 
 -- ---- calls
 
@@ -131,14 +131,14 @@ call_behind env places old mid new before middle after ty term es bs b g h =
     record {
       grows = subst (λ n. Grows old new before after (expr_paths env (expr.Term ty term es) places old.calls) (calls_of env (expr.Term ty term es) places old.calls) n) (one_behind (calling env term) (impure_all env es))
           (grows_then old mid new before middle after (exprs_paths env es places old.calls) (with_inner (calling env term) p) (calls_all env es places old.calls) (if_ordered (calling env term) p) (impure_all env es) (one_more (calling env term) 0) g.grows k.grows);
-      there = k.there;
+      found = k.found;
     }
   where
     p : Path
     p = call_path env term (paths env es places old.calls) (old.calls + impure_all env es)
 
     same : call_path env term (at_all (paths_of mid.bindings) bs) mid.calls ≡ call_path env term (paths env es places old.calls) (old.calls + impure_all env es)
-    same = ap (λ qs. call_path env term qs mid.calls) (all_at (paths_of mid.bindings) bs (paths env es places old.calls) g.there) ∙ ap (call_path env term (paths env es places old.calls)) g.grows.calls
+    same = ap (λ qs. call_path env term qs mid.calls) (all_at (paths_of mid.bindings) bs (paths env es places old.calls) g.found) ∙ ap (call_path env term (paths env es places old.calls)) g.grows.calls
 
 -- an item that is there
 some_at : {A : Type 0} (P : A → Type 0) (xs : List A) (i : ℕ) (x : A) → IsSomeAnd (slice_get xs i) P → x ≡ get_or xs i x → P x
@@ -186,10 +186,10 @@ call_given old new before after terms term t partial bs call value h here of k m
         extends = added.extends;
         only = added.only;
         all = all fallible added;
-        ordered = λ qs x. ap (map (at qs)) more ∙ map-append (at qs) before (call ∷ []) ∙ ap (λ q. map (at qs) before ++ q ∷ []) (at_kept (paths_of new.bindings) qs call p x added.there);
+        ordered = λ qs x. ap (map (at qs)) more ∙ map-append (at qs) before (call ∷ []) ∙ ap (λ q. map (at qs) before ++ q ∷ []) (at_kept (paths_of new.bindings) qs call p x added.found);
         calls = added.calls ∙ one_more_is;
       };
-      there = added.value;
+      found = added.value;
     })
   where
     turns : (callee : Callee) × (calling env term ≡ ByTurns callee (kind_of t.kind))
@@ -203,10 +203,10 @@ call_given old new before after terms term t partial bs call value h here of k m
 
     all : (b : Bool) → Calls old new (next_call old term bs) b call value → (q : Path) → Contains (if b then next_call old term bs ∷ path.Inner (next_call old term bs) ∷ [] else next_call old term bs ∷ []) q → Contains (paths_of new.bindings) q
     all true c q d =
-        ⊎_elim (λ e. subst (Contains (paths_of new.bindings)) e (contains_there (paths_of new.bindings) call.0 p c.there))
+        ⊎_elim (λ e. subst (Contains (paths_of new.bindings)) e (contains_there (paths_of new.bindings) call.0 p c.found))
         (λ f. ⊎_elim (λ e. subst (Contains (paths_of new.bindings)) e (contains_there (paths_of new.bindings) value.0 (path.Inner p) c.value)) (λ n. absurd (none_contained q n)) (contained_cases (path.Inner p) [] q f))
         (contained_cases p (path.Inner p ∷ []) q d)
-    all false c q d = ⊎_elim (λ e. subst (Contains (paths_of new.bindings)) e (contains_there (paths_of new.bindings) call.0 p c.there)) (λ n. absurd (none_contained q n)) (contained_cases p [] q d)
+    all false c q d = ⊎_elim (λ e. subst (Contains (paths_of new.bindings)) e (contains_there (paths_of new.bindings) call.0 p c.found)) (λ n. absurd (none_contained q n)) (contained_cases p [] q d)
 
 -- a call behind its arguments, where it was added
 pub given_call : {E : Type 0} (r : Result BindingId E) (terms : List Term) (variables : BTreeMap ℕ BindingId) (old mid new : Numbered) (before middle after : List BindingId) (e : Expr) (ty : TypeId) (term : TermId) (es : Exprs) (bs : List BindingId) → e ≡ expr.Term ty term es
@@ -264,7 +264,7 @@ all_push env places ps [] (x ∷ es) b e n h k = absurd h
 all_push env places ps (c ∷ bs) [] b e n h k = absurd h
 
 pub gives_none : (env : Environment) (places : Places) (n : Numbered) (bs : List BindingId) → NumbersExprs env places n n bs bs NoExpr []
-gives_none env places n bs = record { grows = grows_self n bs; there = tt }
+gives_none env places n bs = record { grows = grows_self n bs; found = tt }
 
 gives_push : (env : Environment) (places : Places) (old mid new : Numbered) (before middle after : List BindingId) (es : List Expr) (e : Expr) (bs : List BindingId) (b : BindingId) → NumbersExprs env places old mid before middle (exprs_of es) bs → NumbersExpr env places mid new middle after e b
     → NumbersExprs env places old new before after (exprs_of (es ++ e ∷ [])) (bs ++ b ∷ [])
@@ -272,8 +272,8 @@ gives_push env places old mid new before middle after es e bs b g h = record {
   grows = rw (paths_push env places es e old.calls, calls_push env places es e old.calls, impure_push env es e)
       (grows_then old mid new before middle after (exprs_paths env (exprs_of es) places old.calls) (expr_paths env e places n) (calls_all env (exprs_of es) places old.calls) (calls_of env e places n) (impure_all env (exprs_of es)) (impure env e) g.grows
       (subst (λ m. Grows mid new middle after (expr_paths env e places m) (calls_of env e places m) (impure env e)) g.grows.calls h.grows));
-  there = all_push env places (paths_of new.bindings) bs es b e old.calls (all_kept (paths_of mid.bindings) (paths_of new.bindings) bs (paths env (exprs_of es) places old.calls) h.grows.extends g.there)
-      (subst (λ m. slice_get (paths_of new.bindings) b.0 ≡ Some (path_of env e places m)) g.grows.calls h.there);
+  found = all_push env places (paths_of new.bindings) bs es b e old.calls (all_kept (paths_of mid.bindings) (paths_of new.bindings) bs (paths env (exprs_of es) places old.calls) h.grows.extends g.found)
+      (subst (λ m. slice_get (paths_of new.bindings) b.0 ≡ Some (path_of env e places m)) g.grows.calls h.found);
 }
   where
     n : ℕ

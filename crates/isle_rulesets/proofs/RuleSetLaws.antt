@@ -137,7 +137,7 @@ rule_added terms old mid new r d none calls b f built bound impure_terms numbere
           pos = is.pos;
           iterators = is.iterators;
           ordered = subst (AreFirsts [] (rule_calls env r old.calls)) (sym (ap (map (at ps)) is.ordered ∙ g.grows.ordered ps x)) (rule_firsts env terms r old.calls same built.rhs impure_terms);
-          result = ap (at ps) is.result ∙ at_get ps b.0 _ (x.kept b.0 _ g.there);
+          result = ap (at ps) is.result ∙ at_get ps b.0 _ (x.kept b.0 _ g.found);
         }
 
 -- ---- rules

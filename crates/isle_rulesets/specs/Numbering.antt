@@ -41,7 +41,7 @@ pub record Extends (ps qs : List Path) : Type 0 where
 
 -- the path has this number, and nothing else was added
 pub record Numbers (old new : Numbered) (p : Path) (b : BindingId) : Type 0 where
-  pub there : slice_get (paths_of new.bindings) b.0 ≡ Some p
+  pub found : slice_get (paths_of new.bindings) b.0 ≡ Some p
   pub extends : Extends (paths_of old.bindings) (paths_of new.bindings)
   pub only : (q : Path) → Contains (paths_of new.bindings) q → Contains (paths_of old.bindings) q ⊎ (q ≡ p)
   pub calls : new.calls ≡ old.calls
@@ -52,7 +52,7 @@ next_call old term parameters = Called term (at_all (paths_of old.bindings) para
 
 -- the next call has a number and its value one, its inner value where it may be nothing, and nothing else was added
 pub record Calls (old new : Numbered) (p : Path) (partial : Bool) (call result : BindingId) : Type 0 where
-  pub there : slice_get (paths_of new.bindings) call.0 ≡ Some p
+  pub found : slice_get (paths_of new.bindings) call.0 ≡ Some p
   pub value : slice_get (paths_of new.bindings) result.0 ≡ Some (if partial then Inner p else p)
   pub extends : Extends (paths_of old.bindings) (paths_of new.bindings)
   pub only : (q : Path) → Contains (paths_of new.bindings) q → Contains (paths_of old.bindings) q ⊎ Contains (if partial then p ∷ Inner p ∷ [] else p ∷ []) q

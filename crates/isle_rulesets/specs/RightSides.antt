@@ -50,12 +50,12 @@ pub record Grows (old new : Numbered) (before after : List BindingId) (ps cs : L
 -- a call of a term on numbers was added, and its value has this number
 pub record NumbersCall (old new : Numbered) (before after : List BindingId) (c : Calling) (p : Path) (b : BindingId) : Type 0 where
   pub grows : Grows old new before after (with_inner c p) (if_ordered c p) (one_more c 0)
-  pub there : slice_get (paths_of new.bindings) b.0 ≡ Some (answer_path c p)
+  pub found : slice_get (paths_of new.bindings) b.0 ≡ Some (answer_path c p)
 
 -- an expression was numbered, and its value has this number
 pub record NumbersExpr (env : Environment) (places : Places) (old new : Numbered) (before after : List BindingId) (e : Expr) (b : BindingId) : Type 0 where
   pub grows : Grows old new before after (expr_paths env e places old.calls) (calls env e places old.calls) (impure env e)
-  pub there : slice_get (paths_of new.bindings) b.0 ≡ Some (path env e places old.calls)
+  pub found : slice_get (paths_of new.bindings) b.0 ≡ Some (path env e places old.calls)
 
 -- paths stand at numbers, in order
 abbrev pub AllAt : List Path → List BindingId → Paths → Type 0
@@ -67,4 +67,4 @@ AllAt ps (b ∷ bs) NoPath = ⊥
 -- expressions were numbered in order, and their values have these numbers
 pub record NumbersExprs (env : Environment) (places : Places) (old new : Numbered) (before after : List BindingId) (es : Exprs) (bs : List BindingId) : Type 0 where
   pub grows : Grows old new before after (exprs_paths env es places old.calls) (calls_all env es places old.calls) (impure_all env es)
-  pub there : AllAt (paths_of new.bindings) bs (paths env es places old.calls)
+  pub found : AllAt (paths_of new.bindings) bs (paths env es places old.calls)

@@ -95,14 +95,14 @@ module _ (options : CodegenOptions) (files : Files) (term : List ℕ) (ws : Writ
   named : AreNamed (type_names the_function.function.params) args
   named =
       let tys = c.declared.arg_tys in
-      let is : the_function.declared.term ≡ c.declared = some_same the_function.declared.term c.declared (sym the_function.declared.there ∙ c.there) in
+      let is : the_function.declared.term ≡ c.declared = some_same the_function.declared.term c.declared (sym the_function.declared.found ∙ c.found) in
       let params : the_function.function.params ≡ map (parameter c.env) tys = the_function.declared.of_term.params ∙ ap (λ (t : Term). map (parameter c.env) t.arg_tys) is in
       subst (λ (ps : List Ty). AreNamed (type_names ps) args) (sym params)
-      (subst (λ ns. AreNamed ns args) (names_of c.env tys) (are_named c.env tys args (typed_types c.checked.defs c.env c.id.0 c.declared typed c.there).1 c.typed))
+      (subst (λ ns. AreNamed ns args) (names_of c.env tys) (are_named c.env tys args (typed_types c.checked.defs c.env c.id.0 c.declared typed c.found).1 c.typed))
 
   may : MayRun p term args answers the_function.function
   may = record {
-    there = the_function.found;
+    found = the_function.found;
     typed = named;
     right = all_right options files c.checked.defs c.env typed p conforms [] (turns_at c.env c.forms) c.right;
     answered = λ callee k none. c.answered callee (the_function.block.calls callee k) (answered_back callee (turns_at c.env c.forms) none);

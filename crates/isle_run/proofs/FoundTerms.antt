@@ -26,7 +26,7 @@ pub record Found (files : Files) (env : Environment) (term : List ℕ) (ids : Li
 
 -- the name of a declared term is that of its function
 pub declared_name : (files : Files) (env : Environment) (id : TermId) (f : Function) → IsDeclared files env id f → term_name env id ≡ f.term
-declared_name files env id f d = ap (λ (o : Option Term). option_map_or (λ (t : Term). sym_text env t.name) o []) d.there ∙ sym d.of_term.name
+declared_name files env id f d = ap (λ (o : Option Term). option_map_or (λ (t : Term). sym_text env t.name) o []) d.found ∙ sym d.of_term.name
 
 pub both_found : (files : Files) (env : Environment) (term : List ℕ) (ids : List TermId) (fs : List Function) (f : Function) → AreDeclared files env ids fs → function_of term fs ≡ Some f → Found files env term ids f
 both_found files env term [] [] f d e = absurd cc

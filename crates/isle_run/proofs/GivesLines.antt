@@ -51,7 +51,7 @@ types_found env term id t requested there =
 -- the arguments of a run have the types of the term
 types_fit : (files : Files) (env : Environment) (term : List ℕ) (ws : Writtens) (f : Function) (h : Found files env term (with_rules env) f) → AreNamed (type_names f.params) (args_given env term ws) → HaveTypes env (args_given env term ws) h.declared.term.arg_tys
 types_fit files env term ws f h named =
-    let tys = types_found env term h.id h.declared.term h.requested h.declared.there in
+    let tys = types_found env term h.id h.declared.term h.requested h.declared.found in
     let names = subst (λ ps. AreNamed (type_names ps) (args_given env term ws)) h.declared.of_term.params named in
     let at_types = subst (λ (ts : List TypeId). AreNamed (type_names (map (parameter env) h.declared.term.arg_tys)) (values_at env ts ws)) tys names in
     subst (λ (ts : List TypeId). HaveTypes env (values_at env ts ws) h.declared.term.arg_tys) (sym tys)
@@ -63,15 +63,15 @@ pub are_lines : (options : CodegenOptions) (files : Files) (env : Environment) (
     → Conforms options files env p → MayRun p term (args_given env term ws) answers f → run p term (args_given env term ws) answers ≡ Some r
     → AreLines options files env term (args_given env term ws) answers (run_lines (shown_run env r))
 are_lines options files env p term ws f r answers conforms may runs =
-    let h = both_found files env term (with_rules env) p.fns f conforms.functions.declared may.there in
+    let h = both_found files env term (with_rules env) p.fns f conforms.functions.declared may.found in
     let types = types_fit files env term ws f h may.typed in
     record {
       id = h.id;
       requested = h.requested;
       declared = h.declared.term;
-      there = h.declared.there;
+      found = h.declared.found;
       typed = types;
-      means = means options files env p term (args_given env term ws) answers f r h.id h.declared.term conforms may runs h.among (declared_name files env h.id f h.declared ∙ sym h.named) h.declared.there types;
+      means = means options files env p term (args_given env term ws) answers f r h.id h.declared.term conforms may runs h.among (declared_name files env h.id f h.declared ∙ sym h.named) h.declared.found types;
       program = p;
       conforms = conforms;
       fits = record { function = f; may = may };

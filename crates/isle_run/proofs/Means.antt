@@ -49,8 +49,8 @@ means options files env p term args answers f r id t conforms may runs among nam
     let rules = some_and (λ (t : Term). (args : List Value) (m : Meaning) → HaveTypes env args t.arg_tys → IsLawful env id m → GivesOutcome env p id t args m) (slice_get env.terms id.0) t there (conforms.functions.mean id among) in
     let same : run p (term_name env id) args m ≡ Some r =
     ap (λ n. run p n args m) named
-    ∙ ap (function_run p m args) may.there
+    ∙ ap (function_run p m args) may.found
     ∙ same_run m answers has p f args may.answered
-    ∙ sym (ap (function_run p answers args) may.there)
+    ∙ sym (ap (function_run p answers args) may.found)
     ∙ runs in
     same_lines env id t args m p r same (rules args m types lawful)

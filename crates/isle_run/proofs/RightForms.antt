@@ -79,7 +79,7 @@ module _ (options : CodegenOptions) (files : Files) (defs : List Def) (env : Env
   )
   served_signature _ _ (internal name id t requested at) =
       let h = requested_function files env name (with_rules env) p.fns id conforms.functions.declared conforms.functions.blocks requested in
-      let same : h.declared.term ≡ t = some_same h.declared.term t (sym h.declared.there ∙ at) in (
+      let same : h.declared.term ≡ t = some_same h.declared.term t (sym h.declared.found ∙ at) in (
         term_signature h.function,
         ap (option_map term_signature) h.found,
         record {

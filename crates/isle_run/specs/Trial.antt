@@ -54,7 +54,7 @@ pub record AreLines (options : CodegenOptions) (files : Files) (env : Environmen
   pub id : TermId
   pub requested : requested_term env term ≡ Some id
   pub declared : Term
-  pub there : slice_get env.terms id.0 ≡ Some declared
+  pub found : slice_get env.terms id.0 ≡ Some declared
   pub typed : HaveTypes env args declared.arg_tys
   pub means : (m : Meaning) → IsLawful env id m → HasAnswers m answers → AreOutcome env id declared args m lines
   pub program : Program

@@ -53,7 +53,7 @@ pub record CanRun (files : Files) (term : List ℕ) (ws : Writtens) (text : List
   pub id : TermId
   pub requested : requested_term env term ≡ Some id
   pub declared : Term
-  pub there : slice_get env.terms id.0 ≡ Some declared
+  pub found : slice_get env.terms id.0 ≡ Some declared
   pub typed : HaveTypes env (args_given env term ws) declared.arg_tys
   pub forms : List Form
   pub spelt : SpellsForms text forms

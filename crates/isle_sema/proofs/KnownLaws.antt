@@ -31,13 +31,13 @@ pub record IsFirst {X : Type 0} (o : Option X) (os : Option (List X)) (xs : List
   pub first : X
   pub others : List X
   pub here : o ≡ Some first
-  pub there : os ≡ Some others
+  pub found : os ≡ Some others
   pub all : xs ≡ first ∷ others
 
 pub first_there : {X : Type 0} (o : Option X) (os : Option (List X)) (xs : List X) → tree_before o os ≡ Some xs → IsFirst o os xs
 first_there None os xs h = absurd cc
 first_there (Some x) None xs h = absurd cc
-first_there (Some x) (Some others) xs h = record { first = x; others = others; here = refl; there = refl; all = sym (same_Some (x ∷ others) xs h) }
+first_there (Some x) (Some others) xs h = record { first = x; others = others; here = refl; found = refl; all = sym (same_Some (x ∷ others) xs h) }
 
 pub before_both : {X : Type 0} (o : Option X) (os : Option (List X)) (x : X) (xs : List X) → o ≡ Some x → os ≡ Some xs → tree_before o os ≡ Some (x ∷ xs)
 before_both o os x xs e f = ap (λ p. tree_before p os) e ∙ ap (λ ps. tree_before (Some x) ps) f
@@ -54,7 +54,7 @@ term_at w (d ∷ sigs) terms zero s t h at got =
     ap (term_pass w) (sym (same_Some d s at)) ∙ f.here ∙ ap Some (sym same)
 term_at w (d ∷ sigs) terms (suc i) s t h at got =
     let f = first_there (term_pass w d) (terms_pass w sigs) terms h in
-    term_at w sigs f.others i s t f.there at (ap (λ (ts : List Term). slice_get ts (suc i)) (sym f.all) ∙ got)
+    term_at w sigs f.others i s t f.found at (ap (λ (ts : List Term). slice_get ts (suc i)) (sym f.all) ∙ got)
 
 -- and there are as many
 term_past : (w : Whole) (sigs : List Signature) (terms : List Term) (i : ℕ) → terms_pass w sigs ≡ Some terms → slice_get terms i ≡ None → slice_get sigs i ≡ None
@@ -66,7 +66,7 @@ term_past w (d ∷ sigs) terms zero h past =
     absurd cc
 term_past w (d ∷ sigs) terms (suc i) h past =
     let f = first_there (term_pass w d) (terms_pass w sigs) terms h in
-    term_past w sigs f.others i f.there (ap (λ (ts : List Term). slice_get ts (suc i)) (sym f.all) ∙ past)
+    term_past w sigs f.others i f.found (ap (λ (ts : List Term). slice_get ts (suc i)) (sym f.all) ∙ past)
 
 -- the types of a declaration's term
 pub record HasTypes (types : TypeEnv) (s : Signature) (t : Term) : Type 0 where
@@ -85,7 +85,7 @@ types_are : (types : TypeEnv) (names : List (List ℕ)) (tys : List TypeId) → 
 types_are types [] tys h = ap (map Some) (same_Some [] tys h)
 types_are types (name ∷ names) tys h =
     let f = first_there (type_named types name) (types_named types names) tys h in
-    ap (λ o. o ∷ map (type_named types) names) f.here ∙ ap (λ os. Some f.first ∷ os) (types_are types names f.others f.there) ∙ ap (map Some) (sym f.all)
+    ap (λ o. o ∷ map (type_named types) names) f.here ∙ ap (λ os. Some f.first ∷ os) (types_are types names f.others f.found) ∙ ap (map Some) (sym f.all)
 
 -- ---- what is known of a name
 

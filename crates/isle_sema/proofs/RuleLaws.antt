@@ -297,7 +297,7 @@ taken_are w i (r ∷ rules) xs built h =
     let f = first_there (taken_rule w i r) (taken_rules w (i + 1) rules) xs h in
     let own = refused_first (is_broken w r || calls_rule w r) (rule_pass w i r) f.first f.here in
     let k = or_parts (is_broken w r) (calls_rule w r) own.0 in
-    let rest = taken_are w (i + 1) rules f.others built.1 f.there in
+    let rest = taken_are w (i + 1) rules f.others built.1 f.found in
     record {
       kept = or_from (is_broken w r) (list_any (is_broken w) rules) k.0 rest.kept;
       calls = or_from (calls_ruled (rule_defs w.defs) r.rhs) (list_any (λ (x : RuleDef). calls_ruled (rule_defs w.defs) x.rhs) rules) (sym (rule_calls w r built.0.right k.0) ∙ k.1) rest.calls;
@@ -315,4 +315,4 @@ are_taken w i (r ∷ rules) xs built t =
     let k = or_parts (is_broken w r) (list_any (is_broken w) rules) t.kept in
     let c = or_parts (calls_ruled (rule_defs w.defs) r.rhs) (list_any (λ (x : RuleDef). calls_ruled (rule_defs w.defs) x.rhs) rules) t.calls in
     let own : taken_rule w i r ≡ Some f.first = kept_rule (is_broken w r || calls_rule w r) (rule_pass w i r) (or_from (is_broken w r) (calls_rule w r) k.0 (rule_calls w r built.0.right k.0 ∙ c.0)) ∙ f.here in
-    before_both (taken_rule w i r) (taken_rules w (i + 1) rules) f.first f.others own (are_taken w (i + 1) rules f.others built.1 (record { kept = k.1; calls = c.1; trees = f.there })) ∙ ap Some (sym f.all)
+    before_both (taken_rule w i r) (taken_rules w (i + 1) rules) f.first f.others own (are_taken w (i + 1) rules f.others built.1 (record { kept = k.1; calls = c.1; trees = f.found })) ∙ ap Some (sym f.all)

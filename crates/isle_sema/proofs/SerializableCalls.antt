@@ -154,7 +154,7 @@ module _ (env : Environment) (t : Term) (allowed : Bool) (args : List Pattern) (
     instance = j;
     path = refl;
     called = c;
-    there = there;
+    found = there;
     args = are;
     stand = stand;
     kind = kind_of c.kind;

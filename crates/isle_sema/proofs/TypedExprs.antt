@@ -142,7 +142,7 @@ mutual
 -- the term that a typed call is of
 pub record IsCalled (env : Environment) (allowed : Bool) (args : List CorePattern) (ty : TypeId) (o : Option Term) (es : CoreExprs) : Type 0 where
   pub term : Term
-  pub there : o ≡ Some term
+  pub found : o ≡ Some term
   pub external : IsExternalKind allowed term.kind
   pub gives : term.ret_ty ≡ ty
   pub takes : AreExprsOf env allowed args term.arg_tys es
@@ -150,7 +150,7 @@ pub record IsCalled (env : Environment) (allowed : Bool) (args : List CorePatter
 pub called : (env : Environment) (allowed : Bool) (args : List CorePattern) (ty : TypeId) (o : Option Term) (es : CoreExprs) → IsSomeAnd o (λ (c : Term). IsExternalKind allowed c.kind × (c.ret_ty ≡ ty) × AreExprsOf env allowed args c.arg_tys es)
     → IsCalled env allowed args ty o es
 called env allowed args ty None es h = absurd h
-called env allowed args ty (Some c) es h = record { term = c; there = refl; external = h.0; gives = h.1; takes = h.2 }
+called env allowed args ty (Some c) es h = record { term = c; found = refl; external = h.0; gives = h.1; takes = h.2 }
 
 mutual
   pub built_expr : (env : Environment) (allowed : Bool) (args : List CorePattern) (ty : TypeId) (e : CoreExpr) → IsExprOf env allowed args ty e → IsBuiltExpr e
@@ -202,7 +202,7 @@ mutual
   impure_expr env allowed args ty (core_expr.ConstInt of n) h = tt
   impure_expr env allowed args ty (core_expr.Term of term es) h =
       let c = called env allowed args ty (slice_get env.terms term.0) es h.1 in
-      (impure_at (slice_get env.terms term.0) c.term c.there (impure_kind allowed c.term.kind c.external), impure_exprs env allowed args c.term.arg_tys es c.takes)
+      (impure_at (slice_get env.terms term.0) c.term c.found (impure_kind allowed c.term.kind c.external), impure_exprs env allowed args c.term.arg_tys es c.takes)
   impure_expr env allowed args ty (core_expr.ConstPrim of name) h = absurd h
   impure_expr env allowed args ty (core_expr.Let of bs e) h = absurd h
 

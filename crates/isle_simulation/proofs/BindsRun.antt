@@ -112,7 +112,7 @@ plain_binds : (env : Environment) (u : Around) (t : Term) (n : ℕ) (p : Path) (
 plain_binds env u t n p known made locals h k =
     let r = path_reads env u t p k.1.0 h k.1.1 k.0 in
     subst (BindsOne env u t n (expr.Read (read.Plain (written_place env p))) p known made locals) (sym (plain_run env u p known made k.0))
-    (a_value r.0, ap (λ x. run_bind n x locals (done made)) (r.1.place locals), r.1.held known, record { there = tt; value = λ ty of. (r.0, refl, plain_typed env u t p known r.0 ty h of k.0 (r.1.held known)); option = λ ty of. absurd (no_option env t p ty k.0 of) }, same_known known, λ j c. refl)
+    (a_value r.0, ap (λ x. run_bind n x locals (done made)) (r.1.place locals), r.1.held known, record { found = tt; value = λ ty of. (r.0, refl, plain_typed env u t p known r.0 ty h of k.0 (r.1.held known)); option = λ ty of. absurd (no_option env t p ty k.0 of) }, same_known known, λ j c. refl)
 
 -- ---- a call
 
@@ -141,12 +141,12 @@ typed_as env (Some c) h ty P a b = subst (λ x. IsHeldOf env x h) b.0 a
 held_kind : (kind : ReturnKind) (h : Held) → turn_kind.IsOfKind kind h → (env : Environment) (t : Term) (term : TermId) (callee : Callee) → calling env term ≡ ByTurns callee kind → IsSomeAnd (slice_get env.terms term.0) (λ (c : Term). IsHeldOf env c.ret_ty h) → (ps : Paths) (k : ℕ) → IsOfKind env t (Called term ps k) h
 held_kind return_kind.Iterator h is env t term callee c typed ps k = absurd is
 held_kind return_kind.Plain h is env t term callee c typed ps k = record {
-  there = subst IsThere (sym is.1) tt;
+  found = subst IsThere (sym is.1) tt;
   value = λ ty of. (is.0, is.1, subst (IsHeldOf env ty) is.1 (typed_as env (slice_get env.terms term.0) h ty (λ (x : Term). ArePathsOf env t ps x.arg_tys) typed of.1));
   option = λ ty of. absurd (let call : IsCall return_kind.Option (ByTurns callee return_kind.Plain) = subst (IsCall return_kind.Option) c of.0 in let q = call.0 in cc);
 }
 held_kind return_kind.Option h is env t term callee c typed ps k = record {
-  there = subst IsThere (sym is.1) tt;
+  found = subst IsThere (sym is.1) tt;
   value = λ ty of. absurd (let call : IsCall return_kind.Plain (ByTurns callee return_kind.Option) = subst (IsCall return_kind.Plain) c of.0 in let q = call.0 in cc);
   option = λ ty of. (is.0, is.1, typed_as env (slice_get env.terms term.0) h ty (λ (x : Term). ArePathsOf env t ps x.arg_tys) typed of.1);
 }
@@ -177,7 +177,7 @@ call_binds env u t bs bound n term parameters k callee kind called known made lo
       ap (λ d. run_call u n (callee_of d) (read_values u locals (reads env bs bound parameters)) locals (done made)) c
           ∙ ap (λ vs. run_call u n callee vs locals (done made)) l.places
           ∙ ap (λ x. run_bind n (answer_held x) locals (done (made ++ record { callee = callee; args = l.vs } ∷ []))) (turn_is env u.meaning term callee kind fit c l.vs made)
-          ∙ bind_there n answered locals (done (made ++ record { callee = callee; args = l.vs } ∷ [])) of_kind.there,
+          ∙ bind_there n answered locals (done (made ++ record { callee = callee; args = l.vs } ∷ [])) of_kind.found,
       held,
       of_kind,
       with_grows known k (turn u.meaning callee made) new,
@@ -213,7 +213,7 @@ inner_binds env u t bs bound n source ty known made locals a of c fits =
         (ap (λ h. run_try n h locals (done made)) (place ∙ held) ∙ ap (λ x. Ends x (done made)) (sym (nothing_ends (kind_of t.kind) fits)))
     one (Some v) held place =
         subst (BindsOne env u t n e (Inner q) known made locals) (sym (ap (λ h. unless_nothing h known made) held))
-        (a_value v, ap (λ h. run_try n h locals (done made)) (place ∙ held), ap inner_held held, record { there = tt; value = λ of' k. (v, refl, subst (IsHeldOf env of') held ((a.by source (found bound source.0 c)).kind.option of' k).2); option = λ of' k. absurd k }, same_known known, λ j not_j. refl)
+        (a_value v, ap (λ h. run_try n h locals (done made)) (place ∙ held), ap inner_held held, record { found = tt; value = λ of' k. (v, refl, subst (IsHeldOf env of') held ((a.by source (found bound source.0 c)).kind.option of' k).2); option = λ of' k. absurd k }, same_known known, λ j not_j. refl)
 
 -- ---- bindings in order
 

@@ -92,7 +92,7 @@ returned_is return_kind.Iterator o h = h
 
 -- what is computed for a binding that may be bound
 bound_is : (env : Environment) (t : Term) (bs : List Binding) (bound : List ℕ) (b : BindingId) (p : Path) (o : Option Binding) → HasFnNames env → at (paths_of bs) b ≡ p → IsBindable (setting env t bs) bound p o → IsExpr (bound_expr env bs bound b o)
-bound_is env t bs bound b p (Some (binding.Constructor term parameters k)) names e is = (refl, record { callee = callee_is env term is.called is.kind names is.there is.external; args = reads_are env t bs bound parameters is.called.arg_tys is.args })
+bound_is env t bs bound b p (Some (binding.Constructor term parameters k)) names e is = (refl, record { callee = callee_is env term is.called is.kind names is.found is.external; args = reads_are env t bs bound parameters is.called.arg_tys is.args })
 bound_is env t bs bound b p (Some (binding.MatchSome source)) names e is = (refl, source_is env bs bound source is.bound')
 bound_is env t bs bound b p (Some (binding.Argument index)) names e is = subst (λ q. IsOperand (written_place env q)) (sym e) (in_place_is env t p is.1.0 is.1.1 is.0)
 bound_is env t bs bound b p (Some (binding.ConstBool val ty)) names e is = subst (λ q. IsOperand (written_place env q)) (sym e) (in_place_is env t p is.1.0 is.1.1 is.0)

@@ -160,7 +160,7 @@ same_count n m e = eq-eqb n m e
 
 let_holds : (env : Environment) (t : Term) (bs : List Binding) (bound : List ℕ) (locals : Locals) (b : BindingId) (p : Path) (o : Option Binding) → HasFnNames env → at (paths_of bs) b ≡ p → LocalsHold env t bs bound locals → IsBindable (setting env t bs) bound p o → LetHolds env t bs bound locals b p o
 let_holds env t bs bound locals b p (Some (binding.Constructor term parameters k)) names e l is =
-    let x = external_term env term is.called is.kind is.there is.external in
+    let x = external_term env term is.called is.kind is.found is.external in
     let args = reads_hold env t bs bound locals parameters is.called.arg_tys l is.args in
     let once = called_once is.kind (calling env term) is.external in
     let answered = answer_holds is.kind once in
@@ -169,7 +169,7 @@ let_holds env t bs bound locals b p (Some (binding.Constructor term parameters k
       is =
           ap (λ y. cond y (callee_holds (trait_fns_of env) (callee_of (calling env term)) (length (reads env bs bound parameters))) None) args.0
           ∙ ap (λ y. callee_holds (trait_fns_of env) y (length (reads env bs bound parameters))) x.callee
-          ∙ ap (λ y. call_holds y (length (reads env bs bound parameters))) (term_fn_found env term is.called is.kind names is.there x)
+          ∙ ap (λ y. call_holds y (length (reads env bs bound parameters))) (term_fn_found env term is.called is.kind names is.found x)
           ∙ ap (λ y. cond y (kind_holds (kind_of is.called.kind)) None) (same_count (length (map (parameter env) is.called.arg_tys)) (length (reads env bs bound parameters)) (length-map is.called.arg_tys (parameter env) ∙ sym args.1))
           ∙ ap kind_holds x.answers ∙ answered.1;
       kept = subst (λ q. HoldsAs env t q (Some answered.0)) (sym is.path) (call_as env t term _ k is.kind once (calling env term) refl is.external);

@@ -28,7 +28,7 @@ use Rattle.isle_simulation.proofs.PathValues.{path_reads}
 
 -- what stands at a path is of the path's kind and type
 pub record IsOfKind (env : Environment) (t : Term) (p : Path) (h : Held) : Type 0 where
-  pub there : IsThere h
+  pub found : IsThere h
   pub value : (ty : TypeId) → IsPathOf env t p ty → (v : Value) × (h ≡ a_value v) × HasType env v ty
   pub option : (ty : TypeId) → IsOptionOf env t p ty → (o : Option Value) × (h ≡ an_option o) × IsHeldOf env ty h
 
@@ -52,7 +52,7 @@ agree_later env m args t bs bound known later locals g a = record { by = λ c e.
     still : (c : BindingId) → Stands env m args t bs known locals c → Stands env m args t bs later locals c
     still c s =
         let p = at (paths_of bs) c in
-        let same = held_stays p env m args known later g s.kind.there in
+        let same = held_stays p env m args known later g s.kind.found in
         record { is = s.is ∙ sym same; kind = subst (IsOfKind env t p) (sym same) s.kind }
 
 older : (x : Bool) → (x || (false || false)) ≡ true → x ≡ true

@@ -46,7 +46,7 @@ pub record IsOfTerm (files : Files) (env : Environment) (t : Term) (f : Function
 -- the function is of the term of this number
 pub record IsDeclared (files : Files) (env : Environment) (id : TermId) (f : Function) : Type 0 where
   pub term : Term
-  pub there : slice_get env.terms id.0 ≡ Some term
+  pub found : slice_get env.terms id.0 ≡ Some term
   pub of_term : IsOfTerm files env term f
 
 -- each function is of its term, in order

@@ -43,7 +43,7 @@ of_line request refusal.Memory files before after h = tt
 
 -- a word with which no line goes on
 pub bad_word : (words : List (List ℕ)) (i : ℕ) (wrote : List ℕ → Type 0) → IsBad words i → ((word : List ℕ) → slice_get words i ≡ Some word → wrote (bad_word_line word)) → IsNoLine words wrote
-bad_word words i wrote h f = statuses.bad i h (at_number words i (λ word. wrote (bad_word_line word)) h.there f)
+bad_word words i wrote h f = statuses.bad i h (at_number words i (λ word. wrote (bad_word_line word)) h.found f)
 
 -- words that are a line have none
 pub no_bad_word : (words : List (List ℕ)) (i : ℕ) (request : Request) → IsBad words i → LineS words request → ⊥

@@ -44,7 +44,7 @@ HasText fs name = (text : List ℕ) × IsText text (bytes_of fs name)
 
 one_there : (fs : Contents) (names : List (List ℕ)) (i : ℕ) (name : List ℕ) → AreValid names fs → slice_get names i ≡ Some name → HasText fs name
 one_there fs [] i name v e = absurd v
-one_there fs (n ∷ []) zero name v e = let same : n ≡ name = cc in subst (HasText fs) same (v.text, v.there)
+one_there fs (n ∷ []) zero name v e = let same : n ≡ name = cc in subst (HasText fs) same (v.text, v.found)
 one_there fs (n ∷ []) (suc i) name v e = absurd (let bad : None ≡ Some name = e in cc)
 one_there fs (n ∷ m ∷ names) i name v e = absurd v
 
@@ -54,7 +54,7 @@ answers_there fs (Some file) text zero name v e = let same : file ≡ name = cc 
 answers_there fs (Some file) text (suc i) name v e = absurd (let bad : None ≡ Some name = e in cc)
 
 run_there : (fs : Contents) (source : List ℕ) (term : List ℕ) (vs : Writtens) (answers : Option (List ℕ)) (i : ℕ) (name : List ℕ) → IsValidRun fs source term vs answers → slice_get (source ∷ answers_names answers) i ≡ Some name → HasText fs name
-run_there fs source term vs answers zero name v e = let same : source ≡ name = cc in subst (HasText fs) same (v.source, v.there)
+run_there fs source term vs answers zero name v e = let same : source ≡ name = cc in subst (HasText fs) same (v.source, v.found)
 run_there fs source term vs answers (suc i) name v e = answers_there fs answers v.given i name v.answered e
 
 no_input : {A : Type 0} (i : ℕ) (name : List ℕ) → slice_get [] i ≡ Some name → A
@@ -92,7 +92,7 @@ valid_file fs name v h = one h.texts h.read h.refused
     one [] r k = r
     one (text ∷ []) r k =
         ⊎_elim
-        (λ never. never (subst (λ t. InLanguage (t ∷ [])) (one_text (bytes_of fs name) v.text text v.there r.0) v.language))
+        (λ never. never (subst (λ t. InLanguage (t ∷ [])) (one_text (bytes_of fs name) v.text text v.found r.0) v.language))
         (λ bad. let named : are_file_names (printed no_options (name ∷ [])) ≡ true = rw v.emitted refl in let same : true ≡ false = sym named ∙ bad in cc)
         k
     one (text ∷ other ∷ texts) r k = r.1
@@ -105,7 +105,7 @@ valid_files fs (name ∷ other ∷ names) v h = v
 -- the source and the answers of a run
 has_lines : (fs : Contents) (name term : List ℕ) (vs : Writtens) (answers : Option (List ℕ)) (e : Refusal) → IsValidRun fs name term vs answers → GivesNoLines name term vs answers (Some fs) e → e ≡ refusal.Memory
 has_lines fs name term vs answers e v h =
-    let source : v.source ≡ h.source = one_text (bytes_of fs name) v.source h.source v.there h.read.0.0 in
+    let source : v.source ≡ h.source = one_text (bytes_of fs name) v.source h.source v.found h.read.0.0 in
     let given : v.given ≡ h.given = one_answers fs answers v.given h.given v.answered h.read.1 in
     only_memory no_options (one_file name h.source) term vs h.given e
     (subst (λ t. CanRun (one_file name h.source) term vs t) given (subst (λ t. CanRun (one_file name t) term vs v.given) source v.can)) h.none

@@ -20,7 +20,7 @@ use Rattle.isle_top.specs.Requests.{source_name, IsBuilt}
 -- the file of the name holds a text of the language, and its name may be emitted
 pub record IsValid (files : Contents) (name : List ℕ) : Type 0 where
   pub text : List ℕ
-  pub there : IsText text (bytes_of files name)
+  pub found : IsText text (bytes_of files name)
   pub language : InLanguage (text ∷ [])
   pub emitted : is_file_name name ≡ true
 
@@ -52,7 +52,7 @@ pub record IsRunOf (name term : List ℕ) (vs : Writtens) (answers : Option (Lis
 pub record IsValidRun (files : Contents) (name term : List ℕ) (vs : Writtens) (answers : Option (List ℕ)) : Type 0 where
   pub source : List ℕ
   pub given : List ℕ
-  pub there : IsText source (bytes_of files name)
+  pub found : IsText source (bytes_of files name)
   pub answered : AreAnswers files answers given
   pub can : CanRun (one_file name source) term vs given
 

@@ -340,7 +340,7 @@ pub record IsFunction (p : Program) (f : Function) : Type 0 where
   pub names : HasNames f
   pub kind : IsKind f.kind
   pub forms : IsBody f.body
-  pub there : IsBodyThere p.trait_fns f.kind (length f.params) [] f.body
+  pub found : IsBodyThere p.trait_fns f.kind (length f.params) [] f.body
   pub fits : FitsFunction f.kind f.body
 
 -- the terms of the functions

@@ -12,7 +12,7 @@ use Rattle.isle_interpreter.proofs.term.run_term.Goals as goal
 fits : (c : goal.After-run_fitting) → MayRun (program c.args.p.now) c.args.name.now (values c.args.args.now) (meaning c.args.answers.now) (function c.in-Ok.f.now)
 fits c =
     let there : function_of c.args.name.now (program c.args.p.now).fns ≡ Some (function c.in-Ok.f.now) = search rules in
-    record { there = there; typed = c.in-Ok.ensures.typed; right = c.in-Ok-try_forms.ensures.right; answered = c.in-Ok-try_forms.ensures.answered }
+    record { found = there; typed = c.in-Ok.ensures.typed; right = c.in-Ok-try_forms.ensures.right; answered = c.in-Ok-try_forms.ensures.answered }
 
 pub returns-in-Ok-try_forms-clause-may : goal.returns-in-Ok-try_forms-clause-may
 returns-in-Ok-try_forms-clause-may c =
