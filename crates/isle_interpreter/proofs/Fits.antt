@@ -33,10 +33,10 @@ cut_follows old mid after len ls h k is cut = record {
   same = k.same ∙ h.same;
 }
 
-behind_flow : (end : CodeFlow) (after : Frame) (ls : List (ℕ × Holding)) (env : Env) → locals ls ≡ env → behind env (flow end after) ≡ flow end (record { locals = ls; calls = after.calls })
-behind_flow code.Goes after ls env h = ap (λ e. Goes e (state after)) (sym h)
-behind_flow (code.Ends e) after ls env h = refl
-behind_flow code.Stuck after ls env h = refl
+left_flow : (end : CodeFlow) (after : Frame) (ls : List (ℕ × Holding)) (env : Env) → locals ls ≡ env → behind env (flow end after) ≡ flow end (record { locals = ls; calls = after.calls })
+left_flow code.Goes after ls env h = ap (λ e. Goes e (state after)) (sym h)
+left_flow (code.Ends e) after ls env h = refl
+left_flow code.Stuck after ls env h = refl
 
 -- where a pattern may fit, what follows goes on from the locals behind it
 abbrev pub FitsSo : Option Env → Bool → (old mid : Frame) → Type 0
@@ -53,7 +53,7 @@ fits_run w old mid after b o fits end ls h e calls runs same =
     ∙ ap (λ x. if x then go (locals mid.locals) else other) e
     ∙ ap (λ c. behind (locals old.locals) (run_body (within w (of_calls c)) b (locals mid.locals) (state (of_calls c)))) (sym calls)
     ∙ ap (behind (locals old.locals)) runs
-    ∙ behind_flow end after ls (locals old.locals) (ap locals same)
+    ∙ left_flow end after ls (locals old.locals) (ap locals same)
 
 -- where it doesn't
 pub fits_not : (w : CodeAround) (old mid : Frame) (b : Body) (o : Option Env) (fits : Bool) → FitsSo o fits old mid → fits ≡ false → mid.calls ≡ old.calls → mid.locals ≡ old.locals

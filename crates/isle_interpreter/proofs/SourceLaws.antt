@@ -20,7 +20,7 @@ use Rattle.isle_core.specs.Terms.{goes_to}
 use Rattle.isle_core.specs.ValueViews.{values, made as made_of}
 use Rattle.isle_interpreter.specs.declared.source.Source.{Source as CodeSource}
 use Rattle.isle_interpreter.specs.declared.sources.Sources.{Sources}
-use Rattle.isle_interpreter.specs.Sources.{Cases, Turns, source, answered_by, later, behind_calls, at_name, at_callee, Puts, TakesAt, Takes, FindsSources}
+use Rattle.isle_interpreter.specs.Sources.{Cases, Turns, source, answered_by, later, after_calls, at_name, at_callee, Puts, TakesAt, Takes, FindsSources}
 
 -- ---- at a name
 
@@ -96,7 +96,7 @@ finds_later turns pure made x old new were takes = record {
       takes c
       ∙ ap (λ o. cond (goes_to c (Some x.callee)) (option_map later o) o) (were.finds c)
       ∙ moved (first_turns c) (first_cases c) (times c made) (goes_to c (Some x.callee))
-      ∙ ap (behind_calls (first_turns c) (first_cases c)) (sym (times_more c made x));
+      ∙ ap (after_calls (first_turns c) (first_cases c)) (sym (times_more c made x));
 }
   where
     first_turns : Callee → Option TurnAnswers
@@ -105,11 +105,11 @@ finds_later turns pure made x old new were takes = record {
     first_cases : Callee → Option PureAnswers
     first_cases c = find (λ (a : PureAnswers). goes_to c (Some a.callee)) pure
 
-    moved : (t : Option TurnAnswers) (o : Option PureAnswers) (n : ℕ) (b : Bool) → cond b (option_map later (behind_calls t o n)) (behind_calls t o n) ≡ behind_calls t o (n + count b)
+    moved : (t : Option TurnAnswers) (o : Option PureAnswers) (n : ℕ) (b : Bool) → cond b (option_map later (after_calls t o n)) (after_calls t o n) ≡ after_calls t o (n + count b)
     moved (Some a) o n true = ap (λ left. Some (Turns left a.rest)) (drop-drop 1 n a.turns)
     moved None (Some a) n true = refl
     moved None None n true = refl
-    moved t o n false = ap (behind_calls t o) {y = n + 0} (omega arith)
+    moved t o n false = ap (after_calls t o) {y = n + 0} (omega arith)
 
 -- ---- what a call is answered
 
@@ -125,6 +125,6 @@ answers_call m made s c vs f = ap (λ o. answered_by o vs) (f.finds c) ∙ by_tu
     by_cases None = refl
     by_cases (Some a) = refl
 
-    by_turns : (t : Option TurnAnswers) → answered_by (behind_calls t (cases_of m c) (times c made)) vs ≡ answer_by t m c vs made
+    by_turns : (t : Option TurnAnswers) → answered_by (after_calls t (cases_of m c) (times c made)) vs ≡ answer_by t m c vs made
     by_turns (Some a) = index_drop (times c made) a.turns a.rest
     by_turns None = by_cases (cases_of m c)

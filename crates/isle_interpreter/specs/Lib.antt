@@ -1,13 +1,13 @@
 pub mod Signatures
-pub mod Forms
+pub mod Entries
 pub mod Refusals
 pub mod RunViews
 pub mod Locals
-pub mod Told
+pub mod FirstWrong
 pub mod Found
 pub mod SignatureViews
 pub mod Served
-pub mod FormViews
+pub mod EntryViews
 pub mod Judged
 pub mod Sources
 pub mod Called

@@ -37,9 +37,9 @@ later (Cases a) = Cases a
 later (Turns left rest) = Turns (drop 1 left) rest
 
 -- the answers behind as many calls, of a callee that has turns or cases
-abbrev pub behind_calls : Option TurnAnswers → Option PureAnswers → ℕ → Option Source
-behind_calls (Some a) cases n = Some (Turns (drop n a.turns) a.rest)
-behind_calls None cases n = option_map Cases cases
+abbrev pub after_calls : Option TurnAnswers → Option PureAnswers → ℕ → Option Source
+after_calls (Some a) cases n = Some (Turns (drop n a.turns) a.rest)
+after_calls None cases n = option_map Cases cases
 
 -- what a map has at a name
 abbrev pub at_name : BTreeMap (Bor (List ℕ)) CodeSource → List ℕ → Option Source
@@ -64,4 +64,4 @@ Takes old new called = (c : Callee) → at_callee new c ≡ cond (goes_to c (Som
 
 -- the maps have the answers of each callee behind the calls made: those of its first turns, or else of its first cases
 pub record FindsSources (turns : List TurnAnswers) (pure : List PureAnswers) (made : List Made) (s : Sources) : Type 0 where
-  pub finds : (c : Callee) → at_callee s c ≡ behind_calls (find (λ (a : TurnAnswers). goes_to c (Some a.callee)) turns) (find (λ (a : PureAnswers). goes_to c (Some a.callee)) pure) (times c made)
+  pub finds : (c : Callee) → at_callee s c ≡ after_calls (find (λ (a : TurnAnswers). goes_to c (Some a.callee)) turns) (find (λ (a : PureAnswers). goes_to c (Some a.callee)) pure) (times c made)

@@ -27,7 +27,7 @@ fn but_first<'a>(turns: &'a [Answer]) -> &'a [Answer]
 }
 
 // The answers behind a call.
-fn behind<'a>(given: Source<'a>) -> Source<'a>
+fn later<'a>(given: Source<'a>) -> Source<'a>
     ensures { source result ≡ later (source given.entry) }
 {
     match given {
@@ -41,7 +41,7 @@ fn take_at<'a>(found: &mut BTreeMap<&'a str, Source<'a>>, name: &str)
     ensures { TakesAt found.old found.new name.now }
 {
     match found.get_mut(name) {
-        Some(there) => *there = behind(*there),
+        Some(there) => *there = later(*there),
         None => {}
     }
 }

@@ -28,7 +28,8 @@ use Rattle.isle_interpreter.specs.Signatures.{type_names, AreNamed}
 use Rattle.isle_interpreter.specs.declared.run_error.RunError.TheVariants as error
 use Rattle.isle_interpreter.proofs.OneRefusal.{not_refused}
 use Rattle.isle_simulation.specs.TermFunction.{parameter, type_text}
-use Rattle.isle_run_inputs.specs.Forms.{are_built, answers_at, turns_at}
+use Rattle.isle_run_inputs.specs.Built.{are_built}
+use Rattle.isle_run_inputs.specs.AnswersAt.{answers_at, turns_at}
 use Rattle.isle_codegen.specs.Causes.{IsNotOfIt}
 use Rattle.isle_codegen.specs.Checked.{IsChecked}
 use Rattle.isle_codegen.specs.Source.{InLanguage}
@@ -41,7 +42,7 @@ use Rattle.isle_run.specs.Trial.{args_given}
 use Rattle.isle_run.specs.Valid.{CanRun}
 use Rattle.isle_run.proofs.RequestedTerms.{HasFunction, requested_function}
 use Rattle.isle_run.proofs.NamedTypes.{are_named}
-use Rattle.isle_run.proofs.RightForms.{all_right, answered_back}
+use Rattle.isle_run.proofs.RightEntries.{all_right, answered_back}
 
 -- ---- the source
 

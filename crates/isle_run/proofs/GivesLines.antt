@@ -19,8 +19,8 @@ use Rattle.isle_tree.specs.Program.{Program, Function}
 use Rattle.isle_tree.specs.Run.{run}
 use Rattle.isle_simulation.specs.TermFunction.{parameter}
 use Rattle.isle_run_inputs.specs.Requested.{requested_term, requested_types, arg_types}
-use Rattle.isle_run_inputs.specs.Forms.{answers_at}
-use Rattle.isle_run_inputs.specs.Given.{values_at}
+use Rattle.isle_run_inputs.specs.AnswersAt.{answers_at}
+use Rattle.isle_run_inputs.specs.ValuesAt.{values_at}
 use Rattle.isle_run_inputs.proofs.HaveTypes.{Matched, have_types}
 use Rattle.isle_outcomes.specs.Lines.{run_lines}
 use Rattle.isle_interpreter.specs.Refusals.{MayRun}

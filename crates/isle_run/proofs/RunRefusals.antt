@@ -5,7 +5,8 @@ use Rattle.isle_core.specs.Rule.{Environment}
 use Rattle.isle_core.specs.Value.{Value}
 use Rattle.isle_answers.specs.Form.{Form}
 use Rattle.isle_answers.specs.Spelling.{SpellsForms}
-use Rattle.isle_run_inputs.specs.Forms.{are_built, answers_at}
+use Rattle.isle_run_inputs.specs.Built.{are_built}
+use Rattle.isle_run_inputs.specs.AnswersAt.{answers_at}
 use Rattle.isle_run_inputs.specs.Places.{place_at}
 use Rattle.isle_tree.specs.Program.{Program}
 use Rattle.isle_interpreter.specs.Judged.{IsEarly}
@@ -16,7 +17,7 @@ use Rattle.isle_run.specs.declared.refusal.Refusal.TheVariants as refusal
 use Rattle.isle_run.specs.NoLines.{IsRunRefused, no_term, arg_count, arg_type, wrong}
 use Rattle.isle_run.specs.Placed.{placed}
 
--- before any form is looked at
+-- before any entry is looked at
 pub refuses_early : (p : Program) (env : Environment) (term : List ℕ) (args : List Value) (text : List ℕ) (m : Meaning) (e : RunError) → IsEarly e → IsRefused p term args m e → IsRunRefused p env term args text (placed e 0 [])
 refuses_early p env term args text m error.NoTerm early h = no_term m h
 refuses_early p env term args text m error.ArgCount early h = arg_count m h

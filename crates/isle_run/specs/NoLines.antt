@@ -9,7 +9,8 @@ use Rattle.isle_values.specs.Written.{Writtens}
 use Rattle.isle_answers.specs.Form.{Form}
 use Rattle.isle_answers.specs.Places.{IsFault}
 use Rattle.isle_answers.specs.Spelling.{SpellsForms}
-use Rattle.isle_run_inputs.specs.Forms.{are_built, answers_at}
+use Rattle.isle_run_inputs.specs.Built.{are_built}
+use Rattle.isle_run_inputs.specs.AnswersAt.{answers_at}
 use Rattle.isle_run_inputs.specs.Places.{place_at}
 use Rattle.isle_tree.specs.Program.{Program}
 use Rattle.isle_interpreter.specs.Judged.{Takes}

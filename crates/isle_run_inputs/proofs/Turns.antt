@@ -16,7 +16,7 @@ use Rattle.isle_answers.specs.Form.{Form}
 use Rattle.isle_answers.specs.Views.{answer_seen, form_seen, forms_seen}
 use Rattle.isle_answers.specs.declared.form.Form.TheVariants as code
 use Rattle.isle_run_inputs.specs.Requested.{answer_type}
-use Rattle.isle_run_inputs.specs.Forms.{answer_at, turns_at}
+use Rattle.isle_run_inputs.specs.AnswersAt.{answer_at, turns_at}
 
 -- one item more behind those that were
 pushed : {X Y : Type 0} (f : X → Y) (old new : List X) (x : X) (rest : List Y) → new ≡ old ++ x ∷ [] → map f old ++ f x ∷ rest ≡ map f new ++ rest

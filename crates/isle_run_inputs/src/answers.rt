@@ -8,7 +8,7 @@ ghost use Rattle.isle_answers.specs.Form as pure_form;
 ghost use Rattle.isle_answers.specs.Views.{result_seen, answer_seen, form_seen, forms_seen};
 ghost use Rattle.isle_core.specs.RuleViews.{environment};
 ghost use Rattle.isle_core.specs.Rule.{Environment};
-ghost use Rattle.isle_run_inputs.specs.Forms.{result_at, answer_at, turns_at, answers_at};
+ghost use Rattle.isle_run_inputs.specs.AnswersAt.{result_at, answer_at, turns_at, answers_at};
 
 use crate::answer_types::AnswerTypes;
 use crate::value::value_at_any;

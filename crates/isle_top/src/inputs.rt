@@ -6,7 +6,7 @@ ghost use Rattle.isle_outside.specs.Directory.{bytes_of, raised};
 ghost use Rattle.isle_outside.specs.Reading.{IsText};
 ghost use Rattle.isle_core.specs.Inputs.{Fails};
 ghost use Rattle.isle_top.specs.Requests.{answers_names};
-ghost use Rattle.isle_top.specs.Valid.{AreAnswers, one_file};
+ghost use Rattle.isle_top.specs.Valid.{IsAnswersText, one_file};
 ghost use Rattle.isle_top.specs.Inputs.{AreInputs, FailsTo, IsOf};
 
 use isle_core::{Dir, Files, List, OutOfMemory, ReadError, ReadFail, Text, read_text};
@@ -43,7 +43,7 @@ fn answers_text<D: Dir>(
     answers: Option<&str>,
     dir: &mut D,
 ) -> Result<Text, ReadError>
-    ensures ok { IfOk result (λ text. IfSome (D.files dir.old) (λ fs. AreAnswers fs (option_copied answers.entry) text)) }
+    ensures ok { IfOk result (λ text. IfSome (D.files dir.old) (λ fs. IsAnswersText fs (option_copied answers.entry) text)) }
     ensures err { IfErr result (λ e. IsSomeAnd (option_copied answers.entry) (λ file. FailsTo e 1 (D.files dir.old) file (D.counts dir.old) (D.counts dir.new))) }
     ensures files { D.files dir.new ≡ D.files dir.old }
     ensures later { (D.counts dir.old).faults ≤ (D.counts dir.new).faults }

@@ -1,7 +1,7 @@
 use Rattle.std.proofs.Common.{[]}
 use Rattle.isle_core.specs.ValueViews.{values}
 use Rattle.isle_tree.specs.Views.{program}
-use Rattle.isle_run_inputs.specs.Forms.{answers_at}
+use Rattle.isle_run_inputs.specs.AnswersAt.{answers_at}
 use Rattle.isle_run.proofs.RunRefusals.{refuses_early}
 use Rattle.isle_run.proofs.outcome.refused.Goals as goal
 

@@ -1,7 +1,7 @@
 use Rattle.std.proofs.Common.{rules, ◌≡◌, ap, ◌∙◌, map}
 use Rattle.isle_core.specs.ValueViews.{answer}
 use Rattle.isle_answers.specs.Views.{answer_seen}
-use Rattle.isle_run_inputs.specs.Forms.{answer_at}
+use Rattle.isle_run_inputs.specs.AnswersAt.{answer_at}
 use Rattle.isle_run_inputs.proofs.Turns.{given_turns}
 use Rattle.isle_run_inputs.proofs.answers.turns_of.Goals as goal
 
