@@ -168,9 +168,17 @@ read s (w ∷ ws) = onward (next s w) (λ t. read t ws)
 abbrev pub asks : Known → Option Request
 asks state.Begin = Some (command.Compile no_options (codes "first.isle" ∷ []))
 asks (state.Whole c) = Some c
+asks (state.Options v o) = None
+asks (state.Threshold v o) = None
+asks (state.Prefix v o) = None
 asks (state.Names o ns) = Some (command.Compile o ns)
+asks state.Kind = None
+asks state.Target = None
+asks state.Run = None
+asks (state.Term t o s) = None
+asks (state.Values t o s m) = None
 asks (state.AfterValues t o s m vs) = Some (command.Run t o s m vs None)
-asks s = None
+asks (state.Answers t o s m vs) = None
 
 -- the word of this number is the first with which no line continues
 pub record StopsAt (words : List (List ℕ)) (i : ℕ) : Type 0 where

@@ -15,19 +15,24 @@ abbrev pub IsEarly : RunError → Type 0
 IsEarly error.NoTerm = Unit {0}
 IsEarly error.ArgCount = Unit {0}
 IsEarly (error.ArgType i) = Unit {0}
-IsEarly e = ⊥
+IsEarly (error.BadAnswers i) = ⊥
+IsEarly error.Memory = ⊥
 
 -- why not all entries are right, or want of memory
 abbrev pub AreWrong : Program → List Entry → RunError → Type 0
-AreWrong p fs error.Memory = Unit {0}
+AreWrong p fs error.NoTerm = ⊥
+AreWrong p fs error.ArgCount = ⊥
+AreWrong p fs (error.ArgType i) = ⊥
 AreWrong p fs (error.BadAnswers i) = IsWrongEntry p fs i
-AreWrong p fs e = ⊥
+AreWrong p fs error.Memory = Unit {0}
 
 -- why the entries don't do for a function, or want of memory
 abbrev pub AreBad : Program → Function → List Entry → RunError → Type 0
-AreBad p f fs error.Memory = Unit {0}
+AreBad p f fs error.NoTerm = ⊥
+AreBad p f fs error.ArgCount = ⊥
+AreBad p f fs (error.ArgType i) = ⊥
 AreBad p f fs (error.BadAnswers i) = IsWrongEntry p fs i ⊎ (AreRight p [] fs × IsMissing f fs × (i ≡ length fs))
-AreBad p f fs e = ⊥
+AreBad p f fs error.Memory = Unit {0}
 
 -- the function of the term takes the arguments
 pub record Takes (p : Program) (term : List ℕ) (args : List Value) : Type 0 where

@@ -30,14 +30,22 @@ is_of ty (negsuc n) = is_signed ty && nat_lt n (2 ^ hbits (width ty))
 abbrev pub number_at : IntType → ℤ → Value
 number_at ty n = if is_of ty n then Int ty (wrapped I128 n) else misfit
 
+-- a written value at `bool`
+abbrev pub truth_at : Written → Value
+truth_at (written.Truth b) = Truth b
+truth_at (written.Number n) = misfit
+truth_at (written.Made name parts) = misfit
+
+-- a written value at an integer type
+abbrev pub integer_at : IntType → Written → Value
+integer_at ty (written.Truth b) = misfit
+integer_at ty (written.Number n) = number_at ty n
+integer_at ty (written.Made name parts) = misfit
+
 -- a written value at a type of this definition; only those of bool and of the integer types are built
 abbrev pub value_of_def : Option TypeDef → Written → Value
-value_of_def (Some (def.Builtin builtin.Bool)) (written.Truth b) = Truth b
-value_of_def (Some (def.Builtin builtin.Bool)) (written.Number n) = misfit
-value_of_def (Some (def.Builtin builtin.Bool)) (written.Made name parts) = misfit
-value_of_def (Some (def.Builtin (builtin.Int ty))) (written.Number n) = number_at ty n
-value_of_def (Some (def.Builtin (builtin.Int ty))) (written.Truth b) = misfit
-value_of_def (Some (def.Builtin (builtin.Int ty))) (written.Made name parts) = misfit
+value_of_def (Some (def.Builtin builtin.Bool)) w = truth_at w
+value_of_def (Some (def.Builtin (builtin.Int ty))) w = integer_at ty w
 value_of_def (Some (def.Primitive name rust at)) w = misfit
 value_of_def (Some (def.Enum name is_extern is_nodebug variants at)) w = misfit
 value_of_def (Some (def.Struct name is_extern is_nodebug fields at)) w = misfit
