@@ -24,21 +24,8 @@ pub fn reply<D: Dir>(alloc: Global, command: &Command, dir: &mut D) -> Result<St
     ensures err { IfErr result (λ e. HasCause e (seen_command command.now) (D.files dir.old) (D.counts dir.old) (D.counts dir.new)) }
     ensures not_built { (IsBuilt (seen_command command.now) → ⊥) → result ≡ Err Refusal.NotYet }
     ensures untried { (IsBuilt (seen_command command.now) → ⊥) → D.counts dir.new ≡ D.counts dir.old }
-    ensures complete { IsSomeAnd (D.files dir.old) (IsValidLine (seen_command command.now)) → (Rose (D.counts dir.old).faults (D.counts dir.new).faults → ⊥) → IsOkUnless result Refusal.Memory }
-    ensures files { D.files dir.new ≡ D.files dir.old }
-    ensures later { (D.counts dir.old).faults ≤ (D.counts dir.new).faults }
-    ensures stays { (D.counts dir.old).faults ≡ 2 ^ 64 - 1 → (D.counts dir.new).faults ≡ 2 ^ 64 - 1 }
-    ensures given { (D.counts dir.new).given ≤ (D.counts dir.old).given + (2 ^ 24 + 1) * length (inputs_of (seen_command command.now)) }
-{
-    reply_or_cause(alloc, command, dir)
-}
-
-// The reply to a line, or why there is none.
-fn reply_or_cause<D: Dir>(alloc: Global, command: &Command, dir: &mut D) -> Result<String, Refusal>
-    ensures ok { IfOk result (λ text. IsReply (seen_command command.now) (D.files dir.old) (string_bytes text)) }
-    ensures err { IfErr result (λ e. HasCause e (seen_command command.now) (D.files dir.old) (D.counts dir.old) (D.counts dir.new)) }
-    ensures not_built { (IsBuilt (seen_command command.now) → ⊥) → result ≡ Err Refusal.NotYet }
-    ensures untried { (IsBuilt (seen_command command.now) → ⊥) → D.counts dir.new ≡ D.counts dir.old }
+    ensures complete { IsSomeAnd (D.files dir.old) (IsValidLine (seen_command command.now))
+        → (Rose (D.counts dir.old).faults (D.counts dir.new).faults → ⊥) → IsOkUnless result Refusal.Memory }
     ensures files { D.files dir.new ≡ D.files dir.old }
     ensures later { (D.counts dir.old).faults ≤ (D.counts dir.new).faults }
     ensures stays { (D.counts dir.old).faults ≡ 2 ^ 64 - 1 → (D.counts dir.new).faults ≡ 2 ^ 64 - 1 }
