@@ -120,10 +120,6 @@ has_read_named verb.Compile o ws w h good = (h.0, h.1, omega arith, (λ k. good 
 has_read_named verb.Build o ws w h good = subst (λ z. LineS z (command.Build o w)) (sym (ap (λ z. z ++ w ∷ []) h.2)) (built o h.0 w h.1 good)
 has_read_named (verb.Run t) o ws w h good = has_read_sourced t o ws (source_of w) w h (source_is w good)
 
-none_given : (t : Option ℕ) → is_some t ≡ false → t ≡ None
-none_given None e = refl
-none_given (Some n) e = cc
-
 has_read_chosen : (v : Verb) (o : CodegenOptions) (ws : List (List ℕ)) (m : OptionWord) (w : List ℕ) → HasRead (state.Options v o) ws → IsMarked m w → After (chosen v o m) (ws ++ w ∷ [])
 has_read_chosen v o ws marked.NoAllow w h is = off_if (λ r. After r (ws ++ w ∷ [])) o.exclude_global_allow_pragmas _ _ tt
     (λ off. (h.0 ++ codes "--no-allow" ∷ [], begun_more v o h.0 choice.NoAllow (codes "--no-allow" ∷ []) h.1 choice.no_allow (ap not off), λ k. h.2 k ++ is k ∷ []))

@@ -25,14 +25,6 @@ is_unanswered callee (f ∷ fs) h = or_from _ _ h.0 (is_unanswered callee fs h.1
 
 -- ---- one entry
 
--- an entry that answers for no callee is wrong
-pub nobody : (p : Program) (earlier : List Entry) (f : Entry) → answers_for f ≡ None → IsTrue false ↔ IsRight p earlier f
-nobody p earlier f e = (λ t. absurd cc, λ r. absurd (by (answers_for f) e r))
-  where
-    by : (o : Option Callee) → o ≡ None → IsSomeAnd o (λ callee. IsUnanswered callee earlier × IsSomeAnd (signature_of p callee) (EntryFits f)) → ⊥
-    by None e r = r
-    by (Some c) e r = absurd cc
-
 known : (p : Program) (earlier : List Entry) (f : Entry) (callee : Callee) → answers_for f ≡ Some callee → IsRight p earlier f → IsUnanswered callee earlier × IsSomeAnd (signature_of p callee) (EntryFits f)
 known p earlier f callee e r = subst (λ o. IsSomeAnd o (λ (callee : Callee). IsUnanswered callee earlier × IsSomeAnd (signature_of p callee) (EntryFits f))) e r
 
@@ -49,10 +41,6 @@ repeats p earlier f callee s e serves there = (
       absurd cc,
 )
 
--- one whose callee the program doesn't have
-pub unknown : (p : Program) (earlier : List Entry) (f : Entry) (callee : Callee) → answers_for f ≡ Some callee → signature_of p callee ≡ None → IsTrue false ↔ IsRight p earlier f
-unknown p earlier f callee e none = (λ t. absurd cc, λ r. absurd (subst (λ o. IsSomeAnd o (EntryFits f)) none (known p earlier f callee e r).1))
-
 -- another one is right exactly if its answers fit
 pub fitting : (p : Program) (earlier : List Entry) (f : Entry) (callee : Callee) (s : Served) (of : Signature) (b : Bool) → answers_for f ≡ Some callee → Serves earlier s → has s callee ≡ false → signature_of p callee ≡ Some of
     → IsTrue b ↔ EntryFits f of → IsTrue b ↔ IsRight p earlier f
@@ -60,23 +48,6 @@ fitting p earlier f callee s of b e serves fresh is fits = (
   λ t. known_so p earlier f callee e (unanswered callee earlier (sym (serves.serves callee) ∙ fresh), subst (λ o. IsSomeAnd o (EntryFits f)) (sym is) (fits.0 t)),
   λ r. fits.1 (subst (λ o. IsSomeAnd o (EntryFits f)) is (known p earlier f callee e r).1),
 )
-
-or_swapped : (b c : Bool) → (b || c) ≡ (c || (b || false))
-or_swapped true true = refl
-or_swapped true false = refl
-or_swapped false true = refl
-or_swapped false false = refl
-
--- its callee is among them
-pub serves_more : (earlier : List Entry) (f : Entry) (callee : Callee) (old new : Served) → answers_for f ≡ Some callee → Serves earlier old → ((other : Callee) → has new other ≡ (goes_to other (Some callee) || has old other)) → Serves (earlier ++ f ∷ []) new
-serves_more earlier f callee old new e serves more = record {
-  serves = λ other.
-      more other
-      ∙ ap (λ b. goes_to other (Some callee) || b) (serves.serves other)
-      ∙ or_swapped (goes_to other (Some callee)) (is_answered earlier other)
-      ∙ ap (λ o. is_answered earlier other || (goes_to other o || false)) (sym e)
-      ∙ sym (list_any-append (λ (g : Entry). goes_to other (answers_for g)) earlier (f ∷ []));
-}
 
 -- the two answers of an addition
 pub added : (b r : Bool) → r ≡ not b → r ≡ true → b ≡ false
@@ -88,10 +59,6 @@ not_added true r e f = refl
 not_added false r e f = absurd cc
 
 -- ---- entries in order
-
--- none is right already
-pub serves_none : (s : Served) → ((callee : Callee) → has s callee ≡ false) → Serves [] s
-serves_none s h = record { serves = h }
 
 right_more : (p : Program) (earlier fs : List Entry) (f : Entry) → AreRight p earlier fs → IsRight p (earlier ++ fs) f → AreRight p earlier (fs ++ f ∷ [])
 right_more p earlier [] f h r = (subst (λ gs. IsRight p gs f) (append-nil earlier) r, tt)

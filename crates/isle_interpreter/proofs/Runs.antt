@@ -76,7 +76,7 @@ runs p term args m f well may =
     let count : length args ≡ length f.params = named_length (type_names f.params) args may.typed ∙ length-map f.params (λ (ty : Ty). ty.name) in
     let there : IsBodyThere p.trait_fns f.kind (length args) [] f.body = subst (λ n. IsBodyThere p.trait_fns f.kind n [] f.body) (sym count) is.found in
     let around : Around = record { meaning = m; program = p; function = f; args = args; limit = None } in
-    let ends = function_ends p.trait_fns around f.kind f.body [] [] nothing_done is.entries there is.fits (answering p m f well.trait_fns may.right may.answered) tt in
+    let ends = function_ends p.trait_fns around f.kind f.body [] [] nothing_done is.forms there is.fits (answering p m f well.trait_fns may.right may.answered) tt in
     record {
       ran = record { end = ends.end; calls = ends.left.made };
       is = ap (function_run p m args) may.found ∙ ap ended ends.is;

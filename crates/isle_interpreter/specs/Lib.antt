@@ -12,3 +12,4 @@ pub mod Judged
 pub mod Sources
 pub mod Called
 pub mod Frames
+pub mod Steps

@@ -48,6 +48,9 @@ pub record MayRun (p : Program) (term : List ℕ) (args : List Value) (m : Meani
 pub data IsRefused (p : Program) (term : List ℕ) (args : List Value) (m : Meaning) : RunError → Type 0 where
   no_term : function_of term p.fns ≡ None → IsRefused p term args m error.NoTerm
   arg_count : (f : Function) → function_of term p.fns ≡ Some f → length args ≢ length f.params → IsRefused p term args m error.ArgCount
-  arg_type : (f : Function) (i : ℕ) → function_of term p.fns ≡ Some f → length args ≡ length f.params → IsWrongArg (type_names f.params) args i → IsRefused p term args m (error.ArgType i)
-  wrong_entry : (f : Function) (i : ℕ) → function_of term p.fns ≡ Some f → AreNamed (type_names f.params) args → IsWrongEntry p (entries m) i → IsRefused p term args m (error.BadAnswers i)
-  missing : (f : Function) → function_of term p.fns ≡ Some f → AreNamed (type_names f.params) args → AreRight p [] (entries m) → IsMissing f (entries m) → IsRefused p term args m (error.BadAnswers (length (entries m)))
+  arg_type : (f : Function) (i : ℕ) → function_of term p.fns ≡ Some f → length args ≡ length f.params → IsWrongArg (type_names f.params) args i
+      → IsRefused p term args m (error.ArgType i)
+  wrong_entry : (f : Function) (i : ℕ) → function_of term p.fns ≡ Some f → AreNamed (type_names f.params) args → IsWrongEntry p (entries m) i
+      → IsRefused p term args m (error.BadAnswers i)
+  missing : (f : Function) → function_of term p.fns ≡ Some f → AreNamed (type_names f.params) args → AreRight p [] (entries m) → IsMissing f (entries m)
+      → IsRefused p term args m (error.BadAnswers (length (entries m)))

@@ -35,8 +35,10 @@ fn is_right<'a>(
     served: &mut Served<'a>,
     given: &Entry<'a>,
 ) -> Result<bool, AllocError>
-    ensures right { IfOk result (λ right. (earlier : List EntryOf) → Serves earlier served.old → IsTrue right ↔ IsRight (program signatures.now) earlier (entry given.now)) }
-    ensures serves { IfOk result (λ right. (earlier : List EntryOf) → Serves earlier served.old → IsTrue right → Serves (earlier ++ entry given.now ∷ []) served.new) }
+    ensures right { IfOk result (λ right. (earlier : List EntryOf) → Serves earlier served.old
+        → IsTrue right ↔ IsRight (program signatures.now) earlier (entry given.now)) }
+    ensures serves { IfOk result (λ right. (earlier : List EntryOf) → Serves earlier served.old
+        → IsTrue right → Serves (earlier ++ entry given.now ∷ []) served.new) }
 {
     let callee = match given.callee() {
         Some(callee) => callee,

@@ -49,7 +49,8 @@ pub fn run_term(
     ensures may { OnOk result (Runs (program p.now) name.now (values args.now) (meaning answers.now)) }
     ensures refused { IfErr result (λ e. (e ≡ Memory) ⊎ IsRefused (program p.now) name.now (values args.now) (meaning answers.now) e) }
     ensures never { OnOk result ((d : RunError) → IsRefused (program p.now) name.now (values args.now) (meaning answers.now) d → ⊥) }
-    ensures only { IfErr result (λ e. (d : RunError) → IsRefused (program p.now) name.now (values args.now) (meaning answers.now) d → (e ≡ Memory) ⊎ (d ≡ e)) }
+    ensures only { IfErr result (λ e. (d : RunError) → IsRefused (program p.now) name.now (values args.now) (meaning answers.now) d
+        → (e ≡ Memory) ⊎ (d ≡ e)) }
 {
     let f = match taking(p.fns.as_slice(), name, args) {
         Ok(f) => f,

@@ -43,7 +43,8 @@ pub fn are_named(names: &[Text], given: &[Value]) -> bool
 /// Tells whether an answer is of the kind, with values of the types of these names.
 #[tactic(auto, using(isle_outcomes::proofs::SeesValues::sees_values))]
 pub fn answer_fits(results: &[Text], kind: ReturnKind, given: &Answer) -> bool
-    ensures { (params : List (List ℕ)) → IsTrue result ↔ AnswerFits (record { params = params; results = results.now; kind = kind }) (answer given.now) }
+    ensures { (params : List (List ℕ)) → IsTrue result
+        ↔ AnswerFits (record { params = params; results = results.now; kind = kind }) (answer given.now) }
 {
     match given {
         Answer::Plain(found) => {

@@ -17,7 +17,8 @@ pub record AreInputs (name : List ℕ) (answers : Option (List ℕ)) (files : Op
 -- why the input of this number and name is not read
 abbrev pub FailsTo : ReadError → (index : ℕ) → Option Contents → List ℕ → (before after : Counts) → Type 0
 FailsTo error.Memory index files name before after = after.faults ≡ before.faults
-FailsTo (error.Io at why) index files name before after = (at ≡ index) × (after.finds ≡ raised 1 before.finds) × RoseAt why before.faults after.faults × IfSome files (λ fs. IsCause why (bytes_of fs name))
+FailsTo (error.Io at why) index files name before after =
+    (at ≡ index) × (after.finds ≡ raised 1 before.finds) × RoseAt why before.faults after.faults × IfSome files (λ fs. IsCause why (bytes_of fs name))
 
 -- the input that is told is one of these
 abbrev pub IsOf : ReadError → List (List ℕ) → Type 0
