@@ -61,7 +61,10 @@ fits_type env return_kind.Plain ty (Plain (v ∷ w ∷ vs)) h = absurd h.1
 fits_type env return_kind.Plain ty (Found vs) h = absurd h
 fits_type env return_kind.Plain ty Nothing h = absurd h
 fits_type env return_kind.Plain ty (Several items) h = absurd h
-fits_type env return_kind.Iterator ty a h = absurd h
+fits_type env return_kind.Iterator ty (Plain vs) h = absurd h
+fits_type env return_kind.Iterator ty (Found vs) h = absurd h
+fits_type env return_kind.Iterator ty Nothing h = absurd h
+fits_type env return_kind.Iterator ty (Several items) h = absurd h
 
 fits_kind : (env : Environment) (kind : ReturnKind) (ty : TypeId) (a : Answer) → Fits env kind (ty ∷ []) a → IsOfKind kind (answer_held a)
 fits_kind env return_kind.Option ty (Found (v ∷ [])) h = (Some v, refl)
@@ -76,7 +79,10 @@ fits_kind env return_kind.Plain ty (Plain (v ∷ w ∷ vs)) h = absurd h.1
 fits_kind env return_kind.Plain ty (Found vs) h = absurd h
 fits_kind env return_kind.Plain ty Nothing h = absurd h
 fits_kind env return_kind.Plain ty (Several items) h = absurd h
-fits_kind env return_kind.Iterator ty a h = absurd h
+fits_kind env return_kind.Iterator ty (Plain vs) h = absurd h
+fits_kind env return_kind.Iterator ty (Found vs) h = absurd h
+fits_kind env return_kind.Iterator ty Nothing h = absurd h
+fits_kind env return_kind.Iterator ty (Several items) h = absurd h
 
 turn_in : (P : Answer → Type 0) (turns : List Answer) (n : ℕ) (rest : Answer) → P rest → AllByRecursion P turns → P (slice_index_or turns n rest)
 turn_in P [] n rest h k = h

@@ -48,7 +48,7 @@ exprs_of (e ∷ es) = AnExpr e (exprs_of es)
 
 -- a binding of a `let`, its value seen already
 abbrev pub SeenBinding : Type 0
-Bound = VarId × TypeId × Expr
+SeenBinding = VarId × TypeId × Expr
 
 -- bindings of a list
 abbrev pub bindings_of : List SeenBinding → LetBindings

@@ -5,6 +5,7 @@ mod blocks;
 mod errors;
 mod files;
 mod int_type;
+mod names;
 mod options;
 mod position;
 mod read_error;

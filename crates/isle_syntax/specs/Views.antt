@@ -45,7 +45,7 @@ exprs_of (e ∷ es) = AnExpr e (exprs_of es)
 
 -- a variable of a `let`, its value seen already
 abbrev pub SeenBinding : Type 0
-Bound = List ℕ × List ℕ × Expr
+SeenBinding = List ℕ × List ℕ × Expr
 
 -- variables of a list
 abbrev pub lets_of : List SeenBinding → Lets
