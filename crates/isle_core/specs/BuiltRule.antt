@@ -44,11 +44,12 @@ pub record IsBuiltRule (r : Rule) : Type 0 where
 
 -- ---- what is called
 
--- an impure term that has a constructor
+-- an impure term that has a constructor and answers at most once
 abbrev pub IsImpureKind : TermKind → Type 0
-IsImpureKind (kind.Decl false multi partial recursive constructor.Internal extractor) = Unit {0}
-IsImpureKind (kind.Decl false multi partial recursive (constructor.External func) extractor) = Unit {0}
-IsImpureKind (kind.Decl false multi partial recursive constructor.Absent extractor) = ⊥
+IsImpureKind (kind.Decl false false partial recursive constructor.Internal extractor) = Unit {0}
+IsImpureKind (kind.Decl false false partial recursive (constructor.External func) extractor) = Unit {0}
+IsImpureKind (kind.Decl false false partial recursive constructor.Absent extractor) = ⊥
+IsImpureKind (kind.Decl false true partial recursive by extractor) = ⊥
 IsImpureKind (kind.Decl true multi partial recursive by extractor) = ⊥
 IsImpureKind (kind.Variant ty variant) = ⊥
 IsImpureKind (kind.Struct ty) = ⊥

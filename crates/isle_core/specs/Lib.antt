@@ -1,4 +1,5 @@
 pub mod Int
+pub mod Iterators
 pub mod Value
 pub mod Meaning
 pub mod ValueViews
