@@ -1,5 +1,5 @@
 -- Bindings numbered in order, each path once.
-use Rattle.std.specs.Prelude.{◌≡◌, ◌⊎◌, ◌≤◌, ℕ, suc, List, [], ◌∷◌, Bool, false, Option, Some, ◌==◌, ◌&&◌, nat_lt, if◌then◌else◌, slice_get, Contains}
+use Rattle.std.specs.Prelude.{◌≡◌, ◌⊎◌, ◌≤◌, ℕ, suc, List, [], ◌∷◌, length, Bool, false, Option, Some, ◌==◌, ◌&&◌, nat_lt, if◌then◌else◌, slice_get, Contains}
 use Rattle.std.specs.declared.cmp.Ordering.{Ordering}
 use Rattle.std.specs.BTreeMap.{BTreeMap, get}
 use Rattle.isle_core.specs.declared.BindingId.{BindingId}
@@ -92,8 +92,10 @@ IsCallUpTo n (StructField field q) = ⊥
 IsCallUpTo n (Wrapped q) = ⊥
 IsCallUpTo n (Part part q) = ⊥
 
--- a key is found where its path stands, each other path is of a call that was counted, and no path stands twice
+-- a key is found where its path stands, each other path is of a call that was counted, no path stands twice, and there are
+-- no more calls than bindings
 pub record AreNumbered (n : Numbered) (numbers : Key → Option BindingId) : Type 0 where
   pub found : (k : Key) (b : BindingId) → numbers k ≡ Some b → slice_get (paths_of n.bindings) b.0 ≡ Some (key_path k)
   pub kinds : (b : ℕ) (p : Path) → slice_get (paths_of n.bindings) b ≡ Some p → IsKeyed numbers b p ⊎ IsCallUpTo n.calls p
   pub once : EachOnce (paths_of n.bindings)
+  pub counted : n.calls ≤ length n.bindings
