@@ -50,6 +50,8 @@ pub mod OccurringConstants
 pub mod Lawful
 pub mod History
 pub mod Printed
+pub mod LineStarts
+pub mod ErrorLines
 pub mod Inputs
 pub mod Places
 pub mod Terms
