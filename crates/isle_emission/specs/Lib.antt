@@ -2,5 +2,4 @@ pub mod Built
 pub mod Contexts
 pub mod BodyOnto
 pub mod Views
-pub mod LineStarts
 pub mod MayEmit

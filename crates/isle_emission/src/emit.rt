@@ -12,17 +12,17 @@ ghost use Rattle.isle_tree.specs.WellFormed.{IsFunction};
 ghost use Rattle.isle_emission.specs.Contexts.{env_of, bindings_in};
 ghost use Rattle.isle_emission.specs.Built.{IsBuilt};
 ghost use Rattle.isle_simulation.specs.Emitted.{RunsAsBlock};
-ghost use Rattle.isle_emission.specs.LineStarts.{starts_of};
+ghost use Rattle.isle_core.specs.LineStarts.{starts_of};
 ghost use Rattle.isle_emission.specs.MayEmit.{AtTerm, MayEmit};
 ghost use Rattle.isle_simulation.specs.Shape.{HasShape};
 ghost use Rattle.isle_simulation.specs.TermFunction as TermFunction;
 ghost use Rattle.isle_simulation.specs.TraitFns.{trait_fns_of};
 
 use crate::context::{Context, kind_of};
-use crate::line_starts::LineStarts;
 use crate::root::root_stmts;
 use crate::signature::{params, sym_name, ty_name};
 use isle_core::{
+    LineStarts,
     Block, CodegenOptions, Files, List, OutOfMemory, RuleSet, Term, TermEnv, TermId, TypeEnv,
 };
 use isle_tree::Function;

@@ -7,16 +7,15 @@ ghost use Rattle.isle_core.specs.Terms.{sym_text};
 ghost use Rattle.isle_tree.specs.Program.{Tail};
 ghost use Rattle.isle_tree.specs.Views.{stmt};
 ghost use Rattle.isle_emission.specs.Contexts.{env_of, bindings_in};
-ghost use Rattle.isle_emission.specs.LineStarts.{starts_of};
+ghost use Rattle.isle_core.specs.LineStarts.{starts_of};
 ghost use Rattle.isle_simulation.specs.Statements.{block_body};
 ghost use Rattle.isle_simulation.specs.TermFunction as TermFunction;
 ghost use Rattle.isle_emission.specs.Views.{body_in};
 
 use crate::context::Context;
-use crate::line_starts::LineStarts;
 use crate::signature::sym_name;
 use crate::statements::block_stmts;
-use isle_core::{Block, ControlFlow, Files, OutOfMemory, ReturnKind, Term, Text};
+use isle_core::{Block, ControlFlow, Files, LineStarts, OutOfMemory, ReturnKind, Term, Text};
 use isle_scope::Scope;
 use isle_tree::Stmt;
 use std::alloc::Global;
