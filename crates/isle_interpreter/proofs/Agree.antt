@@ -92,8 +92,8 @@ module _ (m given : Meaning) (has : HasAnswers m given) where
     same_let n (expr.Struct ty fields) env s alike = refl
     same_let n (expr.Tuple o k) env s alike = refl
 
-    then_same : (flow other : Flow) (go next : Env → State → Flow) → flow ≡ other → ((env : Env) (s : State) → go env s ≡ next env s) → then_run flow go ≡ then_run other next
-    then_same flow other go next e same = by flow ∙ ap (λ f. then_run f next) e
+    then_same : (flow after : Flow) (go next : Env → State → Flow) → flow ≡ after → ((env : Env) (s : State) → go env s ≡ next env s) → then_run flow go ≡ then_run after next
+    then_same flow after go next e same = by flow ∙ ap (λ f. then_run f next) e
       where
         by : (f : Flow) → then_run f go ≡ then_run f next
         by (Goes env s) = same env s

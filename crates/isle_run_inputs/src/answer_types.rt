@@ -7,7 +7,6 @@ ghost use Rattle.isle_run_inputs.specs.Requested.{answer_type};
 ghost use Rattle.isle_run_inputs.specs.AnswerTypes.{OfTypes, FindsTypes};
 ghost use Rattle.isle_run_inputs.specs.Called.{called};
 
-use crate::names::sym_text;
 use isle_core::{Callee, ConstructorKind, Term, TermKind, TypeEnv, TypeId};
 use std::alloc::{AllocError, Global};
 use std::collections::BTreeMap;
@@ -54,8 +53,8 @@ fn impure_callee<'e>(typeenv: &'e TypeEnv, term: &Term) -> Called<'e>
             ..
         } => match constructor {
             ConstructorKind::Absent => Called::Nothing,
-            ConstructorKind::Internal => Called::Internal(sym_text(typeenv, term.name)),
-            ConstructorKind::External { func } => Called::External(sym_text(typeenv, *func)),
+            ConstructorKind::Internal => Called::Internal(typeenv.symbol(term.name)),
+            ConstructorKind::External { func } => Called::External(typeenv.symbol(*func)),
         },
         TermKind::Decl { pure: true, .. } | TermKind::Variant { .. } | TermKind::Struct { .. } => {
             Called::Nothing

@@ -15,7 +15,7 @@ use crate::answer_types::AnswerTypes;
 use crate::value::value_at_any;
 use isle_answers::{AnswerForm, Form, ResultForm};
 use isle_core::{
-    Answer, Answers, Callee, List, OutOfMemory, TermEnv, Text, TurnAnswers, TypeEnv, TypeId, Value,
+    Answer, Answers, List, OutOfMemory, TermEnv, TurnAnswers, TypeEnv, TypeId, Value,
 };
 use std::alloc::{AllocError, Global};
 
@@ -74,22 +74,6 @@ fn all_at(
     Ok(found)
 }
 
-// A copy of a callee.
-fn callee_copied(alloc: Global, callee: &Callee) -> Result<Callee, AllocError>
-    ensures { IfOk result (λ copy. copy ≡ callee.now) }
-{
-    match callee {
-        Callee::External(name) => Ok(Callee::External(Text::new(String::from_str(
-            alloc,
-            name.as_str(),
-        )?))),
-        Callee::Internal(term) => Ok(Callee::Internal(Text::new(String::from_str(
-            alloc,
-            term.as_str(),
-        )?))),
-    }
-}
-
 // The turns that a form gives; only forms of turns are built, and the others give none.
 fn turns_of(
     alloc: Global,
@@ -111,7 +95,7 @@ fn turns_of(
             let turns = all_at(alloc, typeenv, ty, turns.as_slice())?;
             let rest = answer_at(alloc, typeenv, ty, rest)?;
             Ok(Some(TurnAnswers {
-                callee: callee_copied(alloc, callee)?,
+                callee: callee.copied(alloc)?,
                 turns: List::new(turns),
                 rest,
             }))
