@@ -124,7 +124,7 @@ has_inner env t bs inners done c f once h = pick (inners c.0) refl (may_be_nothi
     ps = paths_of bs
 
     there : IsThere (at ps c)
-    found = subst IsThere (sym h.path) tt
+    there = subst IsThere (sym h.path) tt
 
     missing : inners c.0 ≡ None → Contains ps (Inner (at ps c)) → ⊥
     missing e k =

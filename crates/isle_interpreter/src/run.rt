@@ -242,7 +242,7 @@ fn run_inside(
     statements: &[Stmt],
     frame: &mut Frame<'_>,
 ) -> Result<Flow, AllocError>
-    ensures runs { IfOk result (λ f. run.behind (locals frame.old.locals) (run.run_body (within around.now frame.old) (body statements.now) (locals frame.old.locals) (state frame.old)) ≡ flow f frame.new) }
+    ensures runs { IfOk result (λ f. run.after_scope (locals frame.old.locals) (run.run_body (within around.now frame.old) (body statements.now) (locals frame.old.locals) (state frame.old)) ≡ flow f frame.new) }
     ensures kept { OnOk result (frame.new.locals ≡ frame.old.locals) }
     ensures follows { OnOk result (Follows frame.old frame.new) }
 {
@@ -262,7 +262,7 @@ fn run_fitting(
     statements: &[Stmt],
     frame: &mut Frame<'_>,
 ) -> Result<Flow, AllocError>
-    ensures runs { IfOk result (λ f. run.fitted (run.fit (within around.now frame.old) pat.now (held holding)) (λ bound. run.behind (locals frame.old.locals) (run.run_body (within around.now frame.old) (body statements.now) (locals frame.old.locals ++ bound) (state frame.old))) (run.Goes (locals frame.old.locals) (state frame.old)) ≡ flow f frame.new) }
+    ensures runs { IfOk result (λ f. run.fitted (run.fit (within around.now frame.old) pat.now (held holding)) (λ bound. run.after_scope (locals frame.old.locals) (run.run_body (within around.now frame.old) (body statements.now) (locals frame.old.locals ++ bound) (state frame.old))) (run.Goes (locals frame.old.locals) (state frame.old)) ≡ flow f frame.new) }
     ensures follows { OnOk result (Follows frame.old frame.new) }
 {
     let count = frame.locals.len();

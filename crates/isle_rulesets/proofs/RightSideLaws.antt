@@ -108,7 +108,7 @@ given_var terms variables n bs e ty x b is got env places t s = subst (λ d. Num
     p = path_or (places x.0)
 
     there : slice_get (paths_of n.bindings) b.0 ≡ Some (path_or (places x.0))
-    found = var_there (paths_of n.bindings) (get nat_cmp variables x.0) (places x.0) b got (s.by x.0)
+    there = var_there (paths_of n.bindings) (get nat_cmp variables x.0) (places x.0) b got (s.by x.0)
 
 -- ---- calls
 
