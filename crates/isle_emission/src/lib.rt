@@ -11,7 +11,7 @@ mod root;
 mod signature;
 mod statements;
 
-pub use context::{Context, kind_of};
+pub use context::Context;
 pub use emit::{emit_term, term_function};
 pub use externals::trait_fns;
 pub use line_starts::LineStarts;
