@@ -9,11 +9,11 @@ ghost use Rattle.isle_emission.specs.Built.{IsBuilt};
 ghost use Rattle.isle_simulation.specs.TraitFns.{trait_fns_of};
 ghost use Rattle.isle_codegen.specs.Emits.{CanEmit, IsEmitted, AreEmitted};
 ghost use Rattle.isle_codegen.specs.Headline.{FunctionsMean};
-ghost use Rattle.isle_emission.specs.LineStarts.{starts_of};
+ghost use Rattle.isle_core.specs.LineStarts.{starts_of};
 
 use isle_blocks::serialize;
-use isle_core::{CodegenOptions, Files, List, OutOfMemory, RuleSet, TermEnv, TermId, TypeEnv};
-use isle_emission::{Context, LineStarts, term_function, trait_fns};
+use isle_core::{CodegenOptions, Files, LineStarts, List, OutOfMemory, RuleSet, TermEnv, TermId, TypeEnv};
+use isle_emission::{Context, term_function, trait_fns};
 use isle_tree::{Function, Program, TraitFn};
 use std::alloc::Global;
 

@@ -6,18 +6,17 @@ ghost use Rattle.isle_core.specs.Places.{LiesIn};
 ghost use Rattle.isle_tree.specs.Views as Views;
 ghost use Rattle.isle_emission.specs.Contexts.{setting_of};
 ghost use Rattle.isle_emission.specs.Built.{IsBuilt};
-ghost use Rattle.isle_emission.specs.LineStarts.{starts_of};
+ghost use Rattle.isle_core.specs.LineStarts.{starts_of};
 ghost use Rattle.isle_emission.specs.Origin.{origin};
 ghost use Rattle.isle_emission.specs.MayEmit.{MayEmitTerm};
 ghost use Rattle.isle_emission.specs.EmittedTerm.{IsGiven, IsWellFormed, HasBlockShape, RunsAsItsBlock};
 ghost use Rattle.isle_simulation.specs.TermFunction as TermFunction;
 
 use crate::context::{Context, kind_of};
-use crate::line_starts::LineStarts;
 use crate::root::root_stmts;
 use crate::signature::{params, sym_name, ty_name};
 use isle_core::{
-    Block, CodegenOptions, Files, List, OutOfMemory, RuleSet, TermEnv, TermId, TypeEnv,
+    Block, CodegenOptions, Files, LineStarts, List, OutOfMemory, RuleSet, TermEnv, TermId, TypeEnv,
 };
 use isle_tree::Function;
 use std::alloc::Global;

@@ -6,15 +6,14 @@ ghost use Rattle.isle_core.specs.Places.{LiesIn};
 ghost use Rattle.isle_tree.specs.Program.{Tail};
 ghost use Rattle.isle_tree.specs.Views.{stmt};
 ghost use Rattle.isle_emission.specs.Contexts.{env_of, setting_of};
-ghost use Rattle.isle_emission.specs.LineStarts.{starts_of};
+ghost use Rattle.isle_core.specs.LineStarts.{starts_of};
 ghost use Rattle.isle_simulation.specs.TermFunction as TermFunction;
 ghost use Rattle.isle_emission.specs.Views.{body_in};
 
 use crate::context::{Context, kind_of};
-use crate::line_starts::LineStarts;
 use crate::signature::sym_name;
 use crate::statements::block_stmts;
-use isle_core::{Block, ControlFlow, Files, OutOfMemory, ReturnKind, Text};
+use isle_core::{Block, ControlFlow, Files, LineStarts, OutOfMemory, ReturnKind, Text};
 use isle_scope::Scope;
 use isle_tree::Stmt;
 use std::alloc::Global;

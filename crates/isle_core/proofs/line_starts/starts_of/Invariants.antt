@@ -1,8 +1,8 @@
 use Rattle.std.proofs.Common.{◌≡◌, ◌≤◌, ◌-◌, ◌++◌, length}
 use denote.Shadow.{shadow}
 use denote.Text.{Utf8}
-use Rattle.isle_emission.specs.LineStarts.{starts_from, starts_of}
-use Rattle.isle_emission.proofs.line_starts.starts_of.Given as goal
+use Rattle.isle_core.specs.LineStarts.{starts_from, starts_of}
+use Rattle.isle_core.proofs.line_starts.starts_of.Given as goal
 
 abbrev pub invariant-loop-after : goal.invariant-loop-after
 invariant-loop-after l =

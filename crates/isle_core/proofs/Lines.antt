@@ -7,7 +7,7 @@ use Rattle.std.proofs.lemmas.List.Sums.{sum_by-cons}
 use Rattle.std.proofs.lemmas.List.Sorted.{IsPartitionedBy-leb}
 use Rattle.std.proofs.lemmas.Bool.{le-leb, lt-leb}
 use Rattle.isle_core.specs.Printed.{line_of}
-use Rattle.isle_emission.specs.LineStarts.{starts_from, starts_of}
+use Rattle.isle_core.specs.LineStarts.{starts_from, starts_of}
 
 -- ---- starts rise
 
@@ -72,6 +72,9 @@ count_at p (x ∷ xs) (suc k) le passed failed =
 pub starts_partitioned : (text : List ℕ) (offset : ℕ) → IsPartitionedBy (λ s. leb s offset) (starts_of text)
 starts_partitioned text offset = IsPartitionedBy-leb (λ s. s) (starts_of text) offset (λ i j d le lt. rise 0 text i j d le lt)
 
+-- as many line feeds stand before a place as lines begin before it
+pub feeds_before : (text : List ℕ) (offset k : ℕ) → k ≤ length (starts_of text) → IsPartitionPoint (λ s. leb s offset ≡ true) (λ s. leb s offset ≡ false) (starts_of text) k → count_by (λ b. eqb b 10) (take offset text) ≡ k
+feeds_before text offset k le h = sym (starts_before 0 offset text) ∙ ap (λ m. count_by (λ s. leb s m) (starts_of text)) (omega arith) ∙ count_at (λ s. leb s offset) (starts_of text) k le h.0 h.1
+
 pub line_is : (text : List ℕ) (offset k : ℕ) → k ≤ length (starts_of text) → IsPartitionPoint (λ s. leb s offset ≡ true) (λ s. leb s offset ≡ false) (starts_of text) k → 1 + k ≡ line_of text offset
-line_is text offset k le h =
-    ap (λ n. 1 + n) (sym (count_at (λ s. leb s offset) (starts_of text) k le h.0 h.1) ∙ ap (λ m. count_by (λ s. leb s m) (starts_of text)) (omega arith) ∙ starts_before 0 offset text)
+line_is text offset k le h = ap (λ n. 1 + n) (sym (feeds_before text offset k le h))

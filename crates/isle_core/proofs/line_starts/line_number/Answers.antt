@@ -1,8 +1,8 @@
 use Rattle.std.proofs.Common.{leb, rules, subst, sym}
 use Rattle.std.specs.List.Sorted.{IsPartitionedBy}
 use Rattle.std.proofs.lemmas.List.Sorted.{IsPartitionPoint-from_clause}
-use Rattle.isle_emission.proofs.Lines.{starts_partitioned, line_is}
-use Rattle.isle_emission.proofs.line_starts.line_number.Goals as goal
+use Rattle.isle_core.proofs.Lines.{starts_partitioned, line_is}
+use Rattle.isle_core.proofs.line_starts.line_number.Goals as goal
 
 pub returns : goal.returns
 returns c = λ text is.

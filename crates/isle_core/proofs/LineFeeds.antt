@@ -2,7 +2,7 @@
 use Rattle.std.proofs.Common.{◌≡◌, ℕ, zero, suc, ◌+◌, ◌-◌, ◌<◌, ◌≤◌, List, [], ◌∷◌, ◌++◌, Bool, true, false, eqb, drop, length, refl, sym, ap, ◌∙◌, append_assoc, arith, length-drop}
 use Rattle.std.proofs.lemmas.List.{append-nil}
 use Rattle.std.specs.List.{position_or_len, after_first}
-use Rattle.isle_emission.specs.LineStarts.{starts_from}
+use Rattle.isle_core.specs.LineStarts.{starts_from}
 
 -- where the next line feed stands
 abbrev place : List ℕ → ℕ

@@ -1,7 +1,7 @@
 use Rattle.std.proofs.Common.{arith, rules}
 use Rattle.std.proofs.lemmas.Str.Pattern.{split_once_first}
-use Rattle.isle_emission.proofs.LineFeeds.{feeds_more, feeds_end}
-use Rattle.isle_emission.proofs.line_starts.starts_of.Goals as goal
+use Rattle.isle_core.proofs.LineFeeds.{feeds_more, feeds_end}
+use Rattle.isle_core.proofs.line_starts.starts_of.Goals as goal
 
 pub loop-after-preserved : goal.loop-after-preserved
 loop-after-preserved c =
