@@ -25,7 +25,7 @@ use Rattle.isle_tree.specs.declared.tree.TExpr.TheVariants as expr
 use Rattle.isle_tree.specs.declared.tree.TraitFn.{TraitFn}
 use Rattle.isle_tree.specs.Program.{Stmt, Let, LetList, IfEq, IfLet, Match, Loop, Return, Extend, Overflow, Log, Split, Tail, Body, Done, Then}
 use Rattle.isle_tree.specs.WellFormed as well
-use Rattle.isle_tree.specs.WellFormed.{Locals, IsOperand, IsRead, IsCallee, IsExpr, IsStmt, IsBody, local_holds, operand_holds, read_holds, is_value, are_values, callee_holds, inner_holds, expr_holds, GivesKind, after_let, bound_after, IsStmtThere, IsBodyThere, IsReturned, FitsStmt, FitsBody, FitsLast, FitsFunction}
+use Rattle.isle_tree.specs.WellFormed.{Locals, IsOperand, IsRead, IsCallee, IsExpr, IsStmt, IsBody, local_holds, operand_holds, read_holds, is_value, are_values, callee_holds, inner_holds, expr_holds, GivesKind, after_let, bound_after, IsStmtScoped, IsBodyScoped, IsReturned, FitsStmt, FitsBody, FitsLast, FitsFunction}
 use Rattle.isle_tree.specs.Run.{Around, State, one_made, Env, Flow, Goes, Ends, Leaves, Stuck, newer, look, bind, value_of, read_value, read_values, on_value, then_run, after_scope, run_bind, run_call, run_try, run_let, ends_with, run_return, run_stmt, run_body}
 use Rattle.isle_tree.specs.Calls.{expr_calls, stmt_calls, body_calls}
 use Rattle.isle_interpreter.proofs.AnswersHold.{HoldsIn}
@@ -298,7 +298,7 @@ module _ (fns : List TraitFn) (w : Around) where
       by false = a
 
   mutual
-    well_stmt : (kind : ReturnKind) (closed : Bool) (s : Stmt) (bound : Locals) (env : Env) (st : State) → IsStmt s → IsStmtThere fns kind (length w.args) bound s → FitsStmt kind closed s → Answering fns w.meaning (stmt_calls s) → Agree bound env
+    well_stmt : (kind : ReturnKind) (closed : Bool) (s : Stmt) (bound : Locals) (env : Env) (st : State) → IsStmt s → IsStmtScoped fns kind (length w.args) bound s → FitsStmt kind closed s → Answering fns w.meaning (stmt_calls s) → Agree bound env
         → Well (bound_after fns (length w.args) s bound) (run_stmt w s env st)
     well_stmt kind closed (Let n e) bound env st is there fits answering a = well_let n e bound env st is there answering a
     well_stmt kind closed (IfEq l r inside) bound env st is there fits answering a =
@@ -317,7 +317,7 @@ module _ (fns : List TraitFn) (w : Around) where
     well_stmt kind closed (Log term place) bound env st is there fits answering a = absurd is
     well_stmt kind closed (Split inside within) bound env st is there fits answering a = absurd is
 
-    well_body : (kind : ReturnKind) (closed : Bool) (b : Body) (bound : Locals) (env : Env) (st : State) → IsBody b → IsBodyThere fns kind (length w.args) bound b → FitsBody kind closed b → Answering fns w.meaning (body_calls b) → Agree bound env
+    well_body : (kind : ReturnKind) (closed : Bool) (b : Body) (bound : Locals) (env : Env) (st : State) → IsBody b → IsBodyScoped fns kind (length w.args) bound b → FitsBody kind closed b → Answering fns w.meaning (body_calls b) → Agree bound env
         → NotStuck (run_body w b env st)
     well_body kind closed Done bound env st is there fits answering a = tt
     well_body kind closed (Then s ss) bound env st is there fits answering a =
@@ -327,7 +327,7 @@ module _ (fns : List TraitFn) (w : Around) where
 
   -- ---- functions end
 
-  last_ends : (kind : ReturnKind) (s : Stmt) (bound : Locals) (env : Env) (st : State) → IsStmt s → IsStmtThere fns kind (length w.args) bound s → FitsLast kind s → Agree bound env → DoesEnd (run_stmt w s env st)
+  last_ends : (kind : ReturnKind) (s : Stmt) (bound : Locals) (env : Env) (st : State) → IsStmt s → IsStmtScoped fns kind (length w.args) bound s → FitsLast kind s → Agree bound env → DoesEnd (run_stmt w s env st)
   last_ends kind (Return e) bound env st is there fits a = well_return kind e bound env st is there fits a
   last_ends kind (Tail texts) bound env st is there fits a = record { end = _; left = _; is = refl }
   last_ends kind (Let n e) bound env st is there fits a = absurd fits
@@ -348,7 +348,7 @@ module _ (fns : List TraitFn) (w : Around) where
   then_ends bound Stuck go h next = absurd h
 
   -- the statements of a function end it
-  pub function_ends : (kind : ReturnKind) (b : Body) (bound : Locals) (env : Env) (st : State) → IsBody b → IsBodyThere fns kind (length w.args) bound b → FitsFunction kind b → Answering fns w.meaning (body_calls b) → Agree bound env
+  pub function_ends : (kind : ReturnKind) (b : Body) (bound : Locals) (env : Env) (st : State) → IsBody b → IsBodyScoped fns kind (length w.args) bound b → FitsFunction kind b → Answering fns w.meaning (body_calls b) → Agree bound env
       → DoesEnd (run_body w b env st)
   function_ends kind Done bound env st is there fits answering a = absurd fits
   function_ends kind (Then s Done) bound env st is there fits answering a =
