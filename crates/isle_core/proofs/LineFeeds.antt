@@ -34,14 +34,14 @@ none_next n (b ∷ bs) h = one (eqb b 10) refl (λ none. none_next (n + 1) bs no
     one false is go = let p : place (b ∷ bs) ≡ 1 + place bs = rw is refl in rw is (go (omega arith))
 
 -- one line more
-pub feeds_more : (text rest behind starts items all : List ℕ) → length rest ≤ length text → starts ++ starts_from (length text - length rest) rest ≡ all → place rest < length rest → behind ≡ after_first (λ b. eqb b 10) rest
-    → items ≡ starts ++ (length text - length behind) ∷ [] → (length behind ≤ length text) × (items ++ starts_from (length text - length behind) behind ≡ all)
-feeds_more text rest behind starts items all within so_far some is pushed =
-    let short : length behind ≡ length rest - (place rest + 1) = ap length is ∙ length-drop (place rest + 1) rest in
-    let at : length text - length rest + (place rest + 1) ≡ length text - length behind = omega arith in (
+pub feeds_more : (text rest after starts items all : List ℕ) → length rest ≤ length text → starts ++ starts_from (length text - length rest) rest ≡ all → place rest < length rest → after ≡ after_first (λ b. eqb b 10) rest
+    → items ≡ starts ++ (length text - length after) ∷ [] → (length after ≤ length text) × (items ++ starts_from (length text - length after) after ≡ all)
+feeds_more text rest after starts items all within so_far some is pushed =
+    let short : length after ≡ length rest - (place rest + 1) = ap length is ∙ length-drop (place rest + 1) rest in
+    let at : length text - length rest + (place rest + 1) ≡ length text - length after = omega arith in (
       omega arith,
-      ap (λ xs. xs ++ starts_from (length text - length behind) behind) pushed
-          ∙ append_assoc starts ((length text - length behind) ∷ []) (starts_from (length text - length behind) behind)
+      ap (λ xs. xs ++ starts_from (length text - length after) after) pushed
+          ∙ append_assoc starts ((length text - length after) ∷ []) (starts_from (length text - length after) after)
           ∙ ap (λ xs. starts ++ xs) (sym (line_next (length text - length rest) (place rest + 1) rest refl some ∙ rw (at, ← is) refl))
           ∙ so_far,
     )

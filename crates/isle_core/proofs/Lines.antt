@@ -11,15 +11,15 @@ use Rattle.isle_core.specs.LineStarts.{starts_from, starts_of}
 
 -- ---- starts rise
 
-behind_onto : (c : Bool) (n : ℕ) (starts : List ℕ) (k d : ℕ) → ((k : ℕ) → k < length starts → n + 1 < get_or starts k d) → k < length (cond c ((n + 1) ∷ starts) starts) → n < get_or (cond c ((n + 1) ∷ starts) starts) k d
-behind_onto true n starts zero d rest lt = omega arith
-behind_onto true n starts (suc k) d rest lt = let h = rest k (omega (arith, lt)) in omega (arith, h)
-behind_onto false n starts k d rest lt = let h = rest k lt in omega (arith, h)
+after_onto : (c : Bool) (n : ℕ) (starts : List ℕ) (k d : ℕ) → ((k : ℕ) → k < length starts → n + 1 < get_or starts k d) → k < length (cond c ((n + 1) ∷ starts) starts) → n < get_or (cond c ((n + 1) ∷ starts) starts) k d
+after_onto true n starts zero d rest lt = omega arith
+after_onto true n starts (suc k) d rest lt = let h = rest k (omega (arith, lt)) in omega (arith, h)
+after_onto false n starts k d rest lt = let h = rest k lt in omega (arith, h)
 
 -- every start lies behind the first place
-behind : (n : ℕ) (bs : List ℕ) (k d : ℕ) → k < length (starts_from n bs) → n < get_or (starts_from n bs) k d
-behind n [] k d lt = absurd (omega (arith, lt))
-behind n (b ∷ bs) k d lt = behind_onto (eqb b 10) n (starts_from (n + 1) bs) k d (λ j. behind (n + 1) bs j d) lt
+after : (n : ℕ) (bs : List ℕ) (k d : ℕ) → k < length (starts_from n bs) → n < get_or (starts_from n bs) k d
+after n [] k d lt = absurd (omega (arith, lt))
+after n (b ∷ bs) k d lt = after_onto (eqb b 10) n (starts_from (n + 1) bs) k d (λ j. after (n + 1) bs j d) lt
 
 rise_onto : (c : Bool) (n : ℕ) (starts : List ℕ) (i j d : ℕ) → ((k : ℕ) → k < length starts → n < get_or starts k d) → ((i j : ℕ) → i ≤ j → j < length starts → get_or starts i d ≤ get_or starts j d)
     → i ≤ j → j < length (cond c (n ∷ starts) starts) → get_or (cond c (n ∷ starts) starts) i d ≤ get_or (cond c (n ∷ starts) starts) j d
@@ -31,7 +31,7 @@ rise_onto false n starts i j d above rest le lt = rest i j le lt
 
 rise : (n : ℕ) (bs : List ℕ) (i j d : ℕ) → i ≤ j → j < length (starts_from n bs) → get_or (starts_from n bs) i d ≤ get_or (starts_from n bs) j d
 rise n [] i j d le lt = absurd (omega (arith, lt))
-rise n (b ∷ bs) i j d le lt = rise_onto (eqb b 10) (n + 1) (starts_from (n + 1) bs) i j d (λ k. behind (n + 1) bs k d) (λ k l. rise (n + 1) bs k l d) le lt
+rise n (b ∷ bs) i j d le lt = rise_onto (eqb b 10) (n + 1) (starts_from (n + 1) bs) i j d (λ k. after (n + 1) bs k d) (λ k l. rise (n + 1) bs k l d) le lt
 
 -- ---- how many starts lie before a place
 

@@ -34,9 +34,9 @@ fn starts_of(alloc: Global, text: &str) -> Result<Vec<usize>, AllocError>
 {
     let mut starts = Vec::new(alloc);
     let mut rest = text;
-    while let Some((_, behind)) = rest.split_once('\n') {
-        starts.push(text.len() - behind.len())?;
-        rest = behind;
+    while let Some((_, after)) = rest.split_once('\n') {
+        starts.push(text.len() - after.len())?;
+        rest = after;
     }
     Ok(starts)
 }

@@ -2,4 +2,6 @@ pub mod Built
 pub mod Contexts
 pub mod BodyOnto
 pub mod Views
+pub mod Origin
 pub mod MayEmit
+pub mod EmittedTerm

@@ -10,6 +10,6 @@ mod root;
 mod signature;
 mod statements;
 
-pub use context::{Context, kind_of};
+pub use context::Context;
 pub use emit::{emit_term, term_function};
 pub use externals::trait_fns;

@@ -13,7 +13,7 @@ use Rattle.isle_core.specs.Terms.{goes_to}
 use Rattle.isle_tree.specs.declared.tree.TExpr.{TExpr}
 use Rattle.isle_tree.specs.declared.tree.TExpr.TheVariants as expr
 use Rattle.isle_tree.specs.Program.{Program, Stmt, Let, LetList, IfEq, IfLet, Match, Loop, Return, Extend, Overflow, Log, Split, Tail, Body, Done, Then, Function}
-use Rattle.isle_tree.specs.Run.{Around, State, nothing_done, one_made, Env, Flow, Goes, Ends, Leaves, Stuck, value_of, read_value, read_values, on_value, fit, fitted, then_run, behind, run_bind, run_call, run_let, run_stmt, run_body, ended, function_run}
+use Rattle.isle_tree.specs.Run.{Around, State, nothing_done, one_made, Env, Flow, Goes, Ends, Leaves, Stuck, value_of, read_value, read_values, on_value, fit, fitted, then_run, after_scope, run_bind, run_call, run_let, run_stmt, run_body, ended, function_run}
 use Rattle.isle_interpreter.specs.Entries.{Constant, Cases, Turns, entries, IsUnanswered}
 use Rattle.isle_tree.specs.Calls.{expr_calls, stmt_calls, body_calls}
 use Rattle.isle_interpreter.specs.Refusals.{AreAnswered}
@@ -101,15 +101,15 @@ module _ (m given : Meaning) (has : HasAnswers m given) where
         by (Leaves s) = refl
         by Stuck = refl
 
-    same_fitted : (o : Option Env) (env : Env) (otherwise : Flow) (go next : Env → Flow) → ((bound : Env) → go bound ≡ next bound) → fitted o (λ bound. behind env (go bound)) otherwise ≡ fitted o (λ bound. behind env (next bound)) otherwise
+    same_fitted : (o : Option Env) (env : Env) (otherwise : Flow) (go next : Env → Flow) → ((bound : Env) → go bound ≡ next bound) → fitted o (λ bound. after_scope env (go bound)) otherwise ≡ fitted o (λ bound. after_scope env (next bound)) otherwise
     same_fitted None env otherwise go next same = refl
-    same_fitted (Some bound) env otherwise go next same = ap (behind env) (same bound)
+    same_fitted (Some bound) env otherwise go next same = ap (after_scope env) (same bound)
 
     mutual
       same_stmt : (t : Stmt) (env : Env) (s : State) → Alike (stmt_calls t) → run_stmt one t env s ≡ run_stmt other t env s
       same_stmt (Let n e) env s alike = same_let n e env s alike
       same_stmt (IfEq a b inside) env s alike =
-          ap (λ flow. on_value (value_of one env a) (λ v. on_value (value_of one env b) (λ u. if same_in_run v u then behind env flow else Goes env s))) (same_body inside env s alike)
+          ap (λ flow. on_value (value_of one env a) (λ v. on_value (value_of one env b) (λ u. if same_in_run v u then after_scope env flow else Goes env s))) (same_body inside env s alike)
       same_stmt (Return e) env s alike = refl
       same_stmt (Tail texts) env s alike = refl
       same_stmt (LetList n call) env s alike = refl

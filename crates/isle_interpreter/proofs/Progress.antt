@@ -25,8 +25,8 @@ use Rattle.isle_tree.specs.declared.tree.TExpr.TheVariants as expr
 use Rattle.isle_tree.specs.declared.tree.TraitFn.{TraitFn}
 use Rattle.isle_tree.specs.Program.{Stmt, Let, LetList, IfEq, IfLet, Match, Loop, Return, Extend, Overflow, Log, Split, Tail, Body, Done, Then}
 use Rattle.isle_tree.specs.WellFormed as well
-use Rattle.isle_tree.specs.WellFormed.{Locals, IsOperand, IsRead, IsCallee, IsExpr, IsStmt, IsBody, local_holds, operand_holds, read_holds, is_value, are_values, callee_holds, inner_holds, expr_holds, GivesKind, behind_let, bound_behind, IsStmtThere, IsBodyThere, IsReturned, FitsStmt, FitsBody, FitsLast, FitsFunction}
-use Rattle.isle_tree.specs.Run.{Around, State, one_made, Env, Flow, Goes, Ends, Leaves, Stuck, newer, look, bind, value_of, read_value, read_values, on_value, then_run, behind, run_bind, run_call, run_try, run_let, ends_with, run_return, run_stmt, run_body}
+use Rattle.isle_tree.specs.WellFormed.{Locals, IsOperand, IsRead, IsCallee, IsExpr, IsStmt, IsBody, local_holds, operand_holds, read_holds, is_value, are_values, callee_holds, inner_holds, expr_holds, GivesKind, after_let, bound_after, IsStmtScoped, IsBodyScoped, IsReturned, FitsStmt, FitsBody, FitsLast, FitsFunction}
+use Rattle.isle_tree.specs.Run.{Around, State, one_made, Env, Flow, Goes, Ends, Leaves, Stuck, newer, look, bind, value_of, read_value, read_values, on_value, then_run, after_scope, run_bind, run_call, run_try, run_let, ends_with, run_return, run_stmt, run_body}
 use Rattle.isle_tree.specs.Calls.{expr_calls, stmt_calls, body_calls}
 use Rattle.isle_interpreter.proofs.AnswersHold.{HoldsIn}
 
@@ -146,7 +146,7 @@ NotStuck (Ends end st) = Unit {0}
 NotStuck (Leaves st) = ⊥
 NotStuck Stuck = ⊥
 
-well_left : (bound : Locals) (env : Env) (flow : Flow) → Agree bound env → NotStuck flow → Well bound (behind env flow)
+well_left : (bound : Locals) (env : Env) (flow : Flow) → Agree bound env → NotStuck flow → Well bound (after_scope env flow)
 well_left bound env (Goes inner st) a h = a
 well_left bound env (Ends end st) a h = tt
 well_left bound env (Leaves st) a h = h
@@ -161,11 +161,11 @@ well_bind n (holds.Optional x) Absent bound env st a k = absurd k
 well_bind n (holds.Several x) Absent bound env st a k = absurd k
 
 -- what is bound to what a place holds
-well_known : (n : ℕ) (o : Option Holds) (g : Held) (bound : Locals) (env : Env) (st : State) → Agree bound env → IsSome o → HoldsIfKnown o g → Well (behind_let o n bound) (run_bind n g env st)
+well_known : (n : ℕ) (o : Option Holds) (g : Held) (bound : Locals) (env : Env) (st : State) → Agree bound env → IsSome o → HoldsIfKnown o g → Well (after_let o n bound) (run_bind n g env st)
 well_known n None g bound env st a e t = absurd cc
 well_known n (Some h) g bound env st a e t = well_bind n h g bound env st a t
 
-well_try : (n : ℕ) (o : Option Holds) (g : Held) (bound : Locals) (env : Env) (st : State) → Agree bound env → IsSome (inner_holds o) → HoldsIfKnown o g → Well (behind_let (inner_holds o) n bound) (run_try n g env st)
+well_try : (n : ℕ) (o : Option Holds) (g : Held) (bound : Locals) (env : Env) (st : State) → Agree bound env → IsSome (inner_holds o) → HoldsIfKnown o g → Well (after_let (inner_holds o) n bound) (run_try n g env st)
 well_try n None g bound env st a e t = absurd cc
 well_try n (Some (holds.One x)) g bound env st a e t = absurd cc
 well_try n (Some (holds.Several x)) g bound env st a e t = absurd cc
@@ -184,16 +184,16 @@ Answering fns m callees = (c : Callee) → Contains callees c → (count : ℕ) 
 well_call : (fns : List TraitFn) (w : Around) (n : ℕ) (call : TCall) (bound : Locals) (env : Env) (st : State) → AllByRecursion IsRead call.args → Agree bound env
     → Answering fns w.meaning (call.callee ∷ [])
     → (o : Option Holds) → o ≡ (if are_values (length w.args) bound call.args then callee_holds fns call.callee (length call.args) else None) → IsSome o
-    → Well (behind_let o n bound) (run_call w n call.callee (read_values w env call.args) env st)
+    → Well (after_let o n bound) (run_call w n call.callee (read_values w env call.args) env st)
 well_call fns w n call bound env st is a answering o e some = by (are_values (length w.args) bound call.args) refl e
   where
-    holding : (b : Option Holds) → callee_holds fns call.callee (length call.args) ≡ b → o ≡ b → HaveValues (read_values w env call.args) → Well (behind_let o n bound) (run_call w n call.callee (read_values w env call.args) env st)
+    holding : (b : Option Holds) → callee_holds fns call.callee (length call.args) ≡ b → o ≡ b → HaveValues (read_values w env call.args) → Well (after_let o n bound) (run_call w n call.callee (read_values w env call.args) env st)
     holding None f g have = absurd cc
     holding (Some h) f g have =
         let held_so = answering call.callee (search rules) (length call.args) h f have.vs st.made in
         rw (g, have.are) (well_bind n h (answer_held (answer w.meaning call.callee have.vs st.made)) bound env (one_made st (record { callee = call.callee; args = have.vs })) a held_so)
 
-    by : (b : Bool) → are_values (length w.args) bound call.args ≡ b → o ≡ (if b then callee_holds fns call.callee (length call.args) else None) → Well (behind_let o n bound) (run_call w n call.callee (read_values w env call.args) env st)
+    by : (b : Bool) → are_values (length w.args) bound call.args ≡ b → o ≡ (if b then callee_holds fns call.callee (length call.args) else None) → Well (after_let o n bound) (run_call w n call.callee (read_values w env call.args) env st)
     by true f g = holding (callee_holds fns call.callee (length call.args)) refl g (told_values w bound env call.args is a f)
     by false f g = absurd cc
 
@@ -206,12 +206,12 @@ no_gift kind.Iterator g = g
 
 module _ (fns : List TraitFn) (w : Around) where
   well_let : (n : ℕ) (e : TExpr) (bound : Locals) (env : Env) (st : State) → IsExpr e → IsSome (expr_holds fns (length w.args) bound e) → Answering fns w.meaning (expr_calls e) → Agree bound env
-      → Well (behind_let (expr_holds fns (length w.args) bound e) n bound) (run_let w n e env st)
+      → Well (after_let (expr_holds fns (length w.args) bound e) n bound) (run_let w n e env st)
   well_let n (expr.Read r) bound env st is some answering a = well_known n (read_holds (length w.args) bound r) (read_value w env r) bound env st a some (known_read w bound env r is a)
   well_let n (expr.Call borrow call) bound env st is some answering a = well_call fns w n call bound env st is.1.args a answering (expr_holds fns (length w.args) bound (expr.Call borrow call)) refl some
   well_let n (expr.Some r) bound env st is some answering a = by (is_value (read_holds (length w.args) bound r)) refl some
     where
-      by : (b : Bool) → is_value (read_holds (length w.args) bound r) ≡ b → IsSome (if b then Some (holds.Optional item.Value) else None) → Well (behind_let (if b then Some (holds.Optional item.Value) else None) n bound) (on_value (read_value w env r) (λ v. Goes (bind env n (an_option (Some v))) st))
+      by : (b : Bool) → is_value (read_holds (length w.args) bound r) ≡ b → IsSome (if b then Some (holds.Optional item.Value) else None) → Well (after_let (if b then Some (holds.Optional item.Value) else None) n bound) (on_value (read_value w env r) (λ v. Goes (bind env n (an_option (Some v))) st))
       by true f g =
           let one = known_value (read_holds (length w.args) bound r) (read_value w env r) (known_read w bound env r is a) f in
           subst (λ x. Well (bound ++ (n, holds.Optional item.Value) ∷ []) (on_value x (λ v. Goes (bind env n (an_option (Some v))) st))) (sym one.is) (one_more bound env n (holds.Optional item.Value) (an_option (Some one.v)) a tt)
@@ -253,7 +253,10 @@ module _ (fns : List TraitFn) (w : Around) where
   ends_known kind.Option (Some (holds.Optional item.Value)) g st k t = ends_option g st t
   ends_known kind.Option (Some (holds.Optional (item.Tuple count))) g st k t = absurd k
   ends_known kind.Option (Some (holds.Several x)) g st k t = absurd k
-  ends_known kind.Iterator o g st k t = absurd k
+  ends_known kind.Iterator None g st k t = absurd k
+  ends_known kind.Iterator (Some (holds.One x)) g st k t = absurd k
+  ends_known kind.Iterator (Some (holds.Optional x)) g st k t = absurd k
+  ends_known kind.Iterator (Some (holds.Several x)) g st k t = absurd k
 
   -- what is said of two parts is said of each
   front_answering : (xs ys : List Callee) → Answering fns w.meaning (xs ++ ys) → Answering fns w.meaning xs
@@ -288,18 +291,18 @@ module _ (fns : List TraitFn) (w : Around) where
 
   -- a test runs what is inside it, or goes on
   well_test : (bound : Locals) (env : Env) (st : State) (g h : Held) (inside : Flow) → Agree bound env → HasValue g → HasValue h → NotStuck inside
-      → Well bound (on_value g (λ v. on_value h (λ u. if same_in_run v u then behind env inside else Goes env st)))
+      → Well bound (on_value g (λ v. on_value h (λ u. if same_in_run v u then after_scope env inside else Goes env st)))
   well_test bound env st g h inside a one two k =
-      subst (λ x. Well bound (on_value x (λ v. on_value h (λ u. if same_in_run v u then behind env inside else Goes env st)))) (sym one.is)
-      (subst (λ x. Well bound (on_value x (λ u. if same_in_run one.v u then behind env inside else Goes env st))) (sym two.is) (by (same_in_run one.v two.v)))
+      subst (λ x. Well bound (on_value x (λ v. on_value h (λ u. if same_in_run v u then after_scope env inside else Goes env st)))) (sym one.is)
+      (subst (λ x. Well bound (on_value x (λ u. if same_in_run one.v u then after_scope env inside else Goes env st))) (sym two.is) (by (same_in_run one.v two.v)))
     where
-      by : (b : Bool) → Well bound (if b then behind env inside else Goes env st)
+      by : (b : Bool) → Well bound (if b then after_scope env inside else Goes env st)
       by true = well_left bound env inside a k
       by false = a
 
   mutual
-    well_stmt : (kind : ReturnKind) (closed : Bool) (s : Stmt) (bound : Locals) (env : Env) (st : State) → IsStmt s → IsStmtThere fns kind (length w.args) bound s → FitsStmt kind closed s → Answering fns w.meaning (stmt_calls s) → Agree bound env
-        → Well (bound_behind fns (length w.args) s bound) (run_stmt w s env st)
+    well_stmt : (kind : ReturnKind) (closed : Bool) (s : Stmt) (bound : Locals) (env : Env) (st : State) → IsStmt s → IsStmtScoped fns kind (length w.args) bound s → FitsStmt kind closed s → Answering fns w.meaning (stmt_calls s) → Agree bound env
+        → Well (bound_after fns (length w.args) s bound) (run_stmt w s env st)
     well_stmt kind closed (Let n e) bound env st is there fits answering a = well_let n e bound env st is there answering a
     well_stmt kind closed (IfEq l r inside) bound env st is there fits answering a =
         well_test bound env st (value_of w env l) (value_of w env r) (run_body w inside env st) a
@@ -317,17 +320,17 @@ module _ (fns : List TraitFn) (w : Around) where
     well_stmt kind closed (Log term place) bound env st is there fits answering a = absurd is
     well_stmt kind closed (Split inside within) bound env st is there fits answering a = absurd is
 
-    well_body : (kind : ReturnKind) (closed : Bool) (b : Body) (bound : Locals) (env : Env) (st : State) → IsBody b → IsBodyThere fns kind (length w.args) bound b → FitsBody kind closed b → Answering fns w.meaning (body_calls b) → Agree bound env
+    well_body : (kind : ReturnKind) (closed : Bool) (b : Body) (bound : Locals) (env : Env) (st : State) → IsBody b → IsBodyScoped fns kind (length w.args) bound b → FitsBody kind closed b → Answering fns w.meaning (body_calls b) → Agree bound env
         → NotStuck (run_body w b env st)
     well_body kind closed Done bound env st is there fits answering a = tt
     well_body kind closed (Then s ss) bound env st is there fits answering a =
-        then_well (bound_behind fns (length w.args) s bound) (run_stmt w s env st) (run_body w ss)
+        then_well (bound_after fns (length w.args) s bound) (run_stmt w s env st) (run_body w ss)
         (well_stmt kind closed s bound env st is.0 there.0 fits.0 (front_answering (stmt_calls s) (body_calls ss) answering) a)
-        (λ inner calls k. well_body kind closed ss (bound_behind fns (length w.args) s bound) inner calls is.1 there.1 fits.1 (rest_answering (stmt_calls s) (body_calls ss) answering) k)
+        (λ inner calls k. well_body kind closed ss (bound_after fns (length w.args) s bound) inner calls is.1 there.1 fits.1 (rest_answering (stmt_calls s) (body_calls ss) answering) k)
 
   -- ---- functions end
 
-  last_ends : (kind : ReturnKind) (s : Stmt) (bound : Locals) (env : Env) (st : State) → IsStmt s → IsStmtThere fns kind (length w.args) bound s → FitsLast kind s → Agree bound env → DoesEnd (run_stmt w s env st)
+  last_ends : (kind : ReturnKind) (s : Stmt) (bound : Locals) (env : Env) (st : State) → IsStmt s → IsStmtScoped fns kind (length w.args) bound s → FitsLast kind s → Agree bound env → DoesEnd (run_stmt w s env st)
   last_ends kind (Return e) bound env st is there fits a = well_return kind e bound env st is there fits a
   last_ends kind (Tail texts) bound env st is there fits a = record { end = _; left = _; is = refl }
   last_ends kind (Let n e) bound env st is there fits a = absurd fits
@@ -348,13 +351,13 @@ module _ (fns : List TraitFn) (w : Around) where
   then_ends bound Stuck go h next = absurd h
 
   -- the statements of a function end it
-  pub function_ends : (kind : ReturnKind) (b : Body) (bound : Locals) (env : Env) (st : State) → IsBody b → IsBodyThere fns kind (length w.args) bound b → FitsFunction kind b → Answering fns w.meaning (body_calls b) → Agree bound env
+  pub function_ends : (kind : ReturnKind) (b : Body) (bound : Locals) (env : Env) (st : State) → IsBody b → IsBodyScoped fns kind (length w.args) bound b → FitsFunction kind b → Answering fns w.meaning (body_calls b) → Agree bound env
       → DoesEnd (run_body w b env st)
   function_ends kind Done bound env st is there fits answering a = absurd fits
   function_ends kind (Then s Done) bound env st is there fits answering a =
       let last = last_ends kind s bound env st is.0 there.0 fits a in
       record { end = last.end; left = last.left; is = ap (λ flow. then_run flow (run_body w Done)) last.is }
   function_ends kind (Then s (Then t ss)) bound env st is there fits answering a =
-      then_ends (bound_behind fns (length w.args) s bound) (run_stmt w s env st) (run_body w (Then t ss))
+      then_ends (bound_after fns (length w.args) s bound) (run_stmt w s env st) (run_body w (Then t ss))
       (well_stmt kind false s bound env st is.0 there.0 fits.0 (front_answering (stmt_calls s) (body_calls (Then t ss)) answering) a)
-      (λ inner calls k. function_ends kind (Then t ss) (bound_behind fns (length w.args) s bound) inner calls is.1 there.1 fits.1 (rest_answering (stmt_calls s) (body_calls (Then t ss)) answering) k)
+      (λ inner calls k. function_ends kind (Then t ss) (bound_after fns (length w.args) s bound) inner calls is.1 there.1 fits.1 (rest_answering (stmt_calls s) (body_calls (Then t ss)) answering) k)

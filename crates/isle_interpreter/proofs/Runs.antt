@@ -14,7 +14,7 @@ use Rattle.isle_tree.specs.declared.holds.Holds.{Holds}
 use Rattle.isle_tree.specs.declared.tree.Ty.{Ty}
 use Rattle.isle_tree.specs.declared.tree.TraitFn.{TraitFn}
 use Rattle.isle_tree.specs.Program.{Function, Program}
-use Rattle.isle_tree.specs.WellFormed.{IsTraitFn, IsFunction, IsWellFormed, IsBodyThere, trait_fn, call_holds, kind_holds}
+use Rattle.isle_tree.specs.WellFormed.{IsTraitFn, IsFunction, IsWellFormed, IsBodyScoped, trait_fn, call_holds, kind_holds}
 use Rattle.isle_tree.specs.Run.{Around, nothing_done, ended, function_of, function_run, run}
 use Rattle.isle_interpreter.specs.Signatures.{trait_signature, signature_of, type_names, AreNamed}
 use Rattle.isle_interpreter.specs.Entries.{entries, IsUnanswered, AreRight}
@@ -74,7 +74,7 @@ pub runs : (p : Program) (term : List ℕ) (args : List Value) (m : Meaning) (f 
 runs p term args m f well may =
     let is : IsFunction p f = found_function p term p.fns f well.fns may.found in
     let count : length args ≡ length f.params = named_length (type_names f.params) args may.typed ∙ length-map f.params (λ (ty : Ty). ty.name) in
-    let there : IsBodyThere p.trait_fns f.kind (length args) [] f.body = subst (λ n. IsBodyThere p.trait_fns f.kind n [] f.body) (sym count) is.found in
+    let there : IsBodyScoped p.trait_fns f.kind (length args) [] f.body = subst (λ n. IsBodyScoped p.trait_fns f.kind n [] f.body) (sym count) is.found in
     let around : Around = record { meaning = m; program = p; function = f; args = args; limit = None } in
     let ends = function_ends p.trait_fns around f.kind f.body [] [] nothing_done is.forms there is.fits (answering p m f well.trait_fns may.right may.answered) tt in
     record {

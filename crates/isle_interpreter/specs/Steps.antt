@@ -4,7 +4,7 @@ use Rattle.isle_core.specs.Answered.{Held}
 use Rattle.isle_tree.specs.Program.{Body}
 use Rattle.isle_tree.specs.declared.tree.Operand.{Operand}
 use Rattle.isle_tree.specs.declared.tree.TPat.{TPat}
-use Rattle.isle_tree.specs.Run.{Around, State, Env, Flow, Goes, behind, fit, fitted, run_body, value_in, value_of}
+use Rattle.isle_tree.specs.Run.{Around, State, Env, Flow, Goes, after_scope, fit, fitted, run_body, value_in, value_of}
 use Rattle.isle_interpreter.specs.RunViews.{locals, within, state, flow, tested}
 use Rattle.isle_interpreter.specs.declared.around.Around.{Around as CodeAround}
 use Rattle.isle_interpreter.specs.declared.flow.Flow.{Flow as CodeFlow}
@@ -21,11 +21,11 @@ FitsSo o old new fits =
 
 -- statements, whose bindings are left
 abbrev pub run_inside : Body → Around → Env → State → Flow
-run_inside inside w env s = behind env (run_body w inside env s)
+run_inside inside w env s = after_scope env (run_body w inside env s)
 
 -- statements where a pattern fits, whose bindings are left, and its own
 abbrev pub run_where : TPat → Held → Body → Around → Env → State → Flow
-run_where pat held inside w env s = fitted (fit w pat held) (λ bound. behind env (run_body w inside (env ++ bound) s)) (Goes env s)
+run_where pat held inside w env s = fitted (fit w pat held) (λ bound. after_scope env (run_body w inside (env ++ bound) s)) (Goes env s)
 
 -- how the test of two operands goes
 abbrev pub test : Around → Env → (a b : Operand) → Option Bool

@@ -94,7 +94,7 @@ fn is_blank(b: u8) -> bool
 }
 
 // What stays open behind a blank, or behind a mark of one byte.
-fn behind(last: u8) -> Last
+fn left_open(last: u8) -> Last
     ensures { Settles result (left_open last) }
 {
     if is_blank(last) {
@@ -236,24 +236,24 @@ impl Printer {
         Ok(())
     }
 
-    /// Prints one word: a number between two parts, as 0xff_u8. What is printed after an error is left open.
+    /// Prints one word: a number between a prefix and a suffix, as 0xff_u8. What is printed after an error is left open.
     pub fn number(
         &mut self,
-        before: &str,
+        prefix: &str,
         n: u128,
         base: u8,
-        behind: &str,
+        suffix: &str,
     ) -> Result<(), AllocError>
         requires low { 2 ≤ base }
         requires high { base ≤ 16 }
-        requires before { IsTrue (list_all is_word_byte before.now) }
-        requires behind { IsTrue (list_all is_word_byte behind.now) }
-        ensures { OnOk result (self.new ≡ self.old ++ Word (before.now ++ (numeral base n ++ behind.now)) ∷ []) }
+        requires prefix { IsTrue (list_all is_word_byte prefix.now) }
+        requires suffix { IsTrue (list_all is_word_byte suffix.now) }
+        ensures { OnOk result (self.new ≡ self.old ++ Word (prefix.now ++ (numeral base n ++ suffix.now)) ∷ []) }
     {
         self.parts.clear();
-        self.parts.push_str(before)?;
+        self.parts.push_str(prefix)?;
         push_numeral(&mut self.parts, n, base)?;
-        self.parts.push_str(behind)?;
+        self.parts.push_str(suffix)?;
         push_word(&mut self.text, &mut self.last, &self.parts)
     }
 
@@ -289,7 +289,7 @@ impl Printer {
         let bytes = piece.as_bytes();
         part_from(&mut self.text, &mut self.last, bytes[0])?;
         self.text.push_str(piece)?;
-        self.last = behind(bytes[bytes.len() - 1]);
+        self.last = left_open(bytes[bytes.len() - 1]);
         Ok(())
     }
 

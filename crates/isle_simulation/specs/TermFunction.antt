@@ -9,12 +9,12 @@ use Rattle.isle_core.specs.declared.types.TypeDef.TheVariants as def
 use Rattle.isle_core.specs.declared.types.ReturnKind.{ReturnKind}
 use Rattle.isle_core.specs.declared.types.ReturnKind.TheVariants as kind
 use Rattle.isle_core.specs.declared.types.Term.{Term}
-use Rattle.isle_core.specs.declared.rule_sets.Binding.{Binding}
 use Rattle.isle_core.specs.Places.{place_in}
 use Rattle.isle_core.specs.Block.{Block, Stop, Step, Control, Match, Equal, Loop, Return}
 use Rattle.isle_core.specs.Calling.{kind_of}
 use Rattle.isle_core.specs.Terms.{sym_text}
 use Rattle.isle_core.specs.Rule.{Environment}
+use Rattle.isle_core.specs.Setting.{Setting}
 use Rattle.isle_tree.specs.declared.tree.Ty.{Ty}
 use Rattle.isle_spelling.specs.Literal.{type_name}
 use Rattle.isle_tree.specs.Program.{Tail, Body, Done, Then, Function}
@@ -70,9 +70,21 @@ abbrev pub tail_body : Option (Option (List ℕ × List ℕ)) → Body
 tail_body (Some mark) = Then (Tail mark) Done
 tail_body None = Done
 
--- what stands behind the steps of the root: nothing where its last step is a Return
+-- what the tail of a term's function says, where it has one: nothing, or the term's name and the place of its declaration
+abbrev pub mark_in : Files → Environment → Term → Option (Option (List ℕ × List ℕ))
+mark_in files env t = mark_of (kind_of t.kind) (sym_text env t.name) (place_in files t.decl_pos)
+
+-- what stands after the steps of the root: nothing where its last step is a Return
 abbrev pub tail_of : ReturnKind → List ℕ → List ℕ → Block → Body
 tail_of of name place b = if ends_in_return b then Done else tail_body (mark_of of name place)
+
+-- so of a term, whose declaration lies in the files
+abbrev pub tail_in : Files → Environment → Term → Block → Body
+tail_in files env t b = tail_of (kind_of t.kind) (sym_text env t.name) (place_in files t.decl_pos) b
+
+-- the statements of a term's function
+abbrev pub root_body : Files → Setting → Block → Option Body
+root_body files s b = block_body s [] b (Some (tail_in files s.env s.term b))
 
 -- the function of a term with these statements
 abbrev pub function_with : Environment → Term → Body → Function
@@ -84,7 +96,6 @@ function_with env t body = record {
   body = body;
 }
 
--- the function of a term whose block is this and whose bindings are these, where its forms are built; the place is that of
--- its declaration
-abbrev pub term_function : Files → Environment → Term → List Binding → Block → Option Function
-term_function files env t bs b = option_map (function_with env t) (block_body env bs (kind_of t.kind) [] b (Some (tail_of (kind_of t.kind) (sym_text env t.name) (place_in files t.decl_pos) b)))
+-- the function of a term whose block is this, where its forms are built; the files have the place of its declaration
+abbrev pub term_function : Files → Setting → Block → Option Function
+term_function files s b = option_map (function_with s.env s.term) (root_body files s b)

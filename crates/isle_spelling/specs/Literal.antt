@@ -45,10 +45,20 @@ literal_tokens ty (negsuc n) = Mark (codes "-") ∷ Word (literal_word ty (suc n
 abbrev pub of_bits : IntType → ℕ → ℤ
 of_bits ty n = if is_signed ty then cast_signed (width ty) n else pos n
 
--- a number of the type as a value holds it: u128 as its 128 signed bits
-abbrev pub held : IntType → ℤ → ℤ
-held U128 n = wrapped I128 n
-held ty n = n
+-- a number of the type as a value has it: u128 as its 128 signed bits, the others as they are
+abbrev pub signed_bits : IntType → ℤ → ℤ
+signed_bits U128 n = wrapped I128 n
+signed_bits U8 n = n
+signed_bits U16 n = n
+signed_bits U32 n = n
+signed_bits U64 n = n
+signed_bits USize n = n
+signed_bits I8 n = n
+signed_bits I16 n = n
+signed_bits I32 n = n
+signed_bits I64 n = n
+signed_bits I128 n = n
+signed_bits ISize n = n
 
 -- ---- reading a magnitude with its type
 
@@ -75,10 +85,10 @@ type_named w =
     else None)))))))))))
 
 -- the number whose hexadecimal digits stand behind 0x
-abbrev pub behind_0x : List ℕ → Option ℕ
-behind_0x [] = None
-behind_0x (a ∷ []) = None
-behind_0x (a ∷ b ∷ ds) = if (a == 48) && (b == 120) then numeral_of 16 ds else None
+abbrev pub after_0x : List ℕ → Option ℕ
+after_0x [] = None
+after_0x (a ∷ []) = None
+after_0x (a ∷ b ∷ ds) = if (a == 48) && (b == 120) then numeral_of 16 ds else None
 
 -- a number beside its type
 abbrev pub beside : IntType → Option ℕ → Option (IntType × ℕ)
@@ -88,7 +98,7 @@ beside ty (Some n) = Some (ty, n)
 -- the magnitude that the digits spell at the type
 abbrev pub magnitude_at : Option IntType → List ℕ → Option (IntType × ℕ)
 magnitude_at None ds = None
-magnitude_at (Some ty) ds = beside ty (if is_signed ty then numeral_of 10 ds else behind_0x ds)
+magnitude_at (Some ty) ds = beside ty (if is_signed ty then numeral_of 10 ds else after_0x ds)
 
 -- the type and the magnitude that the word spells, or none
 unfoldable pub literal_of : List ℕ → Option (IntType × ℕ)

@@ -5,10 +5,10 @@ use Rattle.isle_printer.proofs.printer.Printer.number.Goals as goal
 
 pub push_word-requires-clause-word : goal.push_word-requires-clause-word
 push_word-requires-clause-word c =
-    let spelled = c.deref.ensures ∙ c.in_ok-push_str-2.ensures.bytes ∙ ap (λ w. w ++ c.args.behind.now) (c.in_ok-push_numeral.ensures ∙ ap (λ w. w ++ numeral c.args.base c.args.n) (c.in_ok-push_str.ensures.bytes ∙ ap (λ w. w ++ c.args.before.now) c.clear.ensures.bytes)) ∙ append_assoc c.args.before.now (numeral c.args.base c.args.n) c.args.behind.now in
-    rw spelled (between_is_word c.args.before.now c.args.base c.args.n c.args.behind.now c.requires.low c.requires.high c.requires.before c.requires.behind)
+    let spelled = c.deref.ensures ∙ c.in_ok-push_str-2.ensures.bytes ∙ ap (λ w. w ++ c.args.suffix.now) (c.in_ok-push_numeral.ensures ∙ ap (λ w. w ++ numeral c.args.base c.args.n) (c.in_ok-push_str.ensures.bytes ∙ ap (λ w. w ++ c.args.prefix.now) c.clear.ensures.bytes)) ∙ append_assoc c.args.prefix.now (numeral c.args.base c.args.n) c.args.suffix.now in
+    rw spelled (between_is_word c.args.prefix.now c.args.base c.args.n c.args.suffix.now c.requires.low c.requires.high c.requires.prefix c.requires.suffix)
 
 pub returns : goal.returns
 returns c =
-    let spelled = c.deref.ensures ∙ c.in_ok-push_str-2.ensures.bytes ∙ ap (λ w. w ++ c.args.behind.now) (c.in_ok-push_numeral.ensures ∙ ap (λ w. w ++ numeral c.args.base c.args.n) (c.in_ok-push_str.ensures.bytes ∙ ap (λ w. w ++ c.args.before.now) c.clear.ensures.bytes)) ∙ append_assoc c.args.before.now (numeral c.args.base c.args.n) c.args.behind.now in
+    let spelled = c.deref.ensures ∙ c.in_ok-push_str-2.ensures.bytes ∙ ap (λ w. w ++ c.args.suffix.now) (c.in_ok-push_numeral.ensures ∙ ap (λ w. w ++ numeral c.args.base c.args.n) (c.in_ok-push_str.ensures.bytes ∙ ap (λ w. w ++ c.args.prefix.now) c.clear.ensures.bytes)) ∙ append_assoc c.args.prefix.now (numeral c.args.base c.args.n) c.args.suffix.now in
     rw (c.self.view_is) at (rw spelled at c.push_word.ensures.ok)

@@ -1,10 +1,10 @@
-//! Whether each operand of statements is there and holds what is asked of it.
+//! Whether each operand of statements is in scope and holds what is asked of it.
 
 ghost use Rattle.std.specs.Prelude.{◌≡◌, ◌↔◌, IsTrue, IsSome, IfOk, OnOk};
 ghost use Rattle.isle_tree.specs.Views.{stmt, body};
-ghost use Rattle.isle_tree.specs.WellFormed.{expr_holds, GivesKind, behind_let, IsStmtThere, IsBodyThere, bound_behind};
+ghost use Rattle.isle_tree.specs.WellFormed.{expr_holds, GivesKind, after_let, IsStmtScoped, IsBodyScoped, bound_after};
 
-use crate::held::{expr_holds, is_value, operand_holds};
+use crate::holding::{expr_holds, is_value, operand_holds};
 use isle_core::ReturnKind;
 use isle_scope::Table;
 use isle_tree::{Callees, Holds, Item, Stmt};
@@ -21,10 +21,10 @@ fn gives_kind(kind: ReturnKind, holds: Option<Holds>) -> bool
     }
 }
 
-// Binds a local to what is computed, where that is there.
+// Binds a local to what is computed, where something is.
 fn bind(bound: &mut Table<Holds>, local: usize, holds: Option<Holds>) -> Result<bool, AllocError>
-    ensures there { IfOk result (λ b. IsTrue b ↔ IsSome holds) }
-    ensures bound { OnOk result (bound.new ≡ behind_let holds local bound.old) }
+    ensures holds { IfOk result (λ b. IsTrue b ↔ IsSome holds) }
+    ensures bound { OnOk result (bound.new ≡ after_let holds local bound.old) }
 {
     match holds {
         None => Ok(false),
@@ -35,18 +35,18 @@ fn bind(bound: &mut Table<Holds>, local: usize, holds: Option<Holds>) -> Result<
     }
 }
 
-// Whether a statement reads what is there; its own local is bound behind it.
-#[cycle(there)]
+// Whether each operand of a statement is in scope; its own local is bound after it.
+#[cycle(scoped)]
 #[tactic(auto, using(isle_tree::proofs::Sees::sees))]
-fn is_stmt_there(
+fn is_stmt_scoped(
     callees: &Callees,
     kind: ReturnKind,
     params: usize,
     bound: &mut Table<Holds>,
     s: &Stmt,
 ) -> Result<bool, AllocError>
-    ensures there { IfOk result (λ b. IsTrue b ↔ IsStmtThere callees.now kind params bound.old (stmt s.now)) }
-    ensures bound { OnOk result (bound.new ≡ bound_behind callees.now params (stmt s.now) bound.old) }
+    ensures scoped { IfOk result (λ b. IsTrue b ↔ IsStmtScoped callees.now kind params bound.old (stmt s.now)) }
+    ensures bound { OnOk result (bound.new ≡ bound_after callees.now params (stmt s.now) bound.old) }
 {
     match s {
         Stmt::Let(n, e) => {
@@ -60,7 +60,7 @@ fn is_stmt_there(
             if !is_value(operand_holds(bound, params, b)) {
                 return Ok(false);
             }
-            is_body_there(callees, kind, params, bound, inside.as_slice())
+            is_body_scoped(callees, kind, params, bound, inside.as_slice())
         }
         Stmt::Return(e) => Ok(gives_kind(kind, expr_holds(callees, bound, params, e))),
         Stmt::Tail(_) => Ok(true),
@@ -75,22 +75,22 @@ fn is_stmt_there(
     }
 }
 
-/// Tells whether all statements read what is there. What is bound is the same behind them. The only error is want of
-/// memory.
-#[cycle(there)]
-pub fn is_body_there(
+/// Tells whether each operand of the statements is in scope and holds what is asked of it. What is bound is the same after
+/// them. The only error is want of memory.
+#[cycle(scoped)]
+pub fn is_body_scoped(
     callees: &Callees,
     kind: ReturnKind,
     params: usize,
     bound: &mut Table<Holds>,
     stmts: &[Stmt],
 ) -> Result<bool, AllocError>
-    ensures there { IfOk result (λ b. IsTrue b ↔ IsBodyThere callees.now kind params bound.old (body stmts.now)) }
+    ensures scoped { IfOk result (λ b. IsTrue b ↔ IsBodyScoped callees.now kind params bound.old (body stmts.now)) }
     ensures bound { OnOk result (bound.new ≡ bound.old) }
 {
     let len = bound.len();
     for s in stmts {
-        if !is_stmt_there(callees, kind, params, bound, s)? {
+        if !is_stmt_scoped(callees, kind, params, bound, s)? {
             bound.truncate(len);
             return Ok(false);
         }

@@ -36,7 +36,7 @@ use Rattle.isle_tree.specs.declared.holds.Holds.TheVariants as holds
 use Rattle.isle_tree.specs.declared.holds.Item.TheVariants as item
 use Rattle.isle_tree.specs.declared.tree.Operand.{Operand}
 use Rattle.isle_tree.specs.Program.{Body, Done, Then}
-use Rattle.isle_tree.specs.WellFormed.{Locals, newer, local_holds, operand_holds, is_value, are_values, kind_holds, call_holds, callee_holds, inner_holds, expr_holds, GivesKind, behind_let, IsBodyThere}
+use Rattle.isle_tree.specs.WellFormed.{Locals, newer, local_holds, operand_holds, is_value, are_values, kind_holds, call_holds, callee_holds, inner_holds, expr_holds, GivesKind, after_let, IsBodyScoped}
 use Rattle.isle_simulation.proofs.Written.{block_body, bound_expr, callee_of, control_stmt, lets, reads, returned, written_constant, written_operand, written_place, written_test}
 use Rattle.isle_simulation.specs.Operands.{is_bound}
 use Rattle.isle_simulation.specs.TermFunction.{parameter}
@@ -185,54 +185,54 @@ let_holds env t bs bound locals b p (Some (binding.ConstBool val ty)) names e l 
 let_holds env t bs bound locals b p (Some (binding.ConstInt val ty)) names e l is = let k = in_place_let env t bs bound locals b p e is in record { h = holds.One item.Value; is = k.0; kept = k.1 }
 let_holds env t bs bound locals b p o names e l is = absurd is
 
-lets_there : (env : Environment) (t : Term) (bs : List Binding) (bound : List ℕ) (locals : Locals) (binds : List BindingId) (more : Body) → HasFnNames env → LocalsHold env t bs bound locals → AreBindable (setting env t bs) bound binds
-    → ((after : Locals) → LocalsHold env t bs (bound_by bound binds) after → IsBodyThere (trait_fns_of env) (kind_of t.kind) (length t.arg_tys) after more)
-    → IsBodyThere (trait_fns_of env) (kind_of t.kind) (length t.arg_tys) locals (lets env bs bound binds more)
-lets_there env t bs bound locals [] more names l k h = h locals l
-lets_there env t bs bound locals (b ∷ binds) more names l k h =
+lets_scoped : (env : Environment) (t : Term) (bs : List Binding) (bound : List ℕ) (locals : Locals) (binds : List BindingId) (more : Body) → HasFnNames env → LocalsHold env t bs bound locals → AreBindable (setting env t bs) bound binds
+    → ((after : Locals) → LocalsHold env t bs (bound_by bound binds) after → IsBodyScoped (trait_fns_of env) (kind_of t.kind) (length t.arg_tys) after more)
+    → IsBodyScoped (trait_fns_of env) (kind_of t.kind) (length t.arg_tys) locals (lets env bs bound binds more)
+lets_scoped env t bs bound locals [] more names l k h = h locals l
+lets_scoped env t bs bound locals (b ∷ binds) more names l k h =
     let x = let_holds env t bs bound locals b (at (paths_of bs) b) (slice_get bs b.0) names refl l k.0 in
-    let rest = lets_there env t bs (bound ++ b.0 ∷ []) (locals ++ (b.0, x.h) ∷ []) binds more names (more_hold env t bs bound locals b x.h l x.kept) k.1 h in (
+    let rest = lets_scoped env t bs (bound ++ b.0 ∷ []) (locals ++ (b.0, x.h) ∷ []) binds more names (more_hold env t bs bound locals b x.h l x.kept) k.1 h in (
       subst IsSome (sym x.is) refl,
-      subst (λ o. IsBodyThere (trait_fns_of env) (kind_of t.kind) (length t.arg_tys) (behind_let o b.0 locals) (lets env bs (bound ++ b.0 ∷ []) binds more)) (sym x.is) rest,
+      subst (λ o. IsBodyScoped (trait_fns_of env) (kind_of t.kind) (length t.arg_tys) (after_let o b.0 locals) (lets env bs (bound ++ b.0 ∷ []) binds more)) (sym x.is) rest,
     )
 
 -- ---- blocks
 
-returned_there : (kind : ReturnKind) → AnswersOnce kind → (o : Operand) (env : Environment) (params : ℕ) (locals : Locals) → operand_holds params locals o ≡ Some (holds.One item.Value) → GivesKind kind (expr_holds (trait_fns_of env) params locals (returned kind o))
-returned_there return_kind.Plain once o env params locals e = rw e tt
-returned_there return_kind.Option once o env params locals e = rw e tt
-returned_there return_kind.Iterator once o env params locals e = absurd once
+returned_scoped : (kind : ReturnKind) → AnswersOnce kind → (o : Operand) (env : Environment) (params : ℕ) (locals : Locals) → operand_holds params locals o ≡ Some (holds.One item.Value) → GivesKind kind (expr_holds (trait_fns_of env) params locals (returned kind o))
+returned_scoped return_kind.Plain once o env params locals e = rw e tt
+returned_scoped return_kind.Option once o env params locals e = rw e tt
+returned_scoped return_kind.Iterator once o env params locals e = absurd once
 
 mutual
   -- what a lawful block reads, where what follows reads what is there whatever is bound
-  block_there : (b : Block) (env : Environment) (t : Term) (bs : List Binding) (bound made : List ℕ) (locals : Locals) (end : Body) → HasFnNames env → AnswersOnce (kind_of t.kind) → LocalsHold env t bs bound locals → IsLawfulFrom (setting env t bs) bound made b → HasSingleArms b
-      → ((after : Locals) → IsBodyThere (trait_fns_of env) (kind_of t.kind) (length t.arg_tys) after end)
-      → IsBodyThere (trait_fns_of env) (kind_of t.kind) (length t.arg_tys) locals (block_body env bs (kind_of t.kind) bound b end)
-  block_there Stop env t bs bound made locals end names once l k o h = h locals
-  block_there (Step binds c more) env t bs bound made locals end names once l k o h =
-      lets_there env t bs bound locals binds (Then (control_stmt env bs (kind_of t.kind) (bound_by bound binds) c) (block_body env bs (kind_of t.kind) (bound_by bound binds) more end)) names l k.0
-      (λ after held. control_there c more env t bs (bound_by bound binds) _ after (block_body env bs (kind_of t.kind) (bound_by bound binds) more end) names once held k.2 o.0 (block_there more env t bs (bound_by bound binds) _ after end names once held k.3 o.1 h))
+  block_scoped : (b : Block) (env : Environment) (t : Term) (bs : List Binding) (bound made : List ℕ) (locals : Locals) (end : Body) → HasFnNames env → AnswersOnce (kind_of t.kind) → LocalsHold env t bs bound locals → IsLawfulFrom (setting env t bs) bound made b → HasSingleArms b
+      → ((after : Locals) → IsBodyScoped (trait_fns_of env) (kind_of t.kind) (length t.arg_tys) after end)
+      → IsBodyScoped (trait_fns_of env) (kind_of t.kind) (length t.arg_tys) locals (block_body env bs (kind_of t.kind) bound b end)
+  block_scoped Stop env t bs bound made locals end names once l k o h = h locals
+  block_scoped (Step binds c more) env t bs bound made locals end names once l k o h =
+      lets_scoped env t bs bound locals binds (Then (control_stmt env bs (kind_of t.kind) (bound_by bound binds) c) (block_body env bs (kind_of t.kind) (bound_by bound binds) more end)) names l k.0
+      (λ after held. control_scoped c more env t bs (bound_by bound binds) _ after (block_body env bs (kind_of t.kind) (bound_by bound binds) more end) names once held k.2 o.0 (block_scoped more env t bs (bound_by bound binds) _ after end names once held k.3 o.1 h))
 
-  control_there : (c : Control) (more : Block) (env : Environment) (t : Term) (bs : List Binding) (bound made : List ℕ) (locals : Locals) (ss : Body) → HasFnNames env → AnswersOnce (kind_of t.kind) → LocalsHold env t bs bound locals → IsLawfulControl (setting env t bs) bound made c more → IsSingle c
-      → IsBodyThere (trait_fns_of env) (kind_of t.kind) (length t.arg_tys) locals ss → IsBodyThere (trait_fns_of env) (kind_of t.kind) (length t.arg_tys) locals (Then (control_stmt env bs (kind_of t.kind) bound c) ss)
-  control_there (block.Match source (block.Arm c places body block.NoArm)) more env t bs bound made locals ss names once l k o h = (
+  control_scoped : (c : Control) (more : Block) (env : Environment) (t : Term) (bs : List Binding) (bound made : List ℕ) (locals : Locals) (ss : Body) → HasFnNames env → AnswersOnce (kind_of t.kind) → LocalsHold env t bs bound locals → IsLawfulControl (setting env t bs) bound made c more → IsSingle c
+      → IsBodyScoped (trait_fns_of env) (kind_of t.kind) (length t.arg_tys) locals ss → IsBodyScoped (trait_fns_of env) (kind_of t.kind) (length t.arg_tys) locals (Then (control_stmt env bs (kind_of t.kind) bound c) ss)
+  control_scoped (block.Match source (block.Arm c places body block.NoArm)) more env t bs bound made locals ss names once l k o h = (
     (
       is_one _ (operand_one env t bs bound locals source k.1.0 l k.1.1),
       is_one _ (tested_holds env c k.1.0 (length t.arg_tys) locals k.1.2.0),
-      block_there body env t bs bound made locals Done names once l (arm_body (setting env t bs) bound made source c places body block.NoArm k.1.0 k.1.2) o (λ after. tt),
+      block_scoped body env t bs bound made locals Done names once l (arm_body (setting env t bs) bound made source c places body block.NoArm k.1.0 k.1.2) o (λ after. tt),
     ),
     h,
   )
-  control_there (block.Match source (block.Arm c places body (block.Arm d others inside arms))) more env t bs bound made locals ss names once l k o h = absurd o
-  control_there (block.Match source block.NoArm) more env t bs bound made locals ss names once l k o h = absurd o
-  control_there (block.Equal x y body) more env t bs bound made locals ss names once l k o h =
-      ((is_one _ (operand_one env t bs bound locals x k.0.0 l k.0.1), is_one _ (operand_one env t bs bound locals y k.0.0 l k.0.2), block_there body env t bs bound made locals Done names once l k.1 o (λ after. tt)), h)
-  control_there (block.Loop result body) more env t bs bound made locals ss names once l k o h = absurd k
-  control_there (block.Return pos result) more env t bs bound made locals ss names once l k o h =
-      (returned_there (kind_of t.kind) once (written_operand env bs bound result) env (length t.arg_tys) locals (operand_one env t bs bound locals result t.ret_ty l k.0), h)
+  control_scoped (block.Match source (block.Arm c places body (block.Arm d others inside arms))) more env t bs bound made locals ss names once l k o h = absurd o
+  control_scoped (block.Match source block.NoArm) more env t bs bound made locals ss names once l k o h = absurd o
+  control_scoped (block.Equal x y body) more env t bs bound made locals ss names once l k o h =
+      ((is_one _ (operand_one env t bs bound locals x k.0.0 l k.0.1), is_one _ (operand_one env t bs bound locals y k.0.0 l k.0.2), block_scoped body env t bs bound made locals Done names once l k.1 o (λ after. tt)), h)
+  control_scoped (block.Loop result body) more env t bs bound made locals ss names once l k o h = absurd k
+  control_scoped (block.Return pos result) more env t bs bound made locals ss names once l k o h =
+      (returned_scoped (kind_of t.kind) once (written_operand env bs bound result) env (length t.arg_tys) locals (operand_one env t bs bound locals result t.ret_ty l k.0), h)
 
 -- what the block of a function reads
-pub root_there : (b : Block) (env : Environment) (t : Term) (bs : List Binding) (end : Body) → HasFnNames env → AnswersOnce (kind_of t.kind) → IsLawfulBlock (setting env t bs) b → HasSingleArms b
-    → ((after : Locals) → IsBodyThere (trait_fns_of env) (kind_of t.kind) (length t.arg_tys) after end)
-    → IsBodyThere (trait_fns_of env) (kind_of t.kind) (length t.arg_tys) [] (block_body env bs (kind_of t.kind) [] b end)
-root_there b env t bs end names once k o h = block_there b env t bs [] [] [] end names once (none_hold env t bs) k o h
+pub root_scoped : (b : Block) (env : Environment) (t : Term) (bs : List Binding) (end : Body) → HasFnNames env → AnswersOnce (kind_of t.kind) → IsLawfulBlock (setting env t bs) b → HasSingleArms b
+    → ((after : Locals) → IsBodyScoped (trait_fns_of env) (kind_of t.kind) (length t.arg_tys) after end)
+    → IsBodyScoped (trait_fns_of env) (kind_of t.kind) (length t.arg_tys) [] (block_body env bs (kind_of t.kind) [] b end)
+root_scoped b env t bs end names once k o h = block_scoped b env t bs [] [] [] end names once (none_hold env t bs) k o h

@@ -9,7 +9,7 @@ ghost use Rattle.isle_tree.specs.WellFormed.{IsFunction, IsWellFormed};
 use crate::fits::fits_function;
 use crate::names::{has_names, is_kind};
 use crate::shapes::is_body;
-use crate::there::is_body_there;
+use crate::scoped::is_body_scoped;
 use crate::trait_fns::are_trait_fns;
 use isle_core::OutOfMemory;
 use isle_scope::Table;
@@ -35,7 +35,7 @@ fn is_function(alloc: Global, callees: &Callees, f: &Function) -> Result<bool, O
     }
     let mut bound = Table::new(alloc);
     let params = f.params.as_slice().len();
-    Ok(is_body_there(callees, f.kind, params, &mut bound, stmts)?)
+    Ok(is_body_scoped(callees, f.kind, params, &mut bound, stmts)?)
 }
 
 // Whether all functions are.

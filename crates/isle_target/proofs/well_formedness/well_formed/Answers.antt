@@ -8,7 +8,7 @@ use Rattle.isle_tree.specs.declared.tree.TraitFn.{TraitFn}
 use Rattle.isle_tree.specs.Views.{function}
 use Rattle.isle_tree.specs.WellFormed.{IsTraitFn, terms, fn_names}
 use Rattle.isle_target.proofs.Functions.{DecideAll, refused_trait_fns, refused_names, refused_types, refused_fns, by_names}
-use Rattle.isle_target.proofs.forms.well_formed.Goals as goal
+use Rattle.isle_target.proofs.well_formedness.well_formed.Goals as goal
 
 pub returns-then-not-are_trait_fns : goal.returns-then-not-are_trait_fns
 returns-then-not-are_trait_fns c =

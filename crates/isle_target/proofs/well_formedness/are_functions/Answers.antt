@@ -1,6 +1,6 @@
 use Rattle.std.proofs.Common.{subst}
 use Rattle.isle_target.proofs.Functions.{Decides, left_more, left_stop, left_none}
-use Rattle.isle_target.proofs.forms.are_functions.Goals as goal
+use Rattle.isle_target.proofs.well_formedness.are_functions.Goals as goal
 
 pub returns-then-not-branch : goal.returns-then-not-branch
 returns-then-not-branch c =
