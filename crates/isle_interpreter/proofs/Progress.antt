@@ -253,7 +253,10 @@ module _ (fns : List TraitFn) (w : Around) where
   ends_told kind.Option (Some (holds.Optional item.Value)) g st k t = ends_option g st t
   ends_told kind.Option (Some (holds.Optional (item.Tuple count))) g st k t = absurd k
   ends_told kind.Option (Some (holds.Several x)) g st k t = absurd k
-  ends_told kind.Iterator o g st k t = absurd k
+  ends_told kind.Iterator None g st k t = absurd k
+  ends_told kind.Iterator (Some (holds.One x)) g st k t = absurd k
+  ends_told kind.Iterator (Some (holds.Optional x)) g st k t = absurd k
+  ends_told kind.Iterator (Some (holds.Several x)) g st k t = absurd k
 
   -- what is said of two parts is said of each
   front_answering : (xs ys : List Callee) → Answering fns w.meaning (xs ++ ys) → Answering fns w.meaning xs
