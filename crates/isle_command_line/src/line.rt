@@ -53,7 +53,7 @@ fn request(alloc: Global, state: State) -> Result<Command, LineFail>
         State::Begin => stored(alloc),
         State::Whole(command) => Ok(command),
         State::Names(options, names) => Ok(Command::Compile { options, names }),
-        State::Behind(trace, options, source, term, values) => Ok(Command::Run {
+        State::AfterValues(trace, options, source, term, values) => Ok(Command::Run {
             trace,
             options,
             source,

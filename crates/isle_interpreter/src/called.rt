@@ -57,7 +57,8 @@ impl<'a> Calls<'a> {
         callee: &Callee,
         args: Vec<Value>,
     ) -> Result<Holding, AllocError>
-        ensures answered { IfOk result (λ h. held h ≡ answer_held (answer (meaning self.old.answers) callee.now (values args.items) (map made self.old.made))) }
+        ensures answered { IfOk result (λ h. held h
+            ≡ answer_held (answer (meaning self.old.answers) callee.now (values args.items) (map made self.old.made))) }
         ensures made { OnOk result (self.new ≡ called_more self.old callee.now args.items) }
     {
         let holding = answered(alloc, self.sources.get(callee), args.as_slice())?;

@@ -8,7 +8,8 @@ ghost use Rattle.isle_answers.specs.Form as pure_form;
 ghost use Rattle.isle_answers.specs.Views.{result_seen, answer_seen, form_seen, forms_seen};
 ghost use Rattle.isle_core.specs.RuleViews.{environment};
 ghost use Rattle.isle_core.specs.Rule.{Environment};
-ghost use Rattle.isle_run_inputs.specs.Forms.{result_at, answer_at, turns_at, answers_at};
+ghost use Rattle.isle_run_inputs.specs.AnswerTypes.{OfTypes};
+ghost use Rattle.isle_run_inputs.specs.AnswersAt.{result_at, answer_at, turns_at, answers_at};
 
 use crate::answer_types::AnswerTypes;
 use crate::value::value_at_any;
@@ -63,7 +64,8 @@ fn all_at(
     ty: Option<TypeId>,
     forms: &[AnswerForm],
 ) -> Result<Vec<Answer>, AllocError>
-    ensures { IfOk result (λ found. (env : Environment) → env.types ≡ typeenv.now → map answer found.items ≡ map (λ a. answer_at env ty (answer_seen a)) forms.now) }
+    ensures { IfOk result (λ found. (env : Environment) → env.types ≡ typeenv.now
+        → map answer found.items ≡ map (λ a. answer_at env ty (answer_seen a)) forms.now) }
 {
     let mut found = Vec::new(alloc);
     for form in forms {
@@ -95,7 +97,8 @@ fn turns_of(
     types: &AnswerTypes,
     form: &Form,
 ) -> Result<Option<TurnAnswers>, AllocError>
-    ensures { IfOk result (λ t. (env : Environment) → env.types ≡ typeenv.now → env.types ≡ types.now.0 → env.terms ≡ types.now.1 → (rest : Prelude.List pure_form.Form) → turns_at env (form_seen form.now ∷ rest) ≡ cons_option (option_map turn_answers t) (turns_at env rest)) }
+    ensures { IfOk result (λ t. OfTypes types.now (λ env. env.types ≡ typeenv.now → (rest : Prelude.List pure_form.Form)
+        → turns_at env (form_seen form.now ∷ rest) ≡ cons_option (option_map turn_answers t) (turns_at env rest))) }
 {
     match form {
         Form::Turns {
