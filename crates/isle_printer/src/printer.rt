@@ -238,13 +238,7 @@ impl Printer {
 
     /// Prints one word: a number with its type, as 0xff_u8, the prefix before the digits. What is printed after an error is
     /// left open.
-    pub fn number(
-        &mut self,
-        prefix: &str,
-        n: u128,
-        base: u8,
-        ty: &str,
-    ) -> Result<(), AllocError>
+    pub fn number(&mut self, prefix: &str, n: u128, base: u8, ty: &str) -> Result<(), AllocError>
         requires low { 2 ≤ base }
         requires high { base ≤ 16 }
         requires prefix { IsTrue (list_all is_word_byte prefix.now) }
@@ -260,7 +254,7 @@ impl Printer {
     }
 
     /// Prints one word: some letters and behind them a number, as v12. What is printed after an error is left open.
-    pub fn numbered(&mut self, _alloc: Global, prefix: &str, n: usize) -> Result<(), AllocError>
+    pub fn numbered(&mut self, prefix: &str, n: usize) -> Result<(), AllocError>
         requires { IsTrue (list_all is_word_byte prefix.now) }
         ensures { OnOk result (self.new ≡ self.old ++ Word (prefix.now ++ numeral 10 n) ∷ []) }
     {
@@ -271,7 +265,7 @@ impl Printer {
     }
 
     /// Prints a text between quotes, whatever it holds. What is printed after an error is left open.
-    pub fn quoted(&mut self, _alloc: Global, text: &str) -> Result<(), AllocError>
+    pub fn quoted(&mut self, text: &str) -> Result<(), AllocError>
         ensures { OnOk result (self.new ≡ self.old ++ Quoted text.now ∷ []) }
     {
         quote(&mut self.parts, text)?;

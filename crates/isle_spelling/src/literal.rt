@@ -1,6 +1,6 @@
 //! Numbers of the builtin integer types, as Rust spells them.
 
-ghost use Rattle.std.specs.Prelude.{◌≡◌, ℤ, ◌++◌, ◌^◌, ◌%◌, ◌<◌, [], ◌∷◌, OnOk, IfOk, string_bytes, codes};
+ghost use Rattle.std.specs.Prelude.{◌≡◌, ℤ, ◌++◌, ◌^◌, ◌%◌, ◌<◌, [], ◌∷◌, OnOk, IfOk, string_bytes};
 ghost use Rattle.isle_printer.specs.Token.{Word};
 ghost use mir.Val.{bits, hbits};
 ghost use Rattle.isle_core.specs.Int.{width, WrapsTo, wrapped};
