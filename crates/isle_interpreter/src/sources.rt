@@ -41,7 +41,7 @@ fn take_at<'a>(found: &mut BTreeMap<&'a str, Source<'a>>, name: &str)
     ensures { TakesAt found.old found.new name.now }
 {
     match found.get_mut(name) {
-        Some(there) => *there = after_call(*there),
+        Some(source) => *source = after_call(*source),
         None => {}
     }
 }
