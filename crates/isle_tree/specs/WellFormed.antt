@@ -344,7 +344,7 @@ pub record IsFunction (p : Program) (f : Function) : Type 0 where
   pub names : HasNames f
   pub kind : IsKind f.kind
   pub forms : IsBody f.body
-  pub found : IsBodyScoped p.trait_fns f.kind (length f.params) [] f.body
+  pub scoped : IsBodyScoped p.trait_fns f.kind (length f.params) [] f.body
   pub fits : FitsFunction f.kind f.body
 
 -- the terms of the functions
