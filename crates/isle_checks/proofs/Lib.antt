@@ -1,0 +1,7 @@
+pub mod MakerLaws
+pub mod FoundLaws
+pub mod FindLaws
+pub mod PlacedLaws
+pub mod SideLaws
+pub mod ApartLaws
+pub mod WithinLaws
