@@ -5,3 +5,4 @@ pub mod PlacedLaws
 pub mod SideLaws
 pub mod ApartLaws
 pub mod WithinLaws
+pub mod FirstLaws

@@ -3,7 +3,7 @@ use Rattle.std.specs.Prelude.{◌≡◌, ◌⊎◌, ℕ, ◌<◌, ◌≤◌, Lis
 use Rattle.isle_core.specs.declared.rule_sets.FlatRule.{FlatRule}
 use Rattle.isle_checks.specs.declared.placed.Check.{Check}
 use Rattle.isle_checks.specs.declared.placed.Placed.{Placed}
-use Rattle.isle_checks.specs.Makes.{Makes}
+use Rattle.isle_checks.specs.Makes.{Makes, MakesAt}
 use Rattle.isle_checks.specs.Sides.{Rises}
 
 -- of each rule the place of a rule that makes an error of it, where one was found
@@ -72,3 +72,13 @@ pub record ArePlaced (rules : List FlatRule) (group : List Placed) : Type 0 wher
   pub each : (a : Placed) → Contains group a → slice_get rules a.place ≡ Some a.rule.now
   pub all : (i : ℕ) (f : FlatRule) → slice_get rules i ≡ Some f → (a : Placed) × Contains group a × (a.place ≡ i) × (a.rule.now ≡ f)
   pub rise : Rises group
+
+-- the first place of which something holds
+abbrev pub IsFirst : (ℕ → Type 0) → Option ℕ → Type 0
+IsFirst P None = (i : ℕ) → P i → ⊥
+IsFirst P (Some i) = P i × ((k : ℕ) → P k → i ≤ k)
+
+-- for each rule of a list the first that makes an error of it
+pub record AreFirstMakers (check : Check) (rules : List FlatRule) (found : Found) : Type 0 where
+  pub long : length found ≡ length rules
+  pub each : (j : ℕ) (o : Option ℕ) → slice_get found j ≡ Some o → IsFirst (λ i. MakesAt check rules i j) o

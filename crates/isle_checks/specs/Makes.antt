@@ -1,5 +1,5 @@
 -- When a rule of a rule set makes an error of another one.
-use Rattle.std.specs.Prelude.{◌≡◌, ◌<◌, ◌<ℤ◌, ℕ, []}
+use Rattle.std.specs.Prelude.{◌≡◌, ◌<◌, ◌<ℤ◌, ℕ, List, [], IsSomeAnd, slice_get}
 use Rattle.isle_core.specs.declared.rule_sets.FlatRule.{FlatRule}
 use Rattle.isle_checks.specs.Bears.{Agree, AreAmong}
 use Rattle.isle_checks.specs.declared.placed.Check.{Check}
@@ -19,7 +19,15 @@ pub record Shadow (f g : FlatRule) : Type 0 where
   pub also_plain : g.equals ≡ []
   pub among : AreAmong f.constraints g.constraints
 
--- the first makes an error of the second
+-- the first makes an error of the second, at these places
+abbrev pub MakesOf : Check → ℕ → FlatRule → ℕ → FlatRule → Type 0
+MakesOf check.Overlaps i f j g = Overlap i f j g
+MakesOf check.Shadows i f j g = Shadow f g
+
+-- so of rules with their places
 abbrev pub Makes : Check → Placed → Placed → Type 0
-Makes check.Overlaps a b = Overlap a.place a.rule.now b.place b.rule.now
-Makes check.Shadows a b = Shadow a.rule.now b.rule.now
+Makes check a b = MakesOf check a.place a.rule.now b.place b.rule.now
+
+-- so of the rules of a list at these places
+abbrev pub MakesAt : Check → List FlatRule → ℕ → ℕ → Type 0
+MakesAt check rules i j = IsSomeAnd (slice_get rules i) (λ (f : FlatRule). IsSomeAnd (slice_get rules j) (λ (g : FlatRule). MakesOf check i f j g))

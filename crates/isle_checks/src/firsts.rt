@@ -1,8 +1,8 @@
 //! The first rule that makes an error of each rule.
 
-ghost use Rattle.std.specs.Prelude.{◌≡◌, ◌≤◌, ◌<◌, length, min, IfOk, OnOk};
+ghost use Rattle.std.specs.Prelude.{◌≡◌, ◌≤◌, ◌<◌, length, min, replicate, None, IfOk, OnOk};
 ghost use Rattle.isle_checks.specs.Sides.{Rises};
-ghost use Rattle.isle_checks.specs.Firsts.{earlier, ArePlaced, AreBelow, Finds, IsFirstMaker, NotesFirst};
+ghost use Rattle.isle_checks.specs.Firsts.{earlier, AreFirstMakers, ArePlaced, AreBelow, Finds, IsFirstMaker, NotesFirst};
 
 use crate::placed::{Check, Placed};
 use crate::splitter::{Parts, choose};
@@ -101,4 +101,29 @@ fn within<'a>(
     compare(check, parts.rest.as_slice(), group, found);
     compare(check, group, parts.rest.as_slice(), found);
     Ok(())
+}
+
+// As many places, of which none is found.
+fn none_found(alloc: Global, count: usize) -> Result<Vec<Option<usize>>, AllocError>
+    ensures { IfOk result (λ found. found.items ≡ replicate count None) }
+{
+    let mut found = Vec::new(alloc);
+    for _ in 0..count {
+        found.push(None)?;
+    }
+    Ok(found)
+}
+
+/// Finds for each rule the place of the first one that makes an error of it. The only error is want of memory.
+pub fn firsts(
+    alloc: Global,
+    check: Check,
+    rules: &[FlatRule],
+) -> Result<Vec<Option<usize>>, AllocError>
+    ensures { IfOk result (λ found. AreFirstMakers check rules.now found.items) }
+{
+    let group = placed(alloc, rules)?;
+    let mut found = none_found(alloc, rules.len())?;
+    within(alloc, check, group.as_slice(), &mut found)?;
+    Ok(found)
 }
