@@ -124,10 +124,7 @@ fn tallied(before: Option<&Tally>, constraint: Constraint) -> Tally {
 }
 
 // The constraints on each binding.
-fn tallies(
-    alloc: Global,
-    group: &[Placed<'_>],
-) -> Result<BTreeMap<BindingId, Tally>, AllocError> {
+fn tallies(alloc: Global, group: &[Placed<'_>]) -> Result<BTreeMap<BindingId, Tally>, AllocError> {
     let mut tallies = BTreeMap::new(alloc);
     for placed in group {
         for (binding, constraint) in placed.rule.constraints.as_slice() {

@@ -12,7 +12,9 @@ ghost use Rattle.isle_codegen.specs.Headline.{FunctionsMean};
 ghost use Rattle.isle_core.specs.LineStarts.{starts_of};
 
 use isle_blocks::serialize;
-use isle_core::{CodegenOptions, Files, LineStarts, List, OutOfMemory, RuleSet, TermEnv, TermId, TypeEnv};
+use isle_core::{
+    CodegenOptions, Files, LineStarts, List, OutOfMemory, RuleSet, TermEnv, TermId, TypeEnv,
+};
 use isle_emission::{Context, term_function, trait_fns};
 use isle_tree::{Function, Program, TraitFn};
 use std::alloc::Global;

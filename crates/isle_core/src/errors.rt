@@ -71,12 +71,7 @@ impl Error {
     }
 
     // The line that tells it.
-    fn line(
-        &self,
-        alloc: Global,
-        starts: &LineStarts,
-        files: &Files,
-    ) -> Result<String, OutOfMemory>
+    fn line(&self, alloc: Global, starts: &LineStarts, files: &Files) -> Result<String, OutOfMemory>
         requires table { starts.now ≡ map starts_of files.now.file_texts }
         requires placed { IsPlaced files.now self.now }
         ensures { IfOk result (λ text. string_bytes text ≡ error_line files.now self.now) }
