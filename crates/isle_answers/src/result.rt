@@ -8,7 +8,7 @@ ghost use Rattle.isle_answers.specs.HeadViews.{result_head_seen};
 use crate::form::ResultForm;
 use crate::words::is_reserved;
 use isle_core::{List, Text};
-use isle_lexer::{is_name, text_of};
+use isle_lexer::is_name;
 use isle_reading::{Fail, Tokens};
 use isle_values::{Written, parts, simple};
 use std::alloc::{AllocError, Global};
@@ -30,7 +30,7 @@ pub fn result_head_of(alloc: Global, word: &str) -> Result<Option<ResultHead>, A
     if is_reserved(word) || !is_name(word) {
         return Ok(None);
     }
-    Ok(Some(ResultHead::Made(text_of(alloc, word)?)))
+    Ok(Some(ResultHead::Made(Text::copied(alloc, word)?)))
 }
 
 // What a result's list is, by the word that is next.

@@ -43,10 +43,10 @@ pub fn callee_of(alloc: Global, word: &str) -> Result<Option<Callee>, AllocError
     ensures { IfOk result (λ callee. callee ≡ callee_of word.now) }
 {
     if let Some(name) = name_after(word, "C::") {
-        return Ok(Some(Callee::External(Text::new(String::from_str(alloc, name)?))));
+        return Ok(Some(Callee::External(Text::copied(alloc, name)?)));
     }
     if let Some(name) = name_after(word, "constructor_") {
-        return Ok(Some(Callee::Internal(Text::new(String::from_str(alloc, name)?))));
+        return Ok(Some(Callee::Internal(Text::copied(alloc, name)?)));
     }
     Ok(None)
 }

@@ -78,7 +78,7 @@ fn stored(alloc: Global) -> Result<Command, LineFail>
     ensures asks { IfOk result (λ c. asks Begin ≡ Some (seen_command c)) }
     ensures memory { IfErr result (λ e. e ≡ Memory) }
 {
-    let name = Text::new(String::from_str(alloc, "first.isle")?);
+    let name = Text::copied(alloc, "first.isle")?;
     Ok(Command::Compile {
         options: CodegenOptions::new(alloc),
         names: List::new(vec![in alloc; name]?),

@@ -42,10 +42,10 @@ fn source(alloc: Global, word: &str) -> Result<Option<Source>, AllocError>
     ensures { IfOk result (λ s. s ≡ source_of word.now) }
 {
     match after_unit(word) {
-        None => Ok(Some(Source::File(Text::new(String::from_str(alloc, word)?)))),
+        None => Ok(Some(Source::File(Text::copied(alloc, word)?))),
         Some(unit) => {
             if is_name(unit) {
-                Ok(Some(Source::Unit(Text::new(String::from_str(alloc, unit)?))))
+                Ok(Some(Source::Unit(Text::copied(alloc, unit)?)))
             } else {
                 Ok(None)
             }
@@ -83,7 +83,7 @@ pub fn term(
     if !is_name(word) {
         return Err(WordFail::Bad);
     }
-    let term = Text::new(String::from_str(alloc, word)?);
+    let term = Text::copied(alloc, word)?;
     Ok(State::Values(trace, options, source, term))
 }
 
@@ -147,7 +147,7 @@ pub fn answers(
     if !is_name(word) {
         return Err(WordFail::Bad);
     }
-    let answers = Some(Text::new(String::from_str(alloc, word)?));
+    let answers = Some(Text::copied(alloc, word)?);
     Ok(State::Whole(Command::Run {
         trace,
         options,

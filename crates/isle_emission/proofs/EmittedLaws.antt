@@ -7,7 +7,7 @@ use Rattle.isle_tree.specs.Program.{Program, Function}
 use Rattle.isle_tree.specs.WellFormed.{IsFunction}
 use Rattle.isle_emission.specs.Origin.{Origin, InSetting}
 use Rattle.isle_emission.specs.MayEmit.{MayEmit, MayEmitTerm}
-use Rattle.isle_emission.specs.EmittedTerm.{IsGiven, IsWellFormed, HasBlockShape, RunsAsItsBlock}
+use Rattle.isle_emission.specs.EmittedTerm.{IsGiven, IsWellFormedIn, HasBlockShape, RunsAsItsBlock}
 use Rattle.isle_simulation.specs.TermFunction.{term_function}
 use Rattle.isle_simulation.proofs.GivenFunctions.{emitted_well_formed, has_shape, runs_as_block}
 use Rattle.isle_simulation.proofs.Made.{function_made}
@@ -23,7 +23,7 @@ both : {A : Type 0} (o : Option A) (P Q R : A → Type 0) → ((x : A) → P x �
 both (Some x) P Q R f h k = f x h k
 both None P Q R f h k = absurd h
 
-pub is_well_formed : (o : Origin) (f : Function) → MayEmitTerm o → IsGiven o f → IsWellFormed o f
+pub is_well_formed : (o : Origin) (f : Function) → MayEmitTerm o → IsGiven o f → IsWellFormedIn o f
 is_well_formed o f h e p fns = one (slice_get o.env.terms o.id.0) h e
   where
     one : (t : Option Term) → IsSomeAnd t (λ u. MayEmit o.files (setting o.env u o.bindings) o.block) → IsSomeAnd t (λ u. term_function o.files (setting o.env u o.bindings) o.block ≡ Some f) → IsFunction p f

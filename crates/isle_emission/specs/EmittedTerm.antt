@@ -14,8 +14,8 @@ abbrev pub IsGiven : Origin → Function → Type 0
 IsGiven o f = InSetting o (λ (s : Setting). term_function o.files s o.block ≡ Some f)
 
 -- it is well formed in every program with the functions of the trait that the environment gives
-abbrev pub IsWellFormed : Origin → Function → Type 0
-IsWellFormed o f = (p : Program) → p.trait_fns ≡ trait_fns_of o.env → IsFunction p f
+abbrev pub IsWellFormedIn : Origin → Function → Type 0
+IsWellFormedIn o f = (p : Program) → p.trait_fns ≡ trait_fns_of o.env → IsFunction p f
 
 -- it has the shape of the block
 abbrev pub HasBlockShape : Origin → Function → Type 0

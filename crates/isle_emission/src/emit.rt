@@ -9,7 +9,7 @@ ghost use Rattle.isle_emission.specs.Built.{IsBuilt};
 ghost use Rattle.isle_core.specs.LineStarts.{starts_of};
 ghost use Rattle.isle_emission.specs.Origin.{origin};
 ghost use Rattle.isle_emission.specs.MayEmit.{MayEmitTerm};
-ghost use Rattle.isle_emission.specs.EmittedTerm.{IsGiven, IsWellFormed, HasBlockShape, RunsAsItsBlock};
+ghost use Rattle.isle_emission.specs.EmittedTerm.{IsGiven, IsWellFormedIn, HasBlockShape, RunsAsItsBlock};
 ghost use Rattle.isle_simulation.specs.TermFunction as TermFunction;
 
 use crate::context::{Context, kind_of};
@@ -71,7 +71,7 @@ pub fn emit_term(
     requires term { MayEmitTerm (origin files.now typeenv.now termenv.now term rules.now block.now) }
     requires options { IsBuilt options.now }
     ensures emitted { IfOk result (λ f. IsGiven (origin files.now typeenv.now termenv.now term rules.now block.now) (Views.function f)) }
-    ensures well_formed { IfOk result (λ f. IsWellFormed (origin files.now typeenv.now termenv.now term rules.now block.now) (Views.function f)) }
+    ensures well_formed { IfOk result (λ f. IsWellFormedIn (origin files.now typeenv.now termenv.now term rules.now block.now) (Views.function f)) }
     ensures shape { IfOk result (λ f. HasBlockShape (origin files.now typeenv.now termenv.now term rules.now block.now) (Views.function f)) }
     ensures run { IfOk result (λ f. RunsAsItsBlock (origin files.now typeenv.now termenv.now term rules.now block.now) (Views.function f)) }
 {

@@ -74,9 +74,9 @@ pub runs : (p : Program) (term : List ℕ) (args : List Value) (m : Meaning) (f 
 runs p term args m f well may =
     let is : IsFunction p f = found_function p term p.fns f well.fns may.found in
     let count : length args ≡ length f.params = named_length (type_names f.params) args may.typed ∙ length-map f.params (λ (ty : Ty). ty.name) in
-    let there : IsBodyScoped p.trait_fns f.kind (length args) [] f.body = subst (λ n. IsBodyScoped p.trait_fns f.kind n [] f.body) (sym count) is.found in
+    let scoped : IsBodyScoped p.trait_fns f.kind (length args) [] f.body = subst (λ n. IsBodyScoped p.trait_fns f.kind n [] f.body) (sym count) is.scoped in
     let around : Around = record { meaning = m; program = p; function = f; args = args; limit = None } in
-    let ends = function_ends p.trait_fns around f.kind f.body [] [] nothing_done is.forms there is.fits (answering p m f well.trait_fns may.right may.answered) tt in
+    let ends = function_ends p.trait_fns around f.kind f.body [] [] nothing_done is.forms scoped is.fits (answering p m f well.trait_fns may.right may.answered) tt in
     record {
       ran = record { end = ends.end; calls = ends.left.made };
       is = ap (function_run p m args) may.found ∙ ap ended ends.is;

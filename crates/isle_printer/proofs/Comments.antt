@@ -1,11 +1,10 @@
 -- Comment lines spell no token but comments.
 use Rattle.std.proofs.Common.{◌≡◌, ℕ, List, [], ◌∷◌, ◌++◌, Bool, true, false, cond, eqb, refl, sym, ap, ◌∙◌, append_assoc}
-use Rattle.std.specs.Prelude.{fold, filter}
+use Rattle.std.specs.Prelude.{fold}
 use Rattle.std.specs.List.{list_all}
 use Rattle.std.proofs.lemmas.Bool.{and_parts, and_from}
 use Rattle.isle_printer.specs.Token.{Token, Comment, Between, InComment, is_read, without_comments, begun, step, scan, finished, tokens_of}
 use Rattle.isle_printer.specs.Comment.{is_line, are_lines, comment_lines}
-use Rattle.isle_printer.proofs.Scans.{scan-append}
 use Rattle.isle_printer.proofs.After.{tokens-after}
 
 no_end : (x y : Bool) → cond x false y ≡ true → (x ≡ false) × (y ≡ true)

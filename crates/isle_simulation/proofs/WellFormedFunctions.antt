@@ -56,7 +56,7 @@ written_well_formed files env t bs b h k o fns p same =
       names = has_names env t body h;
       kind = kind_is kind h.once;
       forms = block_is b env t bs kind [] [] (tail_of kind name place b) fns k o (tail_is mark (ends_in_return b));
-      found = subst (λ (ts : List TraitFn). IsBodyScoped ts kind (length (map (parameter env) t.arg_tys)) [] body) (sym same)
+      scoped = subst (λ (ts : List TraitFn). IsBodyScoped ts kind (length (map (parameter env) t.arg_tys)) [] body) (sym same)
           (subst (λ n. IsBodyScoped (trait_fns_of env) kind n [] body) (sym (length-map t.arg_tys (parameter env)))
           (root_scoped b env t bs (tail_of kind name place b) fns h.once k o (λ locals. tail_scoped mark (ends_in_return b) (trait_fns_of env) kind (length t.arg_tys) locals)));
       fits = function_fits b env t bs name place h.once k o;

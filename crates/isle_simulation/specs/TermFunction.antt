@@ -1,5 +1,5 @@
 -- The function of a term.
-use Rattle.std.specs.Prelude.{ℕ, List, [], Bool, true, false, Option, Some, None, if◌then◌else◌, map, option_map, codes, slice_get, slice_index_or}
+use Rattle.std.specs.Prelude.{ℕ, List, [], Bool, true, false, Option, Some, None, if◌then◌else◌, map, option_map, codes, slice_get}
 use Rattle.isle_core.specs.declared.TypeId.{TypeId}
 use Rattle.isle_core.specs.declared.files.Files.{Files}
 use Rattle.isle_core.specs.declared.types.BuiltinType.TheVariants as builtin
@@ -12,11 +12,11 @@ use Rattle.isle_core.specs.declared.types.Term.{Term}
 use Rattle.isle_core.specs.Places.{place_in}
 use Rattle.isle_core.specs.Block.{Block, Stop, Step, Control, Match, Equal, Loop, Return}
 use Rattle.isle_core.specs.Calling.{kind_of}
-use Rattle.isle_core.specs.Terms.{sym_text}
+use Rattle.isle_core.specs.Terms.{symbol_text, sym_text}
 use Rattle.isle_core.specs.Rule.{Environment}
 use Rattle.isle_core.specs.Setting.{Setting}
 use Rattle.isle_tree.specs.declared.tree.Ty.{Ty}
-use Rattle.isle_spelling.specs.Literal.{type_name}
+use Rattle.isle_core.specs.Int.{type_name}
 use Rattle.isle_tree.specs.Program.{Tail, Body, Done, Then, Function}
 use Rattle.isle_simulation.specs.Statements.{block_body}
 
@@ -24,9 +24,9 @@ use Rattle.isle_simulation.specs.Statements.{block_body}
 abbrev pub def_text : TypeEnv → Option TypeDef → List ℕ
 def_text types (Some (def.Builtin builtin.Bool)) = codes "bool"
 def_text types (Some (def.Builtin (builtin.Int ty))) = type_name ty
-def_text types (Some (def.Primitive name rust pos)) = slice_index_or types.syms rust.0 []
-def_text types (Some (def.Enum name is_extern is_nodebug variants pos)) = slice_index_or types.syms name.0 []
-def_text types (Some (def.Struct name is_extern is_nodebug fields pos)) = slice_index_or types.syms name.0 []
+def_text types (Some (def.Primitive name rust pos)) = symbol_text types rust
+def_text types (Some (def.Enum name is_extern is_nodebug variants pos)) = symbol_text types name
+def_text types (Some (def.Struct name is_extern is_nodebug fields pos)) = symbol_text types name
 def_text types None = []
 
 -- the name of the type of this number

@@ -8,8 +8,8 @@ ghost use Rattle.isle_tree.specs.WellFormed.{IsFunction, IsWellFormed};
 
 use crate::fits::fits_function;
 use crate::names::{has_names, is_kind};
-use crate::shapes::is_body;
 use crate::scoped::is_body_scoped;
+use crate::shapes::is_body;
 use crate::trait_fns::are_trait_fns;
 use isle_core::OutOfMemory;
 use isle_scope::Table;

@@ -61,7 +61,7 @@ fn answers_text<D: Dir>(
 fn one_file(alloc: Global, name: &str, text: Text) -> Result<Files, OutOfMemory>
     ensures { IfOk result (λ files. files ≡ one_file name.now text) }
 {
-    let name = Text::new(String::from_str(alloc, name)?);
+    let name = Text::copied(alloc, name)?;
     Ok(Files {
         file_names: List::new(vec![in alloc; name]?),
         file_texts: List::new(vec![in alloc; text]?),

@@ -161,7 +161,7 @@ expr_holds fns params bound (expr.Variant ty variant fields) = None
 expr_holds fns params bound (expr.Struct ty fields) = None
 expr_holds fns params bound (expr.Tuple o n) = None
 
--- ---- each operand of a statement is there
+-- ---- each operand of a statement is in scope
 
 -- a return gives a value in kind Plain, and an option of one in kind Option; several answers are not built
 abbrev pub GivesKind : ReturnKind → Option Holds → Type 0
@@ -200,12 +200,13 @@ bound_after fns params (Log term place) bound = bound
 bound_after fns params (Split inside within) bound = bound
 bound_after fns params (Tail texts) bound = bound
 
--- a statement, and statements in order, of a function of the kind with this number of parameters; lists of answers, patterns, loops, logging
--- and closures are not built
+-- each operand of a statement, and of statements in order, is in scope and holds what is asked of it, in a function of the kind with this
+-- number of parameters; lists of answers, patterns, loops, logging and closures are not built
 abbrev mutual
   pub IsStmtScoped : List TraitFn → ReturnKind → ℕ → Locals → Stmt → Type 0
   IsStmtScoped fns kind params bound (Let n e) = IsSome (expr_holds fns params bound e)
-  IsStmtScoped fns kind params bound (IfEq a b inside) = IsTrue (is_value (operand_holds params bound a)) × IsTrue (is_value (operand_holds params bound b)) × IsBodyScoped fns kind params bound inside
+  IsStmtScoped fns kind params bound (IfEq a b inside) =
+      IsTrue (is_value (operand_holds params bound a)) × IsTrue (is_value (operand_holds params bound b)) × IsBodyScoped fns kind params bound inside
   IsStmtScoped fns kind params bound (Return e) = GivesKind kind (expr_holds fns params bound e)
   IsStmtScoped fns kind params bound (Tail texts) = Unit {0}
   IsStmtScoped fns kind params bound (LetList n call) = ⊥
@@ -344,7 +345,7 @@ pub record IsFunction (p : Program) (f : Function) : Type 0 where
   pub names : HasNames f
   pub kind : IsKind f.kind
   pub forms : IsBody f.body
-  pub found : IsBodyScoped p.trait_fns f.kind (length f.params) [] f.body
+  pub scoped : IsBodyScoped p.trait_fns f.kind (length f.params) [] f.body
   pub fits : FitsFunction f.kind f.body
 
 -- the terms of the functions
