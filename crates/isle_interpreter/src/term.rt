@@ -11,8 +11,8 @@ ghost use Rattle.isle_interpreter.specs.Refusals.{IsRefused};
 ghost use Rattle.isle_interpreter.specs.declared.run_error.RunError.{RunError};
 ghost use Rattle.isle_interpreter.specs.declared.run_error.RunError.TheVariants.{Memory};
 
-use crate::fitting::run_fitting;
 use crate::entries::try_entries;
+use crate::fitting::run_fitting;
 use crate::run_error::RunError;
 use crate::taking::taking;
 use isle_core::{Answers, Outcome, Value};

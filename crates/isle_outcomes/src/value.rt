@@ -22,7 +22,10 @@ pub fn copied(alloc: Global, given: &Value) -> Result<Value, AllocError>
         Value::Variant(ty, variant, fields) => {
             let mut copies = Vec::new(alloc);
             for field in fields.as_slice() {
-                copies.push((Text::copied(alloc, field.0.as_str())?, copied(alloc, &field.1)?))?;
+                copies.push((
+                    Text::copied(alloc, field.0.as_str())?,
+                    copied(alloc, &field.1)?,
+                ))?;
             }
             let ty = Text::copied(alloc, ty.as_str())?;
             let variant = Text::copied(alloc, variant.as_str())?;
@@ -31,7 +34,10 @@ pub fn copied(alloc: Global, given: &Value) -> Result<Value, AllocError>
         Value::Struct(ty, fields) => {
             let mut copies = Vec::new(alloc);
             for field in fields.as_slice() {
-                copies.push((Text::copied(alloc, field.0.as_str())?, copied(alloc, &field.1)?))?;
+                copies.push((
+                    Text::copied(alloc, field.0.as_str())?,
+                    copied(alloc, &field.1)?,
+                ))?;
             }
             Ok(Value::Struct(Text::copied(alloc, ty.as_str())?, List::new(copies)))
         }

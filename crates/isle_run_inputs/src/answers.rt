@@ -14,9 +14,7 @@ ghost use Rattle.isle_run_inputs.specs.AnswersAt.{result_at, answer_at, turns_at
 use crate::answer_types::AnswerTypes;
 use crate::value::value_at_any;
 use isle_answers::{AnswerForm, Form, ResultForm};
-use isle_core::{
-    Answer, Answers, List, OutOfMemory, TermEnv, TurnAnswers, TypeEnv, TypeId, Value,
-};
+use isle_core::{Answer, Answers, List, OutOfMemory, TermEnv, TurnAnswers, TypeEnv, TypeId, Value};
 use std::alloc::{AllocError, Global};
 
 // A result at the type of what its callee answers.

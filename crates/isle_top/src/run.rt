@@ -40,7 +40,7 @@ pub fn run_words<D: Dir, O: Sink, E: Sink>(
     // Each other status has its cause, and its line on `err`; at status 0 nothing stands there.
     ensures says { let wrote = Wrote (E.taken err.old) (E.taken err.new) (E.faults err.old) (E.faults err.new) in
         Says (Asks (bytes_each words.now)) (IsNoLine (bytes_each words.now) wrote) (D.files dir.old) (D.counts dir.old) (D.counts dir.new)
-            (E.taken err.new ≡ E.taken err.old) wrote result.0 }
+        (E.taken err.new ≡ E.taken err.old) wrote result.0 }
 
     // Words that are no line end in 2, a line that is not built in 14; or with 12, want of memory.
     ensures no_line { ((request : Request) → LineS (bytes_each words.now) request → ⊥) → (result.0 ≡ 2) ⊎ (result.0 ≡ 12) }
@@ -101,7 +101,7 @@ fn run_command<D: Dir, O: Sink, E: Sink>(
     ensures untouched { result.0 ≢ 0 → result.0 ≢ 11 → O.taken out.new ≡ O.taken out.old }
     ensures says { let wrote = Wrote (E.taken err.old) (E.taken err.new) (E.faults err.old) (E.faults err.new) in
         Says (λ a. a ≡ seen_command request.now) ⊥ (D.files dir.old) (D.counts dir.old) (D.counts dir.new)
-            (E.taken err.new ≡ E.taken err.old) wrote result.0 }
+        (E.taken err.new ≡ E.taken err.old) wrote result.0 }
     ensures not_built { (IsBuilt (seen_command request.now) → ⊥) → result.0 ≡ 14 }
     ensures untried { (IsBuilt (seen_command request.now) → ⊥) → D.counts dir.new ≡ D.counts dir.old }
     ensures complete { IsSomeAnd (D.files dir.old) (IsValidLine (seen_command request.now))
