@@ -14,7 +14,7 @@ use Rattle.isle_sema.specs.Collected.{AreCollected}
 use Rattle.isle_sema.specs.Environment.{types_of}
 use Rattle.isle_sema.specs.Signatures.{RuleDef, rule_defs}
 use Rattle.isle_sema.specs.Language.{is_built_pattern, are_none, is_built_expr, is_built_def}
-use Rattle.isle_sema.specs.Forms.{is_built_form}
+use Rattle.isle_sema.specs.BuiltForm.{is_built_form}
 use Rattle.isle_sema.specs.Tests.{binds_twice}
 
 pub both : {b : Bool} → b ≡ true → b ≡ false → ⊥

@@ -42,18 +42,18 @@ new_parts before first (name ∷ names) absent h =
     let rest = new_parts before first names absent h.1 in
     ((here.0, rest.0), (here.1, rest.1))
 
-distinct_behind : (before names : List (List ℕ)) → repeats_after before names ≡ false → IsDistinct bytes_eq names × AreNew before names
+distinct_after : (before names : List (List ℕ)) → repeats_after before names ≡ false → IsDistinct bytes_eq names × AreNew before names
 unfolding IsDistinct AreNew AreOther
-distinct_behind before [] h = (tt, tt)
-distinct_behind before (name ∷ names) h =
+distinct_after before [] h = (tt, tt)
+distinct_after before (name ∷ names) h =
     let k = or_parts (is_some (index_of before name)) (repeats_after (before ++ name ∷ []) names) h in
-    let rest = distinct_behind (before ++ name ∷ []) names k.1 in
+    let rest = distinct_after (before ++ name ∷ []) names k.1 in
     let apart = new_parts before name names (none_of (index_of before name) k.0) rest.1 in
     ((apart.0, rest.0), (k.0, apart.1))
 
 -- names that don't repeat are distinct
 pub distinct_names : (names : List (List ℕ)) → repeats names ≡ false → IsDistinct bytes_eq names
-distinct_names names h = (distinct_behind [] names h).0
+distinct_names names h = (distinct_after [] names h).0
 
 -- ---- a name stands at its place
 
@@ -80,8 +80,8 @@ pub kept : (more names : List (List ℕ)) (name : List ℕ) (n : ℕ) → index_
 kept [] names name n e = e
 kept (other ∷ more) names name n e = kept more (added names other) name n (stays_at (is_some (index_of names other)) names other name n e)
 
-among_behind : (names : List (List ℕ)) (d : Def) (defs : List Def) → AreAmong (fold added (fold added names (def_names d)) (flat_map def_names defs)) (signatures defs) → AreAmong (fold added names (flat_map def_names (d ∷ defs))) (signatures defs)
-among_behind names d defs h = subst (λ ns. AreAmong ns (signatures defs)) (sym (fold-append added names (def_names d) (flat_map def_names defs))) h
+among_after : (names : List (List ℕ)) (d : Def) (defs : List Def) → AreAmong (fold added (fold added names (def_names d)) (flat_map def_names defs)) (signatures defs) → AreAmong (fold added names (flat_map def_names (d ∷ defs))) (signatures defs)
+among_after names d defs h = subst (λ ns. AreAmong ns (signatures defs)) (sym (fold-append added names (def_names d) (flat_map def_names defs))) h
 
 declared_here : (names : List (List ℕ)) (term : List ℕ) (more : List (List ℕ)) → (n : ℕ) × (index_of (fold added names (term ∷ more)) term ≡ Some n)
 declared_here names term more = let m = met names term in (m.0, kept more (added names term) term m.0 m.1)
@@ -91,14 +91,14 @@ unfolding AreAmong
 are_among [] names = tt
 are_among (tree.Decl term pure multi partial recursive args ret pos ∷ defs) names =
     let d = tree.Decl term pure multi partial recursive args ret pos in
-    (declared_here names term ((args ++ ret ∷ []) ++ flat_map def_names defs), among_behind names d defs (are_among defs (fold added names (def_names d))))
+    (declared_here names term ((args ++ ret ∷ []) ++ flat_map def_names defs), among_after names d defs (are_among defs (fold added names (def_names d))))
 are_among (tree.Rule name prio term args iflets rhs pos ∷ defs) names =
     let d = tree.Rule name prio term args iflets rhs pos in
-    among_behind names d defs (are_among defs (fold added names (def_names d)))
+    among_after names d defs (are_among defs (fold added names (def_names d)))
 are_among (tree.TypeDecl name is_extern is_nodebug body pos ∷ defs) names = are_among defs names
 are_among (tree.ExternConstructor term func pos ∷ defs) names =
     let d = tree.ExternConstructor term func pos in
-    among_behind names d defs (are_among defs (fold added names (def_names d)))
+    among_after names d defs (are_among defs (fold added names (def_names d)))
 are_among (tree.ExternExtractor term func infallible pos ∷ defs) names = are_among defs names
 are_among (tree.ExternConst name ty pos ∷ defs) names = are_among defs names
 are_among (tree.Extractor term params template pos ∷ defs) names = are_among defs names

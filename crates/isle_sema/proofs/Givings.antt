@@ -23,7 +23,7 @@ use Rattle.isle_sema.specs.declared.tables.Tables.{Tables}
 use Rattle.isle_sema.specs.Collected.{signature, extern, rule, AreCollected}
 use Rattle.isle_sema.specs.Elaborated.{term_of}
 use Rattle.isle_sema.specs.Known.{AreKnown}
-use Rattle.isle_sema.specs.Forms.{is_built_form}
+use Rattle.isle_sema.specs.BuiltForm.{is_built_form}
 use Rattle.isle_sema.specs.RulePass.{rules_pass}
 use Rattle.isle_sema.specs.Fault.{OfTypes, OfTerms, OfExtractors, OfRules, or_later, fault_in}
 use Rattle.isle_sema.specs.Environment.{types_of, whole_of, env_over, terms_pass}

@@ -6,7 +6,7 @@ pub mod Parts
 pub mod SymbolLaws
 pub mod Sees
 pub mod MetVariables
-pub mod Forms
+pub mod FormSteps
 pub mod Interned
 pub mod TypedConstants
 pub mod BoundVariables

@@ -14,7 +14,7 @@ use Rattle.isle_sema.specs.Repeats.{repeats_after}
 use Rattle.isle_sema.specs.Numbered.{place_of, repeat_after, repeat_numbers, place_in, joined, ArePlaces, HasPlaces, AreNumbered}
 use Rattle.isle_sema.specs.Tables.{IsTable}
 use Rattle.isle_sema.proofs.DeclaredNames.{stands, kept}
-use Rattle.isle_sema.proofs.PlaceLaws.{or_at, behind_first}
+use Rattle.isle_sema.proofs.PlaceLaws.{or_at, after_first}
 
 -- ---- the number of a name
 
@@ -113,7 +113,7 @@ numbered_table syms names ns (Some table) h t = record { apart = sym (numbered_r
 
 place_end : (ns : List ℕ) (n k : ℕ) → place_of (ns ++ n ∷ []) k ≡ or_at (place_of ns k) (n == k) (length ns)
 place_end [] n k = refl
-place_end (first ∷ ns) n k = behind_first (first == k) (n == k) (place_of ns k) (place_of (ns ++ n ∷ []) k) (length ns) (place_end ns n k)
+place_end (first ∷ ns) n k = after_first (first == k) (n == k) (place_of ns k) (place_of (ns ++ n ∷ []) k) (length ns) (place_end ns n k)
 
 set_got : (table : List (Option ℕ)) (n k place : ℕ) (b : Bool) → n == k ≡ b → n < length table → k < length table → slice_get (set table n (Some place)) k ≡ cond b (Some (Some place)) (slice_get table k)
 set_got table n k place true e l m =

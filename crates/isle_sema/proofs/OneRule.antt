@@ -25,22 +25,22 @@ use Rattle.isle_sema.proofs.BoundVariables.{index_stays, none_of}
 same_first : (first : List ℕ) (names : List (List ℕ)) (x y : List ℕ) (n : ℕ) (is_x is_y : Bool) → bytes_eq first x ≡ is_x → bytes_eq first y ≡ is_y → ((m : ℕ) → index_of names x ≡ Some m → index_of names y ≡ Some m → x ≡ y)
     → cond is_x (Some 0) (option_map (λ (k : ℕ). k + 1) (index_of names x)) ≡ Some n → cond is_y (Some 0) (option_map (λ (k : ℕ). k + 1) (index_of names y)) ≡ Some n → x ≡ y
 same_first first names x y n true true e f h p q = sym ((bytes_eq-Decides first x).0 e) ∙ (bytes_eq-Decides first y).0 f
-same_first first names x y n true false e f h p q = behind (index_of names y) q
+same_first first names x y n true false e f h p q = after (index_of names y) q
   where
-    behind : (o : Option ℕ) → option_map (λ (k : ℕ). k + 1) o ≡ Some n → x ≡ y
-    behind None q = cc
-    behind (Some m) q = let zero_is : 0 ≡ n = cc in let more_is : m + 1 ≡ n = cc in absurd (omega arith)
-same_first first names x y n false true e f h p q = behind (index_of names x) p
+    after : (o : Option ℕ) → option_map (λ (k : ℕ). k + 1) o ≡ Some n → x ≡ y
+    after None q = cc
+    after (Some m) q = let zero_is : 0 ≡ n = cc in let more_is : m + 1 ≡ n = cc in absurd (omega arith)
+same_first first names x y n false true e f h p q = after (index_of names x) p
   where
-    behind : (o : Option ℕ) → option_map (λ (k : ℕ). k + 1) o ≡ Some n → x ≡ y
-    behind None p = cc
-    behind (Some m) p = let zero_is : 0 ≡ n = cc in let more_is : m + 1 ≡ n = cc in absurd (omega arith)
-same_first first names x y n false false e f h p q = behind (index_of names x) (index_of names y) refl refl p q
+    after : (o : Option ℕ) → option_map (λ (k : ℕ). k + 1) o ≡ Some n → x ≡ y
+    after None p = cc
+    after (Some m) p = let zero_is : 0 ≡ n = cc in let more_is : m + 1 ≡ n = cc in absurd (omega arith)
+same_first first names x y n false false e f h p q = after (index_of names x) (index_of names y) refl refl p q
   where
-    behind : (o r : Option ℕ) → index_of names x ≡ o → index_of names y ≡ r → option_map (λ (k : ℕ). k + 1) o ≡ Some n → option_map (λ (k : ℕ). k + 1) r ≡ Some n → x ≡ y
-    behind None r i j p q = cc
-    behind (Some m) None i j p q = cc
-    behind (Some m) (Some l) i j p q = let first_is : m + 1 ≡ n = cc in let second_is : l + 1 ≡ n = cc in let same : l ≡ m = omega arith in h m i (j ∙ ap Some same)
+    after : (o r : Option ℕ) → index_of names x ≡ o → index_of names y ≡ r → option_map (λ (k : ℕ). k + 1) o ≡ Some n → option_map (λ (k : ℕ). k + 1) r ≡ Some n → x ≡ y
+    after None r i j p q = cc
+    after (Some m) None i j p q = cc
+    after (Some m) (Some l) i j p q = let first_is : m + 1 ≡ n = cc in let second_is : l + 1 ≡ n = cc in let same : l ≡ m = omega arith in h m i (j ∙ ap Some same)
 
 same_name : (names : List (List ℕ)) (x y : List ℕ) (n : ℕ) → index_of names x ≡ Some n → index_of names y ≡ Some n → x ≡ y
 same_name [] x y n e f = cc

@@ -1,4 +1,4 @@
--- The first place of each name, behind one more.
+-- The first place of each name, after one more is added.
 use Rattle.std.proofs.Common.{◌≡◌, ℕ, suc, ◌+◌, Bool, true, false, cond, List, [], ◌∷◌, ◌++◌, length, Option, Some, None, refl, sym, ap, ◌∙◌, arith, subst}
 use Rattle.std.specs.Prelude.{option_map, is_some}
 use Rattle.std.specs.Str.{bytes_eq}
@@ -22,15 +22,15 @@ or_later : (here : Bool) (end : ℕ) → option_map (λ (n : ℕ). n + 1) (cond 
 or_later true end = ap Some (omega arith)
 or_later false end = refl
 
-pub behind_first : (first here : Bool) (o rest : Option ℕ) (end : ℕ) → rest ≡ or_at o here end
+pub after_first : (first here : Bool) (o rest : Option ℕ) (end : ℕ) → rest ≡ or_at o here end
     → cond first (Some 0) (option_map (λ (n : ℕ). n + 1) rest) ≡ or_at (cond first (Some 0) (option_map (λ (n : ℕ). n + 1) o)) here (suc end)
-behind_first true here o rest end h = refl
-behind_first false here (Some n) rest end h = ap (option_map (λ (n : ℕ). n + 1)) h
-behind_first false here None rest end h = ap (option_map (λ (n : ℕ). n + 1)) h ∙ or_later here end
+after_first true here o rest end h = refl
+after_first false here (Some n) rest end h = ap (option_map (λ (n : ℕ). n + 1)) h
+after_first false here None rest end h = ap (option_map (λ (n : ℕ). n + 1)) h ∙ or_later here end
 
 at_end : (names : List (List ℕ)) (new name : List ℕ) → index_of (names ++ new ∷ []) name ≡ or_at (index_of names name) (bytes_eq new name) (length names)
 at_end [] new name = refl
-at_end (first ∷ names) new name = behind_first (bytes_eq first name) (bytes_eq new name) (index_of names name) (index_of (names ++ new ∷ []) name) (length names) (at_end names new name)
+at_end (first ∷ names) new name = after_first (bytes_eq first name) (bytes_eq new name) (index_of names name) (index_of (names ++ new ∷ []) name) (length names) (at_end names new name)
 
 -- one that is not is placed at the end
 pub places_added : (names : List (List ℕ)) (old new : BTreeMap (Bor (List ℕ)) ℕ) (key : Bor (List ℕ)) (place : ℕ) → FindsFirst names old → at_name old key.now ≡ None → place ≡ length names

@@ -46,9 +46,9 @@ held I64 z = SFits-int_wrap w64 z
 held I128 z = SFits-int_wrap w128 z
 held ISize z = SFits-int_wrap w64 z
 
--- ---- the types behind bool
+-- ---- the types after bool
 
--- the types behind bool
+-- the types after bool
 integers : List TypeDef
 integers =
     Builtin (Int U8) ∷ Builtin (Int U16) ∷ Builtin (Int U32) ∷ Builtin (Int U64) ∷ Builtin (Int U128) ∷ Builtin (Int USize)

@@ -60,8 +60,8 @@ variable_typed defs allowed ty ps tys x (Some of) e h = (refl, bound_in ps tys [
 -- ---- a call
 
 first_is : (first : Signature) (name : List ℕ) (s : Signature) (b : Bool) (rest : Option Signature) → bytes_eq first.term name ≡ b → (rest ≡ Some s → s.term ≡ name) → cond b (Some first) rest ≡ Some s → s.term ≡ name
-first_is first name s true rest same behind e = ap (λ (x : Signature). x.term) (sym (same_Some first s e)) ∙ (bytes_eq-Decides first.term name).0 same
-first_is first name s false rest same behind e = behind e
+first_is first name s true rest same others e = ap (λ (x : Signature). x.term) (sym (same_Some first s e)) ∙ (bytes_eq-Decides first.term name).0 same
+first_is first name s false rest same others e = others e
 
 -- a declaration that is found is of the name
 pub named_is : (sigs : List Signature) (name : List ℕ) (s : Signature) → signature_named sigs name ≡ Some s → s.term ≡ name

@@ -20,7 +20,7 @@ use Rattle.isle_sema.proofs.Trees as elaborated
 use Rattle.isle_sema.specs.Symbols.{index_of, pattern_names, symbols}
 use Rattle.isle_sema.specs.Signatures.{Signature, RuleDef, signatures, externs, rule_defs, term_named, func_named, signature_named}
 use Rattle.isle_sema.specs.Elaborated.{type_of, term_of}
-use Rattle.isle_sema.proofs.Trees.{pattern_at, vars_behind, patterns_at, term_or, rule_over, rules_from}
+use Rattle.isle_sema.proofs.Trees.{pattern_at, vars_after, patterns_at, term_or, rule_over, rules_from}
 use Rattle.isle_sema.proofs.RightSides.{calls_external, calls_partial}
 use Rattle.isle_sema.specs.Repeats.{repeats}
 use Rattle.isle_sema.proofs.Wrong.{is_misplaced, any_misplaced, typed_vars, is_wrong, is_rhs_wrong, is_too_large, breaks, rules_fault, has_fault}
@@ -57,7 +57,7 @@ args_typed defs [] ps vars same h = tt
 args_typed defs (name ∷ names) [] vars same h = absurd (omega arith)
 args_typed defs (name ∷ names) (p ∷ ps) vars same h =
     let k = or_parts (is_misplaced p (type_of name)) (any_misplaced ps (map type_of names)) h in
-    (pattern_typed defs name p vars k.0, args_typed defs names ps (vars_behind p vars) (omega arith) k.1)
+    (pattern_typed defs name p vars k.0, args_typed defs names ps (vars_after p vars) (omega arith) k.1)
 
 -- ---- a rule that breaks nothing
 

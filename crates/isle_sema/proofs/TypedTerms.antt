@@ -10,6 +10,7 @@ use Rattle.isle_core.specs.declared.types.Term.{Term}
 use Rattle.isle_core.specs.declared.types.TermKind.TheVariants as kind
 use Rattle.isle_core.specs.declared.types.ConstructorKind.{ConstructorKind}
 use Rattle.isle_core.specs.declared.types.ExtractorKind.TheVariants as extractor
+use Rattle.isle_core.specs.BuiltinType.{IsBuiltinDef, IsBuiltinType}
 use Rattle.isle_core.specs.Rule.{Environment}
 use Rattle.isle_core.specs.Terms.{sym_text, term_ids, has_rules, with_rules}
 use Rattle.isle_core.proofs.Contained.{head_contained, tail_contained}
@@ -17,7 +18,7 @@ use Rattle.isle_syntax.specs.Tree as tree
 use Rattle.isle_syntax.specs.Tree.{Def}
 use Rattle.isle_syntax.specs.Positions.{place_of}
 use Rattle.isle_sema.specs.Symbols.{symbols}
-use Rattle.isle_sema.specs.Builtins.{builtins, IsBuiltinDef, IsBuiltinType}
+use Rattle.isle_sema.specs.Builtins.{builtins}
 use Rattle.isle_sema.specs.Signatures.{Signature, signatures, externs, rule_defs, func_named, has_rule}
 use Rattle.isle_sema.specs.Elaborated.{type_of, constructor_of, term_of}
 use Rattle.isle_sema.specs.Heads.{terms_of}

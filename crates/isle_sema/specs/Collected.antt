@@ -26,17 +26,23 @@ rule r = record { name = option_map (λ n. n.now) r.name; prio = r.prio; term = 
 -- the declaration that an item is
 abbrev pub item_signatures : Item → List CodeSignature
 item_signatures (item.Declared s) = s ∷ []
-item_signatures i = []
+item_signatures (item.External x) = []
+item_signatures (item.Rule r) = []
+item_signatures item.Other = []
 
 -- the external constructor that it is
 abbrev pub item_externs : Item → List CodeExtern
+item_externs (item.Declared s) = []
 item_externs (item.External x) = x ∷ []
-item_externs i = []
+item_externs (item.Rule r) = []
+item_externs item.Other = []
 
 -- the rule that it is
 abbrev pub item_rules : Item → List CodeRule
+item_rules (item.Declared s) = []
+item_rules (item.External x) = []
 item_rules (item.Rule r) = r ∷ []
-item_rules i = []
+item_rules item.Other = []
 
 -- the numbers of the names are those among these symbols
 pub record HaveNumbers (syms : List (List ℕ)) (sigs : List CodeSignature) (xs : List CodeExtern) (rules : List CodeRule) : Type 0 where

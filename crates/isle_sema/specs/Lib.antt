@@ -29,7 +29,7 @@ pub mod SerializableRule
 pub mod Numbered
 pub mod Known
 pub mod Tables
-pub mod Forms
+pub mod BuiltForm
 pub mod Tests
 pub mod Judging
 pub mod Taken

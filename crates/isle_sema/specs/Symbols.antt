@@ -2,7 +2,7 @@
 use Rattle.std.specs.Prelude.{ℕ, ◌+◌, List, [], ◌∷◌, ◌++◌, Option, Some, None, if◌then◌else◌, is_some, fold, flat_map, option_map, option_to_list}
 use Rattle.std.specs.Str.{bytes_eq}
 use Rattle.isle_core.specs.declared.Sym.{Sym}
-use Rattle.isle_syntax.specs.Tree.{Pattern, Expr, Exprs, NoExpr, AnExpr, Def, Decl, ExternConstructor, Rule}
+use Rattle.isle_syntax.specs.Tree.{Pattern, Expr, Exprs, NoExpr, AnExpr, Def, TypeDecl, Decl, ExternConstructor, ExternExtractor, ExternConst, Extractor, Converter, Rule, Passed}
 use Rattle.isle_syntax.specs.Tree as tree
 
 -- the first place of a name
@@ -17,14 +17,23 @@ added names name = if is_some (index_of names name) then names else names ++ nam
 -- the names in a pattern; of a pattern of parts none is built
 abbrev pub pattern_names : Pattern → List (List ℕ)
 pattern_names (tree.Var name) = name ∷ []
-pattern_names p = []
+pattern_names (tree.Int n) = []
+pattern_names (tree.Truth b) = []
+pattern_names (tree.Const name) = []
+pattern_names tree.Wildcard = []
+pattern_names (tree.Bind name p) = []
+pattern_names (tree.And ps) = []
+pattern_names (tree.Term name ps) = []
 
 -- the names in an expression, a call's own before those of its arguments; of a `let` none is built
 abbrev mutual
   pub expr_names : Expr → List (List ℕ)
   expr_names (tree.Name name) = name ∷ []
   expr_names (tree.Call name es) = name ∷ exprs_names es
-  expr_names e = []
+  expr_names (tree.Number n) = []
+  expr_names (tree.Fact b) = []
+  expr_names (tree.Constant name) = []
+  expr_names (tree.Let ls inner) = []
 
   pub exprs_names : Exprs → List (List ℕ)
   exprs_names NoExpr = []
@@ -35,7 +44,12 @@ abbrev pub def_names : Def → List (List ℕ)
 def_names (Decl term pure multi partial recursive args ret pos) = term ∷ args ++ ret ∷ []
 def_names (ExternConstructor term func pos) = term ∷ func ∷ []
 def_names (Rule name prio term args iflets rhs pos) = option_to_list name ++ term ∷ flat_map pattern_names args ++ expr_names rhs
-def_names d = []
+def_names (TypeDecl name is_extern is_nodebug body pos) = []
+def_names (ExternExtractor term func infallible pos) = []
+def_names (ExternConst name ty pos) = []
+def_names (Extractor term params template pos) = []
+def_names (Converter from to term pos) = []
+def_names (Passed head items pos) = []
 
 -- the symbols of definitions
 abbrev pub symbols : List Def → List (List ℕ)

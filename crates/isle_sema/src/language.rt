@@ -4,7 +4,7 @@ ghost use Rattle.std.specs.Prelude.{◌≡◌, map};
 ghost use Rattle.std.specs.List.{list_all};
 ghost use Rattle.isle_syntax.specs.Views.{pattern, expr, exprs_of, iflet, def, defs as seen};
 ghost use Rattle.isle_sema.specs.Language.{is_built_pattern, is_built_expr, are_built_exprs};
-ghost use Rattle.isle_sema.specs.Forms.{is_built_form};
+ghost use Rattle.isle_sema.specs.BuiltForm.{is_built_form};
 
 use isle_syntax::{AstExpr, AstPattern, Def};
 

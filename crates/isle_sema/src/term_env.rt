@@ -11,7 +11,7 @@ ghost use Rattle.isle_sema.specs.Known.{AreKnown};
 ghost use Rattle.isle_sema.specs.Language.{is_built_def};
 ghost use Rattle.isle_sema.specs.Numbered.{AreNumbered};
 ghost use Rattle.isle_sema.specs.Environment.{whole_of};
-ghost use Rattle.isle_sema.specs.Taken.{taken_rules, Gives};
+ghost use Rattle.isle_sema.specs.Taken.{taken_rules, IsTermEnvOf};
 ghost use Rattle.isle_sema.specs.Tests.{has_undeclared, is_headless};
 ghost use Rattle.isle_sema.specs.Tables.{HasTables};
 
@@ -85,7 +85,7 @@ fn rules_of(
 pub fn term_env(alloc: Global, defs: &[Def], d: &Definitions) -> Result<Option<TermEnv>, AllocError>
     requires built { list_all is_built_def (seen defs.now) ≡ true }
     requires collected { AreCollected (seen defs.now) d.now.symbols d.now.signatures.items d.now.externs.items d.now.rules.items }
-    ensures { IfOk result (λ found. Gives (seen defs.now) found) }
+    ensures { IfOk result (λ found. IsTermEnvOf (seen defs.now) found) }
 {
     if are_misdeclared(d.signatures.as_slice()) {
         return Ok(None);

@@ -8,6 +8,6 @@ use Rattle.isle_sema.proofs.interning.intern_rule.Goals as goal
 pub returns-clause-number : goal.returns-clause-number
 returns-clause-number c =
     let at : index_of c.intern.new.self c.args.term.now ≡ Some c.in_ok-number.number = search rules in
-    let behind : index_of c.intern_patterns.new.names c.args.term.now ≡ Some c.in_ok-number.number =
+    let after : index_of c.intern_patterns.new.names c.args.term.now ≡ Some c.in_ok-number.number =
     stays_numbered (flat_map pattern_names (map pattern c.args.args.now)) c.intern.new.self c.intern_patterns.new.names c.args.term.now c.in_ok-number.number c.in_ok-intern_patterns.ensures at in
-    stays_numbered (expr_names (expr c.args.rhs.now)) c.intern_patterns.new.names c.intern_expr.new.names c.args.term.now c.in_ok-number.number c.in_ok-intern_expr.ensures behind
+    stays_numbered (expr_names (expr c.args.rhs.now)) c.intern_patterns.new.names c.intern_expr.new.names c.args.term.now c.in_ok-number.number c.in_ok-intern_expr.ensures after

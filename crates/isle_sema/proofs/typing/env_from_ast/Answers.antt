@@ -4,10 +4,10 @@ use Rattle.isle_core.specs.RuleViews.{environment}
 use Rattle.isle_core.specs.declared.types.TypeEnv.{TypeEnv}
 use Rattle.isle_syntax.specs.Views.{defs as seen}
 use Rattle.isle_sema.specs.Collected.{rule}
-use Rattle.isle_sema.specs.Forms.{is_built_form}
+use Rattle.isle_sema.specs.BuiltForm.{is_built_form}
 use Rattle.isle_sema.specs.Tests.{binds_twice}
 use Rattle.isle_sema.specs.Typing.{Typed}
-use Rattle.isle_sema.specs.Taken.{Gives}
+use Rattle.isle_sema.specs.Taken.{IsTermEnvOf}
 use Rattle.isle_sema.proofs.BuiltForms.{types_from, built_from}
 use Rattle.isle_sema.proofs.Givings.{unformed_untyped, twice_untyped}
 use Rattle.isle_sema.proofs.TypedOnce.{typed_only}
@@ -33,12 +33,12 @@ term_env-requires-clause-built c =
 
 pub returns-in-Some-clause-ok : goal.returns-in-Some-clause-ok
 returns-in-Some-clause-ok c =
-    let given : Gives (seen c.args.defs.now) (Some c.in-Some.terms) = search rules in
+    let given : IsTermEnvOf (seen c.args.defs.now) (Some c.in-Some.terms) = search rules in
     typed_only (subst (λ (types : TypeEnv). Typed (seen c.args.defs.now) (environment types c.in-Some.terms))
     (sym (c.in_ok-types_over-in-Some.ensures ∙ types_from (seen c.args.defs.now) c.in_ok-collected.collected.symbols c.in_ok-collected.collected.signatures.items c.in_ok-collected.collected.externs.items c.in_ok-collected.collected.rules.items c.in_ok-collected.ensures)) given)
 
 pub returns-clause-not_yet : goal.returns-clause-not_yet
 returns-clause-not_yet c =
     λ e env t.
-    let none : Gives (seen c.args.defs.now) None = search rules in
+    let none : IsTermEnvOf (seen c.args.defs.now) None = search rules in
     none env t

@@ -2,7 +2,7 @@ use Rattle.std.proofs.Common.{◌≡◌, rules, true, false, [], map, ap, sym, �
 use Rattle.std.specs.List.{list_all, list_any}
 use Rattle.isle_syntax.specs.Views.{defs as seen}
 use Rattle.isle_sema.specs.Collected.{rule}
-use Rattle.isle_sema.specs.Forms.{is_built_form}
+use Rattle.isle_sema.specs.BuiltForm.{is_built_form}
 use Rattle.isle_sema.specs.Tests.{binds_twice}
 use Rattle.isle_sema.specs.Environment.{whole_of}
 use Rattle.isle_sema.proofs.TermFaults.{types_none}

@@ -7,7 +7,7 @@ use Rattle.isle_syntax.specs.declared.tree.AstPattern.{AstPattern}
 use Rattle.isle_syntax.specs.declared.tree.Def.{Def as CodeDef}
 use Rattle.isle_syntax.specs.Views.{pattern, def}
 use Rattle.isle_sema.specs.Language.{is_built_pattern}
-use Rattle.isle_sema.specs.Forms.{is_built_form}
+use Rattle.isle_sema.specs.BuiltForm.{is_built_form}
 
 -- the patterns from the i-th on are built
 abbrev pub built_from : ℕ → List AstPattern → Bool
