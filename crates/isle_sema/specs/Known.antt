@@ -7,7 +7,7 @@ use Rattle.isle_sema.specs.Symbols.{symbols}
 use Rattle.isle_sema.specs.Signatures.{Signature, signatures, externs, rule_defs, term_named, func_named, has_rule}
 use Rattle.isle_sema.specs.Heads.{terms_of, extern_terms, heads_of}
 use Rattle.isle_sema.specs.TypeNames.{type_named}
-use Rattle.isle_sema.specs.Whole.{Whole}
+use Rattle.isle_sema.specs.Whole.{Whole, declared}
 use Rattle.isle_sema.specs.Environment.{whole_of, terms_pass}
 use Rattle.isle_sema.specs.Tables.{HasFirsts}
 
@@ -28,6 +28,12 @@ MayBeCalled w None None = Unit {0}
 MayBeCalled w (Some s) (Some c) = IsCalled w s c
 MayBeCalled w None (Some c) = ⊥
 MayBeCalled w (Some s) None = ⊥
+
+-- what is known is of the declared term of this name
+pub record IsHead (w : Whole) (name : List ℕ) (own : Called) : Type 0 where
+  pub signature : Signature
+  pub there : declared w name ≡ Some signature
+  pub called : IsCalled w signature own
 
 -- the symbols, declarations and terms of definitions, and the tables of their places
 pub record AreKnown (defs : List Def) (syms : List (List ℕ)) (sigs : List Signature) (terms : List Term) (declared external ruled : List (Option ℕ)) : Type 0 where

@@ -33,3 +33,4 @@ pub mod BuiltForm
 pub mod Tests
 pub mod Judging
 pub mod Taken
+pub mod ElaboratedAt

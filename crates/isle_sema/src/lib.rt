@@ -16,6 +16,7 @@ mod known;
 mod language;
 mod reduced;
 mod rows;
+mod sides;
 mod signature_faults;
 mod symbols;
 mod tables;
