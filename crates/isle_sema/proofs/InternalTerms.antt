@@ -16,17 +16,16 @@ use Rattle.isle_core.specs.declared.types.ExtractorKind.TheVariants as extractor
 use Rattle.isle_core.specs.Rule.{Rule, Environment}
 use Rattle.isle_core.specs.Terms.{term_ids, has_rules, with_rules}
 use Rattle.isle_syntax.specs.Tree.{Def}
-use Rattle.isle_sema.specs.Symbols.{index_of, symbols}
-use Rattle.isle_sema.specs.Signatures.{Signature, Extern, RuleDef, signatures, externs, rule_defs, term_named, func_named, has_rule, signature_named}
-use Rattle.isle_sema.specs.Elaborated.{constructor_of}
+use Rattle.isle_declarations.specs.Symbols.{index_of, symbols}
+use Rattle.isle_declarations.specs.Signatures.{Signature, Extern, RuleDef, signatures, externs, rule_defs, term_named, func_named, has_rule, signature_named}
+use Rattle.isle_sema.specs.Environment.{constructor_of}
 use Rattle.isle_sema.proofs.Trees.{term_or, rules_from}
 use Rattle.isle_sema.proofs.Wrong.{breaks, rules_fault}
-use Rattle.isle_sema.specs.Heads.{terms_of}
+use Rattle.isle_declarations.specs.Heads.{terms_of}
 use Rattle.isle_sema.specs.Typing.{Typed}
 use Rattle.isle_sema.proofs.Deciding.{decided}
-use Rattle.isle_sema.proofs.LookUps.{at_place, named_at}
+use Rattle.isle_declarations.proofs.LookUps.{at_place, named_at, named_is}
 use Rattle.isle_sema.proofs.Parts.{sound_rules}
-use Rattle.isle_sema.proofs.TypedExprs.{named_is}
 use Rattle.isle_sema.proofs.TypedTerms.{declared}
 
 -- ---- a declaration with a rule

@@ -14,7 +14,7 @@ use Rattle.isle_syntax.specs.declared.tree.AstIfLet.{AstIfLet}
 use Rattle.isle_syntax.specs.Views.{iflet}
 use Rattle.isle_syntax.specs.Tree as tree
 use Rattle.isle_syntax.specs.Tree.{Expr, Exprs, NoExpr, AnExpr, IfLet, Def}
-use Rattle.isle_sema.specs.Signatures.{Signature, RuleDef, signatures, rule_defs, has_rule, signature_named, term_named}
+use Rattle.isle_declarations.specs.Signatures.{Signature, RuleDef, signatures, rule_defs, has_rule, signature_named, term_named}
 use Rattle.isle_sema.specs.Calls.{count_of, calls_ruled, any_calls_ruled}
 use Rattle.isle_sema.specs.Language.{is_built_expr, are_built_exprs}
 use Rattle.isle_sema.specs.Row.{Row}
@@ -34,14 +34,13 @@ use Rattle.isle_sema.specs.ElaboratedAt.{ArePatternsAt, IsExprAt, AreSides}
 use Rattle.isle_sema.specs.declared.judged.Judged.{Judged}
 use Rattle.isle_sema.specs.declared.sides.Sides.{Sides}
 use Rattle.isle_sema.specs.declared.known.Called.{Called}
-use Rattle.isle_sema.specs.Symbols.{index_of}
-use Rattle.isle_sema.specs.Heads.{terms_of}
+use Rattle.isle_declarations.specs.Symbols.{index_of}
+use Rattle.isle_declarations.specs.Heads.{terms_of}
 use Rattle.isle_sema.specs.Taken.{row_of, calls_rule, taken_rule, taken_rules}
 use Rattle.isle_sema.proofs.Firsts.{later_none, none_later, any_parts}
 use Rattle.isle_sema.proofs.Judgements.{ruled_all, lowest_is, all_known}
-use Rattle.isle_sema.proofs.LookUps.{at_place, named_at}
-use Rattle.isle_sema.proofs.NumberLaws.{index_below}
-use Rattle.isle_sema.proofs.TypedExprs.{named_is}
+use Rattle.isle_declarations.proofs.LookUps.{at_place, named_at, named_is}
+use Rattle.isle_declarations.proofs.SymbolLaws.{index_below}
 use Rattle.isle_sema.proofs.KnownLaws.{first_there, before_both}
 use Rattle.isle_sema.proofs.RuleTrees.{IsRuleBuilt}
 

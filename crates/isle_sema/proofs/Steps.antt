@@ -15,9 +15,9 @@ use Rattle.isle_syntax.specs.declared.tree.AstPattern.{AstPattern}
 use Rattle.isle_syntax.specs.declared.tree.AstExpr.{AstExpr}
 use Rattle.isle_syntax.specs.Tree.{Def}
 use Rattle.isle_syntax.specs.Views.{pattern, expr, exprs_of as seen_exprs}
-use Rattle.isle_sema.specs.declared.collected.RuleDef.{RuleDef as CodeRuleDef}
+use Rattle.isle_declarations.specs.declared.collected.RuleDef.{RuleDef as CodeRuleDef}
 use Rattle.isle_sema.specs.declared.judged.Judged.{Judged}
-use Rattle.isle_sema.specs.Collected.{rule as seen_rule}
+use Rattle.isle_declarations.specs.Collected.{rule as seen_rule}
 use Rattle.isle_sema.specs.Scope.{Scope}
 use Rattle.isle_sema.specs.Whole.{Whole}
 use Rattle.isle_sema.specs.Environment.{whole_of}
@@ -53,7 +53,7 @@ pub none_before : {X : Type 0} (o : Option (List X)) → o ≡ before [] o
 none_before None = refl
 none_before (Some r) = refl
 
-one_before : {X : Type 0} (xs : List X) (x : X) (o : Option (List X)) → before xs (tree_before (Some x) o) ≡ before (xs ++ x ∷ []) o
+pub one_before : {X : Type 0} (xs : List X) (x : X) (o : Option (List X)) → before xs (tree_before (Some x) o) ≡ before (xs ++ x ∷ []) o
 one_before xs x None = refl
 one_before xs x (Some r) = ap Some (sym (append_assoc xs (x ∷ []) r))
 

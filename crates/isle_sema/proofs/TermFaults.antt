@@ -5,10 +5,10 @@ use Rattle.std.specs.List.{list_all, list_any}
 use Rattle.std.proofs.lemmas.Bool.{or_parts, or_from, and_parts}
 use Rattle.isle_syntax.specs.Tree as tree
 use Rattle.isle_syntax.specs.Tree.{Def}
-use Rattle.isle_sema.specs.Symbols.{index_of}
-use Rattle.isle_sema.specs.Signatures.{Signature, Extern, RuleDef, signature_of, extern_of, signatures, externs, rule_defs, signature_named, func_named}
-use Rattle.isle_sema.specs.Heads.{terms_of, extern_terms}
-use Rattle.isle_sema.specs.Repeats.{repeats_after}
+use Rattle.isle_declarations.specs.Symbols.{index_of}
+use Rattle.isle_declarations.specs.Signatures.{Signature, Extern, RuleDef, signature_of, extern_of, signatures, externs, rule_defs, signature_named, func_named}
+use Rattle.isle_declarations.specs.Heads.{terms_of, extern_terms}
+use Rattle.isle_declarations.specs.Repeats.{repeats_after}
 use Rattle.isle_sema.proofs.Wrong.{names_no_type, has_too_many}
 use Rattle.isle_sema.specs.BuiltForm.{is_built_form}
 use Rattle.isle_sema.specs.Tests.{has_undeclared}

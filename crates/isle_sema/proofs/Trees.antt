@@ -11,10 +11,10 @@ use Rattle.isle_core.specs.Expr.{Expr as CoreExpr, Exprs as CoreExprs, NoExpr as
 use Rattle.isle_core.specs.Rule.{Rule as CoreRule}
 use Rattle.isle_syntax.specs.Tree as tree
 use Rattle.isle_syntax.specs.Tree.{Pattern, Expr, Exprs, NoExpr, AnExpr}
-use Rattle.isle_sema.specs.Symbols.{index_of, added, number_or, sym_of}
+use Rattle.isle_declarations.specs.Symbols.{index_of, added, number_or, sym_of}
 use Rattle.isle_sema.specs.Builtins.{type_id}
 use Rattle.isle_sema.specs.Reduced.{reduced_at}
-use Rattle.isle_sema.specs.Signatures.{Signature, RuleDef, signature_named, term_named}
+use Rattle.isle_declarations.specs.Signatures.{Signature, RuleDef, signature_named, term_named}
 
 -- a variable's number among the variables so far
 abbrev pub var_of : List (List ℕ) → List ℕ → VarId

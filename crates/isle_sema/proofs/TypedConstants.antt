@@ -20,7 +20,7 @@ use Rattle.isle_core.specs.BuiltinType.{IsBuiltinDef}
 use Rattle.isle_core.specs.Rule.{Environment}
 use Rattle.isle_core.specs.HasType.{IsReduced, IsOfDef}
 use Rattle.isle_core.specs.Constants.{int_of_def}
-use Rattle.isle_sema.specs.Symbols.{index_of}
+use Rattle.isle_declarations.specs.Symbols.{index_of}
 use Rattle.isle_sema.specs.Builtins.{builtins, builtin_names, type_id}
 use Rattle.isle_sema.specs.Reduced.{reduced, reduced_by}
 use Rattle.isle_sema.specs.Elaborated.{type_of, type_or}

@@ -5,7 +5,7 @@ use Rattle.isle_core.specs.declared.types.IntType.TheVariants.{U8, U16, U32, U64
 use Rattle.isle_core.specs.declared.types.BuiltinType.TheVariants.{Bool, Int}
 use Rattle.isle_core.specs.declared.types.TypeDef.{TypeDef}
 use Rattle.isle_core.specs.declared.types.TypeDef.TheVariants.{Builtin}
-use Rattle.isle_sema.specs.Symbols.{index_of}
+use Rattle.isle_declarations.specs.Symbols.{index_of}
 
 -- the types, by their numbers
 abbrev pub builtins : List TypeDef

@@ -7,23 +7,16 @@ use Rattle.isle_core.specs.declared.rules.Expr.{Expr as CodeExpr}
 use Rattle.isle_core.specs.Pattern.{Pattern as CorePattern}
 use Rattle.isle_core.specs.Expr.{Exprs as CoreExprs}
 use Rattle.isle_core.specs.RuleViews.{pattern as elaborated_pattern, expr as elaborated_expr, exprs_of}
-use Rattle.isle_syntax.specs.declared.tree.Def.{Def as CodeDef}
 use Rattle.isle_syntax.specs.Tree.{Pattern, Expr, Exprs}
-use Rattle.isle_syntax.specs.Views.{defs}
 use Rattle.isle_sema.specs.declared.judged.Judged.{Judged}
 use Rattle.isle_sema.specs.declared.sides.Sides.{Sides}
-use Rattle.isle_sema.specs.Signatures.{RuleDef}
+use Rattle.isle_declarations.specs.Signatures.{RuleDef}
 use Rattle.isle_sema.specs.Scope.{Scope}
 use Rattle.isle_sema.specs.Whole.{Whole}
-use Rattle.isle_sema.specs.Environment.{whole_of}
 use Rattle.isle_sema.specs.PatternPass.{pattern_pass, patterns_pass}
 use Rattle.isle_sema.specs.ExprPass.{expr_pass, exprs_pass}
 use Rattle.isle_sema.specs.RulePass.{patterns_of, right_side_of}
 use Rattle.isle_sema.specs.Judging.{unjudged, judge_all}
-
--- the code's definitions over their types
-abbrev pub whole : List CodeDef → Whole
-whole ds = whole_of (defs ds)
 
 -- the trees of patterns, where they are there
 abbrev pub pattern_trees : Option (Vec CodePattern) → Option (List CorePattern)

@@ -10,7 +10,7 @@ use Rattle.isle_core.specs.Expr.{Expr as CoreExpr, Exprs as CoreExprs, NoExpr as
 use Rattle.isle_syntax.specs.Tree as tree
 use Rattle.isle_syntax.specs.Tree.{Expr, Exprs, NoExpr, AnExpr}
 use Rattle.isle_sema.specs.Reduced.{typed_integer}
-use Rattle.isle_sema.specs.Signatures.{signatures, term_named}
+use Rattle.isle_declarations.specs.Signatures.{signatures, term_named}
 use Rattle.isle_sema.specs.Calls.{count_of}
 use Rattle.isle_sema.specs.Scope.{Scope, bound_at, variable}
 use Rattle.isle_sema.specs.Site.{Site, IntegerAt, TruthAt, UsedAt, CalledAt, NotBuiltAt}

@@ -3,10 +3,10 @@ use Rattle.std.specs.Prelude.{List, [], ◌∷◌, Bool, true, false, ◌&&◌, 
 use Rattle.std.specs.List.{list_all, list_any}
 use Rattle.isle_syntax.specs.Tree as tree
 use Rattle.isle_syntax.specs.Tree.{Pattern, Expr, Exprs, NoExpr, AnExpr, IfLet, Def, TypeDecl, Decl, ExternConstructor, ExternExtractor, ExternConst, Extractor, Converter, Rule, Passed}
-use Rattle.isle_sema.specs.Symbols.{pattern_names}
-use Rattle.isle_sema.specs.Signatures.{RuleDef, rule_defs}
+use Rattle.isle_declarations.specs.Symbols.{pattern_names}
+use Rattle.isle_declarations.specs.Signatures.{RuleDef, rule_defs}
 use Rattle.isle_sema.specs.Calls.{calls_ruled}
-use Rattle.isle_sema.specs.Repeats.{repeats}
+use Rattle.isle_declarations.specs.Repeats.{repeats}
 
 -- an integer, a truth, a wildcard or a variable
 abbrev pub is_built_pattern : Pattern → Bool

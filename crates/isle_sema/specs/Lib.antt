@@ -1,15 +1,9 @@
-pub mod Symbols
 pub mod Builtins
 pub mod Reduced
-pub mod Signatures
-pub mod Collected
 pub mod Elaborated
 pub mod Calls
-pub mod Heads
-pub mod Repeats
 pub mod Language
 pub mod TypedRule
-pub mod LookedUp
 pub mod TypeNames
 pub mod Scope
 pub mod Whole
@@ -26,9 +20,7 @@ pub mod Fault
 pub mod Environment
 pub mod Typing
 pub mod SerializableRule
-pub mod Numbered
 pub mod Known
-pub mod Tables
 pub mod BuiltForm
 pub mod Tests
 pub mod Judging

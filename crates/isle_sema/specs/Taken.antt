@@ -5,7 +5,7 @@ use Rattle.isle_core.specs.declared.types.TermEnv.{TermEnv}
 use Rattle.isle_core.specs.Rule.{Rule as CoreRule, Environment}
 use Rattle.isle_core.specs.RuleViews.{environment}
 use Rattle.isle_syntax.specs.Tree.{Def, Rule}
-use Rattle.isle_sema.specs.Signatures.{RuleDef}
+use Rattle.isle_declarations.specs.Signatures.{RuleDef}
 use Rattle.isle_sema.specs.Row.{Row}
 use Rattle.isle_sema.specs.Whole.{Whole}
 use Rattle.isle_sema.specs.PatternPass.{tree_before}

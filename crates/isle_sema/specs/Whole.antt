@@ -4,7 +4,7 @@ use Rattle.isle_core.specs.declared.TermId.{TermId}
 use Rattle.isle_core.specs.declared.TypeId.{TypeId}
 use Rattle.isle_core.specs.declared.types.TypeEnv.{TypeEnv}
 use Rattle.isle_syntax.specs.Tree.{Def}
-use Rattle.isle_sema.specs.Signatures.{Signature, signatures, externs, rule_defs, signature_named, term_named, func_named, has_rule}
+use Rattle.isle_declarations.specs.Signatures.{Signature, signatures, externs, rule_defs, signature_named, term_named, func_named, has_rule}
 use Rattle.isle_sema.specs.TypeNames.{type_named}
 
 -- the definitions, and the symbols, types and constants that they give

@@ -5,12 +5,12 @@ ghost use Rattle.isle_syntax.specs.Tree as tree;
 ghost use Rattle.isle_syntax.specs.Tree.{Def};
 ghost use Rattle.isle_syntax.specs.Views.{expr, exprs_of};
 ghost use Rattle.isle_core.specs.RuleViews.{expr as elaborated};
-ghost use Rattle.isle_sema.specs.Signatures.{Signature};
+ghost use Rattle.isle_declarations.specs.Signatures.{Signature};
 ghost use Rattle.isle_sema.specs.Whole.{Whole, arg_types, ret_type, number_of};
 ghost use Rattle.isle_sema.specs.Environment.{types_of, whole_of};
-ghost use Rattle.isle_sema.specs.Known.{MayBeCalled};
+ghost use Rattle.isle_sema.specs.Known.{whole, MayBeCalled};
 ghost use Rattle.isle_sema.specs.ExprPass.{integer_tree, call_tree};
-ghost use Rattle.isle_sema.specs.ElaboratedAt.{whole, expr_trees, IsExprAt, AreExprsAt};
+ghost use Rattle.isle_sema.specs.ElaboratedAt.{expr_trees, IsExprAt, AreExprsAt};
 
 use crate::judged::Judged;
 use crate::known::{Called, Known};
@@ -77,7 +77,7 @@ fn call_of(callee: &Option<Called>, args: Option<Vec<Expr>>) -> Option<Expr>
 /// Elaborates an expression where this type is expected: gives its tree, where its form is built and its types are known
 /// (`specs/ExprPass.antt`).
 #[cycle(exprs)]
-#[tactic(auto, using(crate::proofs::Sees::expr_sees, isle_core::proofs::SeesRules::sees))]
+#[tactic(auto, using(isle_declarations::proofs::Sees::expr_sees, isle_core::proofs::SeesRules::sees))]
 pub fn expr_at(
     alloc: Global,
     known: &Known,

@@ -37,7 +37,7 @@ fn variable_at(vars: &Variables, name: &Text) -> Option<Pattern>
 }
 
 // A pattern where this type is expected: its tree, where its form is built and its types are known.
-#[tactic(auto, using(crate::proofs::Sees::pattern_sees, isle_core::proofs::SeesRules::sees))]
+#[tactic(auto, using(isle_declarations::proofs::Sees::pattern_sees, isle_core::proofs::SeesRules::sees))]
 fn pattern_at<'d>(
     vars: &mut Variables<'d>,
     judged: &mut Judged,

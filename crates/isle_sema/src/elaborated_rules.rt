@@ -2,19 +2,19 @@
 
 ghost use Rattle.std.specs.Prelude.{◌≡◌, IfOk, Some, [], map, option_map};
 ghost use Rattle.isle_core.specs.RuleViews.{rule as elaborated_rule, pattern as elaborated_pattern, expr as elaborated_expr};
-ghost use Rattle.isle_sema.specs.Symbols.{index_of, sym_of};
-ghost use Rattle.isle_sema.specs.Collected.{rule as seen};
-ghost use Rattle.isle_sema.specs.Numbered.{AreNumbered};
+ghost use Rattle.isle_syntax.specs.Views.{defs as seen_defs};
+ghost use Rattle.isle_declarations.specs.Symbols.{index_of, sym_of};
+ghost use Rattle.isle_declarations.specs.Collected.{rule as seen};
+ghost use Rattle.isle_declarations.specs.Signatures.{rule_defs};
 ghost use Rattle.isle_sema.specs.RulePass.{rule_from};
-ghost use Rattle.isle_sema.specs.Known.{IsHead};
+ghost use Rattle.isle_sema.specs.Known.{whole, IsHead};
 ghost use Rattle.isle_sema.specs.Taken.{taken_rule, taken_rules};
-ghost use Rattle.isle_sema.specs.ElaboratedAt.{whole};
 
-use crate::collected::RuleDef;
 use crate::known::{Called, Known};
 use crate::rows::lowest_row;
 use crate::sides::sides_of;
 use isle_core::{Expr, List, Pattern, Rule, RuleId, Sym, Text};
+use isle_declarations::RuleDef;
 use std::alloc::{AllocError, Global};
 
 // The symbol of a rule's own name, where it has one.
@@ -103,14 +103,10 @@ fn rule_at(
 }
 
 /// Returns the rules, numbered in order: nothing where one is not taken.
-pub fn rules_at(
-    alloc: Global,
-    known: &Known,
-    given: &[RuleDef],
-) -> Result<Option<Vec<Rule>>, AllocError>
-    requires { AreNumbered (whole known.now).types.syms (map (λ r. r.term.now) given.now) (map (λ r. r.number) given.now) }
-    ensures { IfOk result (λ rules. option_map (λ rs. map elaborated_rule rs.items) rules ≡ taken_rules (whole known.now) 0 (map seen given.now)) }
+pub fn rules_at(alloc: Global, known: &Known) -> Result<Option<Vec<Rule>>, AllocError>
+    ensures { IfOk result (λ rules. option_map (λ rs. map elaborated_rule rs.items) rules ≡ taken_rules (whole known.now) 0 (rule_defs (seen_defs known.now))) }
 {
+    let given = known.rules();
     let mut rules = Vec::with_capacity(alloc, given.len())?;
     for (number, rule) in given.iter().enumerate() {
         match rule_at(alloc, known, number, rule)? {

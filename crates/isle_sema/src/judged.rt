@@ -2,7 +2,7 @@
 
 ghost use Rattle.std.specs.Prelude.{◌≡◌, Option, Some, List, []};
 ghost use Rattle.isle_syntax.specs.Tree.{Def};
-ghost use Rattle.isle_sema.specs.Signatures.{Signature};
+ghost use Rattle.isle_declarations.specs.Signatures.{Signature};
 ghost use Rattle.isle_sema.specs.Whole.{Whole};
 ghost use Rattle.isle_sema.specs.Site.{IntegerAt, TruthAt, WildcardAt, MetAt, UsedAt, CalledAt, NotBuiltAt};
 ghost use Rattle.isle_sema.specs.RuleRows.{is_other_type};

@@ -1,17 +1,17 @@
 //! Both sides of a rule with types in them.
 
 ghost use Rattle.std.specs.Prelude.{IfOk};
-ghost use Rattle.isle_sema.specs.Collected.{rule as seen};
-ghost use Rattle.isle_sema.specs.Known.{IsHead};
-ghost use Rattle.isle_sema.specs.ElaboratedAt.{whole, AreSides};
+ghost use Rattle.isle_declarations.specs.Collected.{rule as seen};
+ghost use Rattle.isle_sema.specs.Known.{whole, IsHead};
+ghost use Rattle.isle_sema.specs.ElaboratedAt.{AreSides};
 
-use crate::collected::RuleDef;
 use crate::elaborated_exprs::expr_at;
 use crate::elaborated_patterns::patterns_at;
 use crate::judged::Judged;
 use crate::known::{Called, Known};
 use crate::variables::Variables;
 use isle_core::{Expr, Pattern};
+use isle_declarations::RuleDef;
 use std::alloc::{AllocError, Global};
 
 /// The patterns and the right side of a rule, where they have trees, and what the rows say of their parts.

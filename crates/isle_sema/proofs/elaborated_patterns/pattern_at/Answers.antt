@@ -5,7 +5,7 @@ use Rattle.isle_syntax.specs.Views.{pattern}
 use Rattle.isle_sema.specs.Environment.{types_of, whole_of}
 use Rattle.isle_sema.specs.PatternPass.{integer_tree, pattern_pass}
 use Rattle.isle_sema.specs.Judging.{judge_all}
-use Rattle.isle_sema.proofs.Sees.{pattern-int}
+use Rattle.isle_declarations.proofs.Sees.{pattern-int}
 use Rattle.isle_sema.proofs.elaborated_patterns.pattern_at.Goals as goal
 
 pub returns-in-Int : goal.returns-in-Int

@@ -3,8 +3,9 @@ use Rattle.std.specs.Prelude.{option_map, is_some}
 use Rattle.std.proofs.lemmas.List.{length-map}
 use Rattle.isle_core.specs.RuleViews.{pattern as elaborated_pattern, expr as elaborated_expr}
 use Rattle.isle_syntax.specs.Views.{pattern}
-use Rattle.isle_sema.specs.Collected.{rule as seen}
-use Rattle.isle_sema.specs.ElaboratedAt.{whole, pattern_trees}
+use Rattle.isle_declarations.specs.Collected.{rule as seen}
+use Rattle.isle_sema.specs.ElaboratedAt.{pattern_trees}
+use Rattle.isle_sema.specs.Known.{whole}
 use Rattle.isle_sema.proofs.RuleLaws.{no_conditions, row_found, with_ruled, unruled_calls, with_row, without_trees, without_tree, taken_made}
 use Rattle.isle_sema.proofs.elaborated_rules.rule_of.Goals as goal
 
