@@ -13,9 +13,9 @@ use Rattle.isle_reading.proofs.States.{Opened, opened_open, opened_close, opened
 use Rattle.isle_answers.specs.Form.{ResultForm, One, Tuple, AnswerForm, Plain, Found, Several}
 use Rattle.isle_answers.specs.Form as form
 use Rattle.isle_answers.specs.Spelling.{ResultS, AnswerS, plain, found, nothing, several}
-use Rattle.isle_answers.specs.Reading.{ResultHead, TupleHead, MadeHead, AnswerHead, SomeHead, NoneHead, ListHead, ResultIs, result_head_of, answer_head_of, read_answer_head, read_result, read_answer_behind, read_answer_list, read_simple_answer, read_answer}
+use Rattle.isle_answers.specs.Reading.{ResultHead, TupleHead, MadeHead, AnswerHead, SomeHead, NoneHead, ListHead, ResultIs, result_head_of, answer_head_of, read_answer_head, read_result, read_answer_after, read_answer_list, read_simple_answer, read_answer}
 use Rattle.isle_answers.proofs.HeadWords.{result_head_is, answer_head_is, some_head, none_head, list_head, own_head, plain_tuple_head}
-use Rattle.isle_answers.proofs.ResultLaws.{BehindS, ResultListS, SimpleResultS, result_list_to, simple_result_to, result_from, result_starts, simple_result_heads, law_simple_result, law_result_behind, law_result}
+use Rattle.isle_answers.proofs.ResultLaws.{ResultAfterS, ResultListS, SimpleResultS, result_list_to, simple_result_to, result_from, result_starts, simple_result_heads, law_simple_result, law_result_after, law_result}
 
 -- ---- the same said by parts
 
@@ -23,35 +23,35 @@ abbrev NoAnswerS : AnswerForm → List Lexeme → List Lexeme → Type 0
 NoAnswerS = Then CloseS (λ c. Nothing form.Nothing)
 
 -- behind the first word of a list
-abbrev AnswerBehindS : AnswerHead → AnswerForm → List Lexeme → List Lexeme → Type 0
-AnswerBehindS SomeHead = Then ResultS (λ r. Then CloseS (λ c. Nothing (Found r)))
-AnswerBehindS NoneHead = NoAnswerS
-AnswerBehindS ListHead = Then (Many ResultS) (λ rs. Nothing (Several rs))
-AnswerBehindS (ResultIs h) = Then (BehindS h) (λ r. Nothing (Plain r))
+abbrev AnswerAfterS : AnswerHead → AnswerForm → List Lexeme → List Lexeme → Type 0
+AnswerAfterS SomeHead = Then ResultS (λ r. Then CloseS (λ c. Nothing (Found r)))
+AnswerAfterS NoneHead = NoAnswerS
+AnswerAfterS ListHead = Then (Many ResultS) (λ rs. Nothing (Several rs))
+AnswerAfterS (ResultIs h) = Then (ResultAfterS h) (λ r. Nothing (Plain r))
 
 abbrev AnswerListS : AnswerForm → List Lexeme → List Lexeme → Type 0
-AnswerListS = Then OpenS (λ o. Then (WordS answer_head_of) AnswerBehindS)
+AnswerListS = Then OpenS (λ o. Then (WordS answer_head_of) AnswerAfterS)
 
 -- an answer of one word
 abbrev SimpleAnswerS : AnswerForm → List Lexeme → List Lexeme → Type 0
 SimpleAnswerS = Then SimpleResultS (λ r. Nothing (Plain r))
 
-behind_to : (h : AnswerHead) (at m : ℕ) (w : List ℕ) (a : AnswerForm) (ts rest : List Lexeme) → answer_head_of w ≡ Some h → AnswerBehindS h a ts rest → AnswerS a (Open at ∷ Word m w ∷ ts) rest
-behind_to SomeHead at m w a ts rest e (r, mid, s, (c, us, ec, (p, q))) =
+answer_to : (h : AnswerHead) (at m : ℕ) (w : List ℕ) (a : AnswerForm) (ts rest : List Lexeme) → answer_head_of w ≡ Some h → AnswerAfterS h a ts rest → AnswerS a (Open at ∷ Word m w ∷ ts) rest
+answer_to SomeHead at m w a ts rest e (r, mid, s, (c, us, ec, (p, q))) =
     subst (λ z. AnswerS z (Open at ∷ Word m w ∷ ts) rest) (sym p)
     (found at m c w r ts rest (answer_head_is w SomeHead e) (subst (λ z. ResultS r ts z) (ec ∙ ap (λ z. Close c ∷ z) q) s))
-behind_to NoneHead at m w a ts rest e (c, us, ec, (p, q)) =
+answer_to NoneHead at m w a ts rest e (c, us, ec, (p, q)) =
     subst (λ z. AnswerS z (Open at ∷ Word m w ∷ ts) rest) (sym p)
     (subst (λ z. AnswerS form.Nothing (Open at ∷ Word m w ∷ z) rest) (sym (ec ∙ ap (λ z. Close c ∷ z) q)) (nothing at m c w rest (answer_head_is w NoneHead e)))
-behind_to ListHead at m w a ts rest e (rs, mid, s, (p, q)) =
+answer_to ListHead at m w a ts rest e (rs, mid, s, (p, q)) =
     subst (λ z. AnswerS z (Open at ∷ Word m w ∷ ts) rest) (sym p) (several at m w rs ts rest (answer_head_is w ListHead e) (subst (λ z. Many ResultS rs ts z) q s))
-behind_to (ResultIs h) at m w a ts rest e (r, mid, s, (p, q)) =
+answer_to (ResultIs h) at m w a ts rest e (r, mid, s, (p, q)) =
     subst (λ z. AnswerS z (Open at ∷ Word m w ∷ ts) rest) (sym p)
-    (plain r (Open at ∷ Word m w ∷ ts) rest (result_list_to r (Open at ∷ Word m w ∷ ts) rest (at, Word m w ∷ ts, refl, (h, ts, (m, w, refl, answer_head_is w (ResultIs h) e), subst (λ z. BehindS h r ts z) q s))))
+    (plain r (Open at ∷ Word m w ∷ ts) rest (result_list_to r (Open at ∷ Word m w ∷ ts) rest (at, Word m w ∷ ts, refl, (h, ts, (m, w, refl, answer_head_is w (ResultIs h) e), subst (λ z. ResultAfterS h r ts z) q s))))
 
 list_to : (a : AnswerForm) (ts rest : List Lexeme) → AnswerListS a ts rest → AnswerS a ts rest
 list_to a ts rest (o, us, eo, (h, vs, (at, w, ew, eh), b)) =
-    subst (λ z. AnswerS a z rest) (sym (eo ∙ ap (λ z. Open o ∷ z) ew)) (behind_to h o at w a vs rest eh b)
+    subst (λ z. AnswerS a z rest) (sym (eo ∙ ap (λ z. Open o ∷ z) ew)) (answer_to h o at w a vs rest eh b)
 
 shape_to : (a : AnswerForm) (ts rest : List Lexeme) → Either AnswerListS SimpleAnswerS a ts rest → AnswerS a ts rest
 shape_to a ts rest (inl s) = list_to a ts rest s
@@ -98,19 +98,19 @@ law_simple_answer n k l = law_next _ _ (law_simple_result n k l) (λ r. law_ret 
 law_closed : (n k : ℕ) (a : AnswerForm) → suc k ≤ most_open → Law (Opened (suc k)) (λ a. Opened k) Anything n (Then CloseS (λ c. Nothing a)) (bind read_close (λ c. Ret a))
 law_closed n k a l = law_next _ _ (law_close (opened_close k l)) (λ c. law_ret _ (λ q p. p))
 
-law_answer_behind : (n k d : ℕ) → suc k + d ≡ most_open → (h : AnswerHead) → Law (Opened (suc k)) (λ a. Opened k) Anything n (AnswerBehindS h) (read_answer_behind n d h)
-unfolding read_answer_behind
-law_answer_behind n k d e SomeHead = law_next _ _ (law_result n k d e) (λ r. law_closed n k (Found r) (omega (arith, e)))
-law_answer_behind n k d e NoneHead = law_closed n k form.Nothing (omega (arith, e))
-law_answer_behind n k d e ListHead =
+law_answer_after : (n k d : ℕ) → suc k + d ≡ most_open → (h : AnswerHead) → Law (Opened (suc k)) (λ a. Opened k) Anything n (AnswerAfterS h) (read_answer_after n d h)
+unfolding read_answer_after
+law_answer_after n k d e SomeHead = law_next _ _ (law_result n k d e) (λ r. law_closed n k (Found r) (omega (arith, e)))
+law_answer_after n k d e NoneHead = law_closed n k form.Nothing (omega (arith, e))
+law_answer_after n k d e ListHead =
     law_next _ _ (law_many (Opened k) n ResultS (read_result n d) (law_result n k d e) (λ r ts rest s. tt) (λ at ts. tt) result_starts (opened_close k (omega (arith, e))) n (omega arith)) (λ rs. law_ret _ (λ q p. p))
-law_answer_behind n k d e (ResultIs h) = law_next _ _ (law_result_behind n k d e h) (λ r. law_ret _ (λ q p. p))
+law_answer_after n k d e (ResultIs h) = law_next _ _ (law_result_after n k d e h) (λ r. law_ret _ (λ q p. p))
 
 law_list : (n k d : ℕ) → suc k + d ≡ most_open → Law (Opened k) (λ a. Opened k) Anything n AnswerListS (read_answer_list n d)
 unfolding read_answer_list read_answer_head
 law_list n k d e =
     law_next _ _ (law_open (opened_open k (omega (arith, e)))) (λ o.
-    law_next _ _ (law_word answer_head_of (codes "none", NoneHead, a_none) (opened_word (suc k) answer_head_of (omega (arith, e)))) (λ h. law_answer_behind n k d e h))
+    law_next _ _ (law_word answer_head_of (codes "none", NoneHead, a_none) (opened_word (suc k) answer_head_of (omega (arith, e)))) (λ h. law_answer_after n k d e h))
 
 pub law_answer : (n k d : ℕ) → suc k + d ≡ most_open → Law (Opened (suc k)) (λ a. Opened (suc k)) Anything n AnswerS (read_answer n d)
 unfolding read_answer

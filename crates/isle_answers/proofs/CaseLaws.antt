@@ -43,8 +43,8 @@ rest_head w e = ap part_head_of e
 abbrev CaseS : CaseForm → List Lexeme → List Lexeme → Type 0
 CaseS = Then PlainS (λ args. Then AnswerS (λ a. Then CloseS (λ c. Nothing (record { args = args; answer = a }))))
 
-abbrev RestBehindS : AnswerForm → List Lexeme → List Lexeme → Type 0
-RestBehindS = Then AnswerS (λ a. Then CloseS (λ c. Then CloseS (λ e. Nothing a)))
+abbrev RestAfterS : AnswerForm → List Lexeme → List Lexeme → Type 0
+RestAfterS = Then AnswerS (λ a. Then CloseS (λ c. Then CloseS (λ e. Nothing a)))
 
 -- cases behind those that were read, and the rest
 abbrev pub OntoS : List CaseForm → Cases → List Lexeme → List Lexeme → Type 0
@@ -52,7 +52,7 @@ OntoS done x ts rest = (others : List CaseForm) × CasesS others x.1 ts rest × 
 
 abbrev PartS : List CaseForm → PartHead → Cases → List Lexeme → List Lexeme → Type 0
 PartS done CaseHead = Then CaseS (λ c. OntoS (done ++ c ∷ []))
-PartS done RestHead = Then RestBehindS (λ a. Nothing (done, a))
+PartS done RestHead = Then RestAfterS (λ a. Nothing (done, a))
 
 abbrev Shape : List CaseForm → Cases → List Lexeme → List Lexeme → Type 0
 Shape done = Then OpenS (λ o. Then (WordS part_head_of) (PartS done))
@@ -63,7 +63,7 @@ case_is c at o m w others a ts mid rest ew (args, us, (k, vs, eo, ma), (answer, 
     (subst (λ z. CasesS (record { args = args; answer = answer } ∷ others) a (Open at ∷ Word m w ∷ z) rest) (sym eo)
     (a_case at m k e w args answer others a vs us mid rest ew ma (subst (λ z. AnswerS answer us z) (ec ∙ ap (λ z. Close e ∷ z) q) sa) s))
 
-rest_is : (at m : ℕ) (w : List ℕ) (a : AnswerForm) (ts rest : List Lexeme) → w ≡ codes "rest" → RestBehindS a ts rest → RestS a (Open at ∷ Word m w ∷ ts) rest
+rest_is : (at m : ℕ) (w : List ℕ) (a : AnswerForm) (ts rest : List Lexeme) → w ≡ codes "rest" → RestAfterS a ts rest → RestS a (Open at ∷ Word m w ∷ ts) rest
 rest_is at m w a ts rest ew (b, mid, sa, (c, us, ec, (e, vs, ee, (p, q)))) =
     subst (λ z. RestS z (Open at ∷ Word m w ∷ ts) rest) (sym p) (rest_of at m c e w b ts rest ew (subst (λ z. AnswerS b ts z) (ec ∙ ap (λ z. Close c ∷ z) (ee ∙ ap (λ z. Close e ∷ z) q)) sa))
 
@@ -71,7 +71,7 @@ part_to : (done : List CaseForm) (h : PartHead) (at m : ℕ) (w : List ℕ) (x :
 part_to done CaseHead at m w x ts rest e (c, mid, sc, (others, s, f)) =
     (c ∷ others, case_is c at m m w others x.1 ts mid rest (part_head_is w CaseHead e) sc s, f ∙ append_assoc done (c ∷ []) others)
 part_to done RestHead at m w x ts rest e (a, mid, sa, (p, q)) =
-    let s = rest_is at m w a ts rest (part_head_is w RestHead e) (subst (λ z. RestBehindS a ts z) q sa) in
+    let s = rest_is at m w a ts rest (part_head_is w RestHead e) (subst (λ z. RestAfterS a ts z) q sa) in
     ([], no_case x.1 (Open at ∷ Word m w ∷ ts) rest (subst (λ z. RestS z (Open at ∷ Word m w ∷ ts) rest) (sym (ap (λ z. z.1) p)) s), ap (λ z. z.0) p ∙ sym (append-nil done))
 
 shape_to : (done : List CaseForm) (x : Cases) (ts rest : List Lexeme) → Shape done x ts rest → OntoS done x ts rest
@@ -87,11 +87,11 @@ cases_from done x _ _ _ _ (no_case a ts rest s) f = rest_from done x a ts rest s
 cases_from done x _ _ _ _ (a_case at h o c w args answer others a ts mid more rest ew m s k) f =
     let one : CaseForm = record { args = args; answer = answer } in
     let same : x.0 ≡ (done ++ one ∷ []) ++ others = ap (λ z. z.0) f ∙ sym (append_assoc done (one ∷ []) others) in
-    let behind : CasesS others x.1 more rest = subst (λ z. CasesS others z more rest) (sym (ap (λ z. z.1) f)) k in (
+    let later : CasesS others x.1 more rest = subst (λ z. CasesS others z more rest) (sym (ap (λ z. z.1) f)) k in (
       at,
       Word h w ∷ Open o ∷ ts,
       refl,
-      (CaseHead, Open o ∷ ts, (h, w, refl, case_head w ew), (one, more, (args, mid, (o, ts, refl, m), (answer, Close c ∷ more, s, (c, more, refl, (refl, refl)))), (others, behind, same))),
+      (CaseHead, Open o ∷ ts, (h, w, refl, case_head w ew), (one, more, (args, mid, (o, ts, refl, m), (answer, Close c ∷ more, s, (c, more, refl, (refl, refl)))), (others, later, same))),
     )
 
 shape_from : (done : List CaseForm) (x : Cases) (ts rest : List Lexeme) → OntoS done x ts rest → Shape done x ts rest
@@ -123,7 +123,7 @@ module _ (n d : ℕ) (fits : 2 + d ≡ most_open) (some : 1 ≤ d) where
       law_next _ _ (law_answer n 1 d fits) (λ a.
       law_next _ _ (law_close (opened_close 1 (omega (arith, fits)))) (λ c. law_ret _ (λ q p. p))))
 
-  law_rest : Law (Opened 2) (λ a. Opened 0) Anything n RestBehindS (read_rest n d)
+  law_rest : Law (Opened 2) (λ a. Opened 0) Anything n RestAfterS (read_rest n d)
   unfolding read_rest
   law_rest =
       law_next _ _ (law_answer n 1 d fits) (λ a.

@@ -19,7 +19,7 @@ use Rattle.isle_answers.specs.Form.{Form}
 use Rattle.isle_answers.specs.Form as form
 use Rattle.isle_answers.specs.Words.{count_of, callee_of}
 use Rattle.isle_answers.specs.Spelling.{CasesS, TurnsS, FormS, const, answers, turns, FormsS, a_form, held_form, max_form}
-use Rattle.isle_answers.specs.Reading.{FormHead, HeldHead, MaxHead, ConstHead, AnswersHead, TurnsHead, Still, form_head_of, held_behind, max_behind, read_form_head, read_count, read_callee, read_held, read_max, read_const, read_answers, read_turned, read_behind, read_form}
+use Rattle.isle_answers.specs.Reading.{FormHead, HeldHead, MaxHead, ConstHead, AnswersHead, TurnsHead, Still, form_head_of, held_after, max_after, read_form_head, read_count, read_callee, read_held, read_max, read_const, read_answers, read_turned, read_form_after, read_form}
 use Rattle.isle_answers.proofs.CaseLaws.{OntoS, law_cases}
 use Rattle.isle_answers.proofs.TurnLaws.{TurnsPS, law_turns}
 
@@ -85,16 +85,16 @@ turns_head false false w e = ap (form_head_of false false) e
 abbrev CountedS : (ℕ → Form) → Form → List Lexeme → List Lexeme → Type 0
 CountedS made = Then (WordS count_of) (λ n. Then CloseS (λ c. Nothing (made n)))
 
-abbrev BehindS : ℕ → FormHead → Form → List Lexeme → List Lexeme → Type 0
-BehindS at HeldHead = CountedS (λ n. form.Held n at)
-BehindS at MaxHead = CountedS (λ n. form.Max n at)
-BehindS at ConstHead = Then NameS (λ name. Then ValueS (λ v. Then CloseS (λ c. Nothing (form.Const name v at))))
-BehindS at AnswersHead = Then (WordS callee_of) (λ callee. Then (OntoS []) (λ x. Nothing (form.Answers callee x.0 x.1 at)))
-BehindS at TurnsHead = Then (WordS callee_of) (λ callee. Then TurnsPS (λ x. Nothing (form.Turns callee x.0 x.1 at)))
+abbrev FormAfterS : ℕ → FormHead → Form → List Lexeme → List Lexeme → Type 0
+FormAfterS at HeldHead = CountedS (λ n. form.Held n at)
+FormAfterS at MaxHead = CountedS (λ n. form.Max n at)
+FormAfterS at ConstHead = Then NameS (λ name. Then ValueS (λ v. Then CloseS (λ c. Nothing (form.Const name v at))))
+FormAfterS at AnswersHead = Then (WordS callee_of) (λ callee. Then (OntoS []) (λ x. Nothing (form.Answers callee x.0 x.1 at)))
+FormAfterS at TurnsHead = Then (WordS callee_of) (λ callee. Then TurnsPS (λ x. Nothing (form.Turns callee x.0 x.1 at)))
 
 -- a form, where `held` and `max` may still stand or may not
 abbrev pub OneS : Still → Form → List Lexeme → List Lexeme → Type 0
-OneS still = Then OpenS (λ at. Then (WordS (form_head_of still.0 still.1)) (λ h. BehindS at h))
+OneS still = Then OpenS (λ at. Then (WordS (form_head_of still.0 still.1)) (λ h. FormAfterS at h))
 
 counted_is : (made : ℕ → Form) (f : Form) (ts rest : List Lexeme) → CountedS made f ts rest → (count n c : ℕ) × (digits : List ℕ) × (ts ≡ Word n digits ∷ Close c ∷ rest) × (count_of digits ≡ Some count) × (f ≡ made count)
 counted_is made f ts rest (k, mid, (n, w, ew, ec), (c, us, eu, (p, q))) = (k, n, c, w, ew ∙ ap (λ z. Word n w ∷ z) (eu ∙ ap (λ z. Close c ∷ z) q), ec, p)
@@ -103,47 +103,47 @@ const_is : (at n : ℕ) (w name : List ℕ) (f : Form) (ts us rest : List Lexeme
 const_is at n w _ f _ _ rest e (symbol m name us nm) (v, mid, s, (c, vs, ec, (p, q))) =
     subst (λ z. FormS z (Open at ∷ Word n w ∷ Word m name ∷ us) rest) (sym p) (const at n m c w name v us rest e nm (subst (λ z. ValueS v us z) (ec ∙ ap (λ z. Close c ∷ z) q) s))
 
-answers_is : (at n : ℕ) (w : List ℕ) (f : Form) (ts rest : List Lexeme) → w ≡ codes "answers" → BehindS at AnswersHead f ts rest → FormS f (Open at ∷ Word n w ∷ ts) rest
+answers_is : (at n : ℕ) (w : List ℕ) (f : Form) (ts rest : List Lexeme) → w ≡ codes "answers" → FormAfterS at AnswersHead f ts rest → FormS f (Open at ∷ Word n w ∷ ts) rest
 answers_is at n w f ts rest e (callee, us, (m, name, en, ec), (x, mid, (cases, s, g), (p, q))) =
     subst (λ z. FormS z (Open at ∷ Word n w ∷ ts) rest) (sym (p ∙ ap (λ z. form.Answers callee z x.1 at) g))
     (subst (λ z. FormS (form.Answers callee cases x.1 at) (Open at ∷ Word n w ∷ z) rest) (sym en) (answers at n m w name callee cases x.1 us rest e ec (subst (λ z. CasesS cases x.1 us z) q s)))
 
-turns_is : (at n : ℕ) (w : List ℕ) (f : Form) (ts rest : List Lexeme) → w ≡ codes "turns" → BehindS at TurnsHead f ts rest → FormS f (Open at ∷ Word n w ∷ ts) rest
+turns_is : (at n : ℕ) (w : List ℕ) (f : Form) (ts rest : List Lexeme) → w ≡ codes "turns" → FormAfterS at TurnsHead f ts rest → FormS f (Open at ∷ Word n w ∷ ts) rest
 turns_is at n w f ts rest e (callee, us, (m, name, en, ec), (x, mid, s, (p, q))) =
     subst (λ z. FormS z (Open at ∷ Word n w ∷ ts) rest) (sym p)
     (subst (λ z. FormS (form.Turns callee x.0 x.1 at) (Open at ∷ Word n w ∷ z) rest) (sym en) (turns at n m w name callee x.0 x.1 us rest e ec (subst (λ z. TurnsS x.0 x.1 us z) q s)))
 
 -- a form that may stand anywhere changes nothing
-stays : (held max : Bool) (f : Form) (others : List Form) (ts rest : List Lexeme) → FormS f ts rest → FormsS (held_behind held f) (max_behind max f) others rest → FormsS held max (f ∷ others) ts
+stays : (held max : Bool) (f : Form) (others : List Form) (ts rest : List Lexeme) → FormS f ts rest → FormsS (held_after held f) (max_after max f) others rest → FormsS held max (f ∷ others) ts
 stays held max _ others _ _ (const at h n c w name v ts rest e nm s) k = a_form held max _ others _ rest (const at h n c w name v ts rest e nm s) k
 stays held max _ others _ _ (answers at h n w name callee cases a ts rest e ec s) k = a_form held max _ others _ rest (answers at h n w name callee cases a ts rest e ec s) k
 stays held max _ others _ _ (turns at h n w name callee ts a us rest e ec s) k = a_form held max _ others _ rest (turns at h n w name callee ts a us rest e ec s) k
 
-behind_forms : (held max : Bool) (h : FormHead) (at n : ℕ) (w : List ℕ) (f : Form) (others : List Form) (ts rest : List Lexeme) → IsFormHead held max h w → BehindS at h f ts rest
-    → FormsS (held_behind held f) (max_behind max f) others rest → FormsS held max (f ∷ others) (Open at ∷ Word n w ∷ ts)
-behind_forms held max HeldHead at n w f others ts rest x s k =
+after_forms : (held max : Bool) (h : FormHead) (at n : ℕ) (w : List ℕ) (f : Form) (others : List Form) (ts rest : List Lexeme) → IsFormHead held max h w → FormAfterS at h f ts rest
+    → FormsS (held_after held f) (max_after max f) others rest → FormsS held max (f ∷ others) (Open at ∷ Word n w ∷ ts)
+after_forms held max HeldHead at n w f others ts rest x s k =
     let y = counted_is (λ n. form.Held n at) f ts rest s in
     subst (λ z. FormsS held max (z ∷ others) (Open at ∷ Word n w ∷ ts)) (sym y.6)
     (subst (λ z. FormsS z max (form.Held y.0 at ∷ others) (Open at ∷ Word n w ∷ ts)) (sym x.0)
     (subst (λ z. FormsS true max (form.Held y.0 at ∷ others) (Open at ∷ Word n w ∷ z)) (sym y.4)
-    (held_form max at n y.1 y.2 y.0 w y.3 others rest x.1 y.5 (subst (λ z. FormsS (held_behind held z) (max_behind max z) others rest) y.6 k))))
-behind_forms held max MaxHead at n w f others ts rest x s k =
+    (held_form max at n y.1 y.2 y.0 w y.3 others rest x.1 y.5 (subst (λ z. FormsS (held_after held z) (max_after max z) others rest) y.6 k))))
+after_forms held max MaxHead at n w f others ts rest x s k =
     let y = counted_is (λ n. form.Max n at) f ts rest s in
     subst (λ z. FormsS held max (z ∷ others) (Open at ∷ Word n w ∷ ts)) (sym y.6)
     (subst (λ z. FormsS held z (form.Max y.0 at ∷ others) (Open at ∷ Word n w ∷ ts)) (sym x.0)
     (subst (λ z. FormsS held true (form.Max y.0 at ∷ others) (Open at ∷ Word n w ∷ z)) (sym y.4)
-    (max_form held at n y.1 y.2 y.0 w y.3 others rest x.1 y.5 (subst (λ z. FormsS (held_behind held z) (max_behind max z) others rest) y.6 k))))
-behind_forms held max ConstHead at n w f others ts rest x (name, us, nm, s) k = stays held max f others (Open at ∷ Word n w ∷ ts) rest (const_is at n w name f ts us rest x nm s) k
-behind_forms held max AnswersHead at n w f others ts rest x s k = stays held max f others (Open at ∷ Word n w ∷ ts) rest (answers_is at n w f ts rest x s) k
-behind_forms held max TurnsHead at n w f others ts rest x s k = stays held max f others (Open at ∷ Word n w ∷ ts) rest (turns_is at n w f ts rest x s) k
+    (max_form held at n y.1 y.2 y.0 w y.3 others rest x.1 y.5 (subst (λ z. FormsS (held_after held z) (max_after max z) others rest) y.6 k))))
+after_forms held max ConstHead at n w f others ts rest x (name, us, nm, s) k = stays held max f others (Open at ∷ Word n w ∷ ts) rest (const_is at n w name f ts us rest x nm s) k
+after_forms held max AnswersHead at n w f others ts rest x s k = stays held max f others (Open at ∷ Word n w ∷ ts) rest (answers_is at n w f ts rest x s) k
+after_forms held max TurnsHead at n w f others ts rest x s k = stays held max f others (Open at ∷ Word n w ∷ ts) rest (turns_is at n w f ts rest x s) k
 
 -- one form, and the others
-pub one_forms : (still : Still) (f : Form) (others : List Form) (ts rest : List Lexeme) → OneS still f ts rest → FormsS (held_behind still.0 f) (max_behind still.1 f) others rest → FormsS still.0 still.1 (f ∷ others) ts
+pub one_forms : (still : Still) (f : Form) (others : List Form) (ts rest : List Lexeme) → OneS still f ts rest → FormsS (held_after still.0 f) (max_after still.1 f) others rest → FormsS still.0 still.1 (f ∷ others) ts
 one_forms still f others ts rest (at, us, eo, (h, vs, (n, w, ew, eh), b)) k =
-    subst (λ z. FormsS still.0 still.1 (f ∷ others) z) (sym (eo ∙ ap (λ z. Open at ∷ z) ew)) (behind_forms still.0 still.1 h at n w f others vs rest (form_head_is still.0 still.1 w h eh) b k)
+    subst (λ z. FormsS still.0 still.1 (f ∷ others) z) (sym (eo ∙ ap (λ z. Open at ∷ z) ew)) (after_forms still.0 still.1 h at n w f others vs rest (form_head_is still.0 still.1 w h eh) b k)
 
 -- a form that may stand anywhere, and that it changes nothing
-pub form_one : (held max : Bool) (f : Form) (ts rest : List Lexeme) → FormS f ts rest → OneS (held, max) f ts rest × (held_behind held f ≡ held) × (max_behind max f ≡ max)
+pub form_one : (held max : Bool) (f : Form) (ts rest : List Lexeme) → FormS f ts rest → OneS (held, max) f ts rest × (held_after held f ≡ held) × (max_after max f ≡ max)
 form_one held max _ _ _ (const at h n c w name v ts rest e nm s) =
     ((at, Word h w ∷ Word n name ∷ ts, refl, (ConstHead, Word n name ∷ ts, (h, w, refl, const_head held max w e), (name, ts, symbol n name ts nm, (v, Close c ∷ rest, s, (c, rest, refl, (refl, refl)))))), refl, refl)
 form_one held max _ _ _ (answers at h n w name callee cases a ts rest e ec s) =
@@ -186,17 +186,17 @@ module _ (n d : ℕ) (fits : 1 + d ≡ most_open) (two : 2 ≤ d) where
   unfolding read_count
   law_counted made = law_next _ _ (law_word count_of (codes "1", 1, a_count) (opened_word 1 count_of (omega (arith, fits)))) (λ count. law_closed (made count))
 
-  law_behind : (at : ℕ) (h : FormHead) → Law (Opened 1) (λ f. Opened 0) Anything n (BehindS at h) (read_behind n d at h)
+  law_form_after : (at : ℕ) (h : FormHead) → Law (Opened 1) (λ f. Opened 0) Anything n (FormAfterS at h) (read_form_after n d at h)
   unfolding read_held read_max read_const read_answers read_turned
-  law_behind at HeldHead = law_counted (λ count. form.Held count at)
-  law_behind at MaxHead = law_counted (λ count. form.Max count at)
-  law_behind at ConstHead =
+  law_form_after at HeldHead = law_counted (λ count. form.Held count at)
+  law_form_after at MaxHead = law_counted (λ count. form.Max count at)
+  law_form_after at ConstHead =
       law_next _ _ (law_name (opened_word 1 name_of (omega (arith, fits)))) (λ name.
       law_next _ _ (law_value n 0 d fits) (λ v. law_closed (form.Const name v at)))
-  law_behind at AnswersHead =
+  law_form_after at AnswersHead =
       law_next _ _ law_callee (λ callee.
       law_next _ _ (law_cases n (d - 1) (omega (arith, fits, two)) (omega (arith, two)) n (omega arith) []) (λ x. law_ret _ (λ q p. p)))
-  law_behind at TurnsHead = law_next _ _ law_callee (λ callee. law_next _ _ (law_turns n d fits) (λ x. law_ret _ (λ q p. p)))
+  law_form_after at TurnsHead = law_next _ _ law_callee (λ callee. law_next _ _ (law_turns n d fits) (λ x. law_ret _ (λ q p. p)))
 
   some_form : (held max : Bool) → form_head_of held max (codes "const") ≡ Some ConstHead
   some_form held max = const_head held max (codes "const") refl
@@ -205,4 +205,4 @@ module _ (n d : ℕ) (fits : 1 + d ≡ most_open) (two : 2 ≤ d) where
   unfolding read_form read_form_head
   law_form still =
       law_next _ _ (law_open (opened_open 0 (omega (arith, fits)))) (λ at.
-      law_next _ _ (law_word (form_head_of still.0 still.1) (codes "const", ConstHead, some_form still.0 still.1) (opened_word 1 (form_head_of still.0 still.1) (omega (arith, fits)))) (λ h. law_behind at h))
+      law_next _ _ (law_word (form_head_of still.0 still.1) (codes "const", ConstHead, some_form still.0 still.1) (opened_word 1 (form_head_of still.0 still.1) (omega (arith, fits)))) (λ h. law_form_after at h))

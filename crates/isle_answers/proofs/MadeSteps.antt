@@ -17,12 +17,6 @@ made_tuple w vs e =
     ap (λ z. Some (Tuple z)) (sym (listed_in_order vs))
     ∙ sym (ap (λ a. if a then Some (Tuple (listed (in_order vs))) else (if is_reserved w then None else Some (One (Made w (in_order vs))))) e)
 
--- the only one
-pub only_one : {B : Type 0} (f : B → Written) (xs ys : List B) (x : B) → length xs ≡ 1 → xs ≡ ys ++ x ∷ [] → Some (f x) ≡ only_of (in_order (map f xs))
-only_one f xs [] x l e = ap (λ z. only_of (in_order (map f z))) (sym e)
-only_one f xs (y ∷ []) x l e = let a : length xs ≡ 2 = ap length e in absurd (omega (arith, a, l))
-only_one f xs (y ∷ z ∷ ys) x l e = let a : length xs ≡ length (y ∷ z ∷ (ys ++ x ∷ [])) = ap length e in absurd (omega (arith, a, l))
-
 pub no_only : {B : Type 0} (f : B → Written) (xs : List B) → (length xs == 1) ≡ false → None ≡ only_of (in_order (map f xs))
 no_only f [] h = refl
 no_only f (x ∷ []) h = cc

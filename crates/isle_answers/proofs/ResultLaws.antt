@@ -15,34 +15,34 @@ use Rattle.isle_values.specs.Reading.{word_value, read_simple, read_value}
 use Rattle.isle_values.proofs.ValueLaws.{simple_to, integer_value, values_to, values_from, value_starts, a_simple, law_value, law_values}
 use Rattle.isle_answers.specs.Form.{ResultForm, One, Tuple}
 use Rattle.isle_answers.specs.Spelling.{IsOwn, ResultS, one, tuple}
-use Rattle.isle_answers.specs.Reading.{ResultHead, TupleHead, MadeHead, result_head_of, read_result_head, read_simple_result, read_result_behind, read_result_list, read_result}
+use Rattle.isle_answers.specs.Reading.{ResultHead, TupleHead, MadeHead, result_head_of, read_result_head, read_simple_result, read_result_after, read_result_list, read_result}
 use Rattle.isle_answers.proofs.HeadWords.{result_head_is, made_head, tuple_head}
 
 -- ---- the same said by parts
 
 -- behind the first word of a list
-abbrev pub BehindS : ResultHead → ResultForm → List Lexeme → List Lexeme → Type 0
-BehindS TupleHead = Then (Many ValueS) (λ vs. Nothing (Tuple vs))
-BehindS (MadeHead w) = Then (Many ValueS) (λ vs. Nothing (One (Made w (in_order vs))))
+abbrev pub ResultAfterS : ResultHead → ResultForm → List Lexeme → List Lexeme → Type 0
+ResultAfterS TupleHead = Then (Many ValueS) (λ vs. Nothing (Tuple vs))
+ResultAfterS (MadeHead w) = Then (Many ValueS) (λ vs. Nothing (One (Made w (in_order vs))))
 
 abbrev pub ResultListS : ResultForm → List Lexeme → List Lexeme → Type 0
-ResultListS = Then OpenS (λ o. Then (WordS result_head_of) BehindS)
+ResultListS = Then OpenS (λ o. Then (WordS result_head_of) ResultAfterS)
 
 -- a result of one word
 abbrev pub SimpleResultS : ResultForm → List Lexeme → List Lexeme → Type 0
 SimpleResultS = Then (WordS word_value) (λ v. Nothing (One v))
 
-behind_to : (h : ResultHead) (at m : ℕ) (w : List ℕ) (r : ResultForm) (ts rest : List Lexeme) → result_head_of w ≡ Some h → BehindS h r ts rest → ResultS r (Open at ∷ Word m w ∷ ts) rest
-behind_to TupleHead at m w r ts rest e (vs, mid, s, (p, q)) =
+result_to : (h : ResultHead) (at m : ℕ) (w : List ℕ) (r : ResultForm) (ts rest : List Lexeme) → result_head_of w ≡ Some h → ResultAfterS h r ts rest → ResultS r (Open at ∷ Word m w ∷ ts) rest
+result_to TupleHead at m w r ts rest e (vs, mid, s, (p, q)) =
     subst (λ z. ResultS z (Open at ∷ Word m w ∷ ts) rest) (sym p) (tuple at m w vs ts rest (result_head_is w TupleHead e) (subst (λ z. Many ValueS vs ts z) q s))
-behind_to (MadeHead v) at m w r ts rest e (vs, mid, s, (p, q)) =
+result_to (MadeHead v) at m w r ts rest e (vs, mid, s, (p, q)) =
     let x = result_head_is w (MadeHead v) e in
     subst (λ z. ResultS z (Open at ∷ Word m w ∷ ts) rest) (sym (p ∙ ap (λ z. One (Made z (in_order vs))) x.0))
     (one (Made w (in_order vs)) (Open at ∷ Word m w ∷ ts) rest (made at m w (in_order vs) ts rest x.1 (values_to vs ts rest (subst (λ z. Many ValueS vs ts z) q s))) x.2)
 
 pub result_list_to : (r : ResultForm) (ts rest : List Lexeme) → ResultListS r ts rest → ResultS r ts rest
 result_list_to r ts rest (o, us, eo, (h, vs, (at, w, ew, eh), b)) =
-    subst (λ z. ResultS r z rest) (sym (eo ∙ ap (λ z. Open o ∷ z) ew)) (behind_to h o at w r vs rest eh b)
+    subst (λ z. ResultS r z rest) (sym (eo ∙ ap (λ z. Open o ∷ z) ew)) (result_to h o at w r vs rest eh b)
 
 own_simple : (v : Written) (ts rest : List Lexeme) → WordS word_value v ts rest → ValueS v ts rest → IsOwn v
 own_simple (Truth b) ts rest s h = tt
@@ -89,16 +89,16 @@ unfolding read_simple_result read_simple
 law_simple_result n k l = law_next _ _ (law_word word_value a_simple (opened_word k word_value l)) (λ v. law_ret _ (λ q p. p))
 
 -- behind the first word, where the parenthesis is open
-pub law_result_behind : (n k d : ℕ) → suc k + d ≡ most_open → (h : ResultHead) → Law (Opened (suc k)) (λ r. Opened k) Anything n (BehindS h) (read_result_behind n d h)
-unfolding read_result_behind
-law_result_behind n k d e TupleHead = law_next _ _ (law_values n k (read_value n d) (omega (arith, e)) (law_value n k d e)) (λ vs. law_ret _ (λ q p. p))
-law_result_behind n k d e (MadeHead w) = law_next _ _ (law_values n k (read_value n d) (omega (arith, e)) (law_value n k d e)) (λ vs. law_ret _ (λ q p. p))
+pub law_result_after : (n k d : ℕ) → suc k + d ≡ most_open → (h : ResultHead) → Law (Opened (suc k)) (λ r. Opened k) Anything n (ResultAfterS h) (read_result_after n d h)
+unfolding read_result_after
+law_result_after n k d e TupleHead = law_next _ _ (law_values n k (read_value n d) (omega (arith, e)) (law_value n k d e)) (λ vs. law_ret _ (λ q p. p))
+law_result_after n k d e (MadeHead w) = law_next _ _ (law_values n k (read_value n d) (omega (arith, e)) (law_value n k d e)) (λ vs. law_ret _ (λ q p. p))
 
 law_list : (n k d : ℕ) → suc k + d ≡ most_open → Law (Opened k) (λ r. Opened k) Anything n ResultListS (read_result_list n d)
 unfolding read_result_list read_result_head
 law_list n k d e =
     law_next _ _ (law_open (opened_open k (omega (arith, e)))) (λ o.
-    law_next _ _ (law_word result_head_of (codes "tuple", TupleHead, a_tuple) (opened_word (suc k) result_head_of (omega (arith, e)))) (λ h. law_result_behind n k d e h))
+    law_next _ _ (law_word result_head_of (codes "tuple", TupleHead, a_tuple) (opened_word (suc k) result_head_of (omega (arith, e)))) (λ h. law_result_after n k d e h))
 
 pub law_result : (n k d : ℕ) → suc k + d ≡ most_open → Law (Opened (suc k)) (λ r. Opened (suc k)) Anything n ResultS (read_result n d)
 unfolding read_result

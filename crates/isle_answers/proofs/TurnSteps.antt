@@ -19,14 +19,6 @@ use Rattle.isle_answers.proofs.Choices.{answer_none, answer_closed}
 pub last_seen : {B : Type 0} (f : B → AnswerForm) (xs : List B) (x : B) → reverse (map f (xs ++ x ∷ [])) ≡ f x ∷ reverse (map f xs)
 last_seen f xs x = ap reverse (map-append f xs (x ∷ [])) ∙ reverse-append (map f xs) (f x ∷ [])
 
-pub ended_last : {B : Type 0} (f : B → AnswerForm) (xs ys : List B) (x : B) (o : Option AnswerForm) → xs ≡ ys ++ x ∷ [] → o ≡ rest_is (f x) → option_map (λ a. (map f ys, a)) o ≡ ended (reverse (map f xs))
-ended_last f xs ys x o e h =
-    ap (option_map (λ a. (map f ys, a))) h ∙ ap (λ z. option_map (λ a. (z, a)) (rest_is (f x))) (sym (reverse-reverse (map f ys)))
-    ∙ ap ended (sym (last_seen f ys x)) ∙ ap (λ z. ended (reverse (map f z))) (sym e)
-
-pub ended_none : {B : Type 0} (f : B → AnswerForm) (xs : List B) → xs ≡ [] → None ≡ ended (reverse (map f xs))
-ended_none f xs e = ap (λ z. ended (reverse (map f z))) (sym e)
-
 -- ---- the parenthesis, or one turn more
 
 -- no parenthesis closes

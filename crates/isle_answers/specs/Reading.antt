@@ -54,13 +54,13 @@ unfoldable pub read_simple_result : Reader ResultForm
 read_simple_result = bind read_simple (λ v. Ret (One v))
 
 -- behind the first word of a result's list, its values' parentheses nesting at most d deep
-unfoldable pub read_result_behind : ℕ → ℕ → ResultHead → Reader ResultForm
-read_result_behind n d TupleHead = bind (many n (read_value n d)) (λ vs. Ret (Tuple vs))
-read_result_behind n d (MadeHead w) = bind (many n (read_value n d)) (λ vs. Ret (One (Made w (in_order vs))))
+unfoldable pub read_result_after : ℕ → ℕ → ResultHead → Reader ResultForm
+read_result_after n d TupleHead = bind (many n (read_value n d)) (λ vs. Ret (Tuple vs))
+read_result_after n d (MadeHead w) = bind (many n (read_value n d)) (λ vs. Ret (One (Made w (in_order vs))))
 
 -- a result's list, with its parenthesis
 unfoldable pub read_result_list : ℕ → ℕ → Reader ResultForm
-read_result_list n d = bind read_open (λ o. bind read_result_head (λ h. read_result_behind n d h))
+read_result_list n d = bind read_open (λ o. bind read_result_head (λ h. read_result_after n d h))
 
 -- R, whose parentheses nest at most d deep
 unfoldable pub read_result : ℕ → ℕ → Reader ResultForm
@@ -68,15 +68,15 @@ read_result n zero = Peek is_open Halt read_simple_result
 read_result n (suc d) = Peek is_open (read_result_list n d) read_simple_result
 
 -- behind the first word of an answer's list
-unfoldable pub read_answer_behind : ℕ → ℕ → AnswerHead → Reader AnswerForm
-read_answer_behind n d SomeHead = bind (read_result n d) (λ r. bind read_close (λ c. Ret (Found r)))
-read_answer_behind n d NoneHead = bind read_close (λ c. Ret Nothing)
-read_answer_behind n d ListHead = bind (many n (read_result n d)) (λ rs. Ret (Several rs))
-read_answer_behind n d (ResultIs h) = bind (read_result_behind n d h) (λ r. Ret (Plain r))
+unfoldable pub read_answer_after : ℕ → ℕ → AnswerHead → Reader AnswerForm
+read_answer_after n d SomeHead = bind (read_result n d) (λ r. bind read_close (λ c. Ret (Found r)))
+read_answer_after n d NoneHead = bind read_close (λ c. Ret Nothing)
+read_answer_after n d ListHead = bind (many n (read_result n d)) (λ rs. Ret (Several rs))
+read_answer_after n d (ResultIs h) = bind (read_result_after n d h) (λ r. Ret (Plain r))
 
 -- an answer's list, with its parenthesis
 unfoldable pub read_answer_list : ℕ → ℕ → Reader AnswerForm
-read_answer_list n d = bind read_open (λ o. bind read_answer_head (λ h. read_answer_behind n d h))
+read_answer_list n d = bind read_open (λ o. bind read_answer_head (λ h. read_answer_after n d h))
 
 -- an answer of one word
 unfoldable pub read_simple_answer : Reader AnswerForm
@@ -269,12 +269,12 @@ unfoldable pub read_turned : ℕ → ℕ → ℕ → Reader Form
 read_turned n d at = bind read_callee (λ callee. bind (read_turns n d n []) (λ x. Ret (form.Turns callee x.0 x.1 at)))
 
 -- behind the first word of the form at that place
-abbrev pub read_behind : ℕ → ℕ → ℕ → FormHead → Reader Form
-read_behind n d at HeldHead = read_held at
-read_behind n d at MaxHead = read_max at
-read_behind n d at ConstHead = read_const n d at
-read_behind n d at AnswersHead = read_answers n d at
-read_behind n d at TurnsHead = read_turned n d at
+abbrev pub read_form_after : ℕ → ℕ → ℕ → FormHead → Reader Form
+read_form_after n d at HeldHead = read_held at
+read_form_after n d at MaxHead = read_max at
+read_form_after n d at ConstHead = read_const n d at
+read_form_after n d at AnswersHead = read_answers n d at
+read_form_after n d at TurnsHead = read_turned n d at
 
 -- whether `held` and `max` may still stand
 abbrev pub Still : Type 0
@@ -282,28 +282,28 @@ Still = Bool × Bool
 
 -- a form
 unfoldable pub read_form : ℕ → ℕ → Still → Reader Form
-read_form n d still = bind read_open (λ at. bind (read_form_head still.0 still.1) (λ h. read_behind n d at h))
+read_form n d still = bind read_open (λ at. bind (read_form_head still.0 still.1) (λ h. read_form_after n d at h))
 
 -- whether `held` may still stand behind the form
-abbrev pub held_behind : Bool → Form → Bool
-held_behind held (form.Held count at) = false
-held_behind held (form.Max count at) = held
-held_behind held (form.Const name v at) = held
-held_behind held (form.Answers callee cases rest at) = held
-held_behind held (form.Turns callee turns rest at) = held
+abbrev pub held_after : Bool → Form → Bool
+held_after held (form.Held count at) = false
+held_after held (form.Max count at) = held
+held_after held (form.Const name v at) = held
+held_after held (form.Answers callee cases rest at) = held
+held_after held (form.Turns callee turns rest at) = held
 
 -- whether `max` may still stand behind the form
-abbrev pub max_behind : Bool → Form → Bool
-max_behind max (form.Held count at) = max
-max_behind max (form.Max count at) = false
-max_behind max (form.Const name v at) = max
-max_behind max (form.Answers callee cases rest at) = max
-max_behind max (form.Turns callee turns rest at) = max
+abbrev pub max_after : Bool → Form → Bool
+max_after max (form.Held count at) = max
+max_after max (form.Max count at) = false
+max_after max (form.Const name v at) = max
+max_after max (form.Answers callee cases rest at) = max
+max_after max (form.Turns callee turns rest at) = max
 
 -- what may still stand behind the form
-abbrev pub still_behind : Still → Form → Still
-still_behind still f = (held_behind still.0 f, max_behind still.1 f)
+abbrev pub still_after : Still → Form → Still
+still_after still f = (held_after still.0 f, max_after still.1 f)
 
 -- forms up to the end, of at most n tokens
 unfoldable pub read_forms : ℕ → Reader (List Form)
-read_forms n = all_from n (read_form n (most_open - 1)) still_behind (true, true)
+read_forms n = all_from n (read_form n (most_open - 1)) still_after (true, true)

@@ -33,11 +33,13 @@ pub data AnswerS : AnswerForm → List Lexeme → List Lexeme → Type 0 where
   -- ( none )
   nothing : (at h c : ℕ) (w : List ℕ) (rest : List Lexeme) → w ≡ codes "none" → AnswerS Nothing (Open at ∷ Word h w ∷ Close c ∷ rest) rest
   -- ( list R* )
-  several : (at h : ℕ) (w : List ℕ) (rs : List ResultForm) (ts rest : List Lexeme) → w ≡ codes "list" → Many ResultS rs ts rest → AnswerS (Several rs) (Open at ∷ Word h w ∷ ts) rest
+  several : (at h : ℕ) (w : List ℕ) (rs : List ResultForm) (ts rest : List Lexeme) → w ≡ codes "list" → Many ResultS rs ts rest
+      → AnswerS (Several rs) (Open at ∷ Word h w ∷ ts) rest
 
 -- ( rest A ) and the parenthesis behind it
 pub data RestS : AnswerForm → List Lexeme → List Lexeme → Type 0 where
-  rest_of : (at h c e : ℕ) (w : List ℕ) (a : AnswerForm) (ts rest : List Lexeme) → w ≡ codes "rest" → AnswerS a ts (Close c ∷ Close e ∷ rest) → RestS a (Open at ∷ Word h w ∷ ts) rest
+  rest_of : (at h c e : ℕ) (w : List ℕ) (a : AnswerForm) (ts rest : List Lexeme) → w ≡ codes "rest" → AnswerS a ts (Close c ∷ Close e ∷ rest)
+      → RestS a (Open at ∷ Word h w ∷ ts) rest
 
 -- ( case ( V* ) A )* ( rest A ) )
 pub data CasesS : List CaseForm → AnswerForm → List Lexeme → List Lexeme → Type 0 where
@@ -49,7 +51,8 @@ pub data CasesS : List CaseForm → AnswerForm → List Lexeme → List Lexeme �
 -- A* ( rest A ) )
 pub data TurnsS : List AnswerForm → AnswerForm → List Lexeme → List Lexeme → Type 0 where
   no_turn : (a : AnswerForm) (ts rest : List Lexeme) → RestS a ts rest → TurnsS [] a ts rest
-  a_turn : (turn : AnswerForm) (others : List AnswerForm) (a : AnswerForm) (ts mid rest : List Lexeme) → AnswerS turn ts mid → TurnsS others a mid rest → TurnsS (turn ∷ others) a ts rest
+  a_turn : (turn : AnswerForm) (others : List AnswerForm) (a : AnswerForm) (ts mid rest : List Lexeme) → AnswerS turn ts mid → TurnsS others a mid rest
+      → TurnsS (turn ∷ others) a ts rest
 
 -- a form that may stand anywhere, any number of times
 pub data FormS : Form → List Lexeme → List Lexeme → Type 0 where
@@ -57,19 +60,23 @@ pub data FormS : Form → List Lexeme → List Lexeme → Type 0 where
   const : (at h n c : ℕ) (w name : List ℕ) (v : Written) (ts rest : List Lexeme) → w ≡ codes "const" → IsName name → ValueS v ts (Close c ∷ rest)
       → FormS (form.Const name v at) (Open at ∷ Word h w ∷ Word n name ∷ ts) rest
   -- ( answers CALLEE ( case ( V* ) A )* ( rest A ) )
-  answers : (at h n : ℕ) (w name : List ℕ) (callee : Callee) (cases : List CaseForm) (a : AnswerForm) (ts rest : List Lexeme) → w ≡ codes "answers" → callee_of name ≡ Some callee → CasesS cases a ts rest
+  answers : (at h n : ℕ) (w name : List ℕ) (callee : Callee) (cases : List CaseForm) (a : AnswerForm) (ts rest : List Lexeme) → w ≡ codes "answers"
+      → callee_of name ≡ Some callee → CasesS cases a ts rest
       → FormS (form.Answers callee cases a at) (Open at ∷ Word h w ∷ Word n name ∷ ts) rest
   -- ( turns CALLEE A* ( rest A ) )
-  turns : (at h n : ℕ) (w name : List ℕ) (callee : Callee) (turns : List AnswerForm) (a : AnswerForm) (ts rest : List Lexeme) → w ≡ codes "turns" → callee_of name ≡ Some callee → TurnsS turns a ts rest
+  turns : (at h n : ℕ) (w name : List ℕ) (callee : Callee) (turns : List AnswerForm) (a : AnswerForm) (ts rest : List Lexeme) → w ≡ codes "turns"
+      → callee_of name ≡ Some callee → TurnsS turns a ts rest
       → FormS (form.Turns callee turns a at) (Open at ∷ Word h w ∷ Word n name ∷ ts) rest
 
 -- forms up to the end, where ( held N ) and ( max N ) may still stand, once, or may not
 pub data FormsS : (held max : Bool) → List Form → List Lexeme → Type 0 where
   no_form : (held max : Bool) → FormsS held max [] []
   a_form : (held max : Bool) (f : Form) (others : List Form) (ts rest : List Lexeme) → FormS f ts rest → FormsS held max others rest → FormsS held max (f ∷ others) ts
-  held_form : (max : Bool) (at h n c count : ℕ) (w digits : List ℕ) (others : List Form) (rest : List Lexeme) → w ≡ codes "held" → count_of digits ≡ Some count → FormsS false max others rest
+  held_form : (max : Bool) (at h n c count : ℕ) (w digits : List ℕ) (others : List Form) (rest : List Lexeme) → w ≡ codes "held" → count_of digits ≡ Some count
+      → FormsS false max others rest
       → FormsS true max (form.Held count at ∷ others) (Open at ∷ Word h w ∷ Word n digits ∷ Close c ∷ rest)
-  max_form : (held : Bool) (at h n c count : ℕ) (w digits : List ℕ) (others : List Form) (rest : List Lexeme) → w ≡ codes "max" → count_of digits ≡ Some count → FormsS held false others rest
+  max_form : (held : Bool) (at h n c count : ℕ) (w digits : List ℕ) (others : List Form) (rest : List Lexeme) → w ≡ codes "max" → count_of digits ≡ Some count
+      → FormsS held false others rest
       → FormsS held true (form.Max count at ∷ others) (Open at ∷ Word h w ∷ Word n digits ∷ Close c ∷ rest)
 
 -- the tokens are accepted: no deeper than they may be, and forms

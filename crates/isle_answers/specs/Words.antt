@@ -16,8 +16,8 @@ some_name None = None
 some_name (Some name) = if length name == 0 then None else Some name
 
 -- what stands behind the prefix of a word that is longer
-abbrev pub name_behind : List ℕ → List ℕ → Option (List ℕ)
-name_behind prefix w = some_name (after_prefix prefix w)
+abbrev pub name_after : List ℕ → List ℕ → Option (List ℕ)
+name_after prefix w = some_name (after_prefix prefix w)
 
 -- the internal callee of that name, if there is one
 abbrev pub internal_of : Option (List ℕ) → Option Callee
@@ -31,7 +31,7 @@ external_or (Some name) other = Some (External name)
 
 -- C::F or constructor_T
 unfoldable pub callee_of : List ℕ → Option Callee
-callee_of w = external_or (name_behind (codes "C::") w) (internal_of (name_behind (codes "constructor_") w))
+callee_of w = external_or (name_after (codes "C::") w) (internal_of (name_after (codes "constructor_") w))
 
 -- a list that begins with this word, where an answer or a result stands, is a form of its own
 abbrev pub is_reserved : List ℕ → Bool

@@ -1,12 +1,12 @@
 ghost use Rattle.std.specs.Prelude.{◌≡◌, IfOk, option_map};
 ghost use Rattle.isle_reading.specs.Combinators.{next_word};
 ghost use Rattle.isle_reading.specs.Views.{left, Reads};
-ghost use Rattle.isle_answers.specs.Reading.{answer_head_of, read_answer_head, read_answer_behind, read_answer_list, read_answer};
+ghost use Rattle.isle_answers.specs.Reading.{answer_head_of, read_answer_head, read_answer_after, read_answer_list, read_answer};
 ghost use Rattle.isle_answers.specs.Views.{answer_seen};
 ghost use Rattle.isle_answers.specs.HeadViews.{answer_head_seen};
 
 use crate::form::AnswerForm;
-use crate::result::{ResultHead, result, result_behind, result_head_of, results, simple_result};
+use crate::result::{ResultHead, result, result_after, result_head_of, results, simple_result};
 use isle_core::List;
 use isle_reading::{Fail, Tokens};
 use std::alloc::{AllocError, Global};
@@ -54,15 +54,15 @@ fn answer_head(tokens: &mut Tokens<'_>, alloc: Global) -> Result<AnswerHead, Fai
 }
 
 // What stands behind the first word of an answer's list.
-#[tactic(auto, using(isle_reading::proofs::Steps::chain), unfolding(crate::specs::Reading::read_answer_behind))]
-fn answer_behind(
+#[tactic(auto, using(isle_reading::proofs::Steps::chain), unfolding(crate::specs::Reading::read_answer_after))]
+fn answer_after(
     tokens: &mut Tokens<'_>,
     alloc: Global,
     most: usize,
     depth: usize,
     head: AnswerHead,
 ) -> Result<AnswerForm, Fail>
-    ensures { Reads answer_seen result (read_answer_behind most depth (answer_head_seen head)) (left tokens.old) (left tokens.new) }
+    ensures { Reads answer_seen result (read_answer_after most depth (answer_head_seen head)) (left tokens.old) (left tokens.new) }
 {
     match head {
         AnswerHead::Some => {
@@ -78,7 +78,7 @@ fn answer_behind(
             let several = results(tokens, alloc, most, depth)?;
             Ok(AnswerForm::List(List::new(several)))
         }
-        AnswerHead::Result(head) => Ok(AnswerForm::Plain(result_behind(
+        AnswerHead::Result(head) => Ok(AnswerForm::Plain(result_after(
             tokens, alloc, most, depth, head,
         )?)),
     }
@@ -96,7 +96,7 @@ fn answer_list(
 {
     tokens.open()?;
     let head = answer_head(tokens, alloc)?;
-    answer_behind(tokens, alloc, most, depth, head)
+    answer_after(tokens, alloc, most, depth, head)
 }
 
 /// Reads an answer whose parentheses nest at most `depth` deep, its lists of at most `most` tokens.

@@ -85,7 +85,8 @@ pub fn cases(
     most: usize,
     depth: usize,
 ) -> Result<(Vec<(List<Written>, AnswerForm)>, AnswerForm), Fail>
-    ensures { Reads (λ read. (map case_seen read.0.items, answer_seen read.1)) result (read_cases most depth most []) (left tokens.old) (left tokens.new) }
+    ensures { Reads (λ read. (map case_seen read.0.items, answer_seen read.1)) result (read_cases most depth most [])
+        (left tokens.old) (left tokens.new) }
 {
     let mut cases = Vec::new(alloc);
     for _ in 0..most {

@@ -3,7 +3,7 @@ ghost use Rattle.isle_reading.specs.Combinators.{next_word};
 ghost use Rattle.isle_reading.specs.Nesting.{most_open};
 ghost use Rattle.isle_reading.specs.Views.{left, Reads};
 ghost use Rattle.isle_answers.specs.Words.{count_of, callee_of};
-ghost use Rattle.isle_answers.specs.Reading.{form_head_of, read_form_head, read_count, read_callee, read_held, read_max, read_const, read_answers, read_turned, read_behind, held_behind, max_behind, read_form, read_forms};
+ghost use Rattle.isle_answers.specs.Reading.{form_head_of, read_form_head, read_count, read_callee, read_held, read_max, read_const, read_answers, read_turned, read_form_after, held_after, max_after, read_form, read_forms};
 ghost use Rattle.isle_answers.specs.Views.{form_seen, forms_seen};
 ghost use Rattle.isle_answers.specs.HeadViews.{form_head_seen};
 
@@ -182,7 +182,7 @@ fn turned(
 }
 
 // What stands behind the first word of the form at that place.
-fn behind(
+fn form_after(
     tokens: &mut Tokens<'_>,
     alloc: Global,
     most: usize,
@@ -190,7 +190,7 @@ fn behind(
     at: usize,
     head: FormHead,
 ) -> Result<Form, Fail>
-    ensures { Reads form_seen result (read_behind most depth at (form_head_seen head)) (left tokens.old) (left tokens.new) }
+    ensures { Reads form_seen result (read_form_after most depth at (form_head_seen head)) (left tokens.old) (left tokens.new) }
 {
     match head {
         FormHead::Held => held_form(tokens, at),
@@ -214,12 +214,12 @@ fn form(
 {
     let at = tokens.open()?;
     let head = head(tokens, held, max)?;
-    behind(tokens, alloc, most, most_inside(), at, head)
+    form_after(tokens, alloc, most, most_inside(), at, head)
 }
 
 // Whether `held` may still stand behind the form.
-fn held_behind(held: bool, form: &Form) -> bool
-    ensures { result ≡ held_behind held (form_seen form.now) }
+fn held_after(held: bool, form: &Form) -> bool
+    ensures { result ≡ held_after held (form_seen form.now) }
 {
     match form {
         Form::Held { .. } => false,
@@ -228,8 +228,8 @@ fn held_behind(held: bool, form: &Form) -> bool
 }
 
 // Whether `max` may still stand behind the form.
-fn max_behind(max: bool, form: &Form) -> bool
-    ensures { result ≡ max_behind max (form_seen form.now) }
+fn max_after(max: bool, form: &Form) -> bool
+    ensures { result ≡ max_after max (form_seen form.now) }
 {
     match form {
         Form::Max { .. } => false,
@@ -250,8 +250,8 @@ pub fn all_forms(tokens: &mut Tokens<'_>, alloc: Global, most: usize) -> Result<
             return Ok(forms);
         }
         let form = form(tokens, alloc, most, held, max)?;
-        held = held_behind(held, &form);
-        max = max_behind(max, &form);
+        held = held_after(held, &form);
+        max = max_after(max, &form);
         forms.push(form)?;
     }
     if tokens.len() == 0 {

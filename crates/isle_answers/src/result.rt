@@ -1,14 +1,14 @@
 ghost use Rattle.std.specs.Prelude.{◌≡◌, IfOk, map, option_map};
 ghost use Rattle.isle_reading.specs.Combinators.{next_word, many};
 ghost use Rattle.isle_reading.specs.Views.{left, Reads};
-ghost use Rattle.isle_answers.specs.Reading.{result_head_of, read_result_head, read_simple_result, read_result_behind, read_result_list, read_result};
+ghost use Rattle.isle_answers.specs.Reading.{result_head_of, read_result_head, read_simple_result, read_result_after, read_result_list, read_result};
 ghost use Rattle.isle_answers.specs.Views.{result_seen};
 ghost use Rattle.isle_answers.specs.HeadViews.{result_head_seen};
 
 use crate::form::ResultForm;
 use crate::words::is_reserved;
 use isle_core::{List, Text};
-use isle_lexer::{is_name, text_of};
+use isle_lexer::is_name;
 use isle_reading::{Fail, Tokens};
 use isle_values::{Written, parts, simple};
 use std::alloc::{AllocError, Global};
@@ -30,7 +30,7 @@ pub fn result_head_of(alloc: Global, word: &str) -> Result<Option<ResultHead>, A
     if is_reserved(word) || !is_name(word) {
         return Ok(None);
     }
-    Ok(Some(ResultHead::Made(text_of(alloc, word)?)))
+    Ok(Some(ResultHead::Made(Text::copied(alloc, word)?)))
 }
 
 // What a result's list is, by the word that is next.
@@ -67,15 +67,15 @@ pub fn simple_result(tokens: &mut Tokens<'_>) -> Result<ResultForm, Fail>
 }
 
 /// Reads what stands behind the first word of a result's list.
-#[tactic(auto, using(isle_reading::proofs::Steps::chain, isle_values::proofs::Sees::sees), unfolding(crate::specs::Reading::read_result_behind))]
-pub fn result_behind(
+#[tactic(auto, using(isle_reading::proofs::Steps::chain, isle_values::proofs::Sees::sees), unfolding(crate::specs::Reading::read_result_after))]
+pub fn result_after(
     tokens: &mut Tokens<'_>,
     alloc: Global,
     most: usize,
     depth: usize,
     head: ResultHead,
 ) -> Result<ResultForm, Fail>
-    ensures { Reads result_seen result (read_result_behind most depth (result_head_seen head)) (left tokens.old) (left tokens.new) }
+    ensures { Reads result_seen result (read_result_after most depth (result_head_seen head)) (left tokens.old) (left tokens.new) }
 {
     let values = List::new(parts(tokens, alloc, most, depth)?);
     match head {
@@ -96,7 +96,7 @@ fn result_list(
 {
     tokens.open()?;
     let head = result_head(tokens, alloc)?;
-    result_behind(tokens, alloc, most, depth, head)
+    result_after(tokens, alloc, most, depth, head)
 }
 
 /// Reads a result whose parentheses nest at most `depth` deep, its lists of at most `most` tokens.

@@ -120,7 +120,8 @@ fn rest_is(alloc: Global, turn: AnswerForm) -> Result<Option<AnswerForm>, AllocE
 
 // The answer in the last turn, which is taken out, where that is a rest.
 fn ended(alloc: Global, turns: &mut Vec<AnswerForm>) -> Result<Option<AnswerForm>, AllocError>
-    ensures { IfOk result (λ read. option_map (λ a. (map answer_seen turns.new.items, answer_seen a)) read ≡ ended (reverse (map answer_seen turns.old.items))) }
+    ensures { IfOk result (λ read. option_map (λ a. (map answer_seen turns.new.items, answer_seen a)) read
+        ≡ ended (reverse (map answer_seen turns.old.items))) }
 {
     match turns.pop() {
         Some(last) => rest_is(alloc, last),
@@ -136,7 +137,8 @@ pub fn turns(
     most: usize,
     depth: usize,
 ) -> Result<(Vec<AnswerForm>, AnswerForm), Fail>
-    ensures { Reads (λ read. (map answer_seen read.0.items, answer_seen read.1)) result (read_turns most depth most []) (left tokens.old) (left tokens.new) }
+    ensures { Reads (λ read. (map answer_seen read.0.items, answer_seen read.1)) result (read_turns most depth most [])
+        (left tokens.old) (left tokens.new) }
 {
     let mut turns = Vec::new(alloc);
     for _ in 0..most {

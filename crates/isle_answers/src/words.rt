@@ -1,6 +1,6 @@
 ghost use Rattle.std.specs.Prelude.{◌≡◌, IfOk};
 ghost use Rattle.std.specs.Option.{option_copied};
-ghost use Rattle.isle_answers.specs.Words.{count_of, name_behind, callee_of, is_reserved};
+ghost use Rattle.isle_answers.specs.Words.{count_of, name_after, callee_of, is_reserved};
 
 use isle_core::{Callee, Text};
 use std::alloc::{AllocError, Global};
@@ -30,8 +30,8 @@ pub fn count_of(word: &str) -> Option<usize>
 }
 
 // What stands behind the prefix of a word that is longer.
-fn behind<'a>(word: &'a str, prefix: &str) -> Option<&'a str>
-    ensures { option_copied result ≡ name_behind prefix.now word.now }
+fn name_after<'a>(word: &'a str, prefix: &str) -> Option<&'a str>
+    ensures { option_copied result ≡ name_after prefix.now word.now }
 {
     let name = word.strip_prefix(prefix)?;
     if name.is_empty() { None } else { Some(name) }
@@ -42,11 +42,11 @@ fn behind<'a>(word: &'a str, prefix: &str) -> Option<&'a str>
 pub fn callee_of(alloc: Global, word: &str) -> Result<Option<Callee>, AllocError>
     ensures { IfOk result (λ callee. callee ≡ callee_of word.now) }
 {
-    if let Some(name) = behind(word, "C::") {
-        return Ok(Some(Callee::External(Text::new(String::from_str(alloc, name)?))));
+    if let Some(name) = name_after(word, "C::") {
+        return Ok(Some(Callee::External(Text::copied(alloc, name)?)));
     }
-    if let Some(name) = behind(word, "constructor_") {
-        return Ok(Some(Callee::Internal(Text::new(String::from_str(alloc, name)?))));
+    if let Some(name) = name_after(word, "constructor_") {
+        return Ok(Some(Callee::Internal(Text::copied(alloc, name)?)));
     }
     Ok(None)
 }

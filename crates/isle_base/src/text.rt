@@ -1,6 +1,7 @@
-ghost use Rattle.std.specs.Prelude.{◌≡◌};
+ghost use Rattle.std.specs.Prelude.{◌≡◌, IfOk};
 ghost use Rattle.std.specs.String.{string_bytes};
 
+use std::alloc::{AllocError, Global};
 use std::marker::Model;
 
 /// A `String` that contracts see as the list of its bytes.
@@ -24,6 +25,13 @@ impl Text {
         ensures { result ≡ string_bytes text }
     {
         Text { text }
+    }
+
+    /// Copies a text. The only error is want of memory.
+    pub fn copied(alloc: Global, text: &str) -> Result<Text, AllocError>
+        ensures { IfOk result (λ copy. copy ≡ text.now) }
+    {
+        Ok(Text::new(String::from_str(alloc, text)?))
     }
 
     /// Returns the text, to read.

@@ -40,7 +40,7 @@ use Rattle.isle_codegen.specs.Meant.{AnswersInhabited}
 -- a term with an external constructor and at most the flag `partial`, called as a constructor
 record IsExternal (env : Environment) (o : CalledTerm) : Type 0 where
   term : Term
-  there : slice_get env.terms o.term.0 ≡ Some term
+  found : slice_get env.terms o.term.0 ≡ Some term
   role : o.role ≡ Constructor
   partial : Bool
   func : Sym

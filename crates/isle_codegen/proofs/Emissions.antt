@@ -28,7 +28,7 @@ at_place ts i x t is e = slice_get-get_or ts i x (slice_get_within ts i t e) ∙
 
 -- the function of a block of the rule set is emitted for it
 pub is_emitted : (files : Files) (env : Environment) (id : TermId) (s : RuleSet) (t : Term) (b : Block) (f : Function) → CanEmit files env (id, s) → slice_get env.terms id.0 ≡ Some t
-    → ((u : Term) → IsSerializable env u s → IsLawfulBlock (setting env u s.bindings) b) → HasSingleArms b → MeansSet env s b → term_function files env t s.bindings b ≡ Some f → IsEmitted files env id s f
+    → ((u : Term) → IsSerializable env u s → IsLawfulBlock (setting env u s.bindings) b) → HasSingleArms b → MeansSet env s b → term_function files (setting env t s.bindings) b ≡ Some f → IsEmitted files env id s f
 is_emitted files env id s t b f h there lawful single means given = record {
   term = h.term;
   found = h.found;
@@ -37,16 +37,16 @@ is_emitted files env id s t b f h there lawful single means given = record {
   single = single;
   means = means;
   once = h.emittable.once;
-  given = ap (λ (u : Term). term_function files env u s.bindings b) (sym (some_one t h.term (sym there ∙ h.found))) ∙ given;
+  given = ap (λ (u : Term). term_function files (setting env u s.bindings) b) (sym (some_one t h.term (sym there ∙ h.found))) ∙ given;
 }
 
 -- and its function is there
 pub is_given : (files : Files) (env : Environment) (id : TermId) (s : RuleSet) (t : Term) (b : Block) → CanEmit files env (id, s) → slice_get env.terms id.0 ≡ Some t
-    → ((u : Term) → IsSerializable env u s → IsLawfulBlock (setting env u s.bindings) b) → HasSingleArms b → None ≡ term_function files env t s.bindings b → ⊥
+    → ((u : Term) → IsSerializable env u s → IsLawfulBlock (setting env u s.bindings) b) → HasSingleArms b → None ≡ term_function files (setting env t s.bindings) b → ⊥
 is_given files env id s t b h there lawful single none =
     let same = some_one h.term t (sym h.found ∙ there) in
     let made = function_made files env h.term s.bindings b h.emittable.once (lawful h.term h.ready) single in
-    let bad : None ≡ Some (function_of files env h.term s.bindings b) = none ∙ ap (λ (u : Term). term_function files env u s.bindings b) (sym same) ∙ made in
+    let bad : None ≡ Some (function_of files env h.term s.bindings b) = none ∙ ap (λ (u : Term). term_function files (setting env u s.bindings) b) (sym same) ∙ made in
     cc
 
 both_emitted : (files : Files) (env : Environment) (ss ts : List (TermId × RuleSet)) (fs gs : List Function) → AreEmitted files env ss fs → AreEmitted files env ts gs → AreEmitted files env (ss ++ ts) (fs ++ gs)

@@ -47,7 +47,7 @@ pub record IsEmitted (files : Files) (env : Environment) (id : TermId) (s : Rule
   pub single : HasSingleArms block
   pub means : MeansSet env s block
   pub once : AnswersOnce (kind_of term.kind)
-  pub given : term_function files env term s.bindings block ≡ Some f
+  pub given : term_function files (setting env term s.bindings) block ≡ Some f
 
 -- so of each term with its rule set, in order
 abbrev pub AreEmitted : Files → Environment → List (TermId × RuleSet) → List Function → Type 0

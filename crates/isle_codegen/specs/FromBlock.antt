@@ -28,7 +28,7 @@ pub record IsFromBlock (files : Files) (env : Environment) (id : TermId) (f : Fu
   pub lawful : IsLawfulBlock (setting env term set.bindings) block
   pub means : MeansSet env set block
   pub shape : HasShape (setting env term set.bindings) f.body block
-  pub statements : term_function files env term set.bindings block ≡ Some f
+  pub statements : term_function files (setting env term set.bindings) block ≡ Some f
   pub calls : (callee : Callee) → Contains (body_calls f.body) callee → IsCalledBy env id callee
 
 -- so of each term, in order

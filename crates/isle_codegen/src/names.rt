@@ -66,25 +66,12 @@ fn is_term_name(name: &str) -> bool
     name.as_bytes().iter().all(|byte| is_word_byte(*byte))
 }
 
-// The name of a term, or nothing where it is not there.
-fn term_name<'e>(typeenv: &'e TypeEnv, termenv: &TermEnv, id: TermId) -> &'e str
-    ensures { result.now ≡ term_name (environment typeenv.now termenv.now) id }
-{
-    match termenv.terms.as_slice().get(id.index()) {
-        Some(term) => match typeenv.syms.as_slice().get(term.name.index()) {
-            Some(name) => name.as_str(),
-            None => "",
-        },
-        None => "",
-    }
-}
-
 // Whether the names of the listed terms may be emitted.
 fn are_listed_names(typeenv: &TypeEnv, termenv: &TermEnv, terms: &[(TermId, RuleSet)]) -> bool
     ensures { result ≡ list_all (λ t. is_term_name (term_name (environment typeenv.now termenv.now) t.0)) terms.now }
 {
     for listed in terms {
-        if !is_term_name(term_name(typeenv, termenv, listed.0)) {
+        if !is_term_name(typeenv.term_name(termenv.terms.as_slice(), listed.0)) {
             return false;
         }
     }

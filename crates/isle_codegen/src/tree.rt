@@ -9,11 +9,11 @@ ghost use Rattle.isle_emission.specs.Built.{IsBuilt};
 ghost use Rattle.isle_simulation.specs.TraitFns.{trait_fns_of};
 ghost use Rattle.isle_codegen.specs.Emits.{CanEmit, IsEmitted, AreEmitted};
 ghost use Rattle.isle_codegen.specs.Headline.{FunctionsMean};
-ghost use Rattle.isle_emission.specs.LineStarts.{starts_of};
+ghost use Rattle.isle_core.specs.LineStarts.{starts_of};
 
 use isle_blocks::serialize;
-use isle_core::{CodegenOptions, Files, List, OutOfMemory, RuleSet, TermEnv, TermId, TypeEnv};
-use isle_emission::{Context, LineStarts, kind_of, term_function, trait_fns};
+use isle_core::{CodegenOptions, Files, LineStarts, List, OutOfMemory, RuleSet, TermEnv, TermId, TypeEnv};
+use isle_emission::{Context, term_function, trait_fns};
 use isle_tree::{Function, Program, TraitFn};
 use std::alloc::Global;
 
@@ -32,14 +32,13 @@ fn emit_one(
     ensures { IfOk result (λ f. IsEmitted files.now (environment typeenv.now termenv.now) term rules.now (function f)) }
 {
     let block = serialize(alloc, rules, false)?;
-    let declared = &termenv.terms.as_slice()[term.index()];
     let context = Context {
         typeenv,
         termenv,
+        term: &termenv.terms.as_slice()[term.index()],
         bindings: rules.bindings.as_slice(),
-        kind: kind_of(&declared.kind),
     };
-    match term_function(alloc, files, starts, &context, declared, &block)? {
+    match term_function(alloc, files, starts, &context, &block)? {
         Some(function) => Ok(function),
         None => unreachable!(),
     }

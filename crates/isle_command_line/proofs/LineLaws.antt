@@ -31,24 +31,24 @@ line_of ws s c e f = subst (λ r. Answers r ws) f (has_read_asks s ws (subst (λ
 pub one_line : {ws : List (List ℕ)} {c d : Request} → LineS ws c → LineS ws d → d ≡ c
 one_line {ws = ws} {c = c} {d = d} h k = let e : Some d ≡ Some c = sym (complete k) ∙ complete h in cc
 
-behind : (ws : List (List ℕ)) (w : List ℕ) → Continues (ws ++ w ∷ []) → Continues ws
-behind ws w h = (w ∷ h.0, h.1, subst (λ z. LineS z h.1) (append_assoc ws (w ∷ []) h.0) h.2)
+continues_less : (ws : List (List ℕ)) (w : List ℕ) → Continues (ws ++ w ∷ []) → Continues ws
+continues_less ws w h = (w ∷ h.0, h.1, subst (λ z. LineS z h.1) (append_assoc ws (w ∷ []) h.0) h.2)
 
 whole : (ws : List (List ℕ)) (c : Request) → LineS ws c → Continues ws
 whole ws c h = ([], c, subst (λ z. LineS z c) (sym (append-nil ws)) h)
 
 with_values : (t : Bool) (o : CodegenOptions) (s : Source) (m : List ℕ) (ws : List (List ℕ)) → HasRead (state.Values t o s m) ws → Continues ws
-with_values t o s m ws h = behind ws (codes "()") (whole _ (command.Run t o s m NoValue None) (has_read_asks (state.Behind t o s m NoValue) _
+with_values t o s m ws h = continues_less ws (codes "()") (whole _ (command.Run t o s m NoValue None) (has_read_asks (state.AfterValues t o s m NoValue) _
     (subst (λ r. After (valued t o s m r) (ws ++ codes "()" ∷ [])) empty_list (has_read_next (state.Values t o s m) ws (codes "()") h))))
 
 with_term : (t : Bool) (o : CodegenOptions) (s : Source) (ws : List (List ℕ)) → HasRead (state.Term t o s) ws → Continues ws
-with_term t o s ws h = behind ws (codes "a") (with_values t o s (codes "a") _ (has_read_next (state.Term t o s) ws (codes "a") h))
+with_term t o s ws h = continues_less ws (codes "a") (with_values t o s (codes "a") _ (has_read_next (state.Term t o s) ws (codes "a") h))
 
 with_name : (v : Verb) (o : CodegenOptions) (ws : List (List ℕ)) → HasRead (state.Options v o) ws → Continues ws
 unfolding source_of
-with_name verb.Compile o ws h = behind ws (codes "a") (whole _ (command.Compile o (codes "a" ∷ [])) (has_read_asks (state.Names o (codes "a" ∷ [])) _ (has_read_named verb.Compile o ws (codes "a") h refl)))
-with_name (verb.Run t) o ws h = behind ws (codes "a") (with_term t o (source.File (codes "a")) _ (has_read_named (verb.Run t) o ws (codes "a") h refl))
-with_name verb.Build o ws h = behind ws (codes "a") (whole _ (command.Build o (codes "a")) (has_read_named verb.Build o ws (codes "a") h refl))
+with_name verb.Compile o ws h = continues_less ws (codes "a") (whole _ (command.Compile o (codes "a" ∷ [])) (has_read_asks (state.Names o (codes "a" ∷ [])) _ (has_read_named verb.Compile o ws (codes "a") h refl)))
+with_name (verb.Run t) o ws h = continues_less ws (codes "a") (with_term t o (source.File (codes "a")) _ (has_read_named (verb.Run t) o ws (codes "a") h refl))
+with_name verb.Build o ws h = continues_less ws (codes "a") (whole _ (command.Build o (codes "a")) (has_read_named verb.Build o ws (codes "a") h refl))
 
 -- a line begins with words behind which something is known
 pub continues : (s : Known) (ws : List (List ℕ)) → HasRead s ws → Continues ws
@@ -56,17 +56,17 @@ unfolding count parts kind_of is_trace is_answers
 continues state.Begin ws h = whole ws _ (has_read_asks state.Begin ws h)
 continues (state.Whole c) ws h = whole ws c h
 continues (state.Options v o) ws h = with_name v o ws h
-continues (state.Threshold v o) ws h = behind ws (codes "0") (with_name v (with_choice o (choice.Threshold 0)) _ (has_read_next (state.Threshold v o) ws (codes "0") h))
-continues (state.Prefix v o) ws h = behind ws (codes "=a") (with_name v (with_choice o (choice.Prefixed [] (codes "a"))) _ (has_read_next (state.Prefix v o) ws (codes "=a") h))
+continues (state.Threshold v o) ws h = continues_less ws (codes "0") (with_name v (with_choice o (choice.Threshold 0)) _ (has_read_next (state.Threshold v o) ws (codes "0") h))
+continues (state.Prefix v o) ws h = continues_less ws (codes "=a") (with_name v (with_choice o (choice.Prefixed [] (codes "a"))) _ (has_read_next (state.Prefix v o) ws (codes "=a") h))
 continues (state.Names o []) ws h = let some = h.2 in absurd (omega (arith, some))
 continues (state.Names o (n ∷ ns)) ws h = whole ws (command.Compile o (n ∷ ns)) (has_read_asks (state.Names o (n ∷ ns)) ws h)
-continues state.Kind ws h = behind ws (codes "numerics") (whole _ (command.Prelude kind.Numerics) (has_read_next state.Kind ws (codes "numerics") h))
-continues state.Target ws h = behind ws [] (whole _ (command.Isa []) (has_read_next state.Target ws [] h))
-continues state.Run ws h = behind ws (codes "--trace") (with_name (verb.Run true) no_options _ (has_read_next state.Run ws (codes "--trace") h))
+continues state.Kind ws h = continues_less ws (codes "numerics") (whole _ (command.Prelude kind.Numerics) (has_read_next state.Kind ws (codes "numerics") h))
+continues state.Target ws h = continues_less ws [] (whole _ (command.Isa []) (has_read_next state.Target ws [] h))
+continues state.Run ws h = continues_less ws (codes "--trace") (with_name (verb.Run true) no_options _ (has_read_next state.Run ws (codes "--trace") h))
 continues (state.Term t o s) ws h = with_term t o s ws h
 continues (state.Values t o s m) ws h = with_values t o s m ws h
-continues (state.Behind t o s m vs) ws h = whole ws _ (has_read_asks (state.Behind t o s m vs) ws h)
-continues (state.Answers t o s m vs) ws h = behind ws (codes "a") (whole _ (command.Run t o s m vs (Some (codes "a"))) (has_read_next (state.Answers t o s m vs) ws (codes "a") h))
+continues (state.AfterValues t o s m vs) ws h = whole ws _ (has_read_asks (state.AfterValues t o s m vs) ws h)
+continues (state.Answers t o s m vs) ws h = continues_less ws (codes "a") (whole _ (command.Run t o s m vs (Some (codes "a"))) (has_read_next (state.Answers t o s m vs) ws (codes "a") h))
 
 known_continues : (o : Option Known) (ws : List (List ℕ)) → IsSome o → After o ws → Continues ws
 known_continues (Some s) ws h t = continues s ws t
@@ -87,8 +87,8 @@ bad_at ws i h = record {
 }
 
 -- a line would go on
-pub missing_behind : (ws : List (List ℕ)) (s : Known) → read state.Begin ws ≡ Some s → asks s ≡ None → IsMissing ws
-missing_behind ws s e f = record {
+pub is_missing : (ws : List (List ℕ)) (s : Known) → read state.Begin ws ≡ Some s → asks s ≡ None → IsMissing ws
+is_missing ws s e f = record {
   before = continues s ws (subst (λ r. After r ws) e (told ws));
   none = λ c k. let request : None ≡ Some c = sym f ∙ sym (ap request_of e) ∙ complete k in cc;
 }

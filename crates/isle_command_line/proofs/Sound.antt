@@ -84,7 +84,7 @@ HasRead state.Target ws = ws ≡ codes "isa" ∷ []
 HasRead state.Run ws = ws ≡ codes "run" ∷ []
 HasRead (state.Term t o s) ws = (front : List (List ℕ)) × Sourced t o s front × (ws ≡ codes "run" ∷ front)
 HasRead (state.Values t o s m) ws = (front : List (List ℕ)) × Sourced t o s front × (is_name m ≡ true) × (ws ≡ codes "run" ∷ (front ++ m ∷ []))
-HasRead (state.Behind t o s m vs) ws = (front : List (List ℕ)) × Sourced t o s front × (is_name m ≡ true) × (x : List ℕ) × SpellsValues x vs × (ws ≡ codes "run" ∷ (front ++ m ∷ x ∷ []))
+HasRead (state.AfterValues t o s m vs) ws = (front : List (List ℕ)) × Sourced t o s front × (is_name m ≡ true) × (x : List ℕ) × SpellsValues x vs × (ws ≡ codes "run" ∷ (front ++ m ∷ x ∷ []))
 HasRead (state.Answers t o s m vs) ws = (front : List (List ℕ)) × Sourced t o s front × (is_name m ≡ true) × (x : List ℕ) × SpellsValues x vs × (ws ≡ codes "run" ∷ (front ++ m ∷ x ∷ codes "--answers" ∷ []))
 
 -- where anything is known
@@ -119,10 +119,6 @@ pub has_read_named : (v : Verb) (o : CodegenOptions) (ws : List (List ℕ)) (w :
 has_read_named verb.Compile o ws w h good = (h.0, h.1, omega arith, (λ k. good k && true), ap (λ z. z ++ w ∷ []) h.2)
 has_read_named verb.Build o ws w h good = subst (λ z. LineS z (command.Build o w)) (sym (ap (λ z. z ++ w ∷ []) h.2)) (built o h.0 w h.1 good)
 has_read_named (verb.Run t) o ws w h good = has_read_sourced t o ws (source_of w) w h (source_is w good)
-
-none_given : (t : Option ℕ) → is_some t ≡ false → t ≡ None
-none_given None e = refl
-none_given (Some n) e = cc
 
 has_read_chosen : (v : Verb) (o : CodegenOptions) (ws : List (List ℕ)) (m : OptionWord) (w : List ℕ) → HasRead (state.Options v o) ws → IsMarked m w → After (chosen v o m) (ws ++ w ∷ [])
 has_read_chosen v o ws marked.NoAllow w h is = off_if (λ r. After r (ws ++ w ∷ [])) o.exclude_global_allow_pragmas _ _ tt
@@ -182,8 +178,8 @@ has_read_valued : (t : Bool) (o : CodegenOptions) (s : Source) (m : List ℕ) (w
 has_read_valued t o s m ws None w h is = tt
 has_read_valued t o s m ws (Some vs) w h is = (h.0, h.1, h.2, w, is, ap (λ z. z ++ w ∷ []) h.3 ∙ ap (λ z. codes "run" ∷ z) (append_assoc h.0 (m ∷ []) (w ∷ [])))
 
-has_read_behind : (t : Bool) (o : CodegenOptions) (s : Source) (m : List ℕ) (vs : Writtens) (ws : List (List ℕ)) (w : List ℕ) → HasRead (state.Behind t o s m vs) ws → After (next (state.Behind t o s m vs) w) (ws ++ w ∷ [])
-has_read_behind t o s m vs ws w h = on_if (λ r. After r (ws ++ w ∷ [])) (is_answers w) _ _
+has_read_after_values : (t : Bool) (o : CodegenOptions) (s : Source) (m : List ℕ) (vs : Writtens) (ws : List (List ℕ)) (w : List ℕ) → HasRead (state.AfterValues t o s m vs) ws → After (next (state.AfterValues t o s m vs) w) (ws ++ w ∷ [])
+has_read_after_values t o s m vs ws w h = on_if (λ r. After r (ws ++ w ∷ [])) (is_answers w) _ _
     (λ e. (h.0, h.1, h.2, h.3, h.4, (λ k. h.5 k ++ answers_is w e k ∷ []) ∙ ap (λ z. codes "run" ∷ z) (append_assoc h.0 (m ∷ h.3 ∷ []) (codes "--answers" ∷ []))))
     tt
 
@@ -207,7 +203,7 @@ has_read_next state.Target ws w h = subst (λ z. LineS (z ++ w ∷ []) (command.
 has_read_next state.Run ws w h = has_read_run ws w h
 has_read_next (state.Term t o s) ws w h = on_if (λ r. After r (ws ++ w ∷ [])) (is_name w) _ _ (λ good. (h.0, h.1, good, ap (λ z. z ++ w ∷ []) h.2)) tt
 has_read_next (state.Values t o s m) ws w h = has_read_valued t o s m ws (spelt w) w h (spelt_is w)
-has_read_next (state.Behind t o s m vs) ws w h = has_read_behind t o s m vs ws w h
+has_read_next (state.AfterValues t o s m vs) ws w h = has_read_after_values t o s m vs ws w h
 has_read_next (state.Answers t o s m vs) ws w h = has_read_answers t o s m vs ws w h
 
 has_read : (s : Known) (ws vs : List (List ℕ)) → HasRead s ws → After (read s vs) (ws ++ vs)
@@ -240,5 +236,5 @@ has_read_asks state.Target ws h = tt
 has_read_asks state.Run ws h = tt
 has_read_asks (state.Term t o s) ws h = tt
 has_read_asks (state.Values t o s m) ws h = tt
-has_read_asks (state.Behind t o s m vs) ws h = subst (λ z. LineS z (command.Run t o s m vs None)) (sym h.5) (ran t o s h.0 m h.3 vs None [] h.1 h.2 h.4 choice.no_answers)
+has_read_asks (state.AfterValues t o s m vs) ws h = subst (λ z. LineS z (command.Run t o s m vs None)) (sym h.5) (ran t o s h.0 m h.3 vs None [] h.1 h.2 h.4 choice.no_answers)
 has_read_asks (state.Answers t o s m vs) ws h = tt

@@ -18,5 +18,5 @@ pub data Known : Type 0 where
   Run : Known
   Term : Bool → CodegenOptions → Source → Known
   Values : Bool → CodegenOptions → Source → (term : List ℕ) → Known
-  Behind : Bool → CodegenOptions → Source → (term : List ℕ) → Writtens → Known
+  AfterValues : Bool → CodegenOptions → Source → (term : List ℕ) → Writtens → Known
   Answers : Bool → CodegenOptions → Source → (term : List ℕ) → Writtens → Known

@@ -1,5 +1,5 @@
 -- Lines of words, and what each asks for.
-use Rattle.std.specs.Prelude.{◌≡◌, ℕ, ◌+◌, ◌<◌, List, [], ◌∷◌, ◌++◌, length, take, fold, Bool, true, false, not, Option, Some, None, codes}
+use Rattle.std.specs.Prelude.{◌≡◌, ℕ, ◌+◌, ◌<◌, List, [], ◌∷◌, ◌++◌, length, take, fold, Bool, true, false, not, ◌&&◌, ◌==◌, Option, Some, None, codes}
 use Rattle.std.specs.List.{list_all}
 use Rattle.isle_core.specs.declared.options.CodegenOptions.{CodegenOptions}
 use Rattle.isle_core.specs.Printed.{after_prefix}
@@ -34,13 +34,25 @@ pub data ChoicesS : List Choice → List (List ℕ) → Type 0 where
   no_choice : ChoicesS [] []
   a_choice : (c : Choice) (cs : List Choice) (first more : List (List ℕ)) → ChoiceS c first → ChoicesS cs more → ChoicesS (c ∷ cs) (first ++ more)
 
+-- the place of an option among all
+abbrev pub option_place : Choice → ℕ
+option_place NoAllow = 0
+option_place Log = 1
+option_place Split = 2
+option_place (Threshold n) = 3
+option_place (Prefixed prefix name) = 4
+
+-- an option that stands in a line once at most
+abbrev pub is_single : Choice → Bool
+is_single NoAllow = true
+is_single Log = true
+is_single Split = true
+is_single (Threshold n) = true
+is_single (Prefixed prefix name) = false
+
 -- two options that stand not both in one line: they are the same, and no prefix
 abbrev pub clash : Choice → Choice → Bool
-clash NoAllow NoAllow = true
-clash Log Log = true
-clash Split Split = true
-clash (Threshold n) (Threshold m) = true
-clash c d = false
+clash c d = is_single c && option_place c == option_place d
 
 -- each option at most once, but prefixes
 abbrev pub AreOnce : List Choice → Type 0
@@ -53,11 +65,11 @@ no_options = record { exclude_global_allow_pragmas = false; prefixes = []; emit_
 
 -- one option more
 abbrev pub with_choice : CodegenOptions → Choice → CodegenOptions
-with_choice o NoAllow = record { exclude_global_allow_pragmas = true; prefixes = o.prefixes; emit_logging = o.emit_logging; split_match_arms = o.split_match_arms; match_arm_split_threshold = o.match_arm_split_threshold }
-with_choice o Log = record { exclude_global_allow_pragmas = o.exclude_global_allow_pragmas; prefixes = o.prefixes; emit_logging = true; split_match_arms = o.split_match_arms; match_arm_split_threshold = o.match_arm_split_threshold }
-with_choice o Split = record { exclude_global_allow_pragmas = o.exclude_global_allow_pragmas; prefixes = o.prefixes; emit_logging = o.emit_logging; split_match_arms = true; match_arm_split_threshold = o.match_arm_split_threshold }
-with_choice o (Threshold n) = record { exclude_global_allow_pragmas = o.exclude_global_allow_pragmas; prefixes = o.prefixes; emit_logging = o.emit_logging; split_match_arms = o.split_match_arms; match_arm_split_threshold = Some n }
-with_choice o (Prefixed p n) = record { exclude_global_allow_pragmas = o.exclude_global_allow_pragmas; prefixes = o.prefixes ++ record { prefix = p; name = n } ∷ []; emit_logging = o.emit_logging; split_match_arms = o.split_match_arms; match_arm_split_threshold = o.match_arm_split_threshold }
+with_choice o NoAllow = record o { exclude_global_allow_pragmas = true }
+with_choice o Log = record o { emit_logging = true }
+with_choice o Split = record o { split_match_arms = true }
+with_choice o (Threshold n) = record o { match_arm_split_threshold = Some n }
+with_choice o (Prefixed p n) = record o { prefixes = o.prefixes ++ record { prefix = p; name = n } ∷ [] }
 
 -- what the options ask for
 abbrev pub options_of : List Choice → CodegenOptions

@@ -135,7 +135,7 @@ optional v o w = if is_name w then named v o w else chosen v o (mark w)
 
 -- behind values
 abbrev pub valued : Bool → CodegenOptions → Source → List ℕ → Option Writtens → Option Known
-valued t o s m (Some vs) = Some (state.Behind t o s m vs)
+valued t o s m (Some vs) = Some (state.AfterValues t o s m vs)
 valued t o s m None = None
 
 -- what is known behind one word more, where a line continues with it
@@ -151,7 +151,7 @@ next state.Target w = Some (state.Whole (command.Isa w))
 next state.Run w = if is_trace w then Some (state.Options (verb.Run true) no_options) else optional (verb.Run false) no_options w
 next (state.Term t o s) w = if is_name w then Some (state.Values t o s w) else None
 next (state.Values t o s m) w = valued t o s m (spelt w)
-next (state.Behind t o s m vs) w = if is_answers w then Some (state.Answers t o s m vs) else None
+next (state.AfterValues t o s m vs) w = if is_answers w then Some (state.Answers t o s m vs) else None
 next (state.Answers t o s m vs) w = if is_name w then Some (state.Whole (command.Run t o s m vs (Some w))) else None
 
 -- goes on where something is known
@@ -168,9 +168,17 @@ read s (w ∷ ws) = onward (next s w) (λ t. read t ws)
 abbrev pub asks : Known → Option Request
 asks state.Begin = Some (command.Compile no_options (codes "first.isle" ∷ []))
 asks (state.Whole c) = Some c
+asks (state.Options v o) = None
+asks (state.Threshold v o) = None
+asks (state.Prefix v o) = None
 asks (state.Names o ns) = Some (command.Compile o ns)
-asks (state.Behind t o s m vs) = Some (command.Run t o s m vs None)
-asks s = None
+asks state.Kind = None
+asks state.Target = None
+asks state.Run = None
+asks (state.Term t o s) = None
+asks (state.Values t o s m) = None
+asks (state.AfterValues t o s m vs) = Some (command.Run t o s m vs None)
+asks (state.Answers t o s m vs) = None
 
 -- the word of this number is the first with which no line continues
 pub record StopsAt (words : List (List ℕ)) (i : ℕ) : Type 0 where

@@ -33,5 +33,5 @@ seen_state state.Target = known.Target
 seen_state state.Run = known.Run
 seen_state (state.Term t o s) = known.Term t o s
 seen_state (state.Values t o s m) = known.Values t o s m
-seen_state (state.Behind t o s m vs) = known.Behind t o s m (seen vs)
+seen_state (state.AfterValues t o s m vs) = known.AfterValues t o s m (seen vs)
 seen_state (state.Answers t o s m vs) = known.Answers t o s m (seen vs)

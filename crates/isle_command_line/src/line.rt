@@ -53,7 +53,7 @@ fn request(alloc: Global, state: State) -> Result<Command, LineFail>
         State::Begin => stored(alloc),
         State::Whole(command) => Ok(command),
         State::Names(options, names) => Ok(Command::Compile { options, names }),
-        State::Behind(trace, options, source, term, values) => Ok(Command::Run {
+        State::AfterValues(trace, options, source, term, values) => Ok(Command::Run {
             trace,
             options,
             source,
@@ -78,7 +78,7 @@ fn stored(alloc: Global) -> Result<Command, LineFail>
     ensures asks { IfOk result (λ c. asks Begin ≡ Some (seen_command c)) }
     ensures memory { IfErr result (λ e. e ≡ Memory) }
 {
-    let name = Text::new(String::from_str(alloc, "first.isle")?);
+    let name = Text::copied(alloc, "first.isle")?;
     Ok(Command::Compile {
         options: CodegenOptions::new(alloc),
         names: List::new(vec![in alloc; name]?),

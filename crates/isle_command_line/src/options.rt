@@ -36,11 +36,11 @@ fn named(alloc: Global, verb: Verb, options: CodegenOptions, word: &str) -> Resu
 {
     match verb {
         Verb::Compile => {
-            let name = Text::new(String::from_str(alloc, word)?);
+            let name = Text::copied(alloc, word)?;
             Ok(State::Names(options, List::new(vec![in alloc; name]?)))
         }
         Verb::Build => {
-            let unit = Text::new(String::from_str(alloc, word)?);
+            let unit = Text::copied(alloc, word)?;
             Ok(State::Whole(Command::Build { options, unit }))
         }
         Verb::Run(trace) => sourced(alloc, trace, options, word),
@@ -136,8 +136,8 @@ fn prefixed(
         split_match_arms,
         match_arm_split_threshold,
     } = options;
-    let prefix = Text::new(String::from_str(alloc, prefix)?);
-    let name = Text::new(String::from_str(alloc, name)?);
+    let prefix = Text::copied(alloc, prefix)?;
+    let name = Text::copied(alloc, name)?;
     let mut all = prefixes.into_vec();
     all.push(Prefix { prefix, name })?;
     let options = CodegenOptions {
@@ -164,6 +164,6 @@ pub fn one_name(
         return Err(WordFail::Bad);
     }
     let mut all = names.into_vec();
-    all.push(Text::new(String::from_str(alloc, word)?))?;
+    all.push(Text::copied(alloc, word)?)?;
     Ok(State::Names(options, List::new(all)))
 }

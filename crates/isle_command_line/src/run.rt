@@ -30,7 +30,7 @@ pub fn run(alloc: Global, word: &str) -> Result<State, WordFail>
 }
 
 // What stands behind `unit:`, where a word begins with it.
-fn behind_unit(word: &str) -> Option<&str>
+fn after_unit(word: &str) -> Option<&str>
     ensures { option_copied result ≡ after_prefix (codes "unit:") word.now }
 {
     word.strip_prefix("unit:")
@@ -41,11 +41,11 @@ fn behind_unit(word: &str) -> Option<&str>
 fn source(alloc: Global, word: &str) -> Result<Option<Source>, AllocError>
     ensures { IfOk result (λ s. s ≡ source_of word.now) }
 {
-    match behind_unit(word) {
-        None => Ok(Some(Source::File(Text::new(String::from_str(alloc, word)?)))),
+    match after_unit(word) {
+        None => Ok(Some(Source::File(Text::copied(alloc, word)?))),
         Some(unit) => {
             if is_name(unit) {
-                Ok(Some(Source::Unit(Text::new(String::from_str(alloc, unit)?))))
+                Ok(Some(Source::Unit(Text::copied(alloc, unit)?)))
             } else {
                 Ok(None)
             }
@@ -83,7 +83,7 @@ pub fn term(
     if !is_name(word) {
         return Err(WordFail::Bad);
     }
-    let term = Text::new(String::from_str(alloc, word)?);
+    let term = Text::copied(alloc, word)?;
     Ok(State::Values(trace, options, source, term))
 }
 
@@ -107,13 +107,13 @@ pub fn values(
     ensures bad { result ≡ Err Bad → next (known.Values trace options source term) word.now ≡ None }
 {
     match spelt(alloc, word)? {
-        Some(values) => Ok(State::Behind(trace, options, source, term, values)),
+        Some(values) => Ok(State::AfterValues(trace, options, source, term, values)),
         None => Err(WordFail::Bad),
     }
 }
 
 /// Returns what is known behind a word that follows values.
-pub fn behind(
+pub fn after_values(
     trace: bool,
     options: CodegenOptions,
     source: Source,
@@ -121,8 +121,8 @@ pub fn behind(
     values: List<Written>,
     word: &str,
 ) -> Result<State, WordFail>
-    ensures next { IfOk result (λ s. next (known.Behind trace options source term (seen values)) word.now ≡ Some (seen_state s)) }
-    ensures bad { result ≡ Err Bad → next (known.Behind trace options source term (seen values)) word.now ≡ None }
+    ensures next { IfOk result (λ s. next (known.AfterValues trace options source term (seen values)) word.now ≡ Some (seen_state s)) }
+    ensures bad { result ≡ Err Bad → next (known.AfterValues trace options source term (seen values)) word.now ≡ None }
 {
     if is_answers(word) {
         Ok(State::Answers(trace, options, source, term, values))
@@ -147,7 +147,7 @@ pub fn answers(
     if !is_name(word) {
         return Err(WordFail::Bad);
     }
-    let answers = Some(Text::new(String::from_str(alloc, word)?));
+    let answers = Some(Text::copied(alloc, word)?);
     Ok(State::Whole(Command::Run {
         trace,
         options,

@@ -6,7 +6,7 @@ ghost use Rattle.isle_command_line.specs.declared.state.WordFail.TheVariants.{Ba
 
 use crate::commands::{Command, Kind, Source};
 use crate::options::{one_name, option, prefix, threshold};
-use crate::run::{answers, behind, run, term, values};
+use crate::run::{after_values, answers, run, term, values};
 use crate::word::{FirstWord, first, kind_of};
 use isle_core::{CodegenOptions, List, OutOfMemory, Text};
 use isle_values::Written;
@@ -46,7 +46,7 @@ pub enum State {
     /// Values are next.
     Values(bool, CodegenOptions, Source, Text),
     /// A line of a run, which `--answers` may follow.
-    Behind(bool, CodegenOptions, Source, Text, List<Written>),
+    AfterValues(bool, CodegenOptions, Source, Text, List<Written>),
     /// A file of answers is next.
     Answers(bool, CodegenOptions, Source, Text, List<Written>),
 }
@@ -113,8 +113,8 @@ pub fn next(alloc: Global, state: State, word: &str) -> Result<State, WordFail>
         State::Values(trace, options, source, term) => {
             values(alloc, trace, options, source, term, word)
         }
-        State::Behind(trace, options, source, term, values) => {
-            behind(trace, options, source, term, values, word)
+        State::AfterValues(trace, options, source, term, values) => {
+            after_values(trace, options, source, term, values, word)
         }
         State::Answers(trace, options, source, term, values) => {
             answers(alloc, trace, options, source, term, values, word)

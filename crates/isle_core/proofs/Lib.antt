@@ -25,3 +25,6 @@ pub mod LawfulExists
 pub mod Inhabited
 pub mod BindingPaths
 pub mod ReadablePaths
+pub mod Lines
+pub mod LineFeeds
+pub mod Columns

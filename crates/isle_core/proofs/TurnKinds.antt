@@ -61,7 +61,10 @@ fits_type env return_kind.Plain ty (Plain (v ∷ w ∷ vs)) h = absurd h.1
 fits_type env return_kind.Plain ty (Found vs) h = absurd h
 fits_type env return_kind.Plain ty Nothing h = absurd h
 fits_type env return_kind.Plain ty (Several items) h = absurd h
-fits_type env return_kind.Iterator ty a h = absurd h
+fits_type env return_kind.Iterator ty (Plain vs) h = absurd h
+fits_type env return_kind.Iterator ty (Found vs) h = absurd h
+fits_type env return_kind.Iterator ty Nothing h = absurd h
+fits_type env return_kind.Iterator ty (Several items) h = absurd h
 
 fits_kind : (env : Environment) (kind : ReturnKind) (ty : TypeId) (a : Answer) → Fits env kind (ty ∷ []) a → IsOfKind kind (answer_held a)
 fits_kind env return_kind.Option ty (Found (v ∷ [])) h = (Some v, refl)
@@ -76,7 +79,10 @@ fits_kind env return_kind.Plain ty (Plain (v ∷ w ∷ vs)) h = absurd h.1
 fits_kind env return_kind.Plain ty (Found vs) h = absurd h
 fits_kind env return_kind.Plain ty Nothing h = absurd h
 fits_kind env return_kind.Plain ty (Several items) h = absurd h
-fits_kind env return_kind.Iterator ty a h = absurd h
+fits_kind env return_kind.Iterator ty (Plain vs) h = absurd h
+fits_kind env return_kind.Iterator ty (Found vs) h = absurd h
+fits_kind env return_kind.Iterator ty Nothing h = absurd h
+fits_kind env return_kind.Iterator ty (Several items) h = absurd h
 
 turn_in : (P : Answer → Type 0) (turns : List Answer) (n : ℕ) (rest : Answer) → P rest → AllByRecursion P turns → P (slice_index_or turns n rest)
 turn_in P [] n rest h k = h
@@ -109,8 +115,8 @@ turns_fit env m ty callee kind h made = turn_at_fits env ty kind (turns_of m cal
 
 kind_takes : (env : Environment) (m : Meaning) (ty : TypeId) (t : Term) (k : TermKind) → IsImpureKind k
     → CallingFits env m (ty ∷ []) (calling_by (kind_of k) (impure_callee env t k) (pure_callee env t k)) → TakesTurns m (calling_by (kind_of k) (impure_callee env t k) (pure_callee env t k))
-kind_takes env m ty t (term_kind.Decl false multi partial recursive constructor.Internal extractor) i h = turns_fit env m ty (Internal (sym_text env t.name)) (kind_by multi partial) h
-kind_takes env m ty t (term_kind.Decl false multi partial recursive (constructor.External func) extractor) i h = turns_fit env m ty (External (sym_text env func)) (kind_by multi partial) h
+kind_takes env m ty t (term_kind.Decl false false partial recursive constructor.Internal extractor) i h = turns_fit env m ty (Internal (sym_text env t.name)) (kind_by false partial) h
+kind_takes env m ty t (term_kind.Decl false false partial recursive (constructor.External func) extractor) i h = turns_fit env m ty (External (sym_text env func)) (kind_by false partial) h
 kind_takes env m ty t k i h = absurd i
 
 term_takes : (env : Environment) (m : Meaning) (o : Option Term) → IsSomeAnd o (λ (t : Term). IsImpureKind t.kind) → IsSomeAnd o (λ (t : Term). CallingFits env m (t.ret_ty ∷ []) (calling_of env o)) → TakesTurns m (calling_of env o)
@@ -147,7 +153,8 @@ abbrev mutual
   CallsByTurns env m places (expr.ConstBool b) = Unit {0}
   CallsByTurns env m places (expr.ConstInt ty n) = Unit {0}
   CallsByTurns env m places (expr.Term ty term es) = TakesTurns m (calling env term) × AllCallByTurns env m places es
-  CallsByTurns env m places e = ⊥
+  CallsByTurns env m places (expr.ConstPrim ty name) = ⊥
+  CallsByTurns env m places (expr.Let ty bindings inner) = ⊥
 
   -- so of expressions in order
   pub AllCallByTurns : Environment → Meaning → Places → Exprs → Type 0

@@ -1,5 +1,5 @@
 -- Bindings that may stand in a bind order.
-use Rattle.std.specs.Prelude.{◌≡◌, ℕ, List, [], ◌∷◌, ◌++◌, true, Option, Some, Contains, slice_get}
+use Rattle.std.specs.Prelude.{◌≡◌, ℕ, List, [], ◌∷◌, ◌++◌, true, Option, Some, None, Contains, slice_get}
 use Rattle.isle_base.specs.declared.ids.BindingId.{BindingId}
 use Rattle.isle_base.specs.declared.ids.TermId.{TermId}
 use Rattle.isle_base.specs.declared.ids.TypeId.{TypeId}
@@ -43,7 +43,16 @@ IsBindable s bound p (Some (binding.MatchSome source)) = IsInnerBound s bound p 
 IsBindable s bound p (Some (binding.Argument index)) = IsPlain s.env s.term p
 IsBindable s bound p (Some (binding.ConstBool val ty)) = IsPlain s.env s.term p
 IsBindable s bound p (Some (binding.ConstInt val ty)) = IsPlain s.env s.term p
-IsBindable s bound p b = ⊥
+IsBindable s bound p None = ⊥
+IsBindable s bound p (Some (binding.ConstPrim val)) = ⊥
+IsBindable s bound p (Some (binding.Extractor term parameter)) = ⊥
+IsBindable s bound p (Some (binding.Iterator source)) = ⊥
+IsBindable s bound p (Some (binding.MakeVariant ty variant fields)) = ⊥
+IsBindable s bound p (Some (binding.MakeStruct ty fields)) = ⊥
+IsBindable s bound p (Some (binding.MatchVariant source variant field)) = ⊥
+IsBindable s bound p (Some (binding.ExtractStruct source field)) = ⊥
+IsBindable s bound p (Some (binding.MakeSome inner)) = ⊥
+IsBindable s bound p (Some (binding.MatchTuple source field)) = ⊥
 
 -- the bindings that are bound after a bind order
 abbrev pub bound_by : List ℕ → List BindingId → List ℕ

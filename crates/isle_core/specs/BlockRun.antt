@@ -5,7 +5,7 @@ use Rattle.isle_core.specs.declared.types.ReturnKind.{ReturnKind}
 use Rattle.isle_core.specs.Value.{Value, Made}
 use Rattle.isle_core.specs.Meaning.{Meaning}
 use Rattle.isle_core.specs.Outcome.{Prescription}
-use Rattle.isle_core.specs.Path.{Path, Inner, at}
+use Rattle.isle_core.specs.Path.{Path, Nowhere, Arg, ConstBool, ConstInt, ConstPrim, Extracted, Called, Chosen, MadeVariant, MadeStruct, VariantField, StructField, Wrapped, Inner, Part, at}
 use Rattle.isle_core.specs.Answered.{Held}
 use Rattle.isle_core.specs.ValueAt.{Known, nothing_known, value_at, meets, equal_held}
 use Rattle.isle_core.specs.CallRun.{Went, Goes, then_go, returns, make, unless_nothing}
@@ -16,7 +16,20 @@ use Rattle.isle_core.specs.Rule.{Environment}
 -- nothing in place of an inner value is a failure
 abbrev pub check_inner : Environment → Meaning → List Value → Path → Known → List Made → Went
 check_inner env m args (Inner p) known made = unless_nothing (value_at env m args known p) known made
-check_inner env m args p known made = Goes known made
+check_inner env m args Nowhere known made = Goes known made
+check_inner env m args (Arg i) known made = Goes known made
+check_inner env m args (ConstBool of b) known made = Goes known made
+check_inner env m args (ConstInt of n) known made = Goes known made
+check_inner env m args (ConstPrim name) known made = Goes known made
+check_inner env m args (Extracted term q) known made = Goes known made
+check_inner env m args (Called term ps instance) known made = Goes known made
+check_inner env m args (Chosen q) known made = Goes known made
+check_inner env m args (MadeVariant of variant ps) known made = Goes known made
+check_inner env m args (MadeStruct of ps) known made = Goes known made
+check_inner env m args (VariantField variant field q) known made = Goes known made
+check_inner env m args (StructField field q) known made = Goes known made
+check_inner env m args (Wrapped q) known made = Goes known made
+check_inner env m args (Part part q) known made = Goes known made
 
 -- binding a path: a call is made, an inner value must be there
 abbrev pub bind_one : Environment → Meaning → List Value → Path → Known → List Made → Went

@@ -1,5 +1,5 @@
 -- The forms of rules that are built.
-use Rattle.std.specs.Prelude.{◌≡◌, List, [], false, All, IsSomeAnd, slice_get}
+use Rattle.std.specs.Prelude.{◌≡◌, List, [], true, false, All, IsSomeAnd, slice_get}
 use Rattle.isle_core.specs.declared.types.Term.{Term}
 use Rattle.isle_core.specs.declared.types.TermKind.{TermKind}
 use Rattle.isle_core.specs.declared.types.TermKind.TheVariants as kind
@@ -16,7 +16,10 @@ IsBuiltPattern (pattern.Var ty x) = Unit {0}
 IsBuiltPattern (pattern.ConstBool b) = Unit {0}
 IsBuiltPattern (pattern.ConstInt ty n) = Unit {0}
 IsBuiltPattern (pattern.Wildcard ty) = Unit {0}
-IsBuiltPattern p = ⊥
+IsBuiltPattern (pattern.BindPattern of x q) = ⊥
+IsBuiltPattern (pattern.ConstPrim of name) = ⊥
+IsBuiltPattern (pattern.Term of term ps) = ⊥
+IsBuiltPattern (pattern.And of ps) = ⊥
 
 -- a variable, a constant, or a call of a term on such expressions
 abbrev mutual
@@ -25,7 +28,8 @@ abbrev mutual
   IsBuiltExpr (expr.ConstBool b) = Unit {0}
   IsBuiltExpr (expr.ConstInt ty n) = Unit {0}
   IsBuiltExpr (expr.Term ty term es) = AreBuiltExprs es
-  IsBuiltExpr e = ⊥
+  IsBuiltExpr (expr.ConstPrim of name) = ⊥
+  IsBuiltExpr (expr.Let of bindings inner) = ⊥
 
   -- so of expressions in order
   pub AreBuiltExprs : Exprs → Type 0
@@ -40,17 +44,25 @@ pub record IsBuiltRule (r : Rule) : Type 0 where
 
 -- ---- what is called
 
--- an impure term that has a constructor
+-- an impure term that has a constructor and answers at most once
 abbrev pub IsImpureKind : TermKind → Type 0
-IsImpureKind (kind.Decl false multi partial recursive constructor.Internal extractor) = Unit {0}
-IsImpureKind (kind.Decl false multi partial recursive (constructor.External func) extractor) = Unit {0}
-IsImpureKind k = ⊥
+IsImpureKind (kind.Decl false false partial recursive constructor.Internal extractor) = Unit {0}
+IsImpureKind (kind.Decl false false partial recursive (constructor.External func) extractor) = Unit {0}
+IsImpureKind (kind.Decl false false partial recursive constructor.Absent extractor) = ⊥
+IsImpureKind (kind.Decl false true partial recursive by extractor) = ⊥
+IsImpureKind (kind.Decl true multi partial recursive by extractor) = ⊥
+IsImpureKind (kind.Variant ty variant) = ⊥
+IsImpureKind (kind.Struct ty) = ⊥
 
 -- each term that an expression calls is one; calls of others are not built
 abbrev mutual
   pub CallsImpure : List Term → Expr → Type 0
   CallsImpure terms (expr.Term ty term es) = IsSomeAnd (slice_get terms term.0) (λ (t : Term). IsImpureKind t.kind) × AllCallImpure terms es
-  CallsImpure terms e = Unit {0}
+  CallsImpure terms (expr.Var of x) = Unit {0}
+  CallsImpure terms (expr.ConstBool b) = Unit {0}
+  CallsImpure terms (expr.ConstInt of n) = Unit {0}
+  CallsImpure terms (expr.ConstPrim of name) = Unit {0}
+  CallsImpure terms (expr.Let of bindings inner) = Unit {0}
 
   -- so of expressions in order
   pub AllCallImpure : List Term → Exprs → Type 0

@@ -7,7 +7,7 @@ use Rattle.isle_core.specs.Calling.{Calling, ByTurns, ByCases, NoCall, calling, 
 use Rattle.isle_core.specs.Answered.{AValue, ATuple, Held, Absent, One, Optional, Listed}
 use Rattle.isle_core.specs.Match.{with}
 use Rattle.isle_core.specs.Outcome.{Result, Value', Failure, Prescription}
-use Rattle.isle_core.specs.Path.{Path, Called}
+use Rattle.isle_core.specs.Path.{Path, Nowhere, Arg, ConstBool, ConstInt, ConstPrim, Extracted, Called, Chosen, MadeVariant, MadeStruct, VariantField, StructField, Wrapped, Inner, Part}
 use Rattle.isle_core.specs.ValueAt.{Known, value_at, values_at}
 use Rattle.isle_core.specs.Rule.{Environment}
 
@@ -48,7 +48,20 @@ make_call m NoCall instance vs known made = Goes known made
 -- the call at a path
 abbrev pub make : Environment → Meaning → List Value → Path → Known → List Made → Went
 make env m args (Called term ps instance) known made = make_call m (calling env term) instance (values_at env m args known ps) known made
-make env m args p known made = Goes known made
+make env m args Nowhere known made = Goes known made
+make env m args (Arg i) known made = Goes known made
+make env m args (ConstBool of b) known made = Goes known made
+make env m args (ConstInt of n) known made = Goes known made
+make env m args (ConstPrim name) known made = Goes known made
+make env m args (Extracted term q) known made = Goes known made
+make env m args (Chosen q) known made = Goes known made
+make env m args (MadeVariant of variant ps) known made = Goes known made
+make env m args (MadeStruct of ps) known made = Goes known made
+make env m args (VariantField variant field q) known made = Goes known made
+make env m args (StructField field q) known made = Goes known made
+make env m args (Wrapped q) known made = Goes known made
+make env m args (Inner q) known made = Goes known made
+make env m args (Part part q) known made = Goes known made
 
 -- nothing in place of a value is a failure
 abbrev pub unless_nothing : Held → Known → List Made → Went
@@ -62,7 +75,20 @@ unless_nothing (Listed is) known made = Goes known made
 abbrev pub check_call : Environment → Meaning → List Value → Path → Known → List Made → Went
 check_call env m args (Called term ps instance) known made =
     if is_fallible (calling env term) then unless_nothing (value_at env m args known (Called term ps instance)) known made else Goes known made
-check_call env m args p known made = Goes known made
+check_call env m args Nowhere known made = Goes known made
+check_call env m args (Arg i) known made = Goes known made
+check_call env m args (ConstBool of b) known made = Goes known made
+check_call env m args (ConstInt of n) known made = Goes known made
+check_call env m args (ConstPrim name) known made = Goes known made
+check_call env m args (Extracted term q) known made = Goes known made
+check_call env m args (Chosen q) known made = Goes known made
+check_call env m args (MadeVariant of variant ps) known made = Goes known made
+check_call env m args (MadeStruct of ps) known made = Goes known made
+check_call env m args (VariantField variant field q) known made = Goes known made
+check_call env m args (StructField field q) known made = Goes known made
+check_call env m args (Wrapped q) known made = Goes known made
+check_call env m args (Inner q) known made = Goes known made
+check_call env m args (Part part q) known made = Goes known made
 
 -- a call is made and must not fail
 abbrev pub run_call : Environment → Meaning → List Value → Path → Known → List Made → Went

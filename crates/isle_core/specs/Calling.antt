@@ -94,6 +94,18 @@ extracting_of env (Some t) = extracting_kind env t.kind
 abbrev pub extracting : Environment → TermId → Calling
 extracting env term = extracting_of env (slice_get env.terms term.0)
 
+-- several answers
+abbrev pub is_several : ReturnKind → Bool
+is_several return_kind.Plain = false
+is_several return_kind.Option = false
+is_several return_kind.Iterator = true
+
+-- whether a call is answered several times
+abbrev pub answers_often : Calling → Bool
+answers_often (ByTurns callee kind) = is_several kind
+answers_often (ByCases callee kind) = is_several kind
+answers_often NoCall = false
+
 -- whether a call may be answered by nothing
 abbrev pub is_fallible : Calling → Bool
 is_fallible (ByTurns callee kind) = may_be_nothing kind

@@ -1,11 +1,30 @@
 -- The builtin integer types: their numbers, and wrapping to them.
-use Rattle.std.specs.Prelude.{◌≡◌, ℕ, ◌<◌, ◌^◌, ℤ, pos, negsuc, ◌+ℤ◌, Bool, true, false, MatchBool, if◌then◌else◌}
+use Rattle.std.specs.Prelude.{◌≡◌, ℕ, ◌<◌, ◌^◌, ℤ, pos, negsuc, ◌+ℤ◌, List, [], ◌∷◌, Bool, true, false, MatchBool, codes, if◌then◌else◌}
 use Rattle.std.specs.Int.{Width, w8, w16, w32, w64, w128, cast_signed, int_rem_euclid}
 use Rattle.std.specs.Int.RustNames.{FitsSigned, unsigned_abs}
 use mir.Val.{bits}
 use lib.IntN.{◌*ℤ◌}
 use Rattle.isle_core.specs.declared.types.IntType.{IntType}
 use Rattle.isle_core.specs.declared.types.IntType.TheVariants.{U8, U16, U32, U64, U128, USize, I8, I16, I32, I64, I128, ISize}
+
+-- the types, in order
+abbrev pub int_types : List IntType
+int_types = U8 ∷ U16 ∷ U32 ∷ U64 ∷ U128 ∷ USize ∷ I8 ∷ I16 ∷ I32 ∷ I64 ∷ I128 ∷ ISize ∷ []
+
+-- a type's name, in rule texts and in Rust
+abbrev pub type_name : IntType → List ℕ
+type_name U8 = codes "u8"
+type_name U16 = codes "u16"
+type_name U32 = codes "u32"
+type_name U64 = codes "u64"
+type_name U128 = codes "u128"
+type_name USize = codes "usize"
+type_name I8 = codes "i8"
+type_name I16 = codes "i16"
+type_name I32 = codes "i32"
+type_name I64 = codes "i64"
+type_name I128 = codes "i128"
+type_name ISize = codes "isize"
 
 -- how wide a type is; usize and isize have 64 bits
 abbrev pub width : IntType → Width

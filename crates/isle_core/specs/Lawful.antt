@@ -30,7 +30,10 @@ Fits env return_kind.Option tys (Plain vs) = ⊥
 Fits env return_kind.Option tys (Found vs) = HaveTypes env vs tys
 Fits env return_kind.Option tys Nothing = Unit {0}
 Fits env return_kind.Option tys (Several items) = ⊥
-Fits env return_kind.Iterator tys a = ⊥
+Fits env return_kind.Iterator tys (Plain vs) = ⊥
+Fits env return_kind.Iterator tys (Found vs) = ⊥
+Fits env return_kind.Iterator tys Nothing = ⊥
+Fits env return_kind.Iterator tys (Several items) = ⊥
 
 -- the turns and the rest
 abbrev pub all_turns : TurnAnswers → List Answer

@@ -1,4 +1,5 @@
 pub mod Int
+pub mod Iterators
 pub mod Value
 pub mod Meaning
 pub mod ValueViews
@@ -49,6 +50,8 @@ pub mod OccurringConstants
 pub mod Lawful
 pub mod History
 pub mod Printed
+pub mod LineStarts
+pub mod ErrorLines
 pub mod Inputs
 pub mod Places
 pub mod Terms

@@ -2,7 +2,7 @@
 use Rattle.std.specs.Prelude.{ℕ, List, [], ◌∷◌, ◌++◌, Contains}
 use Rattle.isle_base.specs.declared.ids.BindingId.{BindingId}
 use Rattle.isle_core.specs.Calling.{Calling, ByTurns, ByCases, NoCall, calling}
-use Rattle.isle_core.specs.Path.{Path, Called, at}
+use Rattle.isle_core.specs.Path.{Path, Nowhere, Arg, ConstBool, ConstInt, ConstPrim, Extracted, Called, Chosen, MadeVariant, MadeStruct, VariantField, StructField, Wrapped, Inner, Part, at}
 use Rattle.isle_core.specs.StandsFor.{EachOnce}
 use Rattle.isle_core.specs.Block.{Block, Stop, Step, Control, Match, Equal, Loop, Return, Arms, NoArm, Arm}
 use Rattle.isle_core.specs.Rule.{Environment}
@@ -16,7 +16,20 @@ occurrence NoCall instance = []
 -- that of a path
 abbrev pub occurrence_at : Environment → Path → List ℕ
 occurrence_at env (Called term ps instance) = occurrence (calling env term) instance
-occurrence_at env p = []
+occurrence_at env Nowhere = []
+occurrence_at env (Arg i) = []
+occurrence_at env (ConstBool of b) = []
+occurrence_at env (ConstInt of n) = []
+occurrence_at env (ConstPrim name) = []
+occurrence_at env (Extracted term q) = []
+occurrence_at env (Chosen q) = []
+occurrence_at env (MadeVariant of variant ps) = []
+occurrence_at env (MadeStruct of ps) = []
+occurrence_at env (VariantField variant field q) = []
+occurrence_at env (StructField field q) = []
+occurrence_at env (Wrapped q) = []
+occurrence_at env (Inner q) = []
+occurrence_at env (Part part q) = []
 
 -- the impure calls of a bind order
 abbrev pub occurrences : Environment → List Path → List BindingId → List ℕ

@@ -9,7 +9,7 @@ use Rattle.isle_core.specs.Value.{Truth}
 use Rattle.isle_core.specs.Constants.{int_value}
 use Rattle.isle_core.specs.Calling.{calling}
 use Rattle.isle_core.specs.ExternalCall.{IsCall}
-use Rattle.isle_core.specs.Path.{Path, Arg, ConstBool, ConstInt, Called, Inner, Paths, NoPath, APath}
+use Rattle.isle_core.specs.Path.{Path, Nowhere, Arg, ConstBool, ConstInt, ConstPrim, Extracted, Called, Chosen, MadeVariant, MadeStruct, VariantField, StructField, Wrapped, Inner, Part, Paths, NoPath, APath}
 use Rattle.isle_core.specs.Rule.{Environment}
 
 -- a path of which a value of the type stands where the binding of the path is bound or may be read; only arguments, truths, numbers of integer types, calls and inner values are built
@@ -20,12 +20,34 @@ abbrev mutual
   IsPathOf env t (ConstInt of n) ty = (of ≡ ty) × HasType env (int_value env ty n) ty × IsBuiltinType env ty
   IsPathOf env t (Called term ps instance) ty = IsCall return_kind.Plain (calling env term) × IsSomeAnd (slice_get env.terms term.0) (λ (c : Term). (c.ret_ty ≡ ty) × ArePathsOf env t ps c.arg_tys)
   IsPathOf env t (Inner p) ty = IsOptionOf env t p ty
-  IsPathOf env t p ty = ⊥
+  IsPathOf env t Nowhere ty = ⊥
+  IsPathOf env t (ConstPrim name) ty = ⊥
+  IsPathOf env t (Extracted term q) ty = ⊥
+  IsPathOf env t (Chosen q) ty = ⊥
+  IsPathOf env t (MadeVariant of variant ps) ty = ⊥
+  IsPathOf env t (MadeStruct of ps) ty = ⊥
+  IsPathOf env t (VariantField variant field q) ty = ⊥
+  IsPathOf env t (StructField field q) ty = ⊥
+  IsPathOf env t (Wrapped q) ty = ⊥
+  IsPathOf env t (Part part q) ty = ⊥
 
   -- a path that holds an option of such a value
   pub IsOptionOf : Environment → Term → Path → TypeId → Type 0
   IsOptionOf env t (Called term ps instance) ty = IsCall return_kind.Option (calling env term) × IsSomeAnd (slice_get env.terms term.0) (λ (c : Term). (c.ret_ty ≡ ty) × ArePathsOf env t ps c.arg_tys)
-  IsOptionOf env t p ty = ⊥
+  IsOptionOf env t Nowhere ty = ⊥
+  IsOptionOf env t (Arg i) ty = ⊥
+  IsOptionOf env t (ConstBool of b) ty = ⊥
+  IsOptionOf env t (ConstInt of n) ty = ⊥
+  IsOptionOf env t (ConstPrim name) ty = ⊥
+  IsOptionOf env t (Extracted term q) ty = ⊥
+  IsOptionOf env t (Chosen q) ty = ⊥
+  IsOptionOf env t (MadeVariant of variant ps) ty = ⊥
+  IsOptionOf env t (MadeStruct of ps) ty = ⊥
+  IsOptionOf env t (VariantField variant field q) ty = ⊥
+  IsOptionOf env t (StructField field q) ty = ⊥
+  IsOptionOf env t (Wrapped q) ty = ⊥
+  IsOptionOf env t (Inner q) ty = ⊥
+  IsOptionOf env t (Part part q) ty = ⊥
 
   -- as many paths as types, each of its type
   pub ArePathsOf : Environment → Term → Paths → List TypeId → Type 0

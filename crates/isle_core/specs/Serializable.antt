@@ -10,7 +10,7 @@ use Rattle.isle_core.specs.declared.rule_sets.RuleSet.{RuleSet}
 use Rattle.isle_core.specs.declared.types.Term.{Term}
 use Rattle.isle_core.specs.declared.types.ReturnKind.{ReturnKind}
 use Rattle.isle_core.specs.Calling.{calling, kind_of, may_be_nothing}
-use Rattle.isle_core.specs.Path.{Path, Called, Inner, Paths, NoPath, APath, at, paths_of}
+use Rattle.isle_core.specs.Path.{Path, Nowhere, Arg, ConstBool, ConstInt, ConstPrim, Extracted, Called, Chosen, MadeVariant, MadeStruct, VariantField, StructField, Wrapped, Inner, Part, Paths, NoPath, APath, at, paths_of}
 use Rattle.isle_core.specs.StandsFor.{EachOnce}
 use Rattle.isle_core.specs.ConstraintType.{IsConstraintOf}
 use Rattle.isle_core.specs.ExternalCall.{IsCall}
@@ -42,7 +42,19 @@ pub record AreComparable (env : Environment) (t : Term) (ps : List Path) (e : Bi
 abbrev pub StandsOn : List Path → Path → Type 0
 StandsOn done (Called term ps instance) = Contains done (Called term ps instance)
 StandsOn done (Inner p) = StandsOn done p
-StandsOn done p = Unit {0}
+StandsOn done Nowhere = Unit {0}
+StandsOn done (Arg i) = Unit {0}
+StandsOn done (ConstBool of b) = Unit {0}
+StandsOn done (ConstInt of n) = Unit {0}
+StandsOn done (ConstPrim name) = Unit {0}
+StandsOn done (Extracted term q) = Unit {0}
+StandsOn done (Chosen q) = Unit {0}
+StandsOn done (MadeVariant of variant ps) = Unit {0}
+StandsOn done (MadeStruct of ps) = Unit {0}
+StandsOn done (VariantField variant field q) = Unit {0}
+StandsOn done (StructField field q) = Unit {0}
+StandsOn done (Wrapped q) = Unit {0}
+StandsOn done (Part part q) = Unit {0}
 
 -- so of each
 abbrev pub AllStandOn : List Path → Paths → Type 0

@@ -6,6 +6,7 @@ use Rattle.std.specs.Option.{option_map_or}
 use Rattle.isle_base.specs.declared.ids.TermId.{TermId}
 use Rattle.isle_base.specs.declared.ids.Sym.{Sym}
 use Rattle.isle_core.specs.declared.types.Term.{Term}
+use Rattle.isle_core.specs.declared.types.TypeEnv.{TypeEnv}
 use Rattle.isle_core.specs.declared.types.TermKind.{TermKind}
 use Rattle.isle_core.specs.declared.types.TermKind.TheVariants as kind
 use Rattle.isle_core.specs.declared.types.ConstructorKind.{ConstructorKind}
@@ -15,8 +16,12 @@ use Rattle.isle_core.specs.declared.values.Callee.TheVariants.{External, Interna
 use Rattle.isle_core.specs.Rule.{Environment, Rule}
 
 -- the text of a symbol
+abbrev pub symbol_text : TypeEnv → Sym → List ℕ
+symbol_text types s = slice_index_or types.syms s.0 []
+
+-- the text of a symbol of an environment
 abbrev pub sym_text : Environment → Sym → List ℕ
-sym_text env s = slice_index_or env.types.syms s.0 []
+sym_text env s = symbol_text env.types s
 
 -- the ids of the terms, in order
 abbrev pub term_ids : Environment → List TermId

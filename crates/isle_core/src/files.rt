@@ -92,7 +92,7 @@ fn name_shown(alloc: Global, name: &str, prefixes: &[Prefix]) -> Result<Text, Ou
             return Ok(Text::new(printed));
         }
     }
-    Ok(Text::new(String::from_str(alloc, name)?))
+    Ok(Text::copied(alloc, name)?)
 }
 
 // What stands behind the prefix, where the name begins with it.

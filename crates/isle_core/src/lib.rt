@@ -5,6 +5,8 @@ mod blocks;
 mod errors;
 mod files;
 mod int_type;
+mod line_starts;
+mod names;
 mod options;
 mod position;
 mod read_error;
@@ -24,6 +26,7 @@ pub use isle_outside::{
     Dir, DirFault, Failed, Found, IoCause, MemDir, MemSink, OutOfMemory, ReadFail, Sink, StdDir,
     StdSink, read_text, write_all,
 };
+pub use line_starts::LineStarts;
 pub use options::{CodegenOptions, Prefix};
 pub use position::{Pos, Span};
 pub use read_error::ReadError;

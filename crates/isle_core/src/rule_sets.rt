@@ -62,7 +62,7 @@ pub enum Binding {
 }
 
 /// A test of one binding.
-#[derive(Clone, Copy, Debug, PartialEq, Eq)]
+#[derive(Clone, Copy, Debug, PartialEq, Eq, PartialOrd, Ord)]
 pub enum Constraint {
     Variant { ty: TypeId, variant: VariantId },
     Struct { ty: TypeId },

@@ -1,29 +1,16 @@
 -- What holds of an emitted function.
-use Rattle.std.proofs.Common.{◌≡◌, ℕ, zero, suc, [], ◌∷◌, get_or, slice_get, List, Option, Some, None, Result, Ok, Err, subst}
-use Rattle.std.specs.Prelude.{IfOk, IsSomeAnd}
-use Rattle.isle_core.specs.declared.files.Files.{Files}
+use Rattle.std.proofs.Common.{◌≡◌, ℕ, zero, suc, [], ◌∷◌, get_or, slice_get, List, Option, Some, None, subst}
+use Rattle.std.specs.Prelude.{IsSomeAnd}
 use Rattle.isle_core.specs.declared.types.Term.{Term}
-use Rattle.isle_core.specs.Block.{Block}
-use Rattle.isle_core.specs.declared.rule_sets.Binding.{Binding}
-use Rattle.isle_core.specs.Rule.{Environment}
-use Rattle.isle_core.specs.Setting.{setting}
+use Rattle.isle_core.specs.Setting.{Setting, setting}
 use Rattle.isle_tree.specs.Program.{Program, Function}
 use Rattle.isle_tree.specs.WellFormed.{IsFunction}
-use Rattle.isle_simulation.specs.Emitted.{RunsAsBlock}
-use Rattle.isle_emission.specs.MayEmit.{MayEmit}
-use Rattle.isle_simulation.specs.Shape.{HasShape}
+use Rattle.isle_emission.specs.Origin.{Origin, InSetting}
+use Rattle.isle_emission.specs.MayEmit.{MayEmit, MayEmitTerm}
+use Rattle.isle_emission.specs.EmittedTerm.{IsGiven, IsWellFormedIn, HasBlockShape, RunsAsItsBlock}
 use Rattle.isle_simulation.specs.TermFunction.{term_function}
-use Rattle.isle_simulation.specs.TraitFns.{trait_fns_of}
 use Rattle.isle_simulation.proofs.GivenFunctions.{emitted_well_formed, has_shape, runs_as_block}
 use Rattle.isle_simulation.proofs.Made.{function_made}
-
--- the function is that of the term
-abbrev pub IsOf : Files → Environment → List Binding → Block → Option Term → Function → Type 0
-IsOf files env bs b o f = IsSomeAnd o (λ t. term_function files env t bs b ≡ Some f)
-
-pub if_ok : {A E : Type 0} (r : Result A E) (P Q : A → Type 0) → ((a : A) → P a → Q a) → IfOk r P → IfOk r Q
-if_ok (Ok a) P Q f h = f a h
-if_ok (Err e) P Q f h = tt
 
 -- what is so of an item is so of the item of its number
 pub at_item : {A : Type 0} (xs : List A) (i : ℕ) (x : A) (P Q : A → Type 0) → IsSomeAnd (slice_get xs i) P → x ≡ get_or xs i x → Q x → IsSomeAnd (slice_get xs i) Q
@@ -31,19 +18,28 @@ at_item [] i x P Q h is q = absurd h
 at_item (y ∷ ys) zero x P Q h is q = subst Q is q
 at_item (y ∷ ys) (suc i) x P Q h is q = at_item ys i x P Q h is q
 
-pub is_well_formed : (files : Files) (env : Environment) (bs : List Binding) (b : Block) (o : Option Term) (f : Function) → IsSomeAnd o (λ t. MayEmit files env t bs b) → IsOf files env bs b o f → (p : Program) → p.trait_fns ≡ trait_fns_of env → IsFunction p f
-is_well_formed files env bs b (Some t) f h e p fns = emitted_well_formed files env t bs b f h.lawful h.single h.emittable.once e h.emittable h.fns p fns
-is_well_formed files env bs b None f h e p fns = absurd h
+-- what is so of an item by two facts
+both : {A : Type 0} (o : Option A) (P Q R : A → Type 0) → ((x : A) → P x → Q x → R x) → IsSomeAnd o P → IsSomeAnd o Q → IsSomeAnd o R
+both (Some x) P Q R f h k = f x h k
+both None P Q R f h k = absurd h
 
-pub is_shaped : (files : Files) (env : Environment) (bs : List Binding) (b : Block) (o : Option Term) (f : Function) → IsSomeAnd o (λ t. MayEmit files env t bs b) → IsOf files env bs b o f → IsSomeAnd o (λ t. HasShape (setting env t bs) f.body b)
-is_shaped files env bs b (Some t) f h e = has_shape files env t bs b f h.lawful h.single h.emittable.once e
-is_shaped files env bs b None f h e = absurd h
+pub is_well_formed : (o : Origin) (f : Function) → MayEmitTerm o → IsGiven o f → IsWellFormedIn o f
+is_well_formed o f h e p fns = one (slice_get o.env.terms o.id.0) h e
+  where
+    one : (t : Option Term) → IsSomeAnd t (λ u. MayEmit o.files (setting o.env u o.bindings) o.block) → IsSomeAnd t (λ u. term_function o.files (setting o.env u o.bindings) o.block ≡ Some f) → IsFunction p f
+    one (Some t) may is = emitted_well_formed o.files o.env t o.bindings o.block f may.lawful may.single may.emittable.once is may.emittable may.fns p fns
+    one None may is = absurd may
 
-pub is_run : (files : Files) (env : Environment) (bs : List Binding) (b : Block) (o : Option Term) (f : Function) → IsSomeAnd o (λ t. MayEmit files env t bs b) → IsOf files env bs b o f → IsSomeAnd o (λ t. RunsAsBlock env t bs b f)
-is_run files env bs b (Some t) f h e = runs_as_block files env t bs b f h.lawful h.single h.emittable.once e
-is_run files env bs b None f h e = absurd h
+pub is_shaped : (o : Origin) (f : Function) → MayEmitTerm o → IsGiven o f → HasBlockShape o f
+is_shaped o f h e = both (slice_get o.env.terms o.id.0) _ _ _ (λ t may is. has_shape o.files o.env t o.bindings o.block f may.lawful may.single may.emittable.once is) h e
+
+pub is_run : (o : Origin) (f : Function) → MayEmitTerm o → IsGiven o f → RunsAsItsBlock o f
+is_run o f h e = both (slice_get o.env.terms o.id.0) _ _ _ (λ t may is. runs_as_block o.files o.env t o.bindings o.block f may.lawful may.single may.emittable.once is) h e
 
 -- and it is there
-pub is_made : (files : Files) (env : Environment) (bs : List Binding) (b : Block) (o : Option Term) → IsSomeAnd o (λ t. MayEmit files env t bs b) → IsSomeAnd o (λ t. None ≡ term_function files env t bs b) → ⊥
-is_made files env bs b (Some t) h e = let made = function_made files env t bs b h.emittable.once h.lawful h.single in cc
-is_made files env bs b None h e = h
+pub is_made : (o : Origin) → MayEmitTerm o → InSetting o (λ (s : Setting). None ≡ term_function o.files s o.block) → ⊥
+is_made o h e = one (slice_get o.env.terms o.id.0) h e
+  where
+    one : (t : Option Term) → IsSomeAnd t (λ u. MayEmit o.files (setting o.env u o.bindings) o.block) → IsSomeAnd t (λ u. None ≡ term_function o.files (setting o.env u o.bindings) o.block) → ⊥
+    one (Some t) may none = let made = function_made o.files o.env t o.bindings o.block may.emittable.once may.lawful may.single in cc
+    one None may none = may

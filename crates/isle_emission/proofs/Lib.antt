@@ -2,7 +2,5 @@ pub mod PathAt
 pub mod Onto
 pub mod ReadSteps
 pub mod StatementSteps
-pub mod LineFeeds
-pub mod Lines
 pub mod Roots
 pub mod EmittedLaws

@@ -19,7 +19,3 @@ onto_done (s ∷ ss) = ap (stmt_before (Some s)) (onto_done ss)
 pub onto_none : (ss : List Stmt) → body_onto ss None ≡ None
 onto_none [] = refl
 onto_none (s ∷ ss) = ap (stmt_before (Some s)) (onto_none ss)
-
-pub bound_onward : (bound : List ℕ) (bs : List BindingId) → (more : List ℕ) × (bound_by bound bs ≡ bound ++ more)
-bound_onward bound [] = ([], search rules)
-bound_onward bound (b ∷ bs) = let h = bound_onward (bound ++ b.0 ∷ []) bs in (b.0 ∷ h.0, h.1 ∙ append_assoc bound (b.0 ∷ []) h.0)

@@ -2,17 +2,16 @@
 use Rattle.std.proofs.Common.{◌≡◌, ℕ, zero, suc, ◌+◌, List, [], ◌∷◌, ◌++◌, length, get_or, map, eqb, ◌-◌, true, false, cond, Option, Some, None, refl, sym, ap, ◌∙◌, arith}
 use Rattle.std.specs.Prelude.{option_map}
 use Rattle.isle_core.specs.declared.blocks.EvalStep.{EvalStep as CodeStep}
-use Rattle.isle_core.specs.declared.rule_sets.Binding.{Binding}
-use Rattle.isle_core.specs.declared.types.ReturnKind.{ReturnKind}
+use Rattle.isle_core.specs.declared.files.Files.{Files}
 use Rattle.isle_core.specs.Block.{Block}
 use Rattle.isle_core.specs.BlockViews.{block_of, step}
-use Rattle.isle_core.specs.Rule.{Environment}
+use Rattle.isle_core.specs.Setting.{Setting}
 use Rattle.isle_tree.specs.declared.tree.Stmt.{Stmt as CodeStmt}
 use Rattle.isle_tree.specs.Program.{Tail, Body, Done}
 use Rattle.isle_tree.specs.Views.{stmt, body}
 use Rattle.isle_emission.specs.BodyOnto.{body_onto}
 use Rattle.isle_simulation.specs.Statements.{stmt_before, block_body}
-use Rattle.isle_simulation.specs.TermFunction.{is_return, ends_in_return, mark_of, tail_body, tail_of}
+use Rattle.isle_simulation.specs.TermFunction.{is_return, ends_in_return, mark_in, tail_body, root_body}
 use Rattle.isle_emission.proofs.Onto.{onto_pushed, onto_done}
 
 pub one_less : (n : ℕ) → false ≡ eqb n 0 → (n - 1) + 1 ≡ n
@@ -27,36 +26,36 @@ ends_at (y ∷ []) (suc i) x n is = absurd (omega (arith, n))
 ends_at (y ∷ z ∷ ys) zero x n is = absurd (omega (arith, n))
 ends_at (y ∷ z ∷ ys) (suc i) x n is = ends_at (z ∷ ys) i x (omega (arith, n)) is
 
-pub root_ended : (env : Environment) (bs : List Binding) (kind : ReturnKind) (name place : List ℕ) (b : Block) (ss : List CodeStmt)
-    → ends_in_return b ≡ true → ((end : Option Body) → body_onto (map stmt ss) end ≡ block_body env bs kind [] b end) → Some (body ss) ≡ block_body env bs kind [] b (Some (tail_of kind name place b))
-root_ended env bs kind name place b ss ends is =
-    sym (onto_done (map stmt ss)) ∙ is (Some Done) ∙ ap (λ e. block_body env bs kind [] b (Some (cond e Done (tail_body (mark_of kind name place))))) (sym ends)
+pub root_ended : (files : Files) (s : Setting) (b : Block) (ss : List CodeStmt)
+    → ends_in_return b ≡ true → ((end : Option Body) → body_onto (map stmt ss) end ≡ block_body s [] b end) → Some (body ss) ≡ root_body files s b
+root_ended files s b ss ends is =
+    sym (onto_done (map stmt ss)) ∙ is (Some Done) ∙ ap (λ e. block_body s [] b (Some (cond e Done (tail_body (mark_in files s.env s.term))))) (sym ends)
 
--- behind a block that goes on stands the tail
-pub root_open : (env : Environment) (bs : List Binding) (kind : ReturnKind) (name place : List ℕ) (b : Block) (ss new : List CodeStmt) (last : CodeStmt)
-    → ends_in_return b ≡ false → ((end : Option Body) → body_onto (map stmt ss) end ≡ block_body env bs kind [] b end) → Some (stmt last) ≡ option_map Tail (mark_of kind name place) → new ≡ ss ++ last ∷ []
-    → Some (body new) ≡ block_body env bs kind [] b (Some (tail_of kind name place b))
-root_open env bs kind name place b ss new last ends is is_last pushed =
+-- after a block that goes on stands the tail
+pub root_open : (files : Files) (s : Setting) (b : Block) (ss new : List CodeStmt) (last : CodeStmt)
+    → ends_in_return b ≡ false → ((end : Option Body) → body_onto (map stmt ss) end ≡ block_body s [] b end) → Some (stmt last) ≡ option_map Tail (mark_in files s.env s.term) → new ≡ ss ++ last ∷ []
+    → Some (body new) ≡ root_body files s b
+root_open files s b ss new last ends is is_last pushed =
     ap (λ xs. Some (body xs)) pushed
     ∙ sym (onto_done (map stmt (ss ++ last ∷ [])))
     ∙ onto_pushed ss last (Some Done)
-    ∙ ap (body_onto (map stmt ss)) (tail_last (mark_of kind name place) is_last)
-    ∙ is (Some (tail_body (mark_of kind name place)))
-    ∙ ap (λ e. block_body env bs kind [] b (Some (cond e Done (tail_body (mark_of kind name place))))) (sym ends)
+    ∙ ap (body_onto (map stmt ss)) (tail_last (mark_in files s.env s.term) is_last)
+    ∙ is (Some (tail_body (mark_in files s.env s.term)))
+    ∙ ap (λ e. block_body s [] b (Some (cond e Done (tail_body (mark_in files s.env s.term))))) (sym ends)
   where
     tail_last : (mark : Option (Option (List ℕ × List ℕ))) → Some (stmt last) ≡ option_map Tail mark → stmt_before (Some (stmt last)) (Some Done) ≡ Some (tail_body mark)
-    tail_last (Some m) e = ap (λ s. stmt_before s (Some Done)) e
+    tail_last (Some m) e = ap (λ o. stmt_before o (Some Done)) e
     tail_last None e = cc
 
 -- or none, where the kind has none
-pub root_bare : (env : Environment) (bs : List Binding) (kind : ReturnKind) (name place : List ℕ) (b : Block) (ss : List CodeStmt)
-    → ends_in_return b ≡ false → ((end : Option Body) → body_onto (map stmt ss) end ≡ block_body env bs kind [] b end) → None ≡ option_map Tail (mark_of kind name place)
-    → Some (body ss) ≡ block_body env bs kind [] b (Some (tail_of kind name place b))
-root_bare env bs kind name place b ss ends is none =
+pub root_bare : (files : Files) (s : Setting) (b : Block) (ss : List CodeStmt)
+    → ends_in_return b ≡ false → ((end : Option Body) → body_onto (map stmt ss) end ≡ block_body s [] b end) → None ≡ option_map Tail (mark_in files s.env s.term)
+    → Some (body ss) ≡ root_body files s b
+root_bare files s b ss ends is none =
     sym (onto_done (map stmt ss))
     ∙ is (Some Done)
-    ∙ ap (λ t. block_body env bs kind [] b (Some t)) (no_tail (mark_of kind name place) none)
-    ∙ ap (λ e. block_body env bs kind [] b (Some (cond e Done (tail_body (mark_of kind name place))))) (sym ends)
+    ∙ ap (λ t. block_body s [] b (Some t)) (no_tail (mark_in files s.env s.term) none)
+    ∙ ap (λ e. block_body s [] b (Some (cond e Done (tail_body (mark_in files s.env s.term))))) (sym ends)
   where
     no_tail : (mark : Option (Option (List ℕ × List ℕ))) → None ≡ option_map Tail mark → Done ≡ tail_body mark
     no_tail None e = refl

@@ -2,5 +2,6 @@ pub mod Built
 pub mod Contexts
 pub mod BodyOnto
 pub mod Views
-pub mod LineStarts
+pub mod Origin
 pub mod MayEmit
+pub mod EmittedTerm

@@ -1,8 +1,8 @@
 //! What bound locals compute: calls, and the inner values of options.
 
-ghost use Rattle.std.specs.Prelude.{◌≡◌, IfOk, option_map, slice_get};
+ghost use Rattle.std.specs.Prelude.{◌≡◌, IfOk};
 ghost use Rattle.isle_core.specs.Calling.{calling};
-ghost use Rattle.isle_emission.specs.Contexts.{env_of, bindings_in};
+ghost use Rattle.isle_emission.specs.Contexts.{env_of, setting_of};
 ghost use Rattle.isle_simulation.specs.Statements as Statements;
 ghost use Rattle.isle_emission.specs.Views.{items_of};
 
@@ -51,7 +51,7 @@ fn reads(
     bound: &Scope,
     bindings: &[BindingId],
 ) -> Result<Option<Vec<Read>>, AllocError>
-    ensures { IfOk result (λ reads. items_of reads ≡ Statements.reads (env_of context.now) (bindings_in context.now) bound.now bindings.now) }
+    ensures { IfOk result (λ reads. items_of reads ≡ Statements.reads (setting_of context.now) bound.now bindings.now) }
 {
     let mut reads = Vec::new(alloc);
     for binding in bindings {
@@ -100,7 +100,7 @@ pub fn bound_expr(
     bound: &Scope,
     binding: BindingId,
 ) -> Result<Option<TExpr>, AllocError>
-    ensures { IfOk result (λ e. e ≡ Statements.bound_expr (env_of context.now) (bindings_in context.now) bound.now binding (slice_get (bindings_in context.now) binding.0)) }
+    ensures { IfOk result (λ e. e ≡ Statements.bound_expr (setting_of context.now) bound.now binding) }
 {
     match context.bindings.get(binding.index()) {
         Some(

@@ -3,15 +3,15 @@
 ghost use Rattle.std.specs.Prelude.{◌≡◌};
 ghost use Rattle.isle_core.specs.Calling.{kind_of};
 
-use isle_core::{Binding, ReturnKind, TermEnv, TermKind, TypeEnv};
+use isle_core::{Binding, ReturnKind, Term, TermEnv, TermKind, TypeEnv};
 
-/// An environment, the bindings of a term's rules, and how often the term answers.
+/// An environment, a term of it, and the bindings of the term's rules.
 #[derive(Clone, Copy)]
 pub struct Context<'a> {
     pub typeenv: &'a TypeEnv,
     pub termenv: &'a TermEnv,
+    pub term: &'a Term,
     pub bindings: &'a [Binding],
-    pub kind: ReturnKind,
 }
 
 /// Returns how often a term of this kind answers.

@@ -1,29 +1,22 @@
 //! The function of a term.
 
-ghost use Rattle.std.specs.Prelude.{◌≡◌, Some as SomeOf, map, option_map, IfOk};
+ghost use Rattle.std.specs.Prelude.{◌≡◌, map, option_map, IfOk};
 ghost use Rattle.isle_core.specs.BlockViews as BlockViews;
-ghost use Rattle.isle_core.specs.Calling.{kind_of};
 ghost use Rattle.isle_core.specs.Places.{LiesIn};
-ghost use Rattle.isle_core.specs.RuleViews.{environment};
-ghost use Rattle.isle_core.specs.Setting.{setting};
-ghost use Rattle.isle_tree.specs.Program.{Program};
 ghost use Rattle.isle_tree.specs.Views as Views;
-ghost use Rattle.isle_tree.specs.WellFormed.{IsFunction};
-ghost use Rattle.isle_emission.specs.Contexts.{env_of, bindings_in};
+ghost use Rattle.isle_emission.specs.Contexts.{setting_of};
 ghost use Rattle.isle_emission.specs.Built.{IsBuilt};
-ghost use Rattle.isle_simulation.specs.Emitted.{RunsAsBlock};
-ghost use Rattle.isle_emission.specs.LineStarts.{starts_of};
-ghost use Rattle.isle_emission.specs.MayEmit.{AtTerm, MayEmit};
-ghost use Rattle.isle_simulation.specs.Shape.{HasShape};
+ghost use Rattle.isle_core.specs.LineStarts.{starts_of};
+ghost use Rattle.isle_emission.specs.Origin.{origin};
+ghost use Rattle.isle_emission.specs.MayEmit.{MayEmitTerm};
+ghost use Rattle.isle_emission.specs.EmittedTerm.{IsGiven, IsWellFormedIn, HasBlockShape, RunsAsItsBlock};
 ghost use Rattle.isle_simulation.specs.TermFunction as TermFunction;
-ghost use Rattle.isle_simulation.specs.TraitFns.{trait_fns_of};
 
 use crate::context::{Context, kind_of};
-use crate::line_starts::LineStarts;
 use crate::root::root_stmts;
 use crate::signature::{params, sym_name, ty_name};
 use isle_core::{
-    Block, CodegenOptions, Files, List, OutOfMemory, RuleSet, Term, TermEnv, TermId, TypeEnv,
+    Block, CodegenOptions, Files, LineStarts, List, OutOfMemory, RuleSet, TermEnv, TermId, TypeEnv,
 };
 use isle_tree::Function;
 use std::alloc::Global;
@@ -35,14 +28,13 @@ pub fn term_function(
     files: &Files,
     starts: &LineStarts,
     context: &Context<'_>,
-    term: &Term,
     block: &Block,
 ) -> Result<Option<Function>, OutOfMemory>
     requires starts { starts.now ≡ map starts_of files.now.file_texts }
-    requires place { LiesIn files.now term.now.decl_pos }
-    requires kind { context.now.kind ≡ kind_of term.now.kind }
-    ensures { IfOk result (λ f. option_map Views.function f ≡ TermFunction.term_function files.now (env_of context.now) term.now (bindings_in context.now) (BlockViews.block block.now)) }
+    requires place { LiesIn files.now context.now.term.now.decl_pos }
+    ensures { IfOk result (λ f. option_map Views.function f ≡ TermFunction.term_function files.now (setting_of context.now) (BlockViews.block block.now)) }
 {
+    let term = context.term;
     let name = sym_name(alloc, context.typeenv, term.name)?;
     let params = params(
         alloc,
@@ -51,14 +43,14 @@ pub fn term_function(
         term.arg_tys.as_slice(),
     )?;
     let result = ty_name(alloc, context.typeenv, term.ret_ty)?;
-    let Some(body) = root_stmts(alloc, files, starts, context, term, block)? else {
+    let Some(body) = root_stmts(alloc, files, starts, context, block)? else {
         return Ok(None);
     };
     Ok(Some(Function {
         term: name,
         params: List::new(params),
         result,
-        kind: context.kind,
+        kind: kind_of(&term.kind),
         body: List::new(body),
     }))
 }
@@ -76,22 +68,21 @@ pub fn emit_term(
     block: &Block,
     options: &CodegenOptions,
 ) -> Result<Function, OutOfMemory>
-    requires term { AtTerm (environment typeenv.now termenv.now) term (λ t. MayEmit files.now (environment typeenv.now termenv.now) t rules.now.bindings (BlockViews.block block.now)) }
+    requires term { MayEmitTerm (origin files.now typeenv.now termenv.now term rules.now block.now) }
     requires options { IsBuilt options.now }
-    ensures emitted { IfOk result (λ f. AtTerm (environment typeenv.now termenv.now) term (λ t. TermFunction.term_function files.now (environment typeenv.now termenv.now) t rules.now.bindings (BlockViews.block block.now) ≡ SomeOf (Views.function f))) }
-    ensures well_formed { IfOk result (λ f. (p : Program) → p.trait_fns ≡ trait_fns_of (environment typeenv.now termenv.now) → IsFunction p (Views.function f)) }
-    ensures shape { IfOk result (λ f. AtTerm (environment typeenv.now termenv.now) term (λ t. HasShape (setting (environment typeenv.now termenv.now) t rules.now.bindings) (Views.body f.body) (BlockViews.block block.now))) }
-    ensures run { IfOk result (λ f. AtTerm (environment typeenv.now termenv.now) term (λ t. RunsAsBlock (environment typeenv.now termenv.now) t rules.now.bindings (BlockViews.block block.now) (Views.function f))) }
+    ensures emitted { IfOk result (λ f. IsGiven (origin files.now typeenv.now termenv.now term rules.now block.now) (Views.function f)) }
+    ensures well_formed { IfOk result (λ f. IsWellFormedIn (origin files.now typeenv.now termenv.now term rules.now block.now) (Views.function f)) }
+    ensures shape { IfOk result (λ f. HasBlockShape (origin files.now typeenv.now termenv.now term rules.now block.now) (Views.function f)) }
+    ensures run { IfOk result (λ f. RunsAsItsBlock (origin files.now typeenv.now termenv.now term rules.now block.now) (Views.function f)) }
 {
     let starts = LineStarts::new(alloc, files)?;
-    let term = &termenv.terms.as_slice()[term.index()];
     let context = Context {
         typeenv,
         termenv,
+        term: &termenv.terms.as_slice()[term.index()],
         bindings: rules.bindings.as_slice(),
-        kind: kind_of(&term.kind),
     };
-    match term_function(alloc, files, &starts, &context, term, block)? {
+    match term_function(alloc, files, &starts, &context, block)? {
         Some(function) => Ok(function),
         None => unreachable!(),
     }

@@ -1,10 +1,10 @@
 //! The functions of the trait.
 
-ghost use Rattle.std.specs.Prelude.{◌≡◌, ◌++◌, IfOk, OnOk, List as ListOf};
-ghost use Rattle.std.specs.List.{cons_option};
+ghost use Rattle.std.specs.Prelude.{◌≡◌, IfOk, OnOk};
 ghost use Rattle.isle_core.specs.RuleViews.{environment};
 ghost use Rattle.isle_core.specs.Calling.{extractor_kind};
 ghost use Rattle.isle_simulation.specs.TraitFns as TraitFns;
+ghost use Rattle.isle_emission.specs.Views.{IsPushed};
 
 use crate::context::kind_of;
 use crate::signature::{params, sym_name, ty_name, ty_names};
@@ -100,7 +100,7 @@ fn push_extractor(
     term: &Term,
     fns: &mut Vec<TraitFn>,
 ) -> Result<(), AllocError>
-    ensures { OnOk result ((more : ListOf TraitFn) → fns.new.items ++ more ≡ fns.old.items ++ cons_option (TraitFns.extractor_fn_of (environment typeenv.now termenv.now) term.now) more) }
+    ensures { OnOk result (IsPushed fns.old.items fns.new.items (TraitFns.extractor_fn_of (environment typeenv.now termenv.now) term.now)) }
 {
     if let Some(of) = extracted(term) {
         fns.push(extractor_fn(alloc, typeenv, termenv, term, of)?)?;
@@ -116,7 +116,7 @@ fn push_constructor(
     term: &Term,
     fns: &mut Vec<TraitFn>,
 ) -> Result<(), AllocError>
-    ensures { OnOk result ((more : ListOf TraitFn) → fns.new.items ++ more ≡ fns.old.items ++ cons_option (TraitFns.constructor_fn_of (environment typeenv.now termenv.now) term.now) more) }
+    ensures { OnOk result (IsPushed fns.old.items fns.new.items (TraitFns.constructor_fn_of (environment typeenv.now termenv.now) term.now)) }
 {
     if let Some(func) = constructed(term) {
         fns.push(constructor_fn(alloc, typeenv, termenv, term, func)?)?;

@@ -5,13 +5,11 @@ mod calls;
 mod context;
 mod emit;
 mod externals;
-mod line_starts;
 mod operands;
 mod root;
 mod signature;
 mod statements;
 
-pub use context::{Context, kind_of};
+pub use context::Context;
 pub use emit::{emit_term, term_function};
 pub use externals::trait_fns;
-pub use line_starts::LineStarts;

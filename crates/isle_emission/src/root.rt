@@ -1,22 +1,19 @@
 //! The statements of a term's function.
 
-ghost use Rattle.std.specs.Prelude.{◌≡◌, [], Some as SomeOf, map, option_map, IfOk};
+ghost use Rattle.std.specs.Prelude.{◌≡◌, map, option_map, IfOk};
 ghost use Rattle.isle_core.specs.BlockViews as BlockViews;
-ghost use Rattle.isle_core.specs.Places.{LiesIn, place_in};
-ghost use Rattle.isle_core.specs.Terms.{sym_text};
+ghost use Rattle.isle_core.specs.Places.{LiesIn};
 ghost use Rattle.isle_tree.specs.Program.{Tail};
 ghost use Rattle.isle_tree.specs.Views.{stmt};
-ghost use Rattle.isle_emission.specs.Contexts.{env_of, bindings_in};
-ghost use Rattle.isle_emission.specs.LineStarts.{starts_of};
-ghost use Rattle.isle_simulation.specs.Statements.{block_body};
+ghost use Rattle.isle_emission.specs.Contexts.{env_of, setting_of};
+ghost use Rattle.isle_core.specs.LineStarts.{starts_of};
 ghost use Rattle.isle_simulation.specs.TermFunction as TermFunction;
 ghost use Rattle.isle_emission.specs.Views.{body_in};
 
-use crate::context::Context;
-use crate::line_starts::LineStarts;
+use crate::context::{Context, kind_of};
 use crate::signature::sym_name;
 use crate::statements::block_stmts;
-use isle_core::{Block, ControlFlow, Files, OutOfMemory, ReturnKind, Term, Text};
+use isle_core::{Block, ControlFlow, Files, LineStarts, OutOfMemory, ReturnKind, Text};
 use isle_scope::Scope;
 use isle_tree::Stmt;
 use std::alloc::Global;
@@ -28,16 +25,15 @@ fn tail(
     files: &Files,
     starts: &LineStarts,
     context: &Context<'_>,
-    term: &Term,
 ) -> Result<Option<Stmt>, OutOfMemory>
     requires starts { starts.now ≡ map starts_of files.now.file_texts }
-    requires place { LiesIn files.now term.now.decl_pos }
-    ensures { IfOk result (λ tail. option_map stmt tail ≡ option_map Tail (TermFunction.mark_of context.now.kind (sym_text (env_of context.now) term.now.name) (place_in files.now term.now.decl_pos))) }
+    requires place { LiesIn files.now context.now.term.now.decl_pos }
+    ensures { IfOk result (λ tail. option_map stmt tail ≡ option_map Tail (TermFunction.mark_in files.now (env_of context.now) context.now.term.now)) }
 {
-    match context.kind {
+    match kind_of(&context.term.kind) {
         ReturnKind::Plain => {
-            let name = sym_name(alloc, context.typeenv, term.name)?;
-            let place = starts.place(alloc, files, term.decl_pos)?;
+            let name = sym_name(alloc, context.typeenv, context.term.name)?;
+            let place = starts.place(alloc, files, context.term.decl_pos)?;
             Ok(Some(Stmt::Tail(Some((name, Text::new(place))))))
         }
         ReturnKind::Option => Ok(Some(Stmt::Tail(None))),
@@ -75,12 +71,11 @@ pub fn root_stmts(
     files: &Files,
     starts: &LineStarts,
     context: &Context<'_>,
-    term: &Term,
     block: &Block,
 ) -> Result<Option<Vec<Stmt>>, OutOfMemory>
     requires starts { starts.now ≡ map starts_of files.now.file_texts }
-    requires place { LiesIn files.now term.now.decl_pos }
-    ensures { IfOk result (λ stmts. body_in stmts ≡ block_body (env_of context.now) (bindings_in context.now) context.now.kind [] (BlockViews.block block.now) (SomeOf (TermFunction.tail_of context.now.kind (sym_text (env_of context.now) term.now.name) (place_in files.now term.now.decl_pos) (BlockViews.block block.now)))) }
+    requires place { LiesIn files.now context.now.term.now.decl_pos }
+    ensures { IfOk result (λ stmts. body_in stmts ≡ TermFunction.root_body files.now (setting_of context.now) (BlockViews.block block.now)) }
 {
     let mut bound = Scope::new(alloc);
     let Some(mut stmts) = block_stmts(alloc, context, &mut bound, block)? else {
@@ -89,7 +84,7 @@ pub fn root_stmts(
     if ends_in_return(block) {
         return Ok(Some(stmts));
     }
-    let Some(last) = tail(alloc, files, starts, context, term)? else {
+    let Some(last) = tail(alloc, files, starts, context)? else {
         return Ok(Some(stmts));
     };
     stmts.push(last)?;

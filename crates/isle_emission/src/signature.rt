@@ -1,23 +1,13 @@
 //! The names and types in the head of a term's function.
 
-ghost use Rattle.std.specs.Prelude.{◌≡◌, [], map, slice_get, slice_index_or, IfOk};
+ghost use Rattle.std.specs.Prelude.{◌≡◌, map, slice_get, IfOk};
 ghost use Rattle.isle_core.specs.RuleViews.{environment};
+ghost use Rattle.isle_core.specs.Terms.{symbol_text};
 ghost use Rattle.isle_simulation.specs.TermFunction.{def_text, type_text, parameter, is_by_ref};
 
 use isle_core::{BuiltinType, Sym, TermEnv, Text, TypeDef, TypeEnv, TypeId};
-use isle_spelling::type_name;
 use isle_tree::Ty;
 use std::alloc::{AllocError, Global};
-
-// Returns the text of a symbol.
-fn sym_text(typeenv: &TypeEnv, sym: Sym) -> &str
-    ensures { result.now ≡ slice_index_or typeenv.now.syms sym.0 [] }
-{
-    match typeenv.syms.as_slice().get(sym.index()) {
-        Some(text) => text.as_str(),
-        None => "",
-    }
-}
 
 // Returns the name of a type as it is emitted.
 fn type_text(typeenv: &TypeEnv, ty: TypeId) -> &str
@@ -25,10 +15,10 @@ fn type_text(typeenv: &TypeEnv, ty: TypeId) -> &str
 {
     match typeenv.types.as_slice().get(ty.index()) {
         Some(TypeDef::Builtin(BuiltinType::Bool)) => "bool",
-        Some(TypeDef::Builtin(BuiltinType::Int(ty))) => type_name(*ty),
-        Some(TypeDef::Primitive { rust, .. }) => sym_text(typeenv, *rust),
+        Some(TypeDef::Builtin(BuiltinType::Int(ty))) => ty.name(),
+        Some(TypeDef::Primitive { rust, .. }) => typeenv.symbol(*rust),
         Some(TypeDef::Enum { name, .. }) | Some(TypeDef::Struct { name, .. }) => {
-            sym_text(typeenv, *name)
+            typeenv.symbol(*name)
         }
         None => "",
     }
@@ -44,25 +34,18 @@ fn is_by_ref(typeenv: &TypeEnv, ty: TypeId) -> bool
     }
 }
 
-// Makes a text of its own.
-fn owned(alloc: Global, text: &str) -> Result<Text, AllocError>
-    ensures { IfOk result (λ owned. owned ≡ text.now) }
-{
-    Ok(Text::new(String::from_str(alloc, text)?))
-}
-
 /// Makes the name of a symbol.
 pub fn sym_name(alloc: Global, typeenv: &TypeEnv, sym: Sym) -> Result<Text, AllocError>
-    ensures { IfOk result (λ name. name ≡ slice_index_or typeenv.now.syms sym.0 []) }
+    ensures { IfOk result (λ name. name ≡ symbol_text typeenv.now sym) }
 {
-    owned(alloc, sym_text(typeenv, sym))
+    Text::copied(alloc, typeenv.symbol(sym))
 }
 
 /// Makes the name of a type as it is emitted.
 pub fn ty_name(alloc: Global, typeenv: &TypeEnv, ty: TypeId) -> Result<Text, AllocError>
     ensures { IfOk result (λ name. name ≡ def_text typeenv.now (slice_get typeenv.now.types ty.0)) }
 {
-    owned(alloc, type_text(typeenv, ty))
+    Text::copied(alloc, type_text(typeenv, ty))
 }
 
 /// Makes the names of types, in order.

@@ -1,17 +1,17 @@
 //! The statements of a block.
 
-ghost use Rattle.std.specs.Prelude.{◌≡◌, ◌++◌, List as ListOf, ℕ, Option as OptionOf, None as NoneOf, true as Yes, map, option_map, IfOk, OnOk};
+ghost use Rattle.std.specs.Prelude.{◌≡◌, ◌++◌, List as ListOf, ℕ, true as Yes, option_map, IfOk, OnOk};
 ghost use Rattle.isle_core.specs.Bindable.{bound_by};
 ghost use Rattle.isle_core.specs.BlockViews as BlockViews;
-ghost use Rattle.isle_tree.specs.Program.{Body, Done};
+ghost use Rattle.isle_tree.specs.Program.{Done};
 ghost use Rattle.isle_tree.specs.Views.{stmt};
-ghost use Rattle.isle_emission.specs.BodyOnto.{body_onto, onto};
-ghost use Rattle.isle_emission.specs.Contexts.{env_of, bindings_in};
+ghost use Rattle.isle_emission.specs.BodyOnto.{onto, stmts_of, AreMadeAs, ArePushedAs};
+ghost use Rattle.isle_emission.specs.Contexts.{setting_of};
 ghost use Rattle.isle_simulation.specs.Statements as Statements;
-ghost use Rattle.isle_emission.specs.Views.{stmts_of, lets_onto};
+ghost use Rattle.isle_emission.specs.Views.{steps_block, match_arms};
 
 use crate::calls::bound_expr;
-use crate::context::Context;
+use crate::context::{Context, kind_of};
 use crate::operands::{operand_of, tested};
 use isle_core::{BindingId, Block, ControlFlow, EvalStep, List, MatchArm, ReturnKind};
 use isle_scope::Scope;
@@ -27,7 +27,7 @@ fn push_lets(
     bindings: &[BindingId],
     out: &mut Vec<Stmt>,
 ) -> Result<bool, AllocError>
-    ensures lets { IfOk result (λ made. (end : OptionOf Body) → lets_onto made (map stmt out.new.items) end ≡ body_onto (map stmt out.old.items) (Statements.lets (env_of context.now) (bindings_in context.now) bound.old bindings.now end)) }
+    ensures lets { IfOk result (λ made. ArePushedAs made out.old.items out.new.items (Statements.lets (setting_of context.now) bound.old bindings.now)) }
     ensures bound { IfOk result (λ made. made ≡ Yes → bound.new ≡ bound_by bound.old bindings.now) }
     ensures grows { OnOk result ((more : ListOf ℕ) × (bound.new ≡ bound.old ++ more)) }
 {
@@ -70,7 +70,7 @@ pub fn block_stmts(
     bound: &mut Scope,
     block: &Block,
 ) -> Result<Option<Vec<Stmt>>, AllocError>
-    ensures stmts { IfOk result (λ stmts. (end : OptionOf Body) → onto (stmts_of stmts) end ≡ Statements.block_body (env_of context.now) (bindings_in context.now) context.now.kind bound.old (BlockViews.block block.now) end) }
+    ensures stmts { IfOk result (λ stmts. AreMadeAs stmts (Statements.block_body (setting_of context.now) bound.old (BlockViews.block block.now))) }
     ensures bound { OnOk result (bound.new ≡ bound.old) }
 {
     let len = bound.len();
@@ -88,7 +88,7 @@ fn step_stmts(
     bound: &mut Scope,
     steps: &[EvalStep],
 ) -> Result<Option<Vec<Stmt>>, AllocError>
-    ensures stmts { IfOk result (λ stmts. (end : OptionOf Body) → onto (stmts_of stmts) end ≡ Statements.block_body (env_of context.now) (bindings_in context.now) context.now.kind bound.old (BlockViews.block_of (map BlockViews.step steps.now)) end) }
+    ensures stmts { IfOk result (λ stmts. AreMadeAs stmts (Statements.block_body (setting_of context.now) bound.old (steps_block steps.now))) }
     ensures grows { OnOk result ((more : ListOf ℕ) × (bound.new ≡ bound.old ++ more)) }
 {
     let mut out = Vec::new(alloc);
@@ -113,7 +113,7 @@ fn control_stmt(
     bound: &mut Scope,
     control: &ControlFlow,
 ) -> Result<Option<Stmt>, AllocError>
-    ensures stmt { IfOk result (λ s. option_map stmt s ≡ Statements.control_stmt (env_of context.now) (bindings_in context.now) context.now.kind bound.old (BlockViews.control control.now)) }
+    ensures stmt { IfOk result (λ s. option_map stmt s ≡ Statements.control_stmt (setting_of context.now) bound.old (BlockViews.control control.now)) }
     ensures bound { OnOk result (bound.new ≡ bound.old) }
 {
     match control {
@@ -129,7 +129,10 @@ fn control_stmt(
         }
         ControlFlow::Loop { .. } => Ok(None),
         ControlFlow::Return { result, .. } => {
-            Ok(return_of(context.kind, operand_of(context, bound, *result)))
+            Ok(return_of(
+                kind_of(&context.term.kind),
+                operand_of(context, bound, *result),
+            ))
         }
     }
 }
@@ -144,7 +147,7 @@ fn arms_stmt(
     source: Option<Operand>,
     arms: &[MatchArm],
 ) -> Result<Option<Stmt>, AllocError>
-    ensures stmt { IfOk result (λ s. option_map stmt s ≡ Statements.arms_stmt (env_of context.now) (bindings_in context.now) context.now.kind bound.old source (BlockViews.arms_of (map BlockViews.arm arms.now))) }
+    ensures stmt { IfOk result (λ s. option_map stmt s ≡ Statements.arms_stmt (setting_of context.now) bound.old source (match_arms arms.now)) }
     ensures bound { OnOk result (bound.new ≡ bound.old) }
 {
     if arms.len() != 1 {

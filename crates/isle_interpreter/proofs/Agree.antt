@@ -13,8 +13,8 @@ use Rattle.isle_core.specs.Terms.{goes_to}
 use Rattle.isle_tree.specs.declared.tree.TExpr.{TExpr}
 use Rattle.isle_tree.specs.declared.tree.TExpr.TheVariants as expr
 use Rattle.isle_tree.specs.Program.{Program, Stmt, Let, LetList, IfEq, IfLet, Match, Loop, Return, Extend, Overflow, Log, Split, Tail, Body, Done, Then, Function}
-use Rattle.isle_tree.specs.Run.{Around, State, nothing_done, one_made, Env, Flow, Goes, Ends, Leaves, Stuck, value_of, read_value, read_values, on_value, fit, fitted, then_run, behind, run_bind, run_call, run_let, run_stmt, run_body, ended, function_run}
-use Rattle.isle_interpreter.specs.Forms.{Constant, Cases, Turns, forms, IsUnanswered}
+use Rattle.isle_tree.specs.Run.{Around, State, nothing_done, one_made, Env, Flow, Goes, Ends, Leaves, Stuck, value_of, read_value, read_values, on_value, fit, fitted, then_run, after_scope, run_bind, run_call, run_let, run_stmt, run_body, ended, function_run}
+use Rattle.isle_interpreter.specs.Entries.{Constant, Cases, Turns, entries, IsUnanswered}
 use Rattle.isle_tree.specs.Calls.{expr_calls, stmt_calls, body_calls}
 use Rattle.isle_interpreter.specs.Refusals.{AreAnswered}
 use Rattle.isle_interpreter.proofs.AnswersHold.{goes_same, both_unanswered, no_constants, no_turns, no_cases}
@@ -40,13 +40,13 @@ module _ (m given : Meaning) (has : HasAnswers m given) where
       let there = found (HasCases m) (λ (a : PureAnswers). goes_to callee (Some a.callee)) given.pure a (recursion_from_All (HasCases m) given.pure has.cases) e in
       subst (λ c. (cases_of m c ≡ Some a) × (turns_of m c ≡ None)) (goes_same callee a.callee there.1) there.0
 
-  unanswered : (callee : Callee) → turns_of given callee ≡ None → cases_of given callee ≡ None → IsUnanswered callee (forms given)
+  unanswered : (callee : Callee) → turns_of given callee ≡ None → cases_of given callee ≡ None → IsUnanswered callee (entries given)
   unanswered callee t c =
       both_unanswered callee (map (λ c. Constant c.0 c.1) given.consts) (map Cases given.pure ++ map Turns given.turns) (no_constants callee given.consts)
       (both_unanswered callee (map Cases given.pure) (map Turns given.turns) (no_cases callee given.pure c) (no_turns callee given.turns t))
 
-  -- a callee with a form is answered alike
-  same_answer : (callee : Callee) → (IsUnanswered callee (forms given) → ⊥) → (vs : List Value) (made : List Made) → answer m callee vs made ≡ answer given callee vs made
+  -- a callee with an entry is answered alike
+  same_answer : (callee : Callee) → (IsUnanswered callee (entries given) → ⊥) → (vs : List Value) (made : List Made) → answer m callee vs made ≡ answer given callee vs made
   same_answer callee some vs made = turns (turns_of given callee) refl
     where
       cases : turns_of given callee ≡ None → (o : Option PureAnswers) → cases_of given callee ≡ o → answer m callee vs made ≡ answer given callee vs made
@@ -92,8 +92,8 @@ module _ (m given : Meaning) (has : HasAnswers m given) where
     same_let n (expr.Struct ty fields) env s alike = refl
     same_let n (expr.Tuple o k) env s alike = refl
 
-    then_same : (flow behind' : Flow) (go next : Env → State → Flow) → flow ≡ behind' → ((env : Env) (s : State) → go env s ≡ next env s) → then_run flow go ≡ then_run behind' next
-    then_same flow behind' go next e same = by flow ∙ ap (λ f. then_run f next) e
+    then_same : (flow after : Flow) (go next : Env → State → Flow) → flow ≡ after → ((env : Env) (s : State) → go env s ≡ next env s) → then_run flow go ≡ then_run after next
+    then_same flow after go next e same = by flow ∙ ap (λ f. then_run f next) e
       where
         by : (f : Flow) → then_run f go ≡ then_run f next
         by (Goes env s) = same env s
@@ -101,15 +101,15 @@ module _ (m given : Meaning) (has : HasAnswers m given) where
         by (Leaves s) = refl
         by Stuck = refl
 
-    same_fitted : (o : Option Env) (env : Env) (otherwise : Flow) (go next : Env → Flow) → ((bound : Env) → go bound ≡ next bound) → fitted o (λ bound. behind env (go bound)) otherwise ≡ fitted o (λ bound. behind env (next bound)) otherwise
+    same_fitted : (o : Option Env) (env : Env) (otherwise : Flow) (go next : Env → Flow) → ((bound : Env) → go bound ≡ next bound) → fitted o (λ bound. after_scope env (go bound)) otherwise ≡ fitted o (λ bound. after_scope env (next bound)) otherwise
     same_fitted None env otherwise go next same = refl
-    same_fitted (Some bound) env otherwise go next same = ap (behind env) (same bound)
+    same_fitted (Some bound) env otherwise go next same = ap (after_scope env) (same bound)
 
     mutual
       same_stmt : (t : Stmt) (env : Env) (s : State) → Alike (stmt_calls t) → run_stmt one t env s ≡ run_stmt other t env s
       same_stmt (Let n e) env s alike = same_let n e env s alike
       same_stmt (IfEq a b inside) env s alike =
-          ap (λ flow. on_value (value_of one env a) (λ v. on_value (value_of one env b) (λ u. if same_in_run v u then behind env flow else Goes env s))) (same_body inside env s alike)
+          ap (λ flow. on_value (value_of one env a) (λ v. on_value (value_of one env b) (λ u. if same_in_run v u then after_scope env flow else Goes env s))) (same_body inside env s alike)
       same_stmt (Return e) env s alike = refl
       same_stmt (Tail texts) env s alike = refl
       same_stmt (LetList n call) env s alike = refl
@@ -128,5 +128,5 @@ module _ (m given : Meaning) (has : HasAnswers m given) where
           (λ inner calls. same_body ss inner calls (back (stmt_calls t) (body_calls ss) alike))
 
     -- the two runs are one
-    pub same_run : AreAnswered f (forms given) → function_run p m args (Some f) ≡ function_run p given args (Some f)
+    pub same_run : AreAnswered f (entries given) → function_run p m args (Some f) ≡ function_run p given args (Some f)
     same_run some = ap ended (same_body f.body [] nothing_done (λ callee there. same_answer callee (some callee there)))

@@ -1,4 +1,4 @@
--- What callees answer under right forms.
+-- What callees answer under right entries.
 use Rattle.std.proofs.Common.{◌≡◌, ℕ, List, [], ◌∷◌, ◌++◌, length, map, Bool, true, false, Option, Some, None, refl, sym, ap, subst, append_assoc, append-nil}
 use Rattle.std.specs.Prelude.{zero, suc, find, cond, IsSomeAnd, slice_index_or}
 use Rattle.std.specs.List.{AllByRecursion}
@@ -16,7 +16,7 @@ use Rattle.isle_tree.specs.declared.holds.Item.TheVariants as item
 use Rattle.isle_tree.specs.Program.{Program}
 use Rattle.isle_tree.specs.WellFormed.{kind_holds, AreResults}
 use Rattle.isle_interpreter.specs.Signatures.{Signature, signature_of, AreNamed, AnswerFits}
-use Rattle.isle_interpreter.specs.Forms.{Form, Constant, Cases, Turns, forms, IsUnanswered, CaseFits, FormFits, AreRight}
+use Rattle.isle_interpreter.specs.Entries.{Entry, Constant, Cases, Turns, entries, IsUnanswered, CaseFits, EntryFits, AreRight}
 
 -- an item is what is said of it
 abbrev pub IsItem : ItemHeld → Item → Type 0
@@ -49,45 +49,45 @@ goes_same (Internal a) (Internal b) e = ap Internal (sym ((bytes_eq-Decides a b)
 goes_same (External a) (Internal b) e = absurd cc
 goes_same (Internal a) (External b) e = absurd cc
 
--- ---- right forms
+-- ---- right entries
 
-right_front : (p : Program) (e xs ys : List Form) → AreRight p e (xs ++ ys) → AreRight p e xs
+right_front : (p : Program) (e xs ys : List Entry) → AreRight p e (xs ++ ys) → AreRight p e xs
 right_front p e [] ys h = tt
 right_front p e (x ∷ xs) ys h = (h.0, right_front p (e ++ x ∷ []) xs ys h.1)
 
-right_behind : (p : Program) (e xs ys : List Form) → AreRight p e (xs ++ ys) → AreRight p (e ++ xs) ys
-right_behind p e [] ys h = subst (λ fs. AreRight p fs ys) (sym (append-nil e)) h
-right_behind p e (x ∷ xs) ys h = subst (λ fs. AreRight p fs ys) (append_assoc e (x ∷ []) xs) (right_behind p (e ++ x ∷ []) xs ys h.1)
+right_rest : (p : Program) (e xs ys : List Entry) → AreRight p e (xs ++ ys) → AreRight p (e ++ xs) ys
+right_rest p e [] ys h = subst (λ fs. AreRight p fs ys) (sym (append-nil e)) h
+right_rest p e (x ∷ xs) ys h = subst (λ fs. AreRight p fs ys) (append_assoc e (x ∷ []) xs) (right_rest p (e ++ x ∷ []) xs ys h.1)
 
-turns_by : (p : Program) (callee : Callee) (t a : TurnAnswers) (tail : Option TurnAnswers) (b : Bool) → goes_to callee (Some t.callee) ≡ b → IsSomeAnd (signature_of p t.callee) (FormFits (Turns t))
-    → (tail ≡ Some a → IsSomeAnd (signature_of p callee) (FormFits (Turns a))) → cond b (Some t) tail ≡ Some a → IsSomeAnd (signature_of p callee) (FormFits (Turns a))
+turns_by : (p : Program) (callee : Callee) (t a : TurnAnswers) (tail : Option TurnAnswers) (b : Bool) → goes_to callee (Some t.callee) ≡ b → IsSomeAnd (signature_of p t.callee) (EntryFits (Turns t))
+    → (tail ≡ Some a → IsSomeAnd (signature_of p callee) (EntryFits (Turns a))) → cond b (Some t) tail ≡ Some a → IsSomeAnd (signature_of p callee) (EntryFits (Turns a))
 turns_by p callee t a tail true g h go e =
     let same : t ≡ a = cc in
-    subst (λ (x : TurnAnswers). IsSomeAnd (signature_of p callee) (FormFits (Turns x))) same (subst (λ c. IsSomeAnd (signature_of p c) (FormFits (Turns t))) (goes_same callee t.callee g) h)
+    subst (λ (x : TurnAnswers). IsSomeAnd (signature_of p callee) (EntryFits (Turns x))) same (subst (λ c. IsSomeAnd (signature_of p c) (EntryFits (Turns t))) (goes_same callee t.callee g) h)
 turns_by p callee t a tail false g h go e = go e
 
-found_turns : (p : Program) (e : List Form) (ts : List TurnAnswers) (callee : Callee) (a : TurnAnswers) → AreRight p e (map Turns ts) → find (λ (b : TurnAnswers). goes_to callee (Some b.callee)) ts ≡ Some a
-    → IsSomeAnd (signature_of p callee) (FormFits (Turns a))
+found_turns : (p : Program) (e : List Entry) (ts : List TurnAnswers) (callee : Callee) (a : TurnAnswers) → AreRight p e (map Turns ts) → find (λ (b : TurnAnswers). goes_to callee (Some b.callee)) ts ≡ Some a
+    → IsSomeAnd (signature_of p callee) (EntryFits (Turns a))
 found_turns p e [] callee a h f = absurd cc
 found_turns p e (t ∷ ts) callee a h f =
     turns_by p callee t a (find (λ (b : TurnAnswers). goes_to callee (Some b.callee)) ts) (goes_to callee (Some t.callee)) refl h.0.1 (found_turns p (e ++ Turns t ∷ []) ts callee a h.1) f
 
-cases_by : (p : Program) (callee : Callee) (t a : PureAnswers) (tail : Option PureAnswers) (b : Bool) → goes_to callee (Some t.callee) ≡ b → IsSomeAnd (signature_of p t.callee) (FormFits (Cases t))
-    → (tail ≡ Some a → IsSomeAnd (signature_of p callee) (FormFits (Cases a))) → cond b (Some t) tail ≡ Some a → IsSomeAnd (signature_of p callee) (FormFits (Cases a))
+cases_by : (p : Program) (callee : Callee) (t a : PureAnswers) (tail : Option PureAnswers) (b : Bool) → goes_to callee (Some t.callee) ≡ b → IsSomeAnd (signature_of p t.callee) (EntryFits (Cases t))
+    → (tail ≡ Some a → IsSomeAnd (signature_of p callee) (EntryFits (Cases a))) → cond b (Some t) tail ≡ Some a → IsSomeAnd (signature_of p callee) (EntryFits (Cases a))
 cases_by p callee t a tail true g h go e =
     let same : t ≡ a = cc in
-    subst (λ (x : PureAnswers). IsSomeAnd (signature_of p callee) (FormFits (Cases x))) same (subst (λ c. IsSomeAnd (signature_of p c) (FormFits (Cases t))) (goes_same callee t.callee g) h)
+    subst (λ (x : PureAnswers). IsSomeAnd (signature_of p callee) (EntryFits (Cases x))) same (subst (λ c. IsSomeAnd (signature_of p c) (EntryFits (Cases t))) (goes_same callee t.callee g) h)
 cases_by p callee t a tail false g h go e = go e
 
-found_cases : (p : Program) (e : List Form) (ts : List PureAnswers) (callee : Callee) (a : PureAnswers) → AreRight p e (map Cases ts) → find (λ (b : PureAnswers). goes_to callee (Some b.callee)) ts ≡ Some a
-    → IsSomeAnd (signature_of p callee) (FormFits (Cases a))
+found_cases : (p : Program) (e : List Entry) (ts : List PureAnswers) (callee : Callee) (a : PureAnswers) → AreRight p e (map Cases ts) → find (λ (b : PureAnswers). goes_to callee (Some b.callee)) ts ≡ Some a
+    → IsSomeAnd (signature_of p callee) (EntryFits (Cases a))
 found_cases p e [] callee a h f = absurd cc
 found_cases p e (t ∷ ts) callee a h f =
     cases_by p callee t a (find (λ (b : PureAnswers). goes_to callee (Some b.callee)) ts) (goes_to callee (Some t.callee)) refl h.0.1 (found_cases p (e ++ Cases t ∷ []) ts callee a h.1) f
 
 -- ---- a callee without turns and cases is unanswered
 
-pub both_unanswered : (callee : Callee) (xs ys : List Form) → IsUnanswered callee xs → IsUnanswered callee ys → IsUnanswered callee (xs ++ ys)
+pub both_unanswered : (callee : Callee) (xs ys : List Entry) → IsUnanswered callee xs → IsUnanswered callee ys → IsUnanswered callee (xs ++ ys)
 both_unanswered callee [] ys h k = k
 both_unanswered callee (x ∷ xs) ys h k = (h.0, both_unanswered callee xs ys h.1 k)
 
@@ -127,26 +127,26 @@ case_fits s rest test (c ∷ cs) h k = by (test c) (case_fits s rest test cs h.1
     by false go = go
 
 -- an answer fits the signature of its callee
-pub answer_fits : (p : Program) (m : Meaning) (callee : Callee) (s : Signature) → AreRight p [] (forms m) → (IsUnanswered callee (forms m) → ⊥) → signature_of p callee ≡ Some s
+pub answer_fits : (p : Program) (m : Meaning) (callee : Callee) (s : Signature) → AreRight p [] (entries m) → (IsUnanswered callee (entries m) → ⊥) → signature_of p callee ≡ Some s
     → (vs : List Value) (made : List Made) → AnswerFits s (answer m callee vs made)
 answer_fits p m callee s right some is vs made = by_turns (turns_of m callee) refl
   where
-    consts : List Form
+    consts : List Entry
     consts = map (λ c. Constant c.0 c.1) m.consts
 
-    behind : AreRight p consts (map Cases m.pure ++ map Turns m.turns)
-    behind = right_behind p [] consts (map Cases m.pure ++ map Turns m.turns) right
+    later : AreRight p consts (map Cases m.pure ++ map Turns m.turns)
+    later = right_rest p [] consts (map Cases m.pure ++ map Turns m.turns) right
 
     by_cases : turns_of m callee ≡ None → (o : Option PureAnswers) → cases_of m callee ≡ o → AnswerFits s (case_at o vs)
     by_cases t None e = absurd (some (both_unanswered callee consts (map Cases m.pure ++ map Turns m.turns) (no_constants callee m.consts) (both_unanswered callee (map Cases m.pure) (map Turns m.turns) (no_cases callee m.pure e) (no_turns callee m.turns t))))
     by_cases t (Some a) e =
-        let fit : FormFits (Cases a) s = subst (λ o. IsSomeAnd o (FormFits (Cases a))) is (found_cases p consts m.pure callee a (right_front p consts (map Cases m.pure) (map Turns m.turns) behind) e) in
+        let fit : EntryFits (Cases a) s = subst (λ o. IsSomeAnd o (EntryFits (Cases a))) is (found_cases p consts m.pure callee a (right_front p consts (map Cases m.pure) (map Turns m.turns) later) e) in
         case_fits s a.rest (λ (c : List Value × Answer). same_values c.0 vs) a.cases fit.0 fit.1
 
     by_turns : (o : Option TurnAnswers) → turns_of m callee ≡ o → AnswerFits s (answer_by o m callee vs made)
     by_turns None e = by_cases e (cases_of m callee) refl
     by_turns (Some a) e =
-        let fit : FormFits (Turns a) s = subst (λ o. IsSomeAnd o (FormFits (Turns a))) is (found_turns p (consts ++ map Cases m.pure) m.turns callee a (right_behind p consts (map Cases m.pure) (map Turns m.turns) behind) e) in
+        let fit : EntryFits (Turns a) s = subst (λ o. IsSomeAnd o (EntryFits (Turns a))) is (found_turns p (consts ++ map Cases m.pure) m.turns callee a (right_rest p consts (map Cases m.pure) (map Turns m.turns) later) e) in
         index_fits (AnswerFits s) a.turns (times callee made) a.rest fit.0 fit.1
 
 -- ---- and hold what their kind says

@@ -3,10 +3,11 @@ use Rattle.std.proofs.Common.{◌≡◌, ℕ, List, [], ◌++◌, length, take, 
 use Rattle.std.proofs.Math.Seq.{take-append_seam}
 use Rattle.std.specs.Prelude.{if◌then◌else◌}
 use Rattle.isle_tree.specs.Program.{Body}
-use Rattle.isle_tree.specs.Run.{Env, Flow, Goes, behind, fitted, run_body}
+use Rattle.isle_tree.specs.Run.{Env, Flow, Goes, after_scope, fitted, run_body}
 use Rattle.isle_interpreter.specs.Called.{Called}
 use Rattle.isle_interpreter.specs.Frames.{Follows}
 use Rattle.isle_interpreter.specs.RunViews.{locals, within, state, flow}
+use Rattle.isle_interpreter.specs.Steps.{FitsSo}
 use Rattle.isle_interpreter.specs.declared.around.Around.{Around as CodeAround}
 use Rattle.isle_interpreter.specs.declared.flow.Flow.{Flow as CodeFlow}
 use Rattle.isle_interpreter.specs.declared.flow.Flow.TheVariants as code
@@ -33,33 +34,29 @@ cut_follows old mid after len ls h k is cut = record {
   same = k.same ∙ h.same;
 }
 
-behind_flow : (end : CodeFlow) (after : Frame) (ls : List (ℕ × Holding)) (env : Env) → locals ls ≡ env → behind env (flow end after) ≡ flow end (record { locals = ls; calls = after.calls })
-behind_flow code.Goes after ls env h = ap (λ e. Goes e (state after)) (sym h)
-behind_flow (code.Ends e) after ls env h = refl
-behind_flow code.Stuck after ls env h = refl
+left_flow : (end : CodeFlow) (after : Frame) (ls : List (ℕ × Holding)) (env : Env) → locals ls ≡ env → after_scope env (flow end after) ≡ flow end (record { locals = ls; calls = after.calls })
+left_flow code.Goes after ls env h = ap (λ e. Goes e (state after)) (sym h)
+left_flow (code.Ends e) after ls env h = refl
+left_flow code.Stuck after ls env h = refl
 
--- where a pattern may fit, what follows goes on from the locals behind it
-abbrev pub FitsSo : Option Env → Bool → (old mid : Frame) → Type 0
-FitsSo o fits old mid = (go : Env → Flow) (other : Flow) → fitted o (λ bound. go (locals old.locals ++ bound)) other ≡ (if fits then go (locals mid.locals) else other)
-
--- where it fits
-pub fits_run : (w : CodeAround) (old mid after : Frame) (b : Body) (o : Option Env) (fits : Bool) (end : CodeFlow) (ls : List (ℕ × Holding)) → FitsSo o fits old mid → fits ≡ true → mid.calls ≡ old.calls
+-- where a pattern fits
+pub fits_run : (w : CodeAround) (old mid after : Frame) (b : Body) (o : Option Env) (fits : Bool) (end : CodeFlow) (ls : List (ℕ × Holding)) → FitsSo o old mid fits → fits ≡ true → mid.calls ≡ old.calls
     → run_body (within w mid) b (locals mid.locals) (state mid) ≡ flow end after → ls ≡ old.locals
-    → fitted o (λ bound. behind (locals old.locals) (run_body (within w old) b (locals old.locals ++ bound) (state old))) (Goes (locals old.locals) (state old)) ≡ flow end (record { locals = ls; calls = after.calls })
+    → fitted o (λ bound. after_scope (locals old.locals) (run_body (within w old) b (locals old.locals ++ bound) (state old))) (Goes (locals old.locals) (state old)) ≡ flow end (record { locals = ls; calls = after.calls })
 fits_run w old mid after b o fits end ls h e calls runs same =
-    let go : Env → Flow = λ env. behind (locals old.locals) (run_body (within w old) b env (state old)) in
+    let go : Env → Flow = λ env. after_scope (locals old.locals) (run_body (within w old) b env (state old)) in
     let other : Flow = Goes (locals old.locals) (state old) in
     h go other
     ∙ ap (λ x. if x then go (locals mid.locals) else other) e
-    ∙ ap (λ c. behind (locals old.locals) (run_body (within w (of_calls c)) b (locals mid.locals) (state (of_calls c)))) (sym calls)
-    ∙ ap (behind (locals old.locals)) runs
-    ∙ behind_flow end after ls (locals old.locals) (ap locals same)
+    ∙ ap (λ c. after_scope (locals old.locals) (run_body (within w (of_calls c)) b (locals mid.locals) (state (of_calls c)))) (sym calls)
+    ∙ ap (after_scope (locals old.locals)) runs
+    ∙ left_flow end after ls (locals old.locals) (ap locals same)
 
 -- where it doesn't
-pub fits_not : (w : CodeAround) (old mid : Frame) (b : Body) (o : Option Env) (fits : Bool) → FitsSo o fits old mid → fits ≡ false → mid.calls ≡ old.calls → mid.locals ≡ old.locals
-    → fitted o (λ bound. behind (locals old.locals) (run_body (within w old) b (locals old.locals ++ bound) (state old))) (Goes (locals old.locals) (state old)) ≡ Goes (locals mid.locals) (state mid)
+pub fits_not : (w : CodeAround) (old mid : Frame) (b : Body) (o : Option Env) (fits : Bool) → FitsSo o old mid fits → fits ≡ false → mid.calls ≡ old.calls → mid.locals ≡ old.locals
+    → fitted o (λ bound. after_scope (locals old.locals) (run_body (within w old) b (locals old.locals ++ bound) (state old))) (Goes (locals old.locals) (state old)) ≡ Goes (locals mid.locals) (state mid)
 fits_not w old mid b o fits h e calls same =
-    let go : Env → Flow = λ env. behind (locals old.locals) (run_body (within w old) b env (state old)) in
+    let go : Env → Flow = λ env. after_scope (locals old.locals) (run_body (within w old) b env (state old)) in
     let other : Flow = Goes (locals old.locals) (state old) in
     h go other
     ∙ ap (λ x. if x then go (locals mid.locals) else other) e

@@ -1,10 +1,10 @@
 pub mod Agree
 pub mod Answering
 pub mod AnswersHold
+pub mod EntryPlaces
+pub mod EntryTests
 pub mod FindTerms
 pub mod Fits
-pub mod FormPlaces
-pub mod FormTests
 pub mod Founds
 pub mod LastBound
 pub mod NamedApart

@@ -11,9 +11,9 @@ use Rattle.isle_tree.specs.Run.{function_of}
 use Rattle.isle_interpreter.specs.declared.run_error.RunError.{RunError}
 use Rattle.isle_interpreter.specs.declared.run_error.RunError.TheVariants as error
 use Rattle.isle_interpreter.specs.Signatures.{type_names, AreNamed}
-use Rattle.isle_interpreter.specs.Forms.{Form, forms, IsRight, AreRight}
+use Rattle.isle_interpreter.specs.Entries.{Entry, entries, IsRight, AreRight}
 use Rattle.isle_tree.specs.Calls.{body_calls}
-use Rattle.isle_interpreter.specs.Refusals.{IsWrongArg, IsWrongForm, MayRun, IsRefused, no_term, arg_count, arg_type, wrong_form, missing}
+use Rattle.isle_interpreter.specs.Refusals.{IsWrongArg, IsWrongEntry, MayRun, IsRefused, no_term, arg_count, arg_type, wrong_entry, missing}
 use Rattle.isle_interpreter.proofs.WrongNamed.{named_at, not_named}
 
 -- two numbers that neither lies below the other are one
@@ -61,23 +61,23 @@ named_count (n ∷ names) [] h = absurd h
 typed_count : (f : Function) (args : List Value) → AreNamed (type_names f.params) args → length args ≡ length f.params
 typed_count f args typed = named_count (type_names f.params) args typed ∙ length-map f.params (λ (ty : Ty). ty.name)
 
--- ---- forms
+-- ---- entries
 
-right_at : (p : Program) (earlier fs : List Form) (i : ℕ) (f : Form) → AreRight p earlier fs → slice_get fs i ≡ Some f → IsRight p (earlier ++ take i fs) f
+right_at : (p : Program) (earlier fs : List Entry) (i : ℕ) (f : Entry) → AreRight p earlier fs → slice_get fs i ≡ Some f → IsRight p (earlier ++ take i fs) f
 right_at p earlier [] i f right e = absurd cc
 right_at p earlier (g ∷ fs) zero f right e =
     let same : g ≡ f = cc in
     subst (λ gs. IsRight p gs f) (sym (append-nil earlier)) (subst (IsRight p earlier) same right.0)
 right_at p earlier (g ∷ fs) (suc i) f right e = subst (λ gs. IsRight p gs f) (append_assoc earlier (g ∷ []) (take i fs)) (right_at p (earlier ++ g ∷ []) fs i f right.1 e)
 
-not_right : (p : Program) (fs : List Form) (i : ℕ) → IsWrongForm p fs i → AreRight p [] fs → ⊥
-not_right p fs i w right = w.wrong (right_at p [] fs i w.form right w.found)
+not_right : (p : Program) (fs : List Entry) (i : ℕ) → IsWrongEntry p fs i → AreRight p [] fs → ⊥
+not_right p fs i w right = w.wrong (right_at p [] fs i w.entry right w.found)
 
-earlier_form : (p : Program) (fs : List Form) (i j : ℕ) → IsWrongForm p fs i → IsWrongForm p fs j → i < j → ⊥
-earlier_form p fs i j v w lt = v.wrong (subst (λ gs. IsRight p gs v.form) (taken_twice i j fs lt) (right_at p [] (take j fs) i v.form w.before (get_taken i j fs lt ∙ v.found)))
+earlier_entry : (p : Program) (fs : List Entry) (i j : ℕ) → IsWrongEntry p fs i → IsWrongEntry p fs j → i < j → ⊥
+earlier_entry p fs i j v w lt = v.wrong (subst (λ gs. IsRight p gs v.entry) (taken_twice i j fs lt) (right_at p [] (take j fs) i v.entry w.before (get_taken i j fs lt ∙ v.found)))
 
-one_form : (p : Program) (fs : List Form) (i j : ℕ) → IsWrongForm p fs i → IsWrongForm p fs j → i ≡ j
-one_form p fs i j v w = same_number i j (earlier_form p fs i j v w) (earlier_form p fs j i w v)
+one_entry : (p : Program) (fs : List Entry) (i j : ℕ) → IsWrongEntry p fs i → IsWrongEntry p fs j → i ≡ j
+one_entry p fs i j v w = same_number i j (earlier_entry p fs i j v w) (earlier_entry p fs j i w v)
 
 -- ---- refusals
 
@@ -105,27 +105,27 @@ module _ (p : Program) (term : List ℕ) (args : List Value) (m : Meaning) where
   one_refusal _ _ (no_term a) (no_term b) = refl
   one_refusal _ _ (no_term a) (arg_count g h n) = absurd cc
   one_refusal _ _ (no_term a) (arg_type g j h n w) = absurd cc
-  one_refusal _ _ (no_term a) (wrong_form g j h t w) = absurd cc
+  one_refusal _ _ (no_term a) (wrong_entry g j h t w) = absurd cc
   one_refusal _ _ (no_term a) (missing g h t r l) = absurd cc
   one_refusal _ _ (arg_count f e n) (no_term b) = absurd cc
   one_refusal _ _ (arg_count f e n) (arg_count g h k) = refl
   one_refusal _ _ (arg_count f e n) (arg_type g j h k w) = absurd (n (counted_as g f h e k))
-  one_refusal _ _ (arg_count f e n) (wrong_form g j h t w) = absurd (not_counted f g e h n t)
+  one_refusal _ _ (arg_count f e n) (wrong_entry g j h t w) = absurd (not_counted f g e h n t)
   one_refusal _ _ (arg_count f e n) (missing g h t r l) = absurd (not_counted f g e h n t)
   one_refusal _ _ (arg_type f i e n v) (no_term b) = absurd cc
   one_refusal _ _ (arg_type f i e n v) (arg_count g h k) = absurd (k (counted_as f g e h n))
   one_refusal _ _ (arg_type f i e n v) (arg_type g j h k w) = ap error.ArgType (one_arg (type_names f.params) args i j v (subst (λ (x : Function). IsWrongArg (type_names x.params) args j) (same g f h e) w))
-  one_refusal _ _ (arg_type f i e n v) (wrong_form g j h t w) = absurd (not_typed f g i e h v t)
+  one_refusal _ _ (arg_type f i e n v) (wrong_entry g j h t w) = absurd (not_typed f g i e h v t)
   one_refusal _ _ (arg_type f i e n v) (missing g h t r l) = absurd (not_typed f g i e h v t)
-  one_refusal _ _ (wrong_form f i e s v) (no_term b) = absurd cc
-  one_refusal _ _ (wrong_form f i e s v) (arg_count g h k) = absurd (not_counted g f h e k s)
-  one_refusal _ _ (wrong_form f i e s v) (arg_type g j h k w) = absurd (not_typed g f j h e w s)
-  one_refusal _ _ (wrong_form f i e s v) (wrong_form g j h t w) = ap error.BadAnswers (one_form p (forms m) i j v w)
-  one_refusal _ _ (wrong_form f i e s v) (missing g h t r l) = absurd (not_right p (forms m) i v r)
+  one_refusal _ _ (wrong_entry f i e s v) (no_term b) = absurd cc
+  one_refusal _ _ (wrong_entry f i e s v) (arg_count g h k) = absurd (not_counted g f h e k s)
+  one_refusal _ _ (wrong_entry f i e s v) (arg_type g j h k w) = absurd (not_typed g f j h e w s)
+  one_refusal _ _ (wrong_entry f i e s v) (wrong_entry g j h t w) = ap error.BadAnswers (one_entry p (entries m) i j v w)
+  one_refusal _ _ (wrong_entry f i e s v) (missing g h t r l) = absurd (not_right p (entries m) i v r)
   one_refusal _ _ (missing f e s r l) (no_term b) = absurd cc
   one_refusal _ _ (missing f e s r l) (arg_count g h k) = absurd (not_counted g f h e k s)
   one_refusal _ _ (missing f e s r l) (arg_type g j h k w) = absurd (not_typed g f j h e w s)
-  one_refusal _ _ (missing f e s r l) (wrong_form g j h t w) = absurd (not_right p (forms m) j w r)
+  one_refusal _ _ (missing f e s r l) (wrong_entry g j h t w) = absurd (not_right p (entries m) j w r)
   one_refusal _ _ (missing f e s r l) (missing g h t q k) = refl
 
   -- where the function may run there is none
@@ -133,5 +133,5 @@ module _ (p : Program) (term : List ℕ) (args : List Value) (m : Meaning) where
   not_refused f _ may (no_term b) = let none : None ≡ Some f = sym b ∙ may.found in cc
   not_refused f _ may (arg_count g h k) = not_counted g f h may.found k may.typed
   not_refused f _ may (arg_type g j h k w) = not_typed g f j h may.found w may.typed
-  not_refused f _ may (wrong_form g j h t w) = not_right p (forms m) j w may.right
+  not_refused f _ may (wrong_entry g j h t w) = not_right p (entries m) j w may.right
   not_refused f _ may (missing g h t r l) = may.answered l.callee (subst (λ (x : Function). Contains (body_calls x.body) l.callee) (same g f h may.found) l.called) l.none

@@ -25,8 +25,8 @@ use Rattle.isle_tree.specs.declared.tree.TExpr.TheVariants as expr
 use Rattle.isle_tree.specs.declared.tree.TraitFn.{TraitFn}
 use Rattle.isle_tree.specs.Program.{Stmt, Let, LetList, IfEq, IfLet, Match, Loop, Return, Extend, Overflow, Log, Split, Tail, Body, Done, Then}
 use Rattle.isle_tree.specs.WellFormed as well
-use Rattle.isle_tree.specs.WellFormed.{Locals, IsOperand, IsRead, IsCallee, IsExpr, IsStmt, IsBody, local_holds, operand_holds, read_holds, is_value, are_values, callee_holds, inner_holds, expr_holds, GivesKind, behind_let, bound_behind, IsStmtThere, IsBodyThere, IsReturned, FitsStmt, FitsBody, FitsLast, FitsFunction}
-use Rattle.isle_tree.specs.Run.{Around, State, one_made, Env, Flow, Goes, Ends, Leaves, Stuck, newer, look, bind, value_of, read_value, read_values, on_value, then_run, behind, run_bind, run_call, run_try, run_let, ends_with, run_return, run_stmt, run_body}
+use Rattle.isle_tree.specs.WellFormed.{Locals, IsOperand, IsRead, IsCallee, IsExpr, IsStmt, IsBody, local_holds, operand_holds, read_holds, is_value, are_values, callee_holds, inner_holds, expr_holds, GivesKind, after_let, bound_after, IsStmtScoped, IsBodyScoped, IsReturned, FitsStmt, FitsBody, FitsLast, FitsFunction}
+use Rattle.isle_tree.specs.Run.{Around, State, one_made, Env, Flow, Goes, Ends, Leaves, Stuck, newer, look, bind, value_of, read_value, read_values, on_value, then_run, after_scope, run_bind, run_call, run_try, run_let, ends_with, run_return, run_stmt, run_body}
 use Rattle.isle_tree.specs.Calls.{expr_calls, stmt_calls, body_calls}
 use Rattle.isle_interpreter.proofs.AnswersHold.{HoldsIn}
 
@@ -40,27 +40,27 @@ Agree [] (e ∷ env) = ⊥
 Agree (b ∷ bound) [] = ⊥
 
 -- what may be said of a place
-abbrev Told : Option Holds → Held → Type 0
-Told None g = Unit {0}
-Told (Some h) g = HoldsIn h g
+abbrev HoldsIfKnown : Option Holds → Held → Type 0
+HoldsIfKnown None g = Unit {0}
+HoldsIfKnown (Some h) g = HoldsIn h g
 
-told_newer : (n : ℕ) (o : Option Holds) (g : Held) (b : ℕ × Holds) (e : ℕ × Held) → Told o g → b.0 ≡ e.0 → HoldsIn b.1 e.1 → Told (well.newer n o b) (newer n g e)
-told_newer n o g b e t same h = by (b.0 == n) (e.0 == n) (ap (λ k. k == n) same)
+known_newer : (n : ℕ) (o : Option Holds) (g : Held) (b : ℕ × Holds) (e : ℕ × Held) → HoldsIfKnown o g → b.0 ≡ e.0 → HoldsIn b.1 e.1 → HoldsIfKnown (well.newer n o b) (newer n g e)
+known_newer n o g b e t same h = by (b.0 == n) (e.0 == n) (ap (λ k. k == n) same)
   where
-    by : (x y : Bool) → x ≡ y → Told (if x then Some b.1 else o) (if y then e.1 else g)
+    by : (x y : Bool) → x ≡ y → HoldsIfKnown (if x then Some b.1 else o) (if y then e.1 else g)
     by true true f = h
     by false false f = t
     by true false f = absurd cc
     by false true f = absurd cc
 
-told_fold : (n : ℕ) (bound : Locals) (env : Env) (o : Option Holds) (g : Held) → Agree bound env → Told o g → Told (fold (well.newer n) o bound) (fold (newer n) g env)
-told_fold n [] [] o g a t = t
-told_fold n (b ∷ bound) (e ∷ env) o g a t = told_fold n bound env (well.newer n o b) (newer n g e) a.2 (told_newer n o g b e t a.0 a.1)
-told_fold n [] (e ∷ env) o g a t = absurd a
-told_fold n (b ∷ bound) [] o g a t = absurd a
+known_fold : (n : ℕ) (bound : Locals) (env : Env) (o : Option Holds) (g : Held) → Agree bound env → HoldsIfKnown o g → HoldsIfKnown (fold (well.newer n) o bound) (fold (newer n) g env)
+known_fold n [] [] o g a t = t
+known_fold n (b ∷ bound) (e ∷ env) o g a t = known_fold n bound env (well.newer n o b) (newer n g e) a.2 (known_newer n o g b e t a.0 a.1)
+known_fold n [] (e ∷ env) o g a t = absurd a
+known_fold n (b ∷ bound) [] o g a t = absurd a
 
-told_local : (n : ℕ) (bound : Locals) (env : Env) → Agree bound env → Told (local_holds bound n) (look env n)
-told_local n bound env a = told_fold n bound env None Absent a tt
+known_local : (n : ℕ) (bound : Locals) (env : Env) → Agree bound env → HoldsIfKnown (local_holds bound n) (look env n)
+known_local n bound env a = known_fold n bound env None Absent a tt
 
 one_more : (bound : Locals) (env : Env) (n : ℕ) (h : Holds) (g : Held) → Agree bound env → HoldsIn h g → Agree (bound ++ (n, h) ∷ []) (bind env n g)
 one_more [] [] n h g a k = (refl, k, tt)
@@ -75,44 +75,44 @@ given [] n l = absurd (omega (arith, l))
 given (v ∷ args) zero l = tt
 given (v ∷ args) (suc n) l = given args n (omega (arith, l))
 
-told_arg : (args : List Value) (n : ℕ) → Told (if nat_lt n (length args) then Some (holds.One item.Value) else None) (held (slice_get args n))
-told_arg args n = by (nat_lt n (length args)) refl
+known_arg : (args : List Value) (n : ℕ) → HoldsIfKnown (if nat_lt n (length args) then Some (holds.One item.Value) else None) (held (slice_get args n))
+known_arg args n = by (nat_lt n (length args)) refl
   where
     below : nat_lt n (length args) ≡ true → n < length args
     below e = grind (arith, nat_tests)
 
-    by : (b : Bool) → nat_lt n (length args) ≡ b → Told (if b then Some (holds.One item.Value) else None) (held (slice_get args n))
+    by : (b : Bool) → nat_lt n (length args) ≡ b → HoldsIfKnown (if b then Some (holds.One item.Value) else None) (held (slice_get args n))
     by true e = given args n (below e)
     by false e = tt
 
-told_operand : (w : Around) (bound : Locals) (env : Env) (o : Operand) → IsOperand o → Agree bound env → Told (operand_holds (length w.args) bound o) (value_of w env o)
-told_operand w bound env (operand.Local n) is a = told_local n bound env a
-told_operand w bound env (operand.Arg n) is a = told_arg w.args n
-told_operand w bound env (operand.Bool b) is a = tt
-told_operand w bound env (operand.Int ty z) is a = tt
-told_operand w bound env (operand.Raw z) is a = absurd is
-told_operand w bound env (operand.Name name) is a = absurd is
+known_operand : (w : Around) (bound : Locals) (env : Env) (o : Operand) → IsOperand o → Agree bound env → HoldsIfKnown (operand_holds (length w.args) bound o) (value_of w env o)
+known_operand w bound env (operand.Local n) is a = known_local n bound env a
+known_operand w bound env (operand.Arg n) is a = known_arg w.args n
+known_operand w bound env (operand.Bool b) is a = tt
+known_operand w bound env (operand.Int ty z) is a = tt
+known_operand w bound env (operand.Raw z) is a = absurd is
+known_operand w bound env (operand.Name name) is a = absurd is
 
-told_read : (w : Around) (bound : Locals) (env : Env) (r : Read) → IsRead r → Agree bound env → Told (read_holds (length w.args) bound r) (read_value w env r)
-told_read w bound env (read.Plain o) is a = told_operand w bound env o is a
-told_read w bound env (read.Borrow o) is a = absurd is
-told_read w bound env (read.Clone o) is a = absurd is
+known_read : (w : Around) (bound : Locals) (env : Env) (r : Read) → IsRead r → Agree bound env → HoldsIfKnown (read_holds (length w.args) bound r) (read_value w env r)
+known_read w bound env (read.Plain o) is a = known_operand w bound env o is a
+known_read w bound env (read.Borrow o) is a = absurd is
+known_read w bound env (read.Clone o) is a = absurd is
 
 -- a value stands there
 record HasValue (g : Held) : Type 0 where
   v : Value
   is : g ≡ a_value v
 
-told_value : (o : Option Holds) (g : Held) → Told o g → is_value o ≡ true → HasValue g
-told_value None g t e = absurd cc
-told_value (Some (holds.One item.Value)) (One (AValue v)) t e = record { v = v; is = refl }
-told_value (Some (holds.One item.Value)) (One (ATuple vs)) t e = absurd t
-told_value (Some (holds.One item.Value)) (Optional o) t e = absurd t
-told_value (Some (holds.One item.Value)) (Listed is) t e = absurd t
-told_value (Some (holds.One item.Value)) Absent t e = absurd t
-told_value (Some (holds.One (item.Tuple count))) g t e = absurd cc
-told_value (Some (holds.Optional x)) g t e = absurd cc
-told_value (Some (holds.Several x)) g t e = absurd cc
+known_value : (o : Option Holds) (g : Held) → HoldsIfKnown o g → is_value o ≡ true → HasValue g
+known_value None g t e = absurd cc
+known_value (Some (holds.One item.Value)) (One (AValue v)) t e = record { v = v; is = refl }
+known_value (Some (holds.One item.Value)) (One (ATuple vs)) t e = absurd t
+known_value (Some (holds.One item.Value)) (Optional o) t e = absurd t
+known_value (Some (holds.One item.Value)) (Listed is) t e = absurd t
+known_value (Some (holds.One item.Value)) Absent t e = absurd t
+known_value (Some (holds.One (item.Tuple count))) g t e = absurd cc
+known_value (Some (holds.Optional x)) g t e = absurd cc
+known_value (Some (holds.Several x)) g t e = absurd cc
 
 -- the values that are read are there
 record HaveValues (o : Option (List Value)) : Type 0 where
@@ -127,7 +127,7 @@ told_values w bound env [] is a e = record { vs = []; are = refl }
 told_values w bound env (r ∷ rs) is a e = by (is_value (read_holds (length w.args) bound r)) refl e (told_values w bound env rs is.1 a)
   where
     by : (b : Bool) → is_value (read_holds (length w.args) bound r) ≡ b → (b && are_values (length w.args) bound rs) ≡ true → (are_values (length w.args) bound rs ≡ true → HaveValues (read_values w env rs)) → HaveValues (read_values w env (r ∷ rs))
-    by true f g go = both_there (read_value w env r) (read_values w env rs) (told_value (read_holds (length w.args) bound r) (read_value w env r) (told_read w bound env r is.0 a) f) (go g)
+    by true f g go = both_there (read_value w env r) (read_values w env rs) (known_value (read_holds (length w.args) bound r) (read_value w env r) (known_read w bound env r is.0 a) f) (go g)
     by false f g go = absurd cc
 
 -- ---- statements go on or end
@@ -146,11 +146,11 @@ NotStuck (Ends end st) = Unit {0}
 NotStuck (Leaves st) = ⊥
 NotStuck Stuck = ⊥
 
-well_behind : (bound : Locals) (env : Env) (flow : Flow) → Agree bound env → NotStuck flow → Well bound (behind env flow)
-well_behind bound env (Goes inner st) a h = a
-well_behind bound env (Ends end st) a h = tt
-well_behind bound env (Leaves st) a h = h
-well_behind bound env Stuck a h = h
+well_left : (bound : Locals) (env : Env) (flow : Flow) → Agree bound env → NotStuck flow → Well bound (after_scope env flow)
+well_left bound env (Goes inner st) a h = a
+well_left bound env (Ends end st) a h = tt
+well_left bound env (Leaves st) a h = h
+well_left bound env Stuck a h = h
 
 well_bind : (n : ℕ) (h : Holds) (g : Held) (bound : Locals) (env : Env) (st : State) → Agree bound env → HoldsIn h g → Well (bound ++ (n, h) ∷ []) (run_bind n g env st)
 well_bind n h (One i) bound env st a k = one_more bound env n h (One i) a k
@@ -161,11 +161,11 @@ well_bind n (holds.Optional x) Absent bound env st a k = absurd k
 well_bind n (holds.Several x) Absent bound env st a k = absurd k
 
 -- what is bound to what a place holds
-well_told : (n : ℕ) (o : Option Holds) (g : Held) (bound : Locals) (env : Env) (st : State) → Agree bound env → IsSome o → Told o g → Well (behind_let o n bound) (run_bind n g env st)
-well_told n None g bound env st a e t = absurd cc
-well_told n (Some h) g bound env st a e t = well_bind n h g bound env st a t
+well_known : (n : ℕ) (o : Option Holds) (g : Held) (bound : Locals) (env : Env) (st : State) → Agree bound env → IsSome o → HoldsIfKnown o g → Well (after_let o n bound) (run_bind n g env st)
+well_known n None g bound env st a e t = absurd cc
+well_known n (Some h) g bound env st a e t = well_bind n h g bound env st a t
 
-well_try : (n : ℕ) (o : Option Holds) (g : Held) (bound : Locals) (env : Env) (st : State) → Agree bound env → IsSome (inner_holds o) → Told o g → Well (behind_let (inner_holds o) n bound) (run_try n g env st)
+well_try : (n : ℕ) (o : Option Holds) (g : Held) (bound : Locals) (env : Env) (st : State) → Agree bound env → IsSome (inner_holds o) → HoldsIfKnown o g → Well (after_let (inner_holds o) n bound) (run_try n g env st)
 well_try n None g bound env st a e t = absurd cc
 well_try n (Some (holds.One x)) g bound env st a e t = absurd cc
 well_try n (Some (holds.Several x)) g bound env st a e t = absurd cc
@@ -184,16 +184,16 @@ Answering fns m callees = (c : Callee) → Contains callees c → (count : ℕ) 
 well_call : (fns : List TraitFn) (w : Around) (n : ℕ) (call : TCall) (bound : Locals) (env : Env) (st : State) → AllByRecursion IsRead call.args → Agree bound env
     → Answering fns w.meaning (call.callee ∷ [])
     → (o : Option Holds) → o ≡ (if are_values (length w.args) bound call.args then callee_holds fns call.callee (length call.args) else None) → IsSome o
-    → Well (behind_let o n bound) (run_call w n call.callee (read_values w env call.args) env st)
+    → Well (after_let o n bound) (run_call w n call.callee (read_values w env call.args) env st)
 well_call fns w n call bound env st is a answering o e some = by (are_values (length w.args) bound call.args) refl e
   where
-    holding : (b : Option Holds) → callee_holds fns call.callee (length call.args) ≡ b → o ≡ b → HaveValues (read_values w env call.args) → Well (behind_let o n bound) (run_call w n call.callee (read_values w env call.args) env st)
+    holding : (b : Option Holds) → callee_holds fns call.callee (length call.args) ≡ b → o ≡ b → HaveValues (read_values w env call.args) → Well (after_let o n bound) (run_call w n call.callee (read_values w env call.args) env st)
     holding None f g have = absurd cc
     holding (Some h) f g have =
         let held_so = answering call.callee (search rules) (length call.args) h f have.vs st.made in
         rw (g, have.are) (well_bind n h (answer_held (answer w.meaning call.callee have.vs st.made)) bound env (one_made st (record { callee = call.callee; args = have.vs })) a held_so)
 
-    by : (b : Bool) → are_values (length w.args) bound call.args ≡ b → o ≡ (if b then callee_holds fns call.callee (length call.args) else None) → Well (behind_let o n bound) (run_call w n call.callee (read_values w env call.args) env st)
+    by : (b : Bool) → are_values (length w.args) bound call.args ≡ b → o ≡ (if b then callee_holds fns call.callee (length call.args) else None) → Well (after_let o n bound) (run_call w n call.callee (read_values w env call.args) env st)
     by true f g = holding (callee_holds fns call.callee (length call.args)) refl g (told_values w bound env call.args is a f)
     by false f g = absurd cc
 
@@ -206,17 +206,17 @@ no_gift kind.Iterator g = g
 
 module _ (fns : List TraitFn) (w : Around) where
   well_let : (n : ℕ) (e : TExpr) (bound : Locals) (env : Env) (st : State) → IsExpr e → IsSome (expr_holds fns (length w.args) bound e) → Answering fns w.meaning (expr_calls e) → Agree bound env
-      → Well (behind_let (expr_holds fns (length w.args) bound e) n bound) (run_let w n e env st)
-  well_let n (expr.Read r) bound env st is some answering a = well_told n (read_holds (length w.args) bound r) (read_value w env r) bound env st a some (told_read w bound env r is a)
+      → Well (after_let (expr_holds fns (length w.args) bound e) n bound) (run_let w n e env st)
+  well_let n (expr.Read r) bound env st is some answering a = well_known n (read_holds (length w.args) bound r) (read_value w env r) bound env st a some (known_read w bound env r is a)
   well_let n (expr.Call borrow call) bound env st is some answering a = well_call fns w n call bound env st is.1.args a answering (expr_holds fns (length w.args) bound (expr.Call borrow call)) refl some
   well_let n (expr.Some r) bound env st is some answering a = by (is_value (read_holds (length w.args) bound r)) refl some
     where
-      by : (b : Bool) → is_value (read_holds (length w.args) bound r) ≡ b → IsSome (if b then Some (holds.Optional item.Value) else None) → Well (behind_let (if b then Some (holds.Optional item.Value) else None) n bound) (on_value (read_value w env r) (λ v. Goes (bind env n (an_option (Some v))) st))
+      by : (b : Bool) → is_value (read_holds (length w.args) bound r) ≡ b → IsSome (if b then Some (holds.Optional item.Value) else None) → Well (after_let (if b then Some (holds.Optional item.Value) else None) n bound) (on_value (read_value w env r) (λ v. Goes (bind env n (an_option (Some v))) st))
       by true f g =
-          let one = told_value (read_holds (length w.args) bound r) (read_value w env r) (told_read w bound env r is a) f in
+          let one = known_value (read_holds (length w.args) bound r) (read_value w env r) (known_read w bound env r is a) f in
           subst (λ x. Well (bound ++ (n, holds.Optional item.Value) ∷ []) (on_value x (λ v. Goes (bind env n (an_option (Some v))) st))) (sym one.is) (one_more bound env n (holds.Optional item.Value) (an_option (Some one.v)) a tt)
       by false f g = absurd cc
-  well_let n (expr.Try source as_ref) bound env st is some answering a = well_try n (operand_holds (length w.args) bound source) (value_of w env source) bound env st a some (told_operand w bound env source is.1 a)
+  well_let n (expr.Try source as_ref) bound env st is some answering a = well_try n (operand_holds (length w.args) bound source) (value_of w env source) bound env st a some (known_operand w bound env source is.1 a)
   well_let n (expr.Variant ty variant fields) bound env st is some answering a = absurd is
   well_let n (expr.Struct ty fields) bound env st is some answering a = absurd is
   well_let n (expr.Tuple o i) bound env st is some answering a = absurd is
@@ -242,33 +242,36 @@ module _ (fns : List TraitFn) (w : Around) where
   ends_option (Listed is) st k = absurd k
   ends_option Absent st k = absurd k
 
-  ends_told : (kind : ReturnKind) (o : Option Holds) (g : Held) (st : State) → GivesKind kind o → Told o g → DoesEnd (ends_with g st)
-  ends_told kind.Plain None g st k t = absurd k
-  ends_told kind.Plain (Some (holds.One item.Value)) g st k t = ends_value g st t
-  ends_told kind.Plain (Some (holds.One (item.Tuple count))) g st k t = absurd k
-  ends_told kind.Plain (Some (holds.Optional x)) g st k t = absurd k
-  ends_told kind.Plain (Some (holds.Several x)) g st k t = absurd k
-  ends_told kind.Option None g st k t = absurd k
-  ends_told kind.Option (Some (holds.One x)) g st k t = absurd k
-  ends_told kind.Option (Some (holds.Optional item.Value)) g st k t = ends_option g st t
-  ends_told kind.Option (Some (holds.Optional (item.Tuple count))) g st k t = absurd k
-  ends_told kind.Option (Some (holds.Several x)) g st k t = absurd k
-  ends_told kind.Iterator o g st k t = absurd k
+  ends_known : (kind : ReturnKind) (o : Option Holds) (g : Held) (st : State) → GivesKind kind o → HoldsIfKnown o g → DoesEnd (ends_with g st)
+  ends_known kind.Plain None g st k t = absurd k
+  ends_known kind.Plain (Some (holds.One item.Value)) g st k t = ends_value g st t
+  ends_known kind.Plain (Some (holds.One (item.Tuple count))) g st k t = absurd k
+  ends_known kind.Plain (Some (holds.Optional x)) g st k t = absurd k
+  ends_known kind.Plain (Some (holds.Several x)) g st k t = absurd k
+  ends_known kind.Option None g st k t = absurd k
+  ends_known kind.Option (Some (holds.One x)) g st k t = absurd k
+  ends_known kind.Option (Some (holds.Optional item.Value)) g st k t = ends_option g st t
+  ends_known kind.Option (Some (holds.Optional (item.Tuple count))) g st k t = absurd k
+  ends_known kind.Option (Some (holds.Several x)) g st k t = absurd k
+  ends_known kind.Iterator None g st k t = absurd k
+  ends_known kind.Iterator (Some (holds.One x)) g st k t = absurd k
+  ends_known kind.Iterator (Some (holds.Optional x)) g st k t = absurd k
+  ends_known kind.Iterator (Some (holds.Several x)) g st k t = absurd k
 
   -- what is said of two parts is said of each
   front_answering : (xs ys : List Callee) → Answering fns w.meaning (xs ++ ys) → Answering fns w.meaning xs
   front_answering xs ys h c k = h c (Contains-append_left xs ys c k)
 
-  behind_answering : (xs ys : List Callee) → Answering fns w.meaning (xs ++ ys) → Answering fns w.meaning ys
-  behind_answering xs ys h c k = h c (Contains-append_right xs ys c k)
+  rest_answering : (xs ys : List Callee) → Answering fns w.meaning (xs ++ ys) → Answering fns w.meaning ys
+  rest_answering xs ys h c k = h c (Contains-append_right xs ys c k)
 
   well_return : (kind : ReturnKind) (e : TExpr) (bound : Locals) (env : Env) (st : State) → IsExpr e → GivesKind kind (expr_holds fns (length w.args) bound e) → IsReturned e → Agree bound env → DoesEnd (run_return w e env st)
-  well_return kind (expr.Read r) bound env st is gives fits a = ends_told kind (read_holds (length w.args) bound r) (read_value w env r) st gives (told_read w bound env r is a)
+  well_return kind (expr.Read r) bound env st is gives fits a = ends_known kind (read_holds (length w.args) bound r) (read_value w env r) st gives (known_read w bound env r is a)
   well_return kind (expr.Some r) bound env st is gives fits a = by (is_value (read_holds (length w.args) bound r)) refl gives
     where
       by : (b : Bool) → is_value (read_holds (length w.args) bound r) ≡ b → GivesKind kind (if b then Some (holds.Optional item.Value) else None) → DoesEnd (on_value (read_value w env r) (λ v. Ends (GivesSome v) st))
       by true f g =
-          let one = told_value (read_holds (length w.args) bound r) (read_value w env r) (told_read w bound env r is a) f in
+          let one = known_value (read_holds (length w.args) bound r) (read_value w env r) (known_read w bound env r is a) f in
           record { end = GivesSome one.v; left = st; is = ap (λ x. on_value x (λ v. Ends (GivesSome v) st)) one.is }
       by false f g = absurd (no_gift kind g)
   well_return kind (expr.Call borrow call) bound env st is gives fits a = absurd fits
@@ -288,23 +291,23 @@ module _ (fns : List TraitFn) (w : Around) where
 
   -- a test runs what is inside it, or goes on
   well_test : (bound : Locals) (env : Env) (st : State) (g h : Held) (inside : Flow) → Agree bound env → HasValue g → HasValue h → NotStuck inside
-      → Well bound (on_value g (λ v. on_value h (λ u. if same_in_run v u then behind env inside else Goes env st)))
+      → Well bound (on_value g (λ v. on_value h (λ u. if same_in_run v u then after_scope env inside else Goes env st)))
   well_test bound env st g h inside a one two k =
-      subst (λ x. Well bound (on_value x (λ v. on_value h (λ u. if same_in_run v u then behind env inside else Goes env st)))) (sym one.is)
-      (subst (λ x. Well bound (on_value x (λ u. if same_in_run one.v u then behind env inside else Goes env st))) (sym two.is) (by (same_in_run one.v two.v)))
+      subst (λ x. Well bound (on_value x (λ v. on_value h (λ u. if same_in_run v u then after_scope env inside else Goes env st)))) (sym one.is)
+      (subst (λ x. Well bound (on_value x (λ u. if same_in_run one.v u then after_scope env inside else Goes env st))) (sym two.is) (by (same_in_run one.v two.v)))
     where
-      by : (b : Bool) → Well bound (if b then behind env inside else Goes env st)
-      by true = well_behind bound env inside a k
+      by : (b : Bool) → Well bound (if b then after_scope env inside else Goes env st)
+      by true = well_left bound env inside a k
       by false = a
 
   mutual
-    well_stmt : (kind : ReturnKind) (closed : Bool) (s : Stmt) (bound : Locals) (env : Env) (st : State) → IsStmt s → IsStmtThere fns kind (length w.args) bound s → FitsStmt kind closed s → Answering fns w.meaning (stmt_calls s) → Agree bound env
-        → Well (bound_behind fns (length w.args) s bound) (run_stmt w s env st)
+    well_stmt : (kind : ReturnKind) (closed : Bool) (s : Stmt) (bound : Locals) (env : Env) (st : State) → IsStmt s → IsStmtScoped fns kind (length w.args) bound s → FitsStmt kind closed s → Answering fns w.meaning (stmt_calls s) → Agree bound env
+        → Well (bound_after fns (length w.args) s bound) (run_stmt w s env st)
     well_stmt kind closed (Let n e) bound env st is there fits answering a = well_let n e bound env st is there answering a
     well_stmt kind closed (IfEq l r inside) bound env st is there fits answering a =
         well_test bound env st (value_of w env l) (value_of w env r) (run_body w inside env st) a
-        (told_value (operand_holds (length w.args) bound l) (value_of w env l) (told_operand w bound env l is.0 a) there.0)
-        (told_value (operand_holds (length w.args) bound r) (value_of w env r) (told_operand w bound env r is.1 a) there.1)
+        (known_value (operand_holds (length w.args) bound l) (value_of w env l) (known_operand w bound env l is.0 a) there.0)
+        (known_value (operand_holds (length w.args) bound r) (value_of w env r) (known_operand w bound env r is.1 a) there.1)
         (well_body kind closed inside bound env st is.2 there.2 fits answering a)
     well_stmt kind closed (Return e) bound env st is there fits answering a = well_end bound (run_return w e env st) (well_return kind e bound env st is there fits a)
     well_stmt kind closed (Tail texts) bound env st is there fits answering a = absurd fits
@@ -317,17 +320,17 @@ module _ (fns : List TraitFn) (w : Around) where
     well_stmt kind closed (Log term place) bound env st is there fits answering a = absurd is
     well_stmt kind closed (Split inside within) bound env st is there fits answering a = absurd is
 
-    well_body : (kind : ReturnKind) (closed : Bool) (b : Body) (bound : Locals) (env : Env) (st : State) → IsBody b → IsBodyThere fns kind (length w.args) bound b → FitsBody kind closed b → Answering fns w.meaning (body_calls b) → Agree bound env
+    well_body : (kind : ReturnKind) (closed : Bool) (b : Body) (bound : Locals) (env : Env) (st : State) → IsBody b → IsBodyScoped fns kind (length w.args) bound b → FitsBody kind closed b → Answering fns w.meaning (body_calls b) → Agree bound env
         → NotStuck (run_body w b env st)
     well_body kind closed Done bound env st is there fits answering a = tt
     well_body kind closed (Then s ss) bound env st is there fits answering a =
-        then_well (bound_behind fns (length w.args) s bound) (run_stmt w s env st) (run_body w ss)
+        then_well (bound_after fns (length w.args) s bound) (run_stmt w s env st) (run_body w ss)
         (well_stmt kind closed s bound env st is.0 there.0 fits.0 (front_answering (stmt_calls s) (body_calls ss) answering) a)
-        (λ inner calls k. well_body kind closed ss (bound_behind fns (length w.args) s bound) inner calls is.1 there.1 fits.1 (behind_answering (stmt_calls s) (body_calls ss) answering) k)
+        (λ inner calls k. well_body kind closed ss (bound_after fns (length w.args) s bound) inner calls is.1 there.1 fits.1 (rest_answering (stmt_calls s) (body_calls ss) answering) k)
 
   -- ---- functions end
 
-  last_ends : (kind : ReturnKind) (s : Stmt) (bound : Locals) (env : Env) (st : State) → IsStmt s → IsStmtThere fns kind (length w.args) bound s → FitsLast kind s → Agree bound env → DoesEnd (run_stmt w s env st)
+  last_ends : (kind : ReturnKind) (s : Stmt) (bound : Locals) (env : Env) (st : State) → IsStmt s → IsStmtScoped fns kind (length w.args) bound s → FitsLast kind s → Agree bound env → DoesEnd (run_stmt w s env st)
   last_ends kind (Return e) bound env st is there fits a = well_return kind e bound env st is there fits a
   last_ends kind (Tail texts) bound env st is there fits a = record { end = _; left = _; is = refl }
   last_ends kind (Let n e) bound env st is there fits a = absurd fits
@@ -348,13 +351,13 @@ module _ (fns : List TraitFn) (w : Around) where
   then_ends bound Stuck go h next = absurd h
 
   -- the statements of a function end it
-  pub function_ends : (kind : ReturnKind) (b : Body) (bound : Locals) (env : Env) (st : State) → IsBody b → IsBodyThere fns kind (length w.args) bound b → FitsFunction kind b → Answering fns w.meaning (body_calls b) → Agree bound env
+  pub function_ends : (kind : ReturnKind) (b : Body) (bound : Locals) (env : Env) (st : State) → IsBody b → IsBodyScoped fns kind (length w.args) bound b → FitsFunction kind b → Answering fns w.meaning (body_calls b) → Agree bound env
       → DoesEnd (run_body w b env st)
   function_ends kind Done bound env st is there fits answering a = absurd fits
   function_ends kind (Then s Done) bound env st is there fits answering a =
       let last = last_ends kind s bound env st is.0 there.0 fits a in
       record { end = last.end; left = last.left; is = ap (λ flow. then_run flow (run_body w Done)) last.is }
   function_ends kind (Then s (Then t ss)) bound env st is there fits answering a =
-      then_ends (bound_behind fns (length w.args) s bound) (run_stmt w s env st) (run_body w (Then t ss))
+      then_ends (bound_after fns (length w.args) s bound) (run_stmt w s env st) (run_body w (Then t ss))
       (well_stmt kind false s bound env st is.0 there.0 fits.0 (front_answering (stmt_calls s) (body_calls (Then t ss)) answering) a)
-      (λ inner calls k. function_ends kind (Then t ss) (bound_behind fns (length w.args) s bound) inner calls is.1 there.1 fits.1 (behind_answering (stmt_calls s) (body_calls (Then t ss)) answering) k)
+      (λ inner calls k. function_ends kind (Then t ss) (bound_after fns (length w.args) s bound) inner calls is.1 there.1 fits.1 (rest_answering (stmt_calls s) (body_calls (Then t ss)) answering) k)

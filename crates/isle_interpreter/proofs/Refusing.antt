@@ -1,4 +1,4 @@
--- What bad forms refuse.
+-- What bad entries refuse.
 use Rattle.std.proofs.Common.{◌≡◌, ◌⊎◌, ℕ, List, Some, inl, inr, refl, sym, subst, ⊎_elim}
 use Rattle.std.specs.Prelude.{OnOk}
 use Rattle.std.specs.declared.result.Result.{Result}
@@ -10,16 +10,16 @@ use Rattle.isle_tree.specs.Run.{function_of}
 use Rattle.isle_interpreter.specs.declared.run_error.RunError.{RunError}
 use Rattle.isle_interpreter.specs.declared.run_error.RunError.TheVariants as error
 use Rattle.isle_interpreter.specs.Signatures.{type_names, AreNamed}
-use Rattle.isle_interpreter.specs.Forms.{forms}
+use Rattle.isle_interpreter.specs.Entries.{entries}
 use Rattle.isle_interpreter.specs.Judged.{AreBad}
-use Rattle.isle_interpreter.specs.Refusals.{IsRefused, wrong_form, missing}
+use Rattle.isle_interpreter.specs.Refusals.{IsRefused, wrong_entry, missing}
 use Rattle.isle_interpreter.proofs.OneRefusal.{one_refusal}
 
-pub bad_refused : (p : Program) (term : List ℕ) (args : List Value) (m : Meaning) (f : Function) (e : RunError) → function_of term p.fns ≡ Some f → AreNamed (type_names f.params) args → AreBad p f (forms m) e
+pub bad_refused : (p : Program) (term : List ℕ) (args : List Value) (m : Meaning) (f : Function) (e : RunError) → function_of term p.fns ≡ Some f → AreNamed (type_names f.params) args → AreBad p f (entries m) e
     → (e ≡ error.Memory) ⊎ IsRefused p term args m e
 bad_refused p term args m f error.Memory there typed bad = inl refl
 bad_refused p term args m f (error.BadAnswers i) there typed bad = inr (⊎_elim
-    (λ wrong. wrong_form f i there typed wrong)
+    (λ wrong. wrong_entry f i there typed wrong)
     (λ none. subst (λ n. IsRefused p term args m (error.BadAnswers n)) (sym none.2) (missing f there typed none.0 none.1))
     bad)
 bad_refused p term args m f error.NoTerm there typed bad = absurd bad

@@ -14,10 +14,10 @@ use Rattle.isle_tree.specs.declared.holds.Holds.{Holds}
 use Rattle.isle_tree.specs.declared.tree.Ty.{Ty}
 use Rattle.isle_tree.specs.declared.tree.TraitFn.{TraitFn}
 use Rattle.isle_tree.specs.Program.{Function, Program}
-use Rattle.isle_tree.specs.WellFormed.{IsTraitFn, IsFunction, IsWellFormed, IsBodyThere, trait_fn, call_holds, kind_holds}
+use Rattle.isle_tree.specs.WellFormed.{IsTraitFn, IsFunction, IsWellFormed, IsBodyScoped, trait_fn, call_holds, kind_holds}
 use Rattle.isle_tree.specs.Run.{Around, nothing_done, ended, function_of, function_run, run}
 use Rattle.isle_interpreter.specs.Signatures.{trait_signature, signature_of, type_names, AreNamed}
-use Rattle.isle_interpreter.specs.Forms.{forms, IsUnanswered, AreRight}
+use Rattle.isle_interpreter.specs.Entries.{entries, IsUnanswered, AreRight}
 use Rattle.isle_tree.specs.Calls.{body_calls}
 use Rattle.isle_interpreter.specs.Refusals.{MayRun}
 use Rattle.isle_interpreter.proofs.AnswersHold.{HoldsIn, answer_fits, answer_holds}
@@ -52,7 +52,7 @@ found_function p term (g ∷ fs) f h e = by (same_bytes term g.term) (found_func
     by false go e = go e
 
 -- a function of the trait that is called answers with its kind
-fn_answers : (p : Program) (m : Meaning) (name : List ℕ) (o : Option TraitFn) → trait_fn p.trait_fns name ≡ o → AllByRecursion IsTraitFn p.trait_fns → AreRight p [] (forms m) → (IsUnanswered (callee.External name) (forms m) → ⊥)
+fn_answers : (p : Program) (m : Meaning) (name : List ℕ) (o : Option TraitFn) → trait_fn p.trait_fns name ≡ o → AllByRecursion IsTraitFn p.trait_fns → AreRight p [] (entries m) → (IsUnanswered (callee.External name) (entries m) → ⊥)
     → (count : ℕ) (h : Holds) → call_holds o count ≡ Some h → (vs : List Value) (made : List Made) → HoldsIn h (answer_held (answer m (callee.External name) vs made))
 fn_answers p m name None e all right some count h f vs made = absurd cc
 fn_answers p m name (Some g) e all right some count h f vs made = by (length g.params == count) f
@@ -64,7 +64,7 @@ fn_answers p m name (Some g) e all right some count h f vs made = by (length g.p
     by true k = answer_holds (trait_signature g) h (answer m (callee.External name) vs made) (found_fn name p.trait_fns g all e).results k (answer_fits p m (callee.External name) (trait_signature g) right some is vs made)
     by false k = absurd cc
 
-answering : (p : Program) (m : Meaning) (f : Function) → AllByRecursion IsTraitFn p.trait_fns → AreRight p [] (forms m) → ((c : Callee) → Contains (body_calls f.body) c → IsUnanswered c (forms m) → ⊥)
+answering : (p : Program) (m : Meaning) (f : Function) → AllByRecursion IsTraitFn p.trait_fns → AreRight p [] (entries m) → ((c : Callee) → Contains (body_calls f.body) c → IsUnanswered c (entries m) → ⊥)
     → Answering p.trait_fns m (body_calls f.body)
 answering p m f all right some (callee.External name) k count h e vs made = fn_answers p m name (trait_fn p.trait_fns name) refl all right (some (callee.External name) k) count h e vs made
 answering p m f all right some (callee.Internal term) k count h e vs made = absurd cc
@@ -74,9 +74,9 @@ pub runs : (p : Program) (term : List ℕ) (args : List Value) (m : Meaning) (f 
 runs p term args m f well may =
     let is : IsFunction p f = found_function p term p.fns f well.fns may.found in
     let count : length args ≡ length f.params = named_length (type_names f.params) args may.typed ∙ length-map f.params (λ (ty : Ty). ty.name) in
-    let there : IsBodyThere p.trait_fns f.kind (length args) [] f.body = subst (λ n. IsBodyThere p.trait_fns f.kind n [] f.body) (sym count) is.found in
+    let scoped : IsBodyScoped p.trait_fns f.kind (length args) [] f.body = subst (λ n. IsBodyScoped p.trait_fns f.kind n [] f.body) (sym count) is.scoped in
     let around : Around = record { meaning = m; program = p; function = f; args = args; limit = None } in
-    let ends = function_ends p.trait_fns around f.kind f.body [] [] nothing_done is.forms there is.fits (answering p m f well.trait_fns may.right may.answered) tt in
+    let ends = function_ends p.trait_fns around f.kind f.body [] [] nothing_done is.forms scoped is.fits (answering p m f well.trait_fns may.right may.answered) tt in
     record {
       ran = record { end = ends.end; calls = ends.left.made };
       is = ap (function_run p m args) may.found ∙ ap ended ends.is;

@@ -1,6 +1,6 @@
 -- What callees answer, as the maps are filled and as calls are made.
 use Rattle.std.proofs.Common.{◌≡◌, ℕ, zero, suc, ◌+◌, List, [], ◌∷◌, ◌++◌, length, drop, map, Bool, true, false, cond, Option, Some, None, refl, sym, ap, ◌∙◌, arith}
-use Rattle.std.specs.Prelude.{find, filter, option_map, slice_index_or}
+use Rattle.std.specs.Prelude.{filter, option_map, slice_index_or}
 use Rattle.std.specs.Str.{bytes_eq}
 use Rattle.std.specs.Ordering.{nat_cmp}
 use Rattle.std.specs.Cmp.Lexicographic.{slice_cmp, nat_list_eq_equiv}
@@ -20,7 +20,7 @@ use Rattle.isle_core.specs.Terms.{goes_to}
 use Rattle.isle_core.specs.ValueViews.{values, made as made_of}
 use Rattle.isle_interpreter.specs.declared.source.Source.{Source as CodeSource}
 use Rattle.isle_interpreter.specs.declared.sources.Sources.{Sources}
-use Rattle.isle_interpreter.specs.Sources.{Cases, Turns, source, answered_by, later, behind_calls, at_name, at_callee, Puts, TakesAt, Takes, FindsSources}
+use Rattle.isle_interpreter.specs.Sources.{Cases, Turns, source, answered_by, after_call, after_calls, first_turns, first_cases, at_name, at_callee, Puts, TakesAt, Takes, FindsSources}
 
 -- ---- at a name
 
@@ -50,15 +50,15 @@ put_internal old new key name s named same updates (Internal other) = put_at old
 put_internal old new key name s named same updates (External other) = ap (λ m. at_name m other) same
 
 -- what it has behind a call
-pub takes_there : (old new : BTreeMap (Bor (List ℕ)) CodeSource) (name : List ℕ) (s t : CodeSource) → get_by (λ (k : Bor (List ℕ)). slice_cmp nat_cmp name k.now) old ≡ Some s → source t ≡ later (source s)
+pub takes_there : (old new : BTreeMap (Bor (List ℕ)) CodeSource) (name : List ℕ) (s t : CodeSource) → get_by (λ (k : Bor (List ℕ)). slice_cmp nat_cmp name k.now) old ≡ Some s → source t ≡ after_call (source s)
     → UpdatesBy (λ (x y : Bor (List ℕ)). slice_cmp nat_cmp x.now y.now) (λ (k : Bor (List ℕ)). slice_cmp nat_cmp name k.now) old new (Some t)
     → TakesAt old new name
 takes_there old new name s t there moved updates other = put_at old new name t updates other ∙ by (bytes_eq other name) refl
   where
-    by : (b : Bool) → bytes_eq other name ≡ b → cond b (Some (source t)) (at_name old other) ≡ cond b (option_map later (at_name old other)) (at_name old other)
+    by : (b : Bool) → bytes_eq other name ≡ b → cond b (Some (source t)) (at_name old other) ≡ cond b (option_map after_call (at_name old other)) (at_name old other)
     by true e =
         let same : other ≡ name = (bytes_eq-Decides other name).0 e in
-        ap Some moved ∙ sym (ap (λ n. option_map later (at_name old n)) same ∙ ap (λ o. option_map later (option_map source o)) there)
+        ap Some moved ∙ sym (ap (λ n. option_map after_call (at_name old n)) same ∙ ap (λ o. option_map after_call (option_map source o)) there)
     by false e = refl
 
 -- ---- a call more
@@ -94,22 +94,16 @@ pub finds_later : (turns : List TurnAnswers) (pure : List PureAnswers) (made : L
 finds_later turns pure made x old new were takes = record {
   finds = λ c.
       takes c
-      ∙ ap (λ o. cond (goes_to c (Some x.callee)) (option_map later o) o) (were.finds c)
-      ∙ moved (first_turns c) (first_cases c) (times c made) (goes_to c (Some x.callee))
-      ∙ ap (behind_calls (first_turns c) (first_cases c)) (sym (times_more c made x));
+      ∙ ap (λ o. cond (goes_to c (Some x.callee)) (option_map after_call o) o) (were.finds c)
+      ∙ moved (first_turns turns c) (first_cases pure c) (times c made) (goes_to c (Some x.callee))
+      ∙ ap (after_calls (first_turns turns c) (first_cases pure c)) (sym (times_more c made x));
 }
   where
-    first_turns : Callee → Option TurnAnswers
-    first_turns c = find (λ (a : TurnAnswers). goes_to c (Some a.callee)) turns
-
-    first_cases : Callee → Option PureAnswers
-    first_cases c = find (λ (a : PureAnswers). goes_to c (Some a.callee)) pure
-
-    moved : (t : Option TurnAnswers) (o : Option PureAnswers) (n : ℕ) (b : Bool) → cond b (option_map later (behind_calls t o n)) (behind_calls t o n) ≡ behind_calls t o (n + count b)
+    moved : (t : Option TurnAnswers) (o : Option PureAnswers) (n : ℕ) (b : Bool) → cond b (option_map after_call (after_calls t o n)) (after_calls t o n) ≡ after_calls t o (n + count b)
     moved (Some a) o n true = ap (λ left. Some (Turns left a.rest)) (drop-drop 1 n a.turns)
     moved None (Some a) n true = refl
     moved None None n true = refl
-    moved t o n false = ap (behind_calls t o) {y = n + 0} (omega arith)
+    moved t o n false = ap (after_calls t o) {y = n + 0} (omega arith)
 
 -- ---- what a call is answered
 
@@ -125,6 +119,6 @@ answers_call m made s c vs f = ap (λ o. answered_by o vs) (f.finds c) ∙ by_tu
     by_cases None = refl
     by_cases (Some a) = refl
 
-    by_turns : (t : Option TurnAnswers) → answered_by (behind_calls t (cases_of m c) (times c made)) vs ≡ answer_by t m c vs made
+    by_turns : (t : Option TurnAnswers) → answered_by (after_calls t (cases_of m c) (times c made)) vs ≡ answer_by t m c vs made
     by_turns (Some a) = index_drop (times c made) a.turns a.rest
     by_turns None = by_cases (cases_of m c)

@@ -7,7 +7,7 @@ use Rattle.isle_tree.specs.declared.tree.Ty.{Ty}
 use Rattle.isle_core.specs.Value.{Value}
 use Rattle.isle_interpreter.specs.Signatures.{type_names, IsNamed, AreNamed}
 use Rattle.isle_interpreter.specs.Refusals.{IsWrongArg}
-use Rattle.isle_interpreter.specs.Told.{Told}
+use Rattle.isle_interpreter.specs.FirstWrong.{IsFirstWrong}
 use Rattle.isle_core.specs.declared.values.Value.{Value as CodeValue}
 use Rattle.isle_core.specs.ValueViews.{values}
 use Rattle.isle_interpreter.proofs.NamedApart.{named_apart}
@@ -25,11 +25,11 @@ pub not_named : (names : List (List ℕ)) (vs : List Value) (i : ℕ) → IsWron
 not_named names vs i w h = w.wrong (named_at i names vs w.name w.arg h w.named w.given)
 
 -- none is told, or they are not
-pub told_named : (names : List (List ℕ)) (vs : List Value) (r : Option ℕ) (none : Bool) → Told names vs r → is_some r ≡ not none → IsTrue none ↔ AreNamed names vs
-told_named names vs None true h e = (λ t. h, λ t. refl)
-told_named names vs (Some i) false h e = (λ t. absurd cc, λ t. absurd (not_named names vs i h t))
-told_named names vs None false h e = absurd cc
-told_named names vs (Some i) true h e = absurd cc
+pub first_wrong_named : (names : List (List ℕ)) (vs : List Value) (r : Option ℕ) (none : Bool) → IsFirstWrong names vs r → is_some r ≡ not none → IsTrue none ↔ AreNamed names vs
+first_wrong_named names vs None true h e = (λ t. h, λ t. refl)
+first_wrong_named names vs (Some i) false h e = (λ t. absurd cc, λ t. absurd (not_named names vs i h t))
+first_wrong_named names vs None false h e = absurd cc
+first_wrong_named names vs (Some i) true h e = absurd cc
 
 not_eqb : (n m : ℕ) → (n ≡ m → ⊥) → eqb n m ≡ false
 not_eqb n m h = by (eqb n m) refl

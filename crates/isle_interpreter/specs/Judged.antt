@@ -1,4 +1,4 @@
--- What is told of forms, and of calls that need them.
+-- What is told of entries, and of calls that need them.
 use Rattle.std.specs.Prelude.{◌≡◌, ◌⊎◌, ℕ, List, [], length, Some}
 use Rattle.isle_core.specs.Value.{Value}
 use Rattle.isle_core.specs.Meaning.{Meaning}
@@ -6,28 +6,33 @@ use Rattle.isle_tree.specs.Program.{Function, Program}
 use Rattle.isle_tree.specs.Run.{function_of}
 use Rattle.isle_interpreter.specs.declared.run_error.RunError.{RunError}
 use Rattle.isle_interpreter.specs.declared.run_error.RunError.TheVariants as error
-use Rattle.isle_interpreter.specs.Forms.{Form, AreRight}
-use Rattle.isle_interpreter.specs.Refusals.{IsWrongForm, IsMissing, MayRun}
+use Rattle.isle_interpreter.specs.Entries.{Entry, AreRight}
+use Rattle.isle_interpreter.specs.Refusals.{IsWrongEntry, IsMissing, MayRun}
 use Rattle.isle_interpreter.specs.Signatures.{type_names, AreNamed}
 
--- a refusal before any form is looked at
+-- a refusal before any entry is looked at
 abbrev pub IsEarly : RunError → Type 0
 IsEarly error.NoTerm = Unit {0}
 IsEarly error.ArgCount = Unit {0}
 IsEarly (error.ArgType i) = Unit {0}
-IsEarly e = ⊥
+IsEarly (error.BadAnswers i) = ⊥
+IsEarly error.Memory = ⊥
 
--- why not all forms are right, or want of memory
-abbrev pub AreWrong : Program → List Form → RunError → Type 0
+-- why not all entries are right, or want of memory
+abbrev pub AreWrong : Program → List Entry → RunError → Type 0
+AreWrong p fs error.NoTerm = ⊥
+AreWrong p fs error.ArgCount = ⊥
+AreWrong p fs (error.ArgType i) = ⊥
+AreWrong p fs (error.BadAnswers i) = IsWrongEntry p fs i
 AreWrong p fs error.Memory = Unit {0}
-AreWrong p fs (error.BadAnswers i) = IsWrongForm p fs i
-AreWrong p fs e = ⊥
 
--- why the forms don't do for a function, or want of memory
-abbrev pub AreBad : Program → Function → List Form → RunError → Type 0
+-- why the entries don't do for a function, or want of memory
+abbrev pub AreBad : Program → Function → List Entry → RunError → Type 0
+AreBad p f fs error.NoTerm = ⊥
+AreBad p f fs error.ArgCount = ⊥
+AreBad p f fs (error.ArgType i) = ⊥
+AreBad p f fs (error.BadAnswers i) = IsWrongEntry p fs i ⊎ (AreRight p [] fs × IsMissing f fs × (i ≡ length fs))
 AreBad p f fs error.Memory = Unit {0}
-AreBad p f fs (error.BadAnswers i) = IsWrongForm p fs i ⊎ (AreRight p [] fs × IsMissing f fs × (i ≡ length fs))
-AreBad p f fs e = ⊥
 
 -- the function of the term takes the arguments
 pub record Takes (p : Program) (term : List ℕ) (args : List Value) : Type 0 where

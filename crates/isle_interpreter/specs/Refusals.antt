@@ -8,7 +8,7 @@ use Rattle.isle_tree.specs.Run.{function_of}
 use Rattle.isle_interpreter.specs.declared.run_error.RunError.{RunError}
 use Rattle.isle_interpreter.specs.declared.run_error.RunError.TheVariants as error
 use Rattle.isle_interpreter.specs.Signatures.{type_names, IsNamed, AreNamed}
-use Rattle.isle_interpreter.specs.Forms.{Form, forms, IsUnanswered, IsRight, AreRight}
+use Rattle.isle_interpreter.specs.Entries.{Entry, entries, IsUnanswered, IsRight, AreRight}
 use Rattle.isle_tree.specs.Calls.{body_calls}
 
 -- the argument of this number is the first that is no value of its parameter's type
@@ -20,34 +20,37 @@ pub record IsWrongArg (names : List (List ℕ)) (args : List Value) (i : ℕ) : 
   pub before : AreNamed (take i names) (take i args)
   pub wrong : IsNamed name arg → ⊥
 
--- the form of this number is the first wrong one
-pub record IsWrongForm (p : Program) (fs : List Form) (i : ℕ) : Type 0 where
-  pub form : Form
-  pub found : slice_get fs i ≡ Some form
+-- the entry of this number is the first wrong one
+pub record IsWrongEntry (p : Program) (fs : List Entry) (i : ℕ) : Type 0 where
+  pub entry : Entry
+  pub found : slice_get fs i ≡ Some entry
   pub before : AreRight p [] (take i fs)
-  pub wrong : IsRight p (take i fs) form → ⊥
+  pub wrong : IsRight p (take i fs) entry → ⊥
 
--- something that the function calls has no form
-pub record IsMissing (f : Function) (fs : List Form) : Type 0 where
+-- something that the function calls has no entry
+pub record IsMissing (f : Function) (fs : List Entry) : Type 0 where
   pub callee : Callee
   pub called : Contains (body_calls f.body) callee
   pub none : IsUnanswered callee fs
 
--- each callee of the function has a form
-abbrev pub AreAnswered : Function → List Form → Type 0
+-- each callee of the function has an entry
+abbrev pub AreAnswered : Function → List Entry → Type 0
 AreAnswered f fs = (callee : Callee) → Contains (body_calls f.body) callee → IsUnanswered callee fs → ⊥
 
 -- the term, the arguments and the answers fit the function
 pub record MayRun (p : Program) (term : List ℕ) (args : List Value) (m : Meaning) (f : Function) : Type 0 where
   pub found : function_of term p.fns ≡ Some f
   pub typed : AreNamed (type_names f.params) args
-  pub right : AreRight p [] (forms m)
-  pub answered : AreAnswered f (forms m)
+  pub right : AreRight p [] (entries m)
+  pub answered : AreAnswered f (entries m)
 
 -- why they don't, in the order in which it is asked
 pub data IsRefused (p : Program) (term : List ℕ) (args : List Value) (m : Meaning) : RunError → Type 0 where
   no_term : function_of term p.fns ≡ None → IsRefused p term args m error.NoTerm
   arg_count : (f : Function) → function_of term p.fns ≡ Some f → length args ≢ length f.params → IsRefused p term args m error.ArgCount
-  arg_type : (f : Function) (i : ℕ) → function_of term p.fns ≡ Some f → length args ≡ length f.params → IsWrongArg (type_names f.params) args i → IsRefused p term args m (error.ArgType i)
-  wrong_form : (f : Function) (i : ℕ) → function_of term p.fns ≡ Some f → AreNamed (type_names f.params) args → IsWrongForm p (forms m) i → IsRefused p term args m (error.BadAnswers i)
-  missing : (f : Function) → function_of term p.fns ≡ Some f → AreNamed (type_names f.params) args → AreRight p [] (forms m) → IsMissing f (forms m) → IsRefused p term args m (error.BadAnswers (length (forms m)))
+  arg_type : (f : Function) (i : ℕ) → function_of term p.fns ≡ Some f → length args ≡ length f.params → IsWrongArg (type_names f.params) args i
+      → IsRefused p term args m (error.ArgType i)
+  wrong_entry : (f : Function) (i : ℕ) → function_of term p.fns ≡ Some f → AreNamed (type_names f.params) args → IsWrongEntry p (entries m) i
+      → IsRefused p term args m (error.BadAnswers i)
+  missing : (f : Function) → function_of term p.fns ≡ Some f → AreNamed (type_names f.params) args → AreRight p [] (entries m) → IsMissing f (entries m)
+      → IsRefused p term args m (error.BadAnswers (length (entries m)))

@@ -1,4 +1,4 @@
--- The callees that forms answer for, as the code keeps them.
+-- The callees that entries answer for, as the code keeps them.
 use Rattle.std.specs.Prelude.{◌≡◌, ℕ, List, Bool}
 use Rattle.std.specs.List.{list_any}
 use Rattle.std.specs.BTreeSet.{BTreeSet, contains_by}
@@ -9,7 +9,7 @@ use Rattle.isle_core.specs.declared.values.Callee.{Callee}
 use Rattle.isle_core.specs.declared.values.Callee.TheVariants.{External, Internal}
 use Rattle.isle_core.specs.Terms.{goes_to}
 use Rattle.isle_interpreter.specs.declared.served.Served.{Served}
-use Rattle.isle_interpreter.specs.Forms.{Form, answers_for}
+use Rattle.isle_interpreter.specs.Entries.{Entry, answers_for}
 
 -- whether the set has the name
 abbrev pub has_name : BTreeSet (Bor (List ℕ)) → List ℕ → Bool
@@ -20,10 +20,10 @@ abbrev pub has : Served → Callee → Bool
 has s (External name) = has_name s.externals name
 has s (Internal term) = has_name s.internals term
 
--- whether a form answers for the callee
-abbrev pub is_answered : List Form → Callee → Bool
+-- whether an entry answers for the callee
+abbrev pub is_answered : List Entry → Callee → Bool
 is_answered fs callee = list_any (λ f. goes_to callee (answers_for f)) fs
 
--- the sets have the callees that the forms answer for
-pub record Serves (fs : List Form) (s : Served) : Type 0 where
+-- the sets have the callees that the entries answer for
+pub record Serves (fs : List Entry) (s : Served) : Type 0 where
   pub serves : (callee : Callee) → has s callee ≡ is_answered fs callee

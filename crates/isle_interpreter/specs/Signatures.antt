@@ -4,7 +4,7 @@ use Rattle.isle_core.specs.declared.types.ReturnKind.{ReturnKind}
 use Rattle.isle_core.specs.declared.types.ReturnKind.TheVariants as kind
 use Rattle.isle_core.specs.declared.values.Callee.{Callee}
 use Rattle.isle_core.specs.declared.values.Callee.TheVariants as callee
-use Rattle.isle_core.specs.Value.{Value, Truth, Int, Answer, Plain, Found, Nothing}
+use Rattle.isle_core.specs.Value.{Value, Truth, Int, Opaque, Variant, Struct, Answer, Plain, Found, Nothing, Several}
 use Rattle.isle_core.specs.HasType.{IsReduced}
 use Rattle.isle_printer.specs.Bytes.{same_bytes}
 use Rattle.isle_tree.specs.declared.tree.Ty.{Ty}
@@ -41,7 +41,9 @@ signature_of p (callee.Internal term) = option_map term_signature (function_of t
 abbrev pub IsNamed : List ℕ → Value → Type 0
 IsNamed name (Truth b) = IsTrue (same_bytes (codes "bool") name)
 IsNamed name (Int ty n) = (type_named name ≡ Some ty) × IsReduced ty n
-IsNamed name v = ⊥
+IsNamed name (Opaque ty n) = ⊥
+IsNamed name (Variant ty variant fields) = ⊥
+IsNamed name (Struct ty fields) = ⊥
 
 -- as many values as names, each of its type
 abbrev pub AreNamed : List (List ℕ) → List Value → Type 0
@@ -55,4 +57,4 @@ abbrev pub AnswerFits : Signature → Answer → Type 0
 AnswerFits s (Plain vs) = (s.kind ≡ kind.Plain) × AreNamed s.results vs
 AnswerFits s (Found vs) = (s.kind ≡ kind.Option) × AreNamed s.results vs
 AnswerFits s Nothing = s.kind ≡ kind.Option
-AnswerFits s a = ⊥
+AnswerFits s (Several answers) = ⊥

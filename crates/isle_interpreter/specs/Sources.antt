@@ -31,15 +31,15 @@ answered_by None vs = Nothing
 answered_by (Some (Cases a)) vs = case_at (Some a) vs
 answered_by (Some (Turns left rest)) vs = slice_index_or left 0 rest
 
--- the answers behind a call
-abbrev pub later : Source → Source
-later (Cases a) = Cases a
-later (Turns left rest) = Turns (drop 1 left) rest
+-- the answers after a call
+abbrev pub after_call : Source → Source
+after_call (Cases a) = Cases a
+after_call (Turns left rest) = Turns (drop 1 left) rest
 
--- the answers behind as many calls, of a callee that has turns or cases
-abbrev pub behind_calls : Option TurnAnswers → Option PureAnswers → ℕ → Option Source
-behind_calls (Some a) cases n = Some (Turns (drop n a.turns) a.rest)
-behind_calls None cases n = option_map Cases cases
+-- the answers after as many calls, of a callee that has turns or cases
+abbrev pub after_calls : Option TurnAnswers → Option PureAnswers → ℕ → Option Source
+after_calls (Some a) cases n = Some (Turns (drop n a.turns) a.rest)
+after_calls None cases n = option_map Cases cases
 
 -- what a map has at a name
 abbrev pub at_name : BTreeMap (Bor (List ℕ)) CodeSource → List ℕ → Option Source
@@ -56,12 +56,20 @@ Puts old new put s = (c : Callee) → at_callee new c ≡ cond (goes_to c (Some 
 
 -- at this name a call was made
 abbrev pub TakesAt : (old new : BTreeMap (Bor (List ℕ)) CodeSource) → List ℕ → Type 0
-TakesAt old new called = (name : List ℕ) → at_name new name ≡ cond (bytes_eq name called) (option_map later (at_name old name)) (at_name old name)
+TakesAt old new called = (name : List ℕ) → at_name new name ≡ cond (bytes_eq name called) (option_map after_call (at_name old name)) (at_name old name)
 
 -- this callee was called
 abbrev pub Takes : (old new : Sources) → Callee → Type 0
-Takes old new called = (c : Callee) → at_callee new c ≡ cond (goes_to c (Some called)) (option_map later (at_callee old c)) (at_callee old c)
+Takes old new called = (c : Callee) → at_callee new c ≡ cond (goes_to c (Some called)) (option_map after_call (at_callee old c)) (at_callee old c)
+
+-- the first turns of a callee
+abbrev pub first_turns : List TurnAnswers → Callee → Option TurnAnswers
+first_turns turns c = find (λ (a : TurnAnswers). goes_to c (Some a.callee)) turns
+
+-- its first cases
+abbrev pub first_cases : List PureAnswers → Callee → Option PureAnswers
+first_cases pure c = find (λ (a : PureAnswers). goes_to c (Some a.callee)) pure
 
 -- the maps have the answers of each callee behind the calls made: those of its first turns, or else of its first cases
 pub record FindsSources (turns : List TurnAnswers) (pure : List PureAnswers) (made : List Made) (s : Sources) : Type 0 where
-  pub finds : (c : Callee) → at_callee s c ≡ behind_calls (find (λ (a : TurnAnswers). goes_to c (Some a.callee)) turns) (find (λ (a : PureAnswers). goes_to c (Some a.callee)) pure) (times c made)
+  pub finds : (c : Callee) → at_callee s c ≡ after_calls (first_turns turns c) (first_cases pure c) (times c made)

@@ -6,7 +6,7 @@ ghost use Rattle.isle_core.specs.ValueViews.{values, meaning, made};
 ghost use Rattle.isle_interpreter.specs.RunViews.{held};
 ghost use Rattle.isle_interpreter.specs.Called.{called_more};
 
-use crate::calls::{answered, callee_copied};
+use crate::calls::answered;
 use crate::holding::Holding;
 use crate::sources::{Sources, sources_of};
 use isle_core::{Answers, CallMade, Callee, List, Value};
@@ -57,12 +57,13 @@ impl<'a> Calls<'a> {
         callee: &Callee,
         args: Vec<Value>,
     ) -> Result<Holding, AllocError>
-        ensures answered { IfOk result (λ h. held h ≡ answer_held (answer (meaning self.old.answers) callee.now (values args.items) (map made self.old.made))) }
+        ensures answered { IfOk result (λ h. held h
+            ≡ answer_held (answer (meaning self.old.answers) callee.now (values args.items) (map made self.old.made))) }
         ensures made { OnOk result (self.new ≡ called_more self.old callee.now args.items) }
     {
         let holding = answered(alloc, self.sources.get(callee), args.as_slice())?;
         let made = CallMade {
-            callee: callee_copied(alloc, callee)?,
+            callee: callee.copied(alloc)?,
             args: List::new(args),
         };
         self.calls.push(made)?;

@@ -9,19 +9,9 @@ ghost use Rattle.isle_interpreter.specs.Sources.{source, answered_by};
 
 use crate::holding::{Holding, Item, values_copied};
 use crate::source::Source;
-use isle_core::{Answer, Callee, List, PureAnswers, Value};
-use isle_outcomes::{copied, same, text_copied};
+use isle_core::{Answer, List, PureAnswers, Value};
+use isle_outcomes::{copied, same};
 use std::alloc::{AllocError, Global};
-
-/// Copies what a call goes to.
-pub fn callee_copied(alloc: Global, callee: &Callee) -> Result<Callee, AllocError>
-    ensures { IfOk result (λ copy. copy ≡ callee.now) }
-{
-    match callee {
-        Callee::External(name) => Ok(Callee::External(text_copied(alloc, name)?)),
-        Callee::Internal(term) => Ok(Callee::Internal(text_copied(alloc, term)?)),
-    }
-}
 
 // The item of the results of an answer.
 fn item_of(alloc: Global, results: &[Value]) -> Result<Item, AllocError>

@@ -1,56 +1,86 @@
-//! The run of a function.
+//! Answers as entries.
 
-ghost use Rattle.std.specs.Prelude.{◌≡◌, IfOk, Some, map, option_map};
-ghost use Rattle.isle_core.specs.ValueViews.{values, meaning, ran};
-ghost use Rattle.isle_tree.specs.Run.{function_of, function_run};
-ghost use Rattle.isle_tree.specs.Views.{function, program};
+ghost use Rattle.std.specs.Prelude.{◌≡◌, ◌+◌, ◌<◌, ◌↔◌, length, IsTrue, Some, option_map, slice_get};
+ghost use Rattle.isle_core.specs.ValueViews.{pure_answers, turn_answers, meaning};
+ghost use Rattle.isle_interpreter.specs.Entries.{Cases, Turns, entries, answers_for, EntryFits};
+ghost use Rattle.isle_interpreter.specs.EntryViews.{entry};
+ghost use Rattle.isle_interpreter.specs.SignatureViews.{signature};
 
-use crate::around::Around;
-use crate::called::Calls;
-use crate::flow::Flow;
-use crate::frame::Frame;
-use crate::run::run_body;
-use isle_core::{Answers, List, Outcome, Value};
-use isle_scope::Table;
-use isle_spelling::is_same;
-use isle_tree::{Function, Program};
-use std::alloc::{AllocError, Global};
+use crate::signatures::Signature;
+use isle_core::{Answers, Callee, PureAnswers, Text, TurnAnswers, Value};
 
-/// Returns the function of a term.
-pub fn function_of<'p>(fns: &'p [Function], term: &str) -> Option<&'p Function>
-    ensures { option_map (λ f. function f.now) result ≡ function_of term.now (map function fns.now) }
-{
-    for f in fns {
-        if is_same(term, f.term.as_str()) {
-            return Some(f);
-        }
-    }
-    None
+/// A constant's value, the cases of a callee, or its turns.
+#[derive(Clone, Copy)]
+pub enum Entry<'a> {
+    Constant(&'a (Text, Value)),
+    Cases(&'a PureAnswers),
+    Turns(&'a TurnAnswers),
 }
 
-/// Runs a function, where it has a run. The only error is want of memory.
-pub fn run_function(
-    alloc: Global,
-    p: &Program,
-    f: &Function,
-    args: &[Value],
-    answers: &Answers,
-) -> Result<Option<Outcome>, AllocError>
-    ensures { IfOk result (λ o. option_map ran o ≡ function_run (program p.now) (meaning answers.now) (values args.now) (Some (function f.now))) }
+/// Returns the entry of this number.
+pub fn entry_at(answers: &Answers, index: usize) -> Entry<'_>
+    requires { index < length answers.now.consts + length answers.now.pure + length answers.now.turns }
+    ensures { slice_get (entries (meaning answers.now)) index ≡ Some (entry result) }
 {
-    let around = Around {
-        program: p,
-        function: f,
-        args,
-    };
-    let locals = Table::new(alloc);
-    let calls = Calls::new(alloc, answers)?;
-    let mut frame = Frame { locals, calls };
-    match run_body(alloc, &around, f.body.as_slice(), &mut frame)? {
-        Flow::Ends(end) => {
-            let calls = List::new(frame.calls.into_vec());
-            Ok(Some(Outcome { end, calls }))
+    let consts = answers.consts.as_slice();
+    let pure = answers.pure.as_slice();
+    if index < consts.len() {
+        return Entry::Constant(&consts[index]);
+    }
+    let after_consts = index - consts.len();
+    if after_consts < pure.len() {
+        return Entry::Cases(&pure[after_consts]);
+    }
+    Entry::Turns(&answers.turns.as_slice()[after_consts - pure.len()])
+}
+
+// Whether the cases of a callee fit its signature.
+fn cases_fit(given: &PureAnswers, of: &Signature<'_>) -> bool
+    ensures { IsTrue result ↔ EntryFits (Cases (pure_answers given.now)) (signature of.now) }
+{
+    for case in given.cases.as_slice() {
+        if !of.takes(case.0.as_slice()) {
+            return false;
         }
-        Flow::Goes | Flow::Stuck => Ok(None),
+        if !of.gives(&case.1) {
+            return false;
+        }
+    }
+    of.gives(&given.rest)
+}
+
+// Whether the turns of a callee fit its signature.
+fn turns_fit(given: &TurnAnswers, of: &Signature<'_>) -> bool
+    ensures { IsTrue result ↔ EntryFits (Turns (turn_answers given.now)) (signature of.now) }
+{
+    for turn in given.turns.as_slice() {
+        if !of.gives(turn) {
+            return false;
+        }
+    }
+    of.gives(&given.rest)
+}
+
+impl<'a> Entry<'a> {
+    /// Returns what the entry answers for: a constant's value for no callee.
+    pub fn callee(&self) -> Option<&'a Callee>
+        ensures { option_map (λ callee. callee.now) result ≡ answers_for (entry self.now) }
+    {
+        match self {
+            Entry::Constant(_) => None,
+            Entry::Cases(given) => Some(&given.callee),
+            Entry::Turns(given) => Some(&given.callee),
+        }
+    }
+
+    /// Tells whether the answers of the entry fit the signature of what it answers for.
+    pub fn fits(&self, of: &Signature<'_>) -> bool
+        ensures { IsTrue result ↔ EntryFits (entry self.now) (signature of.now) }
+    {
+        match self {
+            Entry::Constant(_) => false,
+            Entry::Cases(given) => cases_fit(given, of),
+            Entry::Turns(given) => turns_fit(given, of),
+        }
     }
 }

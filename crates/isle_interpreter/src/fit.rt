@@ -1,11 +1,12 @@
 //! Whether patterns fit what is read, and what they bind.
 
-ghost use Rattle.std.specs.Prelude.{◌≡◌, ◌++◌, IfOk, OnOk, option_map, false, if◌then◌else◌};
+ghost use Rattle.std.specs.Prelude.{◌≡◌, IfOk, OnOk, option_map, false};
 ghost use Rattle.isle_core.specs.ValueViews.{value};
 ghost use Rattle.isle_tree.specs.Run as run;
 ghost use Rattle.isle_tree.specs.Run.{value_in};
-ghost use Rattle.isle_interpreter.specs.RunViews.{held, locals};
+ghost use Rattle.isle_interpreter.specs.RunViews.{held};
 ghost use Rattle.isle_interpreter.specs.Frames.{Follows};
+ghost use Rattle.isle_interpreter.specs.Steps.{FitsSo};
 
 use crate::frame::Frame;
 use crate::holding::{Holding, value_in};
@@ -45,7 +46,7 @@ fn fit_some(
     holding: Holding,
     frame: &mut Frame<'_>,
 ) -> Result<bool, AllocError>
-    ensures fits { IfOk result (λ fits. (go : run.Env → run.Flow) → (other : run.Flow) → run.fitted (run.fit_some local (held holding)) (λ bound. go (locals frame.old.locals ++ bound)) other ≡ (if fits then go (locals frame.new.locals) else other)) }
+    ensures fits { IfOk result (FitsSo (run.fit_some local (held holding)) frame.old frame.new) }
     ensures kept { IfOk result (λ fits. fits ≡ false → frame.new.locals ≡ frame.old.locals) }
     ensures calls { frame.new.calls ≡ frame.old.calls }
     ensures follows { OnOk result (Follows frame.old frame.new) }
@@ -65,7 +66,7 @@ fn fit_some(
 
 /// Binds what a pattern binds, where it fits what is read, and tells whether it does.
 pub fn fit(pat: &TPat, holding: Holding, frame: &mut Frame<'_>) -> Result<bool, AllocError>
-    ensures fits { (w : run.Around) → IfOk result (λ fits. (go : run.Env → run.Flow) → (other : run.Flow) → run.fitted (run.fit w pat.now (held holding)) (λ bound. go (locals frame.old.locals ++ bound)) other ≡ (if fits then go (locals frame.new.locals) else other)) }
+    ensures fits { (w : run.Around) → IfOk result (FitsSo (run.fit w pat.now (held holding)) frame.old frame.new) }
     ensures kept { IfOk result (λ fits. fits ≡ false → frame.new.locals ≡ frame.old.locals) }
     ensures calls { frame.new.calls ≡ frame.old.calls }
     ensures follows { OnOk result (Follows frame.old frame.new) }

@@ -4,13 +4,13 @@
 mod around;
 mod called;
 mod calls;
+mod entries;
 mod entry;
 mod fit;
 mod fitting;
 mod flow;
-mod form;
-mod forms;
 mod frame;
+mod functions;
 mod holding;
 mod reading;
 mod run;

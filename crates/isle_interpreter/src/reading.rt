@@ -67,7 +67,8 @@ pub fn read_values(
     frame: &Frame<'_>,
     reads: &[Read],
 ) -> Result<Option<Vec<Value>>, AllocError>
-    ensures { IfOk result (λ read. option_map (λ vs. values vs.items) read ≡ read_values (within around.now frame.now) (locals frame.now.locals) reads.now) }
+    ensures { IfOk result (λ read. option_map (λ vs. values vs.items) read
+        ≡ read_values (within around.now frame.now) (locals frame.now.locals) reads.now) }
 {
     let mut read = Vec::new(alloc);
     for next in reads {

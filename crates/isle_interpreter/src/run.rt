@@ -1,6 +1,6 @@
 //! The run of a function's statements.
 
-ghost use Rattle.std.specs.Prelude.{◌≡◌, ◌++◌, IfOk, OnOk};
+ghost use Rattle.std.specs.Prelude.{◌≡◌, IfOk, OnOk};
 ghost use Rattle.std.specs.Prelude.{Some};
 ghost use Rattle.isle_core.specs.Answered.{an_option};
 ghost use Rattle.isle_core.specs.Value.{GivesSome};
@@ -10,6 +10,7 @@ ghost use Rattle.isle_tree.specs.Views.{stmt, body};
 ghost use Rattle.isle_interpreter.specs.RunViews.{held, locals, within, state, flow, tested};
 ghost use Rattle.isle_interpreter.specs.declared.frame.Frame.{Frame};
 ghost use Rattle.isle_interpreter.specs.Frames.{Follows};
+ghost use Rattle.isle_interpreter.specs.Steps.{RunsSo, run_inside, run_where, test};
 
 use crate::around::Around;
 use crate::fit::fit;
@@ -52,7 +53,8 @@ fn run_call(
     local: usize,
     call: &TCall,
 ) -> Result<Flow, AllocError>
-    ensures runs { IfOk result (λ f. run.run_call (within around.now frame.old) local call.now.callee (run.read_values (within around.now frame.old) (locals frame.old.locals) call.now.args) (locals frame.old.locals) (state frame.old) ≡ flow f frame.new) }
+    ensures runs { IfOk result (RunsSo (λ w env. run.run_call w local call.now.callee (run.read_values w env call.now.args) env)
+        around.now frame.old frame.new) }
     ensures follows { OnOk result (Follows frame.old frame.new) }
 {
     let read = match read_values(alloc, around, frame, call.args.as_slice())? {
@@ -80,7 +82,8 @@ fn run_try(frame: &mut Frame<'_>, local: usize, holding: Holding) -> Result<Flow
 
 // Binds a local to an option of a value.
 fn run_some(frame: &mut Frame<'_>, local: usize, holding: Holding) -> Result<Flow, AllocError>
-    ensures runs { IfOk result (λ f. run.on_value (held holding) (λ v. run.Goes (run.bind (locals frame.old.locals) local (an_option (Some v))) (state frame.old)) ≡ flow f frame.new) }
+    ensures runs { IfOk result (λ f. run.on_value (held holding) (λ v. run.Goes (run.bind (locals frame.old.locals) local (an_option (Some v))) (state frame.old))
+        ≡ flow f frame.new) }
     ensures follows { OnOk result (Follows frame.old frame.new) }
 {
     match holding {
@@ -105,7 +108,7 @@ fn run_let(
     local: usize,
     computed: &TExpr,
 ) -> Result<Flow, AllocError>
-    ensures runs { IfOk result (λ f. run.run_let (within around.now frame.old) local computed.now (locals frame.old.locals) (state frame.old) ≡ flow f frame.new) }
+    ensures runs { IfOk result (RunsSo (λ w. run.run_let w local computed.now) around.now frame.old frame.new) }
     ensures follows { OnOk result (Follows frame.old frame.new) }
 {
     match computed {
@@ -161,7 +164,7 @@ fn run_return(
     frame: &Frame<'_>,
     given: &TExpr,
 ) -> Result<Flow, AllocError>
-    ensures { IfOk result (λ f. run.run_return (within around.now frame.now) given.now (locals frame.now.locals) (state frame.now) ≡ flow f frame.now) }
+    ensures { IfOk result (RunsSo (λ w. run.run_return w given.now) around.now frame.now frame.now) }
 {
     match given {
         TExpr::Read(read) => Ok(ends_with(read_value(alloc, around, frame, read)?)),
@@ -191,7 +194,7 @@ fn test(
     a: &Operand,
     b: &Operand,
 ) -> Result<Option<bool>, AllocError>
-    ensures { IfOk result (λ t. t ≡ tested (value_in (run.value_of (within around.now frame.now) (locals frame.now.locals) a.now)) (value_in (run.value_of (within around.now frame.now) (locals frame.now.locals) b.now))) }
+    ensures { IfOk result (λ t. t ≡ test (within around.now frame.now) (locals frame.now.locals) a.now b.now) }
 {
     let one = value_of(alloc, around, frame, a)?;
     let other = value_of(alloc, around, frame, b)?;
@@ -207,7 +210,7 @@ fn run_stmt(
     statement: &Stmt,
     frame: &mut Frame<'_>,
 ) -> Result<Flow, AllocError>
-    ensures runs { IfOk result (λ f. run.run_stmt (within around.now frame.old) (stmt statement.now) (locals frame.old.locals) (state frame.old) ≡ flow f frame.new) }
+    ensures runs { IfOk result (RunsSo (λ w. run.run_stmt w (stmt statement.now)) around.now frame.old frame.new) }
     ensures follows { OnOk result (Follows frame.old frame.new) }
 {
     match statement {
@@ -219,7 +222,7 @@ fn run_stmt(
         },
         Stmt::IfLet(pat, read, inside) => {
             let holding = read_value(alloc, around, frame, read)?;
-            run_fitting(alloc, around, pat, holding, inside.as_slice(), frame)
+            run_where(alloc, around, pat, holding, inside.as_slice(), frame)
         }
         Stmt::Return(given) => run_return(alloc, around, frame, given),
         Stmt::Tail(None) => Ok(Flow::Ends(End::Nothing)),
@@ -242,7 +245,7 @@ fn run_inside(
     statements: &[Stmt],
     frame: &mut Frame<'_>,
 ) -> Result<Flow, AllocError>
-    ensures runs { IfOk result (λ f. run.behind (locals frame.old.locals) (run.run_body (within around.now frame.old) (body statements.now) (locals frame.old.locals) (state frame.old)) ≡ flow f frame.new) }
+    ensures runs { IfOk result (RunsSo (run_inside (body statements.now)) around.now frame.old frame.new) }
     ensures kept { OnOk result (frame.new.locals ≡ frame.old.locals) }
     ensures follows { OnOk result (Follows frame.old frame.new) }
 {
@@ -254,7 +257,7 @@ fn run_inside(
 
 // Runs statements where a pattern fits what is read, and leaves what they and the pattern bound.
 #[cycle(running)]
-fn run_fitting(
+fn run_where(
     alloc: Global,
     around: &Around<'_>,
     pat: &TPat,
@@ -262,7 +265,7 @@ fn run_fitting(
     statements: &[Stmt],
     frame: &mut Frame<'_>,
 ) -> Result<Flow, AllocError>
-    ensures runs { IfOk result (λ f. run.fitted (run.fit (within around.now frame.old) pat.now (held holding)) (λ bound. run.behind (locals frame.old.locals) (run.run_body (within around.now frame.old) (body statements.now) (locals frame.old.locals ++ bound) (state frame.old))) (run.Goes (locals frame.old.locals) (state frame.old)) ≡ flow f frame.new) }
+    ensures runs { IfOk result (RunsSo (run_where pat.now (held holding) (body statements.now)) around.now frame.old frame.new) }
     ensures follows { OnOk result (Follows frame.old frame.new) }
 {
     let count = frame.locals.len();
@@ -283,7 +286,7 @@ pub fn run_body(
     statements: &[Stmt],
     frame: &mut Frame<'_>,
 ) -> Result<Flow, AllocError>
-    ensures runs { IfOk result (λ f. run.run_body (within around.now frame.old) (body statements.now) (locals frame.old.locals) (state frame.old) ≡ flow f frame.new) }
+    ensures runs { IfOk result (RunsSo (λ w. run.run_body w (body statements.now)) around.now frame.old frame.new) }
     ensures follows { OnOk result (Follows frame.old frame.new) }
 {
     for statement in statements {

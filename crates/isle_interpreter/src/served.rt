@@ -1,4 +1,4 @@
-//! The callees that forms answer for.
+//! The callees that entries answer for.
 
 ghost use Rattle.std.specs.Prelude.{◌≡◌, ◌||◌, ℕ, List, false, not, IfOk, OnOk, Some};
 ghost use Rattle.std.specs.Str.{bytes_eq};
@@ -10,7 +10,7 @@ use isle_core::Callee;
 use std::alloc::{AllocError, Global};
 use std::collections::BTreeSet;
 
-/// The callees that forms answer for, each found by its name.
+/// The callees that entries answer for, each found by its name.
 #[derive(Drop)]
 pub struct Served<'a> {
     externals: BTreeSet<&'a str>,

@@ -2,7 +2,7 @@
 
 ghost use Rattle.std.specs.Prelude.{◌≡◌, [], drop, map, option_map, OnOk, IfOk};
 ghost use Rattle.isle_core.specs.ValueViews.{pure_answers, turn_answers};
-ghost use Rattle.isle_interpreter.specs.Sources.{source, later, at_callee, TakesAt, Takes, Puts, FindsSources};
+ghost use Rattle.isle_interpreter.specs.Sources.{source, after_call, at_callee, TakesAt, Takes, Puts, FindsSources};
 
 use crate::source::Source;
 use isle_core::{Answer, Answers, Callee};
@@ -26,9 +26,9 @@ fn but_first<'a>(turns: &'a [Answer]) -> &'a [Answer]
     }
 }
 
-// The answers behind a call.
-fn behind<'a>(given: Source<'a>) -> Source<'a>
-    ensures { source result ≡ later (source given.entry) }
+// The answers after a call.
+fn after_call<'a>(given: Source<'a>) -> Source<'a>
+    ensures { source result ≡ after_call (source given.entry) }
 {
     match given {
         Source::Cases(answers) => Source::Cases(answers),
@@ -41,7 +41,7 @@ fn take_at<'a>(found: &mut BTreeMap<&'a str, Source<'a>>, name: &str)
     ensures { TakesAt found.old found.new name.now }
 {
     match found.get_mut(name) {
-        Some(there) => *there = behind(*there),
+        Some(source) => *source = after_call(*source),
         None => {}
     }
 }

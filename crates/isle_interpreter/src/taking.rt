@@ -10,7 +10,7 @@ ghost use Rattle.isle_interpreter.specs.Judged.{IsEarly};
 ghost use Rattle.isle_interpreter.specs.Refusals.{IsRefused};
 ghost use Rattle.isle_interpreter.specs.Signatures.{type_names, AreNamed};
 
-use crate::entry::function_of;
+use crate::functions::function_of;
 use crate::run_error::RunError;
 use crate::typed::first_wrong;
 use isle_core::Value;

@@ -12,7 +12,7 @@ ghost use Rattle.isle_interpreter.specs.declared.run_error.RunError.{RunError};
 ghost use Rattle.isle_interpreter.specs.declared.run_error.RunError.TheVariants.{Memory};
 
 use crate::fitting::run_fitting;
-use crate::forms::try_forms;
+use crate::entries::try_entries;
 use crate::run_error::RunError;
 use crate::taking::taking;
 use isle_core::{Answers, Outcome, Value};
@@ -34,8 +34,8 @@ pub fn takes(p: &Program, term: &str, args: &[Value]) -> Result<(), RunError>
 /// Returns the run of the function of the term of this name under the answers.
 ///
 /// The errors in the order in which they are asked: the program has no function of the term; it takes another number of
-/// arguments; the first argument that is no value of its parameter's type; the first form of the answers that is wrong, or
-/// the number of all forms where something that the function calls has none. Beside these, want of memory.
+/// arguments; the first argument that is no value of its parameter's type; the first entry of the answers that is wrong, or
+/// the number of all entries where something that the function calls has none. Beside these, want of memory.
 pub fn run_term(
     alloc: Global,
     p: &Program,
@@ -49,13 +49,14 @@ pub fn run_term(
     ensures may { OnOk result (Runs (program p.now) name.now (values args.now) (meaning answers.now)) }
     ensures refused { IfErr result (λ e. (e ≡ Memory) ⊎ IsRefused (program p.now) name.now (values args.now) (meaning answers.now) e) }
     ensures never { OnOk result ((d : RunError) → IsRefused (program p.now) name.now (values args.now) (meaning answers.now) d → ⊥) }
-    ensures only { IfErr result (λ e. (d : RunError) → IsRefused (program p.now) name.now (values args.now) (meaning answers.now) d → (e ≡ Memory) ⊎ (d ≡ e)) }
+    ensures only { IfErr result (λ e. (d : RunError) → IsRefused (program p.now) name.now (values args.now) (meaning answers.now) d
+        → (e ≡ Memory) ⊎ (d ≡ e)) }
 {
     let f = match taking(p.fns.as_slice(), name, args) {
         Ok(f) => f,
         Err(e) => return Err(e),
     };
-    match try_forms(alloc, p, f, answers) {
+    match try_entries(alloc, p, f, answers) {
         Ok(()) => run_fitting(alloc, p, f, name, args, answers),
         Err(e) => Err(e),
     }

@@ -3,7 +3,7 @@
 ghost use Rattle.std.specs.Prelude.{◌≡◌, ◌↔◌, ℕ, List, length, IsTrue};
 ghost use Rattle.isle_core.specs.ValueViews.{value, values, answer};
 ghost use Rattle.isle_interpreter.specs.Signatures.{type_names, IsNamed, AreNamed, AnswerFits};
-ghost use Rattle.isle_interpreter.specs.Told.{Told};
+ghost use Rattle.isle_interpreter.specs.FirstWrong.{IsFirstWrong};
 
 use isle_core::{Answer, ReturnKind, Text, Value};
 use isle_spelling::{int_type_named, is_same};
@@ -43,7 +43,8 @@ pub fn are_named(names: &[Text], given: &[Value]) -> bool
 /// Tells whether an answer is of the kind, with values of the types of these names.
 #[tactic(auto, using(isle_outcomes::proofs::SeesValues::sees_values))]
 pub fn answer_fits(results: &[Text], kind: ReturnKind, given: &Answer) -> bool
-    ensures { (params : List (List ℕ)) → IsTrue result ↔ AnswerFits (record { params = params; results = results.now; kind = kind }) (answer given.now) }
+    ensures { (params : List (List ℕ)) → IsTrue result
+        ↔ AnswerFits (record { params = params; results = results.now; kind = kind }) (answer given.now) }
 {
     match given {
         Answer::Plain(found) => {
@@ -60,7 +61,7 @@ pub fn answer_fits(results: &[Text], kind: ReturnKind, given: &Answer) -> bool
 /// Returns the number of the first argument that is no value of its parameter's type.
 pub fn first_wrong(params: &[Ty], args: &[Value]) -> Option<usize>
     requires { length args.now ≡ length params.now }
-    ensures { Told (type_names params.now) (values args.now) result }
+    ensures { IsFirstWrong (type_names params.now) (values args.now) result }
 {
     for index in 0..params.len() {
         if !is_named(params[index].name.as_str(), &args[index]) {

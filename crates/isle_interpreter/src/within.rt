@@ -1,4 +1,4 @@
-//! Whether statements call only callees that forms answer for.
+//! Whether statements call only callees that entries answer for.
 
 ghost use Rattle.std.specs.Prelude.{◌≡◌};
 ghost use Rattle.std.specs.List.{list_all};

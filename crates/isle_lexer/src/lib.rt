@@ -14,4 +14,4 @@ pub use gathering::{LexFail, tokens};
 pub use integer::{Signed, int_of, signed_of};
 pub use lexer::Lexer;
 pub use token::{Tok, Token};
-pub use word::{Kind, is_flag, is_let, is_name, kind_of, text_of};
+pub use word::{Kind, is_flag, is_let, is_name, kind_of};

@@ -1,10 +1,8 @@
-ghost use Rattle.std.specs.Prelude.{◌≡◌, IfOk};
+ghost use Rattle.std.specs.Prelude.{◌≡◌};
 ghost use Rattle.isle_lexer.specs.Word.{kind, symbol_kind, names, is_flag, is_let};
 ghost use Rattle.isle_lexer.specs.WordViews.{kind_seen};
 
 use crate::integer::int_of;
-use isle_core::Text;
-use std::alloc::{AllocError, Global};
 
 /// What a word is: an integer, or a symbol of one of four kinds.
 #[derive(Clone, Copy, Debug, PartialEq, Eq)]
@@ -58,13 +56,6 @@ pub fn is_name(word: &str) -> bool
         Kind::Truth(_) | Kind::Underscore | Kind::Plain => true,
         Kind::Number(_) | Kind::Malformed | Kind::Dollar => false,
     }
-}
-
-/// Returns the text of a word.
-pub fn text_of(alloc: Global, word: &str) -> Result<Text, AllocError>
-    ensures { IfOk result (λ text. text ≡ word.now) }
-{
-    Ok(Text::new(String::from_str(alloc, word)?))
 }
 
 /// Tells whether a word is a flag where it stands directly behind `decl`.

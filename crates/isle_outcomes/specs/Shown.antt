@@ -20,8 +20,18 @@ number_text (negsuc n) = codes "-" ++ numeral 10 (suc n)
 
 -- the number that a value of the type holds: u128 is held as its 128 signed bits
 abbrev pub shown : IntType → ℤ → ℤ
+shown int.U8 n = n
+shown int.U16 n = n
+shown int.U32 n = n
+shown int.U64 n = n
 shown int.U128 n = pos (cast_unsigned w128 n)
-shown ty n = n
+shown int.USize n = n
+shown int.I8 n = n
+shown int.I16 n = n
+shown int.I32 n = n
+shown int.I64 n = n
+shown int.I128 n = n
+shown int.ISize n = n
 
 -- what stands before the fields of a variant
 abbrev pub variant_head : (ty variant : List ℕ) → List ℕ

@@ -6,4 +6,4 @@ mod shown;
 mod value;
 
 pub use lines::{end_line, push_call};
-pub use value::{copied, same, text_copied};
+pub use value::{copied, same};

@@ -84,7 +84,7 @@ fn push_variant(
     ensures { OnOk result (string_bytes out.new ≡ string_bytes out.old ++ value_text (Variant ty.now variant.now (fields given.now))) }
 {
     push_variant_head(out, ty, variant)?;
-    push_behind(out, given)
+    push_closed(out, given)
 }
 
 // Appends a struct.
@@ -93,12 +93,12 @@ fn push_struct(out: &mut String, ty: &str, given: &[(Text, Value)]) -> Result<()
     ensures { OnOk result (string_bytes out.new ≡ string_bytes out.old ++ value_text (Struct ty.now (fields given.now))) }
 {
     push_struct_head(out, ty)?;
-    push_behind(out, given)
+    push_closed(out, given)
 }
 
 // Appends the fields of a value, and the parenthesis behind them.
 #[cycle(pushing)]
-fn push_behind(out: &mut String, given: &[(Text, Value)]) -> Result<(), AllocError>
+fn push_closed(out: &mut String, given: &[(Text, Value)]) -> Result<(), AllocError>
     ensures { OnOk result (string_bytes out.new ≡ string_bytes out.old ++ (fields_text (fields given.now) ++ codes ")")) }
 {
     push_fields(out, given)?;

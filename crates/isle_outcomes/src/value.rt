@@ -11,13 +11,6 @@ ghost use Rattle.isle_outcomes.specs.Fields.{fields};
 use isle_core::{IntType, List, Text, Value};
 use std::alloc::{AllocError, Global};
 
-/// Copies a text.
-pub fn text_copied(alloc: Global, text: &Text) -> Result<Text, AllocError>
-    ensures { IfOk result (λ copy. copy ≡ text.now) }
-{
-    Ok(Text::new(String::from_str(alloc, text.as_str())?))
-}
-
 /// Copies a value.
 pub fn copied(alloc: Global, given: &Value) -> Result<Value, AllocError>
     ensures { IfOk result (λ copy. copy ≡ given.now) }
@@ -25,22 +18,22 @@ pub fn copied(alloc: Global, given: &Value) -> Result<Value, AllocError>
     match given {
         Value::Bool(truth) => Ok(Value::Bool(*truth)),
         Value::Int(ty, number) => Ok(Value::Int(*ty, *number)),
-        Value::Opaque(ty, number) => Ok(Value::Opaque(text_copied(alloc, ty)?, *number)),
+        Value::Opaque(ty, number) => Ok(Value::Opaque(Text::copied(alloc, ty.as_str())?, *number)),
         Value::Variant(ty, variant, fields) => {
             let mut copies = Vec::new(alloc);
             for field in fields.as_slice() {
-                copies.push((text_copied(alloc, &field.0)?, copied(alloc, &field.1)?))?;
+                copies.push((Text::copied(alloc, field.0.as_str())?, copied(alloc, &field.1)?))?;
             }
-            let ty = text_copied(alloc, ty)?;
-            let variant = text_copied(alloc, variant)?;
+            let ty = Text::copied(alloc, ty.as_str())?;
+            let variant = Text::copied(alloc, variant.as_str())?;
             Ok(Value::Variant(ty, variant, List::new(copies)))
         }
         Value::Struct(ty, fields) => {
             let mut copies = Vec::new(alloc);
             for field in fields.as_slice() {
-                copies.push((text_copied(alloc, &field.0)?, copied(alloc, &field.1)?))?;
+                copies.push((Text::copied(alloc, field.0.as_str())?, copied(alloc, &field.1)?))?;
             }
-            Ok(Value::Struct(text_copied(alloc, ty)?, List::new(copies)))
+            Ok(Value::Struct(Text::copied(alloc, ty.as_str())?, List::new(copies)))
         }
     }
 }

@@ -1,12 +1,11 @@
 -- Comment lines spell no token but comments.
 use Rattle.std.proofs.Common.{◌≡◌, ℕ, List, [], ◌∷◌, ◌++◌, Bool, true, false, cond, eqb, refl, sym, ap, ◌∙◌, append_assoc}
-use Rattle.std.specs.Prelude.{fold, filter}
+use Rattle.std.specs.Prelude.{fold}
 use Rattle.std.specs.List.{list_all}
 use Rattle.std.proofs.lemmas.Bool.{and_parts, and_from}
 use Rattle.isle_printer.specs.Token.{Token, Comment, Between, InComment, is_read, without_comments, begun, step, scan, finished, tokens_of}
 use Rattle.isle_printer.specs.Comment.{is_line, are_lines, comment_lines}
-use Rattle.isle_printer.proofs.Scans.{scan-append}
-use Rattle.isle_printer.proofs.Behind.{tokens-behind}
+use Rattle.isle_printer.proofs.After.{tokens-after}
 
 no_end : (x y : Bool) → cond x false y ≡ true → (x ≡ false) × (y ≡ true)
 no_end true y h = absurd cc
@@ -33,7 +32,7 @@ scan-comment_alone text h = scan-comment text [] h
 tokens-comment : (text rest : List ℕ) → is_line text ≡ true → tokens_of (47 ∷ 47 ∷ (text ++ 10 ∷ rest)) ≡ Comment ∷ tokens_of rest
 tokens-comment text rest h =
     ap tokens_of (ap (λ t. 47 ∷ 47 ∷ t) (sym (append_assoc text (10 ∷ []) rest)))
-    ∙ tokens-behind (47 ∷ 47 ∷ (text ++ 10 ∷ [])) rest (ap (λ s. s.state) (scan-comment_alone text h))
+    ∙ tokens-after (47 ∷ 47 ∷ (text ++ 10 ∷ [])) rest (ap (λ s. s.state) (scan-comment_alone text h))
     ∙ ap (λ s. finished s ++ tokens_of rest) (scan-comment_alone text h)
 
 -- the tokens behind comment lines are all that is read

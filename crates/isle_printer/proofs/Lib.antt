@@ -2,6 +2,6 @@ pub mod Bytes
 pub mod Numerals
 pub mod Readback
 pub mod Scans
-pub mod Behind
+pub mod After
 pub mod Quotes
 pub mod Comments

@@ -83,13 +83,9 @@ pub numbered_is_word : (prefix : List ℕ) (b n : ℕ) → 2 ≤ b → b ≤ 16 
 numbered_is_word prefix b n low high h =
     word_from (prefix ++ numeral b n) (omega (arith, length-append prefix (numeral b n), numeral_not_empty b n low)) (list_all-join prefix _ h (list_all-numeral b n low high))
 
--- a number alone is a word
-pub numeral_is_word : (b n : ℕ) → 2 ≤ b → b ≤ 16 → is_word (numeral b n) ≡ true
-numeral_is_word b n low high = numbered_is_word [] b n low high refl
-
 -- a number between letters is a word with them
-pub between_is_word : (before : List ℕ) (b n : ℕ) (behind : List ℕ) → 2 ≤ b → b ≤ 16 → list_all is_word_byte before ≡ true → list_all is_word_byte behind ≡ true → is_word (before ++ (numeral b n ++ behind)) ≡ true
-between_is_word before b n behind low high h k =
-    word_from (before ++ (numeral b n ++ behind))
-    (omega (arith, length-append before (numeral b n ++ behind), length-append (numeral b n) behind, numeral_not_empty b n low))
-    (list_all-join before _ h (list_all-join (numeral b n) behind (list_all-numeral b n low high) k))
+pub between_is_word : (prefix : List ℕ) (b n : ℕ) (suffix : List ℕ) → 2 ≤ b → b ≤ 16 → list_all is_word_byte prefix ≡ true → list_all is_word_byte suffix ≡ true → is_word (prefix ++ (numeral b n ++ suffix)) ≡ true
+between_is_word prefix b n suffix low high h k =
+    word_from (prefix ++ (numeral b n ++ suffix))
+    (omega (arith, length-append prefix (numeral b n ++ suffix), length-append (numeral b n) suffix, numeral_not_empty b n low))
+    (list_all-join prefix _ h (list_all-join (numeral b n) suffix (list_all-numeral b n low high) k))

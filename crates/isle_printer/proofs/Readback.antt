@@ -1,11 +1,10 @@
 -- A number is read again from its digits.
-use Rattle.std.proofs.Common.{◌≡◌, ℕ, zero, suc, ◌<◌, ◌≤◌, List, [], ◌∷◌, map, Bool, true, false, cond, Some, None, refl, sym, ap, ◌∙◌, arith}
+use Rattle.std.proofs.Common.{◌≡◌, ℕ, zero, suc, ◌<◌, ◌≤◌, List, [], ◌∷◌, map, Some, refl, arith}
 use Rattle.std.specs.Int.Digits.{digits_of, number_from_digits, AllBelowBase}
 use Rattle.std.proofs.lemmas.Int.Digits.{number_digits_of, all_below_base_digits_of}
 use Rattle.std.proofs.lemmas.Bool.Decides.{nat_tests}
-use Rattle.isle_printer.specs.Bytes.{same_bytes}
 use Rattle.isle_printer.specs.Number.{numeral, glyph, digit_of, numeral_of}
-use Rattle.isle_printer.proofs.Bytes.{same_bytes_refl, same_bytes_sound}
+use Rattle.isle_printer.proofs.Bytes.{same_bytes_refl}
 use Rattle.isle_printer.proofs.Numerals.{below_sixteen}
 
 digit_of-glyph : (d : ℕ) → d < 16 → digit_of (glyph d) ≡ d
@@ -25,15 +24,3 @@ value_again b (suc n) low high =
 pub numeral_again : (b n : ℕ) → 2 ≤ b → b ≤ 16 → numeral_of b (numeral b n) ≡ Some n
 unfolding numeral_of
 numeral_again b n low high = rw (value_again b n low high, same_bytes_refl (numeral b n)) refl
-
-chosen : (t : Bool) (m n : ℕ) → cond t (Some m) None ≡ Some n → (t ≡ true) × (m ≡ n)
-chosen true m n h = (refl, cc)
-chosen false m n h = absurd cc
-
--- a number is read from its own spelling alone
-pub numeral_of_sound : (b : ℕ) (ds : List ℕ) (n : ℕ) → numeral_of b ds ≡ Some n → numeral b n ≡ ds
-unfolding numeral_of
-numeral_of_sound b ds n h =
-    let m = number_from_digits b (map digit_of ds) in
-    let parts = chosen (same_bytes (numeral b m) ds) m n h in
-    ap (numeral b) (sym parts.1) ∙ same_bytes_sound (numeral b m) ds parts.0

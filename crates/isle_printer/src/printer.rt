@@ -94,7 +94,7 @@ fn is_blank(b: u8) -> bool
 }
 
 // What stays open behind a blank, or behind a mark of one byte.
-fn behind(last: u8) -> Last
+fn left_open(last: u8) -> Last
     ensures { Settles result (left_open last) }
 {
     if is_blank(last) {
@@ -236,29 +236,25 @@ impl Printer {
         Ok(())
     }
 
-    /// Prints one word: a number between two parts, as 0xff_u8. What is printed after an error is left open.
-    pub fn number(
-        &mut self,
-        before: &str,
-        n: u128,
-        base: u8,
-        behind: &str,
-    ) -> Result<(), AllocError>
+    /// Prints one word: a number with its type, as 0xff_u8, the prefix before the digits. What is printed after an error is
+    /// left open.
+    pub fn number(&mut self, prefix: &str, n: u128, base: u8, ty: &str) -> Result<(), AllocError>
         requires low { 2 ≤ base }
         requires high { base ≤ 16 }
-        requires before { IsTrue (list_all is_word_byte before.now) }
-        requires behind { IsTrue (list_all is_word_byte behind.now) }
-        ensures { OnOk result (self.new ≡ self.old ++ Word (before.now ++ (numeral base n ++ behind.now)) ∷ []) }
+        requires prefix { IsTrue (list_all is_word_byte prefix.now) }
+        requires ty { IsTrue (list_all is_word_byte ty.now) }
+        ensures { OnOk result (self.new ≡ self.old ++ Word (prefix.now ++ (numeral base n ++ 95 ∷ ty.now)) ∷ []) }
     {
         self.parts.clear();
-        self.parts.push_str(before)?;
+        self.parts.push_str(prefix)?;
         push_numeral(&mut self.parts, n, base)?;
-        self.parts.push_str(behind)?;
+        self.parts.push_str("_")?;
+        self.parts.push_str(ty)?;
         push_word(&mut self.text, &mut self.last, &self.parts)
     }
 
     /// Prints one word: some letters and behind them a number, as v12. What is printed after an error is left open.
-    pub fn numbered(&mut self, _alloc: Global, prefix: &str, n: usize) -> Result<(), AllocError>
+    pub fn numbered(&mut self, prefix: &str, n: usize) -> Result<(), AllocError>
         requires { IsTrue (list_all is_word_byte prefix.now) }
         ensures { OnOk result (self.new ≡ self.old ++ Word (prefix.now ++ numeral 10 n) ∷ []) }
     {
@@ -269,7 +265,7 @@ impl Printer {
     }
 
     /// Prints a text between quotes, whatever it holds. What is printed after an error is left open.
-    pub fn quoted(&mut self, _alloc: Global, text: &str) -> Result<(), AllocError>
+    pub fn quoted(&mut self, text: &str) -> Result<(), AllocError>
         ensures { OnOk result (self.new ≡ self.old ++ Quoted text.now ∷ []) }
     {
         quote(&mut self.parts, text)?;
@@ -289,7 +285,7 @@ impl Printer {
         let bytes = piece.as_bytes();
         part_from(&mut self.text, &mut self.last, bytes[0])?;
         self.text.push_str(piece)?;
-        self.last = behind(bytes[bytes.len() - 1]);
+        self.last = left_open(bytes[bytes.len() - 1]);
         Ok(())
     }
 

@@ -5,7 +5,7 @@ ghost use Rattle.isle_reading.specs.Views.{left, Reads};
 
 use crate::cursor::{Fail, Tokens};
 use isle_core::Text;
-use isle_lexer::{is_name, text_of};
+use isle_lexer::is_name;
 use std::alloc::Global;
 
 impl<'t> Tokens<'t> {
@@ -26,7 +26,7 @@ impl<'t> Tokens<'t> {
         match self.next_name() {
             Some(word) => {
                 self.skip();
-                Ok(text_of(alloc, word)?)
+                Ok(Text::copied(alloc, word)?)
             }
             None => Err(Fail::At(self.len())),
         }

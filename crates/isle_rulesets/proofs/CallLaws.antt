@@ -13,7 +13,7 @@ use Rattle.isle_core.proofs.Contained.{head_contained, tail_contained, contained
 use Rattle.isle_rulesets.specs.declared.numbering.Key.{Key}
 use Rattle.isle_rulesets.specs.declared.numbering.Key.TheVariants as key
 use Rattle.isle_rulesets.specs.Numbering.{key_path, Numbered, Extends, next_call, Calls, IsKeyed, IsCallUpTo, AreNumbered}
-use Rattle.isle_rulesets.proofs.NumberingLaws.{get_push, get_last, get_either, push_extends, extends_more, once_push, place_of, long_paths}
+use Rattle.isle_rulesets.proofs.NumberingLaws.{get_push, get_last, get_either, push_extends, one_longer, extends_more, once_push, place_of, long_paths}
 use Rattle.isle_rulesets.proofs.PatternTestLaws.{at_get}
 
 -- ---- kinds of paths
@@ -45,12 +45,13 @@ last_there : (bs items : List Binding) (p : Path) (m : ℕ) → paths_of items �
 last_there bs items p m paths long = ap (λ ps. slice_get ps m) paths ∙ ap (slice_get (paths_of bs ++ p ∷ [])) (long ∙ sym (long_paths bs)) ∙ get_last (paths_of bs) p
 
 -- a numbering behind a path that is new
-call_pushed : (n : Numbered) (items : List Binding) (numbers : Key → Option BindingId) (p : Path) (k : ℕ) → AreNumbered n numbers → paths_of items ≡ paths_of n.bindings ++ p ∷ [] → n.calls ≤ k → IsCallUpTo k p → (Contains (paths_of n.bindings) p → ⊥)
+call_pushed : (n : Numbered) (items : List Binding) (numbers : Key → Option BindingId) (p : Path) (k : ℕ) → AreNumbered n numbers → paths_of items ≡ paths_of n.bindings ++ p ∷ [] → n.calls ≤ k → k ≤ length items → IsCallUpTo k p → (Contains (paths_of n.bindings) p → ⊥)
     → AreNumbered (record { bindings = items; calls = k }) numbers
-call_pushed n items numbers p k a paths le is new = record {
+call_pushed n items numbers p k a paths le few is new = record {
   found = λ q b e. subst (λ ps. slice_get ps b.0 ≡ Some (key_path q)) (sym paths) (get_push (paths_of n.bindings) p b.0 (key_path q) (a.found q b e));
   kinds = λ b q e. ⊎_elim (λ h. ⊎_elim (λ o. inl o) (λ c. inr (up_to_more n.calls k q le c)) (a.kinds b q h)) (λ h. inr (subst (IsCallUpTo k) h.1 is)) (get_either (paths_of n.bindings) p b q (subst (λ ps. slice_get ps b ≡ Some q) paths e));
   once = subst EachOnce (sym paths) (once_push (paths_of n.bindings) p a.once new);
+  counted = few;
 }
 
 -- no path is of a later call
@@ -65,7 +66,7 @@ none_later n numbers p a no_key no_call c =
 pub call_more : (old : Numbered) (items : List Binding) (numbers : Key → Option BindingId) (term : TermId) (bs : List BindingId) (m k : ℕ) → AreNumbered old numbers → k ≡ suc old.calls → m ≡ length old.bindings
     → items ≡ old.bindings ++ binding.Constructor term bs k ∷ [] → AreNumbered (record { bindings = items; calls = k }) numbers × Calls old (record { bindings = items; calls = k }) (next_call old term bs) false (record { 0 = m }) (record { 0 = m })
 call_more old items numbers term bs m k a count long is = (
-  call_pushed old items numbers p k a paths le up (none_later old numbers p a (λ q. key_no_call q term qs (suc old.calls)) (λ h. omega arith)),
+  call_pushed old items numbers p k a paths le few up (none_later old numbers p a (λ q. key_no_call q term qs (suc old.calls)) (λ h. omega arith)),
   record {
     found = last_there old.bindings items p m paths long;
     value = last_there old.bindings items p m paths long;
@@ -87,6 +88,9 @@ call_more old items numbers term bs m k a count long is = (
     le : old.calls ≤ k
     le = omega arith
 
+    few : k ≤ length items
+    few = let c = a.counted in let l = one_longer old.bindings items (binding.Constructor term bs k) is in omega arith
+
     up : suc old.calls ≤ k
     up = omega arith
 
@@ -95,7 +99,7 @@ pub inner_more : (old mid : Numbered) (items : List Binding) (numbers : Key → 
     → value.0 ≡ length mid.bindings → items ≡ mid.bindings ++ binding.MatchSome call ∷ []
     → AreNumbered (record { bindings = items; calls = mid.calls }) numbers × Calls old (record { bindings = items; calls = mid.calls }) (next_call old term bs) true call value
 inner_more old mid items numbers term bs call value a b h long is = (
-  call_pushed mid items numbers (Inner p) mid.calls b paths le up new,
+  call_pushed mid items numbers (Inner p) mid.calls b paths le few up new,
   record {
     found = more.kept call.0 p h.found;
     value = last_there mid.bindings items (Inner p) value.0 paths long;
@@ -117,6 +121,9 @@ inner_more old mid items numbers term bs call value a b h long is = (
 
     le : mid.calls ≤ mid.calls
     le = omega arith
+
+    few : mid.calls ≤ length items
+    few = let c = b.counted in let l = one_longer mid.bindings items (binding.MatchSome call) is in omega arith
 
     up : suc old.calls ≤ mid.calls
     up = let e = h.calls in omega arith

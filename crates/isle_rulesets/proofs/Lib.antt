@@ -4,5 +4,6 @@ pub mod RuleTests
 pub mod CallLaws
 pub mod RightSideLaws
 pub mod CallsOnce
+pub mod NoIterators
 pub mod RuleSetLaws
 pub mod GroupingLaws

@@ -125,6 +125,9 @@ long_paths bs = omega (arith, paths_length bs [])
 pub push_extends : (ps qs : List Path) (p : Path) → qs ≡ ps ++ p ∷ [] → Extends ps qs
 push_extends ps qs p e = record { kept = λ b q h. subst (λ rs. slice_get rs b ≡ Some q) (sym e) (get_push ps p b q h) }
 
+pub one_longer : (bs items : List Binding) (b : Binding) → items ≡ bs ++ b ∷ [] → length items ≡ suc (length bs)
+one_longer bs items b is = ap length is ∙ simp length-append (omega arith)
+
 -- no path of another kind
 not_keyed : (n : ℕ) (k : Key) → IsCallUpTo n (key_path k) → ⊥
 not_keyed n (key.Argument a) h = h
@@ -197,6 +200,7 @@ numbered_more old items numbers new k n a none l is u = (
     found = λ q b e. subst (λ ps. slice_get ps b.0 ≡ Some (key_path q)) (sym paths) (found_there ps numbers k (record { 0 = n }) b q (is_eq (key_cmp k q)) (a.found q b) long refl (sym (u.others q) ∙ e));
     kinds = λ b p e. ⊎_elim (λ h. earlier b p h) (λ h. inl (last b p h)) (get_either ps (key_path k) b p (subst (λ qs. slice_get qs b ≡ Some p) paths e));
     once = subst EachOnce (sym paths) (once_push ps (key_path k) a.once (new_key old numbers k a none));
+    counted = let c = a.counted in let m = one_longer old.bindings items (key_binding k) is in omega arith;
   },
   record {
     found = ap (λ qs. slice_get qs n) paths ∙ ap (slice_get (ps ++ key_path k ∷ [])) long ∙ get_last ps (key_path k);

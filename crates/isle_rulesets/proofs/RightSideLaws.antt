@@ -152,8 +152,8 @@ some_there P (y ∷ xs) zero x h e = ap Some (sym e)
 some_there P (y ∷ xs) (suc i) x h e = some_there P xs i x h e
 
 turns_by : (env : Environment) (t : Term) (k : TermKind) → IsImpureKind k → (callee : Callee) × (calling_by (kind_of k) (impure_callee env t k) (pure_callee env t k) ≡ ByTurns callee (kind_of k))
-turns_by env t (kind.Decl false multi partial recursive constructor.Internal extractor) h = (Internal (sym_text env t.name), refl)
-turns_by env t (kind.Decl false multi partial recursive (constructor.External func) extractor) h = (External (sym_text env func), refl)
+turns_by env t (kind.Decl false false partial recursive constructor.Internal extractor) h = (Internal (sym_text env t.name), refl)
+turns_by env t (kind.Decl false false partial recursive (constructor.External func) extractor) h = (External (sym_text env func), refl)
 turns_by env t k h = absurd h
 
 -- an impure term is called by turns

@@ -23,7 +23,7 @@ use Rattle.isle_core.specs.Tests.{no_places, args_tests, args_after, rule_places
 use Rattle.isle_core.specs.RuleSet.{is_test, equal_test, flat_tests}
 use Rattle.isle_core.specs.RuleViews.{rule, rules}
 use Rattle.isle_core.specs.RulePaths.{rules_paths}
-use Rattle.isle_core.specs.StandsFor.{EachOnce, AreFirsts, IsFlat, AreFlat, StandsFor}
+use Rattle.isle_core.specs.StandsFor.{EachOnce, AreFirsts, no_more, IsFlat, AreFlat, StandsFor}
 use Rattle.isle_core.specs.BuiltRule.{IsBuiltExpr, AreBuiltExprs, IsBuiltRule, IsBuiltPattern, IsImpureRule}
 use Rattle.isle_core.specs.Rule.{Environment, Rule}
 use Rattle.isle_core.proofs.NotTrivial.{no_trivial}
@@ -40,6 +40,7 @@ use Rattle.isle_rulesets.proofs.PatternTestLaws.{at_get, contains_kept}
 use Rattle.isle_rulesets.proofs.RuleTests.{rule_can, rule_once, parted, parted_keeps, parted_from, parted_once, stands_at, place_is_arg}
 use Rattle.isle_rulesets.proofs.RightSideLaws.{Given}
 use Rattle.isle_rulesets.proofs.CallsOnce.{rule_firsts}
+use Rattle.isle_rulesets.proofs.NoIterators.{none_in_rule}
 
 -- ---- the variables of a rule
 
@@ -135,7 +136,7 @@ rule_added terms old mid new r d none calls b f built bound impure_terms numbere
           once = subst EachOnce (sym tests) (parted_once (rule_tests env r) (rule_once env r built));
           prio = is.prio;
           pos = is.pos;
-          iterators = is.iterators;
+          iterators = subst (λ qs. AreFirsts [] qs (map (at ps) f.iterators)) (sym (none_in_rule env terms r old.calls same built impure_terms)) (subst (λ bs. AreFirsts [] [] (map (at ps) bs)) (sym is.iterators) (no_more []));
           ordered = subst (AreFirsts [] (rule_calls env r old.calls)) (sym (ap (map (at ps)) is.ordered ∙ g.grows.ordered ps x)) (rule_firsts env terms r old.calls same built.rhs impure_terms);
           result = ap (at ps) is.result ∙ at_get ps b.0 _ (x.kept b.0 _ g.found);
         }

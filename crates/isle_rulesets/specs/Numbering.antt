@@ -1,5 +1,5 @@
 -- Bindings numbered in order, each path once.
-use Rattle.std.specs.Prelude.{◌≡◌, ◌⊎◌, ◌≤◌, ℕ, suc, List, [], ◌∷◌, Bool, false, Option, Some, ◌==◌, ◌&&◌, nat_lt, if◌then◌else◌, slice_get, Contains}
+use Rattle.std.specs.Prelude.{◌≡◌, ◌⊎◌, ◌≤◌, ℕ, suc, List, [], ◌∷◌, length, Bool, false, Option, Some, ◌==◌, ◌&&◌, nat_lt, if◌then◌else◌, slice_get, Contains}
 use Rattle.std.specs.declared.cmp.Ordering.{Ordering}
 use Rattle.std.specs.BTreeMap.{BTreeMap, get}
 use Rattle.isle_core.specs.declared.BindingId.{BindingId}
@@ -7,7 +7,7 @@ use Rattle.isle_core.specs.declared.TermId.{TermId}
 use Rattle.isle_core.specs.declared.rule_sets.Binding.{Binding}
 use Rattle.isle_core.specs.declared.rule_sets.Binding.TheVariants as binding
 use Rattle.isle_core.specs.Path as path
-use Rattle.isle_core.specs.Path.{Path, Called, Inner, at_all, paths_of}
+use Rattle.isle_core.specs.Path.{Path, Nowhere, Arg, ConstBool, ConstInt, ConstPrim, Extracted, Called, Chosen, MadeVariant, MadeStruct, VariantField, StructField, Wrapped, Inner, Part, at_all, paths_of}
 use Rattle.isle_core.specs.RightSide.{bool_type}
 use Rattle.isle_core.specs.StandsFor.{EachOnce}
 use Rattle.isle_rulesets.specs.declared.numbering.Key.{Key}
@@ -67,7 +67,8 @@ known count numbers (key.ConstInt ty val) = get key_cmp numbers (key.ConstInt ty
 -- whether the key is that argument, and its number would be its index
 abbrev pub is_next : ℕ → ℕ → Key → Bool
 is_next count number (key.Argument index) = (index == count) && (number == count)
-is_next count number k = false
+is_next count number (key.ConstBool val) = false
+is_next count number (key.ConstInt ty val) = false
 
 -- the path of a key that has this number
 abbrev pub IsKeyed : (Key → Option BindingId) → ℕ → Path → Type 0
@@ -77,10 +78,24 @@ IsKeyed numbers b p = (k : Key) × (p ≡ key_path k) × (numbers k ≡ Some (re
 abbrev pub IsCallUpTo : ℕ → Path → Type 0
 IsCallUpTo n (Called term ps instance) = instance ≤ n
 IsCallUpTo n (Inner p) = IsCallUpTo n p
-IsCallUpTo n p = ⊥
+IsCallUpTo n Nowhere = ⊥
+IsCallUpTo n (Arg i) = ⊥
+IsCallUpTo n (ConstBool of b) = ⊥
+IsCallUpTo n (ConstInt of val) = ⊥
+IsCallUpTo n (ConstPrim name) = ⊥
+IsCallUpTo n (Extracted term q) = ⊥
+IsCallUpTo n (Chosen q) = ⊥
+IsCallUpTo n (MadeVariant of variant ps) = ⊥
+IsCallUpTo n (MadeStruct of ps) = ⊥
+IsCallUpTo n (VariantField variant field q) = ⊥
+IsCallUpTo n (StructField field q) = ⊥
+IsCallUpTo n (Wrapped q) = ⊥
+IsCallUpTo n (Part part q) = ⊥
 
--- a key is found where its path stands, each other path is of a call that was counted, and no path stands twice
+-- a key is found where its path stands, each other path is of a call that was counted, no path stands twice, and there are
+-- no more calls than bindings
 pub record AreNumbered (n : Numbered) (numbers : Key → Option BindingId) : Type 0 where
   pub found : (k : Key) (b : BindingId) → numbers k ≡ Some b → slice_get (paths_of n.bindings) b.0 ≡ Some (key_path k)
   pub kinds : (b : ℕ) (p : Path) → slice_get (paths_of n.bindings) b ≡ Some p → IsKeyed numbers b p ⊎ IsCallUpTo n.calls p
   pub once : EachOnce (paths_of n.bindings)
+  pub counted : n.calls ≤ length n.bindings

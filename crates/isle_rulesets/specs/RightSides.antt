@@ -32,7 +32,8 @@ abbrev mutual
   IsKnown variables (expr.ConstBool b) = Unit {0}
   IsKnown variables (expr.ConstInt ty n) = Unit {0}
   IsKnown variables (expr.Term ty term es) = AreKnown variables es
-  IsKnown variables e = ⊥
+  IsKnown variables (expr.ConstPrim of name) = ⊥
+  IsKnown variables (expr.Let of bindings inner) = ⊥
 
   -- so of expressions in order
   pub AreKnown : BTreeMap ℕ BindingId → Exprs → Type 0

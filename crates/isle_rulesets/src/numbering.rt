@@ -123,7 +123,7 @@ impl Numbering {
     ) -> Result<Call, AllocError>
         ensures { IfOk result (λ c. Calls self.old self.new (next_call self.old term parameters) is_partial c.number c.value) }
     {
-        let instance = self.calls.checked_add(1).ok_or(AllocError)?;
+        let instance = self.calls + 1;
         let number = BindingId(self.bindings.len());
         self.bindings.push(Binding::Constructor {
             term,

@@ -28,7 +28,8 @@ use Rattle.isle_interpreter.specs.Signatures.{type_names, AreNamed}
 use Rattle.isle_interpreter.specs.declared.run_error.RunError.TheVariants as error
 use Rattle.isle_interpreter.proofs.OneRefusal.{not_refused}
 use Rattle.isle_simulation.specs.TermFunction.{parameter, type_text}
-use Rattle.isle_run_inputs.specs.Forms.{are_built, answers_at, turns_at}
+use Rattle.isle_run_inputs.specs.Built.{are_built}
+use Rattle.isle_run_inputs.specs.AnswersAt.{answers_at, turns_at}
 use Rattle.isle_codegen.specs.Causes.{IsNotOfIt}
 use Rattle.isle_codegen.specs.Checked.{IsChecked}
 use Rattle.isle_codegen.specs.Source.{InLanguage}
@@ -41,7 +42,7 @@ use Rattle.isle_run.specs.Trial.{args_given}
 use Rattle.isle_run.specs.Valid.{CanRun}
 use Rattle.isle_run.proofs.RequestedTerms.{HasFunction, requested_function}
 use Rattle.isle_run.proofs.NamedTypes.{are_named}
-use Rattle.isle_run.proofs.RightForms.{all_right, answered_back}
+use Rattle.isle_run.proofs.RightEntries.{all_right, answered_back}
 
 -- ---- the source
 
@@ -109,7 +110,7 @@ module _ (options : CodegenOptions) (files : Files) (term : List ℕ) (ws : Writ
   }
 
   -- such a run isn't refused
-  pub run_not_refused : (e : Refusal) → IsRunRefused p c.env term args text e → ⊥
+  pub run_not_refused : (e : Refusal) → IsRunRefused (record { program = p; env = c.env; term = term; args = args }) text e → ⊥
   run_not_refused _ (no_lines.no_term m h) = not_refused p term args answers the_function.function _ may (no_term_of p term args m answers h)
   run_not_refused _ (no_lines.arg_count m h) = not_refused p term args answers the_function.function _ may (count_of p term args m answers h)
   run_not_refused _ (no_lines.arg_type m i h) = not_refused p term args answers the_function.function _ may (type_of p term args m answers i h)
@@ -124,7 +125,7 @@ source_not_refused : (options : CodegenOptions) (files : Files) (term : List ℕ
 source_not_refused options files term ws text e c s =
     let same : s.env ≡ c.env = same_env files c.env s.env c.checked s.checked in
     run_not_refused options files term ws text c s.program (subst (λ env. Conforms options files env s.program) same s.conforms) e
-    (subst (λ env. IsRunRefused s.program env term (args_given env term ws) text e) same s.refused)
+    (subst (λ env. IsRunRefused (record { program = s.program; env = env; term = term; args = args_given env term ws }) text e) same s.refused)
 
 -- where it can be run, only memory is wanting
 pub only_memory : (options : CodegenOptions) (files : Files) (term : List ℕ) (ws : Writtens) (text : List ℕ) (e : Refusal) → CanRun files term ws text → HasNoLines options files term ws text e → e ≡ refused.Memory

@@ -19,8 +19,8 @@ use Rattle.isle_tree.specs.Program.{Program, Function}
 use Rattle.isle_tree.specs.Run.{run}
 use Rattle.isle_simulation.specs.TermFunction.{parameter}
 use Rattle.isle_run_inputs.specs.Requested.{requested_term, requested_types, arg_types}
-use Rattle.isle_run_inputs.specs.Forms.{answers_at}
-use Rattle.isle_run_inputs.specs.Given.{values_at}
+use Rattle.isle_run_inputs.specs.AnswersAt.{answers_at}
+use Rattle.isle_run_inputs.specs.ValuesAt.{values_at}
 use Rattle.isle_run_inputs.proofs.HaveTypes.{Matched, have_types}
 use Rattle.isle_outcomes.specs.Lines.{run_lines}
 use Rattle.isle_interpreter.specs.Refusals.{MayRun}
@@ -82,9 +82,9 @@ are_lines options files env p term ws f r answers conforms may runs =
 
 -- what a run under the answers of a text gives is a trial
 pub is_trial : (options : CodegenOptions) (files : Files) (env : Environment) (p : Program) (term : List ℕ) (ws : Writtens) (args : List Value) (text : List ℕ) (r : Ran) (lines : List ℕ)
-    → IsChecked files env → Conforms options files env p → args ≡ args_given env term ws → IsOutcome p env term args text r → lines ≡ run_lines (shown_run env r) → IsTrial options files term ws text lines
+    → IsChecked files env → Conforms options files env p → args ≡ args_given env term ws → IsOutcome (record { program = p; env = env; term = term; args = args }) text r → lines ≡ run_lines (shown_run env r) → IsTrial options files term ws text lines
 is_trial options files env p term ws args text r lines checked conforms given h shown =
-    let under = subst (λ vs. IsUnder p env term vs h.forms r) given h.under in
+    let under = subst (λ vs. IsUnder (record { program = p; env = env; term = term; args = vs }) h.forms r) given h.under in
     record {
       env = env;
       checked = checked;

@@ -8,6 +8,6 @@ pub mod ImpureSteps
 pub mod RequestedTerms
 pub mod NamedTypes
 pub mod ServedCallees
-pub mod RightForms
+pub mod RightEntries
 pub mod Complete
 pub mod OfRun

@@ -15,7 +15,8 @@ use Rattle.isle_core.specs.HasType.{IsOfDef, HasType, HaveTypes}
 use Rattle.isle_core.specs.Lawful.{Fits}
 use Rattle.isle_core.specs.Rule.{Environment}
 use Rattle.isle_core.specs.Value.{Value, Truth, Int, Opaque, Variant, Struct, Answer, Plain, Found, Nothing, Several}
-use Rattle.isle_spelling.specs.Literal.{type_name, type_named}
+use Rattle.isle_core.specs.Int.{type_name}
+use Rattle.isle_spelling.specs.Literal.{type_named}
 use Rattle.isle_interpreter.specs.Signatures.{Signature, IsNamed, AreNamed, AnswerFits}
 use Rattle.isle_simulation.specs.TermFunction.{def_text, type_text}
 

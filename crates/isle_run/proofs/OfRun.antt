@@ -2,10 +2,8 @@
 use Rattle.std.specs.Prelude.{ℕ, List}
 use Rattle.isle_core.specs.declared.files.Files.{Files}
 use Rattle.isle_core.specs.declared.options.CodegenOptions.{CodegenOptions}
-use Rattle.isle_core.specs.Rule.{Environment}
-use Rattle.isle_core.specs.Value.{Value}
 use Rattle.isle_values.specs.Written.{Writtens}
-use Rattle.isle_tree.specs.Program.{Program}
+use Rattle.isle_run.specs.Attempt.{Attempt}
 use Rattle.isle_run.specs.NoLines as no_lines
 use Rattle.isle_run.specs.NoLines.{IsRunRefused, HasNoLines}
 use Rattle.isle_run.specs.declared.refusal.Refusal.{Refusal}
@@ -21,16 +19,16 @@ IsOfRun (refusal.ArgType i) = Unit {0}
 IsOfRun (refusal.BadAnswers at) = Unit {0}
 IsOfRun refusal.Memory = Unit {0}
 
-run_of : (p : Program) (env : Environment) (term : List ℕ) (args : List Value) (text : List ℕ) (e : Refusal) → IsRunRefused p env term args text e → IsOfRun e
-run_of p env term args text _ (no_lines.no_term m h) = tt
-run_of p env term args text _ (no_lines.arg_count m h) = tt
-run_of p env term args text _ (no_lines.arg_type m i h) = tt
-run_of p env term args text _ (no_lines.fault at takes h) = tt
-run_of p env term args text _ (no_lines.unbuilt forms takes spelt bad) = tt
-run_of p env term args text _ (no_lines.wrong forms i spelt built h) = tt
+run_of : (a : Attempt) (text : List ℕ) (e : Refusal) → IsRunRefused a text e → IsOfRun e
+run_of a text _ (no_lines.no_term m h) = tt
+run_of a text _ (no_lines.arg_count m h) = tt
+run_of a text _ (no_lines.arg_type m i h) = tt
+run_of a text _ (no_lines.fault at takes h) = tt
+run_of a text _ (no_lines.unbuilt forms takes spelt bad) = tt
+run_of a text _ (no_lines.wrong forms i spelt built h) = tt
 
 -- so of what gives no lines
 pub lines_of : (options : CodegenOptions) (files : Files) (term : List ℕ) (ws : Writtens) (text : List ℕ) (e : Refusal) → HasNoLines options files term ws text e → IsOfRun e
 lines_of options files term ws text _ (no_lines.not_of_it h) = tt
-lines_of options files term ws text _ (no_lines.refused e s) = run_of s.program s.env term _ text e s.refused
+lines_of options files term ws text _ (no_lines.refused e s) = run_of _ text e s.refused
 lines_of options files term ws text _ no_lines.memory = tt

@@ -20,7 +20,7 @@ by_memory {options} {files} {term} {ws} {text} e is = subst (HasNoLines options 
 
 -- or a program that conforms is not run
 pub by_refusal : (options : CodegenOptions) (files : Files) (env : Environment) (p : Program) (term : List ℕ) (ws : Writtens) (args : List Value) (text : List ℕ) (e : Refusal)
-    → IsChecked files env → Conforms options files env p → args ≡ args_given env term ws → (e ≡ refusal.Memory) ⊎ IsRunRefused p env term args text e → HasNoLines options files term ws text e
+    → IsChecked files env → Conforms options files env p → args ≡ args_given env term ws → (e ≡ refusal.Memory) ⊎ IsRunRefused (record { program = p; env = env; term = term; args = args }) text e → HasNoLines options files term ws text e
 by_refusal options files env p term ws args text e checked conforms given (inl is) = by_memory e is
 by_refusal options files env p term ws args text e checked conforms given (inr refused) =
-    no_lines.refused e (record { env = env; checked = checked; program = p; conforms = conforms; refused = subst (λ vs. IsRunRefused p env term vs text e) given refused })
+    no_lines.refused e (record { env = env; checked = checked; program = p; conforms = conforms; refused = subst (λ vs. IsRunRefused (record { program = p; env = env; term = term; args = vs }) text e) given refused })

@@ -1,36 +1,35 @@
 -- A refusal of a run refuses it.
 use Rattle.std.proofs.Common.{◌≡◌, ◌⊎◌, inl, inr, ℕ, List, [], length, true, sym, subst, ap, refl}
 use Rattle.isle_core.specs.Meaning.{Meaning}
-use Rattle.isle_core.specs.Rule.{Environment}
-use Rattle.isle_core.specs.Value.{Value}
 use Rattle.isle_answers.specs.Form.{Form}
 use Rattle.isle_answers.specs.Spelling.{SpellsForms}
-use Rattle.isle_run_inputs.specs.Forms.{are_built, answers_at}
+use Rattle.isle_run_inputs.specs.Built.{are_built}
+use Rattle.isle_run_inputs.specs.AnswersAt.{answers_at}
 use Rattle.isle_run_inputs.specs.Places.{place_at}
-use Rattle.isle_tree.specs.Program.{Program}
 use Rattle.isle_interpreter.specs.Judged.{IsEarly}
 use Rattle.isle_interpreter.specs.Refusals.{IsRefused}
 use Rattle.isle_interpreter.specs.declared.run_error.RunError.{RunError}
 use Rattle.isle_interpreter.specs.declared.run_error.RunError.TheVariants as error
 use Rattle.isle_run.specs.declared.refusal.Refusal.TheVariants as refusal
+use Rattle.isle_run.specs.Attempt.{Attempt}
 use Rattle.isle_run.specs.NoLines.{IsRunRefused, no_term, arg_count, arg_type, wrong}
 use Rattle.isle_run.specs.Placed.{placed}
 
--- before any form is looked at
-pub refuses_early : (p : Program) (env : Environment) (term : List ℕ) (args : List Value) (text : List ℕ) (m : Meaning) (e : RunError) → IsEarly e → IsRefused p term args m e → IsRunRefused p env term args text (placed e 0 [])
-refuses_early p env term args text m error.NoTerm early h = no_term m h
-refuses_early p env term args text m error.ArgCount early h = arg_count m h
-refuses_early p env term args text m (error.ArgType i) early h = arg_type m i h
-refuses_early p env term args text m (error.BadAnswers i) early h = absurd early
-refuses_early p env term args text m error.Memory early h = absurd early
+-- before any entry is looked at
+pub refuses_early : (a : Attempt) (text : List ℕ) (m : Meaning) (e : RunError) → IsEarly e → IsRefused a.program a.term a.args m e → IsRunRefused a text (placed e 0 [])
+refuses_early a text m error.NoTerm early h = no_term m h
+refuses_early a text m error.ArgCount early h = arg_count m h
+refuses_early a text m (error.ArgType i) early h = arg_type m i h
+refuses_early a text m (error.BadAnswers i) early h = absurd early
+refuses_early a text m error.Memory early h = absurd early
 
 -- under the answers of forms
-pub refuses : (p : Program) (env : Environment) (term : List ℕ) (args : List Value) (text : List ℕ) (forms : List Form) (end : ℕ) (e : RunError) → SpellsForms text forms → are_built forms ≡ true → end ≡ length text
-    → (e ≡ error.Memory) ⊎ IsRefused p term args (answers_at env forms) e → (placed e end forms ≡ refusal.Memory) ⊎ IsRunRefused p env term args text (placed e end forms)
-refuses p env term args text forms end e spelt built ends (inl memory) = inl (ap (λ r. placed r end forms) memory)
-refuses p env term args text forms end error.NoTerm spelt built ends (inr h) = inr (no_term (answers_at env forms) h)
-refuses p env term args text forms end error.ArgCount spelt built ends (inr h) = inr (arg_count (answers_at env forms) h)
-refuses p env term args text forms end (error.ArgType i) spelt built ends (inr h) = inr (arg_type (answers_at env forms) i h)
-refuses p env term args text forms end (error.BadAnswers i) spelt built ends (inr h) =
-    inr (subst (λ n. IsRunRefused p env term args text (refusal.BadAnswers (place_at n forms i))) (sym ends) (wrong forms i spelt built h))
-refuses p env term args text forms end error.Memory spelt built ends (inr h) = inl refl
+pub refuses : (a : Attempt) (text : List ℕ) (forms : List Form) (end : ℕ) (e : RunError) → SpellsForms text forms → are_built forms ≡ true → end ≡ length text
+    → (e ≡ error.Memory) ⊎ IsRefused a.program a.term a.args (answers_at a.env forms) e → (placed e end forms ≡ refusal.Memory) ⊎ IsRunRefused a text (placed e end forms)
+refuses a text forms end e spelt built ends (inl memory) = inl (ap (λ r. placed r end forms) memory)
+refuses a text forms end error.NoTerm spelt built ends (inr h) = inr (no_term (answers_at a.env forms) h)
+refuses a text forms end error.ArgCount spelt built ends (inr h) = inr (arg_count (answers_at a.env forms) h)
+refuses a text forms end (error.ArgType i) spelt built ends (inr h) = inr (arg_type (answers_at a.env forms) i h)
+refuses a text forms end (error.BadAnswers i) spelt built ends (inr h) =
+    inr (subst (λ n. IsRunRefused a text (refusal.BadAnswers (place_at n forms i))) (sym ends) (wrong forms i spelt built h))
+refuses a text forms end error.Memory spelt built ends (inr h) = inl refl

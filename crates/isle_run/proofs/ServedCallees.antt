@@ -18,9 +18,9 @@ abbrev names_in : Environment → List Term → List (List ℕ)
 names_in env ts = fn_names (trait_fns_in env ts)
 
 -- a function more, or none
-behind_option : (o : Option TraitFn) (fs : List TraitFn) (name : List ℕ) → Contains (fn_names fs) name → Contains (fn_names (cons_option o fs)) name
-behind_option None fs name c = c
-behind_option (Some f) fs name c = tail_contained f.name (fn_names fs) name c
+after_option : (o : Option TraitFn) (fs : List TraitFn) (name : List ℕ) → Contains (fn_names fs) name → Contains (fn_names (cons_option o fs)) name
+after_option None fs name c = c
+after_option (Some f) fs name c = tail_contained f.name (fn_names fs) name c
 
 at_option : (o : Option TraitFn) (fs : List TraitFn) (f : TraitFn) → o ≡ Some f → Contains (fn_names (cons_option o fs)) f.name
 at_option o fs f e = rw e (head_contained f.name (fn_names fs))
@@ -29,11 +29,11 @@ among : (env : Environment) (ts : List Term) (i : ℕ) (t : Term) (func : Sym) �
 among env [] i t func at e = cc
 among env (u ∷ ts) zero t func at e =
     let same : u ≡ t = cc in
-    behind_option (extractor_fn_of env u) (cons_option (constructor_fn_of env u) (trait_fns_in env ts)) (sym_text env func)
+    after_option (extractor_fn_of env u) (cons_option (constructor_fn_of env u) (trait_fns_in env ts)) (sym_text env func)
     (at_option (constructor_fn_of env u) (trait_fns_in env ts) (constructor_fn env t func) (ap (constructor_fn_of env) same ∙ ap (option_map (constructor_fn env t)) e))
 among env (u ∷ ts) (suc i) t func at e =
-    behind_option (extractor_fn_of env u) (cons_option (constructor_fn_of env u) (trait_fns_in env ts)) (sym_text env func)
-    (behind_option (constructor_fn_of env u) (trait_fns_in env ts) (sym_text env func) (among env ts i t func at e))
+    after_option (extractor_fn_of env u) (cons_option (constructor_fn_of env u) (trait_fns_in env ts)) (sym_text env func)
+    (after_option (constructor_fn_of env u) (trait_fns_in env ts) (sym_text env func) (among env ts i t func at e))
 
 of_each : (P : List ℕ → Type 0) (xs : List (List ℕ)) (y : List ℕ) → AllByRecursion P xs → Contains xs y → P y
 of_each P [] y h c = absurd (none_contained y c)
@@ -50,11 +50,11 @@ apart a b e = by (bytes_eq b a) refl
         absurd cc
 
 -- a function behind one more, or none, where names are distinct
-found_behind : (o : Option TraitFn) (fs : List TraitFn) (f : TraitFn) → IsDistinct bytes_eq (fn_names (cons_option o fs)) → Contains (fn_names fs) f.name → (IsDistinct bytes_eq (fn_names fs) → trait_fn fs f.name ≡ Some f)
+found_after : (o : Option TraitFn) (fs : List TraitFn) (f : TraitFn) → IsDistinct bytes_eq (fn_names (cons_option o fs)) → Contains (fn_names fs) f.name → (IsDistinct bytes_eq (fn_names fs) → trait_fn fs f.name ≡ Some f)
     → trait_fn (cons_option o fs) f.name ≡ Some f
 unfolding IsDistinct
-found_behind None fs f d c go = go d
-found_behind (Some g) fs f d c go = rw (apart g.name f.name (of_each (λ y. bytes_eq g.name y ≡ false) (fn_names fs) f.name d.0 c)) (go d.1)
+found_after None fs f d c go = go d
+found_after (Some g) fs f d c go = rw (apart g.name f.name (of_each (λ y. bytes_eq g.name y ≡ false) (fn_names fs) f.name d.0 c)) (go d.1)
 
 found_here : (o : Option TraitFn) (fs : List TraitFn) (f : TraitFn) → o ≡ Some f → trait_fn (cons_option o fs) f.name ≡ Some f
 found_here o fs f e = rw (e, (bytes_eq-Decides f.name f.name).1 refl) refl
@@ -67,10 +67,10 @@ served_fn env (u ∷ ts) zero t func d at e =
     let same : u ≡ t = cc in
     let is : constructor_fn_of env u ≡ Some (constructor_fn env t func) = ap (constructor_fn_of env) same ∙ ap (option_map (constructor_fn env t)) e in
     let more = cons_option (constructor_fn_of env u) (trait_fns_in env ts) in
-    found_behind (extractor_fn_of env u) more (constructor_fn env t func) d (at_option (constructor_fn_of env u) (trait_fns_in env ts) (constructor_fn env t func) is)
+    found_after (extractor_fn_of env u) more (constructor_fn env t func) d (at_option (constructor_fn_of env u) (trait_fns_in env ts) (constructor_fn env t func) is)
     (λ k. found_here (constructor_fn_of env u) (trait_fns_in env ts) (constructor_fn env t func) is)
 served_fn env (u ∷ ts) (suc i) t func d at e =
     let f = constructor_fn env t func in
     let c = among env ts i t func at e in
-    found_behind (extractor_fn_of env u) (cons_option (constructor_fn_of env u) (trait_fns_in env ts)) f d (behind_option (constructor_fn_of env u) (trait_fns_in env ts) f.name c)
-    (λ k. found_behind (constructor_fn_of env u) (trait_fns_in env ts) f k c (λ l. served_fn env ts i t func l at e))
+    found_after (extractor_fn_of env u) (cons_option (constructor_fn_of env u) (trait_fns_in env ts)) f d (after_option (constructor_fn_of env u) (trait_fns_in env ts) f.name c)
+    (λ k. found_after (constructor_fn_of env u) (trait_fns_in env ts) f k c (λ l. served_fn env ts i t func l at e))

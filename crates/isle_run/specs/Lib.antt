@@ -1,5 +1,6 @@
 pub mod Conforming
 pub mod Trial
+pub mod Attempt
 pub mod NoLines
 pub mod Ran
 pub mod Placed

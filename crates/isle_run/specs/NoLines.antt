@@ -2,14 +2,14 @@
 use Rattle.std.specs.Prelude.{◌≡◌, ℕ, List, length, false, true}
 use Rattle.isle_core.specs.declared.options.CodegenOptions.{CodegenOptions}
 use Rattle.isle_core.specs.declared.files.Files.{Files}
-use Rattle.isle_core.specs.Value.{Value}
 use Rattle.isle_core.specs.Meaning.{Meaning}
 use Rattle.isle_core.specs.Rule.{Environment}
 use Rattle.isle_values.specs.Written.{Writtens}
 use Rattle.isle_answers.specs.Form.{Form}
 use Rattle.isle_answers.specs.Places.{IsFault}
 use Rattle.isle_answers.specs.Spelling.{SpellsForms}
-use Rattle.isle_run_inputs.specs.Forms.{are_built, answers_at}
+use Rattle.isle_run_inputs.specs.Built.{are_built}
+use Rattle.isle_run_inputs.specs.AnswersAt.{answers_at}
 use Rattle.isle_run_inputs.specs.Places.{place_at}
 use Rattle.isle_tree.specs.Program.{Program}
 use Rattle.isle_interpreter.specs.Judged.{Takes}
@@ -19,20 +19,21 @@ use Rattle.isle_codegen.specs.Causes.{IsNotOfIt}
 use Rattle.isle_codegen.specs.Checked.{IsChecked}
 use Rattle.isle_run.specs.declared.refusal.Refusal.{Refusal}
 use Rattle.isle_run.specs.declared.refusal.Refusal.TheVariants as refusal
+use Rattle.isle_run.specs.Attempt.{Attempt}
 use Rattle.isle_run.specs.Conforming.{Conforms}
 use Rattle.isle_run.specs.Trial.{args_given}
 
 -- why a program that conforms to the source isn't run, in the order in which it is asked: no function has the term, or
 -- takes the arguments, whatever the answers; the text of the answers goes wrong at this place; a form isn't built; a form
 -- is wrong, or missing
-pub data IsRunRefused (p : Program) (env : Environment) (term : List ℕ) (args : List Value) (text : List ℕ) : Refusal → Type 0 where
-  no_term : (m : Meaning) → IsRefused p term args m error.NoTerm → IsRunRefused p env term args text refusal.NoTerm
-  arg_count : (m : Meaning) → IsRefused p term args m error.ArgCount → IsRunRefused p env term args text refusal.ArgCount
-  arg_type : (m : Meaning) (i : ℕ) → IsRefused p term args m (error.ArgType i) → IsRunRefused p env term args text (refusal.ArgType i)
-  fault : (at : ℕ) → Takes p term args → IsFault text at → IsRunRefused p env term args text (refusal.BadAnswers at)
-  unbuilt : (forms : List Form) → Takes p term args → SpellsForms text forms → are_built forms ≡ false → IsRunRefused p env term args text refusal.NotYet
-  wrong : (forms : List Form) (i : ℕ) → SpellsForms text forms → are_built forms ≡ true → IsRefused p term args (answers_at env forms) (error.BadAnswers i)
-      → IsRunRefused p env term args text (refusal.BadAnswers (place_at (length text) forms i))
+pub data IsRunRefused (a : Attempt) (text : List ℕ) : Refusal → Type 0 where
+  no_term : (m : Meaning) → IsRefused a.program a.term a.args m error.NoTerm → IsRunRefused a text refusal.NoTerm
+  arg_count : (m : Meaning) → IsRefused a.program a.term a.args m error.ArgCount → IsRunRefused a text refusal.ArgCount
+  arg_type : (m : Meaning) (i : ℕ) → IsRefused a.program a.term a.args m (error.ArgType i) → IsRunRefused a text (refusal.ArgType i)
+  fault : (at : ℕ) → Takes a.program a.term a.args → IsFault text at → IsRunRefused a text (refusal.BadAnswers at)
+  unbuilt : (forms : List Form) → Takes a.program a.term a.args → SpellsForms text forms → are_built forms ≡ false → IsRunRefused a text refusal.NotYet
+  wrong : (forms : List Form) (i : ℕ) → SpellsForms text forms → are_built forms ≡ true → IsRefused a.program a.term a.args (answers_at a.env forms) (error.BadAnswers i)
+      → IsRunRefused a text (refusal.BadAnswers (place_at (length text) forms i))
 
 -- the source was checked, and a program that conforms to it isn't run
 pub record IsSourceRefused (options : CodegenOptions) (files : Files) (term : List ℕ) (ws : Writtens) (text : List ℕ) (e : Refusal) : Type 0 where
@@ -40,7 +41,7 @@ pub record IsSourceRefused (options : CodegenOptions) (files : Files) (term : Li
   pub checked : IsChecked files env
   pub program : Program
   pub conforms : Conforms options files env program
-  pub refused : IsRunRefused program env term (args_given env term ws) text e
+  pub refused : IsRunRefused (record { program = program; env = env; term = term; args = args_given env term ws }) text e
 
 -- why there are no lines: the source is not of the language, or it isn't run; or memory ran out
 pub data HasNoLines (options : CodegenOptions) (files : Files) (term : List ℕ) (ws : Writtens) (text : List ℕ) : Refusal → Type 0 where

@@ -1,4 +1,4 @@
--- Why a run is refused, with the place of a form that is wrong.
+-- Why a run is refused, with the place of the form that is wrong.
 use Rattle.std.specs.Prelude.{ℕ, List}
 use Rattle.isle_answers.specs.Form.{Form}
 use Rattle.isle_run_inputs.specs.Places.{place_at}
@@ -7,7 +7,7 @@ use Rattle.isle_interpreter.specs.declared.run_error.RunError.TheVariants as err
 use Rattle.isle_run.specs.declared.refusal.Refusal.{Refusal}
 use Rattle.isle_run.specs.declared.refusal.Refusal.TheVariants as refusal
 
--- the number of a form becomes its place
+-- the number of an entry becomes the place of its form
 abbrev pub placed : RunError → (end : ℕ) → List Form → Refusal
 placed error.NoTerm end forms = refusal.NoTerm
 placed error.ArgCount end forms = refusal.ArgCount

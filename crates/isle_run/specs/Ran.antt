@@ -1,23 +1,23 @@
 -- What a run under answers gives.
 use Rattle.std.specs.Prelude.{◌≡◌, ℕ, List, Some, true}
-use Rattle.isle_core.specs.Value.{Value, Ran}
-use Rattle.isle_core.specs.Rule.{Environment}
+use Rattle.isle_core.specs.Value.{Ran}
 use Rattle.isle_answers.specs.Form.{Form}
 use Rattle.isle_answers.specs.Spelling.{SpellsForms}
-use Rattle.isle_run_inputs.specs.Forms.{are_built, answers_at}
-use Rattle.isle_tree.specs.Program.{Program}
+use Rattle.isle_run_inputs.specs.Built.{are_built}
+use Rattle.isle_run_inputs.specs.AnswersAt.{answers_at}
 use Rattle.isle_tree.specs.Run.{run}
 use Rattle.isle_interpreter.specs.Judged.{Runs}
+use Rattle.isle_run.specs.Attempt.{Attempt}
 
 -- the outcome is that of the run under the answers of these forms, which are built and fit the function of the term
-pub record IsUnder (p : Program) (env : Environment) (term : List ℕ) (args : List Value) (forms : List Form) (r : Ran) : Type 0 where
+pub record IsUnder (a : Attempt) (forms : List Form) (r : Ran) : Type 0 where
   pub built : are_built forms ≡ true
-  pub fits : Runs p term args (answers_at env forms)
-  pub runs : run p term args (answers_at env forms) ≡ Some r
+  pub fits : Runs a.program a.term a.args (answers_at a.env forms)
+  pub runs : run a.program a.term a.args (answers_at a.env forms) ≡ Some r
 
 -- the outcome is that of the run under the answers of the one list of forms that the text spells
-pub record IsOutcome (p : Program) (env : Environment) (term : List ℕ) (args : List Value) (text : List ℕ) (r : Ran) : Type 0 where
+pub record IsOutcome (a : Attempt) (text : List ℕ) (r : Ran) : Type 0 where
   pub forms : List Form
   pub spelt : SpellsForms text forms
   pub once : (others : List Form) → SpellsForms text others → others ≡ forms
-  pub under : IsUnder p env term args forms r
+  pub under : IsUnder a forms r

@@ -15,9 +15,10 @@ use Rattle.isle_core.specs.Rule.{Environment, rules_of}
 use Rattle.isle_values.specs.Written.{Writtens}
 use Rattle.isle_answers.specs.Form.{Form}
 use Rattle.isle_answers.specs.Spelling.{SpellsForms}
-use Rattle.isle_run_inputs.specs.Given.{values_at}
+use Rattle.isle_run_inputs.specs.ValuesAt.{values_at}
 use Rattle.isle_run_inputs.specs.Requested.{requested_term, requested_types}
-use Rattle.isle_run_inputs.specs.Forms.{are_built, answers_at}
+use Rattle.isle_run_inputs.specs.Built.{are_built}
+use Rattle.isle_run_inputs.specs.AnswersAt.{answers_at}
 use Rattle.isle_tree.specs.Program.{Program}
 use Rattle.isle_tree.specs.Run.{run}
 use Rattle.isle_interpreter.specs.Judged.{Runs}

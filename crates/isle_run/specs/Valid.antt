@@ -18,7 +18,8 @@ use Rattle.isle_answers.specs.Spelling.{SpellsForms}
 use Rattle.isle_values.specs.Written.{Writtens}
 use Rattle.isle_simulation.specs.TraitFns.{func_of}
 use Rattle.isle_run_inputs.specs.Requested.{requested_term}
-use Rattle.isle_run_inputs.specs.Forms.{are_built, turns_at}
+use Rattle.isle_run_inputs.specs.Built.{are_built}
+use Rattle.isle_run_inputs.specs.AnswersAt.{turns_at}
 use Rattle.isle_codegen.specs.CalledBy.{IsCalledBy}
 use Rattle.isle_codegen.specs.Checked.{IsChecked}
 use Rattle.isle_run.specs.Trial.{args_given}

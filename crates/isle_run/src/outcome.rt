@@ -4,11 +4,9 @@ ghost use Rattle.std.specs.Prelude.{◌≡◌, ◌⊎◌, ℕ, List, IfOk, IfErr
 ghost use Rattle.isle_core.specs.ValueViews.{values, ran};
 ghost use Rattle.isle_answers.specs.Views.{forms_seen};
 ghost use Rattle.isle_answers.specs.Spelling.{SpellsForms};
-ghost use Rattle.isle_tree.specs.Views.{program};
 ghost use Rattle.isle_tree.specs.WellFormed.{IsWellFormed};
-ghost use Rattle.isle_core.specs.Rule.{Environment};
 ghost use Rattle.isle_interpreter.specs.Judged.{Takes};
-ghost use Rattle.isle_run.specs.Compiled.{env_of, program_of};
+ghost use Rattle.isle_run.specs.Compiled.{program_of, attempt};
 ghost use Rattle.isle_run.specs.Ran.{IsUnder, IsOutcome};
 ghost use Rattle.isle_run.specs.NoLines.{IsRunRefused};
 ghost use Rattle.isle_run.specs.Placed.{placed};
@@ -30,7 +28,7 @@ pub struct Compiled<'a> {
     pub program: &'a Program,
 }
 
-// Why a run is refused, the number of a form being its place.
+// Why a run is refused, the number of an entry being the place of its form.
 fn placed(e: RunError, end: usize, forms: &[Form]) -> Refusal
     ensures { result ≡ placed e end (forms_seen forms.now) }
 {
@@ -44,10 +42,11 @@ fn placed(e: RunError, end: usize, forms: &[Form]) -> Refusal
 }
 
 // The refusal for the term or the arguments, or else another one.
-fn refused(p: &Program, term: &str, args: &[Value], other: Refusal) -> Refusal
-    ensures { (env : Environment) (text : List ℕ) → (Takes (program p.now) term.now (values args.now) → IsRunRefused (program p.now) env term.now (values args.now) text other) → IsRunRefused (program p.now) env term.now (values args.now) text result }
+fn refused(compiled: &Compiled<'_>, term: &str, args: &[Value], other: Refusal) -> Refusal
+    ensures { (text : List ℕ) → (Takes (program_of compiled.now) term.now (values args.now) → IsRunRefused (attempt compiled.now term.now args.now) text other)
+        → IsRunRefused (attempt compiled.now term.now args.now) text result }
 {
-    match takes(p, term, args) {
+    match takes(compiled.program, term, args) {
         Ok(()) => other,
         Err(e) => placed(e, 0, &[]),
     }
@@ -63,11 +62,12 @@ fn under_forms(
     end: usize,
 ) -> Result<Outcome, Refusal>
     requires well_formed { IsWellFormed (program_of compiled.now) }
-    ensures ok { IfOk result (λ o. IsUnder (program_of compiled.now) (env_of compiled.now) term.now (values args.now) (forms_seen forms.now) (ran o)) }
-    ensures err { IfErr result (λ e. (text : List ℕ) → SpellsForms text (forms_seen forms.now) → end ≡ length text → (e ≡ Memory) ⊎ IsRunRefused (program_of compiled.now) (env_of compiled.now) term.now (values args.now) text e) }
+    ensures ok { IfOk result (λ o. IsUnder (attempt compiled.now term.now args.now) (forms_seen forms.now) (ran o)) }
+    ensures err { IfErr result (λ e. (text : List ℕ) → SpellsForms text (forms_seen forms.now) → end ≡ length text
+        → (e ≡ Memory) ⊎ IsRunRefused (attempt compiled.now term.now args.now) text e) }
 {
     if !are_built(forms) {
-        return Err(refused(compiled.program, term, args, Refusal::NotYet));
+        return Err(refused(compiled, term, args, Refusal::NotYet));
     }
     let answers = answers_at(alloc, compiled.typeenv, compiled.termenv, forms)?;
     match run_term(alloc, compiled.program, term, args, &answers) {
@@ -85,14 +85,14 @@ pub fn outcome_under(
     text: &str,
 ) -> Result<Outcome, Refusal>
     requires well_formed { IsWellFormed (program_of compiled.now) }
-    ensures ok { IfOk result (λ o. IsOutcome (program_of compiled.now) (env_of compiled.now) term.now (values args.now) text.now (ran o)) }
-    ensures err { IfErr result (λ e. (e ≡ Memory) ⊎ IsRunRefused (program_of compiled.now) (env_of compiled.now) term.now (values args.now) text.now e) }
+    ensures ok { IfOk result (λ o. IsOutcome (attempt compiled.now term.now args.now) text.now (ran o)) }
+    ensures err { IfErr result (λ e. (e ≡ Memory) ⊎ IsRunRefused (attempt compiled.now term.now args.now) text.now e) }
 {
     match forms(alloc, text) {
         Ok(forms) => under_forms(alloc, compiled, term, args, forms.as_slice(), text.len()),
         Err(AnswersFail::At(at)) => {
             let other = Refusal::BadAnswers(at);
-            Err(refused(compiled.program, term, args, other))
+            Err(refused(compiled, term, args, other))
         }
         Err(AnswersFail::Memory) => Err(Refusal::Memory),
     }

@@ -53,8 +53,10 @@ pub fn of_program(
 ) -> Result<String, Refusal>
     requires terms { AreRuleSets (env_checked checked.now) checked.now.terms.items }
     requires well_formed { IsWellFormed (program tree.now) }
-    ensures ok { IfOk result (λ lines. OfSource (env_checked checked.now) (program tree.now) (λ options files. IsTrial options files term.now (seen given.now) answers.now (string_bytes lines))) }
-    ensures err { IfErr result (λ e. OfSource (env_checked checked.now) (program tree.now) (λ options files. HasNoLines options files term.now (seen given.now) answers.now e)) }
+    ensures ok { IfOk result (λ lines. OfSource (env_checked checked.now) (program tree.now)
+        (λ options files. IsTrial options files term.now (seen given.now) answers.now (string_bytes lines))) }
+    ensures err { IfErr result (λ e. OfSource (env_checked checked.now) (program tree.now)
+        (λ options files. HasNoLines options files term.now (seen given.now) answers.now e)) }
 {
     let args = match args_given(alloc, checked, term, given) {
         Ok(args) => args,

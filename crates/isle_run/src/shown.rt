@@ -2,9 +2,9 @@
 
 ghost use Rattle.std.specs.Prelude.{◌≡◌, ◌++◌, [], IfOk, OnOk, is_some, if◌then◌else◌, map};
 ghost use Rattle.std.specs.String.{string_bytes};
-ghost use Rattle.isle_core.specs.Rule.{Environment};
 ghost use Rattle.isle_core.specs.RuleViews.{environment};
 ghost use Rattle.isle_core.specs.ValueViews.{made, ran};
+ghost use Rattle.isle_run_inputs.specs.AnswerTypes.{OfTypes};
 ghost use Rattle.isle_run_inputs.specs.Requested.{answer_type};
 ghost use Rattle.isle_codegen.specs.Headline.{impure_calls};
 ghost use Rattle.isle_outcomes.specs.Lines.{call_line, call_lines, run_lines};
@@ -21,7 +21,8 @@ fn push_impure(
     types: &AnswerTypes<'_>,
     call: &CallMade,
 ) -> Result<(), OutOfMemory>
-    ensures { OnOk result ((env : Environment) → env.types ≡ types.now.0 → env.terms ≡ types.now.1 → string_bytes out.new ≡ string_bytes out.old ++ (if is_some (answer_type env call.now.callee) then call_line (made call.now) else [])) }
+    ensures { OnOk result (OfTypes types.now (λ env. string_bytes out.new
+        ≡ string_bytes out.old ++ (if is_some (answer_type env call.now.callee) then call_line (made call.now) else []))) }
 {
     match types.of(&call.callee) {
         Some(_) => push_call(out, call),
@@ -35,7 +36,8 @@ fn push_calls(
     types: &AnswerTypes<'_>,
     calls: &[CallMade],
 ) -> Result<(), OutOfMemory>
-    ensures { OnOk result ((env : Environment) → env.types ≡ types.now.0 → env.terms ≡ types.now.1 → string_bytes out.new ≡ string_bytes out.old ++ call_lines (impure_calls env (map made calls.now))) }
+    ensures { OnOk result (OfTypes types.now (λ env. string_bytes out.new
+        ≡ string_bytes out.old ++ call_lines (impure_calls env (map made calls.now)))) }
 {
     for call in calls {
         push_impure(out, types, call)?;

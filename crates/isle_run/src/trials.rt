@@ -36,23 +36,6 @@ pub fn trial(
     ensures err { IfErr result (λ e. HasNoLines options.now files.now term.now (seen given.now) answers.now e) }
     ensures complete { CanRun files.now term.now (seen given.now) answers.now → IsOkUnless result Refusal.Memory }
 {
-    tried(alloc, files, options, term, given, answers)
-}
-
-// The lines of the run, or why there are none.
-fn tried(
-    alloc: Global,
-    files: &Files,
-    options: &CodegenOptions,
-    term: &str,
-    given: &[Written],
-    answers: &str,
-) -> Result<String, Refusal>
-    requires count { length files.now.file_texts ≡ length files.now.file_names }
-    requires options { IsBuilt options.now }
-    ensures ok { IfOk result (λ lines. IsTrial options.now files.now term.now (seen given.now) answers.now (string_bytes lines)) }
-    ensures err { IfErr result (λ e. HasNoLines options.now files.now term.now (seen given.now) answers.now e) }
-{
     let checked = match check_files(alloc, files) {
         Ok(checked) => checked,
         Err(FileError::NotYet) => return Err(Refusal::NotYet),

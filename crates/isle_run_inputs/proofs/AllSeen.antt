@@ -7,7 +7,7 @@ use Rattle.isle_answers.specs.declared.form.AnswerForm.{AnswerForm as CodeAnswer
 use Rattle.isle_answers.specs.declared.form.Form.{Form as CodeForm}
 use Rattle.isle_answers.specs.declared.form.Form.TheVariants as code
 use Rattle.isle_answers.specs.Views.{answer_seen, form_seen}
-use Rattle.isle_run_inputs.specs.Forms.{is_built_answer, is_built}
+use Rattle.isle_run_inputs.specs.Built.{is_built_answer, is_built}
 
 pub all_seen : {X Y : Type 0} (p : X → Bool) (f : Y → X) (ys : List Y) → list_all (λ y. p (f y)) ys ≡ list_all p (map f ys)
 all_seen p f ys = sym (list_all-map p f ys)

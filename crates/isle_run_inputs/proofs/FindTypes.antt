@@ -69,11 +69,3 @@ internal_more types terms i t d to key external old new lt is goes named were up
       inserted key t old new _ name updates (were.internals env e name)
       ∙ sym (first_at env terms i t d (Some (Internal key.now)) (Internal name) lt is (sym named ∙ goes env e));
 }
-
--- one that calls nothing
-pub nothing_more : (types : TypeEnv) (terms : List Term) (i : ℕ) (t d : Term) (to : Called) (external internal : BTreeMap (Bor (List ℕ)) TypeId) → i < length terms → t ≡ get_or terms i d
-    → Goes types t (called to) → called to ≡ None → FindsTypes types (drop (i + 1) terms) external internal → FindsTypes types (drop i terms) external internal
-nothing_more types terms i t d to external internal lt is goes named were = record {
-  externals = λ env e name. were.externals env e name ∙ sym (first_at env terms i t d None (External name) lt is (sym named ∙ goes env e));
-  internals = λ env e name. were.internals env e name ∙ sym (first_at env terms i t d None (Internal name) lt is (sym named ∙ goes env e));
-}

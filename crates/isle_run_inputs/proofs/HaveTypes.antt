@@ -20,7 +20,7 @@ use Rattle.isle_core.specs.Value.{Value, Int}
 use Rattle.isle_spelling.proofs.Wraps.{wraps, wraps_only}
 use Rattle.isle_values.specs.Written as written
 use Rattle.isle_values.specs.Written.{Written, Writtens, NoValue, AValue}
-use Rattle.isle_run_inputs.specs.Given.{misfit, is_of, value_of_def, values_at}
+use Rattle.isle_run_inputs.specs.ValuesAt.{misfit, is_of, value_of_def, values_at}
 
 -- as many values as names, and this of each name and value
 abbrev pub Matched : (List ℕ → Value → Type 0) → List (List ℕ) → List Value → Type 0

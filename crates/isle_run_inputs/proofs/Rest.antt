@@ -13,7 +13,7 @@ use Rattle.isle_core.specs.ValueViews.{value, values}
 use Rattle.isle_values.specs.declared.written.Written.{Written as CodeWritten}
 use Rattle.isle_values.specs.Written.{Written, Writtens, AValue}
 use Rattle.isle_values.specs.Views.{written, seen}
-use Rattle.isle_run_inputs.specs.Given.{value_at_any, values_at}
+use Rattle.isle_run_inputs.specs.ValuesAt.{value_at_any, values_at}
 
 -- what stands at a place, behind a reference
 pub got : {X : Type 0} (xs : List X) (i : ℕ) (r : Option (Bor X)) → IfSome r (λ x. x.now ≡ get_or xs i x.now) → MatchOption r (length xs ≤ i) (λ x. (i < length xs) × HoldsAt (λ y. x.now ≡ y) xs i) → option_copied r ≡ slice_get xs i

@@ -16,7 +16,7 @@ use Rattle.isle_answers.specs.Form.{Form}
 use Rattle.isle_answers.specs.Views.{answer_seen, form_seen, forms_seen}
 use Rattle.isle_answers.specs.declared.form.Form.TheVariants as code
 use Rattle.isle_run_inputs.specs.Requested.{answer_type}
-use Rattle.isle_run_inputs.specs.Forms.{answer_at, turns_at}
+use Rattle.isle_run_inputs.specs.AnswersAt.{answer_at, turns_at}
 
 -- one item more behind those that were
 pushed : {X Y : Type 0} (f : X → Y) (old new : List X) (x : X) (rest : List Y) → new ≡ old ++ x ∷ [] → map f old ++ f x ∷ rest ≡ map f new ++ rest
@@ -58,20 +58,3 @@ given_turns env form callee copy turns rest at ty found last is same typed all e
     ∙ sym (ap (λ c. record { callee = c; turns = map answer found; rest = answer last } ∷ turns_at env more) same
     ∙ ap (λ ts. record { callee = callee; turns = ts; rest = answer last } ∷ turns_at env more) (all ∙ ap (λ t. map (λ (x : CodeAnswerForm). answer_at env t (answer_seen x)) turns) typed ∙ seen_first (answer_at env (answer_type env callee)) answer_seen turns)
     ∙ ap (λ a. record { callee = callee; turns = map (answer_at env (answer_type env callee)) (map answer_seen turns); rest = a } ∷ turns_at env more) (end ∙ ap (λ t. answer_at env t (answer_seen rest)) typed))
-
-abbrev Gathered : Environment → List CodeForm → ℕ → List CodeTurnAnswers → Type 0
-Gathered env forms i all = turns_at env (forms_seen forms) ≡ map turn_answers all ++ turns_at env (forms_seen (drop i forms))
-
-first_of : (env : Environment) (forms : List CodeForm) (i : ℕ) (form : CodeForm) (old : List CodeTurnAnswers) (t : Option CodeTurnAnswers) → i < length forms → form ≡ get_or forms i form → Gives env form t → Gathered env forms i old
-    → turns_at env (forms_seen forms) ≡ map turn_answers old ++ cons_option (option_map turn_answers t) (turns_at env (forms_seen (drop (i + 1) forms)))
-first_of env forms i form old t lt is gives were =
-    were
-    ∙ ap (λ xs. map turn_answers old ++ turns_at env (forms_seen xs)) (drop_more forms i form lt ∙ ap (λ x. x ∷ drop (i + 1) forms) (sym is))
-    ∙ ap (λ ts. map turn_answers old ++ ts) (gives (forms_seen (drop (i + 1) forms)))
-
-pub turns_more : (env : Environment) (forms : List CodeForm) (i : ℕ) (form : CodeForm) (old new : List CodeTurnAnswers) (t : CodeTurnAnswers) → i < length forms → form ≡ get_or forms i form → Gives env form (Some t) → new ≡ old ++ t ∷ []
-    → Gathered env forms i old → Gathered env forms (i + 1) new
-turns_more env forms i form old new t lt is gives e were = first_of env forms i form old (Some t) lt is gives were ∙ pushed turn_answers old new t _ e
-
-pub turns_same : (env : Environment) (forms : List CodeForm) (i : ℕ) (form : CodeForm) (old : List CodeTurnAnswers) → i < length forms → form ≡ get_or forms i form → Gives env form None → Gathered env forms i old → Gathered env forms (i + 1) old
-turns_same env forms i form old lt is gives were = first_of env forms i form old None lt is gives were

@@ -12,6 +12,10 @@ use Rattle.isle_core.specs.declared.values.Callee.TheVariants.{External, Interna
 use Rattle.isle_core.specs.Rule.{Environment}
 use Rattle.isle_core.specs.Terms.{impure_callee, goes_to}
 
+-- so for every environment with these types and terms
+abbrev pub OfTypes : TypeEnv × List Term → (Environment → Type 0) → Type 0
+OfTypes known P = (env : Environment) → env.types ≡ known.0 → env.terms ≡ known.1 → P env
+
 -- what the map has at a name
 abbrev pub type_at : BTreeMap (Bor (List ℕ)) TypeId → List ℕ → Option TypeId
 type_at found name = get_by (λ (k : Bor (List ℕ)). slice_cmp nat_cmp name k.now) found

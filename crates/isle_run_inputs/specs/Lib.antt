@@ -1,6 +1,7 @@
-pub mod Given
+pub mod ValuesAt
 pub mod Requested
-pub mod Forms
+pub mod Built
+pub mod AnswersAt
 pub mod AnswerTypes
 pub mod Called
 pub mod Places

@@ -4,10 +4,9 @@ ghost use Rattle.std.specs.Prelude.{◌≡◌, IfOk};
 ghost use Rattle.isle_core.specs.Rule.{Environment};
 ghost use Rattle.isle_core.specs.Terms.{impure_callee};
 ghost use Rattle.isle_run_inputs.specs.Requested.{answer_type};
-ghost use Rattle.isle_run_inputs.specs.AnswerTypes.{FindsTypes};
+ghost use Rattle.isle_run_inputs.specs.AnswerTypes.{OfTypes, FindsTypes};
 ghost use Rattle.isle_run_inputs.specs.Called.{called};
 
-use crate::names::sym_text;
 use isle_core::{Callee, ConstructorKind, Term, TermKind, TypeEnv, TypeId};
 use std::alloc::{AllocError, Global};
 use std::collections::BTreeMap;
@@ -54,8 +53,8 @@ fn impure_callee<'e>(typeenv: &'e TypeEnv, term: &Term) -> Called<'e>
             ..
         } => match constructor {
             ConstructorKind::Absent => Called::Nothing,
-            ConstructorKind::Internal => Called::Internal(sym_text(typeenv, term.name)),
-            ConstructorKind::External { func } => Called::External(sym_text(typeenv, *func)),
+            ConstructorKind::Internal => Called::Internal(typeenv.symbol(term.name)),
+            ConstructorKind::External { func } => Called::External(typeenv.symbol(*func)),
         },
         TermKind::Decl { pure: true, .. } | TermKind::Variant { .. } | TermKind::Struct { .. } => {
             Called::Nothing
@@ -96,7 +95,7 @@ impl<'e> AnswerTypes<'e> {
 
     /// Returns the type of what a call of the callee answers.
     pub fn of(&self, callee: &Callee) -> Option<TypeId>
-        ensures { (env : Environment) → env.types ≡ self.now.0 → env.terms ≡ self.now.1 → result ≡ answer_type env callee.now }
+        ensures { OfTypes self.now (λ env. result ≡ answer_type env callee.now) }
     {
         match callee {
             Callee::External(name) => self.external.get(name.as_str()).copied(),

@@ -8,13 +8,14 @@ ghost use Rattle.isle_answers.specs.Form as pure_form;
 ghost use Rattle.isle_answers.specs.Views.{result_seen, answer_seen, form_seen, forms_seen};
 ghost use Rattle.isle_core.specs.RuleViews.{environment};
 ghost use Rattle.isle_core.specs.Rule.{Environment};
-ghost use Rattle.isle_run_inputs.specs.Forms.{result_at, answer_at, turns_at, answers_at};
+ghost use Rattle.isle_run_inputs.specs.AnswerTypes.{OfTypes};
+ghost use Rattle.isle_run_inputs.specs.AnswersAt.{result_at, answer_at, turns_at, answers_at};
 
 use crate::answer_types::AnswerTypes;
 use crate::value::value_at_any;
 use isle_answers::{AnswerForm, Form, ResultForm};
 use isle_core::{
-    Answer, Answers, Callee, List, OutOfMemory, TermEnv, Text, TurnAnswers, TypeEnv, TypeId, Value,
+    Answer, Answers, List, OutOfMemory, TermEnv, TurnAnswers, TypeEnv, TypeId, Value,
 };
 use std::alloc::{AllocError, Global};
 
@@ -63,29 +64,14 @@ fn all_at(
     ty: Option<TypeId>,
     forms: &[AnswerForm],
 ) -> Result<Vec<Answer>, AllocError>
-    ensures { IfOk result (λ found. (env : Environment) → env.types ≡ typeenv.now → map answer found.items ≡ map (λ a. answer_at env ty (answer_seen a)) forms.now) }
+    ensures { IfOk result (λ found. (env : Environment) → env.types ≡ typeenv.now
+        → map answer found.items ≡ map (λ a. answer_at env ty (answer_seen a)) forms.now) }
 {
     let mut found = Vec::new(alloc);
     for form in forms {
         found.push(answer_at(alloc, typeenv, ty, form)?)?;
     }
     Ok(found)
-}
-
-// A copy of a callee.
-fn callee_copied(alloc: Global, callee: &Callee) -> Result<Callee, AllocError>
-    ensures { IfOk result (λ copy. copy ≡ callee.now) }
-{
-    match callee {
-        Callee::External(name) => Ok(Callee::External(Text::new(String::from_str(
-            alloc,
-            name.as_str(),
-        )?))),
-        Callee::Internal(term) => Ok(Callee::Internal(Text::new(String::from_str(
-            alloc,
-            term.as_str(),
-        )?))),
-    }
 }
 
 // The turns that a form gives; only forms of turns are built, and the others give none.
@@ -95,7 +81,8 @@ fn turns_of(
     types: &AnswerTypes,
     form: &Form,
 ) -> Result<Option<TurnAnswers>, AllocError>
-    ensures { IfOk result (λ t. (env : Environment) → env.types ≡ typeenv.now → env.types ≡ types.now.0 → env.terms ≡ types.now.1 → (rest : Prelude.List pure_form.Form) → turns_at env (form_seen form.now ∷ rest) ≡ cons_option (option_map turn_answers t) (turns_at env rest)) }
+    ensures { IfOk result (λ t. OfTypes types.now (λ env. env.types ≡ typeenv.now → (rest : Prelude.List pure_form.Form)
+        → turns_at env (form_seen form.now ∷ rest) ≡ cons_option (option_map turn_answers t) (turns_at env rest))) }
 {
     match form {
         Form::Turns {
@@ -108,7 +95,7 @@ fn turns_of(
             let turns = all_at(alloc, typeenv, ty, turns.as_slice())?;
             let rest = answer_at(alloc, typeenv, ty, rest)?;
             Ok(Some(TurnAnswers {
-                callee: callee_copied(alloc, callee)?,
+                callee: callee.copied(alloc)?,
                 turns: List::new(turns),
                 rest,
             }))

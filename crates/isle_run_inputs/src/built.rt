@@ -3,7 +3,7 @@
 ghost use Rattle.std.specs.Prelude.{◌≡◌};
 ghost use Rattle.std.specs.List.{list_all};
 ghost use Rattle.isle_answers.specs.Views.{result_seen, answer_seen, form_seen, forms_seen};
-ghost use Rattle.isle_run_inputs.specs.Forms.{is_built_result, is_built_answer, is_built, are_built};
+ghost use Rattle.isle_run_inputs.specs.Built.{is_built_result, is_built_answer, is_built, are_built};
 
 use isle_answers::{AnswerForm, Form, ResultForm};
 

@@ -4,7 +4,6 @@
 mod answer_types;
 mod answers;
 mod built;
-mod names;
 mod number;
 mod places;
 mod requested;

@@ -5,7 +5,7 @@ ghost use mir.Val.{hbits};
 ghost use Rattle.isle_core.specs.Int.{width, is_signed, wrapped};
 ghost use Rattle.isle_core.specs.declared.types.IntType.TheVariants.{I128};
 ghost use Rattle.isle_lexer.specs.SignedViews.{signed};
-ghost use Rattle.isle_run_inputs.specs.Given.{count_up, is_of};
+ghost use Rattle.isle_run_inputs.specs.ValuesAt.{count_up, is_of};
 
 use isle_core::IntType;
 use isle_lexer::Signed;

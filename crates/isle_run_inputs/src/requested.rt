@@ -7,14 +7,13 @@ ghost use Rattle.isle_core.specs.Terms.{term_name, with_rules};
 ghost use Rattle.isle_run_inputs.specs.Requested.{requested_term};
 ghost use Rattle.std.specs.Str.{bytes_eq};
 
-use crate::names::term_name;
 use isle_core::{RuleSet, Term, TermEnv, TermId, TypeEnv};
 
 // Whether a term has the name.
 fn is_named(typeenv: &TypeEnv, terms: &[Term], id: TermId, name: &str) -> bool
     ensures { (env : Environment) → env.types ≡ typeenv.now → env.terms ≡ terms.now → result ≡ bytes_eq name.now (term_name env id) }
 {
-    name == term_name(typeenv, terms, id)
+    name == typeenv.term_name(terms, id)
 }
 
 /// Returns the first term of this name that has rules. `terms` lists the terms with rules, in order of ids.

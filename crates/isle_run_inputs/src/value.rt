@@ -6,7 +6,7 @@ ghost use Rattle.isle_core.specs.Rule.{Environment};
 ghost use Rattle.isle_core.specs.ValueViews.{value};
 ghost use Rattle.isle_lexer.specs.SignedViews.{signed};
 ghost use Rattle.isle_values.specs.Views.{written};
-ghost use Rattle.isle_run_inputs.specs.Given.{misfit, number_at, value_of_def, value_at, value_at_any};
+ghost use Rattle.isle_run_inputs.specs.ValuesAt.{misfit, number_at, value_of_def, value_at, value_at_any};
 
 use crate::number::{bits, is_of};
 use isle_core::{BuiltinType, IntType, Text, TypeDef, TypeEnv, TypeId, Value};

@@ -4,7 +4,7 @@ ghost use Rattle.std.specs.Prelude.{◌≡◌, IfOk};
 ghost use Rattle.isle_core.specs.Rule.{Environment};
 ghost use Rattle.isle_core.specs.ValueViews.{values};
 ghost use Rattle.isle_values.specs.Views.{seen};
-ghost use Rattle.isle_run_inputs.specs.Given.{values_at};
+ghost use Rattle.isle_run_inputs.specs.ValuesAt.{values_at};
 
 use crate::value::value_at_any;
 use isle_core::{OutOfMemory, TypeEnv, TypeId, Value};

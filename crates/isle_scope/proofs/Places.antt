@@ -39,10 +39,10 @@ has_from place known [] n = either (is_some known)
     either false = refl
 has_from place known (l ∷ ls) n = has_from (suc place) (if l == n then Some place else known) ls n ∙ one (l == n) known (list_any (λ m. m == n) ls)
   where
-    one : (same : Bool) (before : Option ℕ) (behind : Bool) → (is_some (if same then Some place else before) || behind) ≡ (is_some before || (same || behind))
-    one true None behind = refl
-    one true (Some x) behind = refl
-    one false before behind = refl
+    one : (same : Bool) (before : Option ℕ) (later : Bool) → (is_some (if same then Some place else before) || later) ≡ (is_some before || (same || later))
+    one true None later = refl
+    one true (Some x) later = refl
+    one false before later = refl
 
 pub has_place : (ls : List ℕ) (n : ℕ) → is_some (last_place ls n) ≡ list_any (λ l. l == n) ls
 has_place ls n = has_from 0 None ls n

@@ -54,13 +54,6 @@ zip_take (suc n) [] xs = refl
 zip_take (suc n) (l ∷ ls) [] = refl
 zip_take (suc n) (l ∷ ls) (x ∷ xs) = ap (λ ps. (l, x) ∷ ps) (zip_take n ls xs)
 
-pub take_both : {A : Type 0} (n : ℕ) (ls : List ℕ) (xs : List A) → length ls ≡ length xs → length (take n ls) ≡ length (take n xs)
-take_both zero ls xs same = refl
-take_both (suc n) [] [] same = refl
-take_both (suc n) [] (x ∷ xs) same = absurd (omega (arith, same))
-take_both (suc n) (l ∷ ls) [] same = absurd (omega (arith, same))
-take_both (suc n) (l ∷ ls) (x ∷ xs) same = ap suc (take_both n ls xs (omega (arith, same)))
-
 -- as many as locals
 pub zip_length : {A : Type 0} (ls : List ℕ) (xs : List A) → length ls ≡ length xs → length (zip ls xs) ≡ length ls
 zip_length [] xs same = refl

@@ -51,9 +51,9 @@ external_term env term t of there h =
 -- ---- functions of the trait by their names
 
 -- a function more, or none
-pub behind_option : (o : Option TraitFn) (fs : List TraitFn) (f : TraitFn) → Contains fs f → Contains (cons_option o fs) f
-behind_option None fs f c = c
-behind_option (Some g) fs f c = tail_contained g fs f c
+pub after_option : (o : Option TraitFn) (fs : List TraitFn) (f : TraitFn) → Contains fs f → Contains (cons_option o fs) f
+after_option None fs f c = c
+after_option (Some g) fs f c = tail_contained g fs f c
 
 at_option : (o : Option TraitFn) (fs : List TraitFn) (f : TraitFn) → o ≡ Some f → Contains (cons_option o fs) f
 at_option None fs f e = cc
@@ -65,14 +65,14 @@ at_option (Some g) fs f e = subst (λ x. Contains (x ∷ fs) f) (sym (same_fn g 
 pub fn_contained : (env : Environment) (ts : List Term) (i : ℕ) (t : Term) (f : TraitFn) → slice_get ts i ≡ Some t → constructor_fn_of env t ≡ Some f → Contains (trait_fns_in env ts) f
 fn_contained env [] i t f e is = cc
 fn_contained env (u ∷ ts) zero t f e is =
-    behind_option (extractor_fn_of env u) (cons_option (constructor_fn_of env u) (trait_fns_in env ts)) f
+    after_option (extractor_fn_of env u) (cons_option (constructor_fn_of env u) (trait_fns_in env ts)) f
     (at_option (constructor_fn_of env u) (trait_fns_in env ts) f (ap (constructor_fn_of env) (same u t e) ∙ is))
   where
     same : (a b : Term) → Some a ≡ Some b → a ≡ b
     same a b e = cc
 fn_contained env (u ∷ ts) (suc i) t f e is =
-    behind_option (extractor_fn_of env u) (cons_option (constructor_fn_of env u) (trait_fns_in env ts)) f
-    (behind_option (constructor_fn_of env u) (trait_fns_in env ts) f (fn_contained env ts i t f e is))
+    after_option (extractor_fn_of env u) (cons_option (constructor_fn_of env u) (trait_fns_in env ts)) f
+    (after_option (constructor_fn_of env u) (trait_fns_in env ts) f (fn_contained env ts i t f e is))
 
 pub name_contained : (fs : List TraitFn) (f : TraitFn) → Contains fs f → Contains (fn_names fs) f.name
 name_contained [] f c = absurd (none_contained f c)

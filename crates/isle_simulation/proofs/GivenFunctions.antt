@@ -27,7 +27,7 @@ use Rattle.isle_simulation.proofs.Tails.{written_of_term}
 use Rattle.isle_simulation.proofs.WellFormedFunctions.{written_well_formed}
 use Rattle.isle_simulation.proofs.Written.{function_of}
 
-module _ (files : Files) (env : Environment) (t : Term) (bs : List Binding) (b : Block) (f : Function) (lawful : IsLawfulBlock (setting env t bs) b) (single : HasSingleArms b) (once : AnswersOnce (kind_of t.kind)) (given : term_function files env t bs b ≡ Some f) where
+module _ (files : Files) (env : Environment) (t : Term) (bs : List Binding) (b : Block) (f : Function) (lawful : IsLawfulBlock (setting env t bs) b) (single : HasSingleArms b) (once : AnswersOnce (kind_of t.kind)) (given : term_function files (setting env t bs) b ≡ Some f) where
   -- it is the written one
   given_is : function_of files env t bs b ≡ f
   given_is = some_one (function_of files env t bs b) f (sym (function_made files env t bs b once lawful single) ∙ given)

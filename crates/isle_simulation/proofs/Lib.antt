@@ -12,7 +12,7 @@ pub mod ExternalTerms
 pub mod ArmBodies
 pub mod BlockForms
 pub mod BlockCalls
-pub mod BlockThere
+pub mod BlockScoped
 pub mod BlockFits
 pub mod WellFormedFunctions
 pub mod Tails

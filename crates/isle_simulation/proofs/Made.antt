@@ -36,7 +36,7 @@ use Rattle.isle_tree.specs.declared.tree.Operand.{Operand}
 use Rattle.isle_tree.specs.Program.{Stmt, IfEq, Return, Body, Done, Then}
 use Rattle.isle_simulation.specs.Operands.{constant, in_place, tested, is_bound, operand_of}
 use Rattle.isle_simulation.specs.Shape.{IsOperandOf}
-use Rattle.isle_simulation.specs.Statements.{callee_of, reads, read_of, bound_expr, stmt_before, lets, if_eq, return_of, block_body, control_stmt}
+use Rattle.isle_simulation.specs.Statements.{callee_of, reads, read_of, computed, stmt_before, lets, if_eq, return_of, block_body, control_stmt}
 use Rattle.isle_simulation.specs.TermFunction.{tail_of, function_with, term_function}
 use Rattle.isle_simulation.proofs.ArmBodies.{arm_body}
 use Rattle.isle_simulation.proofs.BoundTests.{found}
@@ -82,7 +82,7 @@ operand_written env t bs bound b ty h = one (is_bound bound b) refl
 
 -- ---- what bound locals compute
 
-reads_made : (env : Environment) (t : Term) (bs : List Binding) (bound : List ℕ) (parameters : List BindingId) (tys : List TypeId) → AreReadAs (setting env t bs) bound parameters tys → reads env bs bound parameters ≡ Some (written.reads env bs bound parameters)
+reads_made : (env : Environment) (t : Term) (bs : List Binding) (bound : List ℕ) (parameters : List BindingId) (tys : List TypeId) → AreReadAs (setting env t bs) bound parameters tys → reads (setting env t bs) bound parameters ≡ Some (written.reads env bs bound parameters)
 reads_made env t bs bound [] [] h = refl
 reads_made env t bs bound (b ∷ more) (ty ∷ tys) h = rw (operand_written env t bs bound b ty h.0, reads_made env t bs bound more tys h.1) refl
 reads_made env t bs bound [] (ty ∷ tys) h = absurd h
@@ -97,7 +97,7 @@ in_place_made : (env : Environment) (t : Term) (bs : List Binding) (b : BindingI
 in_place_made env t bs b p ty e h k = ap read_of (subst (λ q. in_place env q ≡ Some (written_place env q)) (sym e) (place_written env t p ty h k))
 
 -- what is computed for a binding that may be bound
-bound_made : (env : Environment) (t : Term) (bs : List Binding) (bound : List ℕ) (b : BindingId) (p : Path) (o : Option Binding) → at (paths_of bs) b ≡ p → IsBindable (setting env t bs) bound p o → bound_expr env bs bound b o ≡ Some (written.bound_expr env bs bound b o)
+bound_made : (env : Environment) (t : Term) (bs : List Binding) (bound : List ℕ) (b : BindingId) (p : Path) (o : Option Binding) → at (paths_of bs) b ≡ p → IsBindable (setting env t bs) bound p o → computed (setting env t bs) bound b o ≡ Some (written.bound_expr env bs bound b o)
 bound_made env t bs bound b p (Some (binding.Constructor term parameters k)) e is = rw (callee_made is.kind (calling env term) is.external, reads_made env t bs bound parameters is.called.arg_tys is.args) refl
 bound_made env t bs bound b p (Some (binding.MatchSome source)) e is = rw (found bound source.0 is.bound') refl
 bound_made env t bs bound b p (Some (binding.Argument index)) e is = in_place_made env t bs b p is.1.0 e is.1.1 is.0
@@ -110,7 +110,7 @@ bound_made env t bs bound b p o e is = absurd is
 before_made : (o : Option Stmt) (s : Stmt) (r : Option Body) (ss : Body) → o ≡ Some s → r ≡ Some ss → stmt_before o r ≡ Some (Then s ss)
 before_made o s r ss e f = rw (e, f) refl
 
-lets_made : (env : Environment) (t : Term) (bs : List Binding) (bound : List ℕ) (binds : List BindingId) (r : Option Body) (more : Body) → AreBindable (setting env t bs) bound binds → r ≡ Some more → lets env bs bound binds r ≡ Some (written.lets env bs bound binds more)
+lets_made : (env : Environment) (t : Term) (bs : List Binding) (bound : List ℕ) (binds : List BindingId) (r : Option Body) (more : Body) → AreBindable (setting env t bs) bound binds → r ≡ Some more → lets (setting env t bs) bound binds r ≡ Some (written.lets env bs bound binds more)
 lets_made env t bs bound [] r more k e = e
 lets_made env t bs bound (b ∷ binds) r more k e = rw (bound_made env t bs bound b (at (paths_of bs) b) (slice_get bs b.0) refl k.0, lets_made env t bs (bound ++ b.0 ∷ []) binds r more k.1 e) refl
 
@@ -124,28 +124,28 @@ return_made return_kind.Iterator once o x e = absurd once
 
 mutual
   -- the statements of a lawful block
-  block_made : (b : Block) (env : Environment) (t : Term) (bs : List Binding) (kind : ReturnKind) → AnswersOnce kind → (bound made : List ℕ) (end : Body) → IsLawfulFrom (setting env t bs) bound made b → HasSingleArms b
-      → block_body env bs kind bound b (Some end) ≡ Some (written.block_body env bs kind bound b end)
-  block_made Stop env t bs kind once bound made end k o = refl
-  block_made (Step binds c more) env t bs kind once bound made end k o =
+  block_made : (b : Block) (env : Environment) (t : Term) (bs : List Binding) → AnswersOnce (kind_of t.kind) → (bound made : List ℕ) (end : Body) → IsLawfulFrom (setting env t bs) bound made b → HasSingleArms b
+      → block_body (setting env t bs) bound b (Some end) ≡ Some (written.block_body env bs (kind_of t.kind) bound b end)
+  block_made Stop env t bs once bound made end k o = refl
+  block_made (Step binds c more) env t bs once bound made end k o =
       lets_made env t bs bound binds _ _ k.0
-      (before_made _ _ _ _ (control_made c more env t bs kind once (bound_by bound binds) _ k.2 o.0) (block_made more env t bs kind once (bound_by bound binds) _ end k.3 o.1))
+      (before_made _ _ _ _ (control_made c more env t bs once (bound_by bound binds) _ k.2 o.0) (block_made more env t bs once (bound_by bound binds) _ end k.3 o.1))
 
-  control_made : (c : Control) (more : Block) (env : Environment) (t : Term) (bs : List Binding) (kind : ReturnKind) → AnswersOnce kind → (bound made : List ℕ) → IsLawfulControl (setting env t bs) bound made c more → IsSingle c
-      → control_stmt env bs kind bound c ≡ Some (written.control_stmt env bs kind bound c)
-  control_made (block.Match source (block.Arm c places body block.NoArm)) more env t bs kind once bound made k o =
+  control_made : (c : Control) (more : Block) (env : Environment) (t : Term) (bs : List Binding) → AnswersOnce (kind_of t.kind) → (bound made : List ℕ) → IsLawfulControl (setting env t bs) bound made c more → IsSingle c
+      → control_stmt (setting env t bs) bound c ≡ Some (written.control_stmt env bs (kind_of t.kind) bound c)
+  control_made (block.Match source (block.Arm c places body block.NoArm)) more env t bs once bound made k o =
       test_made _ _ _ _ _ _ (operand_written env t bs bound source k.1.0 k.1.1) (test_written env c k.1.0 k.1.2.0)
-      (block_made body env t bs kind once bound made Done (arm_body (setting env t bs) bound made source c places body block.NoArm k.1.0 k.1.2) o)
-  control_made (block.Match source (block.Arm c places body (block.Arm d others inside arms))) more env t bs kind once bound made k o = absurd o
-  control_made (block.Match source block.NoArm) more env t bs kind once bound made k o = absurd o
-  control_made (block.Equal x y body) more env t bs kind once bound made k o =
-      test_made _ _ _ _ _ _ (operand_written env t bs bound x k.0.0 k.0.1) (operand_written env t bs bound y k.0.0 k.0.2) (block_made body env t bs kind once bound made Done k.1 o)
-  control_made (block.Loop result body) more env t bs kind once bound made k o = absurd k
-  control_made (block.Return pos result) more env t bs kind once bound made k o =
-      return_made kind once _ _ (operand_written env t bs bound result t.ret_ty k.0)
+      (block_made body env t bs once bound made Done (arm_body (setting env t bs) bound made source c places body block.NoArm k.1.0 k.1.2) o)
+  control_made (block.Match source (block.Arm c places body (block.Arm d others inside arms))) more env t bs once bound made k o = absurd o
+  control_made (block.Match source block.NoArm) more env t bs once bound made k o = absurd o
+  control_made (block.Equal x y body) more env t bs once bound made k o =
+      test_made _ _ _ _ _ _ (operand_written env t bs bound x k.0.0 k.0.1) (operand_written env t bs bound y k.0.0 k.0.2) (block_made body env t bs once bound made Done k.1 o)
+  control_made (block.Loop result body) more env t bs once bound made k o = absurd k
+  control_made (block.Return pos result) more env t bs once bound made k o =
+      return_made (kind_of t.kind) once _ _ (operand_written env t bs bound result t.ret_ty k.0)
 
 -- ---- functions
 
-pub function_made : (files : Files) (env : Environment) (t : Term) (bs : List Binding) (b : Block) → AnswersOnce (kind_of t.kind) → IsLawfulBlock (setting env t bs) b → HasSingleArms b → term_function files env t bs b ≡ Some (function_of files env t bs b)
+pub function_made : (files : Files) (env : Environment) (t : Term) (bs : List Binding) (b : Block) → AnswersOnce (kind_of t.kind) → IsLawfulBlock (setting env t bs) b → HasSingleArms b → term_function files (setting env t bs) b ≡ Some (function_of files env t bs b)
 function_made files env t bs b once h o =
-    ap (option_map (function_with env t)) (block_made b env t bs (kind_of t.kind) once [] [] (tail_of (kind_of t.kind) (sym_text env t.name) (place_in files t.decl_pos) b) h o)
+    ap (option_map (function_with env t)) (block_made b env t bs once [] [] (tail_of (kind_of t.kind) (sym_text env t.name) (place_in files t.decl_pos) b) h o)

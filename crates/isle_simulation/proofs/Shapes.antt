@@ -56,7 +56,7 @@ mutual
       let steps = block_shape body env t bs once bound made Done (arm_body s bound made source c places body block.NoArm k.1.0 k.1.2) o refl in
       let none = no_places s source c places k.1.0 k.1.2.0 k.1.2.1 in
       let inside = subst (λ ps. AreSteps s (bound_within bound ps) (bare (block_body env bs (kind_of t.kind) bound body Done)) body) (sym none) steps in
-      rw e ((operand_written env t bs bound source k.1.0 k.1.1, test_written env c k.1.0 k.1.2.0, inside), h)
+      rw e ((operand_written env t bs bound source k.1.0 k.1.1, (test_written env c k.1.0 k.1.2.0, inside)), h)
   control_shape (block.Match source (block.Arm c places body (block.Arm d others inside arms))) more env t bs once bound made outer binds after e k o h = absurd o
   control_shape (block.Match source block.NoArm) more env t bs once bound made outer binds after e k o h = absurd o
   control_shape (block.Equal x y body) more env t bs once bound made outer binds after e k o h =

@@ -33,7 +33,7 @@ use Rattle.isle_core.specs.SingleArms.{HasSingleArms, IsSingle}
 use Rattle.isle_core.proofs.RunEquality.{typed_same}
 use Rattle.isle_tree.specs.declared.tree.Operand.{Operand}
 use Rattle.isle_tree.specs.Program.{Body, Done, Then}
-use Rattle.isle_tree.specs.Run.{Around, Env, value_of, Flow, Goes, Ends, then_run, behind, run_return, run_stmt, run_body, ended, function_run}
+use Rattle.isle_tree.specs.Run.{Around, Env, value_of, Flow, Goes, Ends, then_run, after_scope, run_return, run_stmt, run_body, ended, function_run}
 use Rattle.isle_simulation.proofs.Written.{block_body, control_stmt, end_of, returned, written_operand, function_of}
 use Rattle.isle_simulation.specs.TermFunction.{ends_in_return, mark_of, tail_body, tail_of}
 use Rattle.isle_simulation.specs.Ends.{end_of as ending}
@@ -51,12 +51,12 @@ abbrev back : ReturnKind → Env → Went → Flow
 back kind locals (went.Goes known made) = Goes locals (done made)
 back kind locals (went.Ends o) = Ends (end_of kind o.result) (done o.calls)
 
-behind_back : (u : Around) (kind : ReturnKind) (locals inner : Env) (w : Went) → behind locals (then_run (back kind inner w) (run_body u Done)) ≡ back kind locals w
-behind_back u kind locals inner (went.Goes known made) = refl
-behind_back u kind locals inner (went.Ends o) = refl
+after_scope_back : (u : Around) (kind : ReturnKind) (locals inner : Env) (w : Went) → after_scope locals (then_run (back kind inner w) (run_body u Done)) ≡ back kind locals w
+after_scope_back u kind locals inner (went.Goes known made) = refl
+after_scope_back u kind locals inner (went.Ends o) = refl
 
-if_back : (kind : ReturnKind) (x : Bool) (locals : Env) (f : Flow) (w : Went) (known : Known) (made : List Made) → behind locals f ≡ back kind locals w
-    → cond x (behind locals f) (Goes locals (done made)) ≡ back kind locals (cond x w (went.Goes known made))
+if_back : (kind : ReturnKind) (x : Bool) (locals : Env) (f : Flow) (w : Went) (known : Known) (made : List Made) → after_scope locals f ≡ back kind locals w
+    → cond x (after_scope locals f) (Goes locals (done made)) ≡ back kind locals (cond x w (went.Goes known made))
 if_back kind true locals f w known made e = e
 if_back kind false locals f w known made e = refl
 
@@ -176,8 +176,8 @@ module _ (env : Environment) (u : Around) (t : Term) (bs : List Binding) (typed 
 
   -- a body goes as its block, and behind it stand the outer locals
   body_back : (bound made : List ℕ) (body : Block) (locals : Env) (known : Known) (calls : List Made) → Runs bound made body locals known calls
-      → behind locals (run_body u (block_body env bs (kind_of t.kind) bound body Done) locals (done calls)) ≡ back (kind_of t.kind) locals (block_run env u.meaning u.args (paths_of bs) body known calls)
-  body_back bound made body locals known calls r = ap (behind locals) (r.runs Done) ∙ behind_back u (kind_of t.kind) locals r.after (block_run env u.meaning u.args (paths_of bs) body known calls)
+      → after_scope locals (run_body u (block_body env bs (kind_of t.kind) bound body Done) locals (done calls)) ≡ back (kind_of t.kind) locals (block_run env u.meaning u.args (paths_of bs) body known calls)
+  body_back bound made body locals known calls r = ap (after_scope locals) (r.runs Done) ∙ after_scope_back u (kind_of t.kind) locals r.after (block_run env u.meaning u.args (paths_of bs) body known calls)
 
   mutual
     block_runs : (b : Block) (bound made : List ℕ) (locals : Env) (known : Known) (calls : List Made) → KnowsOnly made known → IsLawfulFrom (setting env t bs) bound made b → HasSingleArms b → Agree env u.meaning u.args t bs bound known locals → Runs bound made b locals known calls
@@ -241,11 +241,11 @@ returns (Step binds (block.Match source arms) Stop) env m args bs known made e =
 returns (Step binds (block.Equal x y body) Stop) env m args bs known made e = cc
 returns (Step binds (block.Loop result body) Stop) env m args bs known made e = cc
 returns (Step binds c (Step ds d more)) env m args bs known made e =
-    ended_behind (then_go (bind_all env m args (paths_of bs) binds known made) (control_run env m args (paths_of bs) c)) (block_run env m args (paths_of bs) (Step ds d more)) (λ known' made'. returns (Step ds d more) env m args bs known' made' e)
+    ended_after (then_go (bind_all env m args (paths_of bs) binds known made) (control_run env m args (paths_of bs) c)) (block_run env m args (paths_of bs) (Step ds d more)) (λ known' made'. returns (Step ds d more) env m args bs known' made' e)
   where
-    ended_behind : (w : Went) (go : Known → List Made → Went) → ((known' : Known) (made' : List Made) → (o : Prescription) × (go known' made' ≡ went.Ends o)) → (o : Prescription) × (then_go w go ≡ went.Ends o)
-    ended_behind (went.Goes known' made') go h = h known' made'
-    ended_behind (went.Ends o) go h = (o, refl)
+    ended_after : (w : Went) (go : Known → List Made → Went) → ((known' : Known) (made' : List Made) → (o : Prescription) × (go known' made' ≡ went.Ends o)) → (o : Prescription) × (then_go w go ≡ went.Ends o)
+    ended_after (went.Goes known' made') go h = h known' made'
+    ended_after (went.Ends o) go h = (o, refl)
 
 -- behind a block that goes on stands the tail of its kind
 tail_runs : (u : Around) (kind : ReturnKind) → AnswersOnce kind → (x : Bool) (name place : List ℕ) (locals : Env) (w : Went) → (x ≡ true → (o : Prescription) × (w ≡ went.Ends o))

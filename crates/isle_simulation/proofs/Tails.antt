@@ -19,8 +19,8 @@ use Rattle.isle_core.specs.SingleArms.{HasSingleArms, IsSingle}
 use Rattle.isle_tree.specs.Program.{Body, Done}
 use Rattle.isle_simulation.proofs.Written.{block_body, control_stmt, lets, function_of}
 use Rattle.isle_tree.specs.Walk.{of_stmt}
-use Rattle.isle_simulation.specs.TermFunction.{ends_in_return, tail_body, tail_of}
-use Rattle.isle_simulation.specs.OfTerm.{own_marks, marks, mark_in, IsOfTerm}
+use Rattle.isle_simulation.specs.TermFunction.{ends_in_return, mark_in, tail_body, tail_of}
+use Rattle.isle_simulation.specs.OfTerm.{own_marks, marks, IsOfTerm}
 use Rattle.isle_simulation.proofs.ArmBodies.{arm_body}
 
 -- lets have no mark

@@ -11,7 +11,7 @@ use Rattle.isle_core.specs.declared.types.TypeEnv.{TypeEnv}
 use Rattle.isle_core.specs.declared.types.TypeDef.TheVariants as def
 use Rattle.isle_core.specs.declared.types.Term.{Term}
 use Rattle.isle_core.specs.Rule.{Environment}
-use Rattle.isle_spelling.specs.Literal.{type_name}
+use Rattle.isle_core.specs.Int.{type_name}
 use Rattle.isle_tree.specs.Program.{Body}
 use Rattle.isle_tree.specs.WellFormed.{IsBuiltin, IsTy, HasNames}
 use Rattle.isle_simulation.specs.TermFunction.{def_text, type_text, is_by_ref, parameter, function_with}

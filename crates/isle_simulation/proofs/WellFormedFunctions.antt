@@ -13,7 +13,7 @@ use Rattle.isle_core.specs.Rule.{Environment}
 use Rattle.isle_core.specs.Setting.{setting}
 use Rattle.isle_core.specs.SingleArms.{HasSingleArms}
 use Rattle.isle_tree.specs.Program.{Done, Program}
-use Rattle.isle_tree.specs.WellFormed.{Locals, IsBody, IsBodyThere, IsKind, IsFunction}
+use Rattle.isle_tree.specs.WellFormed.{Locals, IsBody, IsBodyScoped, IsKind, IsFunction}
 use Rattle.isle_tree.specs.declared.tree.TraitFn.{TraitFn}
 use Rattle.isle_core.specs.declared.types.ReturnKind.{ReturnKind}
 use Rattle.isle_core.specs.declared.types.ReturnKind.TheVariants as return_kind
@@ -23,7 +23,7 @@ use Rattle.isle_simulation.specs.TraitFns.{trait_fns_of, HasFnNames}
 use Rattle.isle_simulation.proofs.Written.{function_of}
 use Rattle.isle_simulation.proofs.TermNames.{has_names}
 use Rattle.isle_simulation.proofs.BlockForms.{block_is}
-use Rattle.isle_simulation.proofs.BlockThere.{root_there}
+use Rattle.isle_simulation.proofs.BlockScoped.{root_scoped}
 use Rattle.isle_simulation.proofs.BlockFits.{function_fits}
 
 pub kind_is : (kind : ReturnKind) → AnswersOnce kind → IsKind kind
@@ -39,10 +39,10 @@ tail_is : (mark : Option (Option (List ℕ × List ℕ))) (x : Bool) → IsBody 
 tail_is mark true = tt
 tail_is mark false = mark_is mark
 
-tail_there : (mark : Option (Option (List ℕ × List ℕ))) (x : Bool) (fns : List TraitFn) (kind : ReturnKind) (params : ℕ) (locals : Locals) → IsBodyThere fns kind params locals (cond x Done (tail_body mark))
-tail_there mark true fns kind params locals = tt
-tail_there (Some mark) false fns kind params locals = (tt, tt)
-tail_there None false fns kind params locals = tt
+tail_scoped : (mark : Option (Option (List ℕ × List ℕ))) (x : Bool) (fns : List TraitFn) (kind : ReturnKind) (params : ℕ) (locals : Locals) → IsBodyScoped fns kind params locals (cond x Done (tail_body mark))
+tail_scoped mark true fns kind params locals = tt
+tail_scoped (Some mark) false fns kind params locals = (tt, tt)
+tail_scoped None false fns kind params locals = tt
 
 -- the function of a term that may be emitted and whose block is lawful, in a program with the functions of the trait
 pub written_well_formed : (files : Files) (env : Environment) (t : Term) (bs : List Binding) (b : Block) → IsEmittable env t → IsLawfulBlock (setting env t bs) b → HasSingleArms b → HasFnNames env → (p : Program) → p.trait_fns ≡ trait_fns_of env → IsFunction p (function_of files env t bs b)
@@ -56,8 +56,8 @@ written_well_formed files env t bs b h k o fns p same =
       names = has_names env t body h;
       kind = kind_is kind h.once;
       forms = block_is b env t bs kind [] [] (tail_of kind name place b) fns k o (tail_is mark (ends_in_return b));
-      found = subst (λ (ts : List TraitFn). IsBodyThere ts kind (length (map (parameter env) t.arg_tys)) [] body) (sym same)
-          (subst (λ n. IsBodyThere (trait_fns_of env) kind n [] body) (sym (length-map t.arg_tys (parameter env)))
-          (root_there b env t bs (tail_of kind name place b) fns h.once k o (λ locals. tail_there mark (ends_in_return b) (trait_fns_of env) kind (length t.arg_tys) locals)));
+      scoped = subst (λ (ts : List TraitFn). IsBodyScoped ts kind (length (map (parameter env) t.arg_tys)) [] body) (sym same)
+          (subst (λ n. IsBodyScoped (trait_fns_of env) kind n [] body) (sym (length-map t.arg_tys (parameter env)))
+          (root_scoped b env t bs (tail_of kind name place b) fns h.once k o (λ locals. tail_scoped mark (ends_in_return b) (trait_fns_of env) kind (length t.arg_tys) locals)));
       fits = function_fits b env t bs name place h.once k o;
     }

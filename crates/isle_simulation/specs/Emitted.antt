@@ -56,5 +56,6 @@ AnswersBindings env m (binding.MatchTuple source field ∷ bs) = AnswersBindings
 -- in every program in which the term's function is this, its run on well-typed arguments is the block's, under every
 -- meaning that answers its calls
 abbrev pub RunsAsBlock : Environment → Term → List Binding → Block → Function → Type 0
-RunsAsBlock env t bs b f = (p : Program) (args : List Value) (m : Meaning) → function_of (sym_text env t.name) p.fns ≡ Some f → HaveTypes env args t.arg_tys → AnswersBindings env m bs
+RunsAsBlock env t bs b f = (p : Program) (args : List Value) (m : Meaning)
+    → function_of (sym_text env t.name) p.fns ≡ Some f → HaveTypes env args t.arg_tys → AnswersBindings env m bs
     → run p (sym_text env t.name) args m ≡ ran_of t (block_outcome env m args (paths_of bs) b (kind_of t.kind))

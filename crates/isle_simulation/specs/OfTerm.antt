@@ -5,12 +5,11 @@ use Rattle.isle_core.specs.declared.TermId.{TermId}
 use Rattle.isle_core.specs.declared.files.Files.{Files}
 use Rattle.isle_core.specs.declared.types.Term.{Term}
 use Rattle.isle_core.specs.Calling.{kind_of}
-use Rattle.isle_core.specs.Places.{place_in}
 use Rattle.isle_core.specs.Terms.{sym_text}
 use Rattle.isle_core.specs.Rule.{Environment}
 use Rattle.isle_tree.specs.Program.{Stmt, Let, LetList, IfEq, IfLet, Match, Loop, Return, Extend, Overflow, Log, Split, Tail, Body, Function}
 use Rattle.isle_tree.specs.Walk.{of_body}
-use Rattle.isle_simulation.specs.TermFunction.{type_text, parameter, mark_of}
+use Rattle.isle_simulation.specs.TermFunction.{type_text, parameter, mark_in}
 
 -- the mark of a tail
 abbrev pub own_marks : Stmt → List (Option (List ℕ × List ℕ))
@@ -30,10 +29,6 @@ own_marks (Tail mark) = mark ∷ []
 -- the marks of the tails of a body, those inside its statements too
 abbrev pub marks : Body → List (Option (List ℕ × List ℕ))
 marks b = of_body own_marks b
-
--- what the tail of a term's function says, where it has one: nothing, or the term's name and the place of its declaration
-abbrev pub mark_in : Files → Environment → Term → Option (Option (List ℕ × List ℕ))
-mark_in files env t = mark_of (kind_of t.kind) (sym_text env t.name) (place_in files t.decl_pos)
 
 -- the function has the name, the types and the kind of the term, and its tails the place of the declaration
 pub record IsOfTerm (files : Files) (env : Environment) (t : Term) (f : Function) : Type 0 where

@@ -4,12 +4,13 @@ use Rattle.isle_core.specs.declared.BindingId.{BindingId}
 use Rattle.isle_core.specs.ArmPlaces.{bound_within}
 use Rattle.isle_core.specs.Bindable.{bound_by}
 use Rattle.isle_core.specs.Block as block
-use Rattle.isle_core.specs.Block.{Block, Control}
+use Rattle.isle_core.specs.Block.{Block, Control, Arms}
 use Rattle.isle_core.specs.Calling.{kind_of}
 use Rattle.isle_core.specs.declared.types.ReturnKind.{ReturnKind}
 use Rattle.isle_core.specs.declared.types.ReturnKind.TheVariants as return_kind
 use Rattle.isle_core.specs.Setting.{Setting}
 use Rattle.isle_tree.specs.declared.tree.Operand.{Operand}
+use Rattle.isle_tree.specs.declared.tree.Read.{Read}
 use Rattle.isle_tree.specs.declared.tree.Read.TheVariants as read
 use Rattle.isle_tree.specs.declared.tree.TExpr.{TExpr}
 use Rattle.isle_tree.specs.declared.tree.TExpr.TheVariants as expr
@@ -21,14 +22,58 @@ use Rattle.isle_simulation.specs.Operands.{tested, operand_of}
 abbrev pub IsOperandOf : Setting → List ℕ → BindingId → Operand → Type 0
 IsOperandOf s bound b o = operand_of s.env s.bindings bound b ≡ Some o
 
--- what is returned: the operand of a binding, or in a function that may answer nothing an option of it; several answers
--- are not built
+-- what is read is the operand of the binding, without & and without .clone()
+abbrev pub IsReadOf : Setting → List ℕ → BindingId → Read → Type 0
+IsReadOf s bound b (read.Plain o) = IsOperandOf s bound b o
+IsReadOf s bound b (read.Borrow o) = ⊥
+IsReadOf s bound b (read.Clone o) = ⊥
+
+-- the value of a binding is returned
+abbrev pub IsValueOf : Setting → List ℕ → BindingId → TExpr → Type 0
+IsValueOf s bound b (expr.Read r) = IsReadOf s bound b r
+IsValueOf s bound b (expr.Call borrow call) = ⊥
+IsValueOf s bound b (expr.Variant ty variant fields) = ⊥
+IsValueOf s bound b (expr.Struct ty fields) = ⊥
+IsValueOf s bound b (expr.Some r) = ⊥
+IsValueOf s bound b (expr.Try source as_ref) = ⊥
+IsValueOf s bound b (expr.Tuple source part) = ⊥
+
+-- an option of the value of a binding is returned
+abbrev pub IsSomeOf : Setting → List ℕ → BindingId → TExpr → Type 0
+IsSomeOf s bound b (expr.Read r) = ⊥
+IsSomeOf s bound b (expr.Call borrow call) = ⊥
+IsSomeOf s bound b (expr.Variant ty variant fields) = ⊥
+IsSomeOf s bound b (expr.Struct ty fields) = ⊥
+IsSomeOf s bound b (expr.Some r) = IsReadOf s bound b r
+IsSomeOf s bound b (expr.Try source as_ref) = ⊥
+IsSomeOf s bound b (expr.Tuple source part) = ⊥
+
+-- what is returned: the value of a binding, or in a function that may answer nothing an option of it; several answers are
+-- not built
 abbrev pub IsResultOf : Setting → List ℕ → ReturnKind → BindingId → TExpr → Type 0
-IsResultOf s bound return_kind.Plain b (expr.Read (read.Plain o)) = IsOperandOf s bound b o
-IsResultOf s bound return_kind.Plain b e = ⊥
-IsResultOf s bound return_kind.Option b (expr.Some (read.Plain o)) = IsOperandOf s bound b o
-IsResultOf s bound return_kind.Option b e = ⊥
+IsResultOf s bound return_kind.Plain b e = IsValueOf s bound b e
+IsResultOf s bound return_kind.Option b e = IsSomeOf s bound b e
 IsResultOf s bound return_kind.Iterator b e = ⊥
+
+-- what is tested for is the one arm's constraint, and the statements inside do its body; several arms are not built
+abbrev pub IsArmOf : Setting → List ℕ → Operand → (does : List ℕ → Block → Type 0) → Arms → Type 0
+IsArmOf s bound q does block.NoArm = ⊥
+IsArmOf s bound q does (block.Arm c places body block.NoArm) = (tested s.env c ≡ Some q) × does (bound_within bound places) body
+IsArmOf s bound q does (block.Arm c places body (block.Arm d others more arms)) = ⊥
+
+-- the test of two operands is the step's, of a constraint or of two bindings; loops are not built
+abbrev pub IsTestOf : Setting → List ℕ → (a b : Operand) → (does : List ℕ → Block → Type 0) → Control → Type 0
+IsTestOf s bound o q does (block.Match source arms) = IsOperandOf s bound source o × IsArmOf s bound q does arms
+IsTestOf s bound o q does (block.Equal a b body) = IsOperandOf s bound a o × IsOperandOf s bound b q × does bound body
+IsTestOf s bound o q does (block.Loop result body) = ⊥
+IsTestOf s bound o q does (block.Return pos result) = ⊥
+
+-- the return is the step's
+abbrev pub IsReturnOf : Setting → List ℕ → TExpr → Control → Type 0
+IsReturnOf s bound e (block.Match source arms) = ⊥
+IsReturnOf s bound e (block.Equal a b body) = ⊥
+IsReturnOf s bound e (block.Loop result body) = ⊥
+IsReturnOf s bound e (block.Return pos result) = IsResultOf s bound (kind_of s.term.kind) result e
 
 -- the bare statements are the block's steps in order, and each tests or returns the operand of its binding
 abbrev mutual
@@ -38,20 +83,10 @@ abbrev mutual
   AreSteps s bound Done (block.Step binds c more) = ⊥
   AreSteps s bound (Then st ss) block.Stop = ⊥
 
-  -- the statement does what the step does; those of several arms, of parts, of loops and of several results are not built,
-  -- and the others are not bare
+  -- the statement does what the step does; those of parts and of several results are not built, and the others are not bare
   pub DoesControl : Setting → List ℕ → Stmt → Control → Type 0
-  DoesControl s bound (IfEq o q inside) (block.Match source (block.Arm c places body block.NoArm)) =
-      IsOperandOf s bound source o × (tested s.env c ≡ Some q) × AreSteps s (bound_within bound places) inside body
-  DoesControl s bound (IfEq o q inside) (block.Match source (block.Arm c places body (block.Arm d others more arms))) = ⊥
-  DoesControl s bound (IfEq o q inside) (block.Match source block.NoArm) = ⊥
-  DoesControl s bound (IfEq o q inside) (block.Equal a b body) = IsOperandOf s bound a o × IsOperandOf s bound b q × AreSteps s bound inside body
-  DoesControl s bound (IfEq o q inside) (block.Loop result body) = ⊥
-  DoesControl s bound (IfEq o q inside) (block.Return pos result) = ⊥
-  DoesControl s bound (Return e) (block.Return pos result) = IsResultOf s bound (kind_of s.term.kind) result e
-  DoesControl s bound (Return e) (block.Match source arms) = ⊥
-  DoesControl s bound (Return e) (block.Equal a b body) = ⊥
-  DoesControl s bound (Return e) (block.Loop result body) = ⊥
+  DoesControl s bound (IfEq o q inside) c = IsTestOf s bound o q (λ within body. AreSteps s within inside body) c
+  DoesControl s bound (Return e) c = IsReturnOf s bound e c
   DoesControl s bound (IfLet pat read inside) c = ⊥
   DoesControl s bound (Match read arms) c = ⊥
   DoesControl s bound (Loop list item inside) c = ⊥

@@ -1,5 +1,5 @@
 -- The function of a term.
-use Rattle.std.specs.Prelude.{ℕ, List, [], Bool, true, false, Option, Some, None, if◌then◌else◌, map, option_map, codes, slice_get, slice_index_or}
+use Rattle.std.specs.Prelude.{ℕ, List, [], Bool, true, false, Option, Some, None, if◌then◌else◌, map, option_map, codes, slice_get}
 use Rattle.isle_core.specs.declared.TypeId.{TypeId}
 use Rattle.isle_core.specs.declared.files.Files.{Files}
 use Rattle.isle_core.specs.declared.types.BuiltinType.TheVariants as builtin
@@ -9,14 +9,14 @@ use Rattle.isle_core.specs.declared.types.TypeDef.TheVariants as def
 use Rattle.isle_core.specs.declared.types.ReturnKind.{ReturnKind}
 use Rattle.isle_core.specs.declared.types.ReturnKind.TheVariants as kind
 use Rattle.isle_core.specs.declared.types.Term.{Term}
-use Rattle.isle_core.specs.declared.rule_sets.Binding.{Binding}
 use Rattle.isle_core.specs.Places.{place_in}
 use Rattle.isle_core.specs.Block.{Block, Stop, Step, Control, Match, Equal, Loop, Return}
 use Rattle.isle_core.specs.Calling.{kind_of}
-use Rattle.isle_core.specs.Terms.{sym_text}
+use Rattle.isle_core.specs.Terms.{symbol_text, sym_text}
 use Rattle.isle_core.specs.Rule.{Environment}
+use Rattle.isle_core.specs.Setting.{Setting}
 use Rattle.isle_tree.specs.declared.tree.Ty.{Ty}
-use Rattle.isle_spelling.specs.Literal.{type_name}
+use Rattle.isle_core.specs.Int.{type_name}
 use Rattle.isle_tree.specs.Program.{Tail, Body, Done, Then, Function}
 use Rattle.isle_simulation.specs.Statements.{block_body}
 
@@ -24,9 +24,9 @@ use Rattle.isle_simulation.specs.Statements.{block_body}
 abbrev pub def_text : TypeEnv → Option TypeDef → List ℕ
 def_text types (Some (def.Builtin builtin.Bool)) = codes "bool"
 def_text types (Some (def.Builtin (builtin.Int ty))) = type_name ty
-def_text types (Some (def.Primitive name rust pos)) = slice_index_or types.syms rust.0 []
-def_text types (Some (def.Enum name is_extern is_nodebug variants pos)) = slice_index_or types.syms name.0 []
-def_text types (Some (def.Struct name is_extern is_nodebug fields pos)) = slice_index_or types.syms name.0 []
+def_text types (Some (def.Primitive name rust pos)) = symbol_text types rust
+def_text types (Some (def.Enum name is_extern is_nodebug variants pos)) = symbol_text types name
+def_text types (Some (def.Struct name is_extern is_nodebug fields pos)) = symbol_text types name
 def_text types None = []
 
 -- the name of the type of this number
@@ -70,9 +70,21 @@ abbrev pub tail_body : Option (Option (List ℕ × List ℕ)) → Body
 tail_body (Some mark) = Then (Tail mark) Done
 tail_body None = Done
 
--- what stands behind the steps of the root: nothing where its last step is a Return
+-- what the tail of a term's function says, where it has one: nothing, or the term's name and the place of its declaration
+abbrev pub mark_in : Files → Environment → Term → Option (Option (List ℕ × List ℕ))
+mark_in files env t = mark_of (kind_of t.kind) (sym_text env t.name) (place_in files t.decl_pos)
+
+-- what stands after the steps of the root: nothing where its last step is a Return
 abbrev pub tail_of : ReturnKind → List ℕ → List ℕ → Block → Body
 tail_of of name place b = if ends_in_return b then Done else tail_body (mark_of of name place)
+
+-- so of a term, whose declaration lies in the files
+abbrev pub tail_in : Files → Environment → Term → Block → Body
+tail_in files env t b = tail_of (kind_of t.kind) (sym_text env t.name) (place_in files t.decl_pos) b
+
+-- the statements of a term's function
+abbrev pub root_body : Files → Setting → Block → Option Body
+root_body files s b = block_body s [] b (Some (tail_in files s.env s.term b))
 
 -- the function of a term with these statements
 abbrev pub function_with : Environment → Term → Body → Function
@@ -84,7 +96,6 @@ function_with env t body = record {
   body = body;
 }
 
--- the function of a term whose block is this and whose bindings are these, where its forms are built; the place is that of
--- its declaration
-abbrev pub term_function : Files → Environment → Term → List Binding → Block → Option Function
-term_function files env t bs b = option_map (function_with env t) (block_body env bs (kind_of t.kind) [] b (Some (tail_of (kind_of t.kind) (sym_text env t.name) (place_in files t.decl_pos) b)))
+-- the function of a term whose block is this, where its forms are built; the files have the place of its declaration
+abbrev pub term_function : Files → Setting → Block → Option Function
+term_function files s b = option_map (function_with s.env s.term) (root_body files s b)

@@ -79,11 +79,7 @@ extractor_fn_of env t = option_map (extractor_fn env t) (extracted_of t.kind)
 abbrev pub fns_before : Environment → Term → List TraitFn → List TraitFn
 fns_before env t fns = cons_option (extractor_fn_of env t) (cons_option (constructor_fn_of env t) fns)
 
--- the functions of a term
-abbrev pub trait_fns_of_term : Environment → Term → List TraitFn
-trait_fns_of_term env t = fns_before env t []
-
--- those of terms, in order
+-- the functions of terms, in order
 abbrev pub trait_fns_in : Environment → List Term → List TraitFn
 trait_fns_in env [] = []
 trait_fns_in env (t ∷ ts) = fns_before env t (trait_fns_in env ts)

@@ -9,13 +9,13 @@ use Rattle.std.proofs.lemmas.Bool.Decides.{nat_tests}
 use Rattle.isle_core.specs.declared.types.IntType.{IntType}
 use Rattle.isle_core.specs.declared.types.IntType.TheVariants.{U8, U16, U32, U64, U128, USize, I8, I16, I32, I64, I128, ISize}
 use Rattle.isle_printer.specs.Number.{numeral, glyph}
-use Rattle.isle_core.specs.Int.{is_signed}
+use Rattle.isle_core.specs.Int.{type_name, is_signed}
 use Rattle.isle_printer.specs.Token.{Word, Mark, AfterMark, is_word_byte, is_word, goes_on, step, begun, tokens_of}
 use Rattle.isle_printer.specs.declared.printer.Last.TheVariants as last
 use Rattle.isle_printer.proofs.Scans.{tokens-word, ends_apart, ends-Between}
 use Rattle.isle_printer.proofs.Numerals.{below_sixteen, list_all-numeral, list_all-join, word_from}
 use Rattle.isle_printer.proofs.Readback.{numeral_again}
-use Rattle.isle_spelling.specs.Literal.{literal_word, literal_text, literal_tokens, digits_word, type_name, parted, literal_of}
+use Rattle.isle_spelling.specs.Literal.{literal_word, literal_text, literal_tokens, digits_word, parted, literal_of}
 
 glyph_no_bar : (d : ℕ) → d < 16 → glyph d ≡ 95 → ⊥
 glyph_no_bar d h = grind (arith, nat_tests)

@@ -145,7 +145,8 @@ wrapper_length =
 -- the fixed items, in order
 abbrev pub fixed_lines : List (List ℕ)
 fixed_lines =
-    context_iter ++ (into_context_iter ++ (length ++ (vec_length ++ (wrapper ++ (wrapper_default ++ (wrapper_deref ++ (wrapper_deref_mut ++ (wrapper_from ++ (wrapper_iter ++ (wrapper_into_iter ++ (wrapper_extend ++ (wrapper_length))))))))))))
+    context_iter ++ (into_context_iter ++ (length ++ (vec_length ++ (wrapper ++ (wrapper_default ++ (wrapper_deref
+    ++ (wrapper_deref_mut ++ (wrapper_from ++ (wrapper_iter ++ (wrapper_into_iter ++ (wrapper_extend ++ (wrapper_length))))))))))))
 
 -- the tokens of the allow lines
 unfoldable pub allow_tokens : List Token

@@ -8,5 +8,5 @@ mod names;
 
 pub use fixed::{print_allow, print_fixed, print_uses};
 pub use identifier::is_identifier;
-pub use literal::{print_literal, rust_int_literal, type_name};
+pub use literal::{print_literal, rust_int_literal};
 pub use names::{are_word_bytes, int_type_named, is_same};

@@ -1,106 +1,44 @@
 //! Numbers of the builtin integer types, as Rust spells them.
 
-ghost use Rattle.std.specs.Prelude.{◌≡◌, ℤ, ◌++◌, ◌^◌, ◌%◌, ◌<◌, [], ◌∷◌, OnOk, IfOk, string_bytes, codes};
+ghost use Rattle.std.specs.Prelude.{◌≡◌, ℤ, ◌++◌, ◌^◌, ◌%◌, ◌<◌, [], ◌∷◌, OnOk, IfOk, string_bytes};
 ghost use Rattle.isle_printer.specs.Token.{Word};
 ghost use mir.Val.{bits, hbits};
-ghost use Rattle.isle_core.specs.Int.{width, is_signed, WrapsTo, wrapped};
-ghost use Rattle.isle_spelling.specs.Literal.{type_name, literal_word, literal_text, literal_tokens, of_bits};
+ghost use Rattle.isle_core.specs.Int.{width, WrapsTo, wrapped};
+ghost use Rattle.isle_spelling.specs.Literal.{literal_word, literal_text, literal_tokens, of_bits};
 
 use isle_core::{IntType, OutOfMemory};
 use isle_printer::{Printer, push_numeral};
 use std::alloc::{AllocError, Global};
 
-// Whether the type's numbers may lie below 0.
-fn is_signed(ty: IntType) -> bool
-    ensures { result ≡ is_signed ty }
-{
-    match ty {
-        IntType::U8 | IntType::U16 | IntType::U32 | IntType::U64 | IntType::U128 | IntType::USize =>
-            false,
-        IntType::I8 | IntType::I16 | IntType::I32 | IntType::I64 | IntType::I128 | IntType::ISize =>
-            true,
-    }
-}
-
-/// Returns the type's name in Rust.
-pub fn type_name(ty: IntType) -> &'static str
-    ensures { result.now ≡ type_name ty }
-{
-    match ty {
-        IntType::U8 => "u8",
-        IntType::U16 => "u16",
-        IntType::U32 => "u32",
-        IntType::U64 => "u64",
-        IntType::U128 => "u128",
-        IntType::USize => "usize",
-        IntType::I8 => "i8",
-        IntType::I16 => "i16",
-        IntType::I32 => "i32",
-        IntType::I64 => "i64",
-        IntType::I128 => "i128",
-        IntType::ISize => "isize",
-    }
-}
-
-// The type's name behind a number.
-fn suffix(ty: IntType) -> &'static str
-    ensures { result.now ≡ codes "_" ++ type_name ty }
-{
-    match ty {
-        IntType::U8 => "_u8",
-        IntType::U16 => "_u16",
-        IntType::U32 => "_u32",
-        IntType::U64 => "_u64",
-        IntType::U128 => "_u128",
-        IntType::USize => "_usize",
-        IntType::I8 => "_i8",
-        IntType::I16 => "_i16",
-        IntType::I32 => "_i32",
-        IntType::I64 => "_i64",
-        IntType::I128 => "_i128",
-        IntType::ISize => "_isize",
-    }
-}
-
 // As many of the low bits as the type has.
 fn low_bits(ty: IntType, n: u128) -> u128
     ensures { result ≡ n % 2 ^ bits (width ty) }
 {
-    match ty {
-        IntType::U8 | IntType::I8 => n % 0x100,
-        IntType::U16 | IntType::I16 => n % 0x1_0000,
-        IntType::U32 | IntType::I32 => n % 0x1_0000_0000,
-        IntType::U64 | IntType::I64 | IntType::USize | IntType::ISize => {
-            n % 0x1_0000_0000_0000_0000
-        }
-        IntType::U128 | IntType::I128 => n,
+    if ty.bits() == 128 {
+        return n;
     }
+    n % (1 << ty.bits())
 }
 
 // The type's highest bit, from which on a signed number lies below 0.
 fn high_bit(ty: IntType) -> u128
     ensures { result ≡ 2 ^ hbits (width ty) }
 {
-    match ty {
-        IntType::U8 | IntType::I8 => 0x80,
-        IntType::U16 | IntType::I16 => 0x8000,
-        IntType::U32 | IntType::I32 => 0x8000_0000,
-        IntType::U64 | IntType::I64 | IntType::USize | IntType::ISize => 0x8000_0000_0000_0000,
-        IntType::U128 | IntType::I128 => 0x8000_0000_0000_0000_0000_0000_0000_0000,
-    }
+    1 << (ty.bits() - 1)
 }
 
 // A magnitude and its type.
 fn push_word(out: &mut String, ty: IntType, n: u128) -> Result<(), AllocError>
     ensures { OnOk result (string_bytes out.new ≡ string_bytes out.old ++ literal_word ty n) }
 {
-    if is_signed(ty) {
+    if ty.is_signed() {
         push_numeral(out, n, 10)?;
     } else {
         out.push_str("0x")?;
         push_numeral(out, n, 16)?;
     }
-    out.push_str(suffix(ty))
+    out.push_str("_")?;
+    out.push_str(ty.name())
 }
 
 // The number that the type's bits stand for.
@@ -108,7 +46,7 @@ fn push_bits(out: &mut String, ty: IntType, n: u128) -> Result<(), AllocError>
     requires { n < 2 ^ bits (width ty) }
     ensures { OnOk result (string_bytes out.new ≡ string_bytes out.old ++ literal_text ty (of_bits ty n)) }
 {
-    if !is_signed(ty) {
+    if !ty.is_signed() {
         return push_word(out, ty, n);
     }
     let half = high_bit(ty);
@@ -123,10 +61,10 @@ fn push_bits(out: &mut String, ty: IntType, n: u128) -> Result<(), AllocError>
 fn print_word(out: &mut Printer, ty: IntType, n: u128) -> Result<(), AllocError>
     ensures { OnOk result (out.new ≡ out.old ++ Word (literal_word ty n) ∷ []) }
 {
-    if is_signed(ty) {
-        out.number("", n, 10, suffix(ty))
+    if ty.is_signed() {
+        out.number("", n, 10, ty.name())
     } else {
-        out.number("0x", n, 16, suffix(ty))
+        out.number("0x", n, 16, ty.name())
     }
 }
 
@@ -135,7 +73,7 @@ fn print_bits(out: &mut Printer, ty: IntType, n: u128) -> Result<(), AllocError>
     requires { n < 2 ^ bits (width ty) }
     ensures { OnOk result (out.new ≡ out.old ++ literal_tokens ty (of_bits ty n)) }
 {
-    if !is_signed(ty) {
+    if !ty.is_signed() {
         return print_word(out, ty, n);
     }
     let half = high_bit(ty);

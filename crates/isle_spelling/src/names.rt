@@ -1,9 +1,10 @@
 //! Words, and the names of the integer types.
 
-ghost use Rattle.std.specs.Prelude.{◌≡◌};
+ghost use Rattle.std.specs.Prelude.{◌≡◌, find};
 ghost use Rattle.std.specs.List.{list_all};
 ghost use Rattle.isle_printer.specs.Token.{is_word_byte};
 ghost use Rattle.isle_printer.specs.Bytes.{same_bytes};
+ghost use Rattle.isle_core.specs.Int.{type_name};
 ghost use Rattle.isle_spelling.specs.Literal.{type_named};
 
 use isle_core::IntType;
@@ -35,45 +36,37 @@ pub fn is_same(a: &str, b: &str) -> bool
     a == b
 }
 
+/// The integer types, in order.
+const INT_TYPES: [IntType; 12] = [
+    IntType::U8,
+    IntType::U16,
+    IntType::U32,
+    IntType::U64,
+    IntType::U128,
+    IntType::USize,
+    IntType::I8,
+    IntType::I16,
+    IntType::I32,
+    IntType::I64,
+    IntType::I128,
+    IntType::ISize,
+];
+
+// The first of the types that has the name.
+fn first_named(name: &str, types: &[IntType]) -> Option<IntType>
+    ensures { result ≡ find (λ (ty : IntType). same_bytes (type_name ty) name.now) types.now }
+{
+    for ty in types {
+        if is_same(ty.name(), name) {
+            return Some(*ty);
+        }
+    }
+    None
+}
+
 /// Returns the integer type of the name.
 pub fn int_type_named(name: &str) -> Option<IntType>
     ensures { result ≡ type_named name.now }
 {
-    if is_same("u8", name) {
-        return Some(IntType::U8);
-    }
-    if is_same("u16", name) {
-        return Some(IntType::U16);
-    }
-    if is_same("u32", name) {
-        return Some(IntType::U32);
-    }
-    if is_same("u64", name) {
-        return Some(IntType::U64);
-    }
-    if is_same("u128", name) {
-        return Some(IntType::U128);
-    }
-    if is_same("usize", name) {
-        return Some(IntType::USize);
-    }
-    if is_same("i8", name) {
-        return Some(IntType::I8);
-    }
-    if is_same("i16", name) {
-        return Some(IntType::I16);
-    }
-    if is_same("i32", name) {
-        return Some(IntType::I32);
-    }
-    if is_same("i64", name) {
-        return Some(IntType::I64);
-    }
-    if is_same("i128", name) {
-        return Some(IntType::I128);
-    }
-    if is_same("isize", name) {
-        return Some(IntType::ISize);
-    }
-    None
+    first_named(name, &INT_TYPES)
 }

@@ -10,7 +10,7 @@ use crate::forms::{prio, rule_name};
 use crate::lists::{names, patterns};
 use crate::tree::{AstPattern, Def};
 use isle_core::{List, Pos, Text};
-use isle_lexer::{is_flag, is_name, text_of};
+use isle_lexer::{is_flag, is_name};
 use isle_reading::{Fail, Tokens};
 use std::alloc::Global;
 
@@ -96,7 +96,7 @@ fn decl_name(tokens: &mut Tokens<'_>, alloc: Global) -> Result<Text, Fail>
     match next_decl_name(tokens) {
         Some(word) => {
             tokens.skip();
-            Ok(text_of(alloc, word)?)
+            Ok(Text::copied(alloc, word)?)
         }
         None => Err(Fail::At(tokens.len())),
     }

@@ -7,7 +7,7 @@ ghost use Rattle.isle_syntax.specs.Views.{expr};
 
 use crate::tree::AstExpr;
 use isle_core::{List, Text};
-use isle_lexer::{Kind, is_let, is_name, kind_of, text_of};
+use isle_lexer::{Kind, is_let, is_name, kind_of};
 use isle_reading::{Fail, Tokens, most_inside};
 use std::alloc::{AllocError, Global};
 
@@ -19,7 +19,7 @@ fn expr_of(alloc: Global, word: &str) -> Result<Option<AstExpr>, AllocError>
     match kind_of(word) {
         Kind::Number(value) => Ok(Some(AstExpr::Int(value))),
         Kind::Truth(truth) => Ok(Some(AstExpr::Bool(truth))),
-        Kind::Underscore | Kind::Plain => Ok(Some(AstExpr::Var(text_of(alloc, word)?))),
+        Kind::Underscore | Kind::Plain => Ok(Some(AstExpr::Var(Text::copied(alloc, word)?))),
         Kind::Malformed | Kind::Dollar => Ok(None),
     }
 }
@@ -69,7 +69,7 @@ fn callee(tokens: &mut Tokens<'_>, alloc: Global) -> Result<Text, Fail>
     match next_callee(tokens) {
         Some(word) => {
             tokens.skip();
-            Ok(text_of(alloc, word)?)
+            Ok(Text::copied(alloc, word)?)
         }
         None => Err(Fail::At(tokens.len())),
     }

@@ -7,7 +7,7 @@ ghost use Rattle.isle_syntax.specs.Views.{pattern};
 
 use crate::tree::AstPattern;
 use isle_core::Text;
-use isle_lexer::{Kind, kind_of, text_of};
+use isle_lexer::{Kind, kind_of};
 use isle_reading::{Fail, Tokens};
 use std::alloc::{AllocError, Global};
 
@@ -22,7 +22,7 @@ pub fn rule_name(tokens: &mut Tokens<'_>, alloc: Global) -> Result<Option<Text>,
     match tokens.next_name() {
         Some(word) => {
             tokens.skip();
-            Ok(Some(text_of(alloc, word)?))
+            Ok(Some(Text::copied(alloc, word)?))
         }
         None => Ok(None),
     }
@@ -72,7 +72,7 @@ fn pattern_of(alloc: Global, word: &str) -> Result<Option<AstPattern>, AllocErro
         Kind::Number(value) => Ok(Some(AstPattern::Int(value))),
         Kind::Truth(truth) => Ok(Some(AstPattern::Bool(truth))),
         Kind::Underscore => Ok(Some(AstPattern::Wildcard)),
-        Kind::Plain => Ok(Some(AstPattern::Var(text_of(alloc, word)?))),
+        Kind::Plain => Ok(Some(AstPattern::Var(Text::copied(alloc, word)?))),
         Kind::Malformed | Kind::Dollar => Ok(None),
     }
 }

@@ -6,11 +6,9 @@ use Rattle.isle_core.specs.declared.types.IntType.TheVariants.{U8, U16, U32, U64
 use Rattle.isle_printer.specs.Token.{is_word}
 use Rattle.isle_printer.specs.Bytes.{same_bytes}
 use Rattle.isle_printer.proofs.Bytes.{same_bytes_sound}
-use Rattle.isle_printer.proofs.Numerals.{list_all-join}
 use Rattle.isle_spelling.specs.Identifier.{IsIdentifier}
 use Rattle.isle_spelling.specs.Literal.{type_named}
-use Rattle.isle_target.specs.Spelling.{constructor_word}
-use Rattle.isle_tree.specs.WellFormed.{IsBuiltin, AreResults, IsTermName}
+use Rattle.isle_tree.specs.WellFormed.{IsBuiltin, AreResults}
 
 -- the name is this one, or the next ones decide
 is_this : (b : Bool) (v w : List ℕ) → same_bytes v w ≡ b → is_word v ≡ true → (b ≡ false → is_word w ≡ true) → is_word w ≡ true
@@ -47,11 +45,6 @@ pub only_builtin : (names : List (List ℕ)) (name : List ℕ) → AreResults na
 only_builtin [] name h is = absurd h
 only_builtin (n ∷ []) name h is = subst IsBuiltin (sym is) h
 only_builtin (n ∷ m ∷ names) name h is = absurd h
-
--- the function of a term
-pub constructor_is_word : (term : List ℕ) → IsTermName term → is_word (constructor_word term) ≡ true
-unfolding constructor_word
-constructor_is_word term h = list_all-join (codes "constructor_") term refl h
 
 -- an item
 pub identifier_is_word : (name : List ℕ) → IsIdentifier name → is_word name ≡ true

@@ -66,24 +66,24 @@ back z h =
     let e = w.congruent.1 in
     sym (wraps_only I128 (wrapped U128 z) z (record { within = h; congruent = (neg_ℤ k, same_in _ _ (omega (arith, same_out, sum_is_lem, product_is, neg_is k, e))) }))
 
-held_again : (ty : IntType) (z : ℤ) → IsReduced ty z → held ty (wrapped ty z) ≡ z
-held_again U128 z h = back z h
-held_again U8 z h = within U8 z h
-held_again U16 z h = within U16 z h
-held_again U32 z h = within U32 z h
-held_again U64 z h = within U64 z h
-held_again USize z h = within USize z h
-held_again I8 z h = within I8 z h
-held_again I16 z h = within I16 z h
-held_again I32 z h = within I32 z h
-held_again I64 z h = within I64 z h
-held_again I128 z h = within I128 z h
-held_again ISize z h = within ISize z h
+signed_bits_again : (ty : IntType) (z : ℤ) → IsReduced ty z → signed_bits ty (wrapped ty z) ≡ z
+signed_bits_again U128 z h = back z h
+signed_bits_again U8 z h = within U8 z h
+signed_bits_again U16 z h = within U16 z h
+signed_bits_again U32 z h = within U32 z h
+signed_bits_again U64 z h = within U64 z h
+signed_bits_again USize z h = within USize z h
+signed_bits_again I8 z h = within I8 z h
+signed_bits_again I16 z h = within I16 z h
+signed_bits_again I32 z h = within I32 z h
+signed_bits_again I64 z h = within I64 z h
+signed_bits_again I128 z h = within I128 z h
+signed_bits_again ISize z h = within ISize z h
 
-number_again : (ty : IntType) (n z : ℤ) → held ty n ≡ z → wrapped ty z ≡ n → number_at ty n ≡ Some (operand.Int ty z)
+number_again : (ty : IntType) (n z : ℤ) → signed_bits ty n ≡ z → wrapped ty z ≡ n → number_at ty n ≡ Some (operand.Int ty z)
 number_again ty n z e f = rw (e, f, (Decides-int_eq n n).1 refl) refl
 
-int_again : (ty : IntType) (n z : ℤ) (ts : List Token) → held ty n ≡ z → wrapped ty z ≡ n → read_operand (literal_tokens ty n ++ ts) ≡ Some (operand.Int ty z, ts)
+int_again : (ty : IntType) (n z : ℤ) (ts : List Token) → signed_bits ty n ≡ z → wrapped ty z ≡ n → read_operand (literal_tokens ty n ++ ts) ≡ Some (operand.Int ty z, ts)
 unfolding read_operand
 int_again ty (pos n) z ts e f = rw (literal_number ty n, literal_again ty n, number_again ty (pos n) z e f) refl
 int_again ty (negsuc n) z ts e f = rw (literal_again ty (suc n), number_again ty (negsuc n) z e f) refl
@@ -95,6 +95,6 @@ operand_again (operand.Local n) ts h = rw (numeral_again 10 n (omega arith) (ome
 operand_again (operand.Arg n) ts h = rw (numeral_again 10 n (omega arith) (omega arith)) refl
 operand_again (operand.Bool true) ts h = refl
 operand_again (operand.Bool false) ts h = refl
-operand_again (operand.Int ty z) ts h = int_again ty (wrapped ty z) z ts (held_again ty z h) refl
+operand_again (operand.Int ty z) ts h = int_again ty (wrapped ty z) z ts (signed_bits_again ty z h) refl
 operand_again (operand.Raw z) ts h = absurd h
 operand_again (operand.Name w) ts h = absurd h

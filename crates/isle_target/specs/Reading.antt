@@ -7,7 +7,7 @@ use Rattle.isle_core.specs.declared.types.IntType.{IntType}
 use Rattle.isle_core.specs.declared.values.Callee.TheVariants as callee
 use Rattle.isle_core.specs.declared.types.ReturnKind.{ReturnKind}
 use Rattle.isle_core.specs.declared.types.ReturnKind.TheVariants as kind
-use Rattle.isle_printer.specs.Token.{Token, Word, Mark, Quoted, tokens_of, without_comments}
+use Rattle.isle_printer.specs.Token.{Token, Word, Mark, Quoted, Stray, Comment, tokens_of, without_comments}
 use Rattle.isle_printer.specs.Bytes.{same_bytes}
 use Rattle.isle_printer.specs.Number.{numeral_of}
 use Rattle.isle_tree.specs.declared.tree.Ty.{Ty}
@@ -35,12 +35,33 @@ Reads A = Option (A × List Token)
 
 -- ---- tokens
 
--- whether two tokens are one
+-- whether two tokens are one that a program may have; strays and comments are none
 abbrev pub same_token : Token → Token → Bool
 same_token (Word a) (Word b) = same_bytes a b
+same_token (Word a) (Mark b) = false
+same_token (Word a) (Quoted b) = false
+same_token (Word a) Stray = false
+same_token (Word a) Comment = false
+same_token (Mark a) (Word b) = false
 same_token (Mark a) (Mark b) = same_bytes a b
+same_token (Mark a) (Quoted b) = false
+same_token (Mark a) Stray = false
+same_token (Mark a) Comment = false
+same_token (Quoted a) (Word b) = false
+same_token (Quoted a) (Mark b) = false
 same_token (Quoted a) (Quoted b) = same_bytes a b
-same_token t u = false
+same_token (Quoted a) Stray = false
+same_token (Quoted a) Comment = false
+same_token Stray (Word b) = false
+same_token Stray (Mark b) = false
+same_token Stray (Quoted b) = false
+same_token Stray Stray = false
+same_token Stray Comment = false
+same_token Comment (Word b) = false
+same_token Comment (Mark b) = false
+same_token Comment (Quoted b) = false
+same_token Comment Stray = false
+same_token Comment Comment = false
 
 -- the tokens behind these
 abbrev pub phrase : List Token → List Token → Option (List Token)
@@ -59,30 +80,38 @@ rest [] = []
 rest (t ∷ ts) = ts
 
 -- the tokens behind this one
-abbrev pub behind : Token → List Token → Option (List Token)
-behind t ts = if at t ts then Some (rest ts) else None
+abbrev pub after : Token → List Token → Option (List Token)
+after t ts = if at t ts then Some (rest ts) else None
 
 -- the next token, a word
 abbrev pub any_word : List Token → Reads (List ℕ)
+any_word [] = None
 any_word (Word w ∷ ts) = Some (w, ts)
-any_word ts = None
+any_word (Mark a ∷ ts) = None
+any_word (Quoted a ∷ ts) = None
+any_word (Stray ∷ ts) = None
+any_word (Comment ∷ ts) = None
 
 -- the next token, a text between quotes
 abbrev pub any_quoted : List Token → Reads (List ℕ)
+any_quoted [] = None
+any_quoted (Word a ∷ ts) = None
+any_quoted (Mark a ∷ ts) = None
 any_quoted (Quoted s ∷ ts) = Some (s, ts)
-any_quoted ts = None
+any_quoted (Stray ∷ ts) = None
+any_quoted (Comment ∷ ts) = None
 
 -- ---- words
 
 -- what stands behind the prefix
-abbrev pub behind_prefix : List ℕ → List ℕ → Option (List ℕ)
-behind_prefix [] w = Some w
-behind_prefix (p ∷ ps) [] = None
-behind_prefix (p ∷ ps) (b ∷ bs) = if p == b then behind_prefix ps bs else None
+abbrev pub after_prefix : List ℕ → List ℕ → Option (List ℕ)
+after_prefix [] w = Some w
+after_prefix (p ∷ ps) [] = None
+after_prefix (p ∷ ps) (b ∷ bs) = if p == b then after_prefix ps bs else None
 
 -- the number behind a prefix
 abbrev pub numbered : List ℕ → List ℕ → Option ℕ
-numbered prefix w = behind_prefix prefix w >>= numeral_of 10
+numbered prefix w = after_prefix prefix w >>= numeral_of 10
 
 -- the first that is there
 abbrev pub or_else : {A : Type 0} → Option A → Option A → Option A
@@ -110,7 +139,7 @@ is_number (b ∷ bs) = nat_le 48 b && nat_le b 57
 
 -- the integer, where the type has this number
 abbrev pub number_at : IntType → ℤ → Option Operand
-number_at ty n = let z = held ty n in if int_eq (wrapped ty z) n then Some (operand.Int ty z) else None
+number_at ty n = let z = signed_bits ty n in if int_eq (wrapped ty z) n then Some (operand.Int ty z) else None
 
 -- the integer of this type and magnitude
 abbrev pub positive : IntType × ℕ → Option Operand
@@ -179,13 +208,13 @@ read_read ts = do
 abbrev pub read_some : List Token → Reads TExpr
 read_some ts = do
   r ← read_read ts
-  ts1 ← behind (Mark (codes ")")) r.1
+  ts1 ← after (Mark (codes ")")) r.1
   Some (expr.Some r.0, ts1)
 
 -- one argument more, given how to read those behind it
 abbrev pub read_arg : (List Token → Reads (List Read)) → List Token → Reads (List Read)
 read_arg args ts = do
-  ts1 ← behind (Mark (codes ",")) ts
+  ts1 ← after (Mark (codes ",")) ts
   r ← read_read ts1
   more ← args r.1
   Some (r.0 ∷ more.0, more.1)
@@ -200,13 +229,13 @@ abbrev pub called : List Token → Reads (List ℕ)
 called ts = do
   ts1 ← phrase (Word (codes "C") ∷ Mark (codes "::") ∷ []) ts
   name ← any_word ts1
-  ts2 ← behind (Mark (codes "(")) name.1
+  ts2 ← after (Mark (codes "(")) name.1
   Some (name.0, ts2)
 
 -- a call of this function, from behind its ( on
 abbrev pub read_call : List ℕ → List Token → Reads TExpr
 read_call name ts = do
-  ts1 ← behind (Word (codes "ctx")) ts
+  ts1 ← after (Word (codes "ctx")) ts
   args ← read_args (length ts1) ts1
   Some (expr.Call false (record { callee = callee.External name; args = args.0 }), args.1)
 
@@ -231,32 +260,32 @@ abbrev pub read_let : List Token → Reads Stmt
 read_let ts = do
   w ← any_word ts
   n ← numbered (codes "v") w.0
-  ts1 ← behind (Mark (codes "=")) w.1
+  ts1 ← after (Mark (codes "=")) w.1
   e ← read_expr ts1
-  ts2 ← behind (Mark (codes ";")) e.1
+  ts2 ← after (Mark (codes ";")) e.1
   Some (Let n e.0, ts2)
 
 -- return
 abbrev pub read_return : List Token → Reads Stmt
 read_return ts = do
   e ← read_expr ts
-  ts1 ← behind (Mark (codes ";")) e.1
+  ts1 ← after (Mark (codes ";")) e.1
   Some (Return e.0, ts1)
 
 -- a body and what closes it
 abbrev pub read_inside : {A : Type 0} → (List Token → Reads Body) → (Body → A) → List Token → Reads A
 read_inside body make ts = do
   inside ← body ts
-  ts1 ← behind (Mark (codes "}")) inside.1
+  ts1 ← after (Mark (codes "}")) inside.1
   Some (make inside.0, ts1)
 
 -- if
 abbrev pub read_if_eq : (List Token → Reads Body) → List Token → Reads Stmt
 read_if_eq body ts = do
   a ← read_operand ts
-  ts1 ← behind (Mark (codes "==")) a.1
+  ts1 ← after (Mark (codes "==")) a.1
   b ← read_operand ts1
-  ts2 ← behind (Mark (codes "{")) b.1
+  ts2 ← after (Mark (codes "{")) b.1
   read_inside body (IfEq a.0 b.0) ts2
 
 -- unreachable
@@ -264,9 +293,9 @@ abbrev pub read_unreachable : List Token → Reads Stmt
 read_unreachable ts = do
   ts1 ← phrase (rest unreachable_head ++ Quoted no_rule ∷ Mark (codes ",") ∷ []) ts
   term ← any_quoted ts1
-  ts2 ← behind (Mark (codes ",")) term.1
+  ts2 ← after (Mark (codes ",")) term.1
   place ← any_quoted ts2
-  ts3 ← behind (Mark (codes ")")) place.1
+  ts3 ← after (Mark (codes ")")) place.1
   Some (Tail (Some (term.0, place.0)), ts3)
 
 -- a statement
@@ -304,8 +333,8 @@ read_body (suc n) ts = if begins ts then read_then (read_body n) ts else Some (D
 -- the n-th parameter, with its type
 abbrev pub read_typed : ℕ → List Token → Reads Ty
 read_typed n ts = do
-  ts1 ← behind (param_token n) ts
-  ts2 ← behind (Mark (codes ":")) ts1
+  ts1 ← after (param_token n) ts
+  ts2 ← after (Mark (codes ":")) ts1
   ty ← any_word ts2
   Some (record { by_ref = false; name = ty.0 }, ty.1)
 
@@ -313,7 +342,7 @@ read_typed n ts = do
 abbrev pub read_param : ℕ → (List Token → Reads (List Ty)) → List Token → Reads (List Ty)
 read_param n params ts = do
   ty ← read_typed n ts
-  ts1 ← behind (Mark (codes ",")) ty.1
+  ts1 ← after (Mark (codes ",")) ty.1
   more ← params ts1
   Some (ty.0 ∷ more.0, more.1)
 
@@ -332,7 +361,7 @@ read_plain_result ts = do
 abbrev pub read_option_result : List Token → Reads (ReturnKind × List ℕ)
 read_option_result ts = do
   w ← any_word ts
-  ts1 ← behind (Mark (codes ">")) w.1
+  ts1 ← after (Mark (codes ">")) w.1
   Some ((kind.Option, w.0), ts1)
 
 -- the type of an option where one begins, and else that of a plain result
@@ -349,12 +378,12 @@ unfoldable pub read_function : List Token → Reads Function
 read_function ts = do
   ts1 ← phrase (Word (codes "pub") ∷ Word (codes "fn") ∷ []) ts
   w ← any_word ts1
-  term ← behind_prefix (codes "constructor_") w.0
+  term ← after_prefix (codes "constructor_") w.0
   ts2 ← phrase (generics ++ context_param) w.1
   params ← read_params (length ts2) 0 ts2
-  ts3 ← behind (Mark (codes "->")) params.1
+  ts3 ← after (Mark (codes "->")) params.1
   r ← read_result ts3
-  ts4 ← behind (Mark (codes "{")) r.1
+  ts4 ← after (Mark (codes "{")) r.1
   read_inside (read_body (length ts4)) (λ b. record { term = term; params = params.0; result = r.0.1; kind = r.0.0; body = b }) ts4
 
 -- functions up to the last token, at most so many
@@ -382,13 +411,13 @@ read_joined (suc k) n ts = if at (Mark (codes ")")) ts then Some ([], rest ts) e
 -- a function of the trait
 unfoldable pub read_trait_fn : List Token → Reads TraitFn
 read_trait_fn ts = do
-  ts1 ← behind (Word (codes "fn")) ts
+  ts1 ← after (Word (codes "fn")) ts
   name ← any_word ts1
   ts2 ← phrase self_param name.1
   params ← read_joined (length ts2) 0 ts2
-  ts3 ← behind (Mark (codes "->")) params.1
+  ts3 ← after (Mark (codes "->")) params.1
   r ← read_result ts3
-  ts4 ← behind (Mark (codes ";")) r.1
+  ts4 ← after (Mark (codes ";")) r.1
   Some (record { name = name.0; params = params.0; results = r.0.1 ∷ []; kind = r.0.0 }, ts4)
 
 -- one function of the trait more, given how to read those behind it

@@ -17,7 +17,11 @@ use Rattle.isle_tree.specs.declared.tree.TExpr.{TExpr}
 use Rattle.isle_tree.specs.declared.tree.TExpr.TheVariants as expr
 use Rattle.isle_spelling.specs.Fixed.{allow_tokens, uses_tokens, fixed_tokens}
 use Rattle.isle_spelling.specs.Literal.{literal_tokens}
-use Rattle.isle_tree.specs.Program.{Stmt, Let, IfEq, Return, Tail, Body, Done, Then, Function, Program}
+use Rattle.isle_tree.specs.Program.{Stmt, Let, LetList, IfEq, IfLet, Match, Loop, Return, Extend, Overflow, Log, Split, Tail, Body, Done, Then, Function, Program}
+
+-- what is spelled of a form that is not built
+abbrev pub not_built : List Token
+not_built = []
 
 -- ---- what stands for a value
 
@@ -40,12 +44,14 @@ operand_tokens (operand.Local n) = local_token n ∷ []
 operand_tokens (operand.Arg n) = param_token n ∷ []
 operand_tokens (operand.Bool b) = truth_token b ∷ []
 operand_tokens (operand.Int ty z) = literal_tokens ty (wrapped ty z)
-operand_tokens o = []
+operand_tokens (operand.Raw z) = not_built
+operand_tokens (operand.Name name) = not_built
 
 -- an operand as it is read
 abbrev pub read_tokens : Read → List Token
 read_tokens (read.Plain o) = operand_tokens o
-read_tokens r = []
+read_tokens (read.Borrow o) = not_built
+read_tokens (read.Clone o) = not_built
 
 -- C::F(ctx
 abbrev pub call_head : List ℕ → List Token
@@ -59,15 +65,19 @@ args_tokens (r ∷ rs) = Mark (codes ",") ∷ (read_tokens r ++ args_tokens rs)
 -- a call of a function of the trait
 abbrev pub call_tokens : Callee → List Read → List Token
 call_tokens (callee.External name) args = call_head name ++ args_tokens args
-call_tokens (callee.Internal term) args = []
+call_tokens (callee.Internal term) args = not_built
 
 -- what a let or a return computes
 abbrev pub expr_tokens : TExpr → List Token
 expr_tokens (expr.Read r) = read_tokens r
 expr_tokens (expr.Call false call) = call_tokens call.callee call.args
-expr_tokens (expr.Try source false) = operand_tokens source ++ Mark (codes "?") ∷ []
+expr_tokens (expr.Call true call) = not_built
+expr_tokens (expr.Variant ty variant fields) = not_built
+expr_tokens (expr.Struct ty fields) = not_built
 expr_tokens (expr.Some r) = Word (codes "Some") ∷ Mark (codes "(") ∷ (read_tokens r ++ Mark (codes ")") ∷ [])
-expr_tokens e = []
+expr_tokens (expr.Try source false) = operand_tokens source ++ Mark (codes "?") ∷ []
+expr_tokens (expr.Try source true) = not_built
+expr_tokens (expr.Tuple source part) = not_built
 
 -- ---- statements
 
@@ -108,10 +118,17 @@ tail_tokens (Some texts) = unreachable_head ++ texts_tokens texts.0 texts.1
 abbrev mutual
   pub stmt_tokens : Stmt → List Token
   stmt_tokens (Let n e) = let_tokens n e
+  stmt_tokens (LetList n call) = not_built
   stmt_tokens (IfEq a b inside) = if_eq_head a b ++ (body_tokens inside ++ close)
+  stmt_tokens (IfLet pat read inside) = not_built
+  stmt_tokens (Match read arms) = not_built
+  stmt_tokens (Loop list item inside) = not_built
   stmt_tokens (Return e) = return_tokens e
+  stmt_tokens (Extend read) = not_built
+  stmt_tokens (Overflow within) = not_built
+  stmt_tokens (Log term place) = not_built
+  stmt_tokens (Split inside within) = not_built
   stmt_tokens (Tail texts) = tail_tokens texts
-  stmt_tokens s = []
 
   pub body_tokens : Body → List Token
   body_tokens Done = []
@@ -153,7 +170,7 @@ params_tokens n (ty ∷ tys) = param_tokens n ty ++ params_tokens (n + 1) tys
 abbrev pub result_tokens : ReturnKind → List ℕ → List Token
 result_tokens kind.Plain ty = Word ty ∷ []
 result_tokens kind.Option ty = Word (codes "Option") ∷ Mark (codes "<") ∷ Word ty ∷ Mark (codes ">") ∷ []
-result_tokens kind.Iterator ty = []
+result_tokens kind.Iterator ty = not_built
 
 -- -> RESULT {
 abbrev pub result_part : ReturnKind → List ℕ → List Token
@@ -195,10 +212,11 @@ abbrev pub joined_tokens : ℕ → List Ty → List Token
 joined_tokens n [] = Mark (codes ")") ∷ []
 joined_tokens n (ty ∷ tys) = comma n ++ (typed_tokens n ty ++ joined_tokens (n + 1) tys)
 
--- what a function of the trait gives: one result
+-- what a function of the trait gives: one result; none and several are not built
 abbrev pub results_tokens : ReturnKind → List (List ℕ) → List Token
+results_tokens kind [] = not_built
 results_tokens kind (ty ∷ []) = result_tokens kind ty
-results_tokens kind tys = []
+results_tokens kind (ty ∷ more ∷ tys) = not_built
 
 -- -> RESULT;
 abbrev pub trait_result : ReturnKind → List (List ℕ) → List Token

@@ -9,7 +9,7 @@ use crate::operand::print_read;
 use isle_core::Callee;
 use isle_printer::Printer;
 use isle_tree::{Read, TCall};
-use std::alloc::{AllocError, Global};
+use std::alloc::AllocError;
 
 // Prints `C::F(ctx`.
 #[tactic(auto, using(crate::proofs::TypeNames::identifier_is_word))]
@@ -25,26 +25,26 @@ fn print_head(out: &mut Printer, name: &str) -> Result<(), AllocError>
 }
 
 // Prints the arguments, each behind a comma, and what closes them.
-fn print_args(out: &mut Printer, alloc: Global, args: &[Read]) -> Result<(), AllocError>
+fn print_args(out: &mut Printer, args: &[Read]) -> Result<(), AllocError>
     ensures { OnOk result (out.new ≡ out.old ++ args_tokens args.now) }
 {
     for read in args {
         out.mark(",")?;
         out.space()?;
-        print_read(out, alloc, read)?;
+        print_read(out, read)?;
     }
     out.mark(")")
 }
 
 /// Prints a call of a function of the trait. What is printed after an error is left open.
-pub fn print_call(out: &mut Printer, alloc: Global, call: &TCall) -> Result<(), AllocError>
+pub fn print_call(out: &mut Printer, call: &TCall) -> Result<(), AllocError>
     requires { IsCall call.now }
     ensures { OnOk result (out.new ≡ out.old ++ call_tokens call.now.callee call.now.args) }
 {
     match &call.callee {
         Callee::External(name) => {
             print_head(out, name.as_str())?;
-            print_args(out, alloc, call.args.as_slice())
+            print_args(out, call.args.as_slice())
         }
         Callee::Internal(_) => Ok(()),
     }

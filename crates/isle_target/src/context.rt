@@ -4,13 +4,13 @@ ghost use Rattle.std.specs.Prelude.{◌≡◌, ◌++◌, OnOk};
 ghost use Rattle.std.specs.List.{AllByRecursion};
 ghost use Rattle.isle_spelling.specs.Identifier.{IsIdentifier};
 ghost use Rattle.isle_tree.specs.WellFormed.{AreResults, IsTy, IsTraitFn};
-ghost use Rattle.isle_target.specs.Spelling.{trait_head, self_param, trait_fn_head, comma, typed_tokens, joined_tokens, results_tokens, trait_result, trait_fn_tokens, trait_fns_tokens, trait_tokens};
+ghost use Rattle.isle_target.specs.Spelling.{trait_head, self_param, trait_fn_head, comma, joined_tokens, results_tokens, trait_result, trait_fn_tokens, trait_fns_tokens, trait_tokens};
 
 use crate::function::{print_gives, print_result, print_typed};
 use isle_core::{ReturnKind, Text};
 use isle_printer::Printer;
 use isle_tree::{TraitFn, Ty};
-use std::alloc::{AllocError, Global};
+use std::alloc::AllocError;
 
 // Prints `(&mut self,`.
 #[tactic(auto, unfolding(isle_printer::specs::Token::step, isle_printer::specs::Token::begun))]
@@ -43,13 +43,13 @@ fn print_comma(out: &mut Printer, i: usize) -> Result<(), AllocError>
 }
 
 // Prints the parameters, and what closes them.
-fn print_joined(out: &mut Printer, alloc: Global, params: &[Ty]) -> Result<(), AllocError>
+fn print_joined(out: &mut Printer, params: &[Ty]) -> Result<(), AllocError>
     requires { AllByRecursion IsTy params.now }
     ensures { OnOk result (out.new ≡ out.old ++ joined_tokens 0 params.now) }
 {
     for (i, ty) in params.iter().enumerate() {
         print_comma(out, i)?;
-        print_typed(out, alloc, i, ty)?;
+        print_typed(out, i, ty)?;
     }
     out.mark(")")
 }
@@ -73,24 +73,24 @@ fn print_end(out: &mut Printer, kind: ReturnKind, tys: &[Text]) -> Result<(), Al
 }
 
 // Prints a function of the trait on a line of its own.
-fn print_trait_fn(out: &mut Printer, alloc: Global, f: &TraitFn) -> Result<(), AllocError>
+fn print_trait_fn(out: &mut Printer, f: &TraitFn) -> Result<(), AllocError>
     requires { IsTraitFn f.now }
     ensures { OnOk result (out.new ≡ out.old ++ trait_fn_tokens f.now) }
 {
     out.line()?;
     print_name(out, f.name.as_str())?;
-    print_joined(out, alloc, f.params.as_slice())?;
+    print_joined(out, f.params.as_slice())?;
     print_end(out, f.kind, f.results.as_slice())
 }
 
 // Prints the functions of the trait, each on a line.
-fn print_trait_fns(out: &mut Printer, alloc: Global, fns: &[TraitFn]) -> Result<(), AllocError>
+fn print_trait_fns(out: &mut Printer, fns: &[TraitFn]) -> Result<(), AllocError>
     requires { AllByRecursion IsTraitFn fns.now }
     ensures { OnOk result (out.new ≡ out.old ++ trait_fns_tokens fns.now) }
 {
     out.indent();
     for f in fns {
-        print_trait_fn(out, alloc, f)?;
+        print_trait_fn(out, f)?;
     }
     out.dedent();
     out.line()
@@ -105,11 +105,11 @@ fn print_trait_head(out: &mut Printer) -> Result<(), AllocError>
 }
 
 /// Prints the trait that a program's functions are generic over. What is printed after an error is left open.
-pub fn print_trait(out: &mut Printer, alloc: Global, fns: &[TraitFn]) -> Result<(), AllocError>
+pub fn print_trait(out: &mut Printer, fns: &[TraitFn]) -> Result<(), AllocError>
     requires { AllByRecursion IsTraitFn fns.now }
     ensures { OnOk result (out.new ≡ out.old ++ trait_tokens fns.now) }
 {
     print_trait_head(out)?;
-    print_trait_fns(out, alloc, fns)?;
+    print_trait_fns(out, fns)?;
     out.mark("}")
 }

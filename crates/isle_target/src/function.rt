@@ -11,7 +11,7 @@ use crate::statement::print_body;
 use isle_core::ReturnKind;
 use isle_printer::Printer;
 use isle_tree::{Function, Ty};
-use std::alloc::{AllocError, Global};
+use std::alloc::AllocError;
 
 // Prints `pub fn`.
 #[tactic(auto, unfolding(isle_printer::specs::Token::step, isle_printer::specs::Token::begun))]
@@ -58,32 +58,32 @@ fn print_colon(out: &mut Printer) -> Result<(), AllocError>
 
 /// Prints the parameter of this number with its type. What is printed after an error is left open.
 #[tactic(auto, using(crate::proofs::TypeNames::builtin_is_word))]
-pub fn print_typed(out: &mut Printer, alloc: Global, i: usize, ty: &Ty) -> Result<(), AllocError>
+pub fn print_typed(out: &mut Printer, i: usize, ty: &Ty) -> Result<(), AllocError>
     requires { IsTy ty.now }
     ensures { OnOk result (out.new ≡ out.old ++ typed_tokens i ty.now) }
 {
-    out.numbered(alloc, "arg", i)?;
+    out.numbered("arg", i)?;
     print_colon(out)?;
     out.word(ty.name.as_str())
 }
 
 // Prints the parameter of this number, and its comma.
-fn print_param(out: &mut Printer, alloc: Global, i: usize, ty: &Ty) -> Result<(), AllocError>
+fn print_param(out: &mut Printer, i: usize, ty: &Ty) -> Result<(), AllocError>
     requires { IsTy ty.now }
     ensures { OnOk result (out.new ≡ out.old ++ param_tokens i ty.now) }
 {
     out.space()?;
-    print_typed(out, alloc, i, ty)?;
+    print_typed(out, i, ty)?;
     out.mark(",")
 }
 
 // Prints the parameters, and what closes them.
-fn print_params(out: &mut Printer, alloc: Global, params: &[Ty]) -> Result<(), AllocError>
+fn print_params(out: &mut Printer, params: &[Ty]) -> Result<(), AllocError>
     requires { AllByRecursion IsTy params.now }
     ensures { OnOk result (out.new ≡ out.old ++ params_tokens 0 params.now) }
 {
     for (i, ty) in params.iter().enumerate() {
-        print_param(out, alloc, i, ty)?;
+        print_param(out, i, ty)?;
     }
     out.mark(")")
 }
@@ -126,16 +126,16 @@ fn print_arrow(out: &mut Printer, kind: ReturnKind, ty: &str) -> Result<(), Allo
 }
 
 /// Prints the function of a term behind a line of its own. What is printed after an error is left open.
-pub fn print_function(out: &mut Printer, alloc: Global, f: &Function) -> Result<(), AllocError>
+pub fn print_function(out: &mut Printer, f: &Function) -> Result<(), AllocError>
     requires names { HasNames (function f.now) }
     requires forms { IsBody (body f.now.body) }
     ensures { OnOk result (out.new ≡ out.old ++ function_tokens (function f.now)) }
 {
     out.line()?;
     print_head(out, f.term.as_str())?;
-    print_params(out, alloc, f.params.as_slice())?;
+    print_params(out, f.params.as_slice())?;
     print_arrow(out, f.kind, f.result.as_str())?;
-    print_body(out, alloc, f.body.as_slice())?;
+    print_body(out, f.body.as_slice())?;
     out.mark("}")?;
     out.line()
 }

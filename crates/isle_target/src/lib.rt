@@ -4,19 +4,19 @@
 mod call;
 mod context;
 mod fits;
-mod forms;
 mod function;
-mod held;
+mod holding;
 mod names;
 mod operand;
 mod print;
+mod scoped;
 mod shapes;
 mod statement;
 #[cfg(test)]
 mod tests;
-mod there;
 mod trait_fns;
+mod well_formedness;
 
-pub use forms::well_formed;
 pub use isle_spelling::rust_int_literal;
 pub use print::print_program;
+pub use well_formedness::well_formed;

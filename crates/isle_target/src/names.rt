@@ -3,7 +3,7 @@
 ghost use Rattle.std.specs.Prelude.{◌↔◌, IsTrue};
 ghost use Rattle.std.specs.List.{AllByRecursion};
 ghost use Rattle.isle_tree.specs.Views.{function};
-ghost use Rattle.isle_tree.specs.WellFormed.{IsTermName, IsBuiltin, IsTy, IsKind, HasNames};
+ghost use Rattle.isle_tree.specs.WellFormed.{IsBuiltin, IsTy, IsKind, HasNames};
 
 use isle_core::ReturnKind;
 use isle_spelling::{are_word_bytes, int_type_named, is_same};

@@ -8,15 +8,15 @@ use crate::call::print_call;
 use isle_printer::Printer;
 use isle_spelling::print_literal;
 use isle_tree::{Operand, Read, TExpr};
-use std::alloc::{AllocError, Global};
+use std::alloc::AllocError;
 
 /// Prints an operand. What is printed after an error is left open.
-pub fn print_operand(out: &mut Printer, alloc: Global, o: &Operand) -> Result<(), AllocError>
+pub fn print_operand(out: &mut Printer, o: &Operand) -> Result<(), AllocError>
     ensures { OnOk result (out.new ≡ out.old ++ operand_tokens o.now) }
 {
     match o {
-        Operand::Local(n) => out.numbered(alloc, "v", *n),
-        Operand::Arg(n) => out.numbered(alloc, "arg", *n),
+        Operand::Local(n) => out.numbered("v", *n),
+        Operand::Arg(n) => out.numbered("arg", *n),
         Operand::Bool(true) => out.word("true"),
         Operand::Bool(false) => out.word("false"),
         Operand::Int(ty, val) => print_literal(out, *ty, *val),
@@ -25,49 +25,49 @@ pub fn print_operand(out: &mut Printer, alloc: Global, o: &Operand) -> Result<()
 }
 
 /// Prints an operand as it is read. What is printed after an error is left open.
-pub fn print_read(out: &mut Printer, alloc: Global, read: &Read) -> Result<(), AllocError>
+pub fn print_read(out: &mut Printer, read: &Read) -> Result<(), AllocError>
     ensures { OnOk result (out.new ≡ out.old ++ read_tokens read.now) }
 {
     match read {
-        Read::Plain(o) => print_operand(out, alloc, o),
+        Read::Plain(o) => print_operand(out, o),
         Read::Borrow(_) | Read::Clone(_) => Ok(()),
     }
 }
 
 // Prints an option of what is read.
-fn print_some(out: &mut Printer, alloc: Global, read: &Read) -> Result<(), AllocError>
+fn print_some(out: &mut Printer, read: &Read) -> Result<(), AllocError>
     ensures { OnOk result (out.new ≡ out.old ++ expr_tokens (TExpr.Some read.now)) }
 {
     out.word("Some")?;
     out.mark("(")?;
-    print_read(out, alloc, read)?;
+    print_read(out, read)?;
     out.mark(")")
 }
 
 // Prints what stands within an operand's option.
-fn print_try(out: &mut Printer, alloc: Global, o: &Operand) -> Result<(), AllocError>
+fn print_try(out: &mut Printer, o: &Operand) -> Result<(), AllocError>
     ensures { OnOk result (out.new ≡ out.old ++ expr_tokens (TExpr.Try o.now false)) }
 {
-    print_operand(out, alloc, o)?;
+    print_operand(out, o)?;
     out.mark("?")
 }
 
 /// Prints what a `let` or a `return` computes. What is printed after an error is left open.
-pub fn print_expr(out: &mut Printer, alloc: Global, e: &TExpr) -> Result<(), AllocError>
+pub fn print_expr(out: &mut Printer, e: &TExpr) -> Result<(), AllocError>
     requires { IsExpr e.now }
     ensures { OnOk result (out.new ≡ out.old ++ expr_tokens e.now) }
 {
     match e {
-        TExpr::Read(read) => print_read(out, alloc, read),
-        TExpr::Some(read) => print_some(out, alloc, read),
+        TExpr::Read(read) => print_read(out, read),
+        TExpr::Some(read) => print_some(out, read),
         TExpr::Call {
             borrow: false,
             call,
-        } => print_call(out, alloc, call),
+        } => print_call(out, call),
         TExpr::Try {
             source,
             as_ref: false,
-        } => print_try(out, alloc, source),
+        } => print_try(out, source),
         TExpr::Call { .. }
         | TExpr::Try { .. }
         | TExpr::Variant { .. }

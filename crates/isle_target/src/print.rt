@@ -4,7 +4,7 @@ ghost use Rattle.std.specs.Prelude.{◌≡◌, ◌++◌, OnOk, IfOk, string_byte
 ghost use Rattle.isle_printer.specs.Token.{tokens_of, HasNoComment};
 ghost use Rattle.isle_tree.specs.Views.{program};
 ghost use Rattle.isle_tree.specs.WellFormed.{IsWellFormed};
-ghost use Rattle.isle_spelling.specs.Fixed.{uses_tokens, fixed_tokens};
+ghost use Rattle.isle_spelling.specs.Fixed.{uses_tokens};
 ghost use Rattle.isle_target.specs.Spelling.{allow_part, functions_tokens, program_tokens};
 ghost use Rattle.isle_target.specs.Reading.{SpellsOnly};
 
@@ -27,12 +27,12 @@ fn print_head(out: &mut Printer, allow: bool) -> Result<(), AllocError>
 }
 
 // The functions of a program.
-fn print_functions(out: &mut Printer, alloc: Global, p: &Program) -> Result<(), AllocError>
+fn print_functions(out: &mut Printer, p: &Program) -> Result<(), AllocError>
     requires { IsWellFormed (program p.now) }
     ensures { OnOk result (out.new ≡ out.old ++ functions_tokens (program p.now).fns) }
 {
     for f in p.fns.as_slice() {
-        print_function(out, alloc, f)?;
+        print_function(out, f)?;
     }
     Ok(())
 }
@@ -47,8 +47,8 @@ pub fn print_program(alloc: Global, p: &Program) -> Result<String, OutOfMemory>
 {
     let mut out = Printer::new(alloc);
     print_head(&mut out, p.allow)?;
-    print_trait(&mut out, alloc, p.trait_fns.as_slice())?;
+    print_trait(&mut out, p.trait_fns.as_slice())?;
     print_fixed(&mut out)?;
-    print_functions(&mut out, alloc, p)?;
+    print_functions(&mut out, p)?;
     Ok(out.into_text())
 }

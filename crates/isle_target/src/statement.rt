@@ -10,44 +10,44 @@ use crate::operand::{print_expr, print_operand};
 use isle_core::Text;
 use isle_printer::Printer;
 use isle_tree::{Operand, Stmt, TExpr};
-use std::alloc::{AllocError, Global};
+use std::alloc::AllocError;
 
 /// What a run says that no rule matched in.
 const NO_RULE: &str = "unreachable!(\"no rule matched for term {} at {}; should it be partial?\", ";
 
 // Prints `let vN = EXPR;`.
 #[tactic(auto, unfolding(isle_printer::specs::Token::step, isle_printer::specs::Token::begun))]
-fn print_let(out: &mut Printer, alloc: Global, n: usize, e: &TExpr) -> Result<(), AllocError>
+fn print_let(out: &mut Printer, n: usize, e: &TExpr) -> Result<(), AllocError>
     requires { IsExpr e.now }
     ensures { OnOk result (out.new ≡ out.old ++ let_tokens n e.now) }
 {
     out.piece("let ")?;
-    out.numbered(alloc, "v", n)?;
+    out.numbered("v", n)?;
     out.piece(" = ")?;
-    print_expr(out, alloc, e)?;
+    print_expr(out, e)?;
     out.mark(";")
 }
 
 // Prints `return EXPR;`.
 #[tactic(auto, unfolding(isle_printer::specs::Token::step, isle_printer::specs::Token::begun))]
-fn print_return(out: &mut Printer, alloc: Global, e: &TExpr) -> Result<(), AllocError>
+fn print_return(out: &mut Printer, e: &TExpr) -> Result<(), AllocError>
     requires { IsExpr e.now }
     ensures { OnOk result (out.new ≡ out.old ++ return_tokens e.now) }
 {
     out.piece("return ")?;
-    print_expr(out, alloc, e)?;
+    print_expr(out, e)?;
     out.mark(";")
 }
 
 // Prints `if OP == OP {`.
 #[tactic(auto, unfolding(isle_printer::specs::Token::step, isle_printer::specs::Token::begun))]
-fn print_if_eq(out: &mut Printer, alloc: Global, a: &Operand, b: &Operand) -> Result<(), AllocError>
+fn print_if_eq(out: &mut Printer, a: &Operand, b: &Operand) -> Result<(), AllocError>
     ensures { OnOk result (out.new ≡ out.old ++ if_eq_head a.now b.now) }
 {
     out.piece("if ")?;
-    print_operand(out, alloc, a)?;
+    print_operand(out, a)?;
     out.piece(" == ")?;
-    print_operand(out, alloc, b)?;
+    print_operand(out, b)?;
     out.piece(" {")
 }
 
@@ -68,28 +68,24 @@ fn print_comma(out: &mut Printer) -> Result<(), AllocError>
 }
 
 // Prints a term and its place, and the end of the call.
-fn print_texts(out: &mut Printer, alloc: Global, term: &str, place: &str) -> Result<(), AllocError>
+fn print_texts(out: &mut Printer, term: &str, place: &str) -> Result<(), AllocError>
     ensures { OnOk result (out.new ≡ out.old ++ Quoted term.now ∷ Mark (codes ",") ∷ Quoted place.now ∷ Mark (codes ")") ∷ []) }
 {
-    out.quoted(alloc, term)?;
+    out.quoted(term)?;
     print_comma(out)?;
-    out.quoted(alloc, place)?;
+    out.quoted(place)?;
     out.mark(")")
 }
 
 // Prints what a function gives behind its last rule.
-fn print_tail(
-    out: &mut Printer,
-    alloc: Global,
-    texts: &Option<(Text, Text)>,
-) -> Result<(), AllocError>
+fn print_tail(out: &mut Printer, texts: &Option<(Text, Text)>) -> Result<(), AllocError>
     ensures { OnOk result (out.new ≡ out.old ++ tail_tokens texts.now) }
 {
     match texts {
         None => out.word("None"),
         Some(texts) => {
             print_no_rule(out)?;
-            print_texts(out, alloc, texts.0.as_str(), texts.1.as_str())
+            print_texts(out, texts.0.as_str(), texts.1.as_str())
         }
     }
 }
@@ -97,19 +93,19 @@ fn print_tail(
 // Prints a statement.
 #[cycle(statements)]
 #[tactic(auto, using(isle_tree::proofs::Sees::sees))]
-fn print_stmt(out: &mut Printer, alloc: Global, s: &Stmt) -> Result<(), AllocError>
+fn print_stmt(out: &mut Printer, s: &Stmt) -> Result<(), AllocError>
     requires { IsStmt (stmt s.now) }
     ensures { OnOk result (out.new ≡ out.old ++ stmt_tokens (stmt s.now)) }
 {
     match s {
-        Stmt::Let(n, e) => print_let(out, alloc, *n, e),
+        Stmt::Let(n, e) => print_let(out, *n, e),
         Stmt::IfEq(a, b, inside) => {
-            print_if_eq(out, alloc, a, b)?;
-            print_body(out, alloc, inside.as_slice())?;
+            print_if_eq(out, a, b)?;
+            print_body(out, inside.as_slice())?;
             out.mark("}")
         }
-        Stmt::Return(e) => print_return(out, alloc, e),
-        Stmt::Tail(texts) => print_tail(out, alloc, texts),
+        Stmt::Return(e) => print_return(out, e),
+        Stmt::Tail(texts) => print_tail(out, texts),
         Stmt::LetList { .. }
         | Stmt::IfLet(..)
         | Stmt::Match(..)
@@ -124,14 +120,14 @@ fn print_stmt(out: &mut Printer, alloc: Global, s: &Stmt) -> Result<(), AllocErr
 /// Prints statements, each on a line, and begins the line of what closes them. What is printed after an error is left
 /// open.
 #[cycle(statements)]
-pub fn print_body(out: &mut Printer, alloc: Global, stmts: &[Stmt]) -> Result<(), AllocError>
+pub fn print_body(out: &mut Printer, stmts: &[Stmt]) -> Result<(), AllocError>
     requires { IsBody (body stmts.now) }
     ensures { OnOk result (out.new ≡ out.old ++ body_tokens (body stmts.now)) }
 {
     out.indent();
     for s in stmts {
         out.line()?;
-        print_stmt(out, alloc, s)?;
+        print_stmt(out, s)?;
     }
     out.dedent();
     out.line()

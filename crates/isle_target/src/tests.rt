@@ -7,7 +7,7 @@ use std::alloc::{AllocError, Global};
 use std::test::Fail;
 
 fn text(alloc: Global, word: &str) -> Result<Text, AllocError> {
-    Ok(Text::new(String::from_str(alloc, word)?))
+    Ok(Text::copied(alloc, word)?)
 }
 
 // One parameter.

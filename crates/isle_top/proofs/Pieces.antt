@@ -28,12 +28,6 @@ pub both_part : {T E : Type 0} (r : Result T E) (a b c : Option (List ℕ)) (xs 
 both_part (Ok t) a b c xs ys h k = tt
 both_part (Err e) a b c xs ys h k = took_front a b c xs ys h k
 
--- one byte more of a list that is taken byte by byte
-pub took_next : (f : ℕ → ℕ) (xs : List ℕ) (i : ℕ) (a b c : Option (List ℕ)) (piece : List ℕ) → i < length xs → Took a b (map f (take i xs)) → piece ≡ f (get_or xs i 0) ∷ [] → Took b c piece → Took a c (map f (take (i + 1) xs))
-took_next f xs i a b c piece lt h e k =
-    let all : map f (take (i + 1) xs) ≡ map f (take i xs) ++ f (get_or xs i 0) ∷ [] = ap (map f) (take_more xs i 0 lt) ∙ map-append f (take i xs) (get_or xs i 0 ∷ []) in
-    rw (all, ← e) (took_both a b c (map f (take i xs)) piece h k)
-
 -- a list of which one byte was refused
 pub took_until : (f : ℕ → ℕ) (xs : List ℕ) (i : ℕ) (a b c : Option (List ℕ)) (piece : List ℕ) → i < length xs → Took a b (map f (take i xs)) → length piece ≡ 1 → TookPart b c piece → TookPart a c (map f xs)
 took_until f xs i a b c piece lt h e k =

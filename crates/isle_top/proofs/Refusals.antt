@@ -26,11 +26,6 @@ at_number [] i P lt f = absurd (omega (arith, lt))
 at_number (name ∷ names) zero P lt f = f name refl
 at_number (name ∷ names) (suc i) P lt f = at_number names i P (omega (arith, lt)) f
 
--- an input that is not read
-pub unread : (request : Request) (index : ℕ) (why : IoCause) (wrote : List ℕ → Type 0) → index < length (inputs_of request)
-    → ((name : List ℕ) → slice_get (inputs_of request) index ≡ Some name → wrote (unread_line name why)) → Tells request wrote (refusal.Unread index why)
-unread request index why wrote lt f = at_number (inputs_of request) index (λ name. wrote (unread_line name why)) lt f
-
 -- an input that is told is one of the line
 pub of_line : (request : Request) (e : Refusal) (files : Option Contents) (before after : Counts) → HasCause e request files before after → IsOfLine request e
 of_line request refusal.NotYet files before after h = tt
@@ -40,6 +35,17 @@ of_line request refusal.ArgCount files before after h = tt
 of_line request (refusal.ArgType i) files before after h = tt
 of_line request (refusal.BadAnswers at) files before after h = tt
 of_line request refusal.Memory files before after h = tt
+
+-- what is said of a refusal
+pub says_refusal : {asks : Request → Type 0} {none : Type 0} {files : Option Contents} {before after : Counts} {quiet : Type 0} {wrote : List ℕ → Type 0} (request : Request) (e : Refusal)
+    → asks request → HasCause e request files before after → Tells request wrote e → Says asks none files before after quiet wrote (statuses.status_of e)
+says_refusal request refusal.NotYet a cause line = statuses.refused request refusal.NotYet (λ same. absurd cc) a cause line
+says_refusal request (refusal.Unread index why) a cause line = statuses.refused request (refusal.Unread index why) (λ same. absurd cc) a cause line
+says_refusal request refusal.NoTerm a cause line = statuses.refused request refusal.NoTerm (λ same. absurd cc) a cause line
+says_refusal request refusal.ArgCount a cause line = statuses.refused request refusal.ArgCount (λ same. absurd cc) a cause line
+says_refusal request (refusal.ArgType i) a cause line = statuses.refused request (refusal.ArgType i) (λ same. absurd cc) a cause line
+says_refusal request (refusal.BadAnswers at) a cause line = statuses.refused request (refusal.BadAnswers at) (λ same. absurd cc) a cause line
+says_refusal request refusal.Memory a cause line = statuses.no_memory line
 
 -- a word with which no line goes on
 pub bad_word : (words : List (List ℕ)) (i : ℕ) (wrote : List ℕ → Type 0) → IsBad words i → ((word : List ℕ) → slice_get words i ≡ Some word → wrote (bad_word_line word)) → IsNoLine words wrote
@@ -54,6 +60,6 @@ pub says_of : {asks others : Request → Type 0} {none fail : Type 0} {files : O
     → Says asks none files before after quiet wrote status → Says others fail files before after quiet wrote status
 says_of f g (statuses.done h) = statuses.done h
 says_of f g (statuses.no_line h) = statuses.no_line (g h)
-says_of f g (statuses.refused request e a cause line) = statuses.refused request e (f request a) cause line
+says_of f g (statuses.refused request e other a cause line) = statuses.refused request e other (f request a) cause line
 says_of f g (statuses.write_fault h) = statuses.write_fault h
 says_of f g (statuses.no_memory h) = statuses.no_memory h

@@ -19,7 +19,7 @@ use Rattle.isle_run.specs.declared.refusal.Refusal.TheVariants as refusal
 use Rattle.isle_run.proofs.Complete.{only_memory}
 use Rattle.isle_top.specs.Requests.{IsBuilt, IsOne, inputs_of, answers_names, source_name}
 use Rattle.isle_top.specs.Causes.{GivesNoLines, IsNotOfIt, IsNotRun, HasCause}
-use Rattle.isle_top.specs.Valid.{IsValid, AreValid, IsValidRun, IsValidLine, AreAnswers, one_file}
+use Rattle.isle_top.specs.Valid.{IsValid, AreValid, IsValidRun, IsValidLine, IsAnswersText, one_file}
 
 -- ---- inputs
 
@@ -27,7 +27,7 @@ use Rattle.isle_top.specs.Valid.{IsValid, AreValid, IsValidRun, IsValidLine, Are
 one_text : (o : Option (List ℕ)) (a b : List ℕ) → IsText a o → IsText b o → a ≡ b
 one_text o a b s t = let same : Some a ≡ Some b = sym s.0 ∙ t.0 in cc
 
-one_answers : (fs : Contents) (answers : Option (List ℕ)) (a b : List ℕ) → AreAnswers fs answers a → AreAnswers fs answers b → a ≡ b
+one_answers : (fs : Contents) (answers : Option (List ℕ)) (a b : List ℕ) → IsAnswersText fs answers a → IsAnswersText fs answers b → a ≡ b
 one_answers fs None a b s t = s ∙ sym t
 one_answers fs (Some name) a b s t = one_text (bytes_of fs name) a b s t
 
@@ -48,7 +48,7 @@ one_there fs (n ∷ []) zero name v e = let same : n ≡ name = cc in subst (Has
 one_there fs (n ∷ []) (suc i) name v e = absurd (let bad : None ≡ Some name = e in cc)
 one_there fs (n ∷ m ∷ names) i name v e = absurd v
 
-answers_there : (fs : Contents) (answers : Option (List ℕ)) (text : List ℕ) (i : ℕ) (name : List ℕ) → AreAnswers fs answers text → slice_get (answers_names answers) i ≡ Some name → HasText fs name
+answers_there : (fs : Contents) (answers : Option (List ℕ)) (text : List ℕ) (i : ℕ) (name : List ℕ) → IsAnswersText fs answers text → slice_get (answers_names answers) i ≡ Some name → HasText fs name
 answers_there fs None text i name v e = absurd (let bad : None ≡ Some name = e in cc)
 answers_there fs (Some file) text zero name v e = let same : file ≡ name = cc in subst (HasText fs) same (text, v)
 answers_there fs (Some file) text (suc i) name v e = absurd (let bad : None ≡ Some name = e in cc)
@@ -159,8 +159,8 @@ only_memory_wants request (refusal.ArgType i) fs before after v h calm = not_run
 only_memory_wants request (refusal.BadAnswers at) fs before after v h calm = not_run request fs (refusal.BadAnswers at) v h
 
 -- so a valid line is answered, unless memory is wanting
-pub answered_unless : {T : Type 0} (request : Request) (r : Result T Refusal) (files : Option Contents) (before after : Counts) → IfErr r (λ e. HasCause e request files before after) → IsSomeAnd files (IsValidLine request)
+pub replied_unless : {T : Type 0} (request : Request) (r : Result T Refusal) (files : Option Contents) (before after : Counts) → IfErr r (λ e. HasCause e request files before after) → IsSomeAnd files (IsValidLine request)
     → (Rose before.faults after.faults → ⊥) → IsOkUnless r refusal.Memory
-answered_unless request (Ok x) files before after h v calm = tt
-answered_unless request (Err e) None before after h v calm = absurd v
-answered_unless request (Err e) (Some fs) before after h v calm = only_memory_wants request e fs before after v h calm
+replied_unless request (Ok x) files before after h v calm = tt
+replied_unless request (Err e) None before after h v calm = absurd v
+replied_unless request (Err e) (Some fs) before after h v calm = only_memory_wants request e fs before after v h calm

@@ -11,13 +11,13 @@ use Rattle.isle_run.specs.NoLines.{HasNoLines}
 use Rattle.isle_run.specs.declared.refusal.Refusal.{Refusal}
 use Rattle.isle_run.specs.declared.refusal.Refusal.TheVariants as refusal
 use Rattle.isle_top.specs.Requests.{IsBuilt, inputs_of, source_name}
-use Rattle.isle_top.specs.Valid.{AreAnswers, one_file}
+use Rattle.isle_top.specs.Valid.{IsAnswersText, one_file}
 
 -- a run of the term of the source of this name, under the answers of the file, gives no lines
 pub record GivesNoLines (name term : List ℕ) (vs : Writtens) (answers : Option (List ℕ)) (files : Option Contents) (e : Refusal) : Type 0 where
   pub source : List ℕ
   pub given : List ℕ
-  pub read : IfSome files (λ fs. AreRead fs (name ∷ []) (source ∷ []) × AreAnswers fs answers given)
+  pub read : IfSome files (λ fs. AreRead fs (name ∷ []) (source ∷ []) × IsAnswersText fs answers given)
   pub none : HasNoLines no_options (one_file name source) term vs given e
 
 -- the inputs were read, and are not of what is built

@@ -6,18 +6,19 @@ use Rattle.isle_core.specs.Inputs.{AreRead}
 use Rattle.isle_core.specs.declared.files.Files.{Files as FileTexts}
 use Rattle.isle_core.specs.declared.read_error.ReadError.{ReadError}
 use Rattle.isle_core.specs.declared.read_error.ReadError.TheVariants as error
-use Rattle.isle_top.specs.Valid.{AreAnswers, one_file}
+use Rattle.isle_top.specs.Valid.{IsAnswersText, one_file}
 
 -- a source of the one text of its file, and the text of the file of answers
 pub record AreInputs (name : List ℕ) (answers : Option (List ℕ)) (files : Option Contents) (source : FileTexts) (given : List ℕ) : Type 0 where
   pub text : List ℕ
   pub one : source ≡ one_file name text
-  pub read : IfSome files (λ fs. AreRead fs (name ∷ []) (text ∷ []) × AreAnswers fs answers given)
+  pub read : IfSome files (λ fs. AreRead fs (name ∷ []) (text ∷ []) × IsAnswersText fs answers given)
 
 -- why the input of this number and name is not read
 abbrev pub FailsTo : ReadError → (index : ℕ) → Option Contents → List ℕ → (before after : Counts) → Type 0
 FailsTo error.Memory index files name before after = after.faults ≡ before.faults
-FailsTo (error.Io at why) index files name before after = (at ≡ index) × (after.finds ≡ raised 1 before.finds) × RoseAt why before.faults after.faults × IfSome files (λ fs. IsCause why (bytes_of fs name))
+FailsTo (error.Io at why) index files name before after =
+    (at ≡ index) × (after.finds ≡ raised 1 before.finds) × RoseAt why before.faults after.faults × IfSome files (λ fs. IsCause why (bytes_of fs name))
 
 -- the input that is told is one of these
 abbrev pub IsOf : ReadError → List (List ℕ) → Type 0

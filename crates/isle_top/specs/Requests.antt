@@ -67,5 +67,11 @@ inputs_of (Run trace options from term vs answers) = source_name from ∷ answer
 
 -- the term that is run
 abbrev pub term_of : Request → List ℕ
+term_of Help = []
+term_of Version = []
+term_of (Compile options names) = []
+term_of (Build options unit) = []
+term_of (Prelude kind) = []
+term_of Units = []
+term_of (Isa target) = []
 term_of (Run trace options from term vs answers) = term
-term_of request = []

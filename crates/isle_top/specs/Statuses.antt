@@ -1,5 +1,5 @@
 -- The statuses that a run ends with, and what each says.
-use Rattle.std.specs.Prelude.{ℕ, ◌<◌, List, length, Option, IsSomeAnd, slice_get}
+use Rattle.std.specs.Prelude.{◌≢◌, ℕ, ◌<◌, List, length, Option, IsSomeAnd, slice_get}
 use Rattle.isle_outside.specs.Directory.{Contents, Counts}
 use Rattle.isle_command_line.specs.Request.{Request}
 use Rattle.isle_command_line.specs.Lines.{IsBad, IsMissing}
@@ -45,10 +45,11 @@ pub data IsNoLine (words : List (List ℕ)) (wrote : List ℕ → Type 0) : Type
   missing : IsMissing words → wrote missing_word_line → IsNoLine words wrote
 
 -- what a status says: the text was written, and nothing else; the words are no line; the line that is asked for is
--- refused, for a cause; the output failed; memory ran out. All but the first write their line
+-- refused, for a cause other than want of memory; the output failed; memory ran out. All but the first write their line
 pub data Says (asks : Request → Type 0) (none : Type 0) (files : Option Contents) (before after : Counts) (quiet : Type 0) (wrote : List ℕ → Type 0) : ℕ → Type 0 where
   done : quiet → Says asks none files before after quiet wrote 0
   no_line : none → Says asks none files before after quiet wrote 2
-  refused : (request : Request) (e : Refusal) → asks request → HasCause e request files before after → Tells request wrote e → Says asks none files before after quiet wrote (status_of e)
+  refused : (request : Request) (e : Refusal) → e ≢ refusal.Memory → asks request → HasCause e request files before after → Tells request wrote e
+      → Says asks none files before after quiet wrote (status_of e)
   write_fault : wrote write_fault_line → Says asks none files before after quiet wrote 11
   no_memory : wrote memory_line → Says asks none files before after quiet wrote 12

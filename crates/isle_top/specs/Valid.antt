@@ -1,4 +1,4 @@
--- What the program answers to lines of words.
+-- Valid lines, and the replies to lines.
 use Rattle.std.specs.Prelude.{◌≡◌, ℕ, List, [], ◌∷◌, true, Option, Some, None, IfSome}
 use Rattle.isle_outside.specs.Directory.{Contents, bytes_of}
 use Rattle.isle_outside.specs.Reading.{IsText}
@@ -33,9 +33,9 @@ pub record IsProgramOf (name : List ℕ) (files : Option Contents) (text : List 
   pub compiled : IfSome files (λ fs. IsCompiled no_options fs (name ∷ []) text)
 
 -- the text of a file of answers; without a file it is empty
-abbrev pub AreAnswers : Contents → Option (List ℕ) → List ℕ → Type 0
-AreAnswers files None text = text ≡ []
-AreAnswers files (Some name) text = IsText text (bytes_of files name)
+abbrev pub IsAnswersText : Contents → Option (List ℕ) → List ℕ → Type 0
+IsAnswersText files None text = text ≡ []
+IsAnswersText files (Some name) text = IsText text (bytes_of files name)
 
 -- a source of one text
 abbrev pub one_file : (name text : List ℕ) → FileTexts
@@ -45,7 +45,7 @@ one_file name text = record { file_names = printed no_options (name ∷ []); fil
 pub record IsRunOf (name term : List ℕ) (vs : Writtens) (answers : Option (List ℕ)) (files : Option Contents) (lines : List ℕ) : Type 0 where
   pub source : List ℕ
   pub given : List ℕ
-  pub read : IfSome files (λ fs. AreRead fs (name ∷ []) (source ∷ []) × AreAnswers fs answers given)
+  pub read : IfSome files (λ fs. AreRead fs (name ∷ []) (source ∷ []) × IsAnswersText fs answers given)
   pub trial : IsTrial no_options (one_file name source) term vs given lines
 
 -- a source and answers under which the term can be run at the values
@@ -53,7 +53,7 @@ pub record IsValidRun (files : Contents) (name term : List ℕ) (vs : Writtens) 
   pub source : List ℕ
   pub given : List ℕ
   pub found : IsText source (bytes_of files name)
-  pub answered : AreAnswers files answers given
+  pub answered : IsAnswersText files answers given
   pub can : CanRun (one_file name source) term vs given
 
 -- the one name of a `compile` is that of a valid file
@@ -73,20 +73,23 @@ IsValidLine Units files = ⊥
 IsValidLine (Isa target) files = ⊥
 IsValidLine (Run trace options from term vs answers) files = IsBuilt (Run trace options from term vs answers) × IsValidRun files (source_name from) term vs answers
 
--- what the names of a `compile` are answered
-abbrev pub compile_answer : List (List ℕ) → Option Contents → List ℕ → Type 0
-compile_answer [] files text = ⊥
-compile_answer (name ∷ []) files text = IsProgramOf name files text
-compile_answer (name ∷ other ∷ names) files text = ⊥
+-- the text is what the one name of a `compile` is compiled to
+abbrev pub RepliesToCompile : List (List ℕ) → Option Contents → List ℕ → Type 0
+RepliesToCompile [] files text = ⊥
+RepliesToCompile (name ∷ []) files text = IsProgramOf name files text
+RepliesToCompile (name ∷ other ∷ names) files text = ⊥
 
--- the text answers a line of words that is built
-abbrev pub Answers : Request → Option Contents → List ℕ → Type 0
-Answers Help files text = text ≡ help_text
-Answers Version files text = text ≡ version_text
-Answers (Compile options names) files text = compile_answer names files text
-Answers (Run trace options from term vs answers) files text = IsRunOf (source_name from) term vs answers files text
-Answers request files text = ⊥
+-- the text is what the line asks for
+abbrev pub Replies : Request → Option Contents → List ℕ → Type 0
+Replies Help files text = text ≡ help_text
+Replies Version files text = text ≡ version_text
+Replies (Compile options names) files text = RepliesToCompile names files text
+Replies (Run trace options from term vs answers) files text = IsRunOf (source_name from) term vs answers files text
+Replies (Build options unit) files text = ⊥
+Replies (Prelude kind) files text = ⊥
+Replies Units files text = ⊥
+Replies (Isa target) files text = ⊥
 
--- the text answers the line
-abbrev pub IsAnswer : Request → Option Contents → List ℕ → Type 0
-IsAnswer request files text = IsBuilt request × Answers request files text
+-- the reply to a line: it is built, and the text is what it asks for
+abbrev pub IsReply : Request → Option Contents → List ℕ → Type 0
+IsReply request files text = IsBuilt request × Replies request files text

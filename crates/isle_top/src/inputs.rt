@@ -6,7 +6,7 @@ ghost use Rattle.isle_outside.specs.Directory.{bytes_of, raised};
 ghost use Rattle.isle_outside.specs.Reading.{IsText};
 ghost use Rattle.isle_core.specs.Inputs.{Fails};
 ghost use Rattle.isle_top.specs.Requests.{answers_names};
-ghost use Rattle.isle_top.specs.Valid.{AreAnswers, one_file};
+ghost use Rattle.isle_top.specs.Valid.{IsAnswersText, one_file};
 ghost use Rattle.isle_top.specs.Inputs.{AreInputs, FailsTo, IsOf};
 
 use isle_core::{Dir, Files, List, OutOfMemory, ReadError, ReadFail, Text, read_text};
@@ -43,8 +43,9 @@ fn answers_text<D: Dir>(
     answers: Option<&str>,
     dir: &mut D,
 ) -> Result<Text, ReadError>
-    ensures ok { IfOk result (λ text. IfSome (D.files dir.old) (λ fs. AreAnswers fs (option_copied answers.entry) text)) }
-    ensures err { IfErr result (λ e. IsSomeAnd (option_copied answers.entry) (λ file. FailsTo e 1 (D.files dir.old) file (D.counts dir.old) (D.counts dir.new))) }
+    ensures ok { IfOk result (λ text. IfSome (D.files dir.old) (λ fs. IsAnswersText fs (option_copied answers.entry) text)) }
+    ensures err { IfErr result (λ e. IsSomeAnd (option_copied answers.entry)
+        (λ file. FailsTo e 1 (D.files dir.old) file (D.counts dir.old) (D.counts dir.new))) }
     ensures files { D.files dir.new ≡ D.files dir.old }
     ensures later { (D.counts dir.old).faults ≤ (D.counts dir.new).faults }
     ensures stays { (D.counts dir.old).faults ≡ 2 ^ 64 - 1 → (D.counts dir.new).faults ≡ 2 ^ 64 - 1 }
@@ -60,7 +61,7 @@ fn answers_text<D: Dir>(
 fn one_file(alloc: Global, name: &str, text: Text) -> Result<Files, OutOfMemory>
     ensures { IfOk result (λ files. files ≡ one_file name.now text) }
 {
-    let name = Text::new(String::from_str(alloc, name)?);
+    let name = Text::copied(alloc, name)?;
     Ok(Files {
         file_names: List::new(vec![in alloc; name]?),
         file_texts: List::new(vec![in alloc; text]?),
@@ -76,12 +77,14 @@ pub fn read_inputs<D: Dir>(
     dir: &mut D,
 ) -> Result<Inputs, ReadError>
     ensures ok { IfOk result (λ read. AreInputs source.now (option_copied answers.entry) (D.files dir.old) read.files read.answers) }
-    ensures err { IfErr result (λ e. Fails e (D.files dir.old) (source.now ∷ answers_names (option_copied answers.entry)) (D.counts dir.old) (D.counts dir.new)) }
+    ensures err { let names = source.now ∷ answers_names (option_copied answers.entry) in
+        IfErr result (λ e. Fails e (D.files dir.old) names (D.counts dir.old) (D.counts dir.new)) }
     ensures there { IfErr result (λ e. IsOf e (source.now ∷ answers_names (option_copied answers.entry))) }
     ensures files { D.files dir.new ≡ D.files dir.old }
     ensures later { (D.counts dir.old).faults ≤ (D.counts dir.new).faults }
     ensures stays { (D.counts dir.old).faults ≡ 2 ^ 64 - 1 → (D.counts dir.new).faults ≡ 2 ^ 64 - 1 }
-    ensures given { (D.counts dir.new).given ≤ (D.counts dir.old).given + (2 ^ 24 + 1) * length (source.now ∷ answers_names (option_copied answers.entry)) }
+    ensures given { let names = source.now ∷ answers_names (option_copied answers.entry) in
+        (D.counts dir.new).given ≤ (D.counts dir.old).given + (2 ^ 24 + 1) * length names }
 {
     let text = match text_at(alloc, 0, source, dir) {
         Ok(text) => text,

@@ -2,12 +2,12 @@
 #![tactic(auto)]
 
 mod about;
-mod answer;
 mod built;
 mod compiled;
 mod inputs;
 mod lines;
 mod ran;
+mod reply;
 mod request;
 mod run;
 mod status;

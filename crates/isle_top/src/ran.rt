@@ -28,12 +28,15 @@ pub fn ran<D: Dir>(
     dir: &mut D,
 ) -> Result<String, Refusal>
     requires { ArePlain (seen values.now) }
-    ensures ok { IfOk result (λ lines. IsRunOf source.now term.now (seen values.now) (option_copied answers.entry) (D.files dir.old) (string_bytes lines)) }
-    ensures err { IfErr result (λ e. HasCause e (Run false no_options (File source.now) term.now (seen values.now) (option_copied answers.entry)) (D.files dir.old) (D.counts dir.old) (D.counts dir.new)) }
+    ensures ok { IfOk result (λ lines. IsRunOf source.now term.now (seen values.now) (option_copied answers.entry)
+        (D.files dir.old) (string_bytes lines)) }
+    ensures err { let request = Run false no_options (File source.now) term.now (seen values.now) (option_copied answers.entry) in
+        IfErr result (λ e. HasCause e request (D.files dir.old) (D.counts dir.old) (D.counts dir.new)) }
     ensures files { D.files dir.new ≡ D.files dir.old }
     ensures later { (D.counts dir.old).faults ≤ (D.counts dir.new).faults }
     ensures stays { (D.counts dir.old).faults ≡ 2 ^ 64 - 1 → (D.counts dir.new).faults ≡ 2 ^ 64 - 1 }
-    ensures given { (D.counts dir.new).given ≤ (D.counts dir.old).given + (2 ^ 24 + 1) * length (source.now ∷ answers_names (option_copied answers.entry)) }
+    ensures given { let names = source.now ∷ answers_names (option_copied answers.entry) in
+        (D.counts dir.new).given ≤ (D.counts dir.old).given + (2 ^ 24 + 1) * length names }
 {
     let read = match read_inputs(alloc, source, answers, dir) {
         Ok(read) => read,

@@ -8,10 +8,10 @@ ghost use Rattle.isle_command_line.specs.Views.{seen_command};
 ghost use Rattle.isle_top.specs.Requests.{Asks, IsBuilt, inputs_of};
 ghost use Rattle.isle_top.specs.Lines.{Wrote};
 ghost use Rattle.isle_top.specs.Statuses.{IsNoLine, Says};
-ghost use Rattle.isle_top.specs.Valid.{IsAnswer, IsValidLine};
+ghost use Rattle.isle_top.specs.Valid.{IsReply, IsValidLine};
 
-use crate::answer::answer;
 use crate::lines::{MISSING_WORD, OUT_OF_MEMORY, WRITE_FAULT, write_bad_word};
+use crate::reply::reply;
 use crate::status::{Exit, complain, status_of, tell};
 use isle_command_line::{Command, LineFail, command};
 use isle_core::{Dir, Sink, write_all};
@@ -26,26 +26,27 @@ pub fn run_words<D: Dir, O: Sink, E: Sink>(
     out: &mut O,
     err: &mut E,
 ) -> Exit
-    // At status 0 `out` took the answer, and nothing else.
+    // At status 0 `out` took the reply, and nothing else.
     ensures done { result.0 ≡ 0 → (request : Request) × Asks (bytes_each words.now) request
-        × ((text : List ℕ) × IsAnswer request (D.files dir.old) text × Took (O.taken out.old) (O.taken out.new) text) }
+        × ((text : List ℕ) × IsReply request (D.files dir.old) text × Took (O.taken out.old) (O.taken out.new) text) }
 
-    // At status 11 its count rose, and it took a part of the answer.
+    // At status 11 its count rose, and it took a part of the reply.
     ensures part { result.0 ≡ 11 → (request : Request) × Asks (bytes_each words.now) request × Rose (O.faults out.old) (O.faults out.new)
-        × ((text : List ℕ) × IsAnswer request (D.files dir.old) text × TookPart (O.taken out.old) (O.taken out.new) text) }
+        × ((text : List ℕ) × IsReply request (D.files dir.old) text × TookPart (O.taken out.old) (O.taken out.new) text) }
 
     // At every other status it took nothing.
     ensures untouched { result.0 ≢ 0 → result.0 ≢ 11 → O.taken out.new ≡ O.taken out.old }
 
     // Each other status has its cause, and its line on `err`; at status 0 nothing stands there.
     ensures says { let wrote = Wrote (E.taken err.old) (E.taken err.new) (E.faults err.old) (E.faults err.new) in
-        Says (Asks (bytes_each words.now)) (IsNoLine (bytes_each words.now) wrote) (D.files dir.old) (D.counts dir.old) (D.counts dir.new) (E.taken err.new ≡ E.taken err.old) wrote result.0 }
+        Says (Asks (bytes_each words.now)) (IsNoLine (bytes_each words.now) wrote) (D.files dir.old) (D.counts dir.old) (D.counts dir.new)
+            (E.taken err.new ≡ E.taken err.old) wrote result.0 }
 
     // Words that are no line end in 2, a line that is not built in 14; or with 12, want of memory.
     ensures no_line { ((request : Request) → LineS (bytes_each words.now) request → ⊥) → (result.0 ≡ 2) ⊎ (result.0 ≡ 12) }
     ensures not_built { (request : Request) → LineS (bytes_each words.now) request → (IsBuilt request → ⊥) → (result.0 ≡ 14) ⊎ (result.0 ≡ 12) }
 
-    // A valid line is answered, where nothing fails and memory suffices.
+    // A valid line has its reply, where nothing fails and memory suffices.
     ensures complete { (request : Request) → LineS (bytes_each words.now) request → IsSomeAnd (D.files dir.old) (IsValidLine request)
         → (Rose (D.counts dir.old).faults (D.counts dir.new).faults → ⊥) → (result.0 ≡ 0) ⊎ (result.0 ≡ 11) ⊎ (result.0 ≡ 12) }
     ensures files { D.files dir.new ≡ D.files dir.old }
@@ -55,7 +56,8 @@ pub fn run_words<D: Dir, O: Sink, E: Sink>(
     ensures later { (D.counts dir.old).faults ≤ (D.counts dir.new).faults }
     ensures out_later { O.faults out.old ≤ O.faults out.new }
     ensures err_later { E.faults err.old ≤ E.faults err.new }
-    ensures given { (request : Request) → LineS (bytes_each words.now) request → (D.counts dir.new).given ≤ (D.counts dir.old).given + (2 ^ 24 + 1) * length (inputs_of request) }
+    ensures given { (request : Request) → LineS (bytes_each words.now) request
+        → (D.counts dir.new).given ≤ (D.counts dir.old).given + (2 ^ 24 + 1) * length (inputs_of request) }
 {
     match command(alloc, words) {
         Ok(request) => run_command(alloc, &request, dir, out, err),
@@ -92,12 +94,14 @@ fn run_command<D: Dir, O: Sink, E: Sink>(
     out: &mut O,
     err: &mut E,
 ) -> Exit
-    ensures done { result.0 ≡ 0 → (text : List ℕ) × IsAnswer (seen_command request.now) (D.files dir.old) text × Took (O.taken out.old) (O.taken out.new) text }
+    ensures done { result.0 ≡ 0 → (text : List ℕ) × IsReply (seen_command request.now) (D.files dir.old) text
+        × Took (O.taken out.old) (O.taken out.new) text }
     ensures part { result.0 ≡ 11 → Rose (O.faults out.old) (O.faults out.new)
-        × ((text : List ℕ) × IsAnswer (seen_command request.now) (D.files dir.old) text × TookPart (O.taken out.old) (O.taken out.new) text) }
+        × ((text : List ℕ) × IsReply (seen_command request.now) (D.files dir.old) text × TookPart (O.taken out.old) (O.taken out.new) text) }
     ensures untouched { result.0 ≢ 0 → result.0 ≢ 11 → O.taken out.new ≡ O.taken out.old }
     ensures says { let wrote = Wrote (E.taken err.old) (E.taken err.new) (E.faults err.old) (E.faults err.new) in
-        Says (λ a. a ≡ seen_command request.now) ⊥ (D.files dir.old) (D.counts dir.old) (D.counts dir.new) (E.taken err.new ≡ E.taken err.old) wrote result.0 }
+        Says (λ a. a ≡ seen_command request.now) ⊥ (D.files dir.old) (D.counts dir.old) (D.counts dir.new)
+            (E.taken err.new ≡ E.taken err.old) wrote result.0 }
     ensures not_built { (IsBuilt (seen_command request.now) → ⊥) → result.0 ≡ 14 }
     ensures untried { (IsBuilt (seen_command request.now) → ⊥) → D.counts dir.new ≡ D.counts dir.old }
     ensures complete { IsSomeAnd (D.files dir.old) (IsValidLine (seen_command request.now))
@@ -108,7 +112,7 @@ fn run_command<D: Dir, O: Sink, E: Sink>(
     ensures err_later { E.faults err.old ≤ E.faults err.new }
     ensures given { (D.counts dir.new).given ≤ (D.counts dir.old).given + (2 ^ 24 + 1) * length (inputs_of (seen_command request.now)) }
 {
-    match answer(alloc, request, dir) {
+    match reply(alloc, request, dir) {
         Ok(text) => match write_all(out, text.as_bytes()) {
             Ok(()) => Exit(0),
             Err(_) => {

@@ -1,5 +1,5 @@
 -- What the function of a term does, by cases on the forms of statements.
-use Rattle.std.specs.Prelude.{ℕ, List, [], ◌∷◌, ◌++◌, ◌==◌, Bool, true, false, Option, Some, None, slice_get, fold, if◌then◌else◌}
+use Rattle.std.specs.Prelude.{ℕ, List, [], ◌∷◌, ◌++◌, ◌==◌, Bool, false, Option, Some, None, slice_get, fold, if◌then◌else◌}
 use Rattle.isle_core.specs.Value.{Value, Truth, Int, Made, End, Gives, GivesSome, GivesNone, IsUnreachable, Ran}
 use Rattle.isle_core.specs.SameInRun.{same_in_run}
 use Rattle.isle_core.specs.Meaning.{Meaning}
@@ -11,7 +11,6 @@ use Rattle.isle_tree.specs.declared.tree.Operand.{Operand}
 use Rattle.isle_tree.specs.declared.tree.Operand.TheVariants as operand
 use Rattle.isle_tree.specs.declared.tree.Read.{Read}
 use Rattle.isle_tree.specs.declared.tree.Read.TheVariants as read
-use Rattle.isle_tree.specs.declared.tree.TCall.{TCall}
 use Rattle.isle_tree.specs.declared.tree.TExpr.{TExpr}
 use Rattle.isle_tree.specs.declared.tree.TPat.{TPat}
 use Rattle.isle_tree.specs.declared.tree.TPat.TheVariants as pattern
@@ -158,11 +157,11 @@ then_run (Leaves s) go = Leaves s
 then_run Stuck go = Stuck
 
 -- what was bound inside is gone behind it
-abbrev pub behind : Env → Flow → Flow
-behind env (Goes inner s) = Goes env s
-behind env (Ends end s) = Ends end s
-behind env (Leaves s) = Leaves s
-behind env Stuck = Stuck
+abbrev pub after_scope : Env → Flow → Flow
+after_scope env (Goes inner s) = Goes env s
+after_scope env (Ends end s) = Ends end s
+after_scope env (Leaves s) = Leaves s
+after_scope env Stuck = Stuck
 
 -- a local bound to what a place holds
 abbrev pub run_bind : ℕ → Held → Env → State → Flow
@@ -223,8 +222,8 @@ abbrev mutual
   run_stmt w (LetList n call) env s = Stuck
   run_stmt w (IfEq a b inside) env s =
       on_value (value_of w env a) (λ v. on_value (value_of w env b) (λ u.
-      if same_in_run v u then behind env (run_body w inside env s) else Goes env s))
-  run_stmt w (IfLet pat r inside) env s = fitted (fit w pat (read_value w env r)) (λ bound. behind env (run_body w inside (env ++ bound) s)) (Goes env s)
+      if same_in_run v u then after_scope env (run_body w inside env s) else Goes env s))
+  run_stmt w (IfLet pat r inside) env s = fitted (fit w pat (read_value w env r)) (λ bound. after_scope env (run_body w inside (env ++ bound) s)) (Goes env s)
   run_stmt w (Match r arms) env s = Stuck
   run_stmt w (Loop list item inside) env s = Stuck
   run_stmt w (Return e) env s = run_return w e env s

@@ -161,7 +161,7 @@ expr_holds fns params bound (expr.Variant ty variant fields) = None
 expr_holds fns params bound (expr.Struct ty fields) = None
 expr_holds fns params bound (expr.Tuple o n) = None
 
--- ---- each operand of a statement is there
+-- ---- each operand of a statement is in scope
 
 -- a return gives a value in kind Plain, and an option of one in kind Option; several answers are not built
 abbrev pub GivesKind : ReturnKind → Option Holds → Type 0
@@ -175,48 +175,52 @@ GivesKind kind.Option (Some (holds.One x)) = ⊥
 GivesKind kind.Option (Some (holds.Optional item.Value)) = Unit {0}
 GivesKind kind.Option (Some (holds.Optional (item.Tuple count))) = ⊥
 GivesKind kind.Option (Some (holds.Several x)) = ⊥
-GivesKind kind.Iterator h = ⊥
+GivesKind kind.Iterator None = ⊥
+GivesKind kind.Iterator (Some (holds.One x)) = ⊥
+GivesKind kind.Iterator (Some (holds.Optional x)) = ⊥
+GivesKind kind.Iterator (Some (holds.Several x)) = ⊥
 
 -- the locals behind one that is bound
-abbrev pub behind_let : Option Holds → ℕ → Locals → Locals
-behind_let None n bound = bound
-behind_let (Some h) n bound = bound ++ (n, h) ∷ []
+abbrev pub after_let : Option Holds → ℕ → Locals → Locals
+after_let None n bound = bound
+after_let (Some h) n bound = bound ++ (n, h) ∷ []
 
 -- the locals that are bound behind a statement: none of those inside it; those of a list of answers are not built
-abbrev pub bound_behind : List TraitFn → ℕ → Stmt → Locals → Locals
-bound_behind fns params (Let n e) bound = behind_let (expr_holds fns params bound e) n bound
-bound_behind fns params (LetList n call) bound = bound
-bound_behind fns params (IfEq a b inside) bound = bound
-bound_behind fns params (IfLet pat read inside) bound = bound
-bound_behind fns params (Match read arms) bound = bound
-bound_behind fns params (Loop list each inside) bound = bound
-bound_behind fns params (Return e) bound = bound
-bound_behind fns params (Extend read) bound = bound
-bound_behind fns params (Overflow within) bound = bound
-bound_behind fns params (Log term place) bound = bound
-bound_behind fns params (Split inside within) bound = bound
-bound_behind fns params (Tail texts) bound = bound
+abbrev pub bound_after : List TraitFn → ℕ → Stmt → Locals → Locals
+bound_after fns params (Let n e) bound = after_let (expr_holds fns params bound e) n bound
+bound_after fns params (LetList n call) bound = bound
+bound_after fns params (IfEq a b inside) bound = bound
+bound_after fns params (IfLet pat read inside) bound = bound
+bound_after fns params (Match read arms) bound = bound
+bound_after fns params (Loop list each inside) bound = bound
+bound_after fns params (Return e) bound = bound
+bound_after fns params (Extend read) bound = bound
+bound_after fns params (Overflow within) bound = bound
+bound_after fns params (Log term place) bound = bound
+bound_after fns params (Split inside within) bound = bound
+bound_after fns params (Tail texts) bound = bound
 
--- a statement, and statements in order, of a function of the kind with this number of parameters; lists of answers, patterns, loops, logging
--- and closures are not built
+-- each operand of a statement, and of statements in order, is in scope and holds what is asked of it, in a function of the kind with this
+-- number of parameters; lists of answers, patterns, loops, logging and closures are not built
 abbrev mutual
-  pub IsStmtThere : List TraitFn → ReturnKind → ℕ → Locals → Stmt → Type 0
-  IsStmtThere fns kind params bound (Let n e) = IsSome (expr_holds fns params bound e)
-  IsStmtThere fns kind params bound (IfEq a b inside) = IsTrue (is_value (operand_holds params bound a)) × IsTrue (is_value (operand_holds params bound b)) × IsBodyThere fns kind params bound inside
-  IsStmtThere fns kind params bound (Return e) = GivesKind kind (expr_holds fns params bound e)
-  IsStmtThere fns kind params bound (Tail texts) = Unit {0}
-  IsStmtThere fns kind params bound (LetList n call) = ⊥
-  IsStmtThere fns kind params bound (IfLet pat read inside) = ⊥
-  IsStmtThere fns kind params bound (Match read arms) = ⊥
-  IsStmtThere fns kind params bound (Loop list each inside) = ⊥
-  IsStmtThere fns kind params bound (Extend read) = ⊥
-  IsStmtThere fns kind params bound (Overflow within) = ⊥
-  IsStmtThere fns kind params bound (Log term place) = ⊥
-  IsStmtThere fns kind params bound (Split inside within) = ⊥
+  pub IsStmtScoped : List TraitFn → ReturnKind → ℕ → Locals → Stmt → Type 0
+  IsStmtScoped fns kind params bound (Let n e) = IsSome (expr_holds fns params bound e)
+  IsStmtScoped fns kind params bound (IfEq a b inside) =
+      IsTrue (is_value (operand_holds params bound a)) × IsTrue (is_value (operand_holds params bound b)) × IsBodyScoped fns kind params bound inside
+  IsStmtScoped fns kind params bound (Return e) = GivesKind kind (expr_holds fns params bound e)
+  IsStmtScoped fns kind params bound (Tail texts) = Unit {0}
+  IsStmtScoped fns kind params bound (LetList n call) = ⊥
+  IsStmtScoped fns kind params bound (IfLet pat read inside) = ⊥
+  IsStmtScoped fns kind params bound (Match read arms) = ⊥
+  IsStmtScoped fns kind params bound (Loop list each inside) = ⊥
+  IsStmtScoped fns kind params bound (Extend read) = ⊥
+  IsStmtScoped fns kind params bound (Overflow within) = ⊥
+  IsStmtScoped fns kind params bound (Log term place) = ⊥
+  IsStmtScoped fns kind params bound (Split inside within) = ⊥
 
-  pub IsBodyThere : List TraitFn → ReturnKind → ℕ → Locals → Body → Type 0
-  IsBodyThere fns kind params bound Done = Unit {0}
-  IsBodyThere fns kind params bound (Then s ss) = IsStmtThere fns kind params bound s × IsBodyThere fns kind params (bound_behind fns params s bound) ss
+  pub IsBodyScoped : List TraitFn → ReturnKind → ℕ → Locals → Body → Type 0
+  IsBodyScoped fns kind params bound Done = Unit {0}
+  IsBodyScoped fns kind params bound (Then s ss) = IsStmtScoped fns kind params bound s × IsBodyScoped fns kind params (bound_after fns params s bound) ss
 
 -- ---- statements fit the function's kind
 
@@ -269,7 +273,8 @@ FitsTail kind.Plain None = ⊥
 FitsTail kind.Plain (Some texts) = Unit {0}
 FitsTail kind.Option None = Unit {0}
 FitsTail kind.Option (Some texts) = ⊥
-FitsTail kind.Iterator texts = ⊥
+FitsTail kind.Iterator None = ⊥
+FitsTail kind.Iterator (Some texts) = ⊥
 
 -- the last statement of a function: a return, or the tail of its kind
 abbrev pub FitsLast : ReturnKind → Stmt → Type 0
@@ -340,7 +345,7 @@ pub record IsFunction (p : Program) (f : Function) : Type 0 where
   pub names : HasNames f
   pub kind : IsKind f.kind
   pub forms : IsBody f.body
-  pub found : IsBodyThere p.trait_fns f.kind (length f.params) [] f.body
+  pub scoped : IsBodyScoped p.trait_fns f.kind (length f.params) [] f.body
   pub fits : FitsFunction f.kind f.body
 
 -- the terms of the functions

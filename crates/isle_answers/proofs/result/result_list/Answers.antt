@@ -8,4 +8,4 @@ returns-in_err-head c = passed _ _ _ _ _ c.from_residual-in_err-head.ensures.1 (
 
 pub returns : goal.returns
 unfolding read_result_list
-returns c = then_comes _ _ _ _ _ _ _ _ c.in_ok-open.ensures (then_comes _ _ _ _ _ _ _ _ c.in_ok-head.ensures (c.result_behind.ensures))
+returns c = then_comes _ _ _ _ _ _ _ _ c.in_ok-open.ensures (then_comes _ _ _ _ _ _ _ _ c.in_ok-head.ensures (c.result_after.ensures))

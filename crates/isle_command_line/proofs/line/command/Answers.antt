@@ -7,7 +7,7 @@ use Rattle.isle_command_line.specs.Views.{seen_command, seen_state}
 use Rattle.isle_command_line.specs.declared.commands.Command.{Command}
 use Rattle.isle_command_line.specs.declared.commands.LineFail.{LineFail}
 use Rattle.isle_command_line.specs.declared.commands.LineFail.TheVariants.{Bad}
-use Rattle.isle_command_line.proofs.LineLaws.{line_of, one_line, bad_at, missing_behind}
+use Rattle.isle_command_line.proofs.LineLaws.{line_of, one_line, bad_at, is_missing}
 use Rattle.isle_command_line.proofs.line.command.Goals as goal
 
 pub returns-in-Ok-clause-line : goal.returns-in-Ok-clause-line
@@ -25,7 +25,7 @@ returns-in-Ok-clause-only c = by c.request.result c.request.ensures.asks
     by (Err e) h = tt
 
 pub returns-in-Ok-clause-missing : goal.returns-in-Ok-clause-missing
-returns-in-Ok-clause-missing c e = missing_behind (bytes_each c.args.words.now) (seen_state c.in-Ok.state) c.in-Ok.ensures.known (c.request.ensures.missing e)
+returns-in-Ok-clause-missing c e = is_missing (bytes_each c.args.words.now) (seen_state c.in-Ok.state) c.in-Ok.ensures.known (c.request.ensures.missing e)
 
 pub returns-in-Err-clause-bad : goal.returns-in-Err-clause-bad
 returns-in-Err-clause-bad c i e = let same : c.in-Err.fail ≡ Bad i = cc in bad_at (bytes_each c.args.words.now) i (c.in-Err.ensures.bad i (ap Err same))

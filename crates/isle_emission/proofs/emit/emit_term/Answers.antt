@@ -1,8 +1,10 @@
-use Rattle.std.proofs.Common.{◌≡◌, Some, None, get_or, sym, ap, ◌∙◌, slice_get}
+use Rattle.std.proofs.Common.{◌≡◌, Some, None, get_or, sym, ap, ◌∙◌}
 use Rattle.std.specs.Prelude.{option_map}
 use Rattle.isle_core.specs.BlockViews.{block}
 use Rattle.isle_core.specs.RuleViews.{environment}
+use Rattle.isle_core.specs.Setting.{setting}
 use Rattle.isle_tree.specs.Views.{function}
+use Rattle.isle_emission.specs.Origin.{origin}
 use Rattle.isle_simulation.specs.TermFunction.{term_function}
 use Rattle.isle_emission.proofs.EmittedLaws.{at_item, is_made, is_well_formed, is_shaped, is_run}
 use Rattle.isle_emission.proofs.emit.emit_term.Goals as goal
@@ -12,30 +14,28 @@ unreachable-requires c =
     let terms = c.args.termenv.now.terms in
     let x = c.index-as_slice-index.result in
     let is : x ≡ get_or terms c.args.term.0 x = c.index-as_slice-index.is ∙ ap (λ xs. get_or xs c.index.result x) c.as_slice.ensures ∙ ap (λ i. get_or terms i x) c.index.ensures in
-    let env = environment c.args.typeenv.now c.args.termenv.now in
-    let b = block c.args.block.now in
-    is_made c.args.files.now env c.args.rules.now.bindings b (slice_get terms c.args.term.0) c.requires.term
-    (at_item terms c.args.term.0 x _ (λ t. None ≡ term_function c.args.files.now env t c.args.rules.now.bindings b) c.requires.term is
-    (ap (option_map function) (sym c.in-None.is) ∙ c.in_ok-function.ensures ∙ ap (λ bs. term_function c.args.files.now env x bs b) c.as_slice-2.ensures))
+    let o = origin c.args.files.now c.args.typeenv.now c.args.termenv.now c.args.term c.args.rules.now c.args.block.now in
+    is_made o c.requires.term
+    (at_item terms c.args.term.0 x _ (λ t. None ≡ term_function o.files (setting o.env t o.bindings) o.block) c.requires.term is
+    (ap (option_map function) (sym c.in-None.is) ∙ c.in_ok-function.ensures ∙ ap (λ bs. term_function o.files (setting o.env x bs) o.block) c.as_slice-2.ensures))
 
 pub returns-clause-emitted : goal.returns-clause-emitted
 returns-clause-emitted c =
     let terms = c.args.termenv.now.terms in
     let x = c.index-as_slice-index.result in
     let is : x ≡ get_or terms c.args.term.0 x = c.index-as_slice-index.is ∙ ap (λ xs. get_or xs c.index.result x) c.as_slice.ensures ∙ ap (λ i. get_or terms i x) c.index.ensures in
-    let env = environment c.args.typeenv.now c.args.termenv.now in
-    let b = block c.args.block.now in
-    at_item terms c.args.term.0 x _ (λ t. term_function c.args.files.now env t c.args.rules.now.bindings b ≡ Some (function c.in-Some.function)) c.requires.term is
-    (sym (ap (option_map function) (sym c.in-Some.is) ∙ c.in_ok-function.ensures ∙ ap (λ bs. term_function c.args.files.now env x bs b) c.as_slice-2.ensures))
+    let o = origin c.args.files.now c.args.typeenv.now c.args.termenv.now c.args.term c.args.rules.now c.args.block.now in
+    at_item terms c.args.term.0 x _ (λ t. term_function o.files (setting o.env t o.bindings) o.block ≡ Some (function c.in-Some.function)) c.requires.term is
+    (sym (ap (option_map function) (sym c.in-Some.is) ∙ c.in_ok-function.ensures ∙ ap (λ bs. term_function o.files (setting o.env x bs) o.block) c.as_slice-2.ensures))
 
 pub returns-clause-well_formed : goal.returns-clause-well_formed
 returns-clause-well_formed c =
-    is_well_formed c.args.files.now (environment c.args.typeenv.now c.args.termenv.now) c.args.rules.now.bindings (block c.args.block.now) (slice_get c.args.termenv.now.terms c.args.term.0) (function c.in-Some.function) c.requires.term (returns-clause-emitted c)
+    is_well_formed (origin c.args.files.now c.args.typeenv.now c.args.termenv.now c.args.term c.args.rules.now c.args.block.now) (function c.in-Some.function) c.requires.term (returns-clause-emitted c)
 
 pub returns-clause-shape : goal.returns-clause-shape
 returns-clause-shape c =
-    is_shaped c.args.files.now (environment c.args.typeenv.now c.args.termenv.now) c.args.rules.now.bindings (block c.args.block.now) (slice_get c.args.termenv.now.terms c.args.term.0) (function c.in-Some.function) c.requires.term (returns-clause-emitted c)
+    is_shaped (origin c.args.files.now c.args.typeenv.now c.args.termenv.now c.args.term c.args.rules.now c.args.block.now) (function c.in-Some.function) c.requires.term (returns-clause-emitted c)
 
 pub returns-clause-run : goal.returns-clause-run
 returns-clause-run c =
-    is_run c.args.files.now (environment c.args.typeenv.now c.args.termenv.now) c.args.rules.now.bindings (block c.args.block.now) (slice_get c.args.termenv.now.terms c.args.term.0) (function c.in-Some.function) c.requires.term (returns-clause-emitted c)
+    is_run (origin c.args.files.now c.args.typeenv.now c.args.termenv.now c.args.term c.args.rules.now c.args.block.now) (function c.in-Some.function) c.requires.term (returns-clause-emitted c)

@@ -20,5 +20,5 @@ decreases-run_body l = 3 * goal.size-run_body l + 1
 abbrev pub decreases-run_inside : goal.decreases-run_inside
 decreases-run_inside l = 3 * goal.size-run_inside l + 2
 
-abbrev pub decreases-run_fitting : goal.decreases-run_fitting
-decreases-run_fitting l = 3 * goal.size-run_fitting l + 2
+abbrev pub decreases-run_where : goal.decreases-run_where
+decreases-run_where l = 3 * goal.size-run_where l + 2

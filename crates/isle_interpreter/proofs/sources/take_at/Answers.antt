@@ -7,5 +7,5 @@ use Rattle.isle_interpreter.proofs.sources.take_at.Goals as goal
 
 pub returns-in-Some : goal.returns-in-Some
 returns-in-Some c =
-    let there : get_by (λ k. slice_cmp nat_cmp c.args.name.now k.now) c.args.found.now ≡ Some c.in-Some.found.now = search rules in
-    takes_there c.args.found.now (c.get_mut.follows.lender c.behind.result) c.args.name.now c.in-Some.found.now c.behind.result there c.behind.ensures ((c.get_mut.follows.holds c.behind.result).3 (search rules))
+    let there : get_by (λ k. slice_cmp nat_cmp c.args.name.now k.now) c.args.found.now ≡ Some c.in-Some.source.now = search rules in
+    takes_there c.args.found.now (c.get_mut.follows.lender c.after_call.result) c.args.name.now c.in-Some.source.now c.after_call.result there c.after_call.ensures ((c.get_mut.follows.holds c.after_call.result).3 (search rules))

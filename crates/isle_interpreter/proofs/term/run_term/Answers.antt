@@ -12,14 +12,14 @@ use Rattle.isle_interpreter.proofs.term.run_term.Goals as goal
 fits : (c : goal.After-run_fitting) → MayRun (program c.args.p.now) c.args.name.now (values c.args.args.now) (meaning c.args.answers.now) (function c.in-Ok.f.now)
 fits c =
     let there : function_of c.args.name.now (program c.args.p.now).fns ≡ Some (function c.in-Ok.f.now) = search rules in
-    record { found = there; typed = c.in-Ok.ensures.typed; right = c.in-Ok-try_forms.ensures.right; answered = c.in-Ok-try_forms.ensures.answered }
+    record { found = there; typed = c.in-Ok.ensures.typed; right = c.in-Ok-try_entries.ensures.right; answered = c.in-Ok-try_entries.ensures.answered }
 
-pub returns-in-Ok-try_forms-clause-may : goal.returns-in-Ok-try_forms-clause-may
-returns-in-Ok-try_forms-clause-may c =
+pub returns-in-Ok-try_entries-clause-may : goal.returns-in-Ok-try_entries-clause-may
+returns-in-Ok-try_entries-clause-may c =
     on_ok c.run_fitting.result (Runs (program c.args.p.now) c.args.name.now (values c.args.args.now) (meaning c.args.answers.now)) (record { function = function c.in-Ok.f.now; may = fits c })
 
-pub returns-in-Ok-try_forms-clause-never : goal.returns-in-Ok-try_forms-clause-never
-returns-in-Ok-try_forms-clause-never c =
+pub returns-in-Ok-try_entries-clause-never : goal.returns-in-Ok-try_entries-clause-never
+returns-in-Ok-try_entries-clause-never c =
     let p = program c.args.p.now in
     let args = values c.args.args.now in
     let m = meaning c.args.answers.now in
@@ -33,18 +33,18 @@ returns-in-Err-clause-only c =
     let refused : IsRefused p c.args.name.now args m c.in-Err.e = search rules in
     only_one p c.args.name.now args m c.in-Err.e (inr refused)
 
-pub returns-in-Err-try_forms-clause-refused : goal.returns-in-Err-try_forms-clause-refused
-returns-in-Err-try_forms-clause-refused c =
+pub returns-in-Err-try_entries-clause-refused : goal.returns-in-Err-try_entries-clause-refused
+returns-in-Err-try_entries-clause-refused c =
     let p = program c.args.p.now in
     let f = function c.in-Ok.f.now in
     let there : function_of c.args.name.now p.fns ≡ Some f = search rules in
-    bad_refused p c.args.name.now (values c.args.args.now) (meaning c.args.answers.now) f c.in-Err-try_forms.e there c.in-Ok.ensures.typed c.in-Err-try_forms.ensures.bad
+    bad_refused p c.args.name.now (values c.args.args.now) (meaning c.args.answers.now) f c.in-Err-try_entries.e there c.in-Ok.ensures.typed c.in-Err-try_entries.ensures.bad
 
-pub returns-in-Err-try_forms-clause-only : goal.returns-in-Err-try_forms-clause-only
-returns-in-Err-try_forms-clause-only c =
+pub returns-in-Err-try_entries-clause-only : goal.returns-in-Err-try_entries-clause-only
+returns-in-Err-try_entries-clause-only c =
     let p = program c.args.p.now in
     let f = function c.in-Ok.f.now in
     let args = values c.args.args.now in
     let m = meaning c.args.answers.now in
     let there : function_of c.args.name.now p.fns ≡ Some f = search rules in
-    only_one p c.args.name.now args m c.in-Err-try_forms.e (bad_refused p c.args.name.now args m f c.in-Err-try_forms.e there c.in-Ok.ensures.typed c.in-Err-try_forms.ensures.bad)
+    only_one p c.args.name.now args m c.in-Err-try_entries.e (bad_refused p c.args.name.now args m f c.in-Err-try_entries.e there c.in-Ok.ensures.typed c.in-Err-try_entries.ensures.bad)

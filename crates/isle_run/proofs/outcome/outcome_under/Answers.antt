@@ -1,7 +1,6 @@
 use Rattle.std.proofs.Common.{rules, inr}
-use Rattle.isle_core.specs.RuleViews.{environment}
 use Rattle.isle_run.specs.NoLines.{fault}
 use Rattle.isle_run.proofs.outcome.outcome_under.Goals as goal
 
 pub returns-in-Err-At-clause-err : goal.returns-in-Err-At-clause-err
-returns-in-Err-At-clause-err c = inr (c.refused.ensures (environment c.args.compiled.now.typeenv.now c.args.compiled.now.termenv.now) c.args.text.now (λ takes. fault _ takes (c.forms.ensures.fault _ (search rules))))
+returns-in-Err-At-clause-err c = inr (c.refused.ensures c.args.text.now (λ takes. fault _ takes (c.forms.ensures.fault _ (search rules))))

@@ -1,10 +1,10 @@
 use Rattle.std.proofs.Common.{[]}
-use Rattle.isle_core.specs.ValueViews.{values}
-use Rattle.isle_tree.specs.Views.{program}
-use Rattle.isle_run_inputs.specs.Forms.{answers_at}
+use Rattle.isle_run_inputs.specs.AnswersAt.{answers_at}
+use Rattle.isle_run.specs.Compiled.{env_of, attempt}
 use Rattle.isle_run.proofs.RunRefusals.{refuses_early}
 use Rattle.isle_run.proofs.outcome.refused.Goals as goal
 
 pub returns-in-Err : goal.returns-in-Err
-returns-in-Err c env text other =
-    rw c.placed.ensures (refuses_early (program c.args.p.now) env c.args.term.now (values c.args.args.now) text (answers_at env []) c.in-Err.e c.in-Err.ensures.early (c.in-Err.ensures.refused (answers_at env [])))
+returns-in-Err c text other =
+    let none = answers_at (env_of c.args.compiled.now) [] in
+    rw c.placed.ensures (refuses_early (attempt c.args.compiled.now c.args.term.now c.args.args.now) text none c.in-Err.e c.in-Err.ensures.early (c.in-Err.ensures.refused none))

@@ -1,15 +1,13 @@
 use Rattle.std.proofs.Common.{rules, inr}
-use Rattle.isle_core.specs.RuleViews.{environment}
-use Rattle.isle_core.specs.ValueViews.{values}
 use Rattle.isle_answers.specs.Views.{forms_seen}
-use Rattle.isle_tree.specs.Views.{program}
+use Rattle.isle_run.specs.Compiled.{attempt}
 use Rattle.isle_run.specs.NoLines.{unbuilt}
 use Rattle.isle_run.proofs.RunRefusals.{refuses}
 use Rattle.isle_run.proofs.outcome.under_forms.Goals as goal
 
 pub returns-then-not-are_built-clause-err : goal.returns-then-not-are_built-clause-err
-returns-then-not-are_built-clause-err c text spelt end = inr (c.refused.ensures (environment c.args.compiled.now.typeenv.now c.args.compiled.now.termenv.now) text (λ takes. unbuilt (forms_seen c.args.forms.now) takes spelt (search rules)))
+returns-then-not-are_built-clause-err c text spelt end = inr (c.refused.ensures text (λ takes. unbuilt (forms_seen c.args.forms.now) takes spelt (search rules)))
 
 pub returns-clause-err : goal.returns-clause-err
 returns-clause-err c text spelt end =
-    rw c.placed.ensures (refuses (program c.args.compiled.now.program.now) (environment c.args.compiled.now.typeenv.now c.args.compiled.now.termenv.now) c.args.term.now (values c.args.args.now) text (forms_seen c.args.forms.now) c.args.end c.in-Err.e spelt (search rules) end (search rules))
+    rw c.placed.ensures (refuses (attempt c.args.compiled.now c.args.term.now c.args.args.now) text (forms_seen c.args.forms.now) c.args.end c.in-Err.e spelt (search rules) end (search rules))

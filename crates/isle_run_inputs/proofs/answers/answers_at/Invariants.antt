@@ -2,7 +2,7 @@ use Rattle.std.proofs.Common.{◌≡◌, ◌++◌, map, drop}
 use Rattle.isle_core.specs.ValueViews.{turn_answers}
 use Rattle.isle_core.specs.RuleViews.{environment}
 use Rattle.isle_answers.specs.Views.{forms_seen}
-use Rattle.isle_run_inputs.specs.Forms.{turns_at}
+use Rattle.isle_run_inputs.specs.AnswersAt.{turns_at}
 use Rattle.isle_run_inputs.proofs.answers.answers_at.Given as goal
 
 abbrev pub invariant-loop-form : goal.invariant-loop-form

@@ -2,7 +2,7 @@ use Rattle.std.proofs.Common.{rules, tests, ◌∙◌}
 use Rattle.std.proofs.lemmas.Iterator.{YieldsList-from_slice}
 use Rattle.std.proofs.lemmas.Iterator.Search.{all_from_yields_List}
 use Rattle.isle_answers.specs.Views.{form_seen}
-use Rattle.isle_run_inputs.specs.Forms.{is_built}
+use Rattle.isle_run_inputs.specs.Built.{is_built}
 use Rattle.isle_run_inputs.proofs.AllSeen.{all_seen}
 use Rattle.isle_run_inputs.proofs.built.are_built.Goals as goal
 

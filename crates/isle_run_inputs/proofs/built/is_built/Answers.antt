@@ -1,7 +1,7 @@
 use Rattle.std.proofs.Common.{rules, ◌≡◌, true, false, refl, ◌∙◌}
 use Rattle.std.specs.List.{list_all}
 use Rattle.isle_answers.specs.Views.{answer_seen}
-use Rattle.isle_run_inputs.specs.Forms.{is_built_answer}
+use Rattle.isle_run_inputs.specs.Built.{is_built_answer}
 use Rattle.isle_run_inputs.proofs.AllSeen.{turns_built}
 use Rattle.isle_run_inputs.proofs.built.is_built.Goals as goal
 

@@ -1,7 +1,7 @@
 use Rattle.std.proofs.Common.{◌≡◌, ap, ◌∙◌}
 use Rattle.std.specs.Prelude.{slice_get}
 use Rattle.isle_values.specs.Views.{written}
-use Rattle.isle_run_inputs.specs.Given.{value_at_any}
+use Rattle.isle_run_inputs.specs.ValuesAt.{value_at_any}
 use Rattle.isle_run_inputs.proofs.Rest.{got, values_more}
 use Rattle.isle_run_inputs.proofs.values.values_at.Goals as goal
 

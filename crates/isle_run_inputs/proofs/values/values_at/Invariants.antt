@@ -2,7 +2,7 @@ use Rattle.std.proofs.Common.{◌≡◌, ◌++◌, drop}
 use Rattle.isle_core.specs.Rule.{Environment}
 use Rattle.isle_core.specs.ValueViews.{values}
 use Rattle.isle_values.specs.Views.{seen}
-use Rattle.isle_run_inputs.specs.Given.{values_at}
+use Rattle.isle_run_inputs.specs.ValuesAt.{values_at}
 use Rattle.isle_run_inputs.proofs.values.values_at.Given as goal
 
 abbrev pub invariant-loop-index : goal.invariant-loop-index

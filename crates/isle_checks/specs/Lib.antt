@@ -1,0 +1,4 @@
+pub mod Bears
+pub mod Makes
+pub mod Sides
+pub mod Firsts

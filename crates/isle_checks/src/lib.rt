@@ -1,0 +1,7 @@
+//! What is wrong with the rules of a term among each other.
+#![tactic(auto)]
+
+mod bears;
+mod firsts;
+mod placed;
+mod splitter;

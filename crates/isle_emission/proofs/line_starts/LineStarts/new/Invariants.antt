@@ -1,6 +1,0 @@
-use Rattle.std.proofs.Common.{◌≡◌, take, map}
-use Rattle.isle_emission.specs.LineStarts.{starts_of}
-use Rattle.isle_emission.proofs.line_starts.LineStarts.new.Given as goal
-
-abbrev pub invariant-loop-text : goal.invariant-loop-text
-invariant-loop-text l = l.starts.items ≡ map starts_of (take l.text-index l.text-items)

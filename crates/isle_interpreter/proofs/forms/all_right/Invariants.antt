@@ -1,9 +1,0 @@
-use Rattle.std.proofs.Common.{[], take}
-use Rattle.isle_core.specs.ValueViews.{meaning}
-use Rattle.isle_tree.specs.Views.{program}
-use Rattle.isle_interpreter.specs.Forms.{forms, AreRight}
-use Rattle.isle_interpreter.specs.Served.{Serves}
-use Rattle.isle_interpreter.proofs.forms.all_right.Given as goal
-
-abbrev pub invariant-loop-index : goal.invariant-loop-index
-invariant-loop-index l = AreRight (program l.signatures) [] (take l.index (forms (meaning l.answers))) × Serves (take l.index (forms (meaning l.answers))) l.served

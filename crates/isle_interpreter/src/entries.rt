@@ -1,0 +1,99 @@
+//! Whether answers are right.
+
+ghost use Rattle.std.specs.Prelude.{◌≡◌, ◌+◌, ◌^◌, ◌<◌, ◌↔◌, List, [], ◌∷◌, ◌++◌, length, IfOk, IfErr, OnOk, IsTrue};
+ghost use Rattle.isle_core.specs.ValueViews.{meaning};
+ghost use Rattle.isle_tree.specs.Views.{function, program};
+ghost use Rattle.isle_interpreter.specs.Entries.{Entry as EntryOf, entries, IsRight, AreRight};
+ghost use Rattle.isle_interpreter.specs.EntryViews.{entry};
+ghost use Rattle.isle_interpreter.specs.Judged.{AreWrong, AreBad};
+ghost use Rattle.isle_interpreter.specs.Refusals.{AreAnswered};
+ghost use Rattle.isle_interpreter.specs.Served.{Serves};
+
+use crate::entry::{Entry, entry_at};
+use crate::run_error::RunError;
+use crate::served::Served;
+use crate::signatures::Signatures;
+use crate::within::are_within;
+use isle_core::Answers;
+use isle_tree::{Function, Program};
+use std::alloc::{AllocError, Global};
+
+// How many entries there are.
+fn count(answers: &Answers) -> usize
+    requires { length answers.now.consts + length answers.now.pure + length answers.now.turns < 2 ^ 64 }
+    ensures all { result ≡ length answers.now.consts + length answers.now.pure + length answers.now.turns }
+    ensures entries { result ≡ length (entries (meaning answers.now)) }
+{
+    let consts = answers.consts.as_slice().len();
+    let pure = answers.pure.as_slice().len();
+    consts + pure + answers.turns.as_slice().len()
+}
+
+// Whether an entry is right behind earlier ones, which the callees stand for. Its callee joins them.
+fn is_right<'a>(
+    signatures: &Signatures<'_>,
+    served: &mut Served<'a>,
+    given: &Entry<'a>,
+) -> Result<bool, AllocError>
+    ensures right { IfOk result (λ right. (earlier : List EntryOf) → Serves earlier served.old
+        → IsTrue right ↔ IsRight (program signatures.now) earlier (entry given.now)) }
+    ensures serves { IfOk result (λ right. (earlier : List EntryOf) → Serves earlier served.old
+        → IsTrue right → Serves (earlier ++ entry given.now ∷ []) served.new) }
+{
+    let callee = match given.callee() {
+        Some(callee) => callee,
+        None => return Ok(false),
+    };
+    if !served.add(callee)? {
+        return Ok(false);
+    }
+    match signatures.of(callee) {
+        Some(signature) => Ok(given.fits(&signature)),
+        None => Ok(false),
+    }
+}
+
+// The callees that the entries answer for, where each entry is right.
+fn all_right<'a>(
+    alloc: Global,
+    signatures: &Signatures<'_>,
+    answers: &'a Answers,
+) -> Result<Served<'a>, RunError>
+    requires { length answers.now.consts + length answers.now.pure + length answers.now.turns < 2 ^ 64 }
+    ensures right { OnOk result (AreRight (program signatures.now) [] (entries (meaning answers.now))) }
+    ensures serves { IfOk result (Serves (entries (meaning answers.now))) }
+    ensures wrong { IfErr result (AreWrong (program signatures.now) (entries (meaning answers.now))) }
+{
+    let mut served = Served::new(alloc);
+    for index in 0..count(answers) {
+        let given = entry_at(answers, index);
+        if !is_right(signatures, &mut served, &given)? {
+            return Err(RunError::BadAnswers(index));
+        }
+    }
+    Ok(served)
+}
+
+/// Tells which entry is wrong first, or that something which the function calls has none; else all do.
+pub fn try_entries(
+    alloc: Global,
+    p: &Program,
+    f: &Function,
+    answers: &Answers,
+) -> Result<(), RunError>
+    requires { length answers.now.consts + length answers.now.pure + length answers.now.turns < 2 ^ 64 }
+    ensures right { OnOk result (AreRight (program p.now) [] (entries (meaning answers.now))) }
+    ensures answered { OnOk result (AreAnswered (function f.now) (entries (meaning answers.now))) }
+    ensures bad { IfErr result (AreBad (program p.now) (function f.now) (entries (meaning answers.now))) }
+{
+    let signatures = Signatures::new(alloc, p)?;
+    let served = match all_right(alloc, &signatures, answers) {
+        Ok(served) => served,
+        Err(e) => return Err(e),
+    };
+    if are_within(&served, f.body.as_slice()) {
+        Ok(())
+    } else {
+        Err(RunError::BadAnswers(count(answers)))
+    }
+}

@@ -1,0 +1,28 @@
+-- Which forms are built.
+use Rattle.std.specs.Prelude.{List, Bool, true, false, ◌&&◌}
+use Rattle.std.specs.List.{list_all}
+use Rattle.isle_answers.specs.Form.{ResultForm, One, Tuple, AnswerForm, Plain, Found, Nothing, Several, Form, Held, Max, Const, Answers, Turns}
+
+-- a result that is built: one value
+abbrev pub is_built_result : ResultForm → Bool
+is_built_result (One v) = true
+is_built_result (Tuple vs) = false
+
+-- an answer that is built
+abbrev pub is_built_answer : AnswerForm → Bool
+is_built_answer (Plain r) = is_built_result r
+is_built_answer (Found r) = is_built_result r
+is_built_answer Nothing = true
+is_built_answer (Several rs) = false
+
+-- a form that is built: turns alone
+abbrev pub is_built : Form → Bool
+is_built (Turns callee turns rest at) = list_all is_built_answer turns && is_built_answer rest
+is_built (Held count at) = false
+is_built (Max count at) = false
+is_built (Const name v at) = false
+is_built (Answers callee cases rest at) = false
+
+-- all of them are
+abbrev pub are_built : List Form → Bool
+are_built = list_all is_built
