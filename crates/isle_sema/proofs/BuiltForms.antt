@@ -3,18 +3,11 @@ use Rattle.std.proofs.Common.{◌≡◌, ℕ, Bool, true, false, List, [], ◌�
 use Rattle.std.specs.Prelude.{◌&&◌, ◌||◌, not}
 use Rattle.std.specs.List.{list_all, list_any}
 use Rattle.std.proofs.lemmas.Bool.{and_parts, not-true, and_from}
-use Rattle.isle_core.specs.declared.types.TypeEnv.{TypeEnv}
 use Rattle.isle_syntax.specs.Tree as tree
 use Rattle.isle_syntax.specs.Tree.{Def}
-use Rattle.isle_sema.specs.declared.collected.Signature.{Signature as CodeSignature}
-use Rattle.isle_sema.specs.declared.collected.Extern.{Extern as CodeExtern}
-use Rattle.isle_sema.specs.declared.collected.RuleDef.{RuleDef as CodeRule}
-use Rattle.isle_sema.specs.Builtins.{builtins}
-use Rattle.isle_sema.specs.Collected.{AreCollected}
-use Rattle.isle_sema.specs.Environment.{types_of}
-use Rattle.isle_sema.specs.Signatures.{RuleDef, rule_defs}
+use Rattle.isle_declarations.specs.Signatures.{RuleDef, rule_defs}
 use Rattle.isle_sema.specs.Language.{is_built_pattern, are_none, is_built_expr, is_built_def}
-use Rattle.isle_sema.specs.Forms.{is_built_form}
+use Rattle.isle_sema.specs.BuiltForm.{is_built_form}
 use Rattle.isle_sema.specs.Tests.{binds_twice}
 
 pub both : {b : Bool} → b ≡ true → b ≡ false → ⊥
@@ -63,9 +56,3 @@ unformed defs f h = both (forms_of defs h) f
 
 pub bound_twice : (defs : List Def) → list_any binds_twice (rule_defs defs) ≡ true → list_all is_built_def defs ≡ true → ⊥
 bound_twice defs twice h = both twice (not-true (list_any binds_twice (rule_defs defs)) (forms_parts defs h).1)
-
--- ---- environments
-
--- the types over collected symbols
-pub types_from : (defs : List Def) (syms : List (List ℕ)) (sigs : List CodeSignature) (xs : List CodeExtern) (rules : List CodeRule) → AreCollected defs syms sigs xs rules → (let types : TypeEnv = record { syms = syms; types = builtins; consts = [] } in types ≡ types_of defs)
-types_from defs syms sigs xs rules k = ap (λ (names : List (List ℕ)). record { syms = names; types = builtins; consts = [] }) k.named

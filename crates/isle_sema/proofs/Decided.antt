@@ -4,12 +4,12 @@ use Rattle.std.specs.Prelude.{Bool, ◌&&◌, not}
 use Rattle.std.specs.List.{list_all}
 use Rattle.isle_core.specs.Rule.{Environment}
 use Rattle.isle_syntax.specs.Tree.{Def}
-use Rattle.isle_sema.specs.Symbols.{symbols}
-use Rattle.isle_sema.specs.Signatures.{signatures, externs, rule_defs}
+use Rattle.isle_declarations.specs.Symbols.{symbols}
+use Rattle.isle_declarations.specs.Signatures.{signatures, externs, rule_defs}
 use Rattle.isle_sema.specs.Elaborated.{term_of}
 use Rattle.isle_sema.proofs.Trees.{rules_from}
-use Rattle.isle_sema.specs.Heads.{heads_of}
-use Rattle.isle_sema.specs.Repeats.{repeats}
+use Rattle.isle_declarations.specs.Heads.{heads_of}
+use Rattle.isle_declarations.specs.Repeats.{repeats}
 use Rattle.isle_sema.proofs.Wrong.{has_fault}
 use Rattle.isle_sema.specs.Language.{is_built_def}
 use Rattle.isle_sema.proofs.RightSides.{rules_call_external}

@@ -8,13 +8,13 @@ use Rattle.isle_core.specs.declared.types.Term.{Term}
 use Rattle.isle_core.specs.Rule.{Environment}
 use Rattle.isle_syntax.specs.Tree as tree
 use Rattle.isle_syntax.specs.Tree.{Expr, Exprs, NoExpr, AnExpr, IfLet, Def}
-use Rattle.isle_sema.specs.Symbols.{symbols}
-use Rattle.isle_sema.specs.Signatures.{RuleDef, signatures, externs, rule_defs, func_named, has_rule}
+use Rattle.isle_declarations.specs.Symbols.{symbols}
+use Rattle.isle_declarations.specs.Signatures.{RuleDef, signatures, externs, rule_defs, func_named, has_rule}
 use Rattle.isle_sema.specs.Elaborated.{term_of}
 use Rattle.isle_sema.proofs.RightSides.{calls_external, all_call_external}
 use Rattle.isle_sema.specs.Calls.{calls_ruled, any_calls_ruled}
-use Rattle.isle_sema.specs.Heads.{terms_of, extern_terms, heads_of}
-use Rattle.isle_sema.specs.Repeats.{repeats}
+use Rattle.isle_declarations.specs.Heads.{terms_of, extern_terms, heads_of}
+use Rattle.isle_declarations.specs.Repeats.{repeats}
 use Rattle.isle_sema.proofs.Wrong.{names_no_type, has_too_many}
 use Rattle.isle_sema.proofs.Wrong.{signatures_fault, externs_fault, rules_fault}
 use Rattle.isle_sema.specs.Language.{is_built_def, are_none, rules_call_ruled}

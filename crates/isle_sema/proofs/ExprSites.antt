@@ -8,7 +8,7 @@ use Rattle.isle_core.specs.declared.TypeId.{TypeId}
 use Rattle.isle_syntax.specs.Tree as tree
 use Rattle.isle_syntax.specs.Tree.{Expr, Exprs, NoExpr, AnExpr, Def}
 use Rattle.isle_sema.specs.Builtins.{builtin_named}
-use Rattle.isle_sema.specs.Signatures.{Signature, signatures, signature_named}
+use Rattle.isle_declarations.specs.Signatures.{Signature, signatures, signature_named}
 use Rattle.isle_sema.specs.Elaborated.{type_of}
 use Rattle.isle_sema.proofs.Trees.{arg_types}
 use Rattle.isle_sema.specs.Calls.{count_of}
@@ -29,7 +29,7 @@ use Rattle.isle_sema.specs.Environment.{whole_of}
 use Rattle.isle_sema.proofs.Firsts.{any_parts}
 use Rattle.isle_sema.proofs.TypedConstants.{type_below}
 use Rattle.isle_sema.proofs.TypesNamed.{has_types, found_keeps, integers_at, truths_only, lifted, bound_lifted}
-use Rattle.isle_sema.proofs.TypedExprs.{named_is}
+use Rattle.isle_declarations.proofs.LookUps.{named_is}
 
 -- the parts of an expression over these variables
 abbrev pub parts : List Def → List (List ℕ × TypeId) → TypeId → Expr → List Site

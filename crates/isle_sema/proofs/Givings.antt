@@ -9,33 +9,24 @@ use Rattle.isle_core.specs.declared.types.TermEnv.{TermEnv}
 use Rattle.isle_core.specs.Rule.{Rule as CoreRule, Environment}
 use Rattle.isle_core.specs.RuleViews.{rule as elaborated_rule, environment}
 use Rattle.isle_syntax.specs.Tree.{Def}
-use Rattle.isle_sema.specs.Signatures.{Signature, Extern, RuleDef, signatures, externs, rule_defs}
-use Rattle.isle_sema.specs.Heads.{terms_of, extern_terms, heads_of}
-use Rattle.isle_sema.specs.Repeats.{repeats}
+use Rattle.isle_declarations.specs.Signatures.{Signature, RuleDef, signatures, externs, rule_defs}
+use Rattle.isle_declarations.specs.Heads.{terms_of, extern_terms, heads_of}
+use Rattle.isle_declarations.specs.Repeats.{repeats}
 use Rattle.isle_sema.proofs.Wrong.{names_no_type, has_too_many}
 use Rattle.isle_sema.specs.Language.{is_built_def, rules_call_ruled}
-use Rattle.isle_sema.specs.Tests as sound
 use Rattle.isle_sema.specs.Tests.{binds_twice, is_misdeclared, has_undeclared}
-use Rattle.isle_sema.specs.declared.collected.Signature.{Signature as CodeSignature}
-use Rattle.isle_sema.specs.declared.collected.Extern.{Extern as CodeExtern}
-use Rattle.isle_sema.specs.declared.collected.RuleDef.{RuleDef as CodeRule}
-use Rattle.isle_sema.specs.declared.tables.Tables.{Tables}
-use Rattle.isle_sema.specs.Collected.{signature, extern, rule, AreCollected}
-use Rattle.isle_sema.specs.Elaborated.{term_of}
-use Rattle.isle_sema.specs.Known.{AreKnown}
-use Rattle.isle_sema.specs.Forms.{is_built_form}
+use Rattle.isle_sema.specs.BuiltForm.{is_built_form}
 use Rattle.isle_sema.specs.RulePass.{rules_pass}
 use Rattle.isle_sema.specs.Fault.{OfTypes, OfTerms, OfExtractors, OfRules, or_later, fault_in}
 use Rattle.isle_sema.specs.Environment.{types_of, whole_of, env_over, terms_pass}
 use Rattle.isle_sema.specs.Typing.{Typed}
-use Rattle.isle_sema.specs.Tables.{HasFirsts, any_repeat, HasTables}
+use Rattle.isle_declarations.specs.Tables.{any_repeat}
 use Rattle.isle_sema.specs.Taken.{taken_rules}
 use Rattle.isle_sema.proofs.BuiltForms.{both, forms_of, unformed, bound_twice}
 use Rattle.isle_sema.proofs.Firsts.{stages_none, none_stages}
 use Rattle.isle_sema.proofs.TermFaults.{types_none, extractors_none, is_headless, TermParts, terms_kept, terms_none}
 use Rattle.isle_sema.proofs.RuleLaws.{fault_none, none_fault, taken_are, are_taken}
 use Rattle.isle_sema.proofs.Deciding.{plain_of, rules_built}
-use Rattle.isle_sema.proofs.RuleTrees.{terms_tree}
 
 -- ---- declarations that are wrong by themselves
 
@@ -99,7 +90,7 @@ misdeclared_untyped ds h env t =
     let p = (kept t).parts in
     both h (misdeclared_parts (signatures ds) ∙ or_from (list_any has_too_many (signatures ds)) (list_any names_no_type (signatures ds)) p.few p.typed)
 
-pub repeated_untyped : (ds : List Def) → any_repeat (signatures ds) (externs ds) (rule_defs ds) ≡ true → (env : Environment) → Typed ds env → ⊥
+pub repeated_untyped : (ds : List Def) → any_repeat ds ≡ true → (env : Environment) → Typed ds env → ⊥
 repeated_untyped ds h env t =
     let k = kept t in
     both h (or_from (repeats (terms_of (signatures ds)) || repeats (extern_terms (externs ds))) (repeats (heads_of (rule_defs ds))) (or_from (repeats (terms_of (signatures ds))) (repeats (extern_terms (externs ds))) k.parts.apart k.parts.externs_apart) k.heads)
@@ -110,69 +101,29 @@ undeclared_untyped ds h env t = both h (kept t).parts.known
 pub headless_untyped : (ds : List Def) → list_any (is_headless ds) (rule_defs ds) ≡ true → (env : Environment) → Typed ds env → ⊥
 headless_untyped ds h env t = both h (kept t).parts.heads
 
+-- nor those whose terms have no types
+pub unmade_untyped : (ds : List Def) → None ≡ terms_pass (whole_of ds) (signatures ds) → (env : Environment) → Typed ds env → ⊥
+unmade_untyped ds none env t = let bad : None ≡ Some env = ap (λ o. option_and_then (λ (terms : List Term). option_map (env_over (types_of ds) terms) (rules_pass (whole_of ds) 0 (rule_defs ds))) o) none ∙ t.given in cc
+
 pub untaken_untyped : (ds : List Def) → None ≡ taken_rules (whole_of ds) 0 (rule_defs ds) → (env : Environment) → Typed ds env → ⊥
 untaken_untyped ds h env t = let k = kept t in let bad : None ≡ Some k.rules = h ∙ k.taken in cc
 
--- ---- collected definitions
-
--- the heads of collected rules
-pub heads_from : (ds : List Def) (syms : List (List ℕ)) (sigs : List CodeSignature) (xs : List CodeExtern) (rules : List CodeRule) → AreCollected ds syms sigs xs rules
-    → list_any (is_headless ds) (rule_defs ds) ≡ list_any (sound.is_headless (map signature sigs) (map extern xs)) (map rule rules)
-heads_from ds syms sigs xs rules k =
-    ap (λ (s : List Signature). list_any (sound.is_headless s (externs ds)) (rule_defs ds)) (sym k.declared) ∙ ap (λ (e : List Extern). list_any (sound.is_headless (map signature sigs) e) (rule_defs ds)) (sym k.external)
-    ∙ ap (list_any (sound.is_headless (map signature sigs) (map extern xs))) (sym k.ruled)
-
--- no test of what was collected refuses the definitions
-pub parts_from : (ds : List Def) (syms : List (List ℕ)) (sigs : List CodeSignature) (xs : List CodeExtern) (rules : List CodeRule) (t : Tables) → AreCollected ds syms sigs xs rules → HasTables syms (map signature sigs) (map extern xs) (map rule rules) t
-    → list_any is_misdeclared (map signature sigs) ≡ false → has_undeclared (map signature sigs) (map extern xs) ≡ false → list_any (sound.is_headless (map signature sigs) (map extern xs)) (map rule rules) ≡ false → TermParts ds [] ds
-parts_from ds syms sigs xs rules t k h declared known heads =
-    let d = or_parts (list_any has_too_many (map signature sigs)) (list_any names_no_type (map signature sigs)) (sym (misdeclared_parts (map signature sigs)) ∙ declared) in
-    record {
-      apart = ap (λ (s : List Signature). repeats (terms_of s)) (sym k.declared) ∙ h.declared.apart;
-      typed = ap (list_any names_no_type) (sym k.declared) ∙ d.1;
-      few = ap (list_any has_too_many) (sym k.declared) ∙ d.0;
-      externs_apart = ap (λ (e : List Extern). repeats (extern_terms e)) (sym k.external) ∙ h.external.apart;
-      known = ap (λ (s : List Signature). has_undeclared s (externs ds)) (sym k.declared) ∙ ap (has_undeclared (map signature sigs)) (sym k.external) ∙ known;
-      heads = heads_from ds syms sigs xs rules k ∙ heads;
-    }
-
--- their terms
-pub terms_from : (ds : List Def) (syms : List (List ℕ)) (sigs : List CodeSignature) (xs : List CodeExtern) (rules : List CodeRule) (terms : List Term) → AreCollected ds syms sigs xs rules → list_all is_built_def ds ≡ true → list_any is_misdeclared (map signature sigs) ≡ false
-    → terms ≡ map (term_of syms (map extern xs) (map rule rules)) (map signature sigs) → terms_pass (whole_of ds) (signatures ds) ≡ Some terms
-terms_from ds syms sigs xs rules terms k built declared is =
-    let d = or_parts (list_any has_too_many (map signature sigs)) (list_any names_no_type (map signature sigs)) (sym (misdeclared_parts (map signature sigs)) ∙ declared) in
-    terms_tree ds (signatures ds) (plain_of ds built) (ap (list_any names_no_type) (sym k.declared) ∙ d.1)
-    ∙ ap (λ (s : List (List ℕ)). Some (map (term_of s (externs ds) (rule_defs ds)) (signatures ds))) (sym k.named)
-    ∙ ap (λ (e : List Extern). Some (map (term_of syms e (rule_defs ds)) (signatures ds))) (sym k.external)
-    ∙ ap (λ (r : List RuleDef). Some (map (term_of syms (map extern xs) r) (signatures ds))) (sym k.ruled)
-    ∙ ap (λ (s : List Signature). Some (map (term_of syms (map extern xs) (map rule rules)) s)) (sym k.declared) ∙ ap Some (sym is)
-
--- what is known of them
-pub known_from : (ds : List Def) (syms : List (List ℕ)) (sigs : List CodeSignature) (xs : List CodeExtern) (rules : List CodeRule) (terms : List Term) (t : Tables) → AreCollected ds syms sigs xs rules → HasTables syms (map signature sigs) (map extern xs) (map rule rules) t
-    → terms_pass (whole_of ds) (signatures ds) ≡ Some terms → AreKnown ds syms (map signature sigs) terms t.declared.items t.external.items t.ruled.items
-known_from ds syms sigs xs rules terms t k h made = record {
-  named = k.named;
-  given = k.declared;
-  made = made;
-  declared_at = subst (λ (s : List Signature). HasFirsts syms (terms_of s) t.declared.items) k.declared h.declared;
-  external_at = subst (λ (e : List Extern). HasFirsts syms (extern_terms e) t.external.items) k.external h.external;
-  ruled_at = subst (λ (r : List RuleDef). HasFirsts syms (heads_of r) t.ruled.items) k.ruled h.ruled;
-}
-
--- a name repeats among what was collected
-pub repeated_from : (ds : List Def) (syms : List (List ℕ)) (sigs : List CodeSignature) (xs : List CodeExtern) (rules : List CodeRule) → AreCollected ds syms sigs xs rules → any_repeat (map signature sigs) (map extern xs) (map rule rules) ≡ true
-    → any_repeat (signatures ds) (externs ds) (rule_defs ds) ≡ true
-repeated_from ds syms sigs xs rules k h =
-    ap (λ (s : List Signature). any_repeat s (externs ds) (rule_defs ds)) (sym k.declared) ∙ ap (λ (e : List Extern). any_repeat (map signature sigs) e (rule_defs ds)) (sym k.external)
-    ∙ ap (any_repeat (map signature sigs) (map extern xs)) (sym k.ruled) ∙ h
+-- no test refuses the definitions
+pub parts_of : (ds : List Def) → list_any is_misdeclared (signatures ds) ≡ false → any_repeat ds ≡ false → has_undeclared (signatures ds) (externs ds) ≡ false → list_any (is_headless ds) (rule_defs ds) ≡ false → TermParts ds [] ds
+parts_of ds declared apart known heads =
+    let d = or_parts (list_any has_too_many (signatures ds)) (list_any names_no_type (signatures ds)) (sym (misdeclared_parts (signatures ds)) ∙ declared) in
+    let a = or_parts (repeats (terms_of (signatures ds)) || repeats (extern_terms (externs ds))) (repeats (heads_of (rule_defs ds))) apart in
+    let b = or_parts (repeats (terms_of (signatures ds))) (repeats (extern_terms (externs ds))) a.0 in
+    record { apart = b.0; typed = d.1; few = d.0; externs_apart = b.1; known = known; heads = heads }
 
 -- ---- the environment
 
 -- definitions that no test refuses give what is made of them
-pub given_typed : (ds : List Def) (t : TermEnv) → list_all is_built_def ds ≡ true → repeats (heads_of (rule_defs ds)) ≡ false → TermParts ds [] ds → terms_pass (whole_of ds) (signatures ds) ≡ Some t.terms
+pub given_typed : (ds : List Def) (t : TermEnv) → list_all is_built_def ds ≡ true → any_repeat ds ≡ false → TermParts ds [] ds → terms_pass (whole_of ds) (signatures ds) ≡ Some t.terms
     → taken_rules (whole_of ds) 0 (rule_defs ds) ≡ Some (map elaborated_rule t.rules) → t.converters ≡ [] → Typed ds (environment (types_of ds) t)
-given_typed ds t built heads parts terms rules none =
+given_typed ds t built apart parts terms rules none =
     let w = whole_of ds in
+    let heads = (or_parts (repeats (terms_of (signatures ds)) || repeats (extern_terms (externs ds))) (repeats (heads_of (rule_defs ds))) apart).1 in
     let forms = forms_of ds built in
     let k = taken_are w 0 (rule_defs ds) (map elaborated_rule t.rules) (rules_built ds built) rules in
     record {

@@ -16,17 +16,16 @@ use Rattle.isle_core.specs.declared.types.ExtractorKind.TheVariants as extractor
 use Rattle.isle_core.specs.Rule.{Rule, Environment}
 use Rattle.isle_core.specs.Terms.{term_ids, has_rules, with_rules}
 use Rattle.isle_syntax.specs.Tree.{Def}
-use Rattle.isle_sema.specs.Symbols.{index_of, symbols}
-use Rattle.isle_sema.specs.Signatures.{Signature, Extern, RuleDef, signatures, externs, rule_defs, term_named, func_named, has_rule, signature_named}
-use Rattle.isle_sema.specs.Elaborated.{constructor_of}
+use Rattle.isle_declarations.specs.Symbols.{index_of, symbols}
+use Rattle.isle_declarations.specs.Signatures.{Signature, Extern, RuleDef, signatures, externs, rule_defs, term_named, func_named, has_rule, signature_named}
+use Rattle.isle_sema.specs.Environment.{constructor_of}
 use Rattle.isle_sema.proofs.Trees.{term_or, rules_from}
 use Rattle.isle_sema.proofs.Wrong.{breaks, rules_fault}
-use Rattle.isle_sema.specs.Heads.{terms_of}
+use Rattle.isle_declarations.specs.Heads.{terms_of}
 use Rattle.isle_sema.specs.Typing.{Typed}
 use Rattle.isle_sema.proofs.Deciding.{decided}
-use Rattle.isle_sema.proofs.LookUps.{at_place, named_at}
+use Rattle.isle_declarations.proofs.LookUps.{at_place, named_at, named_is}
 use Rattle.isle_sema.proofs.Parts.{sound_rules}
-use Rattle.isle_sema.proofs.TypedExprs.{named_is}
 use Rattle.isle_sema.proofs.TypedTerms.{declared}
 
 -- ---- a declaration with a rule
@@ -50,10 +49,10 @@ or_second true b h = refl
 or_second false b h = h
 
 ruled_first : (xs : List Extern) (r : RuleDef) (rules : List RuleDef) (s : Signature) (here rest : Bool) → is_some (func_named xs r.term) ≡ false → (here ≡ true → s.term ≡ r.term) → (rest ≡ true → Ruled xs rules s) → here || rest ≡ true → Ruled xs (r ∷ rules) s
-ruled_first xs r rules s true rest none first behind h =
+ruled_first xs r rules s true rest none first others h =
     let is = first refl in
     (ap (λ name. is_some (func_named xs name)) is ∙ none, ap (λ b. b || has_rule rules s.term) ((bytes_eq-Decides r.term s.term).1 (sym is)))
-ruled_first xs r rules s false rest none first behind h = let k = behind h in (k.0, or_second (bytes_eq r.term s.term) (has_rule rules s.term) k.1)
+ruled_first xs r rules s false rest none first others h = let k = others h in (k.0, or_second (bytes_eq r.term s.term) (has_rule rules s.term) k.1)
 
 ruled : (syms : List (List ℕ)) (sigs : List Signature) (xs : List Extern) (n : ℕ) (s : Signature) (i : ℕ) (rules : List RuleDef) → slice_get sigs n ≡ Some s → rules_fault sigs xs rules ≡ false
     → list_any (λ (r : Rule). r.root_term.0 == n) (rules_from syms sigs i rules) ≡ true → Ruled xs rules s

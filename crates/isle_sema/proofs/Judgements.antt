@@ -10,7 +10,7 @@ use Rattle.isle_core.specs.declared.TypeId.{TypeId}
 use Rattle.isle_syntax.specs.Tree.{IfLet}
 use Rattle.isle_sema.specs.declared.judged.Judged.{Judged}
 use Rattle.isle_sema.specs.declared.known.Called.{Called}
-use Rattle.isle_sema.specs.Signatures.{Signature, RuleDef, externs, rule_defs, func_named, has_rule}
+use Rattle.isle_declarations.specs.Signatures.{Signature, RuleDef, externs, rule_defs, func_named, has_rule}
 use Rattle.isle_sema.specs.Site.{Site, CalledAt, NotBuiltAt}
 use Rattle.isle_sema.specs.Whole.{Whole, declared}
 use Rattle.isle_sema.specs.TypeNames.{type_named}

@@ -1,28 +1,21 @@
 -- A name's term is the one at the number of the name.
 use Rattle.std.proofs.Common.{◌≡◌, ℕ, zero, suc, List, [], ◌∷◌, map, Option, Some, None, refl, sym, ap, ◌∙◌, subst}
 use Rattle.std.specs.Prelude.{is_some, option_map, option_and_then, slice_get}
-use Rattle.std.proofs.lemmas.Option.{same_Some, slice_get-map}
+use Rattle.std.proofs.lemmas.Option.{same_Some}
 use Rattle.isle_core.specs.declared.TypeId.{TypeId}
 use Rattle.isle_core.specs.declared.types.Term.{Term}
 use Rattle.isle_core.specs.declared.types.TypeEnv.{TypeEnv}
-use Rattle.isle_syntax.specs.Tree.{Def}
 use Rattle.isle_sema.specs.declared.known.Called.{Called}
-use Rattle.isle_sema.specs.Symbols.{index_of}
-use Rattle.isle_sema.specs.Signatures.{Signature, signatures, externs, rule_defs, term_named, func_named, has_rule}
-use Rattle.isle_sema.specs.Heads.{terms_of}
-use Rattle.isle_sema.specs.Numbered.{place_in}
+use Rattle.isle_declarations.specs.Symbols.{index_of}
+use Rattle.isle_declarations.specs.Signatures.{Signature, signatures, externs, rule_defs, term_named, func_named, has_rule}
+use Rattle.isle_declarations.specs.Heads.{terms_of, extern_terms, heads_of}
 use Rattle.isle_sema.specs.TypeNames.{type_named}
 use Rattle.isle_sema.specs.Whole.{Whole, declared}
 use Rattle.isle_sema.specs.PatternPass.{tree_before}
-use Rattle.isle_sema.specs.Environment.{whole_of, types_named, term_from, term_pass, terms_pass}
-use Rattle.isle_sema.specs.Known.{MayBeCalled, AreKnown}
-use Rattle.isle_sema.proofs.LookUps.{at_place, named_at}
-use Rattle.isle_sema.proofs.NumberLaws.{has_func, has_head}
-use Rattle.isle_sema.proofs.TypedExprs.{named_is}
-
--- what two lists that are seen alike have at one place
-pub seen_alike : {X Y Z : Type 0} (f : X → Z) (g : Y → Z) (xs : List X) (ys : List Y) (i : ℕ) → map f xs ≡ map g ys → option_map f (slice_get xs i) ≡ option_map g (slice_get ys i)
-seen_alike f g xs ys i h = sym (slice_get-map f xs i) ∙ ap (λ zs. slice_get zs i) h ∙ slice_get-map g ys i
+use Rattle.isle_sema.specs.Environment.{types_named, term_from, term_pass, terms_pass}
+use Rattle.isle_sema.specs.Known.{MayBeCalled}
+use Rattle.isle_declarations.proofs.LookUps.{at_place, named_at, named_is}
+use Rattle.isle_declarations.proofs.NumberLaws.{has_func, has_head}
 
 -- ---- trees in order
 
@@ -90,50 +83,33 @@ types_are types (name ∷ names) tys h =
 -- ---- what is known of a name
 
 -- where no declaration is of the name, none is called
-pub known_absent : (defs : List Def) (syms : List (List ℕ)) (sigs : List Signature) (terms : List Term) (table external ruled : List (Option ℕ)) (name : List ℕ) → AreKnown defs syms sigs terms table external ruled → place_in table (index_of syms name) ≡ None
-    → MayBeCalled (whole_of defs) (declared (whole_of defs) name) None
-known_absent defs syms sigs terms table external ruled name k absent =
-    let none : declared (whole_of defs) name ≡ None = named_at (signatures defs) name ∙ ap (at_place (signatures defs)) (k.declared_at.firsts name ∙ absent) in
-    subst (λ o. MayBeCalled (whole_of defs) o None) (sym none) tt
+pub known_absent : (w : Whole) (name : List ℕ) → index_of (terms_of (signatures w.defs)) name ≡ None → MayBeCalled w (declared w name) None
+known_absent w name absent = let none : declared w name ≡ None = named_at (signatures w.defs) name ∙ ap (at_place (signatures w.defs)) absent in subst (λ o. MayBeCalled w o None) (sym none) tt
 
-sig_at : (defs : List Def) (syms : List (List ℕ)) (sigs : List Signature) (terms : List Term) (table external ruled : List (Option ℕ)) (name : List ℕ) (number place : ℕ) → AreKnown defs syms sigs terms table external ruled → index_of syms name ≡ Some number
-    → place_in table (Some number) ≡ Some place → index_of (terms_of (signatures defs)) name ≡ Some place
-sig_at defs syms sigs terms table external ruled name number place k e at = k.declared_at.firsts name ∙ ap (place_in table) e ∙ at
+-- nor where nothing stands at its place
+pub known_beyond : (w : Whole) (name : List ℕ) (place : ℕ) → index_of (terms_of (signatures w.defs)) name ≡ Some place → slice_get (signatures w.defs) place ≡ None → MayBeCalled w (declared w name) None
+known_beyond w name place at past = let none : declared w name ≡ None = named_at (signatures w.defs) name ∙ ap (at_place (signatures w.defs)) at ∙ past in subst (λ o. MayBeCalled w o None) (sym none) tt
 
--- a place beyond the terms
-pub known_past : (defs : List Def) (syms : List (List ℕ)) (sigs : List Signature) (terms : List Term) (table external ruled : List (Option ℕ)) (name : List ℕ) (number place : ℕ) → AreKnown defs syms sigs terms table external ruled → index_of syms name ≡ Some number
-    → place_in table (Some number) ≡ Some place → slice_get terms place ≡ None → MayBeCalled (whole_of defs) (declared (whole_of defs) name) None
-known_past defs syms sigs terms table external ruled name number place k e at past =
-    let none : declared (whole_of defs) name ≡ None = named_at (signatures defs) name ∙ ap (at_place (signatures defs)) (sig_at defs syms sigs terms table external ruled name number place k e at) ∙ term_past (whole_of defs) (signatures defs) terms place k.made past in
-    subst (λ o. MayBeCalled (whole_of defs) o None) (sym none) tt
+-- or no term
+pub known_past : (w : Whole) (terms : List Term) (name : List ℕ) (place : ℕ) → terms_pass w (signatures w.defs) ≡ Some terms → index_of (terms_of (signatures w.defs)) name ≡ Some place → slice_get terms place ≡ None → MayBeCalled w (declared w name) None
+known_past w terms name place made at past = known_beyond w name place at (term_past w (signatures w.defs) terms place made past)
 
--- the same where the declarations end
-pub known_beyond : (defs : List Def) (syms : List (List ℕ)) (sigs : List Signature) (terms : List Term) (table external ruled : List (Option ℕ)) (name : List ℕ) (number place : ℕ) → AreKnown defs syms sigs terms table external ruled → index_of syms name ≡ Some number
-    → place_in table (Some number) ≡ Some place → slice_get sigs place ≡ None → MayBeCalled (whole_of defs) (declared (whole_of defs) name) None
-known_beyond defs syms sigs terms table external ruled name number place k e at past =
-    let none : declared (whole_of defs) name ≡ None = named_at (signatures defs) name ∙ ap (at_place (signatures defs)) (sig_at defs syms sigs terms table external ruled name number place k e at) ∙ ap (λ (xs : List Signature). slice_get xs place) (sym k.given) ∙ past in
-    subst (λ o. MayBeCalled (whole_of defs) o None) (sym none) tt
-
--- the term of a number's name
-pub known_at : (defs : List Def) (syms : List (List ℕ)) (sigs : List Signature) (terms : List Term) (table external ruled : List (Option ℕ)) (name : List ℕ) (number place : ℕ) (t : Term) (s : Signature) (c : Called)
-    → AreKnown defs syms sigs terms table external ruled → index_of syms name ≡ Some number → place_in table (Some number) ≡ Some place → slice_get terms place ≡ Some t → slice_get sigs place ≡ Some s
-    → c.term ≡ record { 0 = place } → c.args.now ≡ t.arg_tys → c.ret ≡ t.ret_ty → s.pure ≡ c.pure → s.multi ≡ c.multi → s.partial ≡ c.partial
-    → c.external ≡ is_some (place_in external (Some number)) → c.ruled ≡ is_some (place_in ruled (Some number)) → MayBeCalled (whole_of defs) (declared (whole_of defs) name) (Some c)
-known_at defs syms sigs terms table external ruled name number place t s c k e at term sig id args ret pure multi partial is_external is_ruled =
-    let w = whole_of defs in
-    let there = sig_at defs syms sigs terms table external ruled name number place k e at in
-    let given : slice_get (signatures defs) place ≡ Some s = ap (λ (xs : List Signature). slice_get xs place) (sym k.given) ∙ sig in
-    let is : declared w name ≡ Some s = named_at (signatures defs) name ∙ ap (at_place (signatures defs)) there ∙ given in
-    let named : s.term ≡ name = named_is (signatures defs) name s is in
-    let types = term_types w s t (term_at w (signatures defs) terms place s t k.made given term) in
+-- the term of a name's declaration
+pub known_at : (w : Whole) (terms : List Term) (name : List ℕ) (place : ℕ) (t : Term) (s : Signature) (c : Called) → terms_pass w (signatures w.defs) ≡ Some terms → index_of (terms_of (signatures w.defs)) name ≡ Some place
+    → slice_get terms place ≡ Some t → slice_get (signatures w.defs) place ≡ Some s → c.term ≡ record { 0 = place } → c.args.now ≡ t.arg_tys → c.ret ≡ t.ret_ty → s.pure ≡ c.pure → s.multi ≡ c.multi → s.partial ≡ c.partial
+    → c.external ≡ is_some (index_of (extern_terms (externs w.defs)) name) → c.ruled ≡ is_some (index_of (heads_of (rule_defs w.defs)) name) → MayBeCalled w (declared w name) (Some c)
+known_at w terms name place t s c made at term given id args ret pure multi partial is_external is_ruled =
+    let is : declared w name ≡ Some s = named_at (signatures w.defs) name ∙ ap (at_place (signatures w.defs)) at ∙ given in
+    let named : s.term ≡ name = named_is (signatures w.defs) name s is in
+    let types = term_types w s t (term_at w (signatures w.defs) terms place s t made given term) in
     subst (λ o. MayBeCalled w o (Some c)) (sym is)
     (record {
-      term = ap (term_named (signatures defs)) named ∙ ap (option_map (λ (n : ℕ). record { 0 = n })) there ∙ ap Some (sym id);
+      term = ap (term_named (signatures w.defs)) named ∙ ap (option_map (λ (n : ℕ). record { 0 = n })) at ∙ ap Some (sym id);
       args = types_are w.types s.args t.arg_tys types.args ∙ ap (map Some) (sym args);
       ret = types.ret ∙ ap Some (sym ret);
       pure = pure;
       multi = multi;
       partial = partial;
-      external = ap (λ n. is_some (func_named (externs defs) n)) named ∙ has_func (externs defs) name ∙ ap is_some (k.external_at.firsts name ∙ ap (place_in external) e) ∙ sym is_external;
-      ruled = ap (has_rule (rule_defs defs)) named ∙ sym (has_head (rule_defs defs) name) ∙ ap is_some (k.ruled_at.firsts name ∙ ap (place_in ruled) e) ∙ sym is_ruled;
+      external = ap (λ n. is_some (func_named (externs w.defs) n)) named ∙ has_func (externs w.defs) name ∙ sym is_external;
+      ruled = ap (has_rule (rule_defs w.defs)) named ∙ sym (has_head (rule_defs w.defs) name) ∙ sym is_ruled;
     })

@@ -4,12 +4,9 @@ use Rattle.std.specs.Prelude.{flat_map, drop}
 use Rattle.std.proofs.lemmas.List.{drop_more}
 use Rattle.isle_syntax.specs.declared.tree.AstPattern.{AstPattern}
 use Rattle.isle_syntax.specs.Views.{pattern}
-use Rattle.isle_sema.specs.Symbols.{pattern_names}
-use Rattle.isle_sema.specs.Repeats.{repeats_after}
-
--- the names of the patterns from the i-th on
-abbrev pub names_from : ℕ → List AstPattern → List (List ℕ)
-names_from i ps = flat_map pattern_names (map pattern (drop i ps))
+use Rattle.isle_declarations.specs.Symbols.{pattern_names}
+use Rattle.isle_declarations.specs.Repeats.{repeats_after}
+use Rattle.isle_declarations.proofs.Interned.{names_from}
 
 -- one pattern more
 pub met_more : (ps : List AstPattern) (i : ℕ) (p d : AstPattern) (before new : List (List ℕ)) (found : Bool) → i < length ps → p ≡ get_or ps i d

@@ -7,44 +7,18 @@ use Rattle.std.proofs.lemmas.Slice.Eq.{bytes_eq-Decides}
 use Rattle.isle_core.specs.declared.TermId.{TermId}
 use Rattle.isle_core.specs.Rule.{Rule, Environment, rules_of}
 use Rattle.isle_syntax.specs.Tree.{Def}
-use Rattle.isle_sema.specs.Symbols.{index_of, symbols}
-use Rattle.isle_sema.specs.Signatures.{Signature, Extern, RuleDef, signatures, externs, rule_defs, term_named, func_named, signature_named}
+use Rattle.isle_declarations.specs.Symbols.{index_of, symbols}
+use Rattle.isle_declarations.specs.Signatures.{Signature, Extern, RuleDef, signatures, externs, rule_defs, term_named, func_named, signature_named}
 use Rattle.isle_sema.proofs.Trees.{term_or, rule_over, rules_from}
-use Rattle.isle_sema.specs.Repeats.{repeats_after}
+use Rattle.isle_declarations.specs.Repeats.{repeats_after}
 use Rattle.isle_sema.proofs.Wrong.{breaks, rules_fault}
-use Rattle.isle_sema.specs.Heads.{terms_of, heads_of}
+use Rattle.isle_declarations.specs.Heads.{terms_of, heads_of}
 use Rattle.isle_sema.specs.Typing.{Typed}
 use Rattle.isle_sema.proofs.Deciding.{decided}
 use Rattle.isle_sema.proofs.Parts.{heads_apart, sound_rules}
-use Rattle.isle_sema.proofs.SymbolLaws.{index_of_new}
-use Rattle.isle_sema.proofs.LookUps.{at_place, named_at}
-use Rattle.isle_sema.proofs.BoundVariables.{index_stays, none_of}
-
--- ---- two names at one place are one name
-
-same_first : (first : List ℕ) (names : List (List ℕ)) (x y : List ℕ) (n : ℕ) (is_x is_y : Bool) → bytes_eq first x ≡ is_x → bytes_eq first y ≡ is_y → ((m : ℕ) → index_of names x ≡ Some m → index_of names y ≡ Some m → x ≡ y)
-    → cond is_x (Some 0) (option_map (λ (k : ℕ). k + 1) (index_of names x)) ≡ Some n → cond is_y (Some 0) (option_map (λ (k : ℕ). k + 1) (index_of names y)) ≡ Some n → x ≡ y
-same_first first names x y n true true e f h p q = sym ((bytes_eq-Decides first x).0 e) ∙ (bytes_eq-Decides first y).0 f
-same_first first names x y n true false e f h p q = behind (index_of names y) q
-  where
-    behind : (o : Option ℕ) → option_map (λ (k : ℕ). k + 1) o ≡ Some n → x ≡ y
-    behind None q = cc
-    behind (Some m) q = let zero_is : 0 ≡ n = cc in let more_is : m + 1 ≡ n = cc in absurd (omega arith)
-same_first first names x y n false true e f h p q = behind (index_of names x) p
-  where
-    behind : (o : Option ℕ) → option_map (λ (k : ℕ). k + 1) o ≡ Some n → x ≡ y
-    behind None p = cc
-    behind (Some m) p = let zero_is : 0 ≡ n = cc in let more_is : m + 1 ≡ n = cc in absurd (omega arith)
-same_first first names x y n false false e f h p q = behind (index_of names x) (index_of names y) refl refl p q
-  where
-    behind : (o r : Option ℕ) → index_of names x ≡ o → index_of names y ≡ r → option_map (λ (k : ℕ). k + 1) o ≡ Some n → option_map (λ (k : ℕ). k + 1) r ≡ Some n → x ≡ y
-    behind None r i j p q = cc
-    behind (Some m) None i j p q = cc
-    behind (Some m) (Some l) i j p q = let first_is : m + 1 ≡ n = cc in let second_is : l + 1 ≡ n = cc in let same : l ≡ m = omega arith in h m i (j ∙ ap Some same)
-
-same_name : (names : List (List ℕ)) (x y : List ℕ) (n : ℕ) → index_of names x ≡ Some n → index_of names y ≡ Some n → x ≡ y
-same_name [] x y n e f = cc
-same_name (first ∷ names) x y n e f = same_first first names x y n (bytes_eq first x) (bytes_eq first y) refl refl (same_name names x y) e f
+use Rattle.isle_declarations.proofs.SymbolLaws.{index_of_new, same_name}
+use Rattle.isle_declarations.proofs.LookUps.{at_place, named_at}
+use Rattle.isle_declarations.proofs.SymbolLaws.{index_stays, none_of}
 
 -- ---- each rule's term is there
 

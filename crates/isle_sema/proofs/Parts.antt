@@ -4,14 +4,14 @@ use Rattle.std.specs.Prelude.{◌&&◌, ◌||◌, not}
 use Rattle.std.specs.List.{list_all, list_any}
 use Rattle.std.proofs.lemmas.Bool.{or_parts, and_parts, not-true}
 use Rattle.isle_syntax.specs.Tree.{Def}
-use Rattle.isle_sema.specs.Signatures.{signatures, externs, rule_defs}
-use Rattle.isle_sema.specs.Repeats.{repeats}
+use Rattle.isle_declarations.specs.Signatures.{signatures, externs, rule_defs}
+use Rattle.isle_declarations.specs.Repeats.{repeats}
 use Rattle.isle_sema.proofs.Wrong.{names_no_type, has_too_many}
 use Rattle.isle_sema.proofs.Wrong.{signatures_fault, externs_fault, rules_fault, has_fault}
 use Rattle.isle_sema.specs.Language.{is_built_def}
 use Rattle.isle_sema.proofs.RightSides.{rules_call_external}
 use Rattle.isle_sema.proofs.Decided.{are_external}
-use Rattle.isle_sema.specs.Heads.{terms_of, heads_of}
+use Rattle.isle_declarations.specs.Heads.{terms_of, heads_of}
 
 -- ---- what is built
 

@@ -7,8 +7,8 @@ use Rattle.std.proofs.lemmas.List.{append-nil, append_assoc}
 use Rattle.isle_core.specs.declared.TypeId.{TypeId}
 use Rattle.isle_syntax.specs.Tree as tree
 use Rattle.isle_syntax.specs.Tree.{Pattern, Def}
-use Rattle.isle_sema.specs.Symbols.{index_of, pattern_names}
-use Rattle.isle_sema.specs.Repeats.{repeats_after}
+use Rattle.isle_declarations.specs.Symbols.{index_of, pattern_names}
+use Rattle.isle_declarations.specs.Repeats.{repeats_after}
 use Rattle.isle_sema.proofs.Wrong.{any_misplaced, typed_vars, type_in}
 use Rattle.isle_sema.proofs.Wrong.{names_of}
 use Rattle.isle_sema.specs.Scope.{Scope, bound_at, met, met_by}

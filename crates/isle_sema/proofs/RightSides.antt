@@ -2,7 +2,7 @@
 use Rattle.std.specs.Prelude.{ℕ, suc, ◌+◌, List, Bool, true, false, ◌&&◌, ◌||◌, Option, Some, None, is_some}
 use Rattle.isle_syntax.specs.Tree as tree
 use Rattle.isle_syntax.specs.Tree.{Expr, Exprs, NoExpr, AnExpr}
-use Rattle.isle_sema.specs.Signatures.{Signature, Extern, RuleDef, func_named, signature_named}
+use Rattle.isle_declarations.specs.Signatures.{Signature, Extern, RuleDef, func_named, signature_named}
 use Rattle.std.specs.List.{list_all}
 
 -- each term that is called has an external constructor

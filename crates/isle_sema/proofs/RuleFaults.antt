@@ -8,11 +8,11 @@ use Rattle.std.proofs.lemmas.List.{length-append, length-map}
 use Rattle.isle_core.specs.declared.TypeId.{TypeId}
 use Rattle.isle_syntax.specs.Tree as tree
 use Rattle.isle_syntax.specs.Tree.{Pattern, Expr, Def}
-use Rattle.isle_sema.specs.Symbols.{pattern_names}
-use Rattle.isle_sema.specs.Signatures.{Signature, RuleDef, signatures, externs, rule_defs, signature_named, func_named}
+use Rattle.isle_declarations.specs.Symbols.{pattern_names}
+use Rattle.isle_declarations.specs.Signatures.{Signature, RuleDef, signatures, externs, rule_defs, signature_named, func_named}
 use Rattle.isle_sema.specs.Elaborated.{type_of}
 use Rattle.isle_sema.proofs.RightSides.{calls_partial, nodes}
-use Rattle.isle_sema.specs.Repeats.{repeats}
+use Rattle.isle_declarations.specs.Repeats.{repeats}
 use Rattle.isle_sema.proofs.Wrong.{names_no_type}
 use Rattle.isle_sema.proofs.Wrong.{any_misplaced, typed_vars, is_wrong, is_rhs_wrong, is_too_large, breaks, rules_fault}
 use Rattle.isle_sema.specs.Language.{is_built_def, is_built_expr, is_built_pattern, are_none}

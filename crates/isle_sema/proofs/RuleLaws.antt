@@ -14,7 +14,7 @@ use Rattle.isle_syntax.specs.declared.tree.AstIfLet.{AstIfLet}
 use Rattle.isle_syntax.specs.Views.{iflet}
 use Rattle.isle_syntax.specs.Tree as tree
 use Rattle.isle_syntax.specs.Tree.{Expr, Exprs, NoExpr, AnExpr, IfLet, Def}
-use Rattle.isle_sema.specs.Signatures.{Signature, RuleDef, signatures, rule_defs, has_rule, signature_named, term_named}
+use Rattle.isle_declarations.specs.Signatures.{Signature, RuleDef, signatures, rule_defs, has_rule, signature_named, term_named}
 use Rattle.isle_sema.specs.Calls.{count_of, calls_ruled, any_calls_ruled}
 use Rattle.isle_sema.specs.Language.{is_built_expr, are_built_exprs}
 use Rattle.isle_sema.specs.Row.{Row}
@@ -29,17 +29,18 @@ use Rattle.isle_sema.specs.Context.{on}
 use Rattle.isle_sema.specs.Fault.{OfRules, broken_in, fault_after}
 use Rattle.isle_sema.specs.Judging.{is_ruled_call, unjudged, judge_all, seen_row, lowest}
 use Rattle.isle_sema.specs.declared.rows.Row.{Row as CodeRow}
-use Rattle.isle_sema.specs.Known.{IsCalled, MayBeCalled}
+use Rattle.isle_sema.specs.Known.{IsHead, MayBeCalled}
+use Rattle.isle_sema.specs.ElaboratedAt.{ArePatternsAt, IsExprAt, AreSides}
 use Rattle.isle_sema.specs.declared.judged.Judged.{Judged}
+use Rattle.isle_sema.specs.declared.sides.Sides.{Sides}
 use Rattle.isle_sema.specs.declared.known.Called.{Called}
-use Rattle.isle_sema.specs.Symbols.{index_of}
-use Rattle.isle_sema.specs.Heads.{terms_of}
+use Rattle.isle_declarations.specs.Symbols.{index_of}
+use Rattle.isle_declarations.specs.Heads.{terms_of}
 use Rattle.isle_sema.specs.Taken.{row_of, calls_rule, taken_rule, taken_rules}
 use Rattle.isle_sema.proofs.Firsts.{later_none, none_later, any_parts}
 use Rattle.isle_sema.proofs.Judgements.{ruled_all, lowest_is, all_known}
-use Rattle.isle_sema.proofs.LookUps.{at_place, named_at}
-use Rattle.isle_sema.proofs.NumberLaws.{index_below}
-use Rattle.isle_sema.proofs.TypedExprs.{named_is}
+use Rattle.isle_declarations.proofs.LookUps.{at_place, named_at, named_is}
+use Rattle.isle_declarations.proofs.SymbolLaws.{index_below}
 use Rattle.isle_sema.proofs.KnownLaws.{first_there, before_both}
 use Rattle.isle_sema.proofs.RuleTrees.{IsRuleBuilt}
 
@@ -151,33 +152,28 @@ none_named sigs name h = by (index_of (terms_of sigs) name) refl
         absurd (omega (arith, lt, past, long))
 
 -- the number of a declared term
-pub number_of : (sigs : List Signature) (name : List ℕ) → option_and_then (λ (d : Signature). term_named sigs d.term) (signature_named sigs name) ≡ term_named sigs name
-number_of sigs name = by (signature_named sigs name) refl
+pub number_is : (sigs : List Signature) (name : List ℕ) → option_and_then (λ (d : Signature). term_named sigs d.term) (signature_named sigs name) ≡ term_named sigs name
+number_is sigs name = by (signature_named sigs name) refl
   where
     by : (o : Option Signature) → signature_named sigs name ≡ o → option_and_then (λ (d : Signature). term_named sigs d.term) o ≡ term_named sigs name
     by None e = sym (none_named sigs name e)
     by (Some s) e = ap (term_named sigs) (named_is sigs name s e)
 
--- the trees and the judgement of both sides are those of the pass
-pub record IsPassed (w : Whole) (r : RuleDef) (trees : Option (List CorePattern)) (tree : Option CoreExpr) (left right : Judged) : Type 0 where
-  pub trees_are : trees ≡ (patterns_of w r).trees
-  pub tree_is : tree ≡ (right_side_of w r).tree
-  pub left_is : left ≡ judge_all w unjudged (patterns_of w r).sites
-  pub right_is : right ≡ judge_all w unjudged (right_side_of w r).sites
-
-pub passed : (w : Whole) (r : RuleDef) (s : Signature) (own : Called) (vars : Scope) (trees : Option (List CorePattern)) (tree : Option CoreExpr) (left right : Judged) → declared w r.term ≡ Some s → IsCalled w s own
-    → trees ≡ (patterns_pass w (map Some own.args.now) [] r.args).trees → vars ≡ (patterns_pass w (map Some own.args.now) [] r.args).scope → left ≡ judge_all w unjudged (patterns_pass w (map Some own.args.now) [] r.args).sites
-    → tree ≡ (expr_pass w vars (Some own.ret) r.rhs).tree → right ≡ judge_all w unjudged (expr_pass w vars (Some own.ret) r.rhs).sites → IsPassed w r trees tree left right
-passed w r s own vars trees tree left right is h ts vs l t j =
-    let first : patterns_pass w (map Some own.args.now) [] r.args ≡ patterns_of w r = ap (λ os. patterns_pass w os [] r.args) (sym h.args) ∙ ap (λ o. patterns_pass w (arg_types w o) [] r.args) (sym is) in
-    let second : expr_pass w vars (Some own.ret) r.rhs ≡ right_side_of w r =
-    ap (λ (scope : Scope). expr_pass w scope (Some own.ret) r.rhs) (vs ∙ ap (λ (p : PatternsPass). p.scope) first) ∙ ap (λ ty. expr_pass w (patterns_of w r).scope ty r.rhs) (sym h.ret)
+-- what is elaborated at the types of a declared head are both sides of the rule
+pub sides_are : (w : Whole) (r : RuleDef) (own : Called) (sides : Sides) (old vars : Scope) (before first : Judged) → IsHead w r.term own → old ≡ [] → before ≡ unjudged → first ≡ unjudged
+    → ArePatternsAt w own.args.now r.args old vars before sides.left sides.args → IsExprAt w vars (Some own.ret) r.rhs first sides.right sides.rhs → AreSides w r sides
+sides_are w r own sides old vars before first h none start again ps e =
+    let is = h.there in
+    let patterns : patterns_pass w (map Some own.args.now) old r.args ≡ patterns_of w r =
+    ap (λ (scope : Scope). patterns_pass w (map Some own.args.now) scope r.args) none ∙ ap (λ os. patterns_pass w os [] r.args) (sym h.called.args) ∙ ap (λ o. patterns_pass w (arg_types w o) [] r.args) (sym is) in
+    let right : expr_pass w vars (Some own.ret) r.rhs ≡ right_side_of w r =
+    ap (λ (scope : Scope). expr_pass w scope (Some own.ret) r.rhs) (ps.scope ∙ ap (λ (p : PatternsPass). p.scope) patterns) ∙ ap (λ ty. expr_pass w (patterns_of w r).scope ty r.rhs) (sym h.called.ret)
     ∙ ap (λ o. expr_pass w (patterns_of w r).scope (ret_type w o) r.rhs) (sym is) in
     record {
-      trees_are = ts ∙ ap (λ (p : PatternsPass). p.trees) first;
-      tree_is = t ∙ ap (λ (e : ExprPass). e.tree) second;
-      left_is = l ∙ ap (λ (p : PatternsPass). judge_all w unjudged p.sites) first;
-      right_is = j ∙ ap (λ (e : ExprPass). judge_all w unjudged e.sites) second;
+      trees = ps.trees ∙ ap (λ (p : PatternsPass). p.trees) patterns;
+      tree = e.tree ∙ ap (λ (x : ExprPass). x.tree) right;
+      left = ps.sites ∙ ap (λ (p : PatternsPass). judge_all w before p.sites) patterns ∙ ap (λ (j : Judged). judge_all w j (patterns_of w r).sites) start;
+      right = e.sites ∙ ap (λ (x : ExprPass). judge_all w first x.sites) right ∙ ap (λ (j : Judged). judge_all w j (right_side_of w r).sites) again;
     }
 
 refused : (w : Whole) (i : ℕ) (r : RuleDef) → is_broken w r || calls_rule w r ≡ true → None ≡ taken_rule w i r
@@ -206,32 +202,26 @@ with_conditions w i r h = untreed w i r (by r.iflets h (term_named (signatures w
     by (c ∷ cs) h (Some term) (Some args) = refl
 
 -- a rule that calls a term that has a rule
-pub with_ruled : (w : Whole) (i : ℕ) (r : RuleDef) (trees : Option (List CorePattern)) (tree : Option CoreExpr) (left right : Judged) → IsPassed w r trees tree left right → right.ruled ≡ true → None ≡ taken_rule w i r
-with_ruled w i r trees tree left right p h =
-    refused w i r (or_true (is_broken w r) (calls_rule w r) (sym (ruled_all w (right_side_of w r).sites) ∙ ap (λ (j : Judged). j.ruled) (sym p.right_is) ∙ h))
+pub with_ruled : (w : Whole) (i : ℕ) (r : RuleDef) (sides : Sides) → AreSides w r sides → sides.right.ruled ≡ true → None ≡ taken_rule w i r
+with_ruled w i r sides p h = refused w i r (or_true (is_broken w r) (calls_rule w r) (sym (ruled_all w (right_side_of w r).sites) ∙ ap (λ (j : Judged). j.ruled) (sym p.right) ∙ h))
 
-pub unruled_calls : (w : Whole) (r : RuleDef) (trees : Option (List CorePattern)) (tree : Option CoreExpr) (left right : Judged) → IsPassed w r trees tree left right → right.ruled ≡ false → calls_rule w r ≡ false
-unruled_calls w r trees tree left right p h = sym (ruled_all w (right_side_of w r).sites) ∙ ap (λ (j : Judged). j.ruled) (sym p.right_is) ∙ h
+pub unruled_calls : (w : Whole) (r : RuleDef) (sides : Sides) → AreSides w r sides → sides.right.ruled ≡ false → calls_rule w r ≡ false
+unruled_calls w r sides p h = sym (ruled_all w (right_side_of w r).sites) ∙ ap (λ (j : Judged). j.ruled) (sym p.right) ∙ h
 
 pub no_conditions : (cs : List AstIfLet) → length cs ≡ 0 → map iflet cs ≡ []
 no_conditions [] h = refl
 no_conditions (c ∷ cs) h = absurd (omega (arith, h))
-
--- the row of a rule without conditions
-pub row_seen : (w : Whole) (r : RuleDef) (s : Signature) (own : Called) (trees : Option (List CorePattern)) (tree : Option CoreExpr) (left right : Judged) → declared w r.term ≡ Some s → IsCalled w s own → r.iflets ≡ [] → IsPassed w r trees tree left right
-    → lowest own (length r.args) left right ≡ row_of w r
-row_seen w r s own trees tree left right is h none p =
-    ap (λ (j : Judged). lowest own (length r.args) j right) p.left_is ∙ ap (λ (j : Judged). lowest own (length r.args) (judge_all w unjudged (patterns_of w r).sites) j) p.right_is ∙ lowest_is w r s own is h none
 
 some_seen : (o : Option CodeRow) → is_some (option_map seen_row o) ≡ is_some o
 some_seen None = refl
 some_seen (Some x) = refl
 
 -- what the code finds is a row where the rule breaks one
-pub row_found : (w : Whole) (r : RuleDef) (s : Signature) (own : Called) (trees : Option (List CorePattern)) (tree : Option CoreExpr) (left right : Judged) (found : Option CodeRow) (count : ℕ) → declared w r.term ≡ Some s → IsCalled w s own → r.iflets ≡ []
-    → IsPassed w r trees tree left right → count ≡ length r.args → option_map seen_row found ≡ lowest own count left right → is_some (row_of w r) ≡ is_some found
-row_found w r s own trees tree left right found count is h none p as_many f =
-    ap is_some (sym (row_seen w r s own trees tree left right is h none p) ∙ ap (λ n. lowest own n left right) (sym as_many) ∙ sym f) ∙ some_seen found
+pub row_found : (w : Whole) (r : RuleDef) (own : Called) (sides : Sides) (found : Option CodeRow) (count : ℕ) → IsHead w r.term own → r.iflets ≡ [] → AreSides w r sides → count ≡ length r.args
+    → option_map seen_row found ≡ lowest own count sides.left sides.right → is_some (row_of w r) ≡ is_some found
+row_found w r own sides found count h none p as_many f =
+    ap is_some (sym (f ∙ ap (λ n. lowest own n sides.left sides.right) as_many ∙ ap (λ (j : Judged). lowest own (length r.args) j sides.right) p.left
+    ∙ ap (λ (j : Judged). lowest own (length r.args) (judge_all w unjudged (patterns_of w r).sites) j) p.right ∙ lowest_is w r h.signature own h.there h.called none)) ∙ some_seen found
 
 -- a rule that breaks a row
 pub with_row : (w : Whole) (i : ℕ) (r : RuleDef) → is_some (row_of w r) ≡ true → None ≡ taken_rule w i r
@@ -259,17 +249,22 @@ without_tree w i r h = untreed w i r (by (term_named (signatures w.defs) r.term)
     by (Some term) (Some args) (Some iflets) = ap (option_map (rule_from w i r term args iflets)) h
 
 -- a rule that is taken
-pub taken_made : (w : Whole) (i : ℕ) (r : RuleDef) (s : Signature) (own : Called) (args : List CorePattern) (rhs : CoreExpr) → declared w r.term ≡ Some s → IsCalled w s own → r.iflets ≡ [] → is_some (row_of w r) ≡ false → calls_rule w r ≡ false
+pub taken_made : (w : Whole) (i : ℕ) (r : RuleDef) (own : Called) (args : List CorePattern) (rhs : CoreExpr) → IsHead w r.term own → r.iflets ≡ [] → is_some (row_of w r) ≡ false → calls_rule w r ≡ false
     → (patterns_of w r).trees ≡ Some args → (right_side_of w r).tree ≡ Some rhs → Some (rule_from w i r own.term args [] rhs) ≡ taken_rule w i r
-taken_made w i r s own args rhs is h none row calls trees tree =
+taken_made w i r own args rhs h none row calls trees tree =
     let all : Option TermId → Option (List CorePattern) → List IfLet → Option CoreExpr → Option CoreRule = λ term ts cs t.
     option_and_then (λ (term : TermId). option_and_then (λ (xs : List CorePattern). option_and_then (λ (iflets : List CoreIfLet). option_map (rule_from w i r term xs iflets) t) (conditions_of cs)) ts) term in
-    let number : term_named (signatures w.defs) r.term ≡ Some own.term = ap (term_named (signatures w.defs)) (sym (named_is (signatures w.defs) r.term s is)) ∙ h.term in
+    let number : term_named (signatures w.defs) r.term ≡ Some own.term = ap (term_named (signatures w.defs)) (sym (named_is (signatures w.defs) r.term h.signature h.there)) ∙ h.called.term in
     sym (ap (λ b. cond b None (rule_pass w i r)) (or_from (is_broken w r) (calls_rule w r) row calls)
     ∙ ap (λ o. all o (patterns_of w r).trees r.iflets (right_side_of w r).tree) number
     ∙ ap (λ o. all (Some own.term) o r.iflets (right_side_of w r).tree) trees
     ∙ ap (λ cs. all (Some own.term) (Some args) cs (right_side_of w r).tree) none
     ∙ ap (λ o. all (Some own.term) (Some args) [] o) tree)
+
+-- what is known of a name's declared term
+pub head_of : (w : Whole) (name : List ℕ) (own : Called) (o : Option Signature) → declared w name ≡ o → MayBeCalled w o (Some own) → IsHead w name own
+head_of w name own None is h = absurd h
+head_of w name own (Some s) is h = record { signature = s; there = is; called = h }
 
 pub none_called : (w : Whole) (o : Option Signature) → MayBeCalled w o None → o ≡ None
 none_called w None h = refl

@@ -19,15 +19,16 @@ use Rattle.isle_core.specs.Expr.{Expr as CoreExpr, Exprs as CoreExprs, AnExpr as
 use Rattle.isle_core.specs.Rule.{Rule as CoreRule, IfLet as CoreIfLet}
 use Rattle.isle_syntax.specs.Tree as tree
 use Rattle.isle_syntax.specs.Tree.{Pattern, Expr, Exprs, NoExpr, AnExpr, Def}
-use Rattle.isle_sema.specs.Symbols.{index_of, added, number_or, pattern_names, symbols, sym_of}
+use Rattle.isle_declarations.specs.Symbols.{index_of, added, number_or, pattern_names, symbols, sym_of}
 use Rattle.isle_sema.specs.Builtins.{builtin_named, type_id}
 use Rattle.isle_sema.specs.Reduced.{reduced_at, typed_integer}
-use Rattle.isle_sema.specs.Signatures.{Signature, RuleDef, signatures, externs, rule_defs, signature_named, term_named, func_named, has_rule}
-use Rattle.isle_sema.specs.Elaborated.{type_of, constructor_of, term_of}
+use Rattle.isle_declarations.specs.Signatures.{Signature, RuleDef, signatures, externs, rule_defs, signature_named, term_named, func_named, has_rule}
+use Rattle.isle_sema.specs.Elaborated.{type_of, term_of}
+use Rattle.isle_sema.specs.Environment.{constructor_of}
 use Rattle.isle_sema.proofs.Trees.{var_of, patterns_at, arg_types, term_or, expr_at, exprs_at, rule_over, rules_from}
 use Rattle.isle_sema.specs.Calls.{count_of}
-use Rattle.isle_sema.specs.Heads.{terms_of}
-use Rattle.isle_sema.specs.Repeats.{repeats, repeats_after}
+use Rattle.isle_declarations.specs.Heads.{terms_of}
+use Rattle.isle_declarations.specs.Repeats.{repeats, repeats_after}
 use Rattle.isle_sema.proofs.Wrong.{names_no_type}
 use Rattle.isle_sema.proofs.Wrong.{any_misplaced, typed_vars, type_in, is_other, is_miscalled, is_wrong, any_wrong, is_rhs_wrong, is_too_large, breaks, rules_fault}
 use Rattle.isle_sema.proofs.Wrong.{names_of}
@@ -39,9 +40,9 @@ use Rattle.isle_sema.specs.ExprPass.{expr_pass, exprs_pass, call_tree, expr_befo
 use Rattle.isle_sema.specs.RulePass.{conditions_of, rule_from, rule_pass, rules_pass}
 use Rattle.isle_sema.specs.Context.{on}
 use Rattle.isle_sema.specs.Environment.{whole_of, types_of, types_named, term_from, term_pass, terms_pass}
-use Rattle.isle_sema.proofs.SymbolLaws.{index_of_new}
-use Rattle.isle_sema.proofs.BoundVariables.{none_of}
-use Rattle.isle_sema.proofs.LookUps.{at_place, named_at}
+use Rattle.isle_declarations.proofs.SymbolLaws.{index_of_new}
+use Rattle.isle_declarations.proofs.SymbolLaws.{none_of}
+use Rattle.isle_declarations.proofs.LookUps.{at_place, named_at}
 use Rattle.isle_sema.proofs.TypedConstants.{type_below}
 use Rattle.isle_sema.proofs.TypesNamed.{some_or, IsBelow, all_below, has_types, found_keeps, integer_is, lifted, bound_lifted, names_lifted}
 use Rattle.isle_sema.proofs.PatternSites.{met_new, left_apart, names_more, patterns_scope}

@@ -65,26 +65,26 @@ unfolding AreNew
 still_new places x p [] other h = tt
 still_new places x p (m ∷ ms) other h = (new_at (x == m) places x m p refl (λ e. other (subst (Contains (m ∷ ms)) (sym e) (head_contained m ms))) h.0, still_new places x p ms (λ c. other (tail_contained m ms x c)) h.1)
 
-new_behind : (env : Environment) (q : Pattern) (qs : List Pattern) (p : Path) (places : Places) → EachOnce (numbers (q ∷ qs)) → AreNew places (numbers (q ∷ qs)) → AreNew (after env q p places) (numbers qs)
+new_after : (env : Environment) (q : Pattern) (qs : List Pattern) (p : Path) (places : Places) → EachOnce (numbers (q ∷ qs)) → AreNew places (numbers (q ∷ qs)) → AreNew (after env q p places) (numbers qs)
 unfolding AreNew
-new_behind env (Var of x) qs p places once h = subst (λ o. AllByRecursion (λ (m : ℕ). met_after o x.0 p places m ≡ None) (numbers qs)) (sym h.0) (still_new places x.0 p (numbers qs) once.0 h.1)
-new_behind env (ConstBool b) qs p places once h = h
-new_behind env (ConstInt of n) qs p places once h = h
-new_behind env (Wildcard of) qs p places once h = h
-new_behind env (BindPattern of x q) qs p places once h = h
-new_behind env (ConstPrim of name) qs p places once h = h
-new_behind env (pattern.Term of term rs) qs p places once h = h
-new_behind env (And of rs) qs p places once h = h
+new_after env (Var of x) qs p places once h = subst (λ o. AllByRecursion (λ (m : ℕ). met_after o x.0 p places m ≡ None) (numbers qs)) (sym h.0) (still_new places x.0 p (numbers qs) once.0 h.1)
+new_after env (ConstBool b) qs p places once h = h
+new_after env (ConstInt of n) qs p places once h = h
+new_after env (Wildcard of) qs p places once h = h
+new_after env (BindPattern of x q) qs p places once h = h
+new_after env (ConstPrim of name) qs p places once h = h
+new_after env (pattern.Term of term rs) qs p places once h = h
+new_after env (And of rs) qs p places once h = h
 
-once_behind : (q : Pattern) (qs : List Pattern) → EachOnce (numbers (q ∷ qs)) → EachOnce (numbers qs)
-once_behind (Var of x) qs once = once.1
-once_behind (ConstBool b) qs once = once
-once_behind (ConstInt of n) qs once = once
-once_behind (Wildcard of) qs once = once
-once_behind (BindPattern of x q) qs once = once
-once_behind (ConstPrim of name) qs once = once
-once_behind (pattern.Term of term rs) qs once = once
-once_behind (And of rs) qs once = once
+once_after : (q : Pattern) (qs : List Pattern) → EachOnce (numbers (q ∷ qs)) → EachOnce (numbers qs)
+once_after (Var of x) qs once = once.1
+once_after (ConstBool b) qs once = once
+once_after (ConstInt of n) qs once = once
+once_after (Wildcard of) qs once = once
+once_after (BindPattern of x q) qs once = once
+once_after (ConstPrim of name) qs once = once
+once_after (pattern.Term of term rs) qs once = once
+once_after (And of rs) qs once = once
 
 -- ---- tests
 
@@ -111,7 +111,7 @@ tests_serializable env t [] (q ∷ qs) i places from h once new = absurd h
 tests_serializable env t (ty ∷ tys) [] i places from h once new = absurd h
 tests_serializable env t (ty ∷ tys) (q ∷ qs) i places from h once new =
     all_both (IsSerializableTest env t) (tests env q (Arg i) places) (args_tests env qs (suc i) (after env q (Arg i) places)) (test_serializable env t ty q qs i places (at_first t i ty tys from) h.0 new)
-    (tests_serializable env t tys qs (suc i) (after env q (Arg i) places) (at_rest t i ty tys from) h.1 (once_behind q qs once) (new_behind env q qs (Arg i) places once new))
+    (tests_serializable env t tys qs (suc i) (after env q (Arg i) places) (at_rest t i ty tys from) h.1 (once_after q qs once) (new_after env q qs (Arg i) places once new))
 
 -- ---- the result
 
@@ -135,7 +135,7 @@ placed env t (ty ∷ tys) (q ∷ qs) i places of x from h once new c =
     ⊎_elim
     (λ (s : q ≡ Var of x). subst (λ r. PlacedAs env t (r ∷ qs) i places of x.0) (sym s)
     (placed_here env t ty of x qs i places (at_first t i ty tys from) (subst (IsPatternOf env ty) s h.0) (subst (λ r. AreNew places (numbers (r ∷ qs))) s new)))
-    (λ d. placed env t tys qs (suc i) (after env q (Arg i) places) of x (at_rest t i ty tys from) h.1 (once_behind q qs once) (new_behind env q qs (Arg i) places once new) d) (contained_cases q qs (Var of x) c)
+    (λ d. placed env t tys qs (suc i) (after env q (Arg i) places) of x (at_rest t i ty tys from) h.1 (once_after q qs once) (new_after env q qs (Arg i) places once new) d) (contained_cases q qs (Var of x) c)
 
 all_new : (ms : List ℕ) → AreNew no_places ms
 unfolding AreNew

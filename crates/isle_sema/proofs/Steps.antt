@@ -15,9 +15,9 @@ use Rattle.isle_syntax.specs.declared.tree.AstPattern.{AstPattern}
 use Rattle.isle_syntax.specs.declared.tree.AstExpr.{AstExpr}
 use Rattle.isle_syntax.specs.Tree.{Def}
 use Rattle.isle_syntax.specs.Views.{pattern, expr, exprs_of as seen_exprs}
-use Rattle.isle_sema.specs.declared.collected.RuleDef.{RuleDef as CodeRuleDef}
+use Rattle.isle_declarations.specs.declared.collected.RuleDef.{RuleDef as CodeRuleDef}
 use Rattle.isle_sema.specs.declared.judged.Judged.{Judged}
-use Rattle.isle_sema.specs.Collected.{rule as seen_rule}
+use Rattle.isle_declarations.specs.Collected.{rule as seen_rule}
 use Rattle.isle_sema.specs.Scope.{Scope}
 use Rattle.isle_sema.specs.Whole.{Whole}
 use Rattle.isle_sema.specs.Environment.{whole_of}
@@ -53,7 +53,7 @@ pub none_before : {X : Type 0} (o : Option (List X)) → o ≡ before [] o
 none_before None = refl
 none_before (Some r) = refl
 
-one_before : {X : Type 0} (xs : List X) (x : X) (o : Option (List X)) → before xs (tree_before (Some x) o) ≡ before (xs ++ x ∷ []) o
+pub one_before : {X : Type 0} (xs : List X) (x : X) (o : Option (List X)) → before xs (tree_before (Some x) o) ≡ before (xs ++ x ∷ []) o
 one_before xs x None = refl
 one_before xs x (Some r) = ap Some (sym (append_assoc xs (x ∷ []) r))
 
@@ -81,7 +81,7 @@ pub record AreMade (defs : List Def) (all left : PatternsPass) (first now : Judg
 pub made_none : (defs : List Def) (all : PatternsPass) (j : Judged) → AreMade defs all all j j [] true
 made_none defs all j = record { trees = none_before all.trees; scope = refl; sites = refl }
 
--- a pattern and those behind it
+-- a pattern and the rest
 abbrev joined : PatternPass → PatternsPass → PatternsPass
 joined first rest = record { trees = tree_before first.tree rest.trees; scope = rest.scope; sites = first.sites ++ rest.sites }
 
@@ -123,7 +123,7 @@ pub tree_missing : (typed : List CodePattern) (complete : Bool) (o : Option Patt
     → cond complete (before (map elaborated_pattern typed) (tree_before o rest)) None ≡ cond false (before (map elaborated_pattern typed) rest) None
 tree_missing typed complete o is rest = ap (λ y. cond complete (before (map elaborated_pattern typed) (tree_before y rest)) None) (sym is) ∙ nothing_there complete (before (map elaborated_pattern typed) (tree_before None rest)) refl
 
--- behind the last
+-- after the last
 pub made_all : (defs : List Def) (tys : List TypeId) (ps : List AstPattern) (i : ℕ) (vars : Scope) (first now : Judged) (typed : List CodePattern) (complete : Bool) (all : PatternsPass) → length ps ≤ i
     → AreMade defs all (patterns_left defs tys ps i vars) first now typed complete → (all.trees ≡ cond complete (Some (map elaborated_pattern typed)) None) × (all.scope ≡ vars) × (judge_all (whole_of defs) first all.sites ≡ now)
 made_all defs tys ps i vars first now typed complete all le h =
@@ -173,7 +173,7 @@ pub record ExprsMade (defs : List Def) (all left : ExprsPass) (first now : Judge
 pub exprs_none : (defs : List Def) (all : ExprsPass) (j : Judged) → ExprsMade defs all all j j [] true
 exprs_none defs all j = record { trees = nothing_before all.trees; sites = refl }
 
--- an expression and those behind it
+-- an expression and the rest
 abbrev exprs_joined : ExprPass → ExprsPass → ExprsPass
 exprs_joined first rest = record { trees = expr_before first.tree rest.trees; sites = first.sites ++ rest.sites }
 
@@ -213,7 +213,7 @@ pub expr_missing : (typed : List CodeExpr) (complete : Bool) (o : Option Expr) �
     → cond complete (exprs_before (map elaborated_expr typed) (expr_before o rest)) None ≡ cond false (exprs_before (map elaborated_expr typed) rest) None
 expr_missing typed complete o is rest = ap (λ y. cond complete (exprs_before (map elaborated_expr typed) (expr_before y rest)) None) (sym is) ∙ nothing_there complete (exprs_before (map elaborated_expr typed) (expr_before None rest)) refl
 
--- behind the last
+-- after the last
 pub exprs_all : (defs : List Def) (tys : List TypeId) (vars : Scope) (es : List AstExpr) (i : ℕ) (first now : Judged) (typed : List CodeExpr) (complete : Bool) (all : ExprsPass) → length es ≤ i
     → ExprsMade defs all (exprs_left defs tys vars es i) first now typed complete → (all.trees ≡ cond complete (Some (exprs_of (map elaborated_expr typed))) None) × (judge_all (whole_of defs) first all.sites ≡ now)
 exprs_all defs tys vars es i first now typed complete all le h =

@@ -5,12 +5,12 @@ use Rattle.std.specs.List.{list_all, list_any}
 use Rattle.std.proofs.lemmas.Bool.{or_parts, or_from, and_parts}
 use Rattle.isle_syntax.specs.Tree as tree
 use Rattle.isle_syntax.specs.Tree.{Def}
-use Rattle.isle_sema.specs.Symbols.{index_of}
-use Rattle.isle_sema.specs.Signatures.{Signature, Extern, RuleDef, signature_of, extern_of, signatures, externs, rule_defs, signature_named, func_named}
-use Rattle.isle_sema.specs.Heads.{terms_of, extern_terms}
-use Rattle.isle_sema.specs.Repeats.{repeats_after}
+use Rattle.isle_declarations.specs.Symbols.{index_of}
+use Rattle.isle_declarations.specs.Signatures.{Signature, Extern, RuleDef, signature_of, extern_of, signatures, externs, rule_defs, signature_named, func_named}
+use Rattle.isle_declarations.specs.Heads.{terms_of, extern_terms}
+use Rattle.isle_declarations.specs.Repeats.{repeats_after}
 use Rattle.isle_sema.proofs.Wrong.{names_no_type, has_too_many}
-use Rattle.isle_sema.specs.Forms.{is_built_form}
+use Rattle.isle_sema.specs.BuiltForm.{is_built_form}
 use Rattle.isle_sema.specs.Tests.{has_undeclared}
 use Rattle.isle_sema.specs.Row as row
 use Rattle.isle_sema.specs.Row.{Row}
@@ -49,7 +49,7 @@ extractors_none w before (tree.Passed head items pos ∷ ds) f = absurd cc
 abbrev pub is_headless : List Def → RuleDef → Bool
 is_headless all r = not (is_some (signature_named (signatures all) r.term)) || is_some (func_named (externs all) r.term)
 
--- each test of these definitions, which stand behind those
+-- each test of these definitions, which follow those
 pub record TermParts (all before ds : List Def) : Type 0 where
   pub apart : repeats_after (terms_of (signatures before)) (terms_of (signatures ds)) ≡ false
   pub typed : list_any names_no_type (signatures ds) ≡ false

@@ -11,10 +11,10 @@ use Rattle.isle_core.specs.Expr.{Expr as CoreExpr, Exprs as CoreExprs, NoExpr as
 use Rattle.isle_core.specs.Rule.{Rule as CoreRule}
 use Rattle.isle_syntax.specs.Tree as tree
 use Rattle.isle_syntax.specs.Tree.{Pattern, Expr, Exprs, NoExpr, AnExpr}
-use Rattle.isle_sema.specs.Symbols.{index_of, added, number_or, sym_of}
+use Rattle.isle_declarations.specs.Symbols.{index_of, added, number_or, sym_of}
 use Rattle.isle_sema.specs.Builtins.{type_id}
 use Rattle.isle_sema.specs.Reduced.{reduced_at}
-use Rattle.isle_sema.specs.Signatures.{Signature, RuleDef, signature_named, term_named}
+use Rattle.isle_declarations.specs.Signatures.{Signature, RuleDef, signature_named, term_named}
 
 -- a variable's number among the variables so far
 abbrev pub var_of : List (List ℕ) → List ℕ → VarId
@@ -27,21 +27,21 @@ pattern_at ty (tree.Truth b) vars = core_pattern.ConstBool b
 pattern_at ty (tree.Var name) vars = core_pattern.Var ty (var_of (added vars name) name)
 pattern_at ty p vars = core_pattern.Wildcard ty
 
--- the variables behind a pattern
-abbrev pub vars_behind : Pattern → List (List ℕ) → List (List ℕ)
-vars_behind (tree.Var name) vars = added vars name
-vars_behind p vars = vars
+-- the variables after a pattern
+abbrev pub vars_after : Pattern → List (List ℕ) → List (List ℕ)
+vars_after (tree.Var name) vars = added vars name
+vars_after p vars = vars
 
 -- patterns where these types are expected
 abbrev pub patterns_at : List TypeId → List Pattern → List (List ℕ) → List CorePattern
-patterns_at (ty ∷ tys) (p ∷ ps) vars = pattern_at ty p vars ∷ patterns_at tys ps (vars_behind p vars)
+patterns_at (ty ∷ tys) (p ∷ ps) vars = pattern_at ty p vars ∷ patterns_at tys ps (vars_after p vars)
 patterns_at [] ps vars = []
 patterns_at (ty ∷ tys) [] vars = []
 
 -- the variables of patterns, in order
 abbrev pub vars_of : List Pattern → List (List ℕ) → List (List ℕ)
 vars_of [] vars = vars
-vars_of (p ∷ ps) vars = vars_of ps (vars_behind p vars)
+vars_of (p ∷ ps) vars = vars_of ps (vars_after p vars)
 
 -- the types of a declaration's arguments
 abbrev pub arg_types : Option Signature → List TypeId

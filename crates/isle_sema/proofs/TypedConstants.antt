@@ -20,7 +20,7 @@ use Rattle.isle_core.specs.BuiltinType.{IsBuiltinDef}
 use Rattle.isle_core.specs.Rule.{Environment}
 use Rattle.isle_core.specs.HasType.{IsReduced, IsOfDef}
 use Rattle.isle_core.specs.Constants.{int_of_def}
-use Rattle.isle_sema.specs.Symbols.{index_of}
+use Rattle.isle_declarations.specs.Symbols.{index_of}
 use Rattle.isle_sema.specs.Builtins.{builtins, builtin_names, type_id}
 use Rattle.isle_sema.specs.Reduced.{reduced, reduced_by}
 use Rattle.isle_sema.specs.Elaborated.{type_of, type_or}
@@ -46,9 +46,9 @@ held I64 z = SFits-int_wrap w64 z
 held I128 z = SFits-int_wrap w128 z
 held ISize z = SFits-int_wrap w64 z
 
--- ---- the types behind bool
+-- ---- the types after bool
 
--- the types behind bool
+-- the types after bool
 integers : List TypeDef
 integers =
     Builtin (Int U8) ∷ Builtin (Int U16) ∷ Builtin (Int U32) ∷ Builtin (Int U64) ∷ Builtin (Int U128) ∷ Builtin (Int USize)

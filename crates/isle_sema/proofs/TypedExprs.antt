@@ -23,19 +23,20 @@ use Rattle.isle_core.specs.Scope.{all_variables, IsInScope, AreInScope}
 use Rattle.isle_core.proofs.ScopeLaws.{in_scope}
 use Rattle.isle_syntax.specs.Tree as tree
 use Rattle.isle_syntax.specs.Tree.{Pattern, Expr, Exprs, NoExpr, AnExpr, Def}
-use Rattle.isle_sema.specs.Symbols.{index_of, symbols}
+use Rattle.isle_declarations.specs.Symbols.{index_of, symbols}
 use Rattle.isle_sema.specs.Builtins.{builtins, type_id}
-use Rattle.isle_sema.specs.Signatures.{Signature, signatures, externs, rule_defs, func_named, has_rule, signature_named}
-use Rattle.isle_sema.specs.Elaborated.{type_of, constructor_of, term_of}
+use Rattle.isle_declarations.specs.Signatures.{Signature, signatures, externs, rule_defs, func_named, has_rule, signature_named}
+use Rattle.isle_sema.specs.Elaborated.{type_of, term_of}
+use Rattle.isle_sema.specs.Environment.{constructor_of}
 use Rattle.isle_sema.proofs.Trees.{patterns_at, vars_of, expr_at, exprs_at, arg_types, term_or}
 use Rattle.isle_sema.proofs.RightSides.{calls_external, all_call_external, is_partial_named, calls_partial, any_calls_partial}
 use Rattle.isle_sema.specs.Calls.{count_of}
 use Rattle.isle_sema.proofs.Wrong.{typed_vars, type_in, is_other, is_miscalled, is_wrong, any_wrong}
 use Rattle.isle_sema.specs.Language.{is_built_expr, are_built_exprs}
-use Rattle.isle_sema.specs.Heads.{terms_of}
+use Rattle.isle_declarations.specs.Heads.{terms_of}
 use Rattle.isle_sema.specs.TypedRule.{IsExternalKind, IsExprOf, AreExprsOf}
 use Rattle.isle_sema.proofs.Decided.{env_made}
-use Rattle.isle_sema.proofs.LookUps.{at_place, named_at}
+use Rattle.isle_declarations.proofs.LookUps.{at_place, named_at, named_is}
 use Rattle.isle_sema.proofs.TypedConstants.{type_below, integer_typed, integer_builtin}
 use Rattle.isle_sema.proofs.BoundVariables.{bound_in}
 
@@ -58,15 +59,6 @@ variable_typed defs allowed ty ps tys x None e h = cc
 variable_typed defs allowed ty ps tys x (Some of) e h = (refl, bound_in ps tys [] x ty (e ∙ ap Some (same_type of ty h)))
 
 -- ---- a call
-
-first_is : (first : Signature) (name : List ℕ) (s : Signature) (b : Bool) (rest : Option Signature) → bytes_eq first.term name ≡ b → (rest ≡ Some s → s.term ≡ name) → cond b (Some first) rest ≡ Some s → s.term ≡ name
-first_is first name s true rest same behind e = ap (λ (x : Signature). x.term) (sym (same_Some first s e)) ∙ (bytes_eq-Decides first.term name).0 same
-first_is first name s false rest same behind e = behind e
-
--- a declaration that is found is of the name
-pub named_is : (sigs : List Signature) (name : List ℕ) (s : Signature) → signature_named sigs name ≡ Some s → s.term ≡ name
-named_is [] name s e = cc
-named_is (first ∷ sigs) name s e = first_is first name s (bytes_eq first.term name) (signature_named sigs name) refl (named_is sigs name s) e
 
 allowed_where : (allowed partial : Bool) → not allowed && partial ≡ false → IsTrue partial → IsTrue allowed
 allowed_where true partial h is = refl

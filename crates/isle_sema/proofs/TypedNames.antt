@@ -7,10 +7,10 @@ use Rattle.std.proofs.lemmas.List.{append-nil, append_assoc}
 use Rattle.isle_core.specs.declared.TypeId.{TypeId}
 use Rattle.isle_syntax.specs.Tree as tree
 use Rattle.isle_syntax.specs.Tree.{Pattern}
-use Rattle.isle_sema.specs.Symbols.{index_of, added, pattern_names}
+use Rattle.isle_declarations.specs.Symbols.{index_of, added, pattern_names}
 use Rattle.isle_sema.proofs.Trees.{vars_of}
 use Rattle.isle_sema.proofs.Wrong.{names_of, typed_vars, type_in}
-use Rattle.isle_sema.specs.Repeats.{repeats_after}
+use Rattle.isle_declarations.specs.Repeats.{repeats_after}
 
 bound_names : (name : List ℕ) (ty : TypeId) (ps : List Pattern) (tys : List TypeId) (before : List (List ℕ)) → is_some (index_of before name) ≡ false
     → vars_of ps (before ++ name ∷ []) ≡ (before ++ name ∷ []) ++ names_of (typed_vars ps tys) → vars_of ps (added before name) ≡ before ++ name ∷ names_of (typed_vars ps tys)

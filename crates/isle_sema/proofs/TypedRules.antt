@@ -17,22 +17,22 @@ use Rattle.isle_core.specs.Scope.{all_variables, iflets_scope, IsInScope, AreIfL
 use Rattle.isle_syntax.specs.Tree as tree
 use Rattle.isle_syntax.specs.Tree.{Pattern, Def}
 use Rattle.isle_sema.proofs.Trees as elaborated
-use Rattle.isle_sema.specs.Symbols.{index_of, pattern_names, symbols}
-use Rattle.isle_sema.specs.Signatures.{Signature, RuleDef, signatures, externs, rule_defs, term_named, func_named, signature_named}
+use Rattle.isle_declarations.specs.Symbols.{index_of, pattern_names, symbols}
+use Rattle.isle_declarations.specs.Signatures.{Signature, RuleDef, signatures, externs, rule_defs, term_named, func_named, signature_named}
 use Rattle.isle_sema.specs.Elaborated.{type_of, term_of}
-use Rattle.isle_sema.proofs.Trees.{pattern_at, vars_behind, patterns_at, term_or, rule_over, rules_from}
+use Rattle.isle_sema.proofs.Trees.{pattern_at, vars_after, patterns_at, term_or, rule_over, rules_from}
 use Rattle.isle_sema.proofs.RightSides.{calls_external, calls_partial}
-use Rattle.isle_sema.specs.Repeats.{repeats}
+use Rattle.isle_declarations.specs.Repeats.{repeats}
 use Rattle.isle_sema.proofs.Wrong.{is_misplaced, any_misplaced, typed_vars, is_wrong, is_rhs_wrong, is_too_large, breaks, rules_fault, has_fault}
 use Rattle.isle_sema.specs.Language.{is_built_def, is_built_expr, is_built_pattern, are_none}
 use Rattle.isle_sema.proofs.RightSides.{rules_call_external}
 use Rattle.isle_sema.proofs.Decided.{are_external}
-use Rattle.isle_sema.specs.Heads.{terms_of}
+use Rattle.isle_declarations.specs.Heads.{terms_of}
 use Rattle.isle_sema.specs.TypedRule.{IsPatternOf, ArePatternsOf, IsExprOf, IsRuleOf, IsTypedRule}
 use Rattle.isle_sema.specs.Typing.{Typed}
 use Rattle.isle_sema.proofs.Deciding.{decided}
 use Rattle.isle_sema.proofs.Decided.{env_made}
-use Rattle.isle_sema.proofs.LookUps.{at_place, named_at}
+use Rattle.isle_declarations.proofs.LookUps.{at_place, named_at}
 use Rattle.isle_sema.proofs.Parts.{forms, calls, sound_rules}
 use Rattle.isle_sema.proofs.TypedConstants.{type_below, integer_typed, integer_builtin}
 use Rattle.isle_sema.proofs.TypedExprs.{truth_typed, expr_typed, built_expr, scoped_expr, impure_expr}
@@ -57,7 +57,7 @@ args_typed defs [] ps vars same h = tt
 args_typed defs (name ∷ names) [] vars same h = absurd (omega arith)
 args_typed defs (name ∷ names) (p ∷ ps) vars same h =
     let k = or_parts (is_misplaced p (type_of name)) (any_misplaced ps (map type_of names)) h in
-    (pattern_typed defs name p vars k.0, args_typed defs names ps (vars_behind p vars) (omega arith) k.1)
+    (pattern_typed defs name p vars k.0, args_typed defs names ps (vars_after p vars) (omega arith) k.1)
 
 -- ---- a rule that breaks nothing
 

@@ -10,23 +10,26 @@ use Rattle.isle_core.specs.declared.types.Term.{Term}
 use Rattle.isle_core.specs.declared.types.TermKind.TheVariants as kind
 use Rattle.isle_core.specs.declared.types.ConstructorKind.{ConstructorKind}
 use Rattle.isle_core.specs.declared.types.ExtractorKind.TheVariants as extractor
+use Rattle.isle_core.specs.BuiltinType.{IsBuiltinDef, IsBuiltinType}
 use Rattle.isle_core.specs.Rule.{Environment}
 use Rattle.isle_core.specs.Terms.{sym_text, term_ids, has_rules, with_rules}
 use Rattle.isle_core.proofs.Contained.{head_contained, tail_contained}
 use Rattle.isle_syntax.specs.Tree as tree
 use Rattle.isle_syntax.specs.Tree.{Def}
 use Rattle.isle_syntax.specs.Positions.{place_of}
-use Rattle.isle_sema.specs.Symbols.{symbols}
-use Rattle.isle_sema.specs.Builtins.{builtins, IsBuiltinDef, IsBuiltinType}
-use Rattle.isle_sema.specs.Signatures.{Signature, signatures, externs, rule_defs, func_named, has_rule}
-use Rattle.isle_sema.specs.Elaborated.{type_of, constructor_of, term_of}
-use Rattle.isle_sema.specs.Heads.{terms_of}
+use Rattle.isle_declarations.specs.Symbols.{symbols}
+use Rattle.isle_sema.specs.Builtins.{builtins}
+use Rattle.isle_declarations.specs.Signatures.{Signature, signatures, externs, rule_defs, func_named, has_rule}
+use Rattle.isle_sema.specs.Elaborated.{type_of, term_of}
+use Rattle.isle_sema.specs.Environment.{constructor_of}
+use Rattle.isle_declarations.specs.Heads.{terms_of}
 use Rattle.isle_sema.specs.Typing.{Typed}
 use Rattle.isle_sema.proofs.Deciding.{decided}
 use Rattle.isle_sema.proofs.Decided.{env_made}
 use Rattle.isle_sema.proofs.Parts.{names_apart}
 use Rattle.isle_sema.proofs.TypedConstants.{type_below}
-use Rattle.isle_sema.proofs.DeclaredNames.{declared_names, distinct_names}
+use Rattle.isle_sema.proofs.DeclaredNames.{declared_names}
+use Rattle.isle_declarations.proofs.DistinctNames.{distinct_names}
 
 -- ---- the declaration of a term
 

@@ -11,7 +11,7 @@ use Rattle.isle_core.specs.declared.types.TypeDef.{TypeDef}
 use Rattle.isle_syntax.specs.Tree.{Def}
 use Rattle.isle_sema.specs.Builtins.{builtins, builtin_named}
 use Rattle.isle_sema.specs.Reduced.{reduced_at, integer_by, reduced_by, typed_integer}
-use Rattle.isle_sema.specs.Signatures.{Signature, signature_named}
+use Rattle.isle_declarations.specs.Signatures.{Signature, signature_named}
 use Rattle.isle_sema.specs.Elaborated.{type_of, type_or}
 use Rattle.isle_sema.proofs.Wrong.{names_no_type}
 use Rattle.isle_sema.proofs.Wrong.{type_in}

@@ -4,9 +4,9 @@ use Rattle.std.specs.Prelude.{option_map, is_some}
 use Rattle.std.specs.List.{zip}
 use Rattle.std.specs.Str.{bytes_eq}
 use Rattle.isle_core.specs.declared.TypeId.{TypeId}
-use Rattle.isle_sema.specs.Symbols.{index_of, added}
+use Rattle.isle_declarations.specs.Symbols.{index_of, added}
 use Rattle.isle_sema.specs.Scope.{scope_names, bound_at, met, met_by}
-use Rattle.isle_sema.proofs.LookUps.{at_place, at_later}
+use Rattle.isle_declarations.proofs.LookUps.{at_place, at_later}
 
 -- ---- looking up a variable is looking up its place
 

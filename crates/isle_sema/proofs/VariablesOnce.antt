@@ -9,12 +9,12 @@ use Rattle.isle_core.specs.declared.TypeId.{TypeId}
 use Rattle.isle_core.specs.StandsFor.{EachOnce}
 use Rattle.isle_syntax.specs.Tree as tree
 use Rattle.isle_syntax.specs.Tree.{Pattern}
-use Rattle.isle_sema.specs.Symbols.{index_of, added, pattern_names, number_or}
+use Rattle.isle_declarations.specs.Symbols.{index_of, added, pattern_names, number_or}
 use Rattle.isle_sema.proofs.Trees.{patterns_at}
-use Rattle.isle_sema.specs.Repeats.{repeats_after}
+use Rattle.isle_declarations.specs.Repeats.{repeats_after}
 use Rattle.isle_sema.specs.TypedRule.{numbers}
-use Rattle.isle_sema.proofs.SymbolLaws.{index_of_new}
-use Rattle.isle_sema.proofs.BoundVariables.{none_of}
+use Rattle.isle_declarations.proofs.SymbolLaws.{index_of_new}
+use Rattle.isle_declarations.proofs.SymbolLaws.{none_of}
 
 -- numbers from this one on, each once
 pub record AreFrom (n : ℕ) (ms : List ℕ) : Type 0 where

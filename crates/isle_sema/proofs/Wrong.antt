@@ -1,5 +1,5 @@
 -- What definitions without a fault are not: the rows that built forms can break, whole lists at once.
-use Rattle.isle_sema.specs.Repeats.{repeats}
+use Rattle.isle_declarations.specs.Repeats.{repeats}
 use Rattle.std.specs.Prelude.{ℕ, ◌+◌, List, [], ◌∷◌, length, Bool, true, false, ◌==◌, ◌&&◌, ◌||◌, not, Option, Some, None, is_some, map, nat_le, if◌then◌else◌}
 use Rattle.std.specs.List.{list_all, list_any}
 use Rattle.isle_sema.specs.Builtins.{builtin_named}
@@ -7,7 +7,7 @@ use Rattle.std.specs.Str.{bytes_eq}
 use Rattle.isle_core.specs.declared.TypeId.{TypeId}
 use Rattle.isle_syntax.specs.Tree as tree
 use Rattle.isle_syntax.specs.Tree.{Pattern, Expr, Exprs, NoExpr, AnExpr, Def}
-use Rattle.isle_sema.specs.Signatures.{Signature, Extern, RuleDef, signatures, externs, func_named, rule_defs, signature_named}
+use Rattle.isle_declarations.specs.Signatures.{Signature, Extern, RuleDef, signatures, externs, func_named, rule_defs, signature_named}
 use Rattle.isle_sema.specs.Elaborated.{type_of}
 use Rattle.isle_sema.proofs.Trees.{arg_types}
 use Rattle.isle_sema.specs.Calls.{count_of}

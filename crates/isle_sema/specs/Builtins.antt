@@ -1,12 +1,11 @@
 -- The types that are there before any definition.
-use Rattle.std.specs.Prelude.{ℕ, List, [], ◌∷◌, Option, option_map, codes, slice_get, IsSomeAnd}
+use Rattle.std.specs.Prelude.{ℕ, List, [], ◌∷◌, Option, option_map, codes}
 use Rattle.isle_core.specs.declared.TypeId.{TypeId}
 use Rattle.isle_core.specs.declared.types.IntType.TheVariants.{U8, U16, U32, U64, U128, USize, I8, I16, I32, I64, I128, ISize}
 use Rattle.isle_core.specs.declared.types.BuiltinType.TheVariants.{Bool, Int}
 use Rattle.isle_core.specs.declared.types.TypeDef.{TypeDef}
 use Rattle.isle_core.specs.declared.types.TypeDef.TheVariants.{Builtin}
-use Rattle.isle_core.specs.Rule.{Environment}
-use Rattle.isle_sema.specs.Symbols.{index_of}
+use Rattle.isle_declarations.specs.Symbols.{index_of}
 
 -- the types, by their numbers
 abbrev pub builtins : List TypeDef
@@ -27,12 +26,3 @@ type_id n = record { 0 = n }
 -- the builtin type of a name
 abbrev pub builtin_named : List ℕ → Option TypeId
 builtin_named name = option_map type_id (index_of builtin_names name)
-
--- the definition of a builtin type
-abbrev pub IsBuiltinDef : TypeDef → Type 0
-IsBuiltinDef (Builtin of) = Unit {0}
-IsBuiltinDef d = ⊥
-
--- a builtin type
-abbrev pub IsBuiltinType : Environment → TypeId → Type 0
-IsBuiltinType env ty = IsSomeAnd (slice_get env.types.types ty.0) IsBuiltinDef

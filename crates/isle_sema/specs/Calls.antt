@@ -2,7 +2,7 @@
 use Rattle.std.specs.Prelude.{ℕ, suc, List, Bool, false, ◌||◌}
 use Rattle.isle_syntax.specs.Tree as tree
 use Rattle.isle_syntax.specs.Tree.{Expr, Exprs, NoExpr, AnExpr}
-use Rattle.isle_sema.specs.Signatures.{RuleDef, has_rule}
+use Rattle.isle_declarations.specs.Signatures.{RuleDef, has_rule}
 
 -- how many expressions there are
 abbrev pub count_of : Exprs → ℕ

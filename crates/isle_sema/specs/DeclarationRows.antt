@@ -2,9 +2,9 @@
 use Rattle.std.specs.Prelude.{ℕ, List, length, Bool, ◌&&◌, ◌||◌, not, Option, Some, None, is_some, nat_le}
 use Rattle.std.specs.List.{list_all}
 use Rattle.isle_syntax.specs.Tree.{Def, TypeDecl, Decl, ExternConstructor, ExternExtractor, ExternConst, Extractor, Converter, Rule, Passed}
-use Rattle.isle_sema.specs.Symbols.{index_of}
-use Rattle.isle_sema.specs.Signatures.{Signature, Extern, RuleDef, signature_of, extern_of, rule_of, signatures, externs, func_named}
-use Rattle.isle_sema.specs.Heads.{terms_of, extern_terms}
+use Rattle.isle_declarations.specs.Symbols.{index_of}
+use Rattle.isle_declarations.specs.Signatures.{Signature, Extern, RuleDef, signature_of, extern_of, rule_of, signatures, externs, func_named}
+use Rattle.isle_declarations.specs.Heads.{terms_of, extern_terms}
 use Rattle.isle_sema.specs.TypeNames.{type_named}
 use Rattle.isle_sema.specs.Whole.{declared}
 use Rattle.isle_sema.specs.Context.{Context, on}

@@ -1,16 +1,17 @@
 -- The environment that definitions give.
-use Rattle.std.specs.Prelude.{ℕ, List, [], ◌∷◌, Option, Some, option_map, option_and_then}
+use Rattle.std.specs.Prelude.{ℕ, List, [], ◌∷◌, Bool, true, false, Option, Some, None, option_map, option_and_then}
 use Rattle.isle_core.specs.declared.TypeId.{TypeId}
 use Rattle.isle_core.specs.declared.types.Term.{Term}
 use Rattle.isle_core.specs.declared.types.TermKind.TheVariants as kind
+use Rattle.isle_core.specs.declared.types.ConstructorKind.{ConstructorKind}
+use Rattle.isle_core.specs.declared.types.ConstructorKind.TheVariants as constructor
 use Rattle.isle_core.specs.declared.types.ExtractorKind.TheVariants as extractor
 use Rattle.isle_core.specs.declared.types.TypeEnv.{TypeEnv}
 use Rattle.isle_core.specs.Rule.{Rule as CoreRule, Environment}
 use Rattle.isle_syntax.specs.Tree.{Def}
-use Rattle.isle_sema.specs.Symbols.{symbols, sym_of}
+use Rattle.isle_declarations.specs.Symbols.{symbols, sym_of}
 use Rattle.isle_sema.specs.Builtins.{builtins}
-use Rattle.isle_sema.specs.Signatures.{Signature, signatures, externs, rule_defs, func_named, has_rule}
-use Rattle.isle_sema.specs.Elaborated.{constructor_of}
+use Rattle.isle_declarations.specs.Signatures.{Signature, signatures, externs, rule_defs, func_named, has_rule}
 use Rattle.isle_sema.specs.TypeNames.{type_named}
 use Rattle.isle_sema.specs.Whole.{Whole}
 use Rattle.isle_sema.specs.PatternPass.{tree_before}
@@ -29,6 +30,16 @@ abbrev pub types_named : TypeEnv → List (List ℕ) → Option (List TypeId)
 types_named types [] = Some []
 types_named types (name ∷ names) = tree_before (type_named types name) (types_named types names)
 
+-- a term comes from its external constructor, or else from its rules, where it has some
+abbrev pub constructor_of : List (List ℕ) → Option (List ℕ) → Bool → ConstructorKind
+constructor_of syms (Some func) has_rule = constructor.External (sym_of syms func)
+constructor_of syms None true = constructor.Internal
+constructor_of syms None false = constructor.Absent
+
+-- what a term of this name comes from
+abbrev pub constructor_named : Whole → List ℕ → ConstructorKind
+constructor_named w name = constructor_of w.types.syms (func_named (externs w.defs) name) (has_rule (rule_defs w.defs) name)
+
 -- the term of a declaration, on arguments of these types; extractors are not built
 abbrev pub term_from : Whole → Signature → List TypeId → TypeId → Term
 term_from w s args ret = record {
@@ -36,7 +47,7 @@ term_from w s args ret = record {
   decl_pos = s.pos;
   arg_tys = args;
   ret_ty = ret;
-  kind = kind.Decl s.pure s.multi s.partial s.recursive (constructor_of w.types.syms (func_named (externs w.defs) s.term) (has_rule (rule_defs w.defs) s.term)) extractor.Absent;
+  kind = kind.Decl s.pure s.multi s.partial s.recursive (constructor_named w s.term) extractor.Absent;
 }
 
 -- the term of a declaration, where its types are declared

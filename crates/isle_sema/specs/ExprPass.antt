@@ -1,15 +1,16 @@
 -- Expressions of rules: the expected type and the variables go in; the tree with types in it and the places that the
 -- typing table judges come out.
-use Rattle.std.specs.Prelude.{ℤ, List, [], ◌∷◌, ◌++◌, Option, Some, None, option_map, option_and_then}
+use Rattle.std.specs.Prelude.{ℕ, ℤ, List, [], ◌∷◌, ◌++◌, Option, Some, None, option_map, option_and_then}
 use Rattle.isle_core.specs.declared.TermId.{TermId}
 use Rattle.isle_core.specs.declared.TypeId.{TypeId}
 use Rattle.isle_core.specs.declared.VarId.{VarId}
+use Rattle.isle_core.specs.declared.types.TypeEnv.{TypeEnv}
 use Rattle.isle_core.specs.Expr as core_expr
 use Rattle.isle_core.specs.Expr.{Expr as CoreExpr, Exprs as CoreExprs, NoExpr as CoreNoExpr, AnExpr as CoreAnExpr}
 use Rattle.isle_syntax.specs.Tree as tree
 use Rattle.isle_syntax.specs.Tree.{Expr, Exprs, NoExpr, AnExpr}
 use Rattle.isle_sema.specs.Reduced.{typed_integer}
-use Rattle.isle_sema.specs.Signatures.{signatures, term_named}
+use Rattle.isle_declarations.specs.Signatures.{signatures, term_named}
 use Rattle.isle_sema.specs.Calls.{count_of}
 use Rattle.isle_sema.specs.Scope.{Scope, bound_at, variable}
 use Rattle.isle_sema.specs.Site.{Site, IntegerAt, TruthAt, UsedAt, CalledAt, NotBuiltAt}
@@ -30,6 +31,14 @@ pub record ExprsPass : Type 0 where
 abbrev pub not_built : ExprPass
 not_built = record { tree = None; sites = NotBuiltAt ∷ [] }
 
+-- an integer's tree, where this type is expected
+abbrev pub integer_tree : TypeEnv → Option TypeId → ℤ → Option CoreExpr
+integer_tree types expected n = option_map (λ (v : TypeId × ℤ). core_expr.ConstInt v.0 v.1) (typed_integer types expected n)
+
+-- a variable's tree, where it is bound at a type that is known
+abbrev pub variable_tree : Scope → List ℕ → Option CoreExpr
+variable_tree scope name = option_map (λ (v : TypeId × VarId). core_expr.Var v.0 v.1) (variable scope name)
+
 -- a call of this type, of this term, on these
 abbrev pub call_tree : Option TypeId → Option TermId → Option CoreExprs → Option CoreExpr
 call_tree ty term es = option_and_then (λ (t : TypeId). option_and_then (λ (n : TermId). option_map (core_expr.Term t n) es) term) ty
@@ -42,9 +51,9 @@ expr_before (Some e) es = option_map (CoreAnExpr e) es
 -- an expression where this is expected; a variable has the type that it was bound at, and a call that of its term
 abbrev mutual
   pub expr_pass : Whole → Scope → Option TypeId → Expr → ExprPass
-  expr_pass w scope expected (tree.Number n) = record { tree = option_map (λ (v : TypeId × ℤ). core_expr.ConstInt v.0 v.1) (typed_integer w.types expected n); sites = IntegerAt expected ∷ [] }
+  expr_pass w scope expected (tree.Number n) = record { tree = integer_tree w.types expected n; sites = IntegerAt expected ∷ [] }
   expr_pass w scope expected (tree.Fact b) = record { tree = Some (core_expr.ConstBool b); sites = TruthAt expected ∷ [] }
-  expr_pass w scope expected (tree.Name name) = record { tree = option_map (λ (v : TypeId × VarId). core_expr.Var v.0 v.1) (variable scope name); sites = UsedAt expected (bound_at scope name) ∷ [] }
+  expr_pass w scope expected (tree.Name name) = record { tree = variable_tree scope name; sites = UsedAt expected (bound_at scope name) ∷ [] }
   expr_pass w scope expected (tree.Call name es) =
       let args = exprs_pass w scope (arg_types w (declared w name)) es in
       record { tree = call_tree (ret_type w (declared w name)) (term_named (signatures w.defs) name) args.trees; sites = CalledAt expected (declared w name) (count_of es) ∷ args.sites }

@@ -76,7 +76,7 @@ abbrev pub or_later : {X : Type 0} → Option X → Option X → Option X
 or_later None later = later
 or_later (Some first) later = Some first
 
--- the fault of a stage in these definitions, which stand behind those
+-- the fault of a stage in these definitions, which follow those
 abbrev pub fault_after : Stage → Whole → List Def → List Def → Option (Row × Pos)
 fault_after stage w before [] = None
 fault_after stage w before (d ∷ ds) = or_later (option_map (λ (r : Row). (r, place_of d)) (broken_in stage (record { whole = w; before = before }) d)) (fault_after stage w (before ++ d ∷ []) ds)

@@ -6,7 +6,7 @@ use Rattle.isle_sema.specs.declared.rows.Row.{Row as CodeRow}
 use Rattle.isle_sema.specs.declared.rows.Row.TheVariants as code
 use Rattle.isle_sema.specs.Row as row
 use Rattle.isle_sema.specs.Row.{Row}
-use Rattle.isle_sema.specs.Signatures.{Signature, rule_defs, has_rule}
+use Rattle.isle_declarations.specs.Signatures.{Signature, rule_defs, has_rule}
 use Rattle.isle_sema.specs.Site.{Site}
 use Rattle.isle_sema.specs.Whole.{Whole}
 use Rattle.isle_sema.specs.RuleRows.{is_misplaced, is_met_otherwise, is_unknown, is_mistyped, is_call_of}

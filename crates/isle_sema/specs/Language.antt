@@ -2,11 +2,11 @@
 use Rattle.std.specs.Prelude.{List, [], ◌∷◌, Bool, true, false, ◌&&◌, not, flat_map, map}
 use Rattle.std.specs.List.{list_all, list_any}
 use Rattle.isle_syntax.specs.Tree as tree
-use Rattle.isle_syntax.specs.Tree.{Pattern, Expr, Exprs, NoExpr, AnExpr, IfLet, Def, Decl, ExternConstructor, Rule}
-use Rattle.isle_sema.specs.Symbols.{pattern_names}
-use Rattle.isle_sema.specs.Signatures.{RuleDef, rule_defs}
+use Rattle.isle_syntax.specs.Tree.{Pattern, Expr, Exprs, NoExpr, AnExpr, IfLet, Def, TypeDecl, Decl, ExternConstructor, ExternExtractor, ExternConst, Extractor, Converter, Rule, Passed}
+use Rattle.isle_declarations.specs.Symbols.{pattern_names}
+use Rattle.isle_declarations.specs.Signatures.{RuleDef, rule_defs}
 use Rattle.isle_sema.specs.Calls.{calls_ruled}
-use Rattle.isle_sema.specs.Repeats.{repeats}
+use Rattle.isle_declarations.specs.Repeats.{repeats}
 
 -- an integer, a truth, a wildcard or a variable
 abbrev pub is_built_pattern : Pattern → Bool
@@ -14,7 +14,10 @@ is_built_pattern (tree.Int n) = true
 is_built_pattern (tree.Truth b) = true
 is_built_pattern tree.Wildcard = true
 is_built_pattern (tree.Var name) = true
-is_built_pattern p = false
+is_built_pattern (tree.Const name) = false
+is_built_pattern (tree.Bind name p) = false
+is_built_pattern (tree.And ps) = false
+is_built_pattern (tree.Term name ps) = false
 
 -- an integer, a truth, a variable, or a call of such expressions
 abbrev mutual
@@ -23,7 +26,8 @@ abbrev mutual
   is_built_expr (tree.Fact b) = true
   is_built_expr (tree.Name name) = true
   is_built_expr (tree.Call name es) = are_built_exprs es
-  is_built_expr e = false
+  is_built_expr (tree.Constant name) = false
+  is_built_expr (tree.Let ls inner) = false
 
   -- so of expressions in order
   pub are_built_exprs : Exprs → Bool
@@ -41,7 +45,12 @@ abbrev pub is_built_def : Def → Bool
 is_built_def (Decl term pure multi partial recursive args ret pos) = not pure && not multi && not recursive
 is_built_def (ExternConstructor term func pos) = true
 is_built_def (Rule name prio term args iflets rhs pos) = list_all is_built_pattern args && are_none iflets && is_built_expr rhs && not (repeats (flat_map pattern_names args))
-is_built_def d = false
+is_built_def (TypeDecl name is_extern is_nodebug body pos) = false
+is_built_def (ExternExtractor term func infallible pos) = false
+is_built_def (ExternConst name ty pos) = false
+is_built_def (Extractor term params template pos) = false
+is_built_def (Converter from to term pos) = false
+is_built_def (Passed head items pos) = false
 
 -- rules call no term that has a rule
 abbrev pub rules_call_ruled : List RuleDef → List RuleDef → Bool

@@ -1,8 +1,9 @@
 -- Patterns of rules from left to right: the expected type and the variables so far go in; the tree with types in it, the
 -- variables after it and the places that the typing table judges come out.
-use Rattle.std.specs.Prelude.{ℤ, List, [], ◌∷◌, ◌++◌, Option, Some, None, option_map}
+use Rattle.std.specs.Prelude.{ℕ, ℤ, List, [], ◌∷◌, ◌++◌, Option, Some, None, option_map}
 use Rattle.isle_core.specs.declared.TypeId.{TypeId}
 use Rattle.isle_core.specs.declared.VarId.{VarId}
+use Rattle.isle_core.specs.declared.types.TypeEnv.{TypeEnv}
 use Rattle.isle_core.specs.Pattern as core_pattern
 use Rattle.isle_core.specs.Pattern.{Pattern as CorePattern}
 use Rattle.isle_syntax.specs.Tree as tree
@@ -22,12 +23,20 @@ pub record PatternPass : Type 0 where
 abbrev pub not_built : Scope → PatternPass
 not_built scope = record { tree = None; scope = scope; sites = NotBuiltAt ∷ [] }
 
+-- an integer's tree, where this type is expected
+abbrev pub integer_tree : TypeEnv → Option TypeId → ℤ → Option CorePattern
+integer_tree types expected n = option_map (λ (v : TypeId × ℤ). core_pattern.ConstInt v.0 v.1) (typed_integer types expected n)
+
+-- a variable's tree, where it is bound at a type that is known
+abbrev pub variable_tree : Scope → List ℕ → Option CorePattern
+variable_tree scope name = option_map (λ (v : TypeId × VarId). core_pattern.Var v.0 v.1) (variable scope name)
+
 -- a pattern where this is expected; a variable has the type that it was bound at
 abbrev pub pattern_pass : Whole → Option TypeId → Scope → Pattern → PatternPass
-pattern_pass w expected scope (tree.Int n) = record { tree = option_map (λ (v : TypeId × ℤ). core_pattern.ConstInt v.0 v.1) (typed_integer w.types expected n); scope = scope; sites = IntegerAt expected ∷ [] }
+pattern_pass w expected scope (tree.Int n) = record { tree = integer_tree w.types expected n; scope = scope; sites = IntegerAt expected ∷ [] }
 pattern_pass w expected scope (tree.Truth b) = record { tree = Some (core_pattern.ConstBool b); scope = scope; sites = TruthAt expected ∷ [] }
 pattern_pass w expected scope tree.Wildcard = record { tree = option_map core_pattern.Wildcard expected; scope = scope; sites = WildcardAt ∷ [] }
-pattern_pass w expected scope (tree.Var name) = record { tree = option_map (λ (v : TypeId × VarId). core_pattern.Var v.0 v.1) (variable (met scope name expected) name); scope = met scope name expected; sites = MetAt expected (bound_at scope name) ∷ [] }
+pattern_pass w expected scope (tree.Var name) = record { tree = variable_tree (met scope name expected) name; scope = met scope name expected; sites = MetAt expected (bound_at scope name) ∷ [] }
 pattern_pass w expected scope (tree.Const name) = not_built scope
 pattern_pass w expected scope (tree.Bind name p) = not_built scope
 pattern_pass w expected scope (tree.And ps) = not_built scope

@@ -3,7 +3,7 @@ use Rattle.std.specs.Prelude.{ℤ, Option, Some, None, option_map, slice_get}
 use Rattle.std.specs.Int.{w128, cast_signed}
 use Rattle.isle_core.specs.declared.TypeId.{TypeId}
 use Rattle.isle_core.specs.declared.types.IntType.{IntType}
-use Rattle.isle_core.specs.declared.types.IntType.TheVariants.{U128}
+use Rattle.isle_core.specs.declared.types.IntType.TheVariants.{U8, U16, U32, U64, U128, USize, I8, I16, I32, I64, I128, ISize}
 use Rattle.isle_core.specs.declared.types.BuiltinType.TheVariants.{Bool as Truths, Int}
 use Rattle.isle_core.specs.declared.types.TypeDef.{TypeDef}
 use Rattle.isle_core.specs.declared.types.TypeDef.TheVariants.{Builtin, Primitive, Enum, Struct}
@@ -13,8 +13,18 @@ use Rattle.isle_sema.specs.Builtins.{builtins}
 
 -- the number of the type that z wraps to, u128 as its 128 signed bits
 abbrev pub reduced : IntType → ℤ → ℤ
+reduced U8 z = wrapped U8 z
+reduced U16 z = wrapped U16 z
+reduced U32 z = wrapped U32 z
+reduced U64 z = wrapped U64 z
 reduced U128 z = cast_signed w128 (residue w128 z)
-reduced ty z = wrapped ty z
+reduced USize z = wrapped USize z
+reduced I8 z = wrapped I8 z
+reduced I16 z = wrapped I16 z
+reduced I32 z = wrapped I32 z
+reduced I64 z = wrapped I64 z
+reduced I128 z = wrapped I128 z
+reduced ISize z = wrapped ISize z
 
 -- an integer as a type of this definition has it: a primitive type has all 128 signed bits, and only integer types have any
 abbrev pub integer_by : Option TypeDef → ℤ → Option ℤ
@@ -41,8 +51,12 @@ int_type_by (Some (Struct name is_extern is_nodebug fields pos)) = None
 
 -- a number of a type of this definition; of no other definition is it built
 abbrev pub reduced_by : Option TypeDef → ℤ → ℤ
+reduced_by None z = z
+reduced_by (Some (Builtin Truths)) z = z
 reduced_by (Some (Builtin (Int ty))) z = reduced ty z
-reduced_by d z = z
+reduced_by (Some (Primitive name rust pos)) z = z
+reduced_by (Some (Enum name is_extern is_nodebug variants pos)) z = z
+reduced_by (Some (Struct name is_extern is_nodebug fields pos)) z = z
 
 -- a number of a type
 abbrev pub reduced_at : TypeId → ℤ → ℤ

@@ -3,7 +3,7 @@ use Rattle.std.specs.Prelude.{ℕ, length, Bool, true, false, ◌==◌, ◌&&◌
 use Rattle.std.specs.List.{list_any}
 use Rattle.isle_core.specs.declared.TypeId.{TypeId}
 use Rattle.isle_syntax.specs.Tree.{Def}
-use Rattle.isle_sema.specs.Signatures.{Signature, RuleDef, rule_of}
+use Rattle.isle_declarations.specs.Signatures.{Signature, RuleDef, rule_of}
 use Rattle.isle_sema.specs.TypeNames.{type_named, takes_integers, takes_truths}
 use Rattle.isle_sema.specs.Whole.{Whole, declared, has_constructor}
 use Rattle.isle_sema.specs.Site.{Site, IntegerAt, TruthAt, WildcardAt, MetAt, UsedAt, CalledAt, NotBuiltAt}

@@ -1,7 +1,7 @@
 -- What the typing table judges inside a rule: each part of it where it stands.
 use Rattle.std.specs.Prelude.{ℕ, Option}
 use Rattle.isle_core.specs.declared.TypeId.{TypeId}
-use Rattle.isle_sema.specs.Signatures.{Signature}
+use Rattle.isle_declarations.specs.Signatures.{Signature}
 
 -- a part of a pattern or of an expression, with the type that is expected there, if one is
 pub data Site : Type 0 where

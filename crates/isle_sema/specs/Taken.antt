@@ -5,7 +5,7 @@ use Rattle.isle_core.specs.declared.types.TermEnv.{TermEnv}
 use Rattle.isle_core.specs.Rule.{Rule as CoreRule, Environment}
 use Rattle.isle_core.specs.RuleViews.{environment}
 use Rattle.isle_syntax.specs.Tree.{Def, Rule}
-use Rattle.isle_sema.specs.Signatures.{RuleDef}
+use Rattle.isle_declarations.specs.Signatures.{RuleDef}
 use Rattle.isle_sema.specs.Row.{Row}
 use Rattle.isle_sema.specs.Whole.{Whole}
 use Rattle.isle_sema.specs.PatternPass.{tree_before}
@@ -37,6 +37,6 @@ taken_rules w i [] = Some []
 taken_rules w i (r ∷ rs) = tree_before (taken_rule w i r) (taken_rules w (i + 1) rs)
 
 -- the terms and rules of definitions, or nothing where they give no environment
-abbrev pub Gives : List Def → Option TermEnv → Type 0
-Gives defs None = (env : Environment) → Typed defs env → ⊥
-Gives defs (Some t) = Typed defs (environment (types_of defs) t)
+abbrev pub IsTermEnvOf : List Def → Option TermEnv → Type 0
+IsTermEnvOf defs None = (env : Environment) → Typed defs env → ⊥
+IsTermEnvOf defs (Some t) = Typed defs (environment (types_of defs) t)

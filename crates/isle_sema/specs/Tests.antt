@@ -1,14 +1,14 @@
 -- What the code tests of declarations, external constructors and rules.
 use Rattle.std.specs.Prelude.{List, [], Bool, ◌||◌, not, is_some, flat_map}
 use Rattle.std.specs.List.{list_any}
-use Rattle.isle_sema.specs.Symbols.{pattern_names}
-use Rattle.isle_sema.specs.Signatures.{Signature, Extern, RuleDef, signature_named, func_named}
+use Rattle.isle_declarations.specs.Symbols.{pattern_names}
+use Rattle.isle_declarations.specs.Signatures.{Signature, Extern, RuleDef, signature_named, func_named}
 use Rattle.isle_syntax.specs.Tree.{Def, Decl}
 use Rattle.isle_sema.specs.Row as row
 use Rattle.isle_sema.specs.Context.{Context}
 use Rattle.isle_sema.specs.Breaks.{breaks}
 use Rattle.isle_sema.specs.Environment.{whole_of}
-use Rattle.isle_sema.specs.Repeats.{repeats}
+use Rattle.isle_declarations.specs.Repeats.{repeats}
 
 -- a rule binds a variable twice
 abbrev pub binds_twice : RuleDef → Bool

@@ -9,7 +9,7 @@ use Rattle.isle_core.specs.declared.types.BuiltinType.TheVariants.{Bool as Truth
 use Rattle.isle_core.specs.declared.types.TypeDef.{TypeDef}
 use Rattle.isle_core.specs.declared.types.TypeDef.TheVariants.{Builtin, Primitive, Enum, Struct}
 use Rattle.isle_core.specs.declared.types.TypeEnv.{TypeEnv}
-use Rattle.isle_sema.specs.Symbols.{index_of}
+use Rattle.isle_declarations.specs.Symbols.{index_of}
 use Rattle.isle_sema.specs.Builtins.{type_id}
 
 -- the text of a symbol

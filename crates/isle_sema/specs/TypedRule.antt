@@ -1,5 +1,5 @@
 -- A rule whose parts have the types of its term.
-use Rattle.std.specs.Prelude.{◌≡◌, ℕ, List, [], ◌∷◌, Bool, false, Some, IsTrue, IsSomeAnd, Contains, slice_get}
+use Rattle.std.specs.Prelude.{◌≡◌, ℕ, List, [], ◌∷◌, Bool, true, false, Some, IsTrue, IsSomeAnd, Contains, slice_get}
 use Rattle.isle_core.specs.declared.TypeId.{TypeId}
 use Rattle.isle_core.specs.declared.types.Term.{Term}
 use Rattle.isle_core.specs.Pattern as pattern
@@ -24,7 +24,10 @@ IsPatternOf env ty (pattern.Var of x) = of ≡ ty
 IsPatternOf env ty (pattern.ConstBool b) = HasType env (Truth b) ty
 IsPatternOf env ty (pattern.ConstInt of n) = (of ≡ ty) × HasType env (int_value env ty n) ty × IsBuiltinType env ty
 IsPatternOf env ty (pattern.Wildcard of) = of ≡ ty
-IsPatternOf env ty p = ⊥
+IsPatternOf env ty (pattern.BindPattern of x p) = ⊥
+IsPatternOf env ty (pattern.ConstPrim of name) = ⊥
+IsPatternOf env ty (pattern.Term of term ps) = ⊥
+IsPatternOf env ty (pattern.And of ps) = ⊥
 
 -- as many patterns as types, each of its type
 abbrev pub ArePatternsOf : Environment → List TypeId → List Pattern → Type 0
@@ -37,12 +40,24 @@ ArePatternsOf env (ty ∷ tys) [] = ⊥
 abbrev pub numbers : List Pattern → List ℕ
 numbers [] = []
 numbers (pattern.Var of x ∷ ps) = x.0 ∷ numbers ps
-numbers (p ∷ ps) = numbers ps
+numbers (pattern.ConstBool b ∷ ps) = numbers ps
+numbers (pattern.ConstInt of n ∷ ps) = numbers ps
+numbers (pattern.Wildcard of ∷ ps) = numbers ps
+numbers (pattern.BindPattern of x p ∷ ps) = numbers ps
+numbers (pattern.ConstPrim of name ∷ ps) = numbers ps
+numbers (pattern.Term of term qs ∷ ps) = numbers ps
+numbers (pattern.And of qs ∷ ps) = numbers ps
 
 -- a term with an external constructor and at most the flag `partial`; it may answer nothing only where that is allowed
 abbrev pub IsExternalKind : (allowed : Bool) → TermKind → Type 0
 IsExternalKind allowed (kind.Decl false false partial false (constructor.External func) extractor) = IsTrue partial → IsTrue allowed
-IsExternalKind allowed k = ⊥
+IsExternalKind allowed (kind.Decl false false partial false constructor.Internal extractor) = ⊥
+IsExternalKind allowed (kind.Decl false false partial false constructor.Absent extractor) = ⊥
+IsExternalKind allowed (kind.Decl false false partial true by extractor) = ⊥
+IsExternalKind allowed (kind.Decl false true partial recursive by extractor) = ⊥
+IsExternalKind allowed (kind.Decl true multi partial recursive by extractor) = ⊥
+IsExternalKind allowed (kind.Variant ty variant) = ⊥
+IsExternalKind allowed (kind.Struct ty) = ⊥
 
 -- an expression of the type: a constant is one of its values, a variable stands in a pattern of the type, and a call is
 -- of an external term that gives the type, on expressions of its types; a term that may answer nothing is called only
@@ -54,7 +69,8 @@ abbrev mutual
   IsExprOf env allowed args ty (expr.ConstInt of n) = (of ≡ ty) × HasType env (int_value env ty n) ty × IsBuiltinType env ty
   IsExprOf env allowed args ty (expr.Term of term es) =
       (of ≡ ty) × IsSomeAnd (slice_get env.terms term.0) (λ (c : Term). IsExternalKind allowed c.kind × (c.ret_ty ≡ ty) × AreExprsOf env allowed args c.arg_tys es)
-  IsExprOf env allowed args ty e = ⊥
+  IsExprOf env allowed args ty (expr.ConstPrim of name) = ⊥
+  IsExprOf env allowed args ty (expr.Let of bindings inner) = ⊥
 
   -- as many expressions as types, each of its type
   pub AreExprsOf : Environment → (allowed : Bool) → List Pattern → List TypeId → Exprs → Type 0

@@ -1,9 +1,10 @@
 -- All definitions of a program over the types that they give, and what names mean in them.
-use Rattle.std.specs.Prelude.{ℕ, List, [], Bool, ◌||◌, Option, Some, None, is_some, map}
+use Rattle.std.specs.Prelude.{ℕ, List, [], Bool, ◌||◌, Option, Some, None, is_some, map, option_and_then}
+use Rattle.isle_core.specs.declared.TermId.{TermId}
 use Rattle.isle_core.specs.declared.TypeId.{TypeId}
 use Rattle.isle_core.specs.declared.types.TypeEnv.{TypeEnv}
 use Rattle.isle_syntax.specs.Tree.{Def}
-use Rattle.isle_sema.specs.Signatures.{Signature, signatures, externs, rule_defs, signature_named, func_named, has_rule}
+use Rattle.isle_declarations.specs.Signatures.{Signature, signatures, externs, rule_defs, signature_named, term_named, func_named, has_rule}
 use Rattle.isle_sema.specs.TypeNames.{type_named}
 
 -- the definitions, and the symbols, types and constants that they give
@@ -28,3 +29,7 @@ arg_types w (Some s) = map (type_named w.types) s.args
 abbrev pub ret_type : Whole → Option Signature → Option TypeId
 ret_type w None = None
 ret_type w (Some s) = type_named w.types s.ret
+
+-- the number of a term: of one that is not there, none
+abbrev pub number_of : Whole → Option Signature → Option TermId
+number_of w s = option_and_then (λ (d : Signature). term_named (signatures w.defs) d.term) s

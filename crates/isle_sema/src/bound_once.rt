@@ -1,22 +1,21 @@
 //! Rules that bind a variable twice.
 
-ghost use Rattle.std.specs.Prelude.{◌≡◌, ◌∷◌, ◌++◌, IfOk, ℕ, List, true, if◌then◌else◌, flat_map, map};
+ghost use Rattle.std.specs.Prelude.{◌≡◌, ◌∷◌, IfOk, true, flat_map, map};
 ghost use Rattle.std.specs.List.{list_any};
-ghost use Rattle.isle_syntax.specs.Views.{pattern};
-ghost use Rattle.isle_sema.specs.Symbols.{pattern_names};
-ghost use Rattle.isle_sema.specs.Collected.{rule as seen};
-ghost use Rattle.isle_sema.specs.Repeats.{repeats, repeats_after};
+ghost use Rattle.isle_syntax.specs.Views.{pattern, defs as seen};
+ghost use Rattle.isle_declarations.specs.Symbols.{pattern_names};
+ghost use Rattle.isle_declarations.specs.Signatures.{rule_defs};
+ghost use Rattle.isle_declarations.specs.Repeats.{repeats, IsFound};
 ghost use Rattle.isle_sema.specs.Tests.{binds_twice};
 
-use crate::collected::RuleDef;
-use crate::symbols::Symbols;
+use isle_declarations::{Declarations, Symbols};
 use isle_syntax::AstPattern;
 use std::alloc::{AllocError, Global};
 
 // Whether a pattern is a variable that was met before; it is met now.
-#[tactic(auto, using(crate::proofs::Sees::pattern_sees))]
+#[tactic(auto, using(isle_declarations::proofs::Sees::pattern_sees))]
 fn meets_again<'d>(before: &mut Symbols<'d>, p: &'d AstPattern) -> Result<bool, AllocError>
-    ensures { IfOk result (λ found. (rest : List (List ℕ)) → repeats_after before.old (pattern_names (pattern p.now) ++ rest) ≡ (if found then true else repeats_after before.new rest)) }
+    ensures { IfOk result (λ found. IsFound before.old before.new (pattern_names (pattern p.now)) found) }
 {
     match p {
         AstPattern::Var(name) => {
@@ -44,10 +43,10 @@ fn repeats_variable(alloc: Global, patterns: &[AstPattern]) -> Result<bool, Allo
 }
 
 /// Tells whether one of the rules binds a variable twice.
-pub fn any_binds_twice(alloc: Global, rules: &[RuleDef]) -> Result<bool, AllocError>
-    ensures { IfOk result (λ found. found ≡ list_any binds_twice (map seen rules.now)) }
+pub fn any_binds_twice(alloc: Global, declarations: &Declarations) -> Result<bool, AllocError>
+    ensures { IfOk result (λ found. found ≡ list_any binds_twice (rule_defs (seen declarations.now))) }
 {
-    for rule in rules {
+    for rule in declarations.rules() {
         if repeats_variable(alloc, rule.args)? {
             return Ok(true);
         }

@@ -1,19 +1,16 @@
 //! Expressions with types in them, their variables and terms as numbers.
 
-ghost use Rattle.std.specs.Prelude.{◌≡◌, List, Option, IfOk, OnOk, Some, map, option_map, option_and_then};
+ghost use Rattle.std.specs.Prelude.{◌≡◌, List, Option, IfOk, Some, map, option_map};
 ghost use Rattle.isle_syntax.specs.Tree as tree;
 ghost use Rattle.isle_syntax.specs.Tree.{Def};
-ghost use Rattle.isle_syntax.specs.Views.{expr, exprs_of, defs as seen};
-ghost use Rattle.isle_core.specs.Expr as core_expr;
-ghost use Rattle.isle_core.specs.RuleViews.{expr as elaborated, exprs_of as elaborated_of};
-ghost use Rattle.isle_sema.specs.Signatures.{Signature, signatures, term_named};
-ghost use Rattle.isle_sema.specs.Reduced.{typed_integer};
-ghost use Rattle.isle_sema.specs.Scope.{variable};
-ghost use Rattle.isle_sema.specs.Whole.{arg_types, ret_type};
+ghost use Rattle.isle_syntax.specs.Views.{expr, exprs_of};
+ghost use Rattle.isle_core.specs.RuleViews.{expr as elaborated};
+ghost use Rattle.isle_declarations.specs.Signatures.{Signature};
+ghost use Rattle.isle_sema.specs.Whole.{Whole, arg_types, ret_type, number_of};
 ghost use Rattle.isle_sema.specs.Environment.{types_of, whole_of};
-ghost use Rattle.isle_sema.specs.Known.{MayBeCalled};
-ghost use Rattle.isle_sema.specs.ExprPass.{call_tree, expr_pass, exprs_pass};
-ghost use Rattle.isle_sema.specs.Judging.{judge_all};
+ghost use Rattle.isle_sema.specs.Known.{whole, MayBeCalled};
+ghost use Rattle.isle_sema.specs.ExprPass.{integer_tree, call_tree};
+ghost use Rattle.isle_sema.specs.ElaboratedAt.{expr_trees, IsExprAt, AreExprsAt};
 
 use crate::judged::Judged;
 use crate::known::{Called, Known};
@@ -26,7 +23,7 @@ use std::alloc::{AllocError, Global};
 // An integer where this type is expected.
 #[tactic(auto, using(isle_core::proofs::SeesRules::sees))]
 fn integer_at(expected: Option<TypeId>, n: i128) -> Option<Expr>
-    ensures { (defs : List Def) → option_map elaborated result ≡ option_map (λ v. core_expr.ConstInt v.0 v.1) (typed_integer (types_of defs) expected n) }
+    ensures { (defs : List Def) → option_map elaborated result ≡ integer_tree (types_of defs) expected n }
 {
     let ty = expected?;
     let of = int_type(ty)?;
@@ -41,8 +38,7 @@ fn variable_at(
     expected: Option<TypeId>,
     name: &Text,
 ) -> Option<Expr>
-    ensures tree { (defs : List Def) → option_map elaborated result ≡ (expr_pass (whole_of defs) vars.now expected (tree.Name name.now)).tree }
-    ensures sites { (defs : List Def) → judged.new ≡ judge_all (whole_of defs) judged.old (expr_pass (whole_of defs) vars.now expected (tree.Name name.now)).sites }
+    ensures { (defs : List Def) → IsExprAt (whole_of defs) vars.now expected (tree.Name name.now) judged.old judged.new result }
 {
     match vars.find(name) {
         Some((ty, number)) => {
@@ -58,7 +54,7 @@ fn variable_at(
 
 // The types of a term's arguments: of a term that is not declared, none.
 fn argument_types<'s>(callee: &Option<Called<'s>>) -> &'s [TypeId]
-    ensures { (defs : List Def) (s : Option Signature) → MayBeCalled (whole_of defs) s callee.now → arg_types (whole_of defs) s ≡ map Some result.now }
+    ensures { (w : Whole) (s : Option Signature) → MayBeCalled w s callee.now → arg_types w s ≡ map Some result.now }
 {
     match callee {
         Some(callee) => callee.args,
@@ -69,7 +65,7 @@ fn argument_types<'s>(callee: &Option<Called<'s>>) -> &'s [TypeId]
 // A call of a term on these expressions, where all are there.
 #[tactic(auto, using(isle_core::proofs::SeesRules::sees))]
 fn call_of(callee: &Option<Called>, args: Option<Vec<Expr>>) -> Option<Expr>
-    ensures { (defs : List Def) (s : Option Signature) → MayBeCalled (whole_of defs) s callee.now → option_map elaborated result ≡ call_tree (ret_type (whole_of defs) s) (option_and_then (λ (d : Signature). term_named (signatures defs) d.term) s) (option_map (λ xs. elaborated_of (map elaborated xs.items)) args) }
+    ensures { (w : Whole) (s : Option Signature) → MayBeCalled w s callee.now → option_map elaborated result ≡ call_tree (ret_type w s) (number_of w s) (expr_trees args) }
 {
     let args = args?;
     match callee {
@@ -81,7 +77,7 @@ fn call_of(callee: &Option<Called>, args: Option<Vec<Expr>>) -> Option<Expr>
 /// Elaborates an expression where this type is expected: gives its tree, where its form is built and its types are known
 /// (`specs/ExprPass.antt`).
 #[cycle(exprs)]
-#[tactic(auto, using(crate::proofs::Sees::expr_sees, isle_core::proofs::SeesRules::sees))]
+#[tactic(auto, using(isle_declarations::proofs::Sees::expr_sees, isle_core::proofs::SeesRules::sees))]
 pub fn expr_at(
     alloc: Global,
     known: &Known,
@@ -90,8 +86,7 @@ pub fn expr_at(
     expected: Option<TypeId>,
     e: &AstExpr,
 ) -> Result<Option<Expr>, AllocError>
-    ensures tree { IfOk result (λ found. option_map elaborated found ≡ (expr_pass (whole_of (seen known.now)) vars.now expected (expr e.now)).tree) }
-    ensures sites { OnOk result (judged.new ≡ judge_all (whole_of (seen known.now)) judged.old (expr_pass (whole_of (seen known.now)) vars.now expected (expr e.now)).sites) }
+    ensures { IfOk result (λ found. IsExprAt (whole known.now) vars.now expected (expr e.now) judged.old judged.new found) }
 {
     match e {
         AstExpr::Int(n) => {
@@ -125,7 +120,6 @@ pub fn expr_at(
 
 // A call where this type is expected.
 #[cycle(exprs)]
-#[tactic(auto, using(crate::proofs::CallLaws::counted))]
 fn call_at(
     alloc: Global,
     known: &Known,
@@ -135,8 +129,7 @@ fn call_at(
     name: &Text,
     args: &[AstExpr],
 ) -> Result<Option<Expr>, AllocError>
-    ensures tree { IfOk result (λ found. option_map elaborated found ≡ (expr_pass (whole_of (seen known.now)) vars.now expected (tree.Call name.now (exprs_of (map expr args.now)))).tree) }
-    ensures sites { OnOk result (judged.new ≡ judge_all (whole_of (seen known.now)) judged.old (expr_pass (whole_of (seen known.now)) vars.now expected (tree.Call name.now (exprs_of (map expr args.now)))).sites) }
+    ensures { IfOk result (λ found. IsExprAt (whole known.now) vars.now expected (tree.Call name.now (exprs_of (map expr args.now))) judged.old judged.new found) }
 {
     let callee = known.called(name);
     judged.called(expected, &callee, args.len());
@@ -154,8 +147,7 @@ fn exprs_at(
     types: &[TypeId],
     es: &[AstExpr],
 ) -> Result<Option<Vec<Expr>>, AllocError>
-    ensures trees { IfOk result (λ found. option_map (λ xs. elaborated_of (map elaborated xs.items)) found ≡ (exprs_pass (whole_of (seen known.now)) vars.now (map Some types.now) (exprs_of (map expr es.now))).trees) }
-    ensures sites { OnOk result (judged.new ≡ judge_all (whole_of (seen known.now)) judged.old (exprs_pass (whole_of (seen known.now)) vars.now (map Some types.now) (exprs_of (map expr es.now))).sites) }
+    ensures { IfOk result (λ found. AreExprsAt (whole known.now) vars.now types.now (exprs_of (map expr es.now)) judged.old judged.new found) }
 {
     let mut typed = Vec::with_capacity(alloc, es.len())?;
     let mut complete = true;

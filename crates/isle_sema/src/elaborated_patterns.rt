@@ -1,15 +1,12 @@
 //! Patterns with types in them, their variables as numbers.
 
-ghost use Rattle.std.specs.Prelude.{◌≡◌, List, IfOk, OnOk, map, option_map};
+ghost use Rattle.std.specs.Prelude.{◌≡◌, List, IfOk, map, option_map};
 ghost use Rattle.isle_syntax.specs.Tree.{Def};
 ghost use Rattle.isle_syntax.specs.Views.{pattern};
 ghost use Rattle.isle_core.specs.RuleViews.{pattern as elaborated};
-ghost use Rattle.isle_core.specs.Pattern as core_pattern;
-ghost use Rattle.isle_sema.specs.Reduced.{typed_integer};
-ghost use Rattle.isle_sema.specs.Scope.{variable};
 ghost use Rattle.isle_sema.specs.Environment.{types_of, whole_of};
-ghost use Rattle.isle_sema.specs.PatternPass.{pattern_pass, patterns_pass};
-ghost use Rattle.isle_sema.specs.Judging.{judge_all};
+ghost use Rattle.isle_sema.specs.PatternPass.{integer_tree, variable_tree};
+ghost use Rattle.isle_sema.specs.ElaboratedAt.{IsPatternAt, ArePatternsAt};
 
 use crate::judged::Judged;
 use crate::reduced::{int_type, reduced};
@@ -21,7 +18,7 @@ use std::alloc::{AllocError, Global};
 // An integer where this type is expected.
 #[tactic(auto, using(isle_core::proofs::SeesRules::sees))]
 fn integer_at(expected: Option<TypeId>, n: i128) -> Option<Pattern>
-    ensures { (defs : List Def) → option_map elaborated result ≡ option_map (λ v. core_pattern.ConstInt v.0 v.1) (typed_integer (types_of defs) expected n) }
+    ensures { (defs : List Def) → option_map elaborated result ≡ integer_tree (types_of defs) expected n }
 {
     let ty = expected?;
     let of = int_type(ty)?;
@@ -31,7 +28,7 @@ fn integer_at(expected: Option<TypeId>, n: i128) -> Option<Pattern>
 // A variable, where it is bound at a type that is known.
 #[tactic(auto, using(isle_core::proofs::SeesRules::sees))]
 fn variable_at(vars: &Variables, name: &Text) -> Option<Pattern>
-    ensures { option_map elaborated result ≡ option_map (λ v. core_pattern.Var v.0 v.1) (variable vars.now name.now) }
+    ensures { option_map elaborated result ≡ variable_tree vars.now name.now }
 {
     match vars.find(name)? {
         (Some(ty), number) => Some(Pattern::Var(ty, VarId(number))),
@@ -40,16 +37,14 @@ fn variable_at(vars: &Variables, name: &Text) -> Option<Pattern>
 }
 
 // A pattern where this type is expected: its tree, where its form is built and its types are known.
-#[tactic(auto, using(crate::proofs::Sees::pattern_sees, isle_core::proofs::SeesRules::sees))]
+#[tactic(auto, using(isle_declarations::proofs::Sees::pattern_sees, isle_core::proofs::SeesRules::sees))]
 fn pattern_at<'d>(
     vars: &mut Variables<'d>,
     judged: &mut Judged,
     expected: Option<TypeId>,
     p: &'d AstPattern,
 ) -> Result<Option<Pattern>, AllocError>
-    ensures tree { (defs : List Def) → IfOk result (λ found. option_map elaborated found ≡ (pattern_pass (whole_of defs) expected vars.old (pattern p.now)).tree) }
-    ensures scope { (defs : List Def) → OnOk result (vars.new ≡ (pattern_pass (whole_of defs) expected vars.old (pattern p.now)).scope) }
-    ensures sites { (defs : List Def) → OnOk result (judged.new ≡ judge_all (whole_of defs) judged.old (pattern_pass (whole_of defs) expected vars.old (pattern p.now)).sites) }
+    ensures { (defs : List Def) → IfOk result (λ found. IsPatternAt (whole_of defs) expected (pattern p.now) vars.old vars.new judged.old judged.new found) }
 {
     match p {
         AstPattern::Int(n) => {
@@ -99,9 +94,7 @@ pub fn patterns_at<'d>(
     types: &[TypeId],
     patterns: &'d [AstPattern],
 ) -> Result<Option<Vec<Pattern>>, AllocError>
-    ensures trees { (defs : List Def) → IfOk result (λ found. option_map (λ ps. map elaborated ps.items) found ≡ (patterns_pass (whole_of defs) (map Some types.now) vars.old (map pattern patterns.now)).trees) }
-    ensures scope { (defs : List Def) → OnOk result (vars.new ≡ (patterns_pass (whole_of defs) (map Some types.now) vars.old (map pattern patterns.now)).scope) }
-    ensures sites { (defs : List Def) → OnOk result (judged.new ≡ judge_all (whole_of defs) judged.old (patterns_pass (whole_of defs) (map Some types.now) vars.old (map pattern patterns.now)).sites) }
+    ensures { (defs : List Def) → IfOk result (λ found. ArePatternsAt (whole_of defs) types.now (map pattern patterns.now) vars.old vars.new judged.old judged.new found) }
 {
     let mut typed = Vec::with_capacity(alloc, patterns.len())?;
     let mut complete = true;

@@ -3,29 +3,23 @@
 ghost use Rattle.std.specs.Prelude.{◌≡◌, IfOk, Some, [], map, option_map};
 ghost use Rattle.isle_core.specs.RuleViews.{rule as elaborated_rule, pattern as elaborated_pattern, expr as elaborated_expr};
 ghost use Rattle.isle_syntax.specs.Views.{defs as seen_defs};
-ghost use Rattle.isle_sema.specs.Symbols.{index_of, sym_of, symbols};
-ghost use Rattle.isle_sema.specs.Collected.{rule as seen};
-ghost use Rattle.isle_sema.specs.Signatures.{Signature};
-ghost use Rattle.isle_sema.specs.Whole.{declared};
-ghost use Rattle.isle_sema.specs.Numbered.{AreNumbered};
-ghost use Rattle.isle_sema.specs.Environment.{whole_of};
+ghost use Rattle.isle_declarations.specs.Symbols.{index_of, sym_of};
+ghost use Rattle.isle_declarations.specs.Collected.{rule as seen};
+ghost use Rattle.isle_declarations.specs.Signatures.{rule_defs};
 ghost use Rattle.isle_sema.specs.RulePass.{rule_from};
-ghost use Rattle.isle_sema.specs.Known.{IsCalled};
+ghost use Rattle.isle_sema.specs.Known.{whole, IsHead};
 ghost use Rattle.isle_sema.specs.Taken.{taken_rule, taken_rules};
 
-use crate::collected::RuleDef;
-use crate::elaborated_exprs::expr_at;
-use crate::elaborated_patterns::patterns_at;
-use crate::judged::Judged;
 use crate::known::{Called, Known};
 use crate::rows::lowest_row;
-use crate::variables::Variables;
+use crate::sides::sides_of;
 use isle_core::{Expr, List, Pattern, Rule, RuleId, Sym, Text};
+use isle_declarations::RuleDef;
 use std::alloc::{AllocError, Global};
 
 // The symbol of a rule's own name, where it has one.
 fn name_of(known: &Known, name: &Option<&Text>) -> Option<Sym>
-    ensures { result ≡ option_map (λ n. sym_of (symbols (seen_defs known.now)) n.now) name.now }
+    ensures { result ≡ option_map (λ n. sym_of (whole known.now).types.syms n.now) name.now }
 {
     match name {
         Some(name) => match known.number(name) {
@@ -46,7 +40,7 @@ fn rule_from(
     args: Vec<Pattern>,
     rhs: Expr,
 ) -> Rule
-    ensures { elaborated_rule result ≡ rule_from (whole_of (seen_defs known.now)) number (seen given.now) own.now.term (map elaborated_pattern args.items) [] (elaborated_expr rhs) }
+    ensures { elaborated_rule result ≡ rule_from (whole known.now) number (seen given.now) own.now.term (map elaborated_pattern args.items) [] (elaborated_expr rhs) }
 {
     Rule {
         id: RuleId(number),
@@ -68,20 +62,19 @@ fn rule_of(
     number: usize,
     given: &RuleDef,
 ) -> Result<Option<Rule>, AllocError>
-    ensures { IfOk result (λ rule. (s : Signature) → declared (whole_of (seen_defs known.now)) given.now.term.now ≡ Some s → IsCalled (whole_of (seen_defs known.now)) s own.now → option_map elaborated_rule rule ≡ taken_rule (whole_of (seen_defs known.now)) number (seen given.now)) }
+    requires { IsHead (whole known.now) given.now.term.now own.now }
+    ensures { IfOk result (λ rule. option_map elaborated_rule rule ≡ taken_rule (whole known.now) number (seen given.now)) }
 {
     if !given.iflets.is_empty() {
         return Ok(None);
     }
-    let mut vars = Variables::new(alloc);
-    let mut left = Judged::new();
-    let args = patterns_at(alloc, &mut vars, &mut left, own.args, given.args)?;
-    let mut right = Judged::new();
-    let rhs = expr_at(alloc, known, &vars, &mut right, Some(own.ret), given.rhs)?;
-    if right.ruled {
+    let sides = sides_of(alloc, known, own, given)?;
+    let args = sides.args;
+    let rhs = sides.rhs;
+    if sides.right.ruled {
         return Ok(None);
     }
-    if lowest_row(own, given.args.len(), &left, &right).is_some() {
+    if lowest_row(own, given.args.len(), &sides.left, &sides.right).is_some() {
         return Ok(None);
     }
     let Some(args) = args else {
@@ -100,8 +93,8 @@ fn rule_at(
     number: usize,
     given: &RuleDef,
 ) -> Result<Option<Rule>, AllocError>
-    requires { index_of (symbols (seen_defs known.now)) given.now.term.now ≡ Some given.now.number }
-    ensures { IfOk result (λ rule. option_map elaborated_rule rule ≡ taken_rule (whole_of (seen_defs known.now)) number (seen given.now)) }
+    requires { index_of (whole known.now).types.syms given.now.term.now ≡ Some given.now.number }
+    ensures { IfOk result (λ rule. option_map elaborated_rule rule ≡ taken_rule (whole known.now) number (seen given.now)) }
 {
     match known.at(given.number) {
         Some(own) => rule_of(alloc, known, &own, number, given),
@@ -110,14 +103,10 @@ fn rule_at(
 }
 
 /// Returns the rules, numbered in order: nothing where one is not taken.
-pub fn rules_at(
-    alloc: Global,
-    known: &Known,
-    given: &[RuleDef],
-) -> Result<Option<Vec<Rule>>, AllocError>
-    requires { AreNumbered (symbols (seen_defs known.now)) (map (λ r. r.term.now) given.now) (map (λ r. r.number) given.now) }
-    ensures { IfOk result (λ rules. option_map (λ rs. map elaborated_rule rs.items) rules ≡ taken_rules (whole_of (seen_defs known.now)) 0 (map seen given.now)) }
+pub fn rules_at(alloc: Global, known: &Known) -> Result<Option<Vec<Rule>>, AllocError>
+    ensures { IfOk result (λ rules. option_map (λ rs. map elaborated_rule rs.items) rules ≡ taken_rules (whole known.now) 0 (rule_defs (seen_defs known.now))) }
 {
+    let given = known.rules();
     let mut rules = Vec::with_capacity(alloc, given.len())?;
     for (number, rule) in given.iter().enumerate() {
         match rule_at(alloc, known, number, rule)? {

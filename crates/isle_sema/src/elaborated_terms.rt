@@ -1,62 +1,27 @@
 //! Terms with types in them, their names as symbols.
 
-ghost use Rattle.std.specs.Prelude.{◌≡◌, ℕ, List, Some, IfOk, map, option_map, slice_get};
-ghost use Rattle.isle_sema.specs.Collected.{signature as seen, extern, rule, HaveNumbers};
-ghost use Rattle.isle_sema.specs.Elaborated.{type_of, constructor_of, term_of};
-ghost use Rattle.isle_sema.specs.Numbered.{AreNumbered};
-ghost use Rattle.isle_sema.specs.Signatures.{func_named, has_rule};
-ghost use Rattle.isle_sema.specs.Symbols.{index_of, number_or};
-ghost use Rattle.isle_sema.specs.Tables.{HasTables};
+ghost use Rattle.std.specs.Prelude.{◌≡◌, ℕ, List, Some, IfOk, option_map};
+ghost use Rattle.isle_syntax.specs.Tree.{Def};
+ghost use Rattle.isle_syntax.specs.Views.{defs};
+ghost use Rattle.isle_declarations.specs.Collected.{signature as seen};
+ghost use Rattle.isle_declarations.specs.Symbols.{index_of, symbols};
+ghost use Rattle.isle_declarations.specs.Signatures.{signatures};
+ghost use Rattle.isle_sema.specs.Environment.{types_of, types_named, constructor_named, term_pass, terms_pass};
+ghost use Rattle.isle_sema.specs.Known.{whole};
 
-use crate::builtins::type_of;
-use crate::collected::{Definitions, Extern, Signature};
-use crate::first_places::place_in;
-use crate::tables::Tables;
+use crate::builtins::type_named;
 use isle_core::{ConstructorKind, ExtractorKind, List, Sym, Term, TermKind, Text, TypeId};
+use isle_declarations::{Declarations, Signature};
 use std::alloc::{AllocError, Global};
 
-// The number of the function at a place.
-fn func_at(externs: &[Extern], place: usize) -> Option<usize>
-    ensures { result ≡ option_map (λ x. x.func_number) (slice_get externs.now place) }
-{
-    let found = externs.get(place)?;
-    Some(found.func_number)
-}
-
-// The number of the function of a term's external constructor, where it has one.
-fn func_of(d: &Definitions, tables: &Tables, signature: &Signature) -> Option<usize>
-    requires numbers { HaveNumbers d.now.symbols d.now.signatures.items d.now.externs.items d.now.rules.items }
-    requires tables { HasTables d.now.symbols (map seen d.now.signatures.items) (map extern d.now.externs.items) (map rule d.now.rules.items) tables.now }
-    requires number { index_of d.now.symbols signature.now.term.now ≡ Some signature.now.number }
-    ensures { result ≡ option_map (λ (f : List ℕ). number_or (index_of d.now.symbols f)) (func_named (map extern d.now.externs.items) signature.now.term.now) }
-{
-    match place_in(tables.external.as_slice(), signature.number) {
-        Some(place) => func_at(d.externs.as_slice(), place),
-        None => None,
-    }
-}
-
-// Whether a term has a rule.
-fn has_rule(d: &Definitions, tables: &Tables, signature: &Signature) -> bool
-    requires tables { HasTables d.now.symbols (map seen d.now.signatures.items) (map extern d.now.externs.items) (map rule d.now.rules.items) tables.now }
-    requires number { index_of d.now.symbols signature.now.term.now ≡ Some signature.now.number }
-    ensures { result ≡ has_rule (map rule d.now.rules.items) signature.now.term.now }
-{
-    let _given = d;
-    place_in(tables.ruled.as_slice(), signature.number).is_some()
-}
-
 // A term comes from its external constructor, or else from its rules, where it has some.
-fn constructor_of(d: &Definitions, tables: &Tables, signature: &Signature) -> ConstructorKind
-    requires numbers { HaveNumbers d.now.symbols d.now.signatures.items d.now.externs.items d.now.rules.items }
-    requires tables { HasTables d.now.symbols (map seen d.now.signatures.items) (map extern d.now.externs.items) (map rule d.now.rules.items) tables.now }
-    requires number { index_of d.now.symbols signature.now.term.now ≡ Some signature.now.number }
-    ensures { result ≡ constructor_of d.now.symbols (func_named (map extern d.now.externs.items) signature.now.term.now) (has_rule (map rule d.now.rules.items) signature.now.term.now) }
+fn constructor_of(declarations: &Declarations, number: usize) -> ConstructorKind
+    ensures { (name : List ℕ) → index_of (symbols (defs declarations.now)) name ≡ Some number → result ≡ constructor_named (whole declarations.now) name }
 {
-    match func_of(d, tables, signature) {
-        Some(number) => ConstructorKind::External { func: Sym(number) },
+    match declarations.func(number) {
+        Some(func) => ConstructorKind::External { func: Sym(func) },
         None => {
-            if has_rule(d, tables, signature) {
+            if declarations.rule(number).is_some() {
                 ConstructorKind::Internal
             } else {
                 ConstructorKind::Absent
@@ -65,60 +30,62 @@ fn constructor_of(d: &Definitions, tables: &Tables, signature: &Signature) -> Co
     }
 }
 
-// The types of names.
-fn types_of(alloc: Global, names: &[Text]) -> Result<Vec<TypeId>, AllocError>
-    ensures { IfOk result (λ types. types.items ≡ map type_of names.now) }
+// The types of names, where all are declared.
+fn types_of(alloc: Global, names: &[Text]) -> Result<Option<Vec<TypeId>>, AllocError>
+    ensures { (defs : List Def) → IfOk result (λ found. option_map (λ types. types.items) found ≡ types_named (types_of defs) names.now) }
 {
     let mut types = Vec::with_capacity(alloc, names.len())?;
     for name in names {
-        types.push(type_of(name))?;
+        match type_named(name.as_str()) {
+            Some(ty) => types.push(ty)?,
+            None => return Ok(None),
+        }
     }
-    Ok(types)
+    Ok(Some(types))
 }
 
-// The term of a declaration.
+// The term of a declaration, where its types are declared.
 fn term_of(
     alloc: Global,
-    d: &Definitions,
-    tables: &Tables,
+    declarations: &Declarations,
     signature: &Signature,
-) -> Result<Term, AllocError>
-    requires numbers { HaveNumbers d.now.symbols d.now.signatures.items d.now.externs.items d.now.rules.items }
-    requires tables { HasTables d.now.symbols (map seen d.now.signatures.items) (map extern d.now.externs.items) (map rule d.now.rules.items) tables.now }
-    requires number { index_of d.now.symbols signature.now.term.now ≡ Some signature.now.number }
-    ensures { IfOk result (λ term. term ≡ term_of d.now.symbols (map extern d.now.externs.items) (map rule d.now.rules.items) (seen signature.now)) }
+) -> Result<Option<Term>, AllocError>
+    requires { index_of (symbols (defs declarations.now)) signature.now.term.now ≡ Some signature.now.number }
+    ensures { IfOk result (λ term. term ≡ term_pass (whole declarations.now) (seen signature.now)) }
 {
-    Ok(Term {
+    let Some(args) = types_of(alloc, signature.args)? else {
+        return Ok(None);
+    };
+    let Some(ret) = type_named(signature.ret.as_str()) else {
+        return Ok(None);
+    };
+    Ok(Some(Term {
         name: Sym(signature.number),
         decl_pos: signature.pos,
-        arg_tys: List::new(types_of(alloc, signature.args)?),
-        ret_ty: type_of(signature.ret),
+        arg_tys: List::new(args),
+        ret_ty: ret,
         kind: TermKind::Decl {
-            pure: false,
-            multi: false,
+            pure: signature.pure,
+            multi: signature.multi,
             partial: signature.partial,
-            recursive: false,
-            constructor: constructor_of(d, tables, signature),
+            recursive: signature.recursive,
+            constructor: constructor_of(declarations, signature.number),
             extractor: ExtractorKind::Absent,
         },
-    })
+    }))
 }
 
-/// Returns the terms of declarations, in order.
-pub fn terms_of(
-    alloc: Global,
-    d: &Definitions,
-    tables: &Tables,
-    signatures: &[Signature],
-) -> Result<Vec<Term>, AllocError>
-    requires numbers { HaveNumbers d.now.symbols d.now.signatures.items d.now.externs.items d.now.rules.items }
-    requires tables { HasTables d.now.symbols (map seen d.now.signatures.items) (map extern d.now.externs.items) (map rule d.now.rules.items) tables.now }
-    requires numbered { AreNumbered d.now.symbols (map (λ s. s.term.now) signatures.now) (map (λ s. s.number) signatures.now) }
-    ensures { IfOk result (λ terms. terms.items ≡ map (term_of d.now.symbols (map extern d.now.externs.items) (map rule d.now.rules.items)) (map seen signatures.now)) }
+/// Returns the terms of the declarations, in order, where their types are declared.
+pub fn terms_of(alloc: Global, declarations: &Declarations) -> Result<Option<Vec<Term>>, AllocError>
+    ensures { IfOk result (λ terms. option_map (λ ts. ts.items) terms ≡ terms_pass (whole declarations.now) (signatures (defs declarations.now))) }
 {
+    let signatures = declarations.signatures();
     let mut terms = Vec::with_capacity(alloc, signatures.len())?;
     for signature in signatures {
-        terms.push(term_of(alloc, d, tables, signature)?)?;
+        match term_of(alloc, declarations, signature)? {
+            Some(term) => terms.push(term)?,
+            None => return Ok(None),
+        }
     }
-    Ok(terms)
+    Ok(Some(terms))
 }

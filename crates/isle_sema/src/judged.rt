@@ -2,7 +2,8 @@
 
 ghost use Rattle.std.specs.Prelude.{◌≡◌, Option, Some, List, []};
 ghost use Rattle.isle_syntax.specs.Tree.{Def};
-ghost use Rattle.isle_sema.specs.Signatures.{Signature};
+ghost use Rattle.isle_declarations.specs.Signatures.{Signature};
+ghost use Rattle.isle_sema.specs.Whole.{Whole};
 ghost use Rattle.isle_sema.specs.Site.{IntegerAt, TruthAt, WildcardAt, MetAt, UsedAt, CalledAt, NotBuiltAt};
 ghost use Rattle.isle_sema.specs.RuleRows.{is_other_type};
 ghost use Rattle.isle_sema.specs.Environment.{whole_of};
@@ -100,7 +101,7 @@ impl Judged {
 
     // A call of a declared term.
     fn term(&mut self, expected: Option<TypeId>, callee: &Called, count: usize)
-        ensures { (defs : List Def) (s : Signature) → IsCalled (whole_of defs) s callee.now → self.new ≡ judge (whole_of defs) self.old (CalledAt expected (Some s) count) }
+        ensures { (w : Whole) (s : Signature) → IsCalled w s callee.now → self.new ≡ judge w self.old (CalledAt expected (Some s) count) }
     {
         self.nodes = self.nodes.saturating_add(1);
         self.unknown = (count != callee.args.len())
@@ -115,7 +116,7 @@ impl Judged {
 
     /// Judges a call of a term on so many arguments.
     pub fn called(&mut self, expected: Option<TypeId>, callee: &Option<Called>, count: usize)
-        ensures { (defs : List Def) (s : Option Signature) → MayBeCalled (whole_of defs) s callee.now → self.new ≡ judge (whole_of defs) self.old (CalledAt expected s count) }
+        ensures { (w : Whole) (s : Option Signature) → MayBeCalled w s callee.now → self.new ≡ judge w self.old (CalledAt expected s count) }
     {
         match callee {
             Some(callee) => self.term(expected, callee, count),

@@ -2,16 +2,13 @@
 
 ghost use Rattle.std.specs.Prelude.{◌≡◌, ℕ, List, Some};
 ghost use Rattle.isle_syntax.specs.Views.{defs as seen};
-ghost use Rattle.isle_sema.specs.Symbols.{index_of, symbols};
+ghost use Rattle.isle_declarations.specs.Symbols.{index_of, symbols};
+ghost use Rattle.isle_declarations.specs.Collected.{AreRules};
 ghost use Rattle.isle_sema.specs.Whole.{declared};
-ghost use Rattle.isle_sema.specs.Environment.{whole_of};
-ghost use Rattle.isle_sema.specs.Known.{MayBeCalled};
+ghost use Rattle.isle_sema.specs.Known.{whole, MayBeCalled};
 
-use crate::collected::Signature;
-use crate::first_places::place_in;
-use crate::symbols::Symbols;
 use isle_core::{Term, TermId, Text, TypeId};
-use isle_syntax::Def;
+use isle_declarations::{Declarations, RuleDef};
 use std::marker::Model;
 
 /// A declared term: its number, the types of its arguments and of its result, its flags, and whether it has an
@@ -28,34 +25,29 @@ pub struct Called<'s> {
     pub ruled: bool,
 }
 
-/// The names of definitions with the terms that they name. Contracts see the definitions.
+/// What definitions declare, with the terms of their declarations. Contracts see the definitions.
 #[derive(Drop)]
 pub struct Known<'s, 'd> {
-    pub defs: &'s [Def],
-    pub symbols: &'s Symbols<'d>,
-    pub signatures: &'s [Signature<'d>],
+    pub declarations: &'s Declarations<'d>,
     pub terms: &'s [Term],
-    pub declared: &'s [Option<usize>],
-    pub external: &'s [Option<usize>],
-    pub ruled: &'s [Option<usize>],
 }
 
 impl<'s, 'd> Model for Known<'s, 'd> {
-    ghost use Rattle.std.specs.Prelude.{List, map};
+    ghost use Rattle.std.specs.Prelude.{◌≡◌, List, Some};
     ghost use Rattle.std.specs.Coded.{codes};
     ghost use Rattle.isle_syntax.specs.contracts.tree.Def as d;
     ghost use Rattle.isle_syntax.specs.declared.tree.Def.{Def};
-    ghost use Rattle.isle_syntax.specs.Views.{defs as seen};
-    ghost use Rattle.isle_sema.specs.Collected.{signature as seen_signature};
-    ghost use Rattle.isle_sema.specs.Known.{AreKnown};
+    ghost use Rattle.isle_declarations.specs.Signatures.{signatures};
+    ghost use Rattle.isle_sema.specs.Environment.{terms_pass};
+    ghost use Rattle.isle_sema.specs.Known.{whole};
 
     ghost Value = { List Def };
 
     ghost coded = { Prim.hlevel (codes, d.the_row.coded) };
 
-    ghost view = { λ k. k.defs.now };
+    ghost view = { λ k. k.declarations.now };
 
-    ghost invariant = { λ k. AreKnown (seen k.defs.now) k.symbols.now (map seen_signature k.signatures.now) k.terms.now k.declared.now k.external.now k.ruled.now };
+    ghost invariant = { λ k. terms_pass (whole k.declarations.now) (signatures (whole k.declarations.now).defs) ≡ Some k.terms.now };
 }
 
 impl<'s, 'd> Known<'s, 'd> {
@@ -63,16 +55,23 @@ impl<'s, 'd> Known<'s, 'd> {
     pub fn number(&self, name: &Text) -> Option<usize>
         ensures { result ≡ index_of (symbols (seen self.now)) name.now }
     {
-        self.symbols.find(name.as_str())
+        self.declarations.number(name)
+    }
+
+    /// Returns the rules.
+    pub fn rules(&self) -> &'s [RuleDef<'d>]
+        ensures { AreRules (seen self.now) result.now }
+    {
+        self.declarations.rules()
     }
 
     /// Returns the term of the name of this number.
     pub fn at(&self, number: usize) -> Option<Called<'s>>
-        ensures { (name : List ℕ) → index_of (symbols (seen self.now)) name ≡ Some number → MayBeCalled (whole_of (seen self.now)) (declared (whole_of (seen self.now)) name) result }
+        ensures { (name : List ℕ) → index_of (symbols (seen self.now)) name ≡ Some number → MayBeCalled (whole self.now) (declared (whole self.now) name) result }
     {
-        let place = place_in(self.declared, number)?;
+        let place = self.declarations.declaration(number)?;
         let term = self.terms.get(place)?;
-        let signature = self.signatures.get(place)?;
+        let signature = self.declarations.signatures().get(place)?;
         Some(Called {
             term: TermId(place),
             args: term.arg_tys.as_slice(),
@@ -80,16 +79,15 @@ impl<'s, 'd> Known<'s, 'd> {
             pure: signature.pure,
             multi: signature.multi,
             partial: signature.partial,
-            external: place_in(self.external, number).is_some(),
-            ruled: place_in(self.ruled, number).is_some(),
+            external: self.declarations.external(number).is_some(),
+            ruled: self.declarations.rule(number).is_some(),
         })
     }
 
     /// Returns the term of a name.
     pub fn called(&self, name: &Text) -> Option<Called<'s>>
-        ensures { MayBeCalled (whole_of (seen self.now)) (declared (whole_of (seen self.now)) name.now) result }
+        ensures { MayBeCalled (whole self.now) (declared (whole self.now) name.now) result }
     {
-        let _ = &self.declared;
         match self.number(name) {
             Some(number) => self.at(number),
             None => None,

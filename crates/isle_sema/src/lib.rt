@@ -3,22 +3,18 @@
 
 mod bound_once;
 mod builtins;
-mod collected;
 mod elaborated_exprs;
 mod elaborated_patterns;
 mod elaborated_rules;
 mod elaborated_terms;
 mod expected;
-mod first_places;
-mod interning;
 mod judged;
 mod known;
 mod language;
 mod reduced;
 mod rows;
+mod sides;
 mod signature_faults;
-mod symbols;
-mod tables;
 mod term_env;
 mod typing;
 mod variables;

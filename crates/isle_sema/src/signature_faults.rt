@@ -1,14 +1,16 @@
 //! What is wrong with a declaration by itself.
 
-ghost use Rattle.std.specs.Prelude.{◌≡◌, ℕ, List, map, is_some};
+ghost use Rattle.std.specs.Prelude.{◌≡◌, ℕ, List, is_some};
 ghost use Rattle.std.specs.List.{list_all, list_any};
 ghost use Rattle.isle_sema.specs.Builtins.{builtin_named};
-ghost use Rattle.isle_sema.specs.Collected.{signature as seen};
+ghost use Rattle.isle_syntax.specs.Views.{defs};
+ghost use Rattle.isle_declarations.specs.Signatures.{signatures};
+ghost use Rattle.isle_declarations.specs.Collected.{signature as seen};
 ghost use Rattle.isle_sema.specs.Tests.{is_misdeclared};
 
 use crate::builtins::type_named;
-use crate::collected::Signature;
 use isle_core::Text;
+use isle_declarations::{Declarations, Signature};
 
 // Whether each of the names is that of a type.
 fn are_types(names: &[Text]) -> bool
@@ -30,10 +32,10 @@ fn is_misdeclared(given: &Signature) -> bool
 }
 
 /// Tells whether one of the declarations is wrong so.
-pub fn are_misdeclared(signatures: &[Signature]) -> bool
-    ensures { result ≡ list_any is_misdeclared (map seen signatures.now) }
+pub fn are_misdeclared(declarations: &Declarations) -> bool
+    ensures { result ≡ list_any is_misdeclared (signatures (defs declarations.now)) }
 {
-    for given in signatures {
+    for given in declarations.signatures() {
         if is_misdeclared(given) {
             return true;
         }

@@ -1,17 +1,16 @@
-ghost use Rattle.std.specs.Prelude.{◌≡◌, Err, IfOk, [], ◌∷◌};
+ghost use Rattle.std.specs.Prelude.{◌≡◌, Err, IfOk};
 ghost use Rattle.isle_core.specs.declared.types.TypeEnv.{TypeEnv as TheTypes};
 ghost use Rattle.isle_core.specs.Rule.{Environment};
 ghost use Rattle.isle_core.specs.RuleViews.{environment};
 ghost use Rattle.isle_syntax.specs.Views.{defs as seen};
-ghost use Rattle.isle_sema.specs.Builtins.{builtins};
+ghost use Rattle.isle_sema.specs.Environment.{types_of};
 ghost use Rattle.isle_sema.specs.Typing.{TypesFrom, Typed, TypedOnly};
 
 use crate::bound_once::any_binds_twice;
-use crate::interning::definitions;
 use crate::language::are_built_forms;
-use crate::symbols::Symbols;
 use crate::term_env::term_env;
 use isle_core::{BuiltinType, IntType, List, TermEnv, TypeDef, TypeEnv};
+use isle_declarations::Declarations;
 use isle_syntax::Def;
 use std::alloc::{AllocError, Global};
 
@@ -34,12 +33,12 @@ impl From<AllocError> for EnvError {
     }
 }
 
-// The types over these symbols, without constants.
-fn types_over(alloc: Global, symbols: &Symbols) -> Result<TypeEnv, AllocError>
-    ensures { IfOk result (λ env. env ≡ record { syms = symbols.now; types = builtins; consts = [] }) }
+// The symbols, types and constants of definitions; of types and constants none is built.
+fn types_of(alloc: Global, declarations: &Declarations) -> Result<TypeEnv, AllocError>
+    ensures { IfOk result (λ env. env ≡ types_of (seen declarations.now)) }
 {
     Ok(TypeEnv {
-        syms: List::new(symbols.texts(alloc)?),
+        syms: List::new(declarations.symbols(alloc)?),
         types: List::new(vec![in alloc;
             TypeDef::Builtin(BuiltinType::Bool),
             TypeDef::Builtin(BuiltinType::Int(IntType::U8)),
@@ -68,11 +67,11 @@ pub fn type_env_from_ast(alloc: Global, defs: &[Def]) -> Result<TypeEnv, EnvErro
     if !are_built_forms(defs) {
         return Err(EnvError::NotYet);
     }
-    let collected = definitions(alloc, defs)?;
-    if any_binds_twice(alloc, collected.rules.as_slice())? {
+    let declarations = Declarations::gather(alloc, defs)?;
+    if any_binds_twice(alloc, &declarations)? {
         return Err(EnvError::NotYet);
     }
-    Ok(types_over(alloc, &collected.symbols)?)
+    Ok(types_of(alloc, &declarations)?)
 }
 
 /// Types the terms, rules and converters of the definitions, whose types are given (`specs/Typing.antt`). `NotYet` comes as
@@ -84,8 +83,8 @@ pub fn term_env_from_ast(alloc: Global, env: &TypeEnv, defs: &[Def]) -> Result<T
     ensures not_yet { result ≡ Err EnvError.NotYet → (all : Environment) → Typed (seen defs.now) all → ⊥ }
 {
     let _given = env;
-    let collected = definitions(alloc, defs)?;
-    match term_env(alloc, defs, &collected)? {
+    let declarations = Declarations::gather(alloc, defs)?;
+    match term_env(alloc, &declarations)? {
         Some(terms) => Ok(terms),
         None => Err(EnvError::NotYet),
     }
@@ -100,12 +99,12 @@ pub fn env_from_ast(alloc: Global, defs: &[Def]) -> Result<(TypeEnv, TermEnv), E
     if !are_built_forms(defs) {
         return Err(EnvError::NotYet);
     }
-    let collected = definitions(alloc, defs)?;
-    if any_binds_twice(alloc, collected.rules.as_slice())? {
+    let declarations = Declarations::gather(alloc, defs)?;
+    if any_binds_twice(alloc, &declarations)? {
         return Err(EnvError::NotYet);
     }
-    match term_env(alloc, defs, &collected)? {
-        Some(terms) => Ok((types_over(alloc, &collected.symbols)?, terms)),
+    match term_env(alloc, &declarations)? {
+        Some(terms) => Ok((types_of(alloc, &declarations)?, terms)),
         None => Err(EnvError::NotYet),
     }
 }

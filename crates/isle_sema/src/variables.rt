@@ -1,11 +1,11 @@
 //! The variables that patterns bind, with the types that they are bound at.
 
 ghost use Rattle.std.specs.Prelude.{◌≡◌, [], IfOk, OnOk, option_map};
-ghost use Rattle.isle_sema.specs.Symbols.{index_of};
+ghost use Rattle.isle_declarations.specs.Symbols.{index_of};
 ghost use Rattle.isle_sema.specs.Scope.{scope_names, bound_at, met};
 
-use crate::symbols::Symbols;
 use isle_core::{Text, TypeId};
+use isle_declarations::Symbols;
 use std::alloc::{AllocError, Global};
 use std::marker::Model;
 

@@ -4,43 +4,54 @@ use Rattle.std.specs.Int.{w128}
 use Rattle.isle_core.specs.RuleViews.{expr as elaborated, exprs_of as elaborated_of}
 use Rattle.isle_syntax.specs.Tree as tree
 use Rattle.isle_syntax.specs.Views.{expr, exprs_of, defs as seen}
-use Rattle.isle_sema.specs.Signatures.{signatures, term_named}
-use Rattle.isle_sema.specs.Whole.{declared, ret_type}
-use Rattle.isle_sema.specs.Environment.{whole_of}
-use Rattle.isle_sema.specs.ExprPass.{call_tree, expr_pass, exprs_pass}
-use Rattle.isle_sema.specs.Judging.{judge_all}
-use Rattle.isle_sema.proofs.Sees.{expr-number, expr-name}
-use Rattle.isle_sema.proofs.LookUps.{got}
-use Rattle.isle_sema.proofs.RuleLaws.{number_of}
+use Rattle.isle_declarations.specs.Signatures.{signatures, term_named}
+use Rattle.isle_sema.specs.Whole.{declared, arg_types, ret_type}
+use Rattle.isle_sema.specs.ExprPass.{integer_tree, call_tree, expr_pass, exprs_pass}
+use Rattle.isle_sema.specs.ElaboratedAt.{expr_trees}
+use Rattle.isle_sema.specs.Known.{whole}
+use Rattle.isle_sema.specs.declared.judged.Judged.{Judged}
+use Rattle.isle_sema.specs.Site.{CalledAt}
+use Rattle.isle_sema.specs.Judging.{judge, judge_all}
+use Rattle.isle_sema.proofs.CallLaws.{counted}
+use Rattle.isle_declarations.proofs.Sees.{expr-number, expr-name}
+use Rattle.isle_declarations.proofs.LookUps.{got}
+use Rattle.isle_sema.proofs.RuleLaws.{number_is}
 use Rattle.isle_sema.proofs.Steps.{exprs_before, same_cond, exprs_more, expr_more, expr_missing, exprs_all}
 use Rattle.isle_sema.proofs.elaborated_exprs.+exprs.Goals.{exprs_at-in-Some+in_ok-push-in-Some, exprs_at-in-None, exprs_at-then-complete, exprs_at-else-complete}
 use Rattle.isle_sema.proofs.elaborated_exprs.+exprs.Goals as goal
 
-pub call_at-returns-clause-tree : goal.call_at-returns-clause-tree
-call_at-returns-clause-tree t c =
-    let w = whole_of (seen c.args.known.now) in
+pub call_at-returns : goal.call_at-returns
+call_at-returns t c =
+    let w = whole c.args.known.now in
     let o = declared w c.args.name.now in
     let es = exprs_of (map expr c.args.args.now) in
-    let trees : option_map (λ xs. elaborated_of (map elaborated xs.items)) c.in_ok-typed.typed ≡ (exprs_pass w c.args.vars.now (map Some c.argument_types.result.now) es).trees = c.in_ok-typed.ensures.trees in
-    c.call_of.ensures (seen c.args.known.now) o c.called-callee.ensures ∙ ap (λ n. call_tree (ret_type w o) n (option_map (λ xs. elaborated_of (map elaborated xs.items)) c.in_ok-typed.typed)) (number_of (signatures (seen c.args.known.now)) c.args.name.now)
-    ∙ ap (call_tree (ret_type w o) (term_named (signatures (seen c.args.known.now)) c.args.name.now)) (trees ∙ ap (λ os. (exprs_pass w c.args.vars.now os es).trees) (sym (c.argument_types.ensures (seen c.args.known.now) o c.called-callee.ensures)))
+    let types : map Some c.argument_types.result.now ≡ arg_types w o = sym (c.argument_types.ensures w o c.called-callee.ensures) in
+    record {
+      tree = c.call_of.ensures w o c.called-callee.ensures ∙ ap (λ n. call_tree (ret_type w o) n (expr_trees c.in_ok-typed.typed)) (number_is (signatures w.defs) c.args.name.now)
+          ∙ ap (call_tree (ret_type w o) (term_named (signatures w.defs) c.args.name.now)) (c.in_ok-typed.ensures.trees ∙ ap (λ os. (exprs_pass w c.args.vars.now os es).trees) types);
+      sites = c.in_ok-typed.ensures.sites ∙ ap (λ os. judge_all w c.called.new.self (exprs_pass w c.args.vars.now os es).sites) types
+          ∙ ap (λ (j : Judged). judge_all w j (exprs_pass w c.args.vars.now (arg_types w o) es).sites) (c.called.ensures w o c.called-callee.ensures ∙ ap (λ n. judge w c.args.judged.now (CalledAt c.args.expected o n)) (sym (counted c.args.args.now)));
+    }
 
-pub expr_at-returns-in-Int-clause-tree : goal.expr_at-returns-in-Int-clause-tree
-expr_at-returns-in-Int-clause-tree t c =
-    let is : expr c.args.e.now ≡ tree.Number c.in-Int.n = ap expr c.in-Int.is ∙ expr-number c.in-Int.n in
+pub expr_at-returns-in-Int : goal.expr_at-returns-in-Int
+expr_at-returns-in-Int t c =
+    let is : tree.Number c.in-Int.n ≡ expr c.args.e.now = sym (ap expr c.in-Int.is ∙ expr-number c.in-Int.n) in
     let same : to_z w128 (of_z w128 c.in-Int.n) ≡ c.in-Int.n = search rules in
-    let w = whole_of (seen c.args.known.now) in
-    c.integer_at.ensures (seen c.args.known.now) ∙ ap (λ n. (expr_pass w c.args.vars.now c.args.expected (tree.Number n)).tree) same ∙ ap (λ q. (expr_pass w c.args.vars.now c.args.expected q).tree) (sym is)
+    let w = whole c.args.known.now in
+    record {
+      tree = c.integer_at.ensures (seen c.args.known.now) ∙ ap (integer_tree w.types c.args.expected) same ∙ ap (λ q. (expr_pass w c.args.vars.now c.args.expected q).tree) is;
+      sites = c.integer.ensures (seen c.args.known.now) ∙ ap (λ q. judge_all w c.args.judged.now (expr_pass w c.args.vars.now c.args.expected q).sites) is;
+    }
 
-pub expr_at-returns-in-Var-clause-tree : goal.expr_at-returns-in-Var-clause-tree
-expr_at-returns-in-Var-clause-tree t c =
-    let is : expr c.args.e.now ≡ tree.Name c.in-Var.name = ap expr c.in-Var.is ∙ expr-name c.in-Var.name in
-    c.variable_at.ensures.tree (seen c.args.known.now) ∙ ap (λ q. (expr_pass (whole_of (seen c.args.known.now)) c.args.vars.now c.args.expected q).tree) (sym is)
-
-pub expr_at-returns-in-Var-clause-sites : goal.expr_at-returns-in-Var-clause-sites
-expr_at-returns-in-Var-clause-sites t c =
-    let is : expr c.args.e.now ≡ tree.Name c.in-Var.name = ap expr c.in-Var.is ∙ expr-name c.in-Var.name in
-    c.variable_at.ensures.sites (seen c.args.known.now) ∙ ap (λ q. judge_all (whole_of (seen c.args.known.now)) c.args.judged.now (expr_pass (whole_of (seen c.args.known.now)) c.args.vars.now c.args.expected q).sites) (sym is)
+pub expr_at-returns-in-Var : goal.expr_at-returns-in-Var
+expr_at-returns-in-Var t c =
+    let is : tree.Name c.in-Var.name ≡ expr c.args.e.now = sym (ap expr c.in-Var.is ∙ expr-name c.in-Var.name) in
+    let w = whole c.args.known.now in
+    let v = c.variable_at.ensures (seen c.args.known.now) in
+    record {
+      tree = v.tree ∙ ap (λ q. (expr_pass w c.args.vars.now c.args.expected q).tree) is;
+      sites = v.sites ∙ ap (λ q. judge_all w c.args.judged.now (expr_pass w c.args.vars.now c.args.expected q).sites) is;
+    }
 
 pub exprs_at-loop-index-preserved : goal.exprs_at-loop-index-preserved
 exprs_at-loop-index-preserved t c =
@@ -57,10 +68,14 @@ exprs_at-loop-index-preserved t c =
           ∙ same_cond (exprs_before (map elaborated c.match-branch-3.typed.items) rest) false c.match-branch-3.complete (sym w.complete-is)) c.loop-index.invariant
     ]
 
-pub exprs_at-returns-clause-trees : goal.exprs_at-returns-clause-trees
-exprs_at-returns-clause-trees t c =
+pub exprs_at-returns : goal.exprs_at-returns
+exprs_at-returns t c =
     let all = exprs_all (seen c.args.known.now) c.args.types.now c.args.vars.now c.args.es.now c.loop-index.index c.args.judged.now c.loop-index.judged c.loop-index.typed.items c.loop-index.complete _ (search rules) c.loop-index.invariant in
-    elim c.if-complete.branch [
-      | exprs_at-then-complete w ↦ ap (option_map (λ xs. elaborated_of (map elaborated xs.items))) w.result-is ∙ sym (all.0 ∙ same_cond (Some (elaborated_of (map elaborated c.loop-index.typed.items))) c.loop-index.complete true w.if-complete.true)
-      | exprs_at-else-complete w ↦ ap (option_map (λ xs. elaborated_of (map elaborated xs.items))) w.result-is ∙ sym (all.0 ∙ same_cond (Some (elaborated_of (map elaborated c.loop-index.typed.items))) c.loop-index.complete false w.if-complete.false)
-    ]
+    let made = Some (elaborated_of (map elaborated c.loop-index.typed.items)) in
+    record {
+      trees = elim c.if-complete.branch [
+        | exprs_at-then-complete w ↦ ap expr_trees w.result-is ∙ sym (all.0 ∙ same_cond made c.loop-index.complete true w.if-complete.true)
+        | exprs_at-else-complete w ↦ ap expr_trees w.result-is ∙ sym (all.0 ∙ same_cond made c.loop-index.complete false w.if-complete.false)
+      ];
+      sites = sym all.1;
+    }

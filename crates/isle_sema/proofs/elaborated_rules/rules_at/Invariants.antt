@@ -2,11 +2,12 @@ use Rattle.std.proofs.Common.{◌≡◌, map}
 use Rattle.std.specs.Prelude.{drop}
 use Rattle.isle_core.specs.RuleViews.{rule as elaborated_rule}
 use Rattle.isle_syntax.specs.Views.{defs as seen}
-use Rattle.isle_sema.specs.Collected.{rule}
-use Rattle.isle_sema.specs.Environment.{whole_of}
+use Rattle.isle_declarations.specs.Signatures.{rule_defs}
+use Rattle.isle_declarations.specs.Collected.{rule}
+use Rattle.isle_sema.specs.Known.{whole}
 use Rattle.isle_sema.specs.Taken.{taken_rules}
 use Rattle.isle_sema.proofs.Steps.{before}
 use Rattle.isle_sema.proofs.elaborated_rules.rules_at.Given as goal
 
 abbrev pub invariant-loop-number : goal.invariant-loop-number
-invariant-loop-number l = taken_rules (whole_of (seen l.known)) 0 (map rule l.given) ≡ before (map elaborated_rule l.rules.items) (taken_rules (whole_of (seen l.known)) l.number (map rule (drop l.number l.given)))
+invariant-loop-number l = taken_rules (whole l.known) 0 (rule_defs (seen l.known)) ≡ before (map elaborated_rule l.rules.items) (taken_rules (whole l.known) l.number (map rule (drop l.number l.given)))

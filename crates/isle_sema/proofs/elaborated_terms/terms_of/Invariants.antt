@@ -1,7 +1,12 @@
-use Rattle.std.proofs.Common.{◌≡◌, map, take}
-use Rattle.isle_sema.specs.Collected.{signature, extern, rule}
-use Rattle.isle_sema.specs.Elaborated.{term_of}
+use Rattle.std.proofs.Common.{◌≡◌, map}
+use Rattle.std.specs.Prelude.{drop}
+use Rattle.isle_syntax.specs.Views.{defs}
+use Rattle.isle_declarations.specs.Signatures.{signatures}
+use Rattle.isle_declarations.specs.Collected.{signature}
+use Rattle.isle_sema.specs.Environment.{terms_pass}
+use Rattle.isle_sema.specs.Known.{whole}
+use Rattle.isle_sema.proofs.Steps.{before}
 use Rattle.isle_sema.proofs.elaborated_terms.terms_of.Given as goal
 
 abbrev pub invariant-loop-signature : goal.invariant-loop-signature
-invariant-loop-signature l = l.terms.items ≡ map (term_of l.d.symbols (map extern l.d.externs.items) (map rule l.d.rules.items)) (map signature (take l.signature-index l.signatures))
+invariant-loop-signature l = terms_pass (whole l.declarations) (signatures (defs l.declarations)) ≡ before l.terms.items (terms_pass (whole l.declarations) (map signature (drop l.signature-index l.signatures)))

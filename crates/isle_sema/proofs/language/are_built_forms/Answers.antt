@@ -1,6 +1,6 @@
 use Rattle.std.proofs.Common.{rules, true, false, ◌+◌, sym, ap, ◌∙◌}
 use Rattle.std.specs.Prelude.{◌&&◌}
-use Rattle.isle_sema.proofs.Forms.{forms_from, forms_more}
+use Rattle.isle_sema.proofs.FormSteps.{forms_from, forms_more}
 use Rattle.isle_sema.proofs.language.are_built_forms.Goals as goal
 
 pub returns-then-not-is_built_form : goal.returns-then-not-is_built_form

@@ -1,5 +1,5 @@
 use Rattle.std.proofs.Common.{◌≡◌}
-use Rattle.isle_sema.proofs.Forms.{forms_from}
+use Rattle.isle_sema.proofs.FormSteps.{forms_from}
 use Rattle.isle_sema.proofs.language.are_built_forms.Given as goal
 
 abbrev pub invariant-loop-d : goal.invariant-loop-d

@@ -1,6 +1,6 @@
 use Rattle.std.proofs.Common.{rules, true, false, ◌+◌, sym, ap, ◌∙◌}
 use Rattle.std.specs.Prelude.{◌&&◌}
-use Rattle.isle_sema.proofs.Forms.{built_from, built_more}
+use Rattle.isle_sema.proofs.FormSteps.{built_from, built_more}
 use Rattle.isle_sema.proofs.language.are_built_patterns.Goals as goal
 
 pub returns-then-not-is_built_pattern : goal.returns-then-not-is_built_pattern

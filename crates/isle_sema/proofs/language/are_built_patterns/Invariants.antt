@@ -1,5 +1,5 @@
 use Rattle.std.proofs.Common.{◌≡◌}
-use Rattle.isle_sema.proofs.Forms.{built_from}
+use Rattle.isle_sema.proofs.FormSteps.{built_from}
 use Rattle.isle_sema.proofs.language.are_built_patterns.Given as goal
 
 abbrev pub invariant-loop-p : goal.invariant-loop-p

@@ -1,14 +1,17 @@
-use Rattle.std.proofs.Common.{◌≡◌, rules, true, false, None, Some, map, ap, sym, ◌∙◌, subst}
+use Rattle.std.proofs.Common.{◌≡◌, rules, List, true, false, None, Some, sym, subst}
 use Rattle.std.specs.List.{list_all, list_any}
 use Rattle.isle_core.specs.RuleViews.{environment}
 use Rattle.isle_core.specs.declared.types.TypeEnv.{TypeEnv}
+use Rattle.isle_syntax.specs.declared.tree.Def.{Def}
 use Rattle.isle_syntax.specs.Views.{defs as seen}
-use Rattle.isle_sema.specs.Collected.{rule}
-use Rattle.isle_sema.specs.Forms.{is_built_form}
+use Rattle.isle_declarations.specs.Signatures.{rule_defs}
+use Rattle.isle_sema.specs.BuiltForm.{is_built_form}
+use Rattle.isle_sema.specs.Language.{is_built_def}
+use Rattle.isle_sema.specs.Environment.{types_of}
 use Rattle.isle_sema.specs.Tests.{binds_twice}
 use Rattle.isle_sema.specs.Typing.{Typed}
-use Rattle.isle_sema.specs.Taken.{Gives}
-use Rattle.isle_sema.proofs.BuiltForms.{types_from, built_from}
+use Rattle.isle_sema.specs.Taken.{IsTermEnvOf}
+use Rattle.isle_sema.proofs.BuiltForms.{built_from}
 use Rattle.isle_sema.proofs.Givings.{unformed_untyped, twice_untyped}
 use Rattle.isle_sema.proofs.TypedOnce.{typed_only}
 use Rattle.isle_sema.proofs.typing.env_from_ast.Goals as goal
@@ -22,23 +25,26 @@ returns-then-not-are_built_forms-clause-not_yet c =
 pub returns-then-branch-clause-not_yet : goal.returns-then-branch-clause-not_yet
 returns-then-branch-clause-not_yet c =
     λ e env t.
-    let twice : list_any binds_twice (map rule c.in_ok-collected.collected.rules.items) ≡ true = search rules in
-    twice_untyped (seen c.args.defs.now) (ap (list_any binds_twice) (sym c.in_ok-collected.ensures.ruled) ∙ twice) env t
+    let twice : list_any binds_twice (rule_defs (seen c.args.defs.now)) ≡ true = search rules in
+    twice_untyped (seen c.args.defs.now) twice env t
 
-pub term_env-requires-clause-built : goal.term_env-requires-clause-built
-term_env-requires-clause-built c =
+pub term_env-requires : goal.term_env-requires
+term_env-requires c =
+    let is : c.in_ok-declarations.declarations ≡ c.args.defs.now = c.in_ok-declarations.ensures in
     let forms : list_all is_built_form (seen c.args.defs.now) ≡ true = search rules in
-    let once : list_any binds_twice (map rule c.in_ok-collected.collected.rules.items) ≡ false = search rules in
-    built_from (seen c.args.defs.now) forms (ap (list_any binds_twice) (sym c.in_ok-collected.ensures.ruled) ∙ once)
+    let once : list_any binds_twice (rule_defs (seen c.args.defs.now)) ≡ false = search rules in
+    subst (λ (ds : List Def). list_all is_built_def (seen ds) ≡ true) (sym is) (built_from (seen c.args.defs.now) forms once)
 
 pub returns-in-Some-clause-ok : goal.returns-in-Some-clause-ok
 returns-in-Some-clause-ok c =
-    let given : Gives (seen c.args.defs.now) (Some c.in-Some.terms) = search rules in
-    typed_only (subst (λ (types : TypeEnv). Typed (seen c.args.defs.now) (environment types c.in-Some.terms))
-    (sym (c.in_ok-types_over-in-Some.ensures ∙ types_from (seen c.args.defs.now) c.in_ok-collected.collected.symbols c.in_ok-collected.collected.signatures.items c.in_ok-collected.collected.externs.items c.in_ok-collected.collected.rules.items c.in_ok-collected.ensures)) given)
+    let is : c.in_ok-declarations.declarations ≡ c.args.defs.now = c.in_ok-declarations.ensures in
+    let types : types_of (seen c.args.defs.now) ≡ c.in_ok-types_of-in-Some.field-0 = search rules in
+    let given : IsTermEnvOf (seen c.in_ok-declarations.declarations) (Some c.in-Some.terms) = search rules in
+    typed_only (subst (λ (ts : TypeEnv). Typed (seen c.args.defs.now) (environment ts c.in-Some.terms)) types (subst (λ (ds : List Def). IsTermEnvOf (seen ds) (Some c.in-Some.terms)) is given))
 
 pub returns-clause-not_yet : goal.returns-clause-not_yet
 returns-clause-not_yet c =
     λ e env t.
-    let none : Gives (seen c.args.defs.now) None = search rules in
-    none env t
+    let is : c.in_ok-declarations.declarations ≡ c.args.defs.now = c.in_ok-declarations.ensures in
+    let none : IsTermEnvOf (seen c.in_ok-declarations.declarations) None = search rules in
+    subst (λ (ds : List Def). IsTermEnvOf (seen ds) None) is none env t

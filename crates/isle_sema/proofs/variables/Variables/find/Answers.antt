@@ -1,10 +1,10 @@
 use Rattle.std.proofs.Common.{◌≡◌, rules, ap, sym, ◌∙◌, Some, None, length, ◌≤◌, arith}
 use Rattle.std.specs.Prelude.{option_map, slice_get}
 use Rattle.std.specs.List.{zip}
-use Rattle.isle_sema.specs.Symbols.{index_of}
+use Rattle.isle_declarations.specs.Symbols.{index_of}
 use Rattle.isle_sema.specs.Scope.{Scope, scope_names, bound_at}
-use Rattle.isle_sema.proofs.LookUps.{at_place, there, past}
-use Rattle.isle_sema.proofs.NumberLaws.{index_below}
+use Rattle.isle_declarations.proofs.LookUps.{at_place, there, past}
+use Rattle.isle_declarations.proofs.SymbolLaws.{index_below}
 use Rattle.isle_sema.proofs.VariableLaws.{zip_names, bound_place}
 use Rattle.isle_sema.proofs.variables.Variables.find.Goals as goal
 

@@ -2,7 +2,7 @@ use Rattle.std.proofs.Common.{◌≡◌, rules, ap, sym, ◌∙◌, ◌∷◌, [
 use Rattle.std.specs.Prelude.{option_map}
 use Rattle.std.specs.List.{zip}
 use Rattle.std.proofs.lemmas.List.{length-append}
-use Rattle.isle_sema.specs.Symbols.{index_of, added}
+use Rattle.isle_declarations.specs.Symbols.{index_of, added}
 use Rattle.isle_sema.specs.Scope.{Scope, scope_names, met}
 use Rattle.isle_sema.proofs.VariableLaws.{zip_names, added_new, met_first}
 use Rattle.isle_sema.proofs.variables.Variables.meet.Goals as goal

@@ -1,0 +1,10 @@
+pub mod SymbolLaws
+pub mod PlaceLaws
+pub mod Sees
+pub mod LookUps
+pub mod NumberLaws
+pub mod Interned
+pub mod Gathered
+pub mod DistinctNames
+pub mod DeclaredNames
+pub mod FuncNumbers

@@ -1,0 +1,42 @@
+use Rattle.std.proofs.Common.{◌≡◌, rules, None, Some, List, refl, ap, sym, ◌∙◌, subst}
+use Rattle.std.specs.Prelude.{option_map, slice_get}
+use Rattle.std.specs.Option.{option_copied}
+use Rattle.isle_syntax.specs.declared.tree.Def.{Def}
+use Rattle.isle_syntax.specs.Views.{defs as seen}
+use Rattle.isle_declarations.specs.declared.collected.Extern.{Extern}
+use Rattle.isle_declarations.specs.Signatures.{externs}
+use Rattle.isle_declarations.specs.Heads.{extern_terms}
+use Rattle.isle_declarations.specs.Symbols.{index_of}
+use Rattle.isle_declarations.specs.Tables.{AreTables}
+use Rattle.isle_declarations.proofs.LookUps.{got, there}
+use Rattle.isle_declarations.proofs.FuncNumbers.{func_found, func_absent}
+use Rattle.isle_declarations.proofs.declarations.Declarations.func.Goals as goal
+
+pub returns-in_err-place : goal.returns-in_err-place
+returns-in_err-place c =
+    λ name e.
+    let nothing : c.external.result ≡ None = search rules in
+    c.from_residual.ensures ∙ func_absent (seen c.args.self.now) name (sym (c.external.ensures name e) ∙ nothing)
+
+pub returns-in_err-found : goal.returns-in_err-found
+returns-in_err-found c =
+    λ name e.
+    let known = subst (λ (ds : List Def). AreTables (seen ds) c.self.inside.given c.self.inside.declared c.self.inside.external c.self.inside.ruled) c.self.view_is c.self.invariant in
+    let nothing : c.get.result ≡ None = search rules in
+    let place : Some c.in_ok-place.place ≡ c.external.result = search rules in
+    let items : c.deref.result.now ≡ c.self.inside.given.externs.items = search rules in
+    let h = c.get.ensures.lookup in
+    let past : slice_get c.deref.result.now c.in_ok-place.place ≡ None = sym (got c.deref.result.now c.in_ok-place.place c.get.result h.1 h.3) ∙ ap option_copied nothing in
+    c.from_residual-in_err-found.ensures ∙ sym (ap (option_map (λ (x : Extern). x.func_number)) (ap (λ (xs : List Extern). slice_get xs c.in_ok-place.place) (sym items) ∙ past))
+    ∙ func_found (seen c.args.self.now) c.self.inside.given name (Some c.in_ok-place.place) known.collected (place ∙ c.external.ensures name e)
+
+pub returns : goal.returns
+returns c =
+    λ name e.
+    let known = subst (λ (ds : List Def). AreTables (seen ds) c.self.inside.given c.self.inside.declared c.self.inside.external c.self.inside.ruled) c.self.view_is c.self.invariant in
+    let place : Some c.in_ok-place.place ≡ c.external.result = search rules in
+    let items : c.deref.result.now ≡ c.self.inside.given.externs.items = search rules in
+    let h = c.get.ensures.lookup in
+    let is = there c.deref.result.now c.in_ok-place.place c.get.result c.in_ok-found.found h.1 h.3 (search rules) in
+    sym (ap (option_map (λ (x : Extern). x.func_number)) (ap (λ (xs : List Extern). slice_get xs c.in_ok-place.place) (sym items) ∙ is))
+    ∙ func_found (seen c.args.self.now) c.self.inside.given name (Some c.in_ok-place.place) known.collected (place ∙ c.external.ensures name e)

@@ -1,0 +1,87 @@
+-- What contracts see of the collected declarations and rules.
+use Rattle.std.specs.Prelude.{◌≡◌, ℕ, List, [], ◌∷◌, map, option_map, option_to_list}
+use Rattle.isle_syntax.specs.Tree.{Def}
+use Rattle.isle_syntax.specs.Views.{pattern, expr, iflet}
+use Rattle.isle_declarations.specs.declared.collected.Signature.{Signature as CodeSignature}
+use Rattle.isle_declarations.specs.declared.collected.RuleDef.{RuleDef as CodeRule}
+use Rattle.isle_declarations.specs.declared.collected.Extern.{Extern as CodeExtern}
+use Rattle.isle_declarations.specs.declared.collected.Definitions.{Definitions}
+use Rattle.isle_declarations.specs.declared.collected.Item.{Item}
+use Rattle.isle_declarations.specs.declared.collected.Item.TheVariants as item
+use Rattle.isle_declarations.specs.Symbols.{symbols}
+use Rattle.isle_declarations.specs.Signatures.{Signature, Extern, RuleDef, signature_of, extern_of, rule_of, signatures, externs, rule_defs}
+use Rattle.isle_declarations.specs.Numbered.{AreNumbered}
+
+-- a declaration
+abbrev pub signature : CodeSignature → Signature
+signature s = record { term = s.term.now; pure = s.pure; multi = s.multi; partial = s.partial; recursive = s.recursive; args = s.args.now; ret = s.ret.now; pos = s.pos }
+
+-- an external constructor
+abbrev pub extern : CodeExtern → Extern
+extern x = record { term = x.term.now; func = x.func.now }
+
+-- a rule
+abbrev pub rule : CodeRule → RuleDef
+rule r = record { name = option_map (λ n. n.now) r.name; prio = r.prio; term = r.term.now; args = map pattern r.args.now; iflets = map iflet r.iflets.now; rhs = expr r.rhs.now; pos = r.pos }
+
+-- the declaration that an item is
+abbrev pub item_signatures : Item → List CodeSignature
+item_signatures (item.Declared s) = s ∷ []
+item_signatures (item.External x) = []
+item_signatures (item.Rule r) = []
+item_signatures item.Other = []
+
+-- the external constructor that it is
+abbrev pub item_externs : Item → List CodeExtern
+item_externs (item.Declared s) = []
+item_externs (item.External x) = x ∷ []
+item_externs (item.Rule r) = []
+item_externs item.Other = []
+
+-- the rule that it is
+abbrev pub item_rules : Item → List CodeRule
+item_rules (item.Declared s) = []
+item_rules (item.External x) = []
+item_rules (item.Rule r) = r ∷ []
+item_rules item.Other = []
+
+-- the numbers of the names are those among these symbols
+pub record HaveNumbers (syms : List (List ℕ)) (sigs : List CodeSignature) (xs : List CodeExtern) (rules : List CodeRule) : Type 0 where
+  pub of_signatures : AreNumbered syms (map (λ (s : CodeSignature). s.term.now) sigs) (map (λ (s : CodeSignature). s.number) sigs)
+  pub of_externs : AreNumbered syms (map (λ (x : CodeExtern). x.term.now) xs) (map (λ (x : CodeExtern). x.number) xs)
+  pub of_funcs : AreNumbered syms (map (λ (x : CodeExtern). x.func.now) xs) (map (λ (x : CodeExtern). x.func_number) xs)
+  pub of_rules : AreNumbered syms (map (λ (r : CodeRule). r.term.now) rules) (map (λ (r : CodeRule). r.number) rules)
+
+-- the same of all that was gathered
+abbrev pub AreAllNumbered : Definitions → Type 0
+AreAllNumbered given = HaveNumbers given.symbols given.signatures.items given.externs.items given.rules.items
+
+-- the item is what the definition is, with numbers among these symbols
+pub record IsItem (syms : List (List ℕ)) (d : Def) (i : Item) : Type 0 where
+  pub declared : map signature (item_signatures i) ≡ option_to_list (signature_of d)
+  pub external : map extern (item_externs i) ≡ option_to_list (extern_of d)
+  pub ruled : map rule (item_rules i) ≡ option_to_list (rule_of d)
+  pub numbers : HaveNumbers syms (item_signatures i) (item_externs i) (item_rules i)
+
+-- the symbols, declarations, external constructors and rules of definitions, with their numbers
+pub record AreCollected (defs : List Def) (given : Definitions) : Type 0 where
+  pub named : given.symbols ≡ symbols defs
+  pub declared : map signature given.signatures.items ≡ signatures defs
+  pub external : map extern given.externs.items ≡ externs defs
+  pub ruled : map rule given.rules.items ≡ rule_defs defs
+  pub numbers : AreAllNumbered given
+
+-- the declarations of definitions, with the numbers of their names
+pub record AreSignatures (defs : List Def) (sigs : List CodeSignature) : Type 0 where
+  pub seen : map signature sigs ≡ signatures defs
+  pub numbered : AreNumbered (symbols defs) (map (λ (s : CodeSignature). s.term.now) sigs) (map (λ (s : CodeSignature). s.number) sigs)
+
+-- their external constructors, with the numbers of their terms
+pub record AreExterns (defs : List Def) (xs : List CodeExtern) : Type 0 where
+  pub seen : map extern xs ≡ externs defs
+  pub numbered : AreNumbered (symbols defs) (map (λ (x : CodeExtern). x.term.now) xs) (map (λ (x : CodeExtern). x.number) xs)
+
+-- their rules, with the numbers of their heads
+pub record AreRules (defs : List Def) (rules : List CodeRule) : Type 0 where
+  pub seen : map rule rules ≡ rule_defs defs
+  pub numbered : AreNumbered (symbols defs) (map (λ (r : CodeRule). r.term.now) rules) (map (λ (r : CodeRule). r.number) rules)

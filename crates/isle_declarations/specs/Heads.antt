@@ -1,0 +1,15 @@
+-- The names of declarations, of rules' terms and of external constructors' terms.
+use Rattle.std.specs.Prelude.{ℕ, List, map}
+use Rattle.isle_declarations.specs.Signatures.{Signature, Extern, RuleDef}
+
+-- the names of declarations
+abbrev pub terms_of : List Signature → List (List ℕ)
+terms_of sigs = map (λ (s : Signature). s.term) sigs
+
+-- the heads of rules
+abbrev pub heads_of : List RuleDef → List (List ℕ)
+heads_of rules = map (λ (r : RuleDef). r.term) rules
+
+-- the terms of external constructors
+abbrev pub extern_terms : List Extern → List (List ℕ)
+extern_terms xs = map (λ (x : Extern). x.term) xs

@@ -1,0 +1,98 @@
+-- The declarations, external constructors and rules among definitions.
+use Rattle.std.specs.Prelude.{ℕ, ℤ, List, Bool, Option, Some, None, map, filter_map, option_map, find}
+use Rattle.std.specs.List.{list_any}
+use Rattle.std.specs.Str.{bytes_eq}
+use Rattle.isle_core.specs.declared.position.Pos.{Pos}
+use Rattle.isle_core.specs.declared.TermId.{TermId}
+use Rattle.isle_syntax.specs.Tree.{Pattern, Expr, IfLet, Def, TypeDecl, Decl, ExternConstructor, ExternExtractor, ExternConst, Extractor, Converter, Rule, Passed}
+use Rattle.isle_declarations.specs.Symbols.{index_of}
+
+-- a declaration
+pub record Signature : Type 0 where
+  pub term : List ℕ
+  pub pure : Bool
+  pub multi : Bool
+  pub partial : Bool
+  pub recursive : Bool
+  pub args : List (List ℕ)
+  pub ret : List ℕ
+  pub pos : Pos
+
+-- an external constructor
+pub record Extern : Type 0 where
+  pub term : List ℕ
+  pub func : List ℕ
+
+-- a rule
+pub record RuleDef : Type 0 where
+  pub name : Option (List ℕ)
+  pub prio : ℤ
+  pub term : List ℕ
+  pub args : List Pattern
+  pub iflets : List IfLet
+  pub rhs : Expr
+  pub pos : Pos
+
+-- the declaration that a definition is
+abbrev pub signature_of : Def → Option Signature
+signature_of (Decl term pure multi partial recursive args ret pos) = Some (record { term = term; pure = pure; multi = multi; partial = partial; recursive = recursive; args = args; ret = ret; pos = pos })
+signature_of (TypeDecl name is_extern is_nodebug body pos) = None
+signature_of (ExternConstructor term func pos) = None
+signature_of (ExternExtractor term func infallible pos) = None
+signature_of (ExternConst name ty pos) = None
+signature_of (Extractor term params template pos) = None
+signature_of (Converter from to term pos) = None
+signature_of (Rule name prio term args iflets rhs pos) = None
+signature_of (Passed head items pos) = None
+
+-- the external constructor that a definition is
+abbrev pub extern_of : Def → Option Extern
+extern_of (ExternConstructor term func pos) = Some (record { term = term; func = func })
+extern_of (TypeDecl name is_extern is_nodebug body pos) = None
+extern_of (Decl term pure multi partial recursive args ret pos) = None
+extern_of (ExternExtractor term func infallible pos) = None
+extern_of (ExternConst name ty pos) = None
+extern_of (Extractor term params template pos) = None
+extern_of (Converter from to term pos) = None
+extern_of (Rule name prio term args iflets rhs pos) = None
+extern_of (Passed head items pos) = None
+
+-- the rule that a definition is
+abbrev pub rule_of : Def → Option RuleDef
+rule_of (Rule name prio term args iflets rhs pos) = Some (record { name = name; prio = prio; term = term; args = args; iflets = iflets; rhs = rhs; pos = pos })
+rule_of (TypeDecl name is_extern is_nodebug body pos) = None
+rule_of (Decl term pure multi partial recursive args ret pos) = None
+rule_of (ExternConstructor term func pos) = None
+rule_of (ExternExtractor term func infallible pos) = None
+rule_of (ExternConst name ty pos) = None
+rule_of (Extractor term params template pos) = None
+rule_of (Converter from to term pos) = None
+rule_of (Passed head items pos) = None
+
+-- the declarations, in order
+abbrev pub signatures : List Def → List Signature
+signatures = filter_map signature_of
+
+-- the external constructors, in order
+abbrev pub externs : List Def → List Extern
+externs = filter_map extern_of
+
+-- the rules, in order
+abbrev pub rule_defs : List Def → List RuleDef
+rule_defs = filter_map rule_of
+
+-- the declaration of a name
+abbrev pub signature_named : List Signature → List ℕ → Option Signature
+signature_named sigs name = find (λ (s : Signature). bytes_eq s.term name) sigs
+
+-- the term that a declaration names
+abbrev pub term_named : List Signature → List ℕ → Option TermId
+term_named sigs name = option_map (λ (n : ℕ). record { 0 = n }) (index_of (map (λ (s : Signature). s.term) sigs) name)
+
+-- the first function of an external constructor for a term of the name
+abbrev pub func_named : List Extern → List ℕ → Option (List ℕ)
+func_named xs name = option_map (λ (x : Extern). x.func) (find (λ (x : Extern). bytes_eq x.term name) xs)
+
+-- whether a term of the name has a rule
+abbrev pub has_rule : List RuleDef → List ℕ → Bool
+has_rule rules name = list_any (λ (r : RuleDef). bytes_eq r.term name) rules

@@ -1,0 +1,137 @@
+//! Declarations, external constructors and rules, looked up by the numbers of their names.
+
+ghost use Rattle.std.specs.Prelude.{◌≡◌, IfOk};
+ghost use Rattle.isle_syntax.specs.Views.{defs as seen};
+ghost use Rattle.isle_declarations.specs.Symbols.{index_of, symbols};
+ghost use Rattle.isle_declarations.specs.Signatures.{signatures, externs, rule_defs};
+ghost use Rattle.isle_declarations.specs.Heads.{terms_of, extern_terms, heads_of};
+ghost use Rattle.isle_declarations.specs.Collected.{AreSignatures, AreExterns, AreRules};
+ghost use Rattle.isle_declarations.specs.Tables.{IsFirstPlace, IsFuncNumber, any_repeat};
+
+use crate::collected::{Definitions, Extern, RuleDef, Signature};
+use crate::first_places::{FirstPlaces, place_in};
+use crate::interning::definitions;
+use crate::tables::{declared_places, external_places, ruled_places};
+use isle_core::Text;
+use isle_syntax::Def;
+use std::alloc::{AllocError, Global};
+use std::marker::Model;
+
+/// The declarations, external constructors and rules of definitions, with the numbers of their names. Contracts see the
+/// definitions.
+#[derive(Drop)]
+pub struct Declarations<'d> {
+    defs: &'d [Def],
+    given: Definitions<'d>,
+    declared: FirstPlaces,
+    external: FirstPlaces,
+    ruled: FirstPlaces,
+}
+
+impl<'d> Model for Declarations<'d> {
+    ghost use Rattle.std.specs.Prelude.{List};
+    ghost use Rattle.std.specs.Coded.{codes};
+    ghost use Rattle.isle_syntax.specs.contracts.tree.Def as d;
+    ghost use Rattle.isle_syntax.specs.declared.tree.Def.{Def};
+    ghost use Rattle.isle_syntax.specs.Views.{defs as seen};
+    ghost use Rattle.isle_declarations.specs.Tables.{AreTables};
+
+    ghost Value = { List Def };
+
+    ghost coded = { Prim.hlevel (codes, d.the_row.coded) };
+
+    ghost view = { λ k. k.defs.now };
+
+    ghost invariant = { λ k. AreTables (seen k.defs.now) k.given k.declared k.external k.ruled };
+}
+
+impl<'d> Declarations<'d> {
+    /// Gathers what is declared in definitions. The only error is want of memory.
+    pub fn gather(alloc: Global, defs: &'d [Def]) -> Result<Declarations<'d>, AllocError>
+        ensures { IfOk result (λ found. found ≡ defs.now) }
+    {
+        let given = definitions(alloc, defs)?;
+        let declared = declared_places(alloc, &given)?;
+        let external = external_places(alloc, &given)?;
+        let ruled = ruled_places(alloc, &given)?;
+        Ok(Declarations {
+            defs,
+            given,
+            declared,
+            external,
+            ruled,
+        })
+    }
+
+    /// Copies the symbols, in order.
+    pub fn symbols(&self, alloc: Global) -> Result<Vec<Text>, AllocError>
+        ensures { IfOk result (λ texts. texts.items ≡ symbols (seen self.now)) }
+    {
+        self.given.symbols.texts(alloc)
+    }
+
+    /// Returns the number of a name, where it is a symbol.
+    pub fn number(&self, name: &Text) -> Option<usize>
+        ensures { result ≡ index_of (symbols (seen self.now)) name.now }
+    {
+        self.given.symbols.find(name.as_str())
+    }
+
+    /// Returns the declarations, in order.
+    pub fn signatures(&self) -> &[Signature<'d>]
+        ensures { AreSignatures (seen self.now) result.now }
+    {
+        self.given.signatures.as_slice()
+    }
+
+    /// Returns the external constructors, in order.
+    pub fn externs(&self) -> &[Extern<'d>]
+        ensures { AreExterns (seen self.now) result.now }
+    {
+        self.given.externs.as_slice()
+    }
+
+    /// Returns the rules, in order.
+    pub fn rules(&self) -> &[RuleDef<'d>]
+        ensures { AreRules (seen self.now) result.now }
+    {
+        self.given.rules.as_slice()
+    }
+
+    /// Returns the place of the first declaration of the name of this number.
+    pub fn declaration(&self, number: usize) -> Option<usize>
+        ensures { IsFirstPlace (seen self.now) number (terms_of (signatures (seen self.now))) result }
+    {
+        place_in(self.declared.table.as_slice(), number)
+    }
+
+    /// Returns the place of the first external constructor of the term whose name has this number.
+    pub fn external(&self, number: usize) -> Option<usize>
+        ensures { IsFirstPlace (seen self.now) number (extern_terms (externs (seen self.now))) result }
+    {
+        place_in(self.external.table.as_slice(), number)
+    }
+
+    /// Returns the place of the first rule of the term whose name has this number.
+    pub fn rule(&self, number: usize) -> Option<usize>
+        ensures { IsFirstPlace (seen self.now) number (heads_of (rule_defs (seen self.now))) result }
+    {
+        place_in(self.ruled.table.as_slice(), number)
+    }
+
+    /// Returns the number of the function of the external constructor of the term whose name has this number.
+    pub fn func(&self, number: usize) -> Option<usize>
+        ensures { IsFuncNumber (seen self.now) number result }
+    {
+        let place = self.external(number)?;
+        let found = self.given.externs.get(place)?;
+        Some(found.func_number)
+    }
+
+    /// Tells whether two declarations, external constructors or rules are of one term.
+    pub fn any_repeat(&self) -> bool
+        ensures { result ≡ any_repeat (seen self.now) }
+    {
+        self.declared.repeats || self.external.repeats || self.ruled.repeats
+    }
+}

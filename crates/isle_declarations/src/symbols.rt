@@ -1,0 +1,92 @@
+//! Names, numbered where they are met first.
+
+ghost use Rattle.std.specs.Prelude.{◌≡◌, Some, [], IfOk, OnOk, OnErr, length};
+ghost use Rattle.isle_declarations.specs.LookedUp.{texts};
+ghost use Rattle.isle_declarations.specs.Symbols.{index_of, added};
+
+use isle_core::Text;
+use std::alloc::{AllocError, Global};
+use std::collections::BTreeMap;
+use std::marker::Model;
+
+/// The names of definitions by their first places, each once. Contracts see them as their list.
+#[derive(Drop)]
+pub struct Symbols<'d> {
+    names: Vec<&'d str>,
+    places: BTreeMap<&'d str, usize>,
+}
+
+impl<'d> Model for Symbols<'d> {
+    ghost use Rattle.std.specs.Prelude.{List, ℕ};
+    ghost use Rattle.isle_declarations.specs.LookedUp.{texts, FindsFirst};
+
+    ghost Value = { List (List ℕ) };
+
+    ghost view = { λ s. texts s.names.items };
+
+    ghost invariant = { λ s. FindsFirst (texts s.names.items) s.places };
+}
+
+impl<'d> Symbols<'d> {
+    /// Makes a table without names.
+    pub fn new(alloc: Global) -> Symbols<'d>
+        ensures { result ≡ [] }
+    {
+        Symbols {
+            names: Vec::new(alloc),
+            places: BTreeMap::new(alloc),
+        }
+    }
+
+    /// Returns how many names there are.
+    pub fn len(&self) -> usize
+        ensures { result ≡ length self.now }
+    {
+        self.names.len()
+    }
+
+    /// Returns the number of a name, the next one where it is met first. The only error is want of memory.
+    pub fn intern(&mut self, name: &'d str) -> Result<usize, AllocError>
+        ensures place { IfOk result (λ place. index_of self.new name.now ≡ Some place) }
+        ensures names { OnOk result (self.new ≡ added self.old name.now) }
+        ensures err { OnErr result (self.new ≡ self.old) }
+    {
+        if let Some(place) = self.places.get(name) {
+            return Ok(*place);
+        }
+        let place = self.names.len();
+        self.names.push(name)?;
+        match self.places.insert(name, place) {
+            Ok(_) => return Ok(place),
+            Err(_) => {
+                self.names.pop();
+                return Err(AllocError);
+            }
+        }
+    }
+
+    /// Returns the number of a name, where it is there.
+    pub fn find(&self, name: &str) -> Option<usize>
+        ensures { result ≡ index_of self.now name.now }
+    {
+        self.places.get(name).copied()
+    }
+
+    /// Copies of the names, in order.
+    pub fn texts(&self, alloc: Global) -> Result<Vec<Text>, AllocError>
+        ensures { IfOk result (λ copies. copies.items ≡ self.now) }
+    {
+        copies(alloc, self.names.as_slice())
+    }
+}
+
+// Copies of texts.
+fn copies(alloc: Global, names: &[&str]) -> Result<Vec<Text>, AllocError>
+    ensures { IfOk result (λ copies. copies.items ≡ texts names.now) }
+{
+    let mut copies = Vec::with_capacity(alloc, names.len())?;
+    for name in names {
+        copies.push(Text::new(String::from_str(alloc, name)?))?;
+    }
+    Ok(copies)
+}

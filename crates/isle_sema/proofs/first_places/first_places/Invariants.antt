@@ -1,5 +1,0 @@
-use Rattle.isle_sema.proofs.NumberLaws.{ArePut}
-use Rattle.isle_sema.proofs.first_places.first_places.Given as goal
-
-abbrev pub invariant-loop-place : goal.invariant-loop-place
-invariant-loop-place l = ArePut l.numbers l.count l.place l.places.items
