@@ -6,3 +6,4 @@ pub mod SideLaws
 pub mod ApartLaws
 pub mod WithinLaws
 pub mod FirstLaws
+pub mod FlatTests

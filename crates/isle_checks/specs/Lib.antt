@@ -2,3 +2,5 @@ pub mod Bears
 pub mod Makes
 pub mod Sides
 pub mod Firsts
+pub mod RuleChecks
+pub mod CheckList

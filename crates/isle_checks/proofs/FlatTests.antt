@@ -1,0 +1,119 @@
+-- The constraints of a flat rule are the tests of its rule.
+use Rattle.std.proofs.Common.{◌≡◌, ◌⊎◌, inl, inr, ⊎_elim, ℕ, zero, suc, ◌<◌, List, [], ◌∷◌, ◌++◌, length, map, get_or, Option, Some, None, refl, sym, ap, ◌∙◌, subst, arith}
+use Rattle.std.specs.Prelude.{Contains, All, slice_get}
+use Rattle.std.specs.List.{AllByRecursion}
+use Rattle.std.proofs.lemmas.List.Elements.{Contains-append_left, Contains-append_right, Contains-append_cases, recursion_from_All}
+use Rattle.isle_core.specs.declared.BindingId.{BindingId}
+use Rattle.isle_core.specs.declared.rule_sets.Constraint.{Constraint}
+use Rattle.isle_core.specs.declared.rule_sets.FlatRule.{FlatRule}
+use Rattle.isle_core.specs.Pattern as pattern
+use Rattle.isle_core.specs.Pattern.{Pattern}
+use Rattle.isle_core.specs.Path.{Path, Nowhere, Arg, at}
+use Rattle.isle_core.specs.Tests.{Test, Is, Equal, Never, Places, no_places, met_tests, tests, after, args_tests, iflets_tests, rule_tests}
+use Rattle.isle_core.specs.RuleSet.{is_test, equal_test, flat_tests}
+use Rattle.isle_core.specs.StandsFor.{EachOnce, IsTrivial, IsFlat}
+use Rattle.isle_core.specs.BuiltRule.{IsBuiltPattern, IsBuiltRule}
+use Rattle.isle_core.specs.Rule.{Environment, Rule}
+use Rattle.isle_core.proofs.Contained.{head_contained, tail_contained, contained_cases, none_contained}
+use Rattle.isle_core.proofs.SetMeans.{without_iflets}
+use Rattle.isle_checks.specs.Bears.{Constraints, HasOther, Agree, IsAmong, AreAmong}
+use Rattle.isle_checks.proofs.PlacedLaws.{only_one}
+
+-- ---- paths that are tested are somewhere
+
+is_path : (p q : Path) (c d : Constraint) → Is p c ≡ Is q d → p ≡ q
+is_path p q c d e = cc
+
+is_constraint : (p q : Path) (c d : Constraint) → Is p c ≡ Is q d → c ≡ d
+is_constraint p q c d e = cc
+
+arg_somewhere : (n : ℕ) (p : Path) → Arg n ≡ p → p ≡ Nowhere → ⊥
+arg_somewhere n p e h = cc
+
+met_none : (o : Option Path) (q p : Path) (c : Constraint) → Contains (met_tests o q) (Is p c) → ⊥
+met_none None q p c h = none_contained (Is p c) h
+met_none (Some x) q p c h = let e = only_one (Equal x q) (Is p c) h in cc
+
+pattern_somewhere : (env : Environment) (q : Pattern) (n : ℕ) (places : Places) (p : Path) (c : Constraint) → IsBuiltPattern q → Contains (tests env q (Arg n) places) (Is p c) → p ≡ Nowhere → ⊥
+pattern_somewhere env (pattern.Var ty x) n places p c b h e = met_none (places x.0) (Arg n) p c h
+pattern_somewhere env (pattern.ConstBool v) n places p c b h e = arg_somewhere n p (is_path _ _ _ _ (only_one _ _ h)) e
+pattern_somewhere env (pattern.ConstInt ty v) n places p c b h e = arg_somewhere n p (is_path _ _ _ _ (only_one _ _ h)) e
+pattern_somewhere env (pattern.Wildcard ty) n places p c b h e = none_contained (Is p c) h
+pattern_somewhere env (pattern.BindPattern ty x q) n places p c b h e = absurd b
+pattern_somewhere env (pattern.ConstPrim ty name) n places p c b h e = absurd b
+pattern_somewhere env (pattern.Term ty term qs) n places p c b h e = absurd b
+pattern_somewhere env (pattern.And ty qs) n places p c b h e = absurd b
+
+args_somewhere : (env : Environment) (qs : List Pattern) (n : ℕ) (places : Places) (p : Path) (c : Constraint) → AllByRecursion IsBuiltPattern qs → Contains (args_tests env qs n places) (Is p c) → p ≡ Nowhere → ⊥
+args_somewhere env [] n places p c b h e = none_contained (Is p c) h
+args_somewhere env (q ∷ qs) n places p c b h e =
+    ⊎_elim (λ k. pattern_somewhere env q n places p c b.0 k e) (λ k. args_somewhere env qs (suc n) (after env q (Arg n) places) p c b.1 k e) (Contains-append_cases (tests env q (Arg n) places) (args_tests env qs (suc n) (after env q (Arg n) places)) (Is p c) h)
+
+pub somewhere : (env : Environment) (r : Rule) (p : Path) (c : Constraint) → IsBuiltRule r → Contains (rule_tests env r) (Is p c) → p ≡ Nowhere → ⊥
+somewhere env r p c b h e = args_somewhere env r.args 0 no_places p c (recursion_from_All IsBuiltPattern r.args b.args) (subst (λ ts. Contains ts (Is p c)) (without_iflets env r b.iflets) h) e
+
+-- ---- a path stands at one place
+
+there_of : (ps : List Path) (i : ℕ) (p : Path) → get_or ps i Nowhere ≡ p → (p ≡ Nowhere → ⊥) → slice_get ps i ≡ Some p
+there_of [] i p e n = absurd (n (sym e))
+there_of (q ∷ ps) zero p e n = ap Some e
+there_of (q ∷ ps) (suc i) p e n = there_of ps i p e n
+
+contains_at : (ps : List Path) (i : ℕ) (p : Path) → slice_get ps i ≡ Some p → Contains ps p
+contains_at [] i p e = cc
+contains_at (q ∷ ps) zero p e = subst (Contains (q ∷ ps)) (some_same q p e) (head_contained q ps)
+  where
+    some_same : (x y : Path) → Some x ≡ Some y → x ≡ y
+    some_same x y e' = cc
+contains_at (q ∷ ps) (suc i) p e = tail_contained q ps p (contains_at ps i p e)
+
+one_place : (ps : List Path) (i j : ℕ) (p : Path) → EachOnce ps → slice_get ps i ≡ Some p → slice_get ps j ≡ Some p → i ≡ j
+one_place [] i j p once e h = cc
+one_place (q ∷ ps) zero zero p once e h = refl
+one_place (q ∷ ps) zero (suc j) p once e h = absurd (once.0 (subst (Contains ps) (some_same p q (sym e)) (contains_at ps j p h)))
+  where
+    some_same : (x y : Path) → Some x ≡ Some y → x ≡ y
+    some_same x y e' = cc
+one_place (q ∷ ps) (suc i) zero p once e h = absurd (once.0 (subst (Contains ps) (some_same p q (sym h)) (contains_at ps i p e)))
+  where
+    some_same : (x y : Path) → Some x ≡ Some y → x ≡ y
+    some_same x y e' = cc
+one_place (q ∷ ps) (suc i) (suc j) p once e h = ap suc (one_place ps i j p once.1 e h)
+
+pub same_binding : (ps : List Path) (b c : BindingId) (p : Path) → EachOnce ps → at ps b ≡ p → at ps c ≡ p → (p ≡ Nowhere → ⊥) → b ≡ c
+same_binding ps b c p once e h n = ap (λ k. record { 0 = k }) (one_place ps b.0 c.0 p once (there_of ps b.0 p e n) (there_of ps c.0 p h n))
+
+-- ---- constraints are tests
+
+-- a constraint on a binding of this path
+pub record BearsOn (ps : List Path) (xs : Constraints) (p : Path) (c : Constraint) : Type 0 where
+  pub binding : BindingId
+  pub path : at ps binding ≡ p
+  pub among : IsAmong xs (binding, c)
+
+bears_of : (ps : List Path) (xs : Constraints) (p : Path) (c : Constraint) → Contains (map (is_test ps) xs) (Is p c) → BearsOn ps xs p c
+bears_of ps [] p c h = absurd (none_contained (Is p c) h)
+bears_of ps (x ∷ xs) p c h = ⊎_elim
+    (λ (e : Is (at ps x.0) x.1 ≡ Is p c). record { binding = x.0; path = is_path _ _ _ _ e; among = inl (ap (λ d. (x.0, d)) (is_constraint _ _ _ _ e)) })
+    (λ k. let g = bears_of ps xs p c k in record { binding = g.binding; path = g.path; among = inr g.among })
+    (contained_cases (is_test ps x) (map (is_test ps) xs) (Is p c) h)
+
+no_equal : (ps : List Path) (es : List (BindingId × BindingId)) (p : Path) (c : Constraint) → Contains (map (equal_test ps) es) (Is p c) → ⊥
+no_equal ps [] p c h = none_contained (Is p c) h
+no_equal ps (e ∷ es) p c h = ⊎_elim (λ (k : Equal (at ps e.0) (at ps e.1) ≡ Is p c). cc) (λ k. no_equal ps es p c k) (contained_cases (equal_test ps e) (map (equal_test ps) es) (Is p c) h)
+
+among_tests : (ps : List Path) (xs : Constraints) (y : BindingId × Constraint) → IsAmong xs y → Contains (map (is_test ps) xs) (Is (at ps y.0) y.1)
+among_tests ps [] y h = absurd h
+among_tests ps (x ∷ xs) y h = ⊎_elim (λ (e : x ≡ y). subst (λ (z : BindingId × Constraint). Contains (map (is_test ps) (x ∷ xs)) (Is (at ps z.0) z.1)) e (head_contained (is_test ps x) (map (is_test ps) xs))) (λ k. tail_contained (is_test ps x) (map (is_test ps) xs) (Is (at ps y.0) y.1) (among_tests ps xs y k)) h
+
+module _ (env : Environment) (ps : List Path) (r : Rule) (n : ℕ) (f : FlatRule) (flat : IsFlat env ps r n f) where
+  -- a rule's test of a path is a constraint of its flat rule
+  pub bears : (p : Path) (c : Constraint) → Contains (rule_tests env r) (Is p c) → BearsOn ps f.constraints p c
+  bears p c h = ⊎_elim
+      (λ k. ⊎_elim (λ d. bears_of ps f.constraints p c d) (λ d. absurd (no_equal ps f.equals p c d)) (Contains-append_cases (map (is_test ps) f.constraints) (map (equal_test ps) f.equals) (Is p c) k))
+      (λ k. absurd k)
+      (flat.tested (Is p c) h)
+
+  -- and the other way round
+  pub tested_by : (y : BindingId × Constraint) → IsAmong f.constraints y → Contains (rule_tests env r) (Is (at ps y.0) y.1)
+  tested_by y h = (flat.no_other (Is (at ps y.0) y.1) (Contains-append_left (map (is_test ps) f.constraints) (map (equal_test ps) f.equals) (Is (at ps y.0) y.1) (among_tests ps f.constraints y h))).0

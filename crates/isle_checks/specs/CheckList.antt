@@ -1,0 +1,88 @@
+-- The errors of rules, in order.
+use Rattle.std.specs.Prelude.{◌≡◌, ℕ, zero, suc, List, [], ◌∷◌, ◌++◌, length, map, Option, Some, None, option_map, slice_get}
+use Rattle.isle_core.specs.declared.TermId.{TermId}
+use Rattle.isle_core.specs.declared.position.Pos.{Pos}
+use Rattle.isle_core.specs.declared.position.Span.{Span}
+use Rattle.isle_core.specs.declared.errors.Error.{Error}
+use Rattle.isle_core.specs.declared.errors.Error.TheVariants as error
+use Rattle.isle_core.specs.Terms.{with_rules}
+use Rattle.isle_core.specs.Rule.{Environment, Rule, rules_of}
+use Rattle.isle_checks.specs.Firsts.{IsFirst}
+use Rattle.isle_checks.specs.RuleChecks.{OverlapsAt, ShadowsAt}
+
+-- an error, its words aside: an earlier rule that a later one overlaps, or a rule that another one shadows
+pub data RuleError : Type 0 where
+  Overlap : (earlier later : Option Span) → RuleError
+  Shadowed : (shadowed mask : Option Span) → RuleError
+
+-- the span that begins and ends at a place
+abbrev pub single : Pos → Span
+single pos = record { from = pos; to = pos }
+
+-- where the rule at a place stands
+abbrev pub span_at : List Pos → ℕ → Option Span
+span_at ps i = option_map single (slice_get ps i)
+
+-- the overlap of the rule at a place with an earlier one, where there is one
+abbrev pub overlap_of : List Pos → ℕ → Option ℕ → List RuleError
+overlap_of ps j None = []
+overlap_of ps j (Some i) = Overlap (span_at ps i) (span_at ps j) ∷ []
+
+-- the rule at a place under the one that shadows it, where there is one
+abbrev pub shadow_of : List Pos → ℕ → Option ℕ → List RuleError
+shadow_of ps j None = []
+shadow_of ps j (Some i) = Shadowed (span_at ps j) (span_at ps i) ∷ []
+
+-- the errors of the rule at a place
+abbrev pub errors_of : List Pos → ℕ → (overlap shadow : Option ℕ) → List RuleError
+errors_of ps j overlap shadow = overlap_of ps j overlap ++ shadow_of ps j shadow
+
+-- the positions of rules
+abbrev pub positions : List Rule → List Pos
+positions rules = map (λ (r : Rule). r.pos) rules
+
+-- of the rule at a place these are the errors: the first earlier rule that overlaps it, then the first that shadows it.
+-- No rule of the built forms bears different constraints on one path, so none is unreachable by itself
+pub record AreErrorsAt (env : Environment) (rules : List Rule) (j : ℕ) (es : List RuleError) : Type 0 where
+  pub overlap : Option ℕ
+  pub first_overlap : IsFirst (λ i. OverlapsAt env rules i j) overlap
+  pub shadow : Option ℕ
+  pub first_shadow : IsFirst (λ i. ShadowsAt env rules i j) shadow
+  pub are : es ≡ errors_of (positions rules) j overlap shadow
+
+-- of the first n rules these are the errors, rule by rule
+abbrev pub AreErrorsBelow : Environment → List Rule → ℕ → List RuleError → Type 0
+AreErrorsBelow env rules zero es = es ≡ []
+AreErrorsBelow env rules (suc n) es = (front : List RuleError) × (last : List RuleError) × AreErrorsBelow env rules n front × AreErrorsAt env rules n last × (es ≡ front ++ last)
+
+-- of the rules of a term
+abbrev pub AreErrorsOf : Environment → List Rule → List RuleError → Type 0
+AreErrorsOf env rules es = AreErrorsBelow env rules (length rules) es
+
+-- of the rules of terms, term by term
+abbrev pub AreErrorsOfTerms : Environment → List TermId → List RuleError → Type 0
+AreErrorsOfTerms env [] es = es ≡ []
+AreErrorsOfTerms env (id ∷ ids) es = (first : List RuleError) × (more : List RuleError) × AreErrorsOf env (rules_of env id) first × AreErrorsOfTerms env ids more × (es ≡ first ++ more)
+
+-- of all rules of an environment
+abbrev pub IsCheckList : Environment → List RuleError → Type 0
+IsCheckList env es = AreErrorsOfTerms env (with_rules env) es
+
+-- what an error says beside its words; other kinds are none of these
+abbrev pub told_spans : List Span → Option RuleError
+told_spans [] = None
+told_spans (a ∷ []) = None
+told_spans (a ∷ b ∷ []) = Some (Overlap (Some a) (Some b))
+told_spans (a ∷ b ∷ c ∷ more) = None
+
+abbrev pub told : Error → Option RuleError
+told (error.OverlapError msg rules) = told_spans rules
+told (error.ShadowedError shadowed mask) = Some (Shadowed (Some shadowed) (Some mask))
+told (error.ParseError msg span) = None
+told (error.TypeError row msg span) = None
+told (error.UnreachableError msg span) = None
+told (error.RecursionError msg span) = None
+
+-- errors that say this, in order
+abbrev pub Tell : List Error → List RuleError → Type 0
+Tell errors es = map told errors ≡ map Some es
