@@ -30,12 +30,12 @@ record RuleAt (rules : List FlatRule) (i : ℕ) : Type 0 where
   rule : FlatRule
   at : slice_get rules i ≡ Some rule
 
-made_of : (check : Check) (i j : ℕ) (o p : Option FlatRule) → IsSomeAnd o (λ (f : FlatRule). IsSomeAnd p (λ (g : FlatRule). MakesOf check i f j g)) → (f : FlatRule) × (g : FlatRule) × (o ≡ Some f) × (p ≡ Some g) × MakesOf check i f j g
+pub made_of : (check : Check) (i j : ℕ) (o p : Option FlatRule) → IsSomeAnd o (λ (f : FlatRule). IsSomeAnd p (λ (g : FlatRule). MakesOf check i f j g)) → (f : FlatRule) × (g : FlatRule) × (o ≡ Some f) × (p ≡ Some g) × MakesOf check i f j g
 made_of check i j None p h = absurd h
 made_of check i j (Some f) None h = absurd h
 made_of check i j (Some f) (Some g) h = (f, g, refl, refl, h)
 
-at_of : (check : Check) (rules : List FlatRule) (i j : ℕ) (f g : FlatRule) → slice_get rules i ≡ Some f → slice_get rules j ≡ Some g → MakesOf check i f j g → MakesAt check rules i j
+pub at_of : (check : Check) (rules : List FlatRule) (i j : ℕ) (f g : FlatRule) → slice_get rules i ≡ Some f → slice_get rules j ≡ Some g → MakesOf check i f j g → MakesAt check rules i j
 at_of check rules i j f g e k m = subst (λ o. IsSomeAnd o (λ (x : FlatRule). IsSomeAnd (slice_get rules j) (λ (y : FlatRule). MakesOf check i x j y))) (sym e) (subst (λ o. IsSomeAnd o (λ (y : FlatRule). MakesOf check i f j y)) (sym k) m)
 
 module _ (check : Check) (rules : List FlatRule) (group : List Placed) (old new : Found) (placed : ArePlaced rules group) (f : Finds check group group old new) where

@@ -7,3 +7,5 @@ pub mod ApartLaws
 pub mod WithinLaws
 pub mod FirstLaws
 pub mod FlatTests
+pub mod CheckLaws
+pub mod ListChecks

@@ -4,3 +4,4 @@ pub mod Sides
 pub mod Firsts
 pub mod RuleChecks
 pub mod CheckList
+pub mod Errors
