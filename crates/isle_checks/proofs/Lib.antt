@@ -9,3 +9,4 @@ pub mod FirstLaws
 pub mod FlatTests
 pub mod CheckLaws
 pub mod ListChecks
+pub mod ErrorLaws

@@ -61,7 +61,7 @@ placed_more rules i group new b lt at is more h = subst (PlacedSoFar rules (i + 
         split (suc j) zero less' = absurd (omega (arith, less'))
         split (suc j) (suc i) less' = ⊎_elim (λ h. inl (omega (arith, h))) (λ h. inr (ap suc h)) (split j i (omega (arith, less')))
 
-length_of : {X : Type 0} (xs : List X) (i : ℕ) (x : X) → slice_get xs i ≡ Some x → i < length xs
+pub length_of : {X : Type 0} (xs : List X) (i : ℕ) (x : X) → slice_get xs i ≡ Some x → i < length xs
 length_of [] i x e = cc
 length_of (y ∷ ys) zero x e = omega arith
 length_of (y ∷ ys) (suc i) x e = let h = length_of ys i x e in omega (arith, h)

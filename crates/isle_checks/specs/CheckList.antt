@@ -1,10 +1,13 @@
 -- The errors of rules, in order.
-use Rattle.std.specs.Prelude.{◌≡◌, ℕ, zero, suc, List, [], ◌∷◌, ◌++◌, length, map, Option, Some, None, option_map, slice_get}
+use Rattle.std.specs.Prelude.{◌≡◌, ℕ, zero, suc, List, [], ◌∷◌, ◌++◌, length, map, Bool, false, MatchBool, Option, Some, None, option_map, slice_get}
+use Rattle.std.specs.Option.{option_map_or}
 use Rattle.isle_core.specs.declared.TermId.{TermId}
 use Rattle.isle_core.specs.declared.position.Pos.{Pos}
 use Rattle.isle_core.specs.declared.position.Span.{Span}
 use Rattle.isle_core.specs.declared.errors.Error.{Error}
 use Rattle.isle_core.specs.declared.errors.Error.TheVariants as error
+use Rattle.isle_core.specs.declared.types.Term.{Term}
+use Rattle.isle_core.specs.Calling.{kind_of, is_several}
 use Rattle.isle_core.specs.Terms.{with_rules}
 use Rattle.isle_core.specs.Rule.{Environment, Rule, rules_of}
 use Rattle.isle_checks.specs.Firsts.{IsFirst}
@@ -59,10 +62,18 @@ AreErrorsBelow env rules (suc n) es = (front : List RuleError) × (last : List R
 abbrev pub AreErrorsOf : Environment → List Rule → List RuleError → Type 0
 AreErrorsOf env rules es = AreErrorsBelow env rules (length rules) es
 
+-- a term answers several times
+abbrev pub is_multi : Environment → TermId → Bool
+is_multi env id = option_map_or (λ (t : Term). is_several (kind_of t.kind)) (slice_get env.terms id.0) false
+
+-- of a term's rules: those of a term that answers several times may overlap, and shadow each other
+abbrev pub AreErrorsOfTerm : Environment → TermId → List RuleError → Type 0
+AreErrorsOfTerm env id es = MatchBool (is_multi env id) (es ≡ []) (AreErrorsOf env (rules_of env id) es)
+
 -- of the rules of terms, term by term
 abbrev pub AreErrorsOfTerms : Environment → List TermId → List RuleError → Type 0
 AreErrorsOfTerms env [] es = es ≡ []
-AreErrorsOfTerms env (id ∷ ids) es = (first : List RuleError) × (more : List RuleError) × AreErrorsOf env (rules_of env id) first × AreErrorsOfTerms env ids more × (es ≡ first ++ more)
+AreErrorsOfTerms env (id ∷ ids) es = (first : List RuleError) × (more : List RuleError) × AreErrorsOfTerm env id first × AreErrorsOfTerms env ids more × (es ≡ first ++ more)
 
 -- of all rules of an environment
 abbrev pub IsCheckList : Environment → List RuleError → Type 0
@@ -86,3 +97,7 @@ told (error.RecursionError msg span) = None
 -- errors that say this, in order
 abbrev pub Tell : List Error → List RuleError → Type 0
 Tell errors es = map told errors ≡ map Some es
+
+-- errors that say what is wrong with the rules of these terms
+abbrev pub TellTerms : Environment → List TermId → List Error → Type 0
+TellTerms env ids errors = (es : List RuleError) × AreErrorsOfTerms env ids es × Tell errors es

@@ -2,6 +2,7 @@
 #![tactic(auto)]
 
 mod bears;
+mod errors;
 mod firsts;
 mod placed;
 mod splitter;

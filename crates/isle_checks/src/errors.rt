@@ -1,0 +1,86 @@
+//! The errors of the rules of a term.
+
+ghost use Rattle.std.specs.Prelude.{◌≡◌, ◌<◌, ◌≤◌, Some as SomeOf, length, IfOk, OnOk, IfSome};
+ghost use Rattle.isle_checks.specs.CheckList as list;
+ghost use Rattle.isle_checks.specs.CheckList.{told, single, overlap_of, shadow_of, errors_of};
+ghost use Rattle.isle_checks.specs.Errors.{places_of, Joined, JoinedOf};
+
+use crate::firsts::firsts;
+use crate::placed::Check;
+use isle_core::{Error, FlatRule, List, Pos, Span, Text};
+use std::alloc::{AllocError, Global};
+
+// The error of two rules that overlap.
+fn overlap_error(alloc: Global, earlier: Pos, later: Pos) -> Result<Error, AllocError>
+    ensures { IfOk result (λ e. told e ≡ SomeOf (list.Overlap (SomeOf (single earlier)) (SomeOf (single later)))) }
+{
+    let msg = Text::copied(alloc, "an earlier rule of the same priority matches too")?;
+    let rules = vec![in alloc; Span::new_single(earlier), Span::new_single(later)]?;
+    Ok(Error::OverlapError {
+        msg,
+        rules: List::new(rules),
+    })
+}
+
+// The error of a rule that another one shadows.
+fn shadow_error(shadowed: Pos, mask: Pos) -> Error
+    ensures { told result ≡ SomeOf (list.Shadowed (SomeOf (single shadowed)) (SomeOf (single mask))) }
+{
+    Error::ShadowedError {
+        shadowed: Span::new_single(shadowed),
+        mask: Span::new_single(mask),
+    }
+}
+
+// Adds the overlap of the rule at a place with an earlier one, where there is one.
+fn push_overlap(
+    alloc: Global,
+    rules: &[FlatRule],
+    place: usize,
+    earlier: Option<usize>,
+    errors: &mut Vec<Error>,
+) -> Result<(), AllocError>
+    requires place { place < length rules.now }
+    requires earlier { IfSome earlier (λ i. i < length rules.now) }
+    ensures { OnOk result (Joined errors.old.items errors.new.items (overlap_of (places_of rules.now) place earlier)) }
+{
+    if let Some(earlier) = earlier {
+        errors.push(overlap_error(alloc, rules[earlier].pos, rules[place].pos)?)?;
+    }
+    Ok(())
+}
+
+// Adds the rule at a place under the one that shadows it, where there is one.
+fn push_shadow(
+    rules: &[FlatRule],
+    place: usize,
+    mask: Option<usize>,
+    errors: &mut Vec<Error>,
+) -> Result<(), AllocError>
+    requires place { place < length rules.now }
+    requires mask { IfSome mask (λ i. i < length rules.now) }
+    ensures { OnOk result (Joined errors.old.items errors.new.items (shadow_of (places_of rules.now) place mask)) }
+{
+    if let Some(mask) = mask {
+        errors.push(shadow_error(rules[place].pos, rules[mask].pos))?;
+    }
+    Ok(())
+}
+
+/// Adds the errors of the rules of a term, rule by rule: the first earlier one that overlaps it, then the first that shadows
+/// it. The only error is want of memory.
+pub fn push_errors(
+    alloc: Global,
+    rules: &[FlatRule],
+    errors: &mut Vec<Error>,
+) -> Result<(), AllocError>
+    ensures { OnOk result (JoinedOf rules.now errors.old.items errors.new.items) }
+{
+    let overlaps = firsts(alloc, Check::Overlaps, rules)?;
+    let masks = firsts(alloc, Check::Shadows, rules)?;
+    for place in 0..rules.len() {
+        push_overlap(alloc, rules, place, overlaps[place], errors)?;
+        push_shadow(rules, place, masks[place], errors)?;
+    }
+    Ok(())
+}
