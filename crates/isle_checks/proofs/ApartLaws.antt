@@ -1,15 +1,14 @@
 -- Rules on different sides of a splitter make no error of each other.
-use Rattle.std.proofs.Common.{◌≡◌, ◌⊎◌, inl, inr, ⊎_elim, List, [], ◌∷◌, refl, sym, ap, ◌∙◌, subst, Ordering}
+use Rattle.std.proofs.Common.{◌≡◌, inl, inr, ⊎_elim, [], ◌∷◌, sym, ap, ◌∙◌, subst, Ordering}
 use Rattle.std.specs.Ordering.{int_cmp}
 use Rattle.isle_core.specs.declared.BindingId.{BindingId}
 use Rattle.isle_core.specs.declared.rule_sets.Constraint.{Constraint}
-use Rattle.isle_core.specs.declared.rule_sets.FlatRule.{FlatRule}
 use Rattle.isle_checks.specs.declared.placed.Check.{Check}
 use Rattle.isle_checks.specs.declared.placed.Check.TheVariants as check
 use Rattle.isle_checks.specs.declared.placed.Placed.{Placed}
 use Rattle.isle_checks.specs.declared.splitter.Splitter.{Splitter}
 use Rattle.isle_checks.specs.declared.splitter.Splitter.TheVariants as splitter
-use Rattle.isle_checks.specs.Bears.{Constraints, HasOther, Agree, IsAmong, AreAmong, IsSole}
+use Rattle.isle_checks.specs.Bears.{Constraints, HasOther, Agree, IsAmong, AreAmong}
 use Rattle.isle_checks.specs.Makes.{Makes}
 use Rattle.isle_checks.specs.Sides.{constraint_cmp, HasSide, TellsApart}
 

@@ -1,12 +1,12 @@
 -- A flat rule makes an error of another exactly where its rule does.
-use Rattle.std.proofs.Common.{◌≡◌, ◌⊎◌, inl, inr, ⊎_elim, ℕ, ◌<◌, List, [], ◌∷◌, ◌++◌, map, refl, sym, ap, ◌∙◌, subst}
-use Rattle.std.specs.Prelude.{◌↔◌, ◌<ℤ◌, Contains}
+use Rattle.std.proofs.Common.{◌≡◌, inl, inr, ⊎_elim, ℕ, ◌<◌, List, [], ◌∷◌, map, refl, sym, ap, ◌∙◌, subst}
+use Rattle.std.specs.Prelude.{Contains}
 use Rattle.std.proofs.lemmas.List.Elements.{Contains-append_right, Contains-append_cases}
 use Rattle.isle_core.specs.declared.BindingId.{BindingId}
 use Rattle.isle_core.specs.declared.rule_sets.Constraint.{Constraint}
 use Rattle.isle_core.specs.declared.rule_sets.FlatRule.{FlatRule}
-use Rattle.isle_core.specs.Path.{Path, Nowhere, at}
-use Rattle.isle_core.specs.Tests.{Test, Is, Equal, rule_tests}
+use Rattle.isle_core.specs.Path.{Path, at}
+use Rattle.isle_core.specs.Tests.{Is, Equal, rule_tests}
 use Rattle.isle_core.specs.RuleSet.{is_test, equal_test, flat_tests}
 use Rattle.isle_core.specs.StandsFor.{EachOnce, IsFlat}
 use Rattle.isle_core.specs.BuiltRule.{IsBuiltRule}
@@ -16,7 +16,7 @@ use Rattle.isle_checks.specs.Bears.{Constraints, IsOther, HasOther, Agree, IsAmo
 use Rattle.isle_checks.specs.Makes.{Overlap, Shadow}
 use Rattle.isle_checks.specs.RuleChecks.{Overlaps, EquatesNone, Shadows}
 use Rattle.isle_checks.proofs.ApartLaws.{other_among, agree_at, among_at}
-use Rattle.isle_checks.proofs.FlatTests.{somewhere, same_binding, BearsOn, bears, tested_by}
+use Rattle.isle_checks.proofs.FlatTests.{somewhere, same_binding, bears, tested_by}
 
 -- the other constraint
 record AnOther (xs : Constraints) (b : BindingId) (c : Constraint) : Type 0 where
@@ -60,14 +60,17 @@ module _ (env : Environment) (ps : List Path) (once : EachOnce ps) where
 
   module _ (q r : Rule) (m n : ℕ) (f g : FlatRule) (one : IsFlat env ps q m f) (other : IsFlat env ps r n g) (built : IsBuiltRule q) (also_built : IsBuiltRule r) where
     pub rules_overlap : (i j : ℕ) → Overlap i f j g → (i < j) × Overlaps env q r
-    rules_overlap i j h = (h.earlier, record {
-      prio = sym one.prio ∙ h.prio ∙ other.prio;
-      agree = λ p c d k l differ.
-          let x = bears env ps q m f one p c k in
-          let y = bears env ps r n g other p d l in
-          let same : y.binding ≡ x.binding = same_binding ps y.binding x.binding p once y.path x.path (somewhere env q p c built k) in
-          agree_at f.constraints g.constraints (x.binding, c) h.agree x.among (other_among g.constraints x.binding c d (subst (λ b. IsAmong g.constraints (b, d)) same y.among) (λ e. differ (sym e)));
-    })
+    rules_overlap i j h = (
+      h.earlier,
+      record {
+        prio = sym one.prio ∙ h.prio ∙ other.prio;
+        agree = λ p c d k l differ.
+            let x = bears env ps q m f one p c k in
+            let y = bears env ps r n g other p d l in
+            let same : y.binding ≡ x.binding = same_binding ps y.binding x.binding p once y.path x.path (somewhere env q p c built k) in
+            agree_at f.constraints g.constraints (x.binding, c) h.agree x.among (other_among g.constraints x.binding c d (subst (λ b. IsAmong g.constraints (b, d)) same y.among) (λ e. differ (sym e)));
+      },
+    )
 
     pub flats_overlap : (i j : ℕ) → i < j → Overlaps env q r → Overlap i f j g
     flats_overlap i j lt h = record {

@@ -1,13 +1,13 @@
 -- Finding, one rule after another, and one group after another.
 use Rattle.std.proofs.Common.{◌≡◌, ◌⊎◌, inl, inr, ⊎_elim, ℕ, ◌+◌, ◌<◌, ◌≤◌, List, [], ◌∷◌, ◌++◌, length, get_or, take, refl, sym, ap, ◌∙◌, subst, arith, Option, Some, None}
-use Rattle.std.specs.Prelude.{Contains, slice_get}
+use Rattle.std.specs.Prelude.{Contains}
 use Rattle.std.proofs.lemmas.List.{take_more}
 use Rattle.std.proofs.lemmas.List.Elements.{Contains-append_left, Contains-append_right, Contains-append_cases}
 use Rattle.isle_core.proofs.Contained.{head_contained, contained_cases, none_contained}
 use Rattle.isle_checks.specs.declared.placed.Check.{Check}
 use Rattle.isle_checks.specs.declared.placed.Placed.{Placed}
 use Rattle.isle_checks.specs.Makes.{Makes}
-use Rattle.isle_checks.specs.Firsts.{Found, Has, HasUpTo, Notes, After, IsMade, Finds, IsFirstMaker}
+use Rattle.isle_checks.specs.Firsts.{Found, Has, HasUpTo, After, IsMade, Finds, IsFirstMaker}
 
 -- no rule was looked at
 pub found_none : (check : Check) (makers : List Placed) (found : Found) → Finds check makers [] found found

@@ -1,22 +1,22 @@
 -- The constraints of a flat rule are the tests of its rule.
-use Rattle.std.proofs.Common.{◌≡◌, ◌⊎◌, inl, inr, ⊎_elim, ℕ, zero, suc, ◌<◌, List, [], ◌∷◌, ◌++◌, length, map, get_or, Option, Some, None, refl, sym, ap, ◌∙◌, subst, arith}
-use Rattle.std.specs.Prelude.{Contains, All, slice_get}
+use Rattle.std.proofs.Common.{◌≡◌, inl, inr, ⊎_elim, ℕ, zero, suc, List, [], ◌∷◌, map, get_or, Option, Some, None, refl, sym, ap, subst}
+use Rattle.std.specs.Prelude.{Contains, slice_get}
 use Rattle.std.specs.List.{AllByRecursion}
-use Rattle.std.proofs.lemmas.List.Elements.{Contains-append_left, Contains-append_right, Contains-append_cases, recursion_from_All}
+use Rattle.std.proofs.lemmas.List.Elements.{Contains-append_left, Contains-append_cases, recursion_from_All}
 use Rattle.isle_core.specs.declared.BindingId.{BindingId}
 use Rattle.isle_core.specs.declared.rule_sets.Constraint.{Constraint}
 use Rattle.isle_core.specs.declared.rule_sets.FlatRule.{FlatRule}
 use Rattle.isle_core.specs.Pattern as pattern
 use Rattle.isle_core.specs.Pattern.{Pattern}
 use Rattle.isle_core.specs.Path.{Path, Nowhere, Arg, at}
-use Rattle.isle_core.specs.Tests.{Test, Is, Equal, Never, Places, no_places, met_tests, tests, after, args_tests, iflets_tests, rule_tests}
-use Rattle.isle_core.specs.RuleSet.{is_test, equal_test, flat_tests}
-use Rattle.isle_core.specs.StandsFor.{EachOnce, IsTrivial, IsFlat}
+use Rattle.isle_core.specs.Tests.{Is, Equal, Places, no_places, met_tests, tests, after, args_tests, rule_tests}
+use Rattle.isle_core.specs.RuleSet.{is_test, equal_test}
+use Rattle.isle_core.specs.StandsFor.{EachOnce, IsFlat}
 use Rattle.isle_core.specs.BuiltRule.{IsBuiltPattern, IsBuiltRule}
 use Rattle.isle_core.specs.Rule.{Environment, Rule}
 use Rattle.isle_core.proofs.Contained.{head_contained, tail_contained, contained_cases, none_contained}
 use Rattle.isle_core.proofs.SetMeans.{without_iflets}
-use Rattle.isle_checks.specs.Bears.{Constraints, HasOther, Agree, IsAmong, AreAmong}
+use Rattle.isle_checks.specs.Bears.{Constraints, IsAmong}
 use Rattle.isle_checks.proofs.PlacedLaws.{only_one}
 
 -- ---- paths that are tested are somewhere

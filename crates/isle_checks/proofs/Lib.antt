@@ -10,3 +10,4 @@ pub mod FlatTests
 pub mod CheckLaws
 pub mod ListChecks
 pub mod ErrorLaws
+pub mod TermErrors

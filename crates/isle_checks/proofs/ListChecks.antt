@@ -1,9 +1,8 @@
 -- The errors of the rules of a term are those of its flat rules.
-use Rattle.std.proofs.Common.{◌≡◌, ◌⊎◌, inl, inr, ⊎_elim, ℕ, zero, suc, ◌+◌, ◌<◌, ◌≤◌, List, [], ◌∷◌, ◌++◌, length, map, Option, Some, None, refl, sym, ap, ◌∙◌, subst, arith}
-use Rattle.std.specs.Prelude.{Contains, IsSomeAnd, slice_get, slice_index_or}
+use Rattle.std.proofs.Common.{◌≡◌, ℕ, zero, suc, ◌+◌, ◌<◌, ◌≤◌, List, [], ◌∷◌, length, map, Option, Some, None, refl, sym, ap, ◌∙◌, subst, arith}
+use Rattle.std.specs.Prelude.{IsSomeAnd, slice_get, slice_index_or}
 use Rattle.std.specs.List.{AllByRecursion}
 use Rattle.isle_core.specs.declared.rule_sets.FlatRule.{FlatRule}
-use Rattle.isle_core.specs.declared.position.Pos.{Pos}
 use Rattle.isle_core.specs.Path.{Path}
 use Rattle.isle_core.specs.Calling.{impure}
 use Rattle.isle_core.specs.StandsFor.{EachOnce, IsFlat, AreFlat}
@@ -11,10 +10,10 @@ use Rattle.isle_core.specs.BuiltRule.{IsBuiltRule}
 use Rattle.isle_core.specs.Rule.{Environment, Rule}
 use Rattle.isle_checks.specs.declared.placed.Check.{Check}
 use Rattle.isle_checks.specs.declared.placed.Check.TheVariants as check
-use Rattle.isle_checks.specs.Makes.{MakesOf, MakesAt}
+use Rattle.isle_checks.specs.Makes.{MakesAt}
 use Rattle.isle_checks.specs.Firsts.{Found, IsFirst, AreFirstMakers}
 use Rattle.isle_checks.specs.RuleChecks.{OverlapsAt, ShadowsAt}
-use Rattle.isle_checks.specs.CheckList.{RuleError, errors_of, positions, AreErrorsAt, AreErrorsBelow}
+use Rattle.isle_checks.specs.CheckList.{errors_of, positions, AreErrorsBelow}
 use Rattle.isle_checks.specs.Errors.{errors_below}
 use Rattle.isle_checks.proofs.FirstLaws.{made_of, at_of}
 use Rattle.isle_checks.proofs.CheckLaws.{rules_overlap, flats_overlap, rules_shadow, flats_shadow}

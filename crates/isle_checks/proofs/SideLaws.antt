@@ -1,5 +1,5 @@
 -- Parting a group.
-use Rattle.std.proofs.Common.{◌≡◌, ◌⊎◌, inl, inr, ⊎_elim, ℕ, zero, suc, ◌+◌, ◌<◌, List, [], ◌∷◌, ◌++◌, length, get_or, take, refl, sym, ap, ◌∙◌, subst, arith, Option, Some, None, Ordering}
+use Rattle.std.proofs.Common.{◌≡◌, inl, inr, ⊎_elim, ℕ, zero, suc, ◌+◌, ◌<◌, List, [], ◌∷◌, ◌++◌, length, get_or, take, sym, ap, ◌∙◌, subst, arith, Option, Some, None, Ordering}
 use Rattle.std.specs.Prelude.{Contains}
 use Rattle.std.specs.declared.cmp.Ordering.TheVariants.{Less, Equal, Greater}
 use Rattle.std.proofs.lemmas.List.{take_more}
@@ -7,7 +7,7 @@ use Rattle.std.proofs.lemmas.List.Elements.{Contains-append_left, Contains-appen
 use Rattle.isle_core.proofs.Contained.{head_contained, contained_cases, none_contained}
 use Rattle.isle_checks.specs.declared.placed.Placed.{Placed}
 use Rattle.isle_checks.specs.declared.splitter.Splitter.{Splitter}
-use Rattle.isle_checks.specs.Sides.{HasSide, MaySide, Rises, ArePart, Sided, with_one, IsIn, AreParts}
+use Rattle.isle_checks.specs.Sides.{HasSide, MaySide, Rises, ArePart, Sided, with_one, AreParts}
 use Rattle.isle_checks.proofs.MakerLaws.{of_all}
 use Rattle.isle_checks.proofs.PlacedLaws.{only_one, rises_push}
 

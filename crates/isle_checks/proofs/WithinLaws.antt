@@ -1,12 +1,12 @@
 -- What was found in the parts of a group was found in the group.
-use Rattle.std.proofs.Common.{◌≡◌, ◌⊎◌, inl, inr, ⊎_elim, ℕ, List, ◌<◌, length, refl, sym, ◌∙◌, subst, arith, Ordering}
+use Rattle.std.proofs.Common.{◌≡◌, ◌⊎◌, inl, inr, ⊎_elim, ℕ, List, ◌<◌, length, sym, ◌∙◌, subst, Ordering}
 use Rattle.std.specs.Prelude.{Contains}
 use Rattle.std.specs.declared.cmp.Ordering.TheVariants.{Less, Equal, Greater}
 use Rattle.isle_checks.specs.declared.placed.Check.{Check}
 use Rattle.isle_checks.specs.declared.placed.Placed.{Placed}
 use Rattle.isle_checks.specs.declared.splitter.Splitter.{Splitter}
 use Rattle.isle_checks.specs.Makes.{Makes}
-use Rattle.isle_checks.specs.Sides.{HasSide, TellsApart, ArePart, Sided, IsIn, AreParts}
+use Rattle.isle_checks.specs.Sides.{HasSide, TellsApart, Sided, IsIn, AreParts}
 use Rattle.isle_checks.specs.Firsts.{Found, Has, HasUpTo, IsMade, Finds, AreBelow}
 use Rattle.isle_checks.proofs.FindLaws.{made_among, up_to_then}
 use Rattle.isle_checks.proofs.ApartLaws.{apart}

@@ -75,10 +75,6 @@ abbrev pub AreErrorsOfTerms : Environment → List TermId → List RuleError →
 AreErrorsOfTerms env [] es = es ≡ []
 AreErrorsOfTerms env (id ∷ ids) es = (first : List RuleError) × (more : List RuleError) × AreErrorsOfTerm env id first × AreErrorsOfTerms env ids more × (es ≡ first ++ more)
 
--- of all rules of an environment
-abbrev pub IsCheckList : Environment → List RuleError → Type 0
-IsCheckList env es = AreErrorsOfTerms env (with_rules env) es
-
 -- what an error says beside its words; other kinds are none of these
 abbrev pub told_spans : List Span → Option RuleError
 told_spans [] = None
@@ -101,3 +97,7 @@ Tell errors es = map told errors ≡ map Some es
 -- errors that say what is wrong with the rules of these terms
 abbrev pub TellTerms : Environment → List TermId → List Error → Type 0
 TellTerms env ids errors = (es : List RuleError) × AreErrorsOfTerms env ids es × Tell errors es
+
+-- errors that say what is wrong with the rules of an environment
+abbrev pub IsCheckList : Environment → List Error → Type 0
+IsCheckList env errors = TellTerms env (with_rules env) errors

@@ -5,3 +5,4 @@ pub mod Firsts
 pub mod RuleChecks
 pub mod CheckList
 pub mod Errors
+pub mod Built

@@ -4,5 +4,8 @@
 mod bears;
 mod errors;
 mod firsts;
+pub mod overlap;
 mod placed;
 mod splitter;
+
+pub use overlap::CheckError;

@@ -1,7 +1,7 @@
-use Rattle.std.proofs.Common.{rules, ◌<◌, length, subst, sym}
+use Rattle.std.proofs.Common.{rules, ◌<◌, subst, sym}
 use Rattle.isle_checks.specs.declared.placed.Check.TheVariants as check
 use Rattle.isle_checks.specs.Errors.{places_of}
-use Rattle.isle_checks.proofs.ErrorLaws.{maker_below, rule_joined, none_joined}
+use Rattle.isle_checks.proofs.ErrorLaws.{maker_below, rule_joined}
 use Rattle.isle_checks.proofs.errors.push_errors.Goals as goal
 
 pub push_overlap-requires-clause-earlier : goal.push_overlap-requires-clause-earlier

@@ -1,6 +1,4 @@
 use Rattle.std.proofs.Common.{rules}
-use Rattle.isle_checks.specs.Errors.{places_of, Joined}
-use Rattle.isle_checks.specs.CheckList.{overlap_of}
 use Rattle.isle_checks.proofs.ErrorLaws.{overlap_joined}
 use Rattle.isle_checks.proofs.errors.push_overlap.Goals as goal
 

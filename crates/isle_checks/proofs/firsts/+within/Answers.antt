@@ -1,4 +1,4 @@
-use Rattle.std.proofs.Common.{rules, ◌∙◌, ◌≡◌, ◌<◌, length, refl, arith}
+use Rattle.std.proofs.Common.{rules, ◌∙◌, ◌<◌, length, refl, arith}
 use Rattle.isle_checks.specs.Sides.{parts_of}
 use Rattle.isle_checks.proofs.WithinLaws.{found_within, below_part, others_below, same_long}
 use Rattle.isle_checks.proofs.firsts.+within.Goals as goal

@@ -1,6 +1,6 @@
-use Rattle.std.proofs.Common.{rules, ◌<◌, length, subst, sym}
+use Rattle.std.proofs.Common.{rules, ◌<◌, subst, sym}
 use Rattle.isle_checks.proofs.MakerLaws.{at_contained}
-use Rattle.isle_checks.proofs.FindLaws.{find_more, found_none}
+use Rattle.isle_checks.proofs.FindLaws.{find_more}
 use Rattle.isle_checks.proofs.firsts.compare.Goals as goal
 
 pub note_first-requires-clause-below : goal.note_first-requires-clause-below

@@ -1,4 +1,4 @@
-use Rattle.std.proofs.Common.{rules, length, replicate, ◌≡◌, ◌∙◌, ap, None}
+use Rattle.std.proofs.Common.{rules, length, ◌∙◌, ap, None}
 use Rattle.isle_checks.proofs.FirstLaws.{placed_below, long_replicate, are_firsts}
 use Rattle.isle_checks.proofs.firsts.firsts.Goals as goal
 

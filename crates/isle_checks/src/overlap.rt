@@ -1,0 +1,115 @@
+//! The checks of all rules.
+
+ghost use Rattle.std.specs.Prelude.{◌≡◌, ◌++◌, [], ◌∷◌, Err, IfOk, OnOk, All, map, slice_get, false};
+ghost use Rattle.std.specs.Option.{option_map_or};
+ghost use Rattle.isle_core.specs.declared.TermId.{TermId as TheId};
+ghost use Rattle.isle_core.specs.declared.types.Term.{Term as TheTerm};
+ghost use Rattle.isle_core.specs.declared.types.TypeEnv.{TypeEnv as TheTypes};
+ghost use Rattle.isle_core.specs.BuiltRule.{IsBuiltRule, IsImpureRule};
+ghost use Rattle.isle_core.specs.Calling.{is_several, kind_of};
+ghost use Rattle.isle_core.specs.Rule.{Environment, rules_of};
+ghost use Rattle.isle_core.specs.RuleViews.{rule as seen, environment};
+ghost use Rattle.isle_core.specs.Scope.{IsScopedRule};
+ghost use Rattle.isle_core.specs.StandsFor.{StandsFor};
+ghost use Rattle.isle_core.specs.Terms.{with_rules};
+ghost use Rattle.isle_rulesets.specs.Grouping.{AreRuleSets};
+ghost use Rattle.isle_checks.specs.CheckList.{TellTerms, IsCheckList};
+ghost use Rattle.isle_checks.specs.Built.{AreBuilt};
+ghost use Rattle.isle_checks.specs.declared.overlap.CheckError.TheVariants.{Rules};
+
+use crate::errors::push_errors;
+use isle_core::{Error, List, RuleSet, Term, TermEnv, TermId, TermKind};
+use isle_rulesets::rule_sets;
+use std::alloc::{AllocError, Global};
+
+/// Why the rules of terms are not taken.
+#[derive(Debug, Drop)]
+pub enum CheckError {
+    /// What is wrong with them, in order.
+    Rules(List<Error>),
+    Memory,
+}
+
+impl From<AllocError> for CheckError {
+    ghost use Rattle.std.specs.Prelude.{◌≡◌};
+    ghost use Rattle.isle_checks.specs.declared.overlap.CheckError.TheVariants.{Memory};
+
+    ghost from_gives = { λ _ e. e ≡ Memory };
+
+    fn from(_: AllocError) -> Self {
+        CheckError::Memory
+    }
+}
+
+// Whether a term answers several times.
+fn is_multi(terms: &[Term], id: TermId) -> bool
+    ensures { result ≡ option_map_or (λ (t : TheTerm). is_several (kind_of t.kind)) (slice_get terms.now id.0) false }
+{
+    match terms.get(id.index()) {
+        Some(
+            Term {
+                kind: TermKind::Decl { multi, .. },
+                ..
+            },
+        ) => *multi,
+        Some(
+            Term {
+                kind: TermKind::Variant { .. } | TermKind::Struct { .. },
+                ..
+            },
+        )
+        | None => false,
+    }
+}
+
+// Adds the errors of a term whose rules a rule set stands for.
+fn push_term(
+    alloc: Global,
+    terms: &[Term],
+    set: &(TermId, RuleSet),
+    errors: &mut Vec<Error>,
+) -> Result<(), AllocError>
+    ensures { OnOk result ((env : Environment) (ids : List TheId) → env.terms ≡ terms.now → AreBuilt env → StandsFor env set.now.1 (rules_of env set.now.0)
+        → TellTerms env ids errors.old.items → TellTerms env (ids ++ set.now.0 ∷ []) errors.new.items) }
+{
+    if is_multi(terms, set.0) {
+        return Ok(());
+    }
+    push_errors(alloc, set.1.rules.as_slice(), errors)?;
+    Ok(())
+}
+
+// The errors of all rule sets.
+fn errors_of(
+    alloc: Global,
+    terms: &[Term],
+    sets: &[(TermId, RuleSet)],
+) -> Result<Vec<Error>, AllocError>
+    ensures { IfOk result (λ errors. (env : Environment) → env.terms ≡ terms.now → AreBuilt env → AreRuleSets env sets.now → IsCheckList env errors.items) }
+{
+    let mut errors = Vec::new(alloc);
+    for set in sets {
+        push_term(alloc, terms, set, &mut errors)?;
+    }
+    Ok(errors)
+}
+
+/// Makes the rule set of each term with rules, in order of ids, where no two of its rules overlap and none is shadowed.
+/// `Rules` comes exactly where one is, and tells each, rule by rule: the first earlier rule that overlaps it, then the first
+/// that shadows it.
+pub fn check(alloc: Global, termenv: &TermEnv) -> Result<Vec<(TermId, RuleSet)>, CheckError>
+    requires built { All IsBuiltRule (map seen termenv.now.rules) }
+    requires bound { All IsScopedRule (map seen termenv.now.rules) }
+    requires impure { All (IsImpureRule termenv.now.terms) (map seen termenv.now.rules) }
+    ensures ok { IfOk result (λ sets. (types : TheTypes) → AreRuleSets (environment types termenv.now) sets.items) }
+    ensures clean { IfOk result (λ sets. (types : TheTypes) → IsCheckList (environment types termenv.now) []) }
+    ensures some { (errors : List Error) → result ≡ Err (Rules errors) → errors ≡ [] → ⊥ }
+    ensures err { (errors : List Error) → result ≡ Err (Rules errors) → (types : TheTypes) → IsCheckList (environment types termenv.now) errors }
+{
+    let sets = rule_sets(alloc, termenv)?;
+    let errors = errors_of(alloc, termenv.terms.as_slice(), sets.as_slice())?;
+    if errors.is_empty() {
+        return Ok(sets);
+    }
+    Err(CheckError::Rules(List::new(errors)))
+}
