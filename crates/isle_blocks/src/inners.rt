@@ -21,7 +21,19 @@ fn source_at(place: usize, binding: &Binding) -> Option<BindingId>
                 None
             }
         }
-        _ => None,
+        Binding::ConstBool { .. }
+        | Binding::ConstInt { .. }
+        | Binding::ConstPrim { .. }
+        | Binding::Argument { .. }
+        | Binding::Extractor { .. }
+        | Binding::Constructor { .. }
+        | Binding::Iterator { .. }
+        | Binding::MakeVariant { .. }
+        | Binding::MakeStruct { .. }
+        | Binding::MatchVariant { .. }
+        | Binding::ExtractStruct { .. }
+        | Binding::MakeSome { .. }
+        | Binding::MatchTuple { .. } => None,
     }
 }
 

@@ -73,7 +73,8 @@ fn number_pattern(
                 .push((argument, Constraint::ConstInt { val: *val, ty: *ty }))?;
         }
         Pattern::Wildcard(_) => {}
-        _ => unreachable!(),
+        Pattern::BindPattern(..) | Pattern::ConstPrim(..) | Pattern::Term(..) | Pattern::And(..) =>
+            unreachable!(),
     }
     Ok(())
 }

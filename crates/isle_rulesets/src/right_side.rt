@@ -77,7 +77,7 @@ pub fn number_expr(
             let parameters = number_exprs(alloc, scope, numbering, ordered, args.as_slice())?;
             number_call(scope, numbering, ordered, *term, parameters)
         }
-        _ => unreachable!(),
+        Expr::ConstPrim(..) | Expr::Let(..) => unreachable!(),
     }
 }
 
