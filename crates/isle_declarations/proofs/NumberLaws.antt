@@ -3,7 +3,7 @@ use Rattle.std.proofs.Common.{◌≡◌, ℕ, suc, ◌+◌, ◌<◌, Bool, true,
 use Rattle.std.specs.Prelude.{◌==◌, ◌||◌, fold, is_some, option_map, slice_get, set, drop, IfOk}
 use Rattle.std.specs.List.{AllByRecursion, find}
 use Rattle.std.specs.Str.{bytes_eq}
-use Rattle.std.proofs.lemmas.Bool.Decides.{same_from_decides, Decides-eqb}
+use Rattle.std.proofs.lemmas.Bool.Decides.{Decides-eqb}
 use Rattle.std.proofs.lemmas.Option.{same_Some, slice_get-get_or, slice_get-map}
 use Rattle.std.proofs.lemmas.List.{map-append, length-set, get_or-set_same, get_or-set_other, length-take-le, take_more, drop_more}
 use Rattle.std.proofs.lemmas.Slice.Eq.{bytes_eq-Decides}
@@ -207,12 +207,6 @@ number_at name_of number_of syms xs i x h at =
 -- the same of an item of a loop
 pub item_number : {X : Type 0} (name_of : X → List ℕ) (number_of : X → ℕ) (syms : List (List ℕ)) (xs : List X) (i : ℕ) (x d : X) → AreNumbered syms (map name_of xs) (map number_of xs) → i < length xs → x ≡ get_or xs i d → index_of syms (name_of x) ≡ Some (number_of x)
 item_number name_of number_of syms xs i x d h lt is = number_at name_of number_of syms xs i x h (slice_get-get_or xs i d lt ∙ ap Some (sym is))
-
--- one more is seen
-pub seen_more : {X Y Z : Type 0} (f : Y → Z) (seen : X → Y) (xs : List X) (i : ℕ) (x d : X) (ys more : List Z) → i < length xs → x ≡ get_or xs i d → more ≡ ys ++ f (seen x) ∷ [] → ys ≡ map f (map seen (take i xs)) → more ≡ map f (map seen (take (i + 1) xs))
-seen_more f seen xs i x d ys more lt is added h =
-    added ∙ ap (λ zs. zs ++ f (seen x) ∷ []) h
-    ∙ sym (ap (λ zs. map f (map seen zs)) (take_more xs i d lt ∙ ap (λ y. take i xs ++ y ∷ []) (sym is)) ∙ ap (map f) (map-append seen (take i xs) (x ∷ [])) ∙ map-append f (map seen (take i xs)) (seen x ∷ []))
 
 -- ---- a name among heads
 

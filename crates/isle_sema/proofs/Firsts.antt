@@ -42,10 +42,6 @@ any_parts test (x ∷ xs) ys h =
     let r = any_parts test xs ys k.1 in
     (or_from (test x) (list_any test xs) k.0 r.0, r.1)
 
-pub any_from : {X : Type 0} (test : X → Bool) (xs ys : List X) → list_any test xs ≡ false → list_any test ys ≡ false → list_any test (xs ++ ys) ≡ false
-any_from test [] ys a b = b
-any_from test (x ∷ xs) ys a b = let k = or_parts (test x) (list_any test xs) a in or_from (test x) (list_any test (xs ++ ys)) k.0 (any_from test xs ys k.1 b)
-
 -- ---- a definition more
 
 grown_by : {A B : Type 0} (g : A → B) (o : Option A) (xs ys : List A) (zs : List B) → map g ys ≡ map g xs ++ zs → map g (cons_option o ys) ≡ map g (cons_option o xs) ++ zs

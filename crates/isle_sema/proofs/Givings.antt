@@ -1,18 +1,16 @@
 -- The environment of definitions that no test refuses.
-use Rattle.std.proofs.Common.{◌≡◌, ℕ, Bool, true, false, List, [], ◌∷◌, map, Option, Some, None, refl, sym, ap, ◌∙◌, subst}
+use Rattle.std.proofs.Common.{◌≡◌, Bool, true, false, List, [], ◌∷◌, map, Some, None, refl, sym, ap, ◌∙◌}
 use Rattle.std.specs.Prelude.{◌&&◌, ◌||◌, not, option_map, option_and_then}
 use Rattle.std.specs.List.{list_all, list_any}
-use Rattle.std.proofs.lemmas.Option.{same_Some}
-use Rattle.std.proofs.lemmas.Bool.{or_parts, or_from, and_parts, and_from, not-true}
+use Rattle.std.proofs.lemmas.Bool.{or_parts, or_from, and_from}
 use Rattle.isle_core.specs.declared.types.Term.{Term}
 use Rattle.isle_core.specs.declared.types.TermEnv.{TermEnv}
 use Rattle.isle_core.specs.Rule.{Rule as CoreRule, Environment}
 use Rattle.isle_core.specs.RuleViews.{rule as elaborated_rule, environment}
 use Rattle.isle_syntax.specs.Tree.{Def}
-use Rattle.isle_declarations.specs.Signatures.{Signature, RuleDef, signatures, externs, rule_defs}
+use Rattle.isle_declarations.specs.Signatures.{Signature, signatures, externs, rule_defs}
 use Rattle.isle_declarations.specs.Heads.{terms_of, extern_terms, heads_of}
 use Rattle.isle_declarations.specs.Repeats.{repeats}
-use Rattle.isle_sema.proofs.Wrong.{names_no_type, has_too_many}
 use Rattle.isle_sema.specs.Language.{is_built_def, rules_call_ruled}
 use Rattle.isle_sema.specs.Tests.{binds_twice, is_misdeclared, has_undeclared}
 use Rattle.isle_sema.specs.BuiltForm.{is_built_form}
@@ -22,11 +20,11 @@ use Rattle.isle_sema.specs.Environment.{types_of, whole_of, env_over, terms_pass
 use Rattle.isle_sema.specs.Typing.{Typed}
 use Rattle.isle_declarations.specs.Tables.{any_repeat}
 use Rattle.isle_sema.specs.Taken.{taken_rules}
-use Rattle.isle_sema.proofs.BuiltForms.{both, forms_of, unformed, bound_twice}
-use Rattle.isle_sema.proofs.Firsts.{stages_none, none_stages}
-use Rattle.isle_sema.proofs.TermFaults.{types_none, extractors_none, is_headless, TermParts, terms_kept, terms_none}
+use Rattle.isle_sema.proofs.BuiltForms.{both, forms_of, unformed, bound_twice, rules_built}
+use Rattle.isle_sema.proofs.Firsts.{none_stages}
+use Rattle.isle_sema.proofs.TypedParts.{typed_in}
+use Rattle.isle_sema.proofs.TermFaults.{names_no_type, has_too_many, types_none, extractors_none, is_headless, TermParts, terms_kept, terms_none}
 use Rattle.isle_sema.proofs.RuleLaws.{fault_none, none_fault, taken_are, are_taken}
-use Rattle.isle_sema.proofs.Deciding.{plain_of, rules_built}
 
 -- ---- declarations that are wrong by themselves
 
@@ -50,40 +48,24 @@ pub record IsKept (ds : List Def) : Type 0 where
   pub rules : List CoreRule
   pub taken : taken_rules (whole_of ds) 0 (rule_defs ds) ≡ Some rules
 
-over_terms : (ds : List Def) (ts : Option (List Term)) (rs : Option (List CoreRule)) (env : Environment) → option_and_then (λ (terms : List Term). option_map (env_over (types_of ds) terms) rs) ts ≡ Some env → rs ≡ Some env.rules
-over_terms ds None rs env h = absurd cc
-over_terms ds (Some ts) None env h = absurd cc
-over_terms ds (Some ts) (Some rs) env h = ap (λ (e : Environment). Some e.rules) (same_Some (env_over (types_of ds) ts rs) env h)
-
 pub kept : {ds : List Def} {env : Environment} → Typed ds env → IsKept ds
 kept {ds = ds} {env = env} t =
-    let apart = not (repeats (heads_of (rule_defs ds))) in
-    let a = and_parts (list_all is_built_def ds && apart) (not (rules_call_ruled (rule_defs ds) (rule_defs ds))) t.built in
-    let b = and_parts (list_all is_built_def ds) apart a.0 in
+    let g = typed_in t in
     let w = whole_of ds in
-    let s = stages_none (fault_in OfTypes w) (or_later (fault_in OfTerms w) (or_later (fault_in OfExtractors w) (fault_in OfRules w))) t.sound in
-    let u = stages_none (fault_in OfTerms w) (or_later (fault_in OfExtractors w) (fault_in OfRules w)) s.1 in
-    let v = stages_none (fault_in OfExtractors w) (fault_in OfRules w) u.1 in
-    let trees = over_terms ds (terms_pass w (signatures ds)) (rules_pass w 0 (rule_defs ds)) env t.given in
     record {
-      parts = terms_kept ds [] ds (forms_of ds b.0) u.0;
-      heads = not-true (repeats (heads_of (rule_defs ds))) b.1;
+      parts = terms_kept ds [] ds (forms_of ds g.built) g.terms_kept;
+      heads = g.apart;
       rules = env.rules;
-      taken = are_taken w 0 (rule_defs ds) env.rules (rules_built ds b.0) (record { kept = none_fault w [] ds v.1; calls = not-true (rules_call_ruled (rule_defs ds) (rule_defs ds)) a.1; trees = trees });
+      taken = are_taken w 0 (rule_defs ds) env.rules (rules_built ds g.built) (record { kept = none_fault w [] ds g.rules_kept; calls = g.unruled; trees = g.rules });
     }
-
-built_of : {ds : List Def} {env : Environment} → Typed ds env → list_all is_built_def ds ≡ true
-built_of {ds = ds} t =
-    let apart = not (repeats (heads_of (rule_defs ds))) in
-    (and_parts (list_all is_built_def ds) apart (and_parts (list_all is_built_def ds && apart) (not (rules_call_ruled (rule_defs ds) (rule_defs ds))) t.built).0).0
 
 -- definitions of other forms give none
 pub unformed_untyped : (ds : List Def) → list_all is_built_form ds ≡ false → (env : Environment) → Typed ds env → ⊥
-unformed_untyped ds h env t = unformed ds h (built_of t)
+unformed_untyped ds h env t = unformed ds h (typed_in t).built
 
 -- nor do those that bind a variable twice
 pub twice_untyped : (ds : List Def) → list_any binds_twice (rule_defs ds) ≡ true → (env : Environment) → Typed ds env → ⊥
-twice_untyped ds h env t = bound_twice ds h (built_of t)
+twice_untyped ds h env t = bound_twice ds h (typed_in t).built
 
 pub misdeclared_untyped : (ds : List Def) → list_any is_misdeclared (signatures ds) ≡ true → (env : Environment) → Typed ds env → ⊥
 misdeclared_untyped ds h env t =

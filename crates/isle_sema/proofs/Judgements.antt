@@ -142,6 +142,30 @@ tests a b c d e f g h i =
     cond a (Some row.PatternTermMisfit) (cond b (Some row.LiteralMisfit) (cond c (Some row.VariableTypeMisfit) (cond d (Some row.ExprNameMisfit) (cond e (Some row.ExprTypeMisfit)
     (cond f (Some row.PartialCall) (cond g (Some row.ImpureCall) (cond h (Some row.MultiCall) (cond i (Some row.ManyNodes) None))))))))
 
+-- where they give no row, each fails
+pub record AllFail (a b c d e f g h i : Bool) : Type 0 where
+  pub arity : a ≡ false
+  pub literal : b ≡ false
+  pub met : c ≡ false
+  pub name : d ≡ false
+  pub typing : e ≡ false
+  pub partial : f ≡ false
+  pub impure : g ≡ false
+  pub multi : h ≡ false
+  pub size : i ≡ false
+
+pub tests_fail : (a b c d e f g h i : Bool) → tests a b c d e f g h i ≡ None → AllFail a b c d e f g h i
+tests_fail true b c d e f g h i none = absurd cc
+tests_fail false true c d e f g h i none = absurd cc
+tests_fail false false true d e f g h i none = absurd cc
+tests_fail false false false true e f g h i none = absurd cc
+tests_fail false false false false true f g h i none = absurd cc
+tests_fail false false false false false true g h i none = absurd cc
+tests_fail false false false false false false true h i none = absurd cc
+tests_fail false false false false false false false true i none = absurd cc
+tests_fail false false false false false false false false true none = absurd cc
+tests_fail false false false false false false false false false none = record { arity = refl; literal = refl; met = refl; name = refl; typing = refl; partial = refl; impure = refl; multi = refl; size = refl }
+
 -- the tests of a rule under what declares its head, over the parts of both sides
 abbrev pub tests_of : Whole → RuleDef → Option Signature → List Site → List Site → Option Row
 tests_of w r o sites rs =
@@ -188,17 +212,13 @@ lowest_is w r s own is h none =
     tests_from : Whole → RuleDef → Signature → List Site → List Site → Bool → Bool → Bool → Bool → Option Row
     tests_from w r s ps rs f g h i = tests (not (length r.args == length s.args)) (list_any (is_misplaced w) (ps ++ rs)) (list_any is_met_otherwise (ps ++ rs)) (list_any (is_unknown w) (ps ++ rs)) (list_any (is_mistyped w) (ps ++ rs)) f g h i
 
--- where a rule breaks no row, no part of its right side is unknown
+-- where a rule breaks no row, each test fails
+pub row_fails : (w : Whole) (r : RuleDef) → row_of w r ≡ None
+    → AllFail (on (declared w r.term) (λ (s : Signature). not (length r.args == length s.args))) (list_any (is_misplaced w) (sites_of w r)) (list_any is_met_otherwise (sites_of w r)) (list_any (is_unknown w) (sites_of w r)) (list_any (is_mistyped w) (sites_of w r))
+    (on (declared w r.term) (λ (s : Signature). not s.partial && list_any is_partial_call (right_side_of w r).sites)) (on (declared w r.term) (λ (s : Signature). s.pure && list_any is_impure_call (right_side_of w r).sites))
+    (on (declared w r.term) (λ (s : Signature). not s.multi && list_any is_multi_call (sites_of w r))) (not (nat_le (length (sites_of w r)) 4096))
+row_fails w r h = tests_fail _ _ _ _ _ _ _ _ _ h
+
+-- no part of its right side is unknown
 pub all_known : (w : Whole) (r : RuleDef) → row_of w r ≡ None → list_any (is_unknown w) (sites_of w r) ≡ false
-all_known w r h =
-    let o = declared w r.term in
-    let sites = sites_of w r in
-    let rs = (right_side_of w r).sites in
-    fourth (on o (λ (s : Signature). not (length r.args == length s.args))) (list_any (is_misplaced w) sites) (list_any is_met_otherwise sites) (list_any (is_unknown w) sites) _ h
-  where
-    fourth : (a b c d : Bool) (rest : Option Row) → cond a (Some row.PatternTermMisfit) (cond b (Some row.LiteralMisfit) (cond c (Some row.VariableTypeMisfit) (cond d (Some row.ExprNameMisfit) rest))) ≡ None → d ≡ false
-    fourth true b c d rest h = absurd cc
-    fourth false true c d rest h = absurd cc
-    fourth false false true d rest h = absurd cc
-    fourth false false false true rest h = absurd cc
-    fourth false false false false rest h = refl
+all_known w r h = (row_fails w r h).name

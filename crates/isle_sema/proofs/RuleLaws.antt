@@ -41,14 +41,14 @@ use Rattle.isle_sema.proofs.Firsts.{later_none, none_later, any_parts}
 use Rattle.isle_sema.proofs.Judgements.{ruled_all, lowest_is, all_known}
 use Rattle.isle_declarations.proofs.LookUps.{at_place, named_at, named_is}
 use Rattle.isle_declarations.proofs.SymbolLaws.{index_below}
-use Rattle.isle_sema.proofs.KnownLaws.{first_there, before_both}
-use Rattle.isle_sema.proofs.RuleTrees.{IsRuleBuilt}
+use Rattle.isle_sema.proofs.BuiltForms.{IsRuleBuilt}
+use Rattle.isle_sema.proofs.MadeTerms.{first_there, before_both}
 
 -- a rule breaks a row
 abbrev pub is_broken : Whole → RuleDef → Bool
 is_broken w r = is_some (row_of w r)
 
-none_is : (o : Option Row) → is_some o ≡ false → o ≡ None
+pub none_is : (o : Option Row) → is_some o ≡ false → o ≡ None
 none_is None h = refl
 none_is (Some r) h = absurd cc
 
@@ -190,17 +190,6 @@ untreed w i r h = by (is_broken w r || calls_rule w r)
     by true = refl
     by false = sym h
 
--- a rule with conditions
-pub with_conditions : (w : Whole) (i : ℕ) (r : RuleDef) → (length r.iflets ≡ 0 → ⊥) → None ≡ taken_rule w i r
-with_conditions w i r h = untreed w i r (by r.iflets h (term_named (signatures w.defs) r.term) (patterns_of w r).trees)
-  where
-    by : (cs : List IfLet) → (length cs ≡ 0 → ⊥) → (term : Option TermId) (trees : Option (List CorePattern))
-        → option_and_then (λ (term : TermId). option_and_then (λ (args : List CorePattern). option_and_then (λ (iflets : List CoreIfLet). option_map (rule_from w i r term args iflets) (right_side_of w r).tree) (conditions_of cs)) trees) term ≡ None
-    by [] h term trees = absurd (h refl)
-    by (c ∷ cs) h None trees = refl
-    by (c ∷ cs) h (Some term) None = refl
-    by (c ∷ cs) h (Some term) (Some args) = refl
-
 -- a rule that calls a term that has a rule
 pub with_ruled : (w : Whole) (i : ℕ) (r : RuleDef) (sides : Sides) → AreSides w r sides → sides.right.ruled ≡ true → None ≡ taken_rule w i r
 with_ruled w i r sides p h = refused w i r (or_true (is_broken w r) (calls_rule w r) (sym (ruled_all w (right_side_of w r).sites) ∙ ap (λ (j : Judged). j.ruled) (sym p.right) ∙ h))
@@ -260,11 +249,6 @@ taken_made w i r own args rhs h none row calls trees tree =
     ∙ ap (λ o. all (Some own.term) o r.iflets (right_side_of w r).tree) trees
     ∙ ap (λ cs. all (Some own.term) (Some args) cs (right_side_of w r).tree) none
     ∙ ap (λ o. all (Some own.term) (Some args) [] o) tree)
-
--- what is known of a name's declared term
-pub head_of : (w : Whole) (name : List ℕ) (own : Called) (o : Option Signature) → declared w name ≡ o → MayBeCalled w o (Some own) → IsHead w name own
-head_of w name own None is h = absurd h
-head_of w name own (Some s) is h = record { signature = s; there = is; called = h }
 
 pub none_called : (w : Whole) (o : Option Signature) → MayBeCalled w o None → o ≡ None
 none_called w None h = refl

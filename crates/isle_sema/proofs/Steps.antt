@@ -1,13 +1,12 @@
 -- Patterns and expressions that are passed one after the other: what is left.
 use Rattle.std.proofs.Common.{◌≡◌, ℕ, zero, suc, ◌+◌, ◌<◌, ◌≤◌, Bool, true, false, cond, List, [], ◌∷◌, ◌++◌, length, map, get_or, Option, Some, None, refl, sym, ap, ◌∙◌, arith}
 use Rattle.std.specs.Prelude.{drop, option_map, slice_get}
-use Rattle.std.proofs.lemmas.List.{drop_all, drop_more, map-append, append-nil, append_assoc}
+use Rattle.std.proofs.lemmas.List.{drop_all, drop_more, map-append, append_assoc}
 use Rattle.std.proofs.lemmas.List.Sums.{fold-append}
 use Rattle.isle_core.specs.declared.TypeId.{TypeId}
 use Rattle.isle_core.specs.declared.rules.Pattern.{Pattern as CodePattern}
 use Rattle.isle_core.specs.declared.rules.Expr.{Expr as CodeExpr}
 use Rattle.isle_core.specs.declared.rules.Rule.{Rule as CodeRule}
-use Rattle.isle_core.specs.Pattern.{Pattern}
 use Rattle.isle_core.specs.Expr.{Expr, Exprs, NoExpr, AnExpr}
 use Rattle.isle_core.specs.Rule.{Rule}
 use Rattle.isle_core.specs.RuleViews.{pattern as elaborated_pattern, expr as elaborated_expr, exprs_of, rule as elaborated_rule}
@@ -21,7 +20,7 @@ use Rattle.isle_declarations.specs.Collected.{rule as seen_rule}
 use Rattle.isle_sema.specs.Scope.{Scope}
 use Rattle.isle_sema.specs.Whole.{Whole}
 use Rattle.isle_sema.specs.Environment.{whole_of}
-use Rattle.isle_sema.specs.PatternPass.{PatternPass, PatternsPass, pattern_pass, patterns_pass, first_expected, later_expected, tree_before}
+use Rattle.isle_sema.specs.PatternPass.{PatternsPass, patterns_pass, first_expected, later_expected, tree_before}
 use Rattle.isle_sema.specs.ExprPass.{ExprPass, ExprsPass, expr_pass, exprs_pass, expr_before}
 use Rattle.isle_sema.specs.Judging.{judge, judge_all}
 use Rattle.isle_sema.specs.Taken.{taken_rule, taken_rules}
@@ -49,10 +48,6 @@ later_got tys i = let next : suc i ≡ i + 1 = omega arith in later_by tys i ∙
 abbrev pub before : {X : Type 0} → List X → Option (List X) → Option (List X)
 before xs o = option_map (λ (ys : List _). xs ++ ys) o
 
-pub none_before : {X : Type 0} (o : Option (List X)) → o ≡ before [] o
-none_before None = refl
-none_before (Some r) = refl
-
 pub one_before : {X : Type 0} (xs : List X) (x : X) (o : Option (List X)) → before xs (tree_before (Some x) o) ≡ before (xs ++ x ∷ []) o
 one_before xs x None = refl
 one_before xs x (Some r) = ap Some (sym (append_assoc xs (x ∷ []) r))
@@ -76,62 +71,6 @@ pub record AreMade (defs : List Def) (all left : PatternsPass) (first now : Judg
   pub trees : all.trees ≡ cond complete (before (map elaborated_pattern typed) left.trees) None
   pub scope : all.scope ≡ left.scope
   pub sites : judge_all (whole_of defs) first all.sites ≡ judge_all (whole_of defs) now left.sites
-
--- at the first
-pub made_none : (defs : List Def) (all : PatternsPass) (j : Judged) → AreMade defs all all j j [] true
-made_none defs all j = record { trees = none_before all.trees; scope = refl; sites = refl }
-
--- a pattern and the rest
-abbrev joined : PatternPass → PatternsPass → PatternsPass
-joined first rest = record { trees = tree_before first.tree rest.trees; scope = rest.scope; sites = first.sites ++ rest.sites }
-
-left_is : (defs : List Def) (tys : List TypeId) (ps : List AstPattern) (i : ℕ) (vars new : Scope) (p d : AstPattern) (expected : Option TypeId) → i < length ps → p ≡ get_or ps i d → expected ≡ slice_get tys i
-    → new ≡ (pattern_pass (whole_of defs) expected vars (pattern p)).scope → patterns_left defs tys ps i vars ≡ joined (pattern_pass (whole_of defs) expected vars (pattern p)) (patterns_left defs tys ps (i + 1) new)
-left_is defs tys ps i vars new p d expected lt is at scope =
-    let w = whole_of defs in
-    let qs = map pattern (drop (i + 1) ps) in
-    ap (λ xs. patterns_pass w (map Some (drop i tys)) vars (map pattern xs)) (drop_more ps i d lt ∙ ap (λ y. y ∷ drop (i + 1) ps) (sym is))
-    ∙ ap (λ ty. joined (pattern_pass w ty vars (pattern p)) (patterns_pass w (later_expected (map Some (drop i tys))) (pattern_pass w ty vars (pattern p)).scope qs)) (first_got tys i ∙ sym at)
-    ∙ ap (λ os. joined (pattern_pass w expected vars (pattern p)) (patterns_pass w os (pattern_pass w expected vars (pattern p)).scope qs)) (later_got tys i)
-    ∙ ap (λ (s : Scope). joined (pattern_pass w expected vars (pattern p)) (patterns_pass w (map Some (drop (i + 1) tys)) s qs)) (sym scope)
-
--- one pattern more
-pub made_more : (defs : List Def) (tys : List TypeId) (ps : List AstPattern) (i : ℕ) (vars new : Scope) (first now next : Judged) (typed more : List CodePattern) (complete after : Bool) (p d : AstPattern) (expected : Option TypeId) (all : PatternsPass)
-    → i < length ps → p ≡ get_or ps i d → expected ≡ slice_get tys i → new ≡ (pattern_pass (whole_of defs) expected vars (pattern p)).scope → next ≡ judge_all (whole_of defs) now (pattern_pass (whole_of defs) expected vars (pattern p)).sites
-    → ((rest : Option (List Pattern)) → cond complete (before (map elaborated_pattern typed) (tree_before (pattern_pass (whole_of defs) expected vars (pattern p)).tree rest)) None ≡ cond after (before (map elaborated_pattern more) rest) None)
-    → AreMade defs all (patterns_left defs tys ps i vars) first now typed complete → AreMade defs all (patterns_left defs tys ps (i + 1) new) first next more after
-made_more defs tys ps i vars new first now next typed more complete after p d expected all lt is at scope sites tree h =
-    let w = whole_of defs in
-    let one = pattern_pass w expected vars (pattern p) in
-    let rest = patterns_left defs tys ps (i + 1) new in
-    let step = left_is defs tys ps i vars new p d expected lt is at scope in
-    record {
-      trees = h.trees ∙ ap (λ (x : PatternsPass). cond complete (before (map elaborated_pattern typed) x.trees) None) step ∙ tree rest.trees;
-      scope = h.scope ∙ ap (λ (x : PatternsPass). x.scope) step;
-      sites = h.sites ∙ ap (λ (x : PatternsPass). judge_all w now x.sites) step ∙ fold-append (judge w) now one.sites rest.sites ∙ ap (λ (j : Judged). judge_all w j rest.sites) (sym sites);
-    }
-
--- a pattern with a tree
-pub tree_more : (typed more : List CodePattern) (x : CodePattern) (complete : Bool) (o : Option Pattern) → more ≡ typed ++ x ∷ [] → Some (elaborated_pattern x) ≡ o → (rest : Option (List Pattern))
-    → cond complete (before (map elaborated_pattern typed) (tree_before o rest)) None ≡ cond complete (before (map elaborated_pattern more) rest) None
-tree_more typed more x complete o added is rest =
-    ap (λ y. cond complete (before (map elaborated_pattern typed) (tree_before y rest)) None) (sym is)
-    ∙ ap (λ y. cond complete y None) (one_before (map elaborated_pattern typed) (elaborated_pattern x) rest ∙ ap (λ ys. before ys rest) (sym (map-append elaborated_pattern typed (x ∷ [])) ∙ ap (map elaborated_pattern) (sym added)))
-
--- a pattern without one
-pub tree_missing : (typed : List CodePattern) (complete : Bool) (o : Option Pattern) → None ≡ o → (rest : Option (List Pattern))
-    → cond complete (before (map elaborated_pattern typed) (tree_before o rest)) None ≡ cond false (before (map elaborated_pattern typed) rest) None
-tree_missing typed complete o is rest = ap (λ y. cond complete (before (map elaborated_pattern typed) (tree_before y rest)) None) (sym is) ∙ nothing_there complete (before (map elaborated_pattern typed) (tree_before None rest)) refl
-
--- after the last
-pub made_all : (defs : List Def) (tys : List TypeId) (ps : List AstPattern) (i : ℕ) (vars : Scope) (first now : Judged) (typed : List CodePattern) (complete : Bool) (all : PatternsPass) → length ps ≤ i
-    → AreMade defs all (patterns_left defs tys ps i vars) first now typed complete → (all.trees ≡ cond complete (Some (map elaborated_pattern typed)) None) × (all.scope ≡ vars) × (judge_all (whole_of defs) first all.sites ≡ now)
-made_all defs tys ps i vars first now typed complete all le h =
-    let none : patterns_left defs tys ps i vars ≡ record { trees = Some []; scope = vars; sites = [] } = ap (λ xs. patterns_pass (whole_of defs) (map Some (drop i tys)) vars (map pattern xs)) (drop_all i ps le) in (
-      h.trees ∙ ap (λ (x : PatternsPass). cond complete (before (map elaborated_pattern typed) x.trees) None) none ∙ ap (λ xs. cond complete (Some xs) None) (append-nil (map elaborated_pattern typed)),
-      h.scope ∙ ap (λ (x : PatternsPass). x.scope) none,
-      h.sites ∙ ap (λ (x : PatternsPass). judge_all (whole_of defs) now x.sites) none,
-    )
 
 -- ---- expressions
 
@@ -168,10 +107,6 @@ exprs_left defs tys vars es i = exprs_pass (whole_of defs) vars (map Some (drop 
 pub record ExprsMade (defs : List Def) (all left : ExprsPass) (first now : Judged) (typed : List CodeExpr) (complete : Bool) : Type 0 where
   pub trees : all.trees ≡ cond complete (exprs_before (map elaborated_expr typed) left.trees) None
   pub sites : judge_all (whole_of defs) first all.sites ≡ judge_all (whole_of defs) now left.sites
-
--- at the first
-pub exprs_none : (defs : List Def) (all : ExprsPass) (j : Judged) → ExprsMade defs all all j j [] true
-exprs_none defs all j = record { trees = nothing_before all.trees; sites = refl }
 
 -- an expression and the rest
 abbrev exprs_joined : ExprPass → ExprsPass → ExprsPass
@@ -235,14 +170,3 @@ rule_more w rs i typed more r d x all lt is added one h =
     let rest = taken_rules w (i + 1) (map seen_rule (drop (i + 1) rs)) in
     h ∙ ap (before (map elaborated_rule typed)) (first_rule w rs i r d lt is ∙ ap (λ o. tree_before o rest) (sym one)) ∙ one_before (map elaborated_rule typed) (elaborated_rule x) rest
     ∙ ap (λ ys. before ys rest) (sym (map-append elaborated_rule typed (x ∷ [])) ∙ ap (map elaborated_rule) (sym added))
-
--- a rule that is not taken
-pub rule_wrong : (w : Whole) (rs : List CodeRuleDef) (i : ℕ) (typed : List CodeRule) (r d : CodeRuleDef) (all : Option (List Rule)) → i < length rs → r ≡ get_or rs i d → None ≡ taken_rule w i (seen_rule r)
-    → all ≡ before (map elaborated_rule typed) (taken_rules w i (map seen_rule (drop i rs))) → None ≡ all
-rule_wrong w rs i typed r d all lt is none h =
-    sym (h ∙ ap (before (map elaborated_rule typed)) (first_rule w rs i r d lt is ∙ ap (λ o. tree_before o (taken_rules w (i + 1) (map seen_rule (drop (i + 1) rs)))) (sym none)))
-
-pub rules_end : (w : Whole) (rs : List CodeRuleDef) (i : ℕ) (typed : List CodeRule) (all : Option (List Rule)) → length rs ≤ i
-    → all ≡ before (map elaborated_rule typed) (taken_rules w i (map seen_rule (drop i rs))) → Some (map elaborated_rule typed) ≡ all
-rules_end w rs i typed all le h =
-    sym (h ∙ ap (λ xs. before (map elaborated_rule typed) (taken_rules w i (map seen_rule xs))) (drop_all i rs le) ∙ ap Some (append-nil (map elaborated_rule typed)))

@@ -1,15 +1,15 @@
 -- The rows of declarations, external constructors and heads are kept where the code takes them.
-use Rattle.std.proofs.Common.{◌≡◌, Bool, true, false, cond, List, [], ◌∷◌, ◌++◌, Some, None, refl, sym, ap, ◌∙◌}
-use Rattle.std.specs.Prelude.{◌&&◌, ◌||◌, not, is_some}
+use Rattle.std.proofs.Common.{◌≡◌, ℕ, Bool, true, false, cond, List, length, [], ◌∷◌, ◌++◌, Some, None, refl, sym, ap, ◌∙◌}
+use Rattle.std.specs.Prelude.{◌&&◌, ◌||◌, not, is_some, nat_le}
 use Rattle.std.specs.List.{list_all, list_any}
 use Rattle.std.proofs.lemmas.Bool.{or_parts, or_from, and_parts}
 use Rattle.isle_syntax.specs.Tree as tree
 use Rattle.isle_syntax.specs.Tree.{Def}
 use Rattle.isle_declarations.specs.Symbols.{index_of}
+use Rattle.isle_sema.specs.Builtins.{builtin_named}
 use Rattle.isle_declarations.specs.Signatures.{Signature, Extern, RuleDef, signature_of, extern_of, signatures, externs, rule_defs, signature_named, func_named}
 use Rattle.isle_declarations.specs.Heads.{terms_of, extern_terms}
 use Rattle.isle_declarations.specs.Repeats.{repeats_after}
-use Rattle.isle_sema.proofs.Wrong.{names_no_type, has_too_many}
 use Rattle.isle_sema.specs.BuiltForm.{is_built_form}
 use Rattle.isle_sema.specs.Tests.{has_undeclared}
 use Rattle.isle_sema.specs.Row as row
@@ -44,6 +44,14 @@ extractors_none w before (tree.Converter from to term pos ∷ ds) f = absurd cc
 extractors_none w before (tree.Passed head items pos ∷ ds) f = absurd cc
 
 -- ---- terms
+
+-- a declaration names a type that is not declared
+abbrev pub names_no_type : Signature → Bool
+names_no_type s = not (is_some (builtin_named s.ret) && list_all (λ (n : List ℕ). is_some (builtin_named n)) s.args)
+
+-- a declaration has more than 256 arguments
+abbrev pub has_too_many : Signature → Bool
+has_too_many s = not (nat_le (length s.args) 256)
 
 -- a rule whose head is not declared, or has an external constructor
 abbrev pub is_headless : List Def → RuleDef → Bool

@@ -1,29 +1,35 @@
--- Constants are values of the type where they stand.
-use Rattle.std.proofs.Common.{◌≡◌, ℕ, zero, suc, ◌+◌, ◌<◌, ◌^◌, Bool, true, false, cond, List, [], ◌∷◌, length, Option, Some, None, refl, sym, ap, ◌∙◌, subst, arith}
-use Rattle.std.specs.Prelude.{ℤ, pos, negsuc, ◌==◌, option_map, slice_get, IsSomeAnd}
+-- Types that are declared are builtin, and constants are values of the type where they stand.
+use Rattle.std.proofs.Common.{◌≡◌, ℕ, zero, suc, ◌<◌, ◌^◌, Bool, true, false, List, [], ◌∷◌, length, Option, Some, None, refl, sym, ap, ◌∙◌, subst, arith}
+use Rattle.std.specs.Prelude.{ℤ, pos, negsuc, option_map, slice_get, IsSomeAnd}
 use Rattle.std.specs.List.{AllByRecursion}
-use Rattle.std.specs.Str.{bytes_eq}
+use Rattle.std.specs.Option.{option_map_or}
 use Rattle.std.specs.Int.{Width, w8, w16, w32, w64, w128, int_wrap}
 use Rattle.std.proofs.Math.Nat.{mod-lt}
 use Rattle.std.proofs.lemmas.Int.{SFits-int_wrap}
-use Rattle.std.proofs.lemmas.List.Elements.{All-from_recursion}
-use Rattle.std.proofs.lemmas.Option.{slice_get-get_or}
+use Rattle.std.proofs.lemmas.Option.{same_Some}
 use mir.Val.{bits}
 use lib.Pow.{pow_pos}
+use Rattle.isle_core.specs.declared.TypeId.{TypeId}
 use Rattle.isle_core.specs.declared.types.IntType.{IntType}
 use Rattle.isle_core.specs.declared.types.IntType.TheVariants.{U8, U16, U32, U64, U128, USize, I8, I16, I32, I64, I128, ISize}
 use Rattle.isle_core.specs.declared.types.BuiltinType.TheVariants.{Bool as Truths, Int}
 use Rattle.isle_core.specs.declared.types.TypeDef.{TypeDef}
-use Rattle.isle_core.specs.declared.types.TypeDef.TheVariants.{Builtin}
+use Rattle.isle_core.specs.declared.types.TypeDef.TheVariants.{Builtin, Primitive, Enum, Struct}
+use Rattle.isle_core.specs.declared.types.TypeEnv.{TypeEnv}
 use Rattle.isle_core.specs.Int.{residue, wrapped}
-use Rattle.isle_core.specs.BuiltinType.{IsBuiltinDef}
+use Rattle.isle_core.specs.BuiltinType.{IsBuiltinDef, IsBuiltinType}
 use Rattle.isle_core.specs.Rule.{Environment}
-use Rattle.isle_core.specs.HasType.{IsReduced, IsOfDef}
-use Rattle.isle_core.specs.Constants.{int_of_def}
+use Rattle.isle_core.specs.RightSide.{bool_type}
+use Rattle.isle_core.specs.Value.{Truth}
+use Rattle.isle_core.specs.HasType.{HasType, IsReduced, IsOfDef}
+use Rattle.isle_core.specs.Constants.{int_value, int_of_def}
+use Rattle.isle_syntax.specs.Tree.{Def}
 use Rattle.isle_declarations.specs.Symbols.{index_of}
+use Rattle.isle_declarations.proofs.SymbolLaws.{index_below}
 use Rattle.isle_sema.specs.Builtins.{builtins, builtin_names, type_id}
-use Rattle.isle_sema.specs.Reduced.{reduced, reduced_by}
-use Rattle.isle_sema.specs.Elaborated.{type_of, type_or}
+use Rattle.isle_sema.specs.Reduced.{reduced, integer_by, typed_integer}
+use Rattle.isle_sema.specs.TypeNames.{is_bool_def, type_named, takes_truths}
+use Rattle.isle_sema.specs.Environment.{types_of}
 
 -- ---- a reduced number is held by its type
 
@@ -62,41 +68,83 @@ are_integers : AllByRecursion IsInteger integers
 unfolding IsInteger integers
 are_integers = ((U8, refl), ((U16, refl), ((U32, refl), ((U64, refl), ((U128, refl), ((USize, refl), ((I8, refl), ((I16, refl), ((I32, refl), ((I64, refl), ((I128, refl), ((ISize, refl), tt))))))))))))
 
-pub integer_at : (n : ℕ) → n < 13 → n == 0 ≡ false → (ty : IntType) × (slice_get builtins n ≡ Some (Builtin (Int ty)))
-unfolding IsInteger integers
-integer_at zero lt e = cc
-integer_at (suc n) lt e =
-    let h = All-from_recursion IsInteger integers are_integers n (Builtin Truths) (omega arith) in
-    (h.0, slice_get-get_or integers n (Builtin Truths) (omega arith) ∙ ap Some h.1)
+-- ---- what stands at a number
 
--- ---- a name's type is one of them
+-- nothing, or a builtin type
+MayBeBuiltin : Option TypeDef → Type 0
+MayBeBuiltin None = Unit {0}
+MayBeBuiltin (Some d) = IsBuiltinDef d
 
-within_first : (length_of : ℕ) (first : Bool) (o : Option ℕ) (n : ℕ) → ((m : ℕ) → o ≡ Some m → m < length_of) → cond first (Some 0) (option_map (λ (k : ℕ). k + 1) o) ≡ Some n → n < length_of + 1
-within_first l true o n h e = let is : 0 ≡ n = cc in omega arith
-within_first l false None n h e = cc
-within_first l false (Some m) n h e = let is : m + 1 ≡ n = cc in omega (arith, h m refl)
+-- nothing, or a type of integers
+MayBeInteger : Option TypeDef → Type 0
+MayBeInteger None = Unit {0}
+MayBeInteger (Some d) = IsInteger d
 
--- a name stands within the list
-pub index_within : (names : List (List ℕ)) (name : List ℕ) (n : ℕ) → index_of names name ≡ Some n → n < length names
-index_within [] name n e = cc
-index_within (first ∷ names) name n e = let h = within_first (length names) (bytes_eq first name) (index_of names name) n (λ m f. index_within names name m f) e in omega (arith, h)
+builtin_at : (ds : List TypeDef) (n : ℕ) → AllByRecursion IsBuiltinDef ds → MayBeBuiltin (slice_get ds n)
+unfolding MayBeBuiltin
+builtin_at [] zero h = tt
+builtin_at [] (suc n) h = tt
+builtin_at (d ∷ ds) zero h = h.0
+builtin_at (d ∷ ds) (suc n) h = builtin_at ds n h.1
 
-below_at : (o : Option ℕ) → ((n : ℕ) → o ≡ Some n → n < 13) → (type_or (option_map type_id o)).0 < 13
-below_at None h = omega arith
-below_at (Some n) h = h n refl
+integer_at : (ds : List TypeDef) (n : ℕ) → AllByRecursion IsInteger ds → MayBeInteger (slice_get ds n)
+unfolding MayBeInteger
+integer_at [] zero h = tt
+integer_at [] (suc n) h = tt
+integer_at (d ∷ ds) zero h = h.0
+integer_at (d ∷ ds) (suc n) h = integer_at ds n h.1
 
--- each type that a name has is one of the thirteen
-pub type_below : (name : List ℕ) → (type_of name).0 < 13
-type_below name = below_at (index_of builtin_names name) (λ n e. index_within builtin_names name n e)
+are_builtin : AllByRecursion IsBuiltinDef builtins
+are_builtin = (tt, (tt, (tt, (tt, (tt, (tt, (tt, (tt, (tt, (tt, (tt, (tt, (tt, tt)))))))))))))
+
+-- ---- declared types
+
+there_at : (ds : List TypeDef) (n : ℕ) → AllByRecursion IsBuiltinDef ds → n < length ds → IsSomeAnd (slice_get ds n) IsBuiltinDef
+there_at [] n h lt = absurd (omega arith)
+there_at (d ∷ ds) zero h lt = h.0
+there_at (d ∷ ds) (suc n) h lt = there_at ds n h.1 (omega arith)
+
+named_at : (ty : TypeId) (o : Option ℕ) → ((n : ℕ) → o ≡ Some n → n < 13) → option_map type_id o ≡ Some ty → ty.0 < 13
+named_at ty None below h = absurd cc
+named_at ty (Some n) below h = let is : n ≡ ty.0 = ap (λ (t : TypeId). t.0) (same_Some (type_id n) ty h) in subst (λ m. m < 13) is (below n refl)
+
+-- the type of a name is builtin
+pub named_builtin : (defs : List Def) (env : Environment) (name : List ℕ) (ty : TypeId) → env.types ≡ types_of defs → type_named (types_of defs) name ≡ Some ty → IsBuiltinType env ty
+named_builtin defs env name ty types h =
+    subst (λ (e : TypeEnv). IsSomeAnd (slice_get e.types ty.0) IsBuiltinDef) (sym types) (there_at builtins ty.0 are_builtin (named_at ty (index_of builtin_names name) (λ n e. index_below builtin_names name n e) h))
 
 -- ---- constants
 
--- an integer of a type that is not bool
-pub integer_typed : (env : Environment) (n : ℕ) (z : ℤ) → n < 13 → n == 0 ≡ false → IsSomeAnd (slice_get builtins n) (λ d. IsOfDef env d (int_of_def env (slice_get builtins n) (reduced_by (slice_get builtins n) z)))
-integer_typed env n z lt e =
-    let h = integer_at n lt e in
-    subst (λ o. IsSomeAnd o (λ d. IsOfDef env d (int_of_def env o (reduced_by o z)))) (sym h.1) (refl, held h.0 z)
+-- an integer of a type, a value of it
+abbrev IsIntegerOf : Environment → TypeId → Option TypeDef → TypeId × ℤ → Type 0
+IsIntegerOf env ty o v = (v.0 ≡ ty) × IsSomeAnd o (λ (d : TypeDef). IsOfDef env d (int_of_def env o v.1)) × IsSomeAnd o IsBuiltinDef
 
--- and its type is builtin
-pub integer_builtin : (n : ℕ) → n < 13 → n == 0 ≡ false → IsSomeAnd (slice_get builtins n) IsBuiltinDef
-integer_builtin n lt e = subst (λ o. IsSomeAnd o IsBuiltinDef) (sym (integer_at n lt e).1) tt
+integer_by_def : (env : Environment) (ty : TypeId) (z : ℤ) (v : TypeId × ℤ) (o : Option TypeDef) → MayBeBuiltin o → option_map (λ (n : ℤ). (ty, n)) (integer_by o z) ≡ Some v → IsIntegerOf env ty o v
+unfolding MayBeBuiltin
+integer_by_def env ty z v None b h = absurd cc
+integer_by_def env ty z v (Some (Builtin Truths)) b h = absurd cc
+integer_by_def env ty z v (Some (Builtin (Int of))) b h = subst (IsIntegerOf env ty (Some (Builtin (Int of)))) (same_Some (ty, reduced of z) v h) (refl, (refl, held of z), tt)
+integer_by_def env ty z v (Some (Primitive name rust at)) b h = absurd b
+integer_by_def env ty z v (Some (Enum name is_extern is_nodebug variants at)) b h = absurd b
+integer_by_def env ty z v (Some (Struct name is_extern is_nodebug fields at)) b h = absurd b
+
+-- an integer where a type is expected is a value of that type, which is builtin
+pub integer_typed : (defs : List Def) (env : Environment) (ty : TypeId) (z : ℤ) (v : TypeId × ℤ) → env.types ≡ types_of defs → typed_integer (types_of defs) (Some ty) z ≡ Some v → (v.0 ≡ ty) × HasType env (int_value env ty v.1) ty × IsBuiltinType env ty
+integer_typed defs env ty z v types h = subst (λ (e : TypeEnv). IsIntegerOf env ty (slice_get e.types ty.0) v) (sym types) (integer_by_def env ty z v (slice_get builtins ty.0) (builtin_at builtins ty.0 are_builtin) h)
+
+no_truth : (o : Option TypeDef) → MayBeInteger o → option_map_or is_bool_def o false ≡ true → ⊥
+unfolding MayBeInteger IsInteger
+no_truth None i h = cc
+no_truth (Some d) i h = let bad : false ≡ true = ap is_bool_def (sym i.1) ∙ h in cc
+
+truth_at : (n : ℕ) → option_map_or is_bool_def (slice_get builtins n) false ≡ true → n ≡ 0
+unfolding integers
+truth_at zero h = refl
+truth_at (suc n) h = absurd (no_truth (slice_get integers n) (integer_at integers n are_integers) h)
+
+-- truths stand at bool alone, and are values of it
+pub truth_typed : (defs : List Def) (env : Environment) (b : Bool) (ty : TypeId) → env.types ≡ types_of defs → takes_truths (types_of defs) (Some ty) ≡ true → (bool_type ≡ ty) × HasType env (Truth b) ty
+truth_typed defs env b ty types h =
+    let is : bool_type ≡ ty = ap type_id (sym (truth_at ty.0 h)) in
+    let held : HasType env (Truth b) bool_type = subst (λ (e : TypeEnv). IsSomeAnd (slice_get e.types 0) (λ (d : TypeDef). IsOfDef env d (Truth b))) (sym types) tt in
+    (is, subst (HasType env (Truth b)) is held)

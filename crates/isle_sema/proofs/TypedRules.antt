@@ -1,146 +1,165 @@
 -- The rules of an environment are built, bound and typed.
-use Rattle.std.proofs.Common.{◌≡◌, ℕ, suc, ◌+◌, Bool, true, false, cond, List, [], ◌∷◌, length, map, Option, Some, None, refl, sym, ap, ◌∙◌, subst, arith}
-use Rattle.std.specs.Prelude.{◌==◌, ◌&&◌, ◌||◌, not, All, option_map, slice_get, filter, flat_map, is_some}
-use Rattle.std.specs.List.{AllByRecursion, list_all}
-use Rattle.std.proofs.lemmas.Bool.{or_parts, and_parts, and_from, eqb-true, not-true, not-false}
-use Rattle.std.proofs.lemmas.Option.{slice_get-map}
+use Rattle.std.proofs.Common.{◌≡◌, ⊎_elim, ℕ, zero, suc, ◌+◌, ◌<◌, Bool, true, false, cond, List, [], ◌∷◌, ◌++◌, length, map, Option, Some, None, refl, sym, ap, ◌∙◌, subst, arith}
+use Rattle.std.specs.Prelude.{◌==◌, ◌&&◌, not, All, option_map, option_and_then, slice_get, filter}
+use Rattle.std.specs.List.{AllByRecursion, list_any}
+use Rattle.std.proofs.lemmas.Bool.{or_parts, eqb-true, not-false}
+use Rattle.std.proofs.lemmas.List.{length-map}
 use Rattle.std.proofs.lemmas.List.Elements.{All-from_recursion, recursion_from_All}
+use Rattle.std.proofs.lemmas.Option.{same_Some}
 use Rattle.isle_core.specs.declared.TermId.{TermId}
 use Rattle.isle_core.specs.declared.TypeId.{TypeId}
 use Rattle.isle_core.specs.declared.types.Term.{Term}
-use Rattle.isle_core.specs.Calling.{kind_of, kind_by, may_be_nothing}
+use Rattle.isle_core.specs.declared.types.ConstructorKind.{ConstructorKind}
+use Rattle.isle_core.specs.declared.types.TermKind.TheVariants as kind
+use Rattle.isle_core.specs.declared.types.ExtractorKind.{ExtractorKind}
+use Rattle.isle_core.specs.declared.types.ExtractorKind.TheVariants as extractor
+use Rattle.isle_core.specs.Calling.{kind_of, may_be_nothing}
+use Rattle.isle_core.specs.Expr.{Expr as CoreExpr}
 use Rattle.isle_core.specs.Pattern as core
 use Rattle.isle_core.specs.Pattern.{Pattern as CorePattern}
-use Rattle.isle_core.specs.Rule.{Rule, Environment, rules_of}
+use Rattle.isle_core.specs.Rule.{Rule, IfLet, Environment, rules_of}
 use Rattle.isle_core.specs.BuiltRule.{IsBuiltPattern, IsBuiltRule, IsImpureRule}
 use Rattle.isle_core.specs.Scope.{all_variables, iflets_scope, IsInScope, AreIfLetsInScope, IsScopedRule}
 use Rattle.isle_syntax.specs.Tree as tree
-use Rattle.isle_syntax.specs.Tree.{Pattern, Def}
-use Rattle.isle_sema.proofs.Trees as elaborated
-use Rattle.isle_declarations.specs.Symbols.{index_of, pattern_names, symbols}
-use Rattle.isle_declarations.specs.Signatures.{Signature, RuleDef, signatures, externs, rule_defs, term_named, func_named, signature_named}
-use Rattle.isle_sema.specs.Elaborated.{type_of, term_of}
-use Rattle.isle_sema.proofs.Trees.{pattern_at, vars_after, patterns_at, term_or, rule_over, rules_from}
-use Rattle.isle_sema.proofs.RightSides.{calls_external, calls_partial}
-use Rattle.isle_declarations.specs.Repeats.{repeats}
-use Rattle.isle_sema.proofs.Wrong.{is_misplaced, any_misplaced, typed_vars, is_wrong, is_rhs_wrong, is_too_large, breaks, rules_fault, has_fault}
-use Rattle.isle_sema.specs.Language.{is_built_def, is_built_expr, is_built_pattern, are_none}
-use Rattle.isle_sema.proofs.RightSides.{rules_call_external}
-use Rattle.isle_sema.proofs.Decided.{are_external}
+use Rattle.isle_syntax.specs.Tree.{Def}
 use Rattle.isle_declarations.specs.Heads.{terms_of}
-use Rattle.isle_sema.specs.TypedRule.{IsPatternOf, ArePatternsOf, IsExprOf, IsRuleOf, IsTypedRule}
-use Rattle.isle_sema.specs.Typing.{Typed}
-use Rattle.isle_sema.proofs.Deciding.{decided}
-use Rattle.isle_sema.proofs.Decided.{env_made}
+use Rattle.isle_declarations.specs.Signatures.{Signature, RuleDef, signatures, rule_defs, term_named}
 use Rattle.isle_declarations.proofs.LookUps.{at_place, named_at}
-use Rattle.isle_sema.proofs.Parts.{forms, calls, sound_rules}
-use Rattle.isle_sema.proofs.TypedConstants.{type_below, integer_typed, integer_builtin}
-use Rattle.isle_sema.proofs.TypedExprs.{truth_typed, expr_typed, built_expr, scoped_expr, impure_expr}
-use Rattle.isle_sema.proofs.BoundVariables.{some_same}
-use Rattle.isle_sema.proofs.VariablesOnce.{apart_numbers}
+use Rattle.isle_declarations.proofs.SymbolLaws.{index_below}
+use Rattle.isle_sema.specs.Calls.{calls_ruled}
+use Rattle.isle_sema.specs.Scope.{variable}
+use Rattle.isle_sema.specs.Site.{Site, NotBuiltAt}
+use Rattle.isle_sema.specs.TypeNames.{type_named}
+use Rattle.isle_sema.specs.Whole.{Whole, declared, arg_types, ret_type}
+use Rattle.isle_sema.specs.PatternPass.{PatternsPass, patterns_pass}
+use Rattle.isle_sema.specs.ExprPass.{ExprPass, expr_pass}
+use Rattle.isle_sema.specs.RulePass.{patterns_of, right_side_of, conditions_of, rule_from, rule_pass, rules_pass}
+use Rattle.isle_sema.specs.RuleRows.{is_misplaced, is_met_otherwise, is_unknown, is_mistyped}
+use Rattle.isle_sema.specs.Context.{on}
+use Rattle.isle_sema.specs.Environment.{whole_of, constructor_named}
+use Rattle.isle_sema.specs.Judging.{is_partial_call}
+use Rattle.isle_sema.specs.Taken.{row_of}
+use Rattle.isle_sema.specs.Typing.{Typed}
+use Rattle.isle_sema.specs.TypedRule.{IsPatternOf, ArePatternsOf, IsExprOf, IsRuleOf, IsTypedRule}
+use Rattle.isle_sema.proofs.BuiltForms.{IsPlain, IsRuleBuilt, plain_of, rules_built}
+use Rattle.isle_sema.proofs.Firsts.{any_parts}
+use Rattle.isle_sema.proofs.Judgements.{row_fails}
+use Rattle.isle_sema.proofs.MadeTerms.{first_there, term_made, term_is, types_are}
+use Rattle.isle_sema.proofs.RuleLaws.{is_broken, none_fault, none_is}
+use Rattle.isle_sema.proofs.TypedExprs.{AreKept, IsOver, all_at, place_of, signature_at, expr_typed, built_expr, scoped_expr, impure_expr}
+use Rattle.isle_sema.proofs.TypedParts.{IsTypedIn, typed_in}
+use Rattle.isle_sema.proofs.TypedPatterns.{patterns_typed, numbers_apart, variable_stands}
 
--- ---- patterns
+-- ---- what a rule's tree is made of
 
-pattern_typed : (defs : List Def) (name : List ℕ) (p : Pattern) (vars : List (List ℕ)) → is_misplaced p (type_of name) ≡ false → IsPatternOf (env_made defs) (type_of name) (pattern_at (type_of name) p vars)
-pattern_typed defs name (tree.Int n) vars h = (refl, integer_typed (env_made defs) (type_of name).0 n (type_below name) h, integer_builtin (type_of name).0 (type_below name) h)
-pattern_typed defs name (tree.Truth b) vars h = truth_typed defs b (type_of name) h
-pattern_typed defs name (tree.Var x) vars h = refl
-pattern_typed defs name (tree.Const x) vars h = refl
-pattern_typed defs name tree.Wildcard vars h = refl
-pattern_typed defs name (tree.Bind x p) vars h = refl
-pattern_typed defs name (tree.And ps) vars h = refl
-pattern_typed defs name (tree.Term t ps) vars h = refl
+pub record IsRuleMade (w : Whole) (r : RuleDef) (x : Rule) : Type 0 where
+  pub root : term_named (signatures w.defs) r.term ≡ Some x.root_term
+  pub args : (patterns_of w r).trees ≡ Some x.args
+  pub iflets : conditions_of r.iflets ≡ Some x.iflets
+  pub rhs : (right_side_of w r).tree ≡ Some x.rhs
 
-args_typed : (defs : List Def) (names : List (List ℕ)) (ps : List Pattern) (vars : List (List ℕ)) → length ps ≡ length names → any_misplaced ps (map type_of names) ≡ false
-    → ArePatternsOf (env_made defs) (map type_of names) (patterns_at (map type_of names) ps vars)
-args_typed defs [] ps vars same h = tt
-args_typed defs (name ∷ names) [] vars same h = absurd (omega arith)
-args_typed defs (name ∷ names) (p ∷ ps) vars same h =
-    let k = or_parts (is_misplaced p (type_of name)) (any_misplaced ps (map type_of names)) h in
-    (pattern_typed defs name p vars k.0, args_typed defs names ps (vars_after p vars) (omega arith) k.1)
+pub rule_made : (w : Whole) (i : ℕ) (r : RuleDef) (x : Rule) → rule_pass w i r ≡ Some x → IsRuleMade w r x
+rule_made w i r x h = by (term_named (signatures w.defs) r.term) (patterns_of w r).trees (conditions_of r.iflets) (right_side_of w r).tree refl refl refl refl h
+  where
+    by : (term : Option TermId) (trees : Option (List CorePattern)) (cs : Option (List IfLet)) (e : Option CoreExpr) → term_named (signatures w.defs) r.term ≡ term → (patterns_of w r).trees ≡ trees → conditions_of r.iflets ≡ cs → (right_side_of w r).tree ≡ e
+        → option_and_then (λ (term : TermId). option_and_then (λ (args : List CorePattern). option_and_then (λ (iflets : List IfLet). option_map (rule_from w i r term args iflets) e) cs) trees) term ≡ Some x → IsRuleMade w r x
+    by None trees cs e t p c s k = absurd cc
+    by (Some term) None cs e t p c s k = absurd cc
+    by (Some term) (Some args) None e t p c s k = absurd cc
+    by (Some term) (Some args) (Some iflets) None t p c s k = absurd cc
+    by (Some term) (Some args) (Some iflets) (Some rhs) t p c s k =
+        let is = same_Some (rule_from w i r term args iflets rhs) x k in
+        record { root = t ∙ ap (λ (y : Rule). Some y.root_term) is; args = p ∙ ap (λ (y : Rule). Some y.args) is; iflets = c ∙ ap (λ (y : Rule). Some y.iflets) is; rhs = s ∙ ap (λ (y : Rule). Some y.rhs) is }
 
--- ---- a rule that breaks nothing
+-- ---- a rule that breaks no row
 
--- the right side is built, and no name of a pattern repeats
--- a term with no other flag may answer nothing where it is partial
-same_flag : (partial : Bool) → may_be_nothing (kind_by false partial) ≡ partial
-same_flag true = refl
-same_flag false = refl
+is_there : {A : Type 0} (xs : List A) (n : ℕ) → n < length xs → (x : A) × (slice_get xs n ≡ Some x)
+is_there [] n lt = absurd (omega arith)
+is_there (x ∷ xs) zero lt = (x, refl)
+is_there (x ∷ xs) (suc n) lt = is_there xs n (omega arith)
 
-is_built_rule : RuleDef → Bool
-is_built_rule r = is_built_expr r.rhs && not (repeats (flat_map pattern_names r.args))
+-- a term that has a number is declared
+signature_there : (w : Whole) (name : List ℕ) (term : TermId) → term_named (signatures w.defs) name ≡ Some term → (s : Signature) × (declared w name ≡ Some s)
+signature_there w name term h =
+    let sigs = signatures w.defs in
+    let at = place_of sigs name term h in
+    let lt = index_below (terms_of sigs) name term.0 at in
+    let long = length-map sigs (λ (s : Signature). s.term) in
+    let s = is_there sigs term.0 (omega (arith, lt, long)) in
+    (s.0, named_at sigs name ∙ ap (at_place sigs) at ∙ s.1)
 
-rule_typed : (defs : List Def) (r : RuleDef) (n i : ℕ) (x : Option Signature) → slice_get (signatures defs) n ≡ x → is_built_rule r ≡ true → calls_external (externs defs) r.rhs ≡ true → breaks (signatures defs) r x ≡ false
-    → IsTypedRule (env_made defs) (rule_over (symbols defs) (signatures defs) (record { 0 = n }) x i r)
-unfolding is_built_rule
-rule_typed defs r n i None is built external h = cc
-rule_typed defs r n i (Some s) is built external h =
-    let tys = map type_of s.args in
-    let of = term_of (symbols defs) (externs defs) (rule_defs defs) in
-    let wrong = is_wrong (signatures defs) (typed_vars r.args tys) r.rhs (type_of s.ret) in
-    let b = and_parts (is_built_expr r.rhs) (not (repeats (flat_map pattern_names r.args))) built in
-    let k = or_parts (not (length r.args == length s.args) || any_misplaced r.args tys || is_rhs_wrong (signatures defs) r s) (is_too_large r) h in
-    let l = or_parts (not (length r.args == length s.args) || any_misplaced r.args tys) (is_rhs_wrong (signatures defs) r s) k.0 in
-    let m = or_parts (not (length r.args == length s.args)) (any_misplaced r.args tys) l.0 in
-    let rhs = or_parts wrong (not s.partial && calls_partial (signatures defs) r.rhs) l.1 in
+no_iflets : (cs : List tree.IfLet) (iflets : List IfLet) → conditions_of cs ≡ Some iflets → iflets ≡ []
+no_iflets [] iflets h = sym (same_Some [] iflets h)
+no_iflets (c ∷ cs) iflets h = absurd cc
+
+-- a term without `multi` may answer nothing where it is partial
+may_answer : (pure multi partial recursive : Bool) (by : ConstructorKind) (extractor : ExtractorKind) → multi ≡ false → may_be_nothing (kind_of (kind.Decl pure multi partial recursive by extractor)) ≡ partial
+may_answer pure false true recursive by extractor h = refl
+may_answer pure false false recursive by extractor h = refl
+may_answer pure true partial recursive by extractor h = absurd cc
+
+rule_typed : (defs : List Def) (env : Environment) (i : ℕ) (r : RuleDef) (x : Rule) → IsTypedIn defs env → AllByRecursion IsPlain (signatures defs) → IsRuleBuilt r → row_of (whole_of defs) r ≡ None → calls_ruled (rule_defs defs) r.rhs ≡ false
+    → rule_pass (whole_of defs) i r ≡ Some x → IsTypedRule env x
+rule_typed defs env i r x g plain built row unruled h =
+    let w = whole_of defs in
+    let m = rule_made w i r x h in
+    let d = signature_there w r.term x.root_term m.root in
+    let s = d.0 in
+    let at = signature_at w r.term s x.root_term d.1 m.root in
+    let t = term_made w (signatures defs) env.terms x.root_term.0 s g.terms at in
+    let is = term_is w s t.term t.made in
+    let tys = types_are w.types s.args t.term.arg_tys is.args in
+    let f = row_fails w r row in
+    let ps = (patterns_of w r).sites in
+    let rs = (right_side_of w r).sites in
+    let cs : List Site = map (λ (c : tree.IfLet). NotBuiltAt) r.iflets in
+    let p = any_parts (is_misplaced w) ps (cs ++ rs) f.literal in
+    let q = any_parts is_met_otherwise ps (cs ++ rs) f.met in
+    let u = any_parts (is_unknown w) ps (cs ++ rs) f.name in
+    let v = any_parts (is_mistyped w) ps (cs ++ rs) f.typing in
+    let patterns : patterns_pass w (map Some t.term.arg_tys) [] r.args ≡ patterns_of w r = ap (λ os. patterns_pass w os [] r.args) (sym tys) ∙ ap (λ o. patterns_pass w (arg_types w o) [] r.args) (sym d.1) in
+    let right : expr_pass w (patterns_of w r).scope (Some t.term.ret_ty) r.rhs ≡ right_side_of w r =
+    ap (λ o. expr_pass w (patterns_of w r).scope o r.rhs) (sym is.ret) ∙ ap (λ o. expr_pass w (patterns_of w r).scope (ret_type w o) r.rhs) (sym d.1) in
+    let arity : not (length r.args == length s.args) ≡ false = ap (λ (o : Option Signature). on o (λ (y : Signature). not (length r.args == length y.args))) (sym d.1) ∙ f.arity in
+    let count : length r.args ≡ length t.term.arg_tys =
+    eqb-true (length r.args) (length s.args) (not-false (length r.args == length s.args) arity) ∙ sym (length-map s.args (type_named w.types)) ∙ ap length tys ∙ length-map t.term.arg_tys Some in
+    let flags = all_at IsPlain (signatures defs) x.root_term.0 s plain at in
+    let allowed : may_be_nothing (kind_of t.term.kind) ≡ s.partial = ap (λ (y : Term). may_be_nothing (kind_of y.kind)) (sym is.is) ∙ may_answer s.pure s.multi s.partial s.recursive (constructor_named w s.term) extractor.Absent flags.multi in
+    let calls : not s.partial && list_any is_partial_call rs ≡ false = ap (λ (o : Option Signature). on o (λ (y : Signature). not y.partial && list_any is_partial_call rs)) (sym d.1) ∙ f.partial in
+    let over : IsOver defs env (patterns_of w r).scope x.args = record {
+      given = g;
+      plain = plain;
+      bound = λ name y bound. ⊎_elim (λ (was : variable [] name ≡ Some y). absurd cc) (λ c. c) (variable_stands w (arg_types w (declared w r.term)) [] r.args x.args name y m.args bound);
+    } in
+    let kept : AreKept w s.partial rs = record { placed = (any_parts (is_misplaced w) cs rs p.1).1; known = (any_parts (is_unknown w) cs rs u.1).1; typed = (any_parts (is_mistyped w) cs rs v.1).1; partial = calls } in
     record {
-      term = of s;
-      root = slice_get-map of (signatures defs) n ∙ ap (option_map of) is;
+      term = t.term;
+      root = t.there;
       typed = record {
-        args = args_typed defs s.args r.args [] (eqb-true (length r.args) (length s.args) (not-false (length r.args == length s.args) m.0)) m.1;
-        once = (apart_numbers r.args tys [] (not-true (repeats (flat_map pattern_names r.args)) b.1)).once;
-        iflets = refl;
-        rhs = subst (λ x. IsExprOf (env_made defs) x (elaborated.patterns_at tys r.args []) (type_of s.ret) (elaborated.expr_at (signatures defs) (type_of s.ret) r.rhs (elaborated.vars_of r.args []))) (sym (same_flag s.partial)) (expr_typed defs s.partial r.args tys s.ret r.rhs b.0 external rhs.0 rhs.1);
+        args = patterns_typed defs env t.term.arg_tys [] r.args x.args g.types count (ap (λ (y : PatternsPass). y.trees) patterns ∙ m.args) (ap (λ (y : PatternsPass). list_any (is_misplaced w) y.sites) patterns ∙ p.0) (ap (λ (y : PatternsPass). list_any is_met_otherwise y.sites) patterns ∙ q.0);
+        once = (numbers_apart w (arg_types w (declared w r.term)) [] r.args x.args m.args built.apart).once;
+        iflets = no_iflets r.iflets x.iflets m.iflets;
+        rhs = subst (λ b. IsExprOf env b x.args t.term.ret_ty x.rhs) (sym allowed)
+            (expr_typed defs env s.partial (patterns_of w r).scope x.args t.term.ret_ty r.rhs x.rhs over (ap (λ (y : ExprPass). y.tree) right ∙ m.rhs) (subst (λ (y : ExprPass). AreKept w s.partial y.sites) (sym right) kept) unruled);
       };
     }
 
-rule_at : (defs : List Def) (r : RuleDef) (i : ℕ) (o : Option ℕ) → is_built_rule r ≡ true → calls_external (externs defs) r.rhs ≡ true → breaks (signatures defs) r (at_place (signatures defs) o) ≡ false
-    → IsTypedRule (env_made defs) (rule_over (symbols defs) (signatures defs) (term_or (option_map (λ (n : ℕ). record { 0 = n }) o)) (at_place (signatures defs) o) i r)
-rule_at defs r i None built external h = cc
-rule_at defs r i (Some n) built external h = rule_typed defs r n i (slice_get (signatures defs) n) refl built external h
-
-rules_typed : (defs : List Def) (i : ℕ) (rules : List RuleDef) → list_all is_built_rule rules ≡ true → rules_call_external (externs defs) rules ≡ true → rules_fault (signatures defs) (externs defs) rules ≡ false
-    → AllByRecursion (IsTypedRule (env_made defs)) (rules_from (symbols defs) (signatures defs) i rules)
-rules_typed defs i [] built external h = tt
-rules_typed defs i (r ∷ rules) built external h =
-    let sigs = signatures defs in
-    let k = or_parts (is_some (func_named (externs defs) r.term) || breaks sigs r (signature_named sigs r.term)) (rules_fault sigs (externs defs) rules) h in
-    let l = or_parts (is_some (func_named (externs defs) r.term)) (breaks sigs r (signature_named sigs r.term)) k.0 in
-    let b = and_parts (is_built_rule r) (list_all is_built_rule rules) built in
-    let x = and_parts (calls_external (externs defs) r.rhs) (rules_call_external (externs defs) rules) external in
-    let is = named_at sigs r.term in
-    let o = index_of (terms_of sigs) r.term in
-    let here = rule_at defs r i o b.0 x.0 (ap (breaks sigs r) (sym is) ∙ l.1) in (
-      subst (λ y. IsTypedRule (env_made defs) (rule_over (symbols defs) sigs (term_or (term_named sigs r.term)) y i r)) (sym is) here,
-      rules_typed defs (i + 1) rules b.1 x.1 k.1,
-    )
-
--- the rules among definitions that are built are built
-built_rules : (defs : List Def) → list_all is_built_def defs ≡ true → list_all is_built_rule (rule_defs defs) ≡ true
-unfolding is_built_rule
-built_rules [] h = refl
-built_rules (tree.Rule name prio term args iflets rhs pos ∷ defs) h =
-    let forms = list_all is_built_pattern args && are_none iflets in
-    let apart = not (repeats (flat_map pattern_names args)) in
-    let k = and_parts (is_built_def (tree.Rule name prio term args iflets rhs pos)) (list_all is_built_def defs) h in
-    let l = and_parts (forms && is_built_expr rhs) apart k.0 in
-    and_from (is_built_expr rhs && apart) (list_all is_built_rule (rule_defs defs)) (and_from (is_built_expr rhs) apart (and_parts forms (is_built_expr rhs) l.0).1 l.1) (built_rules defs k.1)
-built_rules (tree.TypeDecl name is_extern is_nodebug body pos ∷ defs) h = cc
-built_rules (tree.Decl term pure multi partial recursive args ret pos ∷ defs) h = built_rules defs (and_parts (is_built_def (tree.Decl term pure multi partial recursive args ret pos)) (list_all is_built_def defs) h).1
-built_rules (tree.ExternConstructor term func pos ∷ defs) h = built_rules defs h
-built_rules (tree.ExternExtractor term func infallible pos ∷ defs) h = cc
-built_rules (tree.ExternConst name ty pos ∷ defs) h = cc
-built_rules (tree.Extractor term params template pos ∷ defs) h = cc
-built_rules (tree.Converter from to term pos ∷ defs) h = cc
-built_rules (tree.Passed head items pos ∷ defs) h = cc
-
-env_typed : (defs : List Def) → are_external defs ≡ true → has_fault defs ≡ false → All (IsTypedRule (env_made defs)) (env_made defs).rules
-env_typed defs built sound =
-    All-from_recursion (IsTypedRule (env_made defs)) (env_made defs).rules (rules_typed defs 0 (rule_defs defs) (built_rules defs (forms defs built)) (calls defs built) (sound_rules defs sound))
+rules_typed : (defs : List Def) (env : Environment) (i : ℕ) (rules : List RuleDef) (xs : List Rule) → IsTypedIn defs env → AllByRecursion IsPlain (signatures defs) → AllByRecursion IsRuleBuilt rules → list_any (is_broken (whole_of defs)) rules ≡ false
+    → list_any (λ (r : RuleDef). calls_ruled (rule_defs defs) r.rhs) rules ≡ false → rules_pass (whole_of defs) i rules ≡ Some xs → AllByRecursion (IsTypedRule env) xs
+rules_typed defs env i [] xs g plain built rows unruled h = subst (AllByRecursion (IsTypedRule env)) (same_Some [] xs h) tt
+rules_typed defs env i (r ∷ rules) xs g plain built rows unruled h =
+    let w = whole_of defs in
+    let f = first_there (rule_pass w i r) (rules_pass w (i + 1) rules) xs h in
+    let k = or_parts (is_broken w r) (list_any (is_broken w) rules) rows in
+    let c = or_parts (calls_ruled (rule_defs defs) r.rhs) (list_any (λ (x : RuleDef). calls_ruled (rule_defs defs) x.rhs) rules) unruled in
+    subst (AllByRecursion (IsTypedRule env)) (sym f.all)
+    (rule_typed defs env i r f.first g plain built.0 (none_is (row_of w r) k.0) c.0 f.here, rules_typed defs env (i + 1) rules f.others g plain built.1 k.1 c.1 f.found)
 
 -- the rules of an environment are typed
 pub typed_rules : (defs : List Def) (env : Environment) → Typed defs env → All (IsTypedRule env) env.rules
-typed_rules defs env h = subst (λ (e : Environment). All (IsTypedRule e) e.rules) (sym (decided h).given) (env_typed defs (decided h).built (decided h).sound)
+typed_rules defs env t =
+    let g = typed_in t in
+    All-from_recursion (IsTypedRule env) env.rules (rules_typed defs env 0 (rule_defs defs) env.rules g (plain_of defs g.built) (rules_built defs g.built) (none_fault (whole_of defs) [] defs g.rules_kept) g.unruled g.rules)
 
 -- ---- what typed rules are
 
@@ -195,7 +214,7 @@ typed_impure defs env h k d lt = let t = typed_rules defs env h k d lt in impure
 of_term : (env : Environment) (id : TermId) (t : Term) (r : Rule) → slice_get env.terms id.0 ≡ Some t → r.root_term.0 == id.0 ≡ true → IsTypedRule env r → IsRuleOf env t r
 of_term env id t r at same h =
     let one : Some h.term ≡ Some t = sym h.root ∙ ap (slice_get env.terms) (eqb-true r.root_term.0 id.0 same) ∙ at in
-    subst (λ x. IsRuleOf env x r) (some_same h.term t one) h.typed
+    subst (λ x. IsRuleOf env x r) (same_Some h.term t one) h.typed
 
 among : (env : Environment) (id : TermId) (t : Term) (r : Rule) (rs : List Rule) (b : Bool) → slice_get env.terms id.0 ≡ Some t → r.root_term.0 == id.0 ≡ b → IsTypedRule env r → AllByRecursion (IsRuleOf env t) rs
     → AllByRecursion (IsRuleOf env t) (cond b (r ∷ rs) rs)

@@ -1,79 +1,70 @@
 -- What the terms of an environment are to its definitions.
-use Rattle.std.proofs.Common.{◌≡◌, ℕ, zero, suc, ◌+◌, ◌<◌, ◌≤◌, Bool, false, List, [], ◌∷◌, length, map, Option, Some, None, refl, sym, ap, ◌∙◌, subst, arith}
-use Rattle.std.specs.Prelude.{Contains, option_map, slice_get, IsSomeAnd}
+use Rattle.std.proofs.Common.{◌≡◌, ℕ, zero, suc, ◌+◌, ◌<◌, ◌≤◌, Bool, false, List, [], ◌∷◌, length, map, Some, refl, sym, ap, ◌∙◌, subst, arith}
+use Rattle.std.specs.Prelude.{Contains, slice_get}
 use Rattle.std.specs.List.{AllByRecursion, IsDistinct, range_with_len}
 use Rattle.std.specs.Str.{bytes_eq}
-use Rattle.std.proofs.lemmas.Option.{slice_get-map, same_Some}
+use Rattle.std.proofs.lemmas.Option.{same_Some}
 use Rattle.std.proofs.lemmas.List.Elements.{All-from_recursion, All-filter, All-contains}
 use Rattle.isle_core.specs.declared.TermId.{TermId}
+use Rattle.isle_core.specs.declared.TypeId.{TypeId}
 use Rattle.isle_core.specs.declared.types.Term.{Term}
+use Rattle.isle_core.specs.declared.types.TypeEnv.{TypeEnv}
 use Rattle.isle_core.specs.declared.types.TermKind.TheVariants as kind
 use Rattle.isle_core.specs.declared.types.ConstructorKind.{ConstructorKind}
 use Rattle.isle_core.specs.declared.types.ExtractorKind.TheVariants as extractor
-use Rattle.isle_core.specs.BuiltinType.{IsBuiltinDef, IsBuiltinType}
+use Rattle.isle_core.specs.BuiltinType.{IsBuiltinType}
 use Rattle.isle_core.specs.Rule.{Environment}
-use Rattle.isle_core.specs.Terms.{sym_text, term_ids, has_rules, with_rules}
+use Rattle.isle_core.specs.Terms.{symbol_text, sym_text, term_ids, has_rules, with_rules}
 use Rattle.isle_core.proofs.Contained.{head_contained, tail_contained}
 use Rattle.isle_syntax.specs.Tree as tree
 use Rattle.isle_syntax.specs.Tree.{Def}
 use Rattle.isle_syntax.specs.Positions.{place_of}
-use Rattle.isle_declarations.specs.Symbols.{symbols}
-use Rattle.isle_sema.specs.Builtins.{builtins}
-use Rattle.isle_declarations.specs.Signatures.{Signature, signatures, externs, rule_defs, func_named, has_rule}
-use Rattle.isle_sema.specs.Elaborated.{type_of, term_of}
-use Rattle.isle_sema.specs.Environment.{constructor_of}
 use Rattle.isle_declarations.specs.Heads.{terms_of}
-use Rattle.isle_sema.specs.Typing.{Typed}
-use Rattle.isle_sema.proofs.Deciding.{decided}
-use Rattle.isle_sema.proofs.Decided.{env_made}
-use Rattle.isle_sema.proofs.Parts.{names_apart}
-use Rattle.isle_sema.proofs.TypedConstants.{type_below}
-use Rattle.isle_sema.proofs.DeclaredNames.{declared_names}
+use Rattle.isle_declarations.specs.Signatures.{Signature, signatures}
+use Rattle.isle_declarations.proofs.DeclaredNames.{AreAmong, are_among, text_of}
 use Rattle.isle_declarations.proofs.DistinctNames.{distinct_names}
-
--- ---- the declaration of a term
-
-some_term : (f : Signature → Term) (o : Option Signature) (t : Term) → option_map f o ≡ Some t → (s : Signature) × (o ≡ Some s) × (f s ≡ t)
-some_term f None t e = absurd cc
-some_term f (Some s) t e = (s, refl, same_Some (f s) t e)
-
-pub declared : (defs : List Def) (env : Environment) (i : ℕ) (t : Term) → Typed defs env → slice_get env.terms i ≡ Some t → (s : Signature) × (slice_get (signatures defs) i ≡ Some s) × (term_of (symbols defs) (externs defs) (rule_defs defs) s ≡ t)
-declared defs env i t h at =
-    let f = term_of (symbols defs) (externs defs) (rule_defs defs) in
-    some_term f (slice_get (signatures defs) i) t (sym (slice_get-map f (signatures defs) i) ∙ ap (λ (e : Environment). slice_get e.terms i) (sym (decided h).given) ∙ at)
+use Rattle.isle_sema.specs.Whole.{Whole}
+use Rattle.isle_sema.specs.Environment.{types_of, whole_of, types_named, constructor_named, term_pass, terms_pass}
+use Rattle.isle_sema.specs.Typing.{Typed}
+use Rattle.isle_sema.proofs.BuiltForms.{IsPlain, forms_of, plain_of}
+use Rattle.isle_sema.proofs.MadeTerms.{first_there, made_of, term_is}
+use Rattle.isle_sema.proofs.TermFaults.{terms_kept}
+use Rattle.isle_sema.proofs.TypedConstants.{named_builtin}
+use Rattle.isle_sema.proofs.TypedExprs.{all_at}
+use Rattle.isle_sema.proofs.TypedParts.{typed_in}
 
 -- ---- its types
 
-is_at : {A : Type 0} (P : A → Type 0) (xs : List A) (n : ℕ) → AllByRecursion P xs → n < length xs → IsSomeAnd (slice_get xs n) P
-is_at P [] n h lt = absurd (omega arith)
-is_at P (x ∷ xs) zero h lt = h.0
-is_at P (x ∷ xs) (suc n) h lt = is_at P xs n h.1 (omega arith)
-
-are_builtin : AllByRecursion IsBuiltinDef builtins
-are_builtin = (tt, (tt, (tt, (tt, (tt, (tt, (tt, (tt, (tt, (tt, (tt, (tt, (tt, tt)))))))))))))
-
-name_built : (defs : List Def) (name : List ℕ) → IsBuiltinType (env_made defs) (type_of name)
-name_built defs name = is_at IsBuiltinDef builtins (type_of name).0 are_builtin (type_below name)
-
-names_built : (defs : List Def) (names : List (List ℕ)) → AllByRecursion (IsBuiltinType (env_made defs)) (map type_of names)
-names_built defs [] = tt
-names_built defs (name ∷ names) = (name_built defs name, names_built defs names)
+types_builtin : (defs : List Def) (env : Environment) (names : List (List ℕ)) (tys : List TypeId) → env.types ≡ types_of defs → types_named (types_of defs) names ≡ Some tys → AllByRecursion (IsBuiltinType env) tys
+types_builtin defs env [] tys types h = subst (AllByRecursion (IsBuiltinType env)) (same_Some [] tys h) tt
+types_builtin defs env (name ∷ names) tys types h =
+    let f = first_there _ (types_named (types_of defs) names) tys h in
+    subst (AllByRecursion (IsBuiltinType env)) (sym f.all) (named_builtin defs env name f.first types f.here, types_builtin defs env names f.others types f.found)
 
 -- the types of a term are builtin
 pub typed_types : (defs : List Def) (env : Environment) (i : ℕ) (t : Term) → Typed defs env → slice_get env.terms i ≡ Some t → AllByRecursion (IsBuiltinType env) (t.ret_ty ∷ t.arg_tys)
 typed_types defs env i t h at =
-    let d = declared defs env i t h at in
-    subst (λ (u : Term). AllByRecursion (IsBuiltinType env) (u.ret_ty ∷ u.arg_tys)) d.2
-    (subst (λ (e : Environment). AllByRecursion (IsBuiltinType e) (type_of d.0.ret ∷ map type_of d.0.args)) (sym (decided h).given) (name_built defs d.0.ret, names_built defs d.0.args))
+    let g = typed_in h in
+    let m = made_of (whole_of defs) (signatures defs) env.terms i t g.terms at in
+    let is = term_is (whole_of defs) m.signature t m.made in
+    (named_builtin defs env m.signature.ret t.ret_ty g.types is.ret, types_builtin defs env m.signature.args t.arg_tys g.types is.args)
 
 -- ---- its kind
+
+pub plain_kind : (pure multi partial recursive : Bool) (by : ConstructorKind) → pure ≡ false → multi ≡ false → recursive ≡ false → kind.Decl false false partial false by extractor.Absent ≡ kind.Decl pure multi partial recursive by extractor.Absent
+plain_kind pure multi partial recursive by p m r =
+    ap (λ b. kind.Decl b false partial false by extractor.Absent) (sym p) ∙ ap (λ b. kind.Decl pure b partial false by extractor.Absent) (sym m) ∙ ap (λ b. kind.Decl pure multi partial b by extractor.Absent) (sym r)
 
 -- a term has at most the flag `partial`, and no extractor
 pub typed_kind : (defs : List Def) (env : Environment) (i : ℕ) (t : Term) → Typed defs env → slice_get env.terms i ≡ Some t → (partial : Bool) × (by : ConstructorKind) × (kind.Decl false false partial false by extractor.Absent ≡ t.kind)
 typed_kind defs env i t h at =
-    let d = declared defs env i t h at in
-    let by = constructor_of (symbols defs) (func_named (externs defs) d.0.term) (has_rule (rule_defs defs) d.0.term) in
-    (d.0.partial, by, ap (λ (u : Term). u.kind) d.2)
+    let g = typed_in h in
+    let m = made_of (whole_of defs) (signatures defs) env.terms i t g.terms at in
+    let s = m.signature in
+    let is = term_is (whole_of defs) s t m.made in
+    let flags = all_at IsPlain (signatures defs) i s (plain_of defs g.built) m.there in
+    let by = constructor_named (whole_of defs) s.term in
+    (s.partial, by, plain_kind s.pure s.multi s.partial s.recursive by flags.pure flags.multi flags.recursive ∙ ap (λ (u : Term). u.kind) is.is)
 
 -- ---- its place
 
@@ -107,9 +98,9 @@ stands_in (tree.Passed head items pos ∷ defs) i s e = later (tree.Passed head 
 pub typed_places : (defs : List Def) (env : Environment) (i : ℕ) (t : Term) → Typed defs env → slice_get env.terms i ≡ Some t → (d : Def) × Contains defs d × (place_of d ≡ t.decl_pos)
 unfolding StandsIn
 typed_places defs env i t h at =
-    let d = declared defs env i t h at in
-    let s = stands_in defs i d.0 d.1 in
-    (s.0, s.1, s.2 ∙ ap (λ (u : Term). u.decl_pos) d.2)
+    let m = made_of (whole_of defs) (signatures defs) env.terms i t (typed_in h).terms at in
+    let s = stands_in defs i m.signature m.there in
+    (s.0, s.1, s.2 ∙ ap (λ (u : Term). u.decl_pos) (term_is (whole_of defs) m.signature t m.made).is)
 
 -- ---- the terms with rules
 
@@ -131,8 +122,18 @@ typed_there defs env id h among =
 
 -- ---- their names
 
+names_are : (w : Whole) (sigs : List Signature) (terms : List Term) → terms_pass w sigs ≡ Some terms → AreAmong w.types.syms sigs → map (λ (t : Term). symbol_text w.types t.name) terms ≡ terms_of sigs
+names_are w [] terms h among = ap (map (λ (t : Term). symbol_text w.types t.name)) (sym (same_Some [] terms h))
+names_are w (s ∷ sigs) terms h among =
+    let f = first_there (term_pass w s) (terms_pass w sigs) terms h in
+    let is = term_is w s f.first f.here in
+    ap (map (λ (t : Term). symbol_text w.types t.name)) f.all
+    ∙ ap (λ name. name ∷ map (λ (t : Term). symbol_text w.types t.name) f.others) (ap (λ (t : Term). symbol_text w.types t.name) (sym is.is) ∙ text_of w.types.syms s.term among.0.0 among.0.1)
+    ∙ ap (λ names. s.term ∷ names) (names_are w sigs f.others f.found among.1)
+
 -- the declared names don't repeat
 pub typed_names : (defs : List Def) (env : Environment) → Typed defs env → IsDistinct bytes_eq (map (λ (t : Term). sym_text env t.name) env.terms)
 typed_names defs env h =
-    subst (λ (e : Environment). IsDistinct bytes_eq (map (λ (t : Term). sym_text e t.name) e.terms)) (sym (decided h).given)
-    (subst (IsDistinct bytes_eq) (sym (declared_names defs)) (distinct_names (terms_of (signatures defs)) (names_apart defs (decided h).sound)))
+    let g = typed_in h in
+    subst (λ (types : TypeEnv). IsDistinct bytes_eq (map (λ (t : Term). symbol_text types t.name) env.terms)) (sym g.types)
+    (subst (IsDistinct bytes_eq) (sym (names_are (whole_of defs) (signatures defs) env.terms g.terms (are_among defs))) (distinct_names (terms_of (signatures defs)) (terms_kept defs [] defs (forms_of defs g.built) g.terms_kept).apart))

@@ -1,6 +1,5 @@
 pub mod Builtins
 pub mod Reduced
-pub mod Elaborated
 pub mod Calls
 pub mod Language
 pub mod TypedRule

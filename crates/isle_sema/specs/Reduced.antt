@@ -9,7 +9,6 @@ use Rattle.isle_core.specs.declared.types.TypeDef.{TypeDef}
 use Rattle.isle_core.specs.declared.types.TypeDef.TheVariants.{Builtin, Primitive, Enum, Struct}
 use Rattle.isle_core.specs.declared.types.TypeEnv.{TypeEnv}
 use Rattle.isle_core.specs.Int.{residue, wrapped}
-use Rattle.isle_sema.specs.Builtins.{builtins}
 
 -- the number of the type that z wraps to, u128 as its 128 signed bits
 abbrev pub reduced : IntType → ℤ → ℤ
@@ -48,16 +47,3 @@ int_type_by (Some (Builtin (Int ty))) = Some ty
 int_type_by (Some (Primitive name rust pos)) = None
 int_type_by (Some (Enum name is_extern is_nodebug variants pos)) = None
 int_type_by (Some (Struct name is_extern is_nodebug fields pos)) = None
-
--- a number of a type of this definition; of no other definition is it built
-abbrev pub reduced_by : Option TypeDef → ℤ → ℤ
-reduced_by None z = z
-reduced_by (Some (Builtin Truths)) z = z
-reduced_by (Some (Builtin (Int ty))) z = reduced ty z
-reduced_by (Some (Primitive name rust pos)) z = z
-reduced_by (Some (Enum name is_extern is_nodebug variants pos)) z = z
-reduced_by (Some (Struct name is_extern is_nodebug fields pos)) z = z
-
--- a number of a type
-abbrev pub reduced_at : TypeId → ℤ → ℤ
-reduced_at ty z = reduced_by (slice_get builtins ty.0) z

@@ -2,9 +2,8 @@
 
 ghost use Rattle.std.specs.Prelude.{◌≡◌};
 ghost use Rattle.isle_sema.specs.Builtins.{builtin_named};
-ghost use Rattle.isle_sema.specs.Elaborated.{type_of};
 
-use isle_core::{Text, TypeId};
+use isle_core::TypeId;
 
 /// Returns the type of a name.
 pub fn type_named(name: &str) -> Option<TypeId>
@@ -27,14 +26,4 @@ pub fn type_named(name: &str) -> Option<TypeId>
         _ => return None,
     };
     Some(TypeId(number))
-}
-
-/// Returns the type of a name, or bool.
-pub fn type_of(name: &Text) -> TypeId
-    ensures { result ≡ type_of name.now }
-{
-    match type_named(name.as_str()) {
-        Some(ty) => ty,
-        None => TypeId(0),
-    }
 }

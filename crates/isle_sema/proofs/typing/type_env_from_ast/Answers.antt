@@ -1,4 +1,4 @@
-use Rattle.std.proofs.Common.{◌≡◌, rules, true, false, [], ap, sym, ◌∙◌}
+use Rattle.std.proofs.Common.{◌≡◌, rules, true, false, []}
 use Rattle.std.specs.List.{list_all, list_any}
 use Rattle.isle_syntax.specs.Views.{defs as seen}
 use Rattle.isle_declarations.specs.Signatures.{rule_defs}
