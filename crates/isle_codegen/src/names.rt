@@ -66,12 +66,19 @@ fn is_term_name(name: &str) -> bool
     name.as_bytes().iter().all(|byte| is_word_byte(*byte))
 }
 
+// Whether the name of a term may be emitted.
+fn has_term_name(typeenv: &TypeEnv, termenv: &TermEnv, id: TermId) -> bool
+    ensures { result ≡ is_term_name (term_name (environment typeenv.now termenv.now) id) }
+{
+    is_term_name(typeenv.term_name(termenv.terms.as_slice(), id))
+}
+
 // Whether the names of the listed terms may be emitted.
 fn are_listed_names(typeenv: &TypeEnv, termenv: &TermEnv, terms: &[(TermId, RuleSet)]) -> bool
     ensures { result ≡ list_all (λ t. is_term_name (term_name (environment typeenv.now termenv.now) t.0)) terms.now }
 {
     for listed in terms {
-        if !is_term_name(typeenv.term_name(termenv.terms.as_slice(), listed.0)) {
+        if !has_term_name(typeenv, termenv, listed.0) {
             return false;
         }
     }
