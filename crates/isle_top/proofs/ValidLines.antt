@@ -158,9 +158,14 @@ only_memory_wants request refusal.ArgCount fs before after v h calm = not_run re
 only_memory_wants request (refusal.ArgType i) fs before after v h calm = not_run request fs (refusal.ArgType i) v h
 only_memory_wants request (refusal.BadAnswers at) fs before after v h calm = not_run request fs (refusal.BadAnswers at) v h
 
--- so a valid line is answered, unless memory is wanting
+-- so no other refusal is one of a valid line
+pub none_else : (request : Request) (e : Refusal) (files : Option Contents) (before after : Counts) → HasCause e request files before after → IsSomeAnd files (IsValidLine request)
+    → (Rose before.faults after.faults → ⊥) → e ≡ refusal.Memory
+none_else request e None before after h v calm = absurd v
+none_else request e (Some fs) before after h v calm = only_memory_wants request e fs before after v h calm
+
+-- so a valid line has its reply, unless memory is wanting
 pub replied_unless : {T : Type 0} (request : Request) (r : Result T Refusal) (files : Option Contents) (before after : Counts) → IfErr r (λ e. HasCause e request files before after) → IsSomeAnd files (IsValidLine request)
     → (Rose before.faults after.faults → ⊥) → IsOkUnless r refusal.Memory
 replied_unless request (Ok x) files before after h v calm = tt
-replied_unless request (Err e) None before after h v calm = absurd v
-replied_unless request (Err e) (Some fs) before after h v calm = only_memory_wants request e fs before after v h calm
+replied_unless request (Err e) files before after h v calm = none_else request e files before after h v calm
