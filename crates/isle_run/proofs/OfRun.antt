@@ -13,6 +13,7 @@ use Rattle.isle_run.specs.declared.refusal.Refusal.TheVariants as refusal
 abbrev pub IsOfRun : Refusal → Type 0
 IsOfRun refusal.NotYet = Unit {0}
 IsOfRun (refusal.Unread index why) = ⊥
+IsOfRun (refusal.Errors errors) = Unit {0}
 IsOfRun refusal.NoTerm = Unit {0}
 IsOfRun refusal.ArgCount = Unit {0}
 IsOfRun (refusal.ArgType i) = Unit {0}
@@ -30,5 +31,6 @@ run_of a text _ (no_lines.wrong forms i spelt built h) = tt
 -- so of what gives no lines
 pub lines_of : (options : CodegenOptions) (files : Files) (term : List ℕ) (ws : Writtens) (text : List ℕ) (e : Refusal) → HasNoLines options files term ws text e → IsOfRun e
 lines_of options files term ws text _ (no_lines.not_of_it h) = tt
+lines_of options files term ws text _ (no_lines.faulty errors h) = tt
 lines_of options files term ws text _ (no_lines.refused e s) = run_of _ text e s.refused
 lines_of options files term ws text _ no_lines.memory = tt

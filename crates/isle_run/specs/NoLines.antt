@@ -15,7 +15,9 @@ use Rattle.isle_tree.specs.Program.{Program}
 use Rattle.isle_interpreter.specs.Judged.{Takes}
 use Rattle.isle_interpreter.specs.Refusals.{IsRefused}
 use Rattle.isle_interpreter.specs.declared.run_error.RunError.TheVariants as error
-use Rattle.isle_codegen.specs.Causes.{IsNotOfIt}
+use Rattle.isle_core.specs.declared.errors.Errors.{Errors}
+use Rattle.isle_codegen.specs.declared.file_error.FileError.TheVariants as file
+use Rattle.isle_codegen.specs.Causes.{IsNotOfIt, IsRefusal}
 use Rattle.isle_codegen.specs.Checked.{IsChecked}
 use Rattle.isle_run.specs.declared.refusal.Refusal.{Refusal}
 use Rattle.isle_run.specs.declared.refusal.Refusal.TheVariants as refusal
@@ -43,8 +45,9 @@ pub record IsSourceRefused (options : CodegenOptions) (files : Files) (term : Li
   pub conforms : Conforms options files env program
   pub refused : IsRunRefused (record { program = program; env = env; term = term; args = args_given env term ws }) text e
 
--- why there are no lines: the source is not of the language, or it isn't run; or memory ran out
+-- why there are no lines: the source is not of the language, or errors are in it; or it isn't run; or memory ran out
 pub data HasNoLines (options : CodegenOptions) (files : Files) (term : List ℕ) (ws : Writtens) (text : List ℕ) : Refusal → Type 0 where
   not_of_it : IsNotOfIt files.file_names files.file_texts → HasNoLines options files term ws text refusal.NotYet
+  faulty : (errors : Errors) → IsRefusal (file.Errors errors) files.file_names files.file_texts → HasNoLines options files term ws text (refusal.Errors errors)
   refused : (e : Refusal) → IsSourceRefused options files term ws text e → HasNoLines options files term ws text e
   memory : HasNoLines options files term ws text refusal.Memory

@@ -1,14 +1,16 @@
-use isle_core::{IoCause, OutOfMemory};
+use isle_core::{Errors, IoCause, OutOfMemory};
 use isle_interpreter::RunError;
 use std::alloc::{AllocError, AllocFailed};
 
 /// Why a line of words is not answered.
-#[derive(Clone, Copy, Debug, PartialEq, Eq)]
+#[derive(Debug, Drop)]
 pub enum Refusal {
     /// The line, a source, or a form of the answers is not of what is built.
     NotYet,
     /// The first input that was not read, by its place among the inputs, and the cause.
     Unread(usize, IoCause),
+    /// What is wrong in the source, each error with its place.
+    Errors(Errors),
     /// No term with rules has the name.
     NoTerm,
     /// Another number of arguments.

@@ -39,10 +39,10 @@ pub fn trial(
     let checked = match check_files(alloc, files) {
         Ok(checked) => checked,
         Err(FileError::NotYet) => return Err(Refusal::NotYet),
-        Err(FileError::Memory | FileError::Io { .. } | FileError::Errors(_) | FileError::Name(_)) =>
-            {
-                return Err(Refusal::Memory);
-            }
+        Err(FileError::Errors(errors)) => return Err(Refusal::Errors(errors)),
+        Err(FileError::Memory | FileError::Io { .. } | FileError::Name(_)) => {
+            return Err(Refusal::Memory);
+        }
     };
     of_checked(alloc, files, options, &checked, term, given, answers)
 }

@@ -1,5 +1,5 @@
 -- What a refusal says and writes.
-use Rattle.std.proofs.Common.{◌≡◌, ℕ, zero, suc, ◌+◌, ◌<◌, length, List, [], ◌∷◌, drop, Option, Some, Result, Ok, Err, refl, inl, inr, arith}
+use Rattle.std.proofs.Common.{◌≡◌, ℕ, zero, suc, ◌+◌, ◌<◌, length, List, [], ◌∷◌, drop, Option, Some, Result, Ok, Err, refl, sym, subst, inl, inr, arith}
 use Rattle.std.specs.Prelude.{IsSomeAnd, slice_get, OnOk, OnErr}
 use Rattle.std.proofs.lemmas.List.{take-append-drop}
 use Rattle.isle_outside.specs.Directory.{Contents, Counts, Rose}
@@ -12,7 +12,7 @@ use Rattle.isle_run.specs.declared.refusal.Refusal.TheVariants as refusal
 use Rattle.isle_top.specs.Requests.{inputs_of}
 use Rattle.isle_top.specs.Causes.{HasCause}
 use Rattle.isle_top.specs.Lines.{Wrote, unread_line, bad_word_line}
-use Rattle.isle_top.specs.Statuses.{IsOfLine, IsNoLine, Tells, Says}
+use Rattle.isle_top.specs.Statuses.{IsOfLine, IsNoLine, Tells, Says, IsTold, Ends}
 use Rattle.isle_top.specs.Statuses as statuses
 
 -- a line was written, or a front of it
@@ -26,10 +26,11 @@ at_number [] i P lt f = absurd (omega (arith, lt))
 at_number (name ∷ names) zero P lt f = f name refl
 at_number (name ∷ names) (suc i) P lt f = at_number names i P (omega (arith, lt)) f
 
--- an input that is told is one of the line
+-- an input that is told is one of the line, and errors stand in the files
 pub of_line : (request : Request) (e : Refusal) (files : Option Contents) (before after : Counts) → HasCause e request files before after → IsOfLine request e
 of_line request refusal.NotYet files before after h = tt
 of_line request (refusal.Unread index why) files before after h = h.1.0
+of_line request (refusal.Errors errors) files before after h = h.0
 of_line request refusal.NoTerm files before after h = tt
 of_line request refusal.ArgCount files before after h = tt
 of_line request (refusal.ArgType i) files before after h = tt
@@ -41,11 +42,30 @@ pub says_refusal : {asks : Request → Type 0} {none : Type 0} {files : Option C
     → asks request → HasCause e request files before after → Tells request wrote e → Says asks none files before after quiet wrote (statuses.status_of e)
 says_refusal request refusal.NotYet a cause line = statuses.refused request refusal.NotYet (λ same. absurd cc) a cause line
 says_refusal request (refusal.Unread index why) a cause line = statuses.refused request (refusal.Unread index why) (λ same. absurd cc) a cause line
+says_refusal request (refusal.Errors errors) a cause line = statuses.refused request (refusal.Errors errors) (λ same. absurd cc) a cause line
 says_refusal request refusal.NoTerm a cause line = statuses.refused request refusal.NoTerm (λ same. absurd cc) a cause line
 says_refusal request refusal.ArgCount a cause line = statuses.refused request refusal.ArgCount (λ same. absurd cc) a cause line
 says_refusal request (refusal.ArgType i) a cause line = statuses.refused request (refusal.ArgType i) (λ same. absurd cc) a cause line
 says_refusal request (refusal.BadAnswers at) a cause line = statuses.refused request (refusal.BadAnswers at) (λ same. absurd cc) a cause line
 says_refusal request refusal.Memory a cause line = statuses.no_memory line
+
+-- what is said of a refusal that was told
+says_told : {asks : Request → Type 0} {none : Type 0} {files : Option Contents} {before after : Counts} {quiet : Type 0} {wrote : List ℕ → Type 0} (request : Request) (e : Refusal) (status : ℕ)
+    → asks request → HasCause e request files before after → IsTold request wrote e status → Says asks none files before after quiet wrote status
+says_told {asks} {none} {files} {before} {after} {quiet} {wrote} request e status a cause h = subst (Says asks none files before after quiet wrote) (sym h.0) (says_refusal request e a cause h.1)
+
+-- so of one that ended
+pub says_end : {asks : Request → Type 0} {none : Type 0} {files : Option Contents} {before after : Counts} {quiet : Type 0} {wrote : List ℕ → Type 0} (request : Request) (e : Refusal) (status : ℕ)
+    → asks request → HasCause e request files before after → Ends request wrote e status → Says asks none files before after quiet wrote status
+says_end request refusal.NotYet status a cause h = says_told request refusal.NotYet status a cause h
+says_end request (refusal.Unread index why) status a cause h = says_told request (refusal.Unread index why) status a cause h
+says_end request (refusal.Errors errors) status a cause (inl h) = says_told request (refusal.Errors errors) status a cause h
+says_end {asks} {none} {files} {before} {after} {quiet} {wrote} request (refusal.Errors errors) status a cause (inr h) = subst (Says asks none files before after quiet wrote) (sym h.0) (statuses.no_memory h.1)
+says_end request refusal.NoTerm status a cause h = says_told request refusal.NoTerm status a cause h
+says_end request refusal.ArgCount status a cause h = says_told request refusal.ArgCount status a cause h
+says_end request (refusal.ArgType i) status a cause h = says_told request (refusal.ArgType i) status a cause h
+says_end request (refusal.BadAnswers at) status a cause h = says_told request (refusal.BadAnswers at) status a cause h
+says_end request refusal.Memory status a cause h = says_told request refusal.Memory status a cause h
 
 -- a word with which no line goes on
 pub bad_word : (words : List (List ℕ)) (i : ℕ) (wrote : List ℕ → Type 0) → IsBad words i → ((word : List ℕ) → slice_get words i ≡ Some word → wrote (bad_word_line word)) → IsNoLine words wrote

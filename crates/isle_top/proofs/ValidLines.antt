@@ -7,19 +7,19 @@ use Rattle.isle_outside.specs.declared.errors.IoCause.{IoCause}
 use Rattle.isle_outside.specs.declared.errors.IoCause.TheVariants as cause
 use Rattle.isle_core.specs.Inputs.{AreRead, FailsAt, Fails}
 use Rattle.isle_core.specs.declared.read_error.ReadError.TheVariants as read
+use Rattle.isle_core.specs.declared.errors.Errors.{Errors}
 use Rattle.isle_values.specs.Written.{Writtens}
-use Rattle.isle_codegen.specs.Causes.{printed, IsNotBuilt, IsNotOfIt as IsUncompiled}
-use Rattle.isle_codegen.specs.Names.{are_file_names}
+use Rattle.isle_codegen.specs.Causes.{IsNotBuilt}
 use Rattle.isle_codegen.specs.Source.{InLanguage}
 use Rattle.isle_command_line.specs.Request.{Request, Help, Version, Compile, Build, Prelude, Units, Isa, Run}
-use Rattle.isle_command_line.specs.Lines.{no_options}
+use Rattle.isle_core.specs.declared.options.CodegenOptions.{CodegenOptions}
 use Rattle.isle_run.specs.Valid.{CanRun}
 use Rattle.isle_run.specs.declared.refusal.Refusal.{Refusal}
 use Rattle.isle_run.specs.declared.refusal.Refusal.TheVariants as refusal
 use Rattle.isle_run.proofs.Complete.{only_memory}
-use Rattle.isle_top.specs.Requests.{IsBuilt, IsOne, inputs_of, answers_names, source_name}
-use Rattle.isle_top.specs.Causes.{GivesNoLines, IsNotOfIt, IsNotRun, HasCause}
-use Rattle.isle_top.specs.Valid.{IsValid, AreValid, IsValidRun, IsValidLine, IsAnswersText, one_file}
+use Rattle.isle_top.specs.Requests.{IsBuilt, inputs_of, answers_names, source_name}
+use Rattle.isle_top.specs.Causes.{GivesNoLines, HasErrors, IsNotOfIt, IsNotRun, HasCause}
+use Rattle.isle_top.specs.Valid.{AreValid, IsValidRun, IsValidLine, IsAnswersText, one_file}
 
 -- ---- inputs
 
@@ -42,20 +42,20 @@ only_fault cause.NotUtf8 o text t h = let k = subst (λ x. IsSomeAnd x (λ bytes
 abbrev HasText : Contents → List ℕ → Type 0
 HasText fs name = (text : List ℕ) × IsText text (bytes_of fs name)
 
-one_there : (fs : Contents) (names : List (List ℕ)) (i : ℕ) (name : List ℕ) → AreValid names fs → slice_get names i ≡ Some name → HasText fs name
-one_there fs [] i name v e = absurd v
-one_there fs (n ∷ []) zero name v e = let same : n ≡ name = cc in subst (HasText fs) same (v.text, v.found)
-one_there fs (n ∷ []) (suc i) name v e = absurd (let bad : None ≡ Some name = e in cc)
-one_there fs (n ∷ m ∷ names) i name v e = absurd v
+named_there : (fs : Contents) (names texts : List (List ℕ)) (i : ℕ) (name : List ℕ) → AreRead fs names texts → slice_get names i ≡ Some name → HasText fs name
+named_there fs [] texts i name r e = absurd (let bad : None ≡ Some name = e in cc)
+named_there fs (n ∷ names) [] i name r e = absurd r
+named_there fs (n ∷ names) (t ∷ texts) zero name r e = let same : n ≡ name = cc in subst (HasText fs) same (t, r.0)
+named_there fs (n ∷ names) (t ∷ texts) (suc i) name r e = named_there fs names texts i name r.1 e
 
 answers_there : (fs : Contents) (answers : Option (List ℕ)) (text : List ℕ) (i : ℕ) (name : List ℕ) → IsAnswersText fs answers text → slice_get (answers_names answers) i ≡ Some name → HasText fs name
 answers_there fs None text i name v e = absurd (let bad : None ≡ Some name = e in cc)
 answers_there fs (Some file) text zero name v e = let same : file ≡ name = cc in subst (HasText fs) same (text, v)
 answers_there fs (Some file) text (suc i) name v e = absurd (let bad : None ≡ Some name = e in cc)
 
-run_there : (fs : Contents) (source : List ℕ) (term : List ℕ) (vs : Writtens) (answers : Option (List ℕ)) (i : ℕ) (name : List ℕ) → IsValidRun fs source term vs answers → slice_get (source ∷ answers_names answers) i ≡ Some name → HasText fs name
-run_there fs source term vs answers zero name v e = let same : source ≡ name = cc in subst (HasText fs) same (v.source, v.found)
-run_there fs source term vs answers (suc i) name v e = answers_there fs answers v.given i name v.answered e
+run_there : (options : CodegenOptions) (fs : Contents) (source : List ℕ) (term : List ℕ) (vs : Writtens) (answers : Option (List ℕ)) (i : ℕ) (name : List ℕ) → IsValidRun options fs source term vs answers → slice_get (source ∷ answers_names answers) i ≡ Some name → HasText fs name
+run_there options fs source term vs answers zero name v e = let same : source ≡ name = cc in subst (HasText fs) same (v.source, v.found)
+run_there options fs source term vs answers (suc i) name v e = answers_there fs answers v.given i name v.answered e
 
 no_input : {A : Type 0} (i : ℕ) (name : List ℕ) → slice_get [] i ≡ Some name → A
 no_input i name e = absurd (let bad : None ≡ Some name = e in cc)
@@ -63,12 +63,12 @@ no_input i name e = absurd (let bad : None ≡ Some name = e in cc)
 inputs_there : (request : Request) (fs : Contents) (i : ℕ) (name : List ℕ) → IsValidLine request fs → slice_get (inputs_of request) i ≡ Some name → HasText fs name
 inputs_there Help fs i name v e = no_input i name e
 inputs_there Version fs i name v e = no_input i name e
-inputs_there (Compile options names) fs i name v e = one_there fs names i name v.1 e
+inputs_there (Compile options names) fs i name v e = named_there fs names v.1.texts i name v.1.found e
 inputs_there (Build options unit) fs i name v e = absurd v
 inputs_there (Prelude kind) fs i name v e = absurd v
 inputs_there Units fs i name v e = absurd v
 inputs_there (Isa target) fs i name v e = absurd v
-inputs_there (Run trace options from term vs answers) fs i name v e = run_there fs (source_name from) term vs answers i name v.1 e
+inputs_there (Run trace options from term vs answers) fs i name v e = run_there options fs (source_name from) term vs answers i name v.1 e
 
 -- so none fails but for a fault
 failed_name : (names : List (List ℕ)) (P : List ℕ → Type 0) (o : Option (List ℕ)) → IsSomeAnd o P → (name : List ℕ) × (o ≡ Some name) × P name
@@ -84,43 +84,41 @@ all_read request fs index why before after v h calm =
 
 -- ---- texts
 
--- the one file of a `compile`
-valid_file : (fs : Contents) (name : List ℕ) → IsValid fs name → IsNotBuilt no_options fs (name ∷ []) → ⊥
-valid_file fs name v h = one h.texts h.read h.refused
-  where
-    one : (texts : List (List ℕ)) → AreRead fs (name ∷ []) texts → IsUncompiled (printed no_options (name ∷ [])) texts → ⊥
-    one [] r k = r
-    one (text ∷ []) r k =
-        ⊎_elim
-        (λ never. never (subst (λ t. InLanguage (t ∷ [])) (one_text (bytes_of fs name) v.text text v.found r.0) v.language))
-        (λ bad. let named : are_file_names (printed no_options (name ∷ [])) ≡ true = rw v.emitted refl in let same : true ≡ false = sym named ∙ bad in cc)
-        k
-    one (text ∷ other ∷ texts) r k = r.1
+-- files have one list of texts
+read_once : (fs : Contents) (names a b : List (List ℕ)) → AreRead fs names a → AreRead fs names b → a ≡ b
+read_once fs [] [] [] r k = refl
+read_once fs [] [] (y ∷ b) r k = absurd k
+read_once fs [] (x ∷ a) b r k = absurd r
+read_once fs (n ∷ names) [] b r k = absurd r
+read_once fs (n ∷ names) (x ∷ a) [] r k = absurd k
+read_once fs (n ∷ names) (x ∷ a) (y ∷ b) r k =
+    let head : x ≡ y = one_text (bytes_of fs n) x y r.0 k.0 in
+    let tail : a ≡ b = read_once fs names a b r.1 k.1 in
+    cc
 
-valid_files : (fs : Contents) (names : List (List ℕ)) → AreValid names fs → IsNotBuilt no_options fs names → ⊥
-valid_files fs [] v h = v
-valid_files fs (name ∷ []) v h = valid_file fs name v h
-valid_files fs (name ∷ other ∷ names) v h = v
+-- the files of a `compile`
+valid_files : (options : CodegenOptions) (fs : Contents) (names : List (List ℕ)) → AreValid options fs names → IsNotBuilt options fs names → ⊥
+valid_files options fs names v h =
+    let same : v.texts ≡ h.texts = read_once fs names v.texts h.texts v.found h.read in
+    ⊎_elim
+    (λ never. never (subst InLanguage same v.language))
+    (λ bad. let clash : true ≡ false = sym v.emitted ∙ bad in cc)
+    h.refused
 
 -- the source and the answers of a run
-has_lines : (fs : Contents) (name term : List ℕ) (vs : Writtens) (answers : Option (List ℕ)) (e : Refusal) → IsValidRun fs name term vs answers → GivesNoLines name term vs answers (Some fs) e → e ≡ refusal.Memory
-has_lines fs name term vs answers e v h =
+has_lines : (options : CodegenOptions) (fs : Contents) (name term : List ℕ) (vs : Writtens) (answers : Option (List ℕ)) (e : Refusal) → IsValidRun options fs name term vs answers → GivesNoLines options name term vs answers (Some fs) e → e ≡ refusal.Memory
+has_lines options fs name term vs answers e v h =
     let source : v.source ≡ h.source = one_text (bytes_of fs name) v.source h.source v.found h.read.0.0 in
     let given : v.given ≡ h.given = one_answers fs answers v.given h.given v.answered h.read.1 in
-    only_memory no_options (one_file name h.source) term vs h.given e
-    (subst (λ t. CanRun (one_file name h.source) term vs t) given (subst (λ t. CanRun (one_file name t) term vs v.given) source v.can)) h.none
+    only_memory options (one_file options name h.source) term vs h.given e
+    (subst (λ t. CanRun (one_file options name h.source) term vs t) given (subst (λ t. CanRun (one_file options name t) term vs v.given) source v.can)) h.none
 
 -- ---- lines
-
-one_name : (fs : Contents) (names : List (List ℕ)) → AreValid names fs → IsOne names
-one_name fs [] v = v
-one_name fs (name ∷ []) v = tt
-one_name fs (name ∷ other ∷ names) v = v
 
 built_line : (request : Request) (fs : Contents) → IsValidLine request fs → IsBuilt request
 built_line Help fs v = tt
 built_line Version fs v = tt
-built_line (Compile options names) fs v = (v.0, one_name fs names v.1)
+built_line (Compile options names) fs v = v.0
 built_line (Build options unit) fs v = v
 built_line (Prelude kind) fs v = v
 built_line Units fs v = v
@@ -130,12 +128,12 @@ built_line (Run trace options from term vs answers) fs v = v.0
 valid_inputs : (request : Request) (fs : Contents) → IsValidLine request fs → IsNotOfIt request (Some fs) → ⊥
 valid_inputs Help fs v h = h
 valid_inputs Version fs v h = h
-valid_inputs (Compile options names) fs v h = valid_files fs names v.1 h
+valid_inputs (Compile options names) fs v h = valid_files options fs names v.1 h
 valid_inputs (Build options unit) fs v h = v
 valid_inputs (Prelude kind) fs v h = v
 valid_inputs Units fs v h = v
 valid_inputs (Isa target) fs v h = v
-valid_inputs (Run trace options from term vs answers) fs v h = let e : refusal.NotYet ≡ refusal.Memory = has_lines fs (source_name from) term vs answers refusal.NotYet v.1 h in absurd cc
+valid_inputs (Run trace options from term vs answers) fs v h = let e : refusal.NotYet ≡ refusal.Memory = has_lines options fs (source_name from) term vs answers refusal.NotYet v.1 h in absurd cc
 
 -- a valid run has lines, or memory is wanting
 not_run : (request : Request) (fs : Contents) (e : Refusal) → IsValidLine request fs → IsNotRun request (Some fs) e → e ≡ refusal.Memory
@@ -146,13 +144,25 @@ not_run (Build options unit) fs e v h = absurd h
 not_run (Prelude kind) fs e v h = absurd h
 not_run Units fs e v h = absurd h
 not_run (Isa target) fs e v h = absurd h
-not_run (Run trace options from term vs answers) fs e v h = has_lines fs (source_name from) term vs answers e v.1 h.1
+not_run (Run trace options from term vs answers) fs e v h = has_lines options fs (source_name from) term vs answers e v.1 h.1
+
+-- no errors are in the inputs of a valid line
+no_errors : (request : Request) (fs : Contents) (before after : Counts) (errors : Errors) → IsValidLine request fs → HasErrors request (Some fs) before after errors → refusal.Errors errors ≡ refusal.Memory
+no_errors Help fs before after errors v h = absurd h
+no_errors Version fs before after errors v h = absurd h
+no_errors (Compile options names) fs before after errors v h = absurd h.1
+no_errors (Build options unit) fs before after errors v h = absurd h
+no_errors (Prelude kind) fs before after errors v h = absurd h
+no_errors Units fs before after errors v h = absurd h
+no_errors (Isa target) fs before after errors v h = absurd h
+no_errors (Run trace options from term vs answers) fs before after errors v h = not_run (Run trace options from term vs answers) fs (refusal.Errors errors) v h
 
 -- the only cause is want of memory
 only_memory_wants : (request : Request) (e : Refusal) (fs : Contents) (before after : Counts) → IsValidLine request fs → HasCause e request (Some fs) before after → (Rose before.faults after.faults → ⊥) → e ≡ refusal.Memory
 only_memory_wants request refusal.Memory fs before after v h calm = refl
 only_memory_wants request refusal.NotYet fs before after v h calm = absurd (⊎_elim (λ never. never (built_line request fs v)) (λ bad. valid_inputs request fs v bad) h)
 only_memory_wants request (refusal.Unread index why) fs before after v h calm = absurd (all_read request fs index why before after v h.1 calm)
+only_memory_wants request (refusal.Errors errors) fs before after v h calm = no_errors request fs before after errors v h.1
 only_memory_wants request refusal.NoTerm fs before after v h calm = not_run request fs refusal.NoTerm v h
 only_memory_wants request refusal.ArgCount fs before after v h calm = not_run request fs refusal.ArgCount v h
 only_memory_wants request (refusal.ArgType i) fs before after v h calm = not_run request fs (refusal.ArgType i) v h

@@ -13,8 +13,9 @@ help_text =
     codes "  isle isa TARGET\n      Writes what a target has (not yet).\n      isle isa x86\n" ++ (
     codes "  isle --help\n      Writes this text.\n      isle --help\n" ++ (
     codes "  isle --version\n      Writes the program's name and version.\n      isle --version\n\n" ++ (
-    codes "OPTION is --no-allow, --log, --split, --threshold N or --prefix P=NAME (not yet).\nNo words mean: isle compile first.isle\n")))))))))
+    codes "OPTION is --no-allow, which leaves the pragmas out, or --prefix P=NAME, which prints NAME in place of P where the name of a file\n" ++ (
+    codes "begins with it; and, not yet: --log, --split, --threshold N.\nNo words mean: isle compile first.isle\n"))))))))))
 
 -- the program's name and version
 unfoldable pub version_text : List ℕ
-version_text = codes "isle 0.5.0\n"
+version_text = codes "isle 0.6.0\n"

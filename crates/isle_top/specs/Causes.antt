@@ -4,32 +4,36 @@ use Rattle.isle_outside.specs.Directory.{Contents, Counts}
 use Rattle.isle_core.specs.Inputs.{AreRead, Fails}
 use Rattle.isle_core.specs.declared.read_error.ReadError.TheVariants as read
 use Rattle.isle_values.specs.Written.{Writtens}
+use Rattle.isle_core.specs.declared.errors.Errors.{Errors}
+use Rattle.isle_codegen.specs.declared.file_error.FileError.TheVariants as file
 use Rattle.isle_codegen.specs.Causes.{IsNotBuilt}
+use Rattle.isle_codegen.specs.Causes as compiling
 use Rattle.isle_command_line.specs.Request.{Request, Help, Version, Compile, Build, Prelude, Units, Isa, Run}
-use Rattle.isle_command_line.specs.Lines.{no_options}
+use Rattle.isle_core.specs.declared.options.CodegenOptions.{CodegenOptions}
 use Rattle.isle_run.specs.NoLines.{HasNoLines}
 use Rattle.isle_run.specs.declared.refusal.Refusal.{Refusal}
 use Rattle.isle_run.specs.declared.refusal.Refusal.TheVariants as refusal
+use Rattle.isle_top.specs.Errors.{ArePlaced}
 use Rattle.isle_top.specs.Requests.{IsBuilt, inputs_of, source_name}
 use Rattle.isle_top.specs.Valid.{IsAnswersText, one_file}
 
 -- a run of the term of the source of this name, under the answers of the file, gives no lines
-pub record GivesNoLines (name term : List ℕ) (vs : Writtens) (answers : Option (List ℕ)) (files : Option Contents) (e : Refusal) : Type 0 where
+pub record GivesNoLines (options : CodegenOptions) (name term : List ℕ) (vs : Writtens) (answers : Option (List ℕ)) (files : Option Contents) (e : Refusal) : Type 0 where
   pub source : List ℕ
   pub given : List ℕ
   pub read : IfSome files (λ fs. AreRead fs (name ∷ []) (source ∷ []) × IsAnswersText fs answers given)
-  pub none : HasNoLines no_options (one_file name source) term vs given e
+  pub none : HasNoLines options (one_file options name source) term vs given e
 
 -- the inputs were read, and are not of what is built
 abbrev pub IsNotOfIt : Request → Option Contents → Type 0
 IsNotOfIt Help files = ⊥
 IsNotOfIt Version files = ⊥
-IsNotOfIt (Compile options names) files = IfSome files (λ fs. IsNotBuilt no_options fs names)
+IsNotOfIt (Compile options names) files = IfSome files (λ fs. IsNotBuilt options fs names)
 IsNotOfIt (Build options unit) files = ⊥
 IsNotOfIt (Prelude kind) files = ⊥
 IsNotOfIt Units files = ⊥
 IsNotOfIt (Isa target) files = ⊥
-IsNotOfIt (Run trace options from term vs answers) files = GivesNoLines (source_name from) term vs answers files refusal.NotYet
+IsNotOfIt (Run trace options from term vs answers) files = GivesNoLines options (source_name from) term vs answers files refusal.NotYet
 
 -- the line is built, and its term is not run for this
 abbrev pub IsNotRun : Request → Option Contents → Refusal → Type 0
@@ -40,13 +44,25 @@ IsNotRun (Build options unit) files e = ⊥
 IsNotRun (Prelude kind) files e = ⊥
 IsNotRun Units files e = ⊥
 IsNotRun (Isa target) files e = ⊥
-IsNotRun (Run trace options from term vs answers) files e = IsBuilt (Run trace options from term vs answers) × GivesNoLines (source_name from) term vs answers files e
+IsNotRun (Run trace options from term vs answers) files e = IsBuilt (Run trace options from term vs answers) × GivesNoLines options (source_name from) term vs answers files e
+
+-- errors of the inputs of a line that is built
+abbrev pub HasErrors : Request → Option Contents → (before after : Counts) → Errors → Type 0
+HasErrors Help files before after errors = ⊥
+HasErrors Version files before after errors = ⊥
+HasErrors (Compile options names) files before after errors = IsBuilt (Compile options names) × compiling.HasCause (file.Errors errors) options files names before after
+HasErrors (Build options unit) files before after errors = ⊥
+HasErrors (Prelude kind) files before after errors = ⊥
+HasErrors Units files before after errors = ⊥
+HasErrors (Isa target) files before after errors = ⊥
+HasErrors (Run trace options from term vs answers) files before after errors = IsNotRun (Run trace options from term vs answers) files (refusal.Errors errors)
 
 -- why a line is not answered: it is not built, or its inputs are not; it is built, and an input was not read, the first
--- that is not, or a term is not run; or want of memory
+-- that is not, or errors are in them, each at its place, or a term is not run; or want of memory
 abbrev pub HasCause : Refusal → Request → Option Contents → (before after : Counts) → Type 0
 HasCause refusal.NotYet request files before after = (IsBuilt request → ⊥) ⊎ IsNotOfIt request files
 HasCause (refusal.Unread index why) request files before after = IsBuilt request × Fails (read.Io index why) files (inputs_of request) before after
+HasCause (refusal.Errors errors) request files before after = ArePlaced errors × HasErrors request files before after errors
 HasCause refusal.NoTerm request files before after = IsNotRun request files refusal.NoTerm
 HasCause refusal.ArgCount request files before after = IsNotRun request files refusal.ArgCount
 HasCause (refusal.ArgType i) request files before after = IsNotRun request files (refusal.ArgType i)

@@ -4,14 +4,15 @@ use Rattle.isle_outside.specs.Directory.{Contents, bytes_of, Counts, raised}
 use Rattle.isle_outside.specs.Reading.{IsCause, RoseAt}
 use Rattle.isle_core.specs.Inputs.{AreRead}
 use Rattle.isle_core.specs.declared.files.Files.{Files as FileTexts}
+use Rattle.isle_core.specs.declared.options.CodegenOptions.{CodegenOptions}
 use Rattle.isle_core.specs.declared.read_error.ReadError.{ReadError}
 use Rattle.isle_core.specs.declared.read_error.ReadError.TheVariants as error
 use Rattle.isle_top.specs.Valid.{IsAnswersText, one_file}
 
 -- a source of the one text of its file, and the text of the file of answers
-pub record AreInputs (name : List ℕ) (answers : Option (List ℕ)) (files : Option Contents) (source : FileTexts) (given : List ℕ) : Type 0 where
+pub record AreInputs (options : CodegenOptions) (name : List ℕ) (answers : Option (List ℕ)) (files : Option Contents) (source : FileTexts) (given : List ℕ) : Type 0 where
   pub text : List ℕ
-  pub one : source ≡ one_file name text
+  pub one : source ≡ one_file options name text
   pub read : IfSome files (λ fs. AreRead fs (name ∷ []) (text ∷ []) × IsAnswersText fs answers given)
 
 -- why the input of this number and name is not read

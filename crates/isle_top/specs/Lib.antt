@@ -1,5 +1,6 @@
 pub mod About
 pub mod Requests
+pub mod Errors
 pub mod Lines
 pub mod Valid
 pub mod Inputs

@@ -2,7 +2,9 @@
 use Rattle.std.specs.Prelude.{◌≡◌, ℕ, List, [], ◌∷◌, Bool, true, false, Option, Some, None}
 use Rattle.isle_values.specs.Written.{Written, Writtens, Truth, Number, Made, NoValue, AValue}
 use Rattle.isle_command_line.specs.Request.{Request, Help, Version, Compile, Build, Prelude, Units, Isa, Run}
-use Rattle.isle_command_line.specs.Lines.{LineS, no_options}
+use Rattle.isle_core.specs.declared.options.CodegenOptions.{CodegenOptions}
+use Rattle.isle_emission.specs.Built.{IsBuilt as AreEmitted}
+use Rattle.isle_command_line.specs.Lines.{LineS}
 use Rattle.isle_command_line.specs.declared.commands.Source.{Source}
 use Rattle.isle_command_line.specs.declared.commands.Source.TheVariants as source
 
@@ -22,27 +24,25 @@ abbrev pub ArePlain : Writtens → Type 0
 ArePlain NoValue = Unit {0}
 ArePlain (AValue v vs) = (is_plain v ≡ true) × ArePlain vs
 
--- one name
-abbrev pub IsOne : List (List ℕ) → Type 0
-IsOne [] = ⊥
-IsOne (name ∷ []) = Unit {0}
-IsOne (name ∷ other ∷ names) = ⊥
+-- options that are built: neither logging nor splitting is asked for, nor is its threshold given
+abbrev pub AreBuilt : CodegenOptions → Type 0
+AreBuilt options = AreEmitted options × (options.match_arm_split_threshold ≡ None)
 
 -- a file, and no unit
 abbrev pub IsFile : Source → Type 0
 IsFile (source.File name) = Unit {0}
 IsFile (source.Unit name) = ⊥
 
--- a line that is built: one file is compiled, or a term of it run, with no option
+-- a line that is built: files are compiled, or a term of one run, with options that are built
 abbrev pub IsBuilt : Request → Type 0
 IsBuilt Help = Unit {0}
 IsBuilt Version = Unit {0}
-IsBuilt (Compile options names) = (options ≡ no_options) × IsOne names
+IsBuilt (Compile options names) = AreBuilt options
 IsBuilt (Build options unit) = ⊥
 IsBuilt (Prelude kind) = ⊥
 IsBuilt Units = ⊥
 IsBuilt (Isa target) = ⊥
-IsBuilt (Run trace options from term vs answers) = (trace ≡ false) × (options ≡ no_options) × IsFile from × ArePlain vs
+IsBuilt (Run trace options from term vs answers) = (trace ≡ false) × AreBuilt options × IsFile from × ArePlain vs
 
 -- the name of a source
 abbrev pub source_name : Source → List ℕ

@@ -36,7 +36,8 @@ pub fn help() -> &'static str
 \x20     Writes the program's name and version.\n\
 \x20     isle --version\n\
 \n\
-OPTION is --no-allow, --log, --split, --threshold N or --prefix P=NAME (not yet).\n\
+OPTION is --no-allow, which leaves the pragmas out, or --prefix P=NAME, which prints NAME in place of P where the name of a file\n\
+begins with it; and, not yet: --log, --split, --threshold N.\n\
 No words mean: isle compile first.isle\n"
 }
 
@@ -45,5 +46,5 @@ No words mean: isle compile first.isle\n"
 pub fn version() -> &'static str
     ensures { result.now ≡ version_text }
 {
-    "isle 0.5.0\n"
+    "isle 0.6.0\n"
 }

@@ -1,32 +1,50 @@
-//! The text of the program of a file.
+//! The text of the program of files.
 
-ghost use Rattle.std.specs.Prelude.{◌≡◌, ◌≤◌, [], ◌∷◌, IfOk, IfErr, ◌+◌, ◌*◌, ◌^◌, length, ◌-◌};
+ghost use Rattle.std.specs.Prelude.{◌≡◌, ◌≤◌, IfOk, IfErr, ◌+◌, ◌*◌, ◌^◌, length, ◌-◌};
 ghost use Rattle.std.specs.String.{string_bytes};
+ghost use Rattle.isle_core.specs.Inputs.{bytes_each};
 ghost use Rattle.isle_command_line.specs.Request.{Compile};
-ghost use Rattle.isle_command_line.specs.Lines.{no_options};
+ghost use Rattle.isle_top.specs.Requests.{AreBuilt};
 ghost use Rattle.isle_top.specs.Valid.{IsProgramOf};
 ghost use Rattle.isle_top.specs.Causes.{HasCause};
 
 use isle_codegen::{FileError, from_files};
-use isle_core::{CodegenOptions, Dir};
+use isle_core::{CodegenOptions, Dir, OutOfMemory, Text};
 use isle_run::Refusal;
 use std::alloc::Global;
 
-/// Compiles the file of the name, and returns the text of its program. Each refusal has its cause (`specs/Causes.antt`).
-pub fn compiled<D: Dir>(alloc: Global, name: &str, dir: &mut D) -> Result<String, Refusal>
-    ensures ok { IfOk result (λ text. IsProgramOf name.now (D.files dir.old) (string_bytes text)) }
-    ensures err { IfErr result (λ e. HasCause e (Compile no_options (name.now ∷ [])) (D.files dir.old) (D.counts dir.old) (D.counts dir.new)) }
+// The names as strings, in order.
+fn strings_of(alloc: Global, names: &[Text]) -> Result<Vec<String>, OutOfMemory>
+    ensures { IfOk result (λ strings. bytes_each strings.items ≡ names.now) }
+{
+    let mut strings = Vec::new(alloc);
+    for name in names {
+        strings.push(String::from_str(alloc, name.as_str())?)?;
+    }
+    Ok(strings)
+}
+
+/// Compiles the files of the names, and returns the text of their program. Each refusal has its cause (`specs/Causes.antt`).
+pub fn compiled<D: Dir>(
+    alloc: Global,
+    names: &[Text],
+    options: &CodegenOptions,
+    dir: &mut D,
+) -> Result<String, Refusal>
+    requires { AreBuilt options.now }
+    ensures ok { IfOk result (λ text. IsProgramOf options.now names.now (D.files dir.old) (string_bytes text)) }
+    ensures err { IfErr result (λ e. HasCause e (Compile options.now names.now) (D.files dir.old) (D.counts dir.old) (D.counts dir.new)) }
     ensures files { D.files dir.new ≡ D.files dir.old }
     ensures later { (D.counts dir.old).faults ≤ (D.counts dir.new).faults }
     ensures stays { (D.counts dir.old).faults ≡ 2 ^ 64 - 1 → (D.counts dir.new).faults ≡ 2 ^ 64 - 1 }
-    ensures given { (D.counts dir.new).given ≤ (D.counts dir.old).given + (2 ^ 24 + 1) * length (name.now ∷ []) }
+    ensures given { (D.counts dir.new).given ≤ (D.counts dir.old).given + (2 ^ 24 + 1) * length names.now }
 {
-    let inputs = vec![in alloc; String::from_str(alloc, name)?]?;
-    let options = CodegenOptions::new(alloc);
-    match from_files(alloc, dir, inputs.as_slice(), &options) {
+    let inputs = strings_of(alloc, names)?;
+    match from_files(alloc, dir, inputs.as_slice(), options) {
         Ok(text) => Ok(text),
         Err(FileError::Io { index, cause }) => Err(Refusal::Unread(index, cause)),
         Err(FileError::Memory) => Err(Refusal::Memory),
-        Err(_) => Err(Refusal::NotYet),
+        Err(FileError::Errors(errors)) => Err(Refusal::Errors(errors)),
+        Err(FileError::NotYet | FileError::Name(_)) => Err(Refusal::NotYet),
     }
 }

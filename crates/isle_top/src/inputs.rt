@@ -1,15 +1,15 @@
 //! The inputs of a run: its source, and its file of answers.
 
-ghost use Rattle.std.specs.Prelude.{◌≡◌, ◌≤◌, ◌+◌, ◌-◌, ◌*◌, ◌^◌, ◌∷◌, length, IfOk, IfErr, IfSome, IsSomeAnd};
+ghost use Rattle.std.specs.Prelude.{ℕ, List, [], ◌≡◌, ◌≤◌, ◌+◌, ◌-◌, ◌*◌, ◌^◌, ◌∷◌, length, IfOk, IfErr, IfSome, IsSomeAnd};
 ghost use Rattle.std.specs.Option.{option_copied};
 ghost use Rattle.isle_outside.specs.Directory.{bytes_of, raised};
 ghost use Rattle.isle_outside.specs.Reading.{IsText};
-ghost use Rattle.isle_core.specs.Inputs.{Fails};
+ghost use Rattle.isle_core.specs.Inputs.{AreRead, Fails, IsTried};
 ghost use Rattle.isle_top.specs.Requests.{answers_names};
 ghost use Rattle.isle_top.specs.Valid.{IsAnswersText, one_file};
 ghost use Rattle.isle_top.specs.Inputs.{AreInputs, FailsTo, IsOf};
 
-use isle_core::{Dir, Files, List, OutOfMemory, ReadError, ReadFail, Text, read_text};
+use isle_core::{CodegenOptions, Dir, Files, ReadError, ReadFail, Text, read_text};
 use std::alloc::Global;
 
 /// A source of one text, and the text of the answers.
@@ -57,26 +57,41 @@ fn answers_text<D: Dir>(
     }
 }
 
-// A source of one text.
-fn one_file(alloc: Global, name: &str, text: Text) -> Result<Files, OutOfMemory>
-    ensures { IfOk result (λ files. files ≡ one_file name.now text) }
+// A source of the one text of its file.
+fn source_at<D: Dir>(
+    alloc: Global,
+    name: &str,
+    options: &CodegenOptions,
+    dir: &mut D,
+) -> Result<Files, ReadError>
+    ensures one { IfOk result (λ files. (text : List ℕ) × (files ≡ one_file options.now name.now text)
+        × IfSome (D.files dir.old) (λ fs. AreRead fs (name.now ∷ []) (text ∷ []))) }
+    ensures err { IfErr result (λ e. Fails e (D.files dir.old) (name.now ∷ []) (D.counts dir.old) (D.counts dir.new)) }
+    ensures files { D.files dir.new ≡ D.files dir.old }
+    ensures later { (D.counts dir.old).faults ≤ (D.counts dir.new).faults }
+    ensures stays { (D.counts dir.old).faults ≡ 2 ^ 64 - 1 → (D.counts dir.new).faults ≡ 2 ^ 64 - 1 }
+    ensures tried { IfOk result (λ files. IsTried 1 (D.counts dir.old) (D.counts dir.new)) }
+    ensures steady { IfOk result (λ files. (D.counts dir.new).faults ≡ (D.counts dir.old).faults) }
+    ensures given { (D.counts dir.new).given ≤ (D.counts dir.old).given + (2 ^ 24 + 1) }
 {
-    let name = Text::copied(alloc, name)?;
-    Ok(Files {
-        file_names: List::new(vec![in alloc; name]?),
-        file_texts: List::new(vec![in alloc; text]?),
-    })
+    let names = vec![in alloc; String::from_str(alloc, name)?]?;
+    match Files::from_paths(alloc, dir, names.as_slice(), options.prefixes.as_slice()) {
+        Ok(files) => Ok(files),
+        Err(e) => Err(e),
+    }
 }
 
-/// Reads the source, and then the file of answers; without such a file their text is empty. The first that is not read is
-/// told by its number: 0 is the source, 1 the file of answers (`specs/Inputs.antt`).
+/// Reads the source, its name as printed under the options' prefixes, and then the file of answers; without such a file their
+/// text is empty. The first that is not read is told by its number: 0 is the source, 1 the file of answers
+/// (`specs/Inputs.antt`).
 pub fn read_inputs<D: Dir>(
     alloc: Global,
+    options: &CodegenOptions,
     source: &str,
     answers: Option<&str>,
     dir: &mut D,
 ) -> Result<Inputs, ReadError>
-    ensures ok { IfOk result (λ read. AreInputs source.now (option_copied answers.entry) (D.files dir.old) read.files read.answers) }
+    ensures ok { IfOk result (λ read. AreInputs options.now source.now (option_copied answers.entry) (D.files dir.old) read.files read.answers) }
     ensures err { let names = source.now ∷ answers_names (option_copied answers.entry) in
         IfErr result (λ e. Fails e (D.files dir.old) names (D.counts dir.old) (D.counts dir.new)) }
     ensures there { IfErr result (λ e. IsOf e (source.now ∷ answers_names (option_copied answers.entry))) }
@@ -86,11 +101,10 @@ pub fn read_inputs<D: Dir>(
     ensures given { let names = source.now ∷ answers_names (option_copied answers.entry) in
         (D.counts dir.new).given ≤ (D.counts dir.old).given + (2 ^ 24 + 1) * length names }
 {
-    let text = match text_at(alloc, 0, source, dir) {
-        Ok(text) => text,
+    let files = match source_at(alloc, source, options, dir) {
+        Ok(files) => files,
         Err(e) => return Err(e),
     };
-    let files = one_file(alloc, source, text)?;
     match answers_text(alloc, answers, dir) {
         Ok(answers) => Ok(Inputs { files, answers }),
         Err(e) => Err(e),

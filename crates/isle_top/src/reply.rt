@@ -60,11 +60,9 @@ fn built_reply<D: Dir>(alloc: Global, command: &Command, dir: &mut D) -> Result<
     match command {
         Command::Help => Ok(String::from_str(alloc, help())?),
         Command::Version => Ok(String::from_str(alloc, version())?),
-        Command::Compile { names, .. } => match names.as_slice() {
-            [name] => compiled(alloc, name.as_str(), dir),
-            _ => Err(Refusal::NotYet),
-        },
+        Command::Compile { options, names } => compiled(alloc, names.as_slice(), options, dir),
         Command::Run {
+            options,
             source: Source::File(name),
             term,
             values,
@@ -72,6 +70,7 @@ fn built_reply<D: Dir>(alloc: Global, command: &Command, dir: &mut D) -> Result<
             ..
         } => ran(
             alloc,
+            options,
             name.as_str(),
             term.as_str(),
             values.as_slice(),

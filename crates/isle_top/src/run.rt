@@ -3,7 +3,7 @@ ghost use Rattle.isle_outside.specs.Directory.{Rose};
 ghost use Rattle.isle_outside.specs.Sinks.{Took, TookPart};
 ghost use Rattle.isle_core.specs.Inputs.{bytes_each};
 ghost use Rattle.isle_command_line.specs.Request.{Request, Compile};
-ghost use Rattle.isle_command_line.specs.Lines.{LineS, no_options};
+ghost use Rattle.isle_command_line.specs.Lines.{LineS};
 ghost use Rattle.isle_command_line.specs.Views.{seen_command};
 ghost use Rattle.isle_top.specs.Requests.{Asks, IsBuilt, inputs_of};
 ghost use Rattle.isle_top.specs.Lines.{Wrote};
@@ -12,7 +12,7 @@ ghost use Rattle.isle_top.specs.Valid.{IsReply, IsValidLine};
 
 use crate::lines::{MISSING_WORD, OUT_OF_MEMORY, WRITE_FAULT, write_bad_word};
 use crate::reply::reply;
-use crate::status::{Exit, complain, status_of, tell};
+use crate::status::{Exit, complain, refuse};
 use isle_command_line::{Command, LineFail, command};
 use isle_core::{Dir, Sink, write_all};
 use std::alloc::Global;
@@ -120,9 +120,6 @@ fn run_command<D: Dir, O: Sink, E: Sink>(
                 Exit(11)
             }
         },
-        Err(refusal) => {
-            tell(err, request, refusal);
-            status_of(refusal)
-        }
+        Err(refusal) => refuse(alloc, err, request, &refusal),
     }
 }

@@ -1,7 +1,7 @@
 use Rattle.std.proofs.Common.{rules, refl, sym}
 use Rattle.isle_command_line.specs.Views.{seen_command}
 use Rattle.isle_top.specs.Statuses as statuses
-use Rattle.isle_top.proofs.Refusals.{of_line, says_refusal}
+use Rattle.isle_top.proofs.Refusals.{says_end}
 use Rattle.isle_top.proofs.run.run_command.Goals as goal
 
 pub returns-in-Ok-write_all-clause-says : goal.returns-in-Ok-write_all-clause-says
@@ -11,4 +11,4 @@ pub returns-in-Ok-clause-says : goal.returns-in-Ok-clause-says
 returns-in-Ok-clause-says g c = statuses.write_fault (search rules)
 
 pub returns-clause-says : goal.returns-clause-says
-returns-clause-says g c = rw c.status_of.ensures (says_refusal (seen_command c.args.request.now) c.in-Err.refusal refl (search rules) (search rules))
+returns-clause-says g c = says_end (seen_command c.args.request.now) c.in-Err.refusal _ refl (search rules) c.refuse.ensures.ends
