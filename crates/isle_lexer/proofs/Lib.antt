@@ -5,3 +5,4 @@ pub mod Lines
 pub mod Boundaries
 pub mod Digits
 pub mod Wrapped
+pub mod CommentPlaces

@@ -32,6 +32,7 @@ use Rattle.isle_run_inputs.specs.Built.{are_built}
 use Rattle.isle_run_inputs.specs.AnswersAt.{answers_at, turns_at}
 use Rattle.isle_codegen.specs.Causes.{IsNotOfIt}
 use Rattle.isle_codegen.specs.Checked.{IsChecked}
+use Rattle.isle_codegen.proofs.Accepted.{accepted_none, checked_accepted}
 use Rattle.isle_codegen.specs.Source.{InLanguage}
 use Rattle.isle_run.specs.declared.refusal.Refusal.{Refusal}
 use Rattle.isle_run.specs.declared.refusal.Refusal.TheVariants as refused
@@ -130,7 +131,7 @@ source_not_refused options files term ws text e c s =
 -- where it can be run, only memory is wanting
 pub only_memory : (options : CodegenOptions) (files : Files) (term : List ℕ) (ws : Writtens) (text : List ℕ) (e : Refusal) → CanRun files term ws text → HasNoLines options files term ws text e → e ≡ refused.Memory
 only_memory options files term ws text _ c (no_lines.not_of_it h) = absurd (not_of_it files c.env c.checked h)
-only_memory options files term ws text _ c (no_lines.faulty errors h) = absurd h
+only_memory options files term ws text _ c (no_lines.faulty errors h) = absurd (accepted_none files.file_names files.file_texts errors (checked_accepted files c.env c.checked) h)
 only_memory options files term ws text _ c (no_lines.refused e s) = absurd (source_not_refused options files term ws text e c s)
 only_memory options files term ws text _ c no_lines.memory = refl
 

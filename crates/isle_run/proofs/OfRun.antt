@@ -1,5 +1,7 @@
 -- What gives no lines of a run is a refusal of the run, and none of an input.
-use Rattle.std.specs.Prelude.{ℕ, List}
+use Rattle.std.specs.Prelude.{ℕ, List, All}
+use Rattle.isle_core.specs.declared.errors.Errors.{Errors}
+use Rattle.isle_core.specs.ErrorLines.{IsPlaced}
 use Rattle.isle_core.specs.declared.files.Files.{Files}
 use Rattle.isle_core.specs.declared.options.CodegenOptions.{CodegenOptions}
 use Rattle.isle_values.specs.Written.{Writtens}
@@ -20,6 +22,17 @@ IsOfRun (refusal.ArgType i) = Unit {0}
 IsOfRun (refusal.BadAnswers at) = Unit {0}
 IsOfRun refusal.Memory = Unit {0}
 
+-- errors have their places in the files that are told with them
+abbrev HasPlaces : Refusal → Type 0
+HasPlaces refusal.NotYet = Unit {0}
+HasPlaces (refusal.Unread index why) = Unit {0}
+HasPlaces (refusal.Errors errors) = All (IsPlaced errors.files) errors.errors
+HasPlaces refusal.NoTerm = Unit {0}
+HasPlaces refusal.ArgCount = Unit {0}
+HasPlaces (refusal.ArgType i) = Unit {0}
+HasPlaces (refusal.BadAnswers at) = Unit {0}
+HasPlaces refusal.Memory = Unit {0}
+
 run_of : (a : Attempt) (text : List ℕ) (e : Refusal) → IsRunRefused a text e → IsOfRun e
 run_of a text _ (no_lines.no_term m h) = tt
 run_of a text _ (no_lines.arg_count m h) = tt
@@ -34,3 +47,21 @@ lines_of options files term ws text _ (no_lines.not_of_it h) = tt
 lines_of options files term ws text _ (no_lines.faulty errors h) = tt
 lines_of options files term ws text _ (no_lines.refused e s) = run_of _ text e s.refused
 lines_of options files term ws text _ no_lines.memory = tt
+
+run_places : (a : Attempt) (text : List ℕ) (e : Refusal) → IsRunRefused a text e → HasPlaces e
+run_places a text _ (no_lines.no_term m h) = tt
+run_places a text _ (no_lines.arg_count m h) = tt
+run_places a text _ (no_lines.arg_type m i h) = tt
+run_places a text _ (no_lines.fault at takes h) = tt
+run_places a text _ (no_lines.unbuilt forms takes spelt bad) = tt
+run_places a text _ (no_lines.wrong forms i spelt built h) = tt
+
+has_places : (options : CodegenOptions) (files : Files) (term : List ℕ) (ws : Writtens) (text : List ℕ) (e : Refusal) → HasNoLines options files term ws text e → HasPlaces e
+has_places options files term ws text _ (no_lines.not_of_it h) = tt
+has_places options files term ws text _ (no_lines.faulty errors h) = h.told.placed
+has_places options files term ws text _ (no_lines.refused e s) = run_places _ text e s.refused
+has_places options files term ws text _ no_lines.memory = tt
+
+-- errors that give no lines have their places in the files that are told with them
+pub lines_placed : {options : CodegenOptions} {files : Files} {term : List ℕ} {ws : Writtens} {text : List ℕ} {errors : Errors} → HasNoLines options files term ws text (refusal.Errors errors) → All (IsPlaced errors.files) errors.errors
+lines_placed {options} {files} {term} {ws} {text} {errors} h = has_places options files term ws text (refusal.Errors errors) h

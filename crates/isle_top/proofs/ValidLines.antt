@@ -9,8 +9,10 @@ use Rattle.isle_core.specs.Inputs.{AreRead, FailsAt, Fails}
 use Rattle.isle_core.specs.declared.read_error.ReadError.TheVariants as read
 use Rattle.isle_core.specs.declared.errors.Errors.{Errors}
 use Rattle.isle_values.specs.Written.{Writtens}
-use Rattle.isle_codegen.specs.Causes.{IsNotBuilt}
-use Rattle.isle_codegen.specs.Source.{InLanguage}
+use Rattle.isle_codegen.specs.Causes as compiling
+use Rattle.isle_codegen.specs.Causes.{printed, IsNotBuilt}
+use Rattle.isle_codegen.specs.Source.{InLanguage, AreAccepted}
+use Rattle.isle_codegen.proofs.Accepted.{accepted_none}
 use Rattle.isle_command_line.specs.Request.{Request, Help, Version, Compile, Build, Prelude, Units, Isa, Run}
 use Rattle.isle_core.specs.declared.options.CodegenOptions.{CodegenOptions}
 use Rattle.isle_run.specs.Valid.{CanRun}
@@ -101,9 +103,13 @@ valid_files : (options : CodegenOptions) (fs : Contents) (names : List (List ℕ
 valid_files options fs names v h =
     let same : v.texts ≡ h.texts = read_once fs names v.texts h.texts v.found h.read in
     ⊎_elim
-    (λ never. never (subst InLanguage same v.language))
+    (λ never. never (subst InLanguage same (v.accepted.defs, v.accepted.env, v.accepted.source, v.accepted.compilable)))
     (λ bad. let clash : true ≡ false = sym v.emitted ∙ bad in cc)
     h.refused
+
+no_file_errors : (options : CodegenOptions) (fs : Contents) (names : List (List ℕ)) (errors : Errors) → AreValid options fs names → compiling.HasErrors errors options fs names → ⊥
+no_file_errors options fs names errors v h =
+    accepted_none (printed options names) h.texts errors (subst AreAccepted (read_once fs names v.texts h.texts v.found h.read) v.accepted) h.errors
 
 -- the source and the answers of a run
 has_lines : (options : CodegenOptions) (fs : Contents) (name term : List ℕ) (vs : Writtens) (answers : Option (List ℕ)) (e : Refusal) → IsValidRun options fs name term vs answers → GivesNoLines options name term vs answers (Some fs) e → e ≡ refusal.Memory
@@ -150,7 +156,7 @@ not_run (Run trace options from term vs answers) fs e v h = has_lines options fs
 no_errors : (request : Request) (fs : Contents) (before after : Counts) (errors : Errors) → IsValidLine request fs → HasErrors request (Some fs) before after errors → refusal.Errors errors ≡ refusal.Memory
 no_errors Help fs before after errors v h = absurd h
 no_errors Version fs before after errors v h = absurd h
-no_errors (Compile options names) fs before after errors v h = absurd h.1
+no_errors (Compile options names) fs before after errors v h = absurd (no_file_errors options fs names errors v.1 h.1.2)
 no_errors (Build options unit) fs before after errors v h = absurd h
 no_errors (Prelude kind) fs before after errors v h = absurd h
 no_errors Units fs before after errors v h = absurd h

@@ -7,7 +7,7 @@ use Rattle.isle_core.specs.declared.files.Files.{Files as FileTexts}
 use Rattle.isle_values.specs.Written.{Writtens}
 use Rattle.isle_core.specs.declared.options.CodegenOptions.{CodegenOptions}
 use Rattle.isle_codegen.specs.Names.{are_file_names}
-use Rattle.isle_codegen.specs.Source.{InLanguage}
+use Rattle.isle_codegen.specs.Source.{AreAccepted}
 use Rattle.isle_codegen.specs.Header.{HasHeader}
 use Rattle.isle_codegen.specs.Headline.{SpellsOne}
 use Rattle.isle_codegen.specs.Causes.{IsCompiled, printed}
@@ -17,11 +17,11 @@ use Rattle.isle_run.specs.Valid.{CanRun}
 use Rattle.isle_top.specs.About.{help_text, version_text}
 use Rattle.isle_top.specs.Requests.{source_name, AreBuilt, IsBuilt}
 
--- the files of the names hold texts of the language, and the names as printed may be emitted
+-- the files of the names hold texts of the language with whose rules nothing is wrong, and the names as printed may be emitted
 pub record AreValid (options : CodegenOptions) (files : Contents) (names : List (List ℕ)) : Type 0 where
   pub texts : List (List ℕ)
   pub found : AreRead files names texts
-  pub language : InLanguage texts
+  pub accepted : AreAccepted texts
   pub emitted : are_file_names (printed options names) ≡ true
 
 -- the text is what the files of the names are compiled to: the names as printed may be emitted, and behind their header
