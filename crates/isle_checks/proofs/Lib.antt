@@ -11,3 +11,5 @@ pub mod CheckLaws
 pub mod ListChecks
 pub mod ErrorLaws
 pub mod TermErrors
+pub mod MetOnce
+pub mod OneHighest
