@@ -13,3 +13,5 @@ pub mod ErrorLaws
 pub mod TermErrors
 pub mod MetOnce
 pub mod OneHighest
+pub mod ListOnce
+pub mod PlacedErrors

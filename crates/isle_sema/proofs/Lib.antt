@@ -21,6 +21,7 @@ pub mod RuleLaws
 pub mod TypedRules
 pub mod TypedTerms
 pub mod RuleRoots
+pub mod RulePlaces
 pub mod InternalTerms
 pub mod SerializableCalls
 pub mod SerializableRules
