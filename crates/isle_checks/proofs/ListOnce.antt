@@ -1,12 +1,12 @@
 -- The errors of rules are one list.
-use Rattle.std.proofs.Common.{◌≡◌, ℕ, zero, suc, ◌≤◌, List, [], ◌∷◌, ◌++◌, length, map, Bool, true, false, Option, Some, None, refl, sym, ap, ◌∙◌, subst, arith}
+use Rattle.std.proofs.Common.{◌≡◌, ℕ, zero, suc, List, [], ◌∷◌, ◌++◌, length, map, Bool, true, false, Option, Some, None, refl, sym, ap, ◌∙◌, arith}
 use Rattle.std.specs.Prelude.{MatchBool}
 use Rattle.isle_core.specs.declared.TermId.{TermId}
 use Rattle.isle_core.specs.declared.errors.Error.{Error}
 use Rattle.isle_core.specs.Terms.{with_rules}
 use Rattle.isle_core.specs.Rule.{Environment, Rule, rules_of}
 use Rattle.isle_checks.specs.Firsts.{IsFirst}
-use Rattle.isle_checks.specs.CheckList.{RuleError, errors_of, positions, told, is_multi, AreErrorsAt, AreErrorsBelow, AreErrorsOf, AreErrorsOfTerm, AreErrorsOfTerms, IsCheckList, IsClean}
+use Rattle.isle_checks.specs.CheckList.{RuleError, errors_of, positions, told, is_multi, AreErrorsAt, AreErrorsBelow, AreErrorsOf, AreErrorsOfTerms, IsCheckList, IsClean}
 
 -- the first place is one
 first_once : (P : ℕ → Type 0) (o p : Option ℕ) → IsFirst P o → IsFirst P p → o ≡ p

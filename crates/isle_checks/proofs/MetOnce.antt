@@ -1,5 +1,5 @@
 -- A value meets at most one constraint of the built forms.
-use Rattle.std.proofs.Common.{◌≡◌, ℕ, zero, suc, ◌+◌, ℤ, List, [], ◌∷◌, Bool, true, Option, Some, None, refl, sym, ap, ◌∙◌, subst, arith, ⊎_elim}
+use Rattle.std.proofs.Common.{◌≡◌, ℕ, suc, ◌+◌, ℤ, List, [], ◌∷◌, Bool, true, Option, Some, None, sym, ap, ◌∙◌, subst, arith, ⊎_elim}
 use Rattle.std.specs.Prelude.{Contains, slice_get}
 use Rattle.std.specs.List.{AllByRecursion}
 use Rattle.std.proofs.lemmas.List.Elements.{Contains-append_cases}
@@ -14,7 +14,7 @@ use Rattle.isle_core.specs.Constants.{int_of_def, int_value}
 use Rattle.isle_core.specs.Pattern as pattern
 use Rattle.isle_core.specs.Pattern.{Pattern}
 use Rattle.isle_core.specs.Path.{Path, Arg}
-use Rattle.isle_core.specs.Tests.{Is, Places, no_places, tests, after, args_tests}
+use Rattle.isle_core.specs.Tests.{Is, Places, tests, after, args_tests}
 use Rattle.isle_core.specs.ValueAt.{Held, One, AValue, is_value, meets}
 use Rattle.isle_core.specs.BuiltRule.{IsBuiltPattern}
 use Rattle.isle_core.specs.Rule.{Environment}
@@ -111,8 +111,8 @@ args_on env [] [] n places p c b h k = absurd (none_contained (Is p c) k)
 args_on env (q ∷ qs) (ty ∷ tys) n places p c b h k =
     ⊎_elim (λ d. pattern_on env q ty tys n places p c b.0 h.0 d)
     (λ d.
-        let x = args_on env qs tys (suc n) (after env q (Arg n) places) p c b.1 h.1 d in
-        record { place = suc x.place; path = x.path ∙ ap Arg {y = n + suc x.place} (omega arith); on = x.on })
+    let x = args_on env qs tys (suc n) (after env q (Arg n) places) p c b.1 h.1 d in
+    record { place = suc x.place; path = x.path ∙ ap Arg {y = n + suc x.place} (omega arith); on = x.on })
     (Contains-append_cases (tests env q (Arg n) places) (args_tests env qs (suc n) (after env q (Arg n) places)) (Is p c) k)
 args_on env [] (ty ∷ tys) n places p c b h k = absurd h
 args_on env (q ∷ qs) [] n places p c b h k = absurd h

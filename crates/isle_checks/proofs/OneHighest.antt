@@ -1,10 +1,10 @@
 -- Where no rule of a term is in error, no two that match have one priority.
-use Rattle.std.proofs.Common.{◌≡◌, ℕ, zero, suc, ◌+◌, ◌<◌, List, [], ◌∷◌, ◌++◌, length, map, get_or, Bool, true, false, Option, Some, None, refl, sym, ap, ◌∙◌, subst, arith, ◌⊎◌, ⊎_elim}
+use Rattle.std.proofs.Common.{◌≡◌, ℕ, zero, suc, ◌+◌, ◌<◌, List, [], ◌∷◌, ◌++◌, length, map, Bool, true, false, Option, Some, None, refl, sym, ap, ◌∙◌, subst, arith, ◌⊎◌, ⊎_elim}
 use Rattle.std.specs.Prelude.{Contains, slice_get}
-use Rattle.std.specs.List.{AllByRecursion, list_all}
+use Rattle.std.specs.List.{AllByRecursion}
 use Rattle.std.proofs.lemmas.List.Elements.{All-contains, All-from_recursion, recursion_from_All}
 use Rattle.std.proofs.lemmas.List.Sums.{AllPass-from_list_all}
-use Rattle.std.proofs.lemmas.Option.{slice_get_within, slice_get-get_or}
+use Rattle.std.proofs.lemmas.Option.{slice_get-get_or}
 use Rattle.isle_core.specs.declared.TermId.{TermId}
 use Rattle.isle_core.specs.declared.TypeId.{TypeId}
 use Rattle.isle_core.specs.declared.rule_sets.Constraint.{Constraint}
@@ -15,7 +15,7 @@ use Rattle.isle_core.specs.Match.{Names}
 use Rattle.isle_core.specs.Outcome.{rule_names}
 use Rattle.isle_core.specs.HighestMatch.{AreApart}
 use Rattle.isle_core.specs.Path.{Path, Arg}
-use Rattle.isle_core.specs.Tests.{Test, Is, Places, no_places, args_tests, args_after, rule_tests}
+use Rattle.isle_core.specs.Tests.{Test, Is, Places, no_places, args_after, rule_tests}
 use Rattle.isle_core.specs.Terms.{with_rules}
 use Rattle.isle_core.specs.ValueAt.{nothing_known, value_at, meets, holds, all_hold}
 use Rattle.isle_core.specs.BuiltRule.{IsBuiltPattern, IsBuiltRule}
@@ -24,7 +24,7 @@ use Rattle.isle_core.proofs.Contained.{contained_cases, none_contained}
 use Rattle.isle_core.proofs.PatternTests.{Values, Both}
 use Rattle.isle_core.proofs.SetMeans.{rule_both, without_iflets}
 use Rattle.isle_checks.specs.Built.{AreBuilt}
-use Rattle.isle_checks.specs.CheckList.{RuleError, overlap_of, shadow_of, errors_of, positions, is_multi, AreErrorsAt, AreErrorsBelow, AreErrorsOf, AreErrorsOfTerm, AreErrorsOfTerms, IsClean}
+use Rattle.isle_checks.specs.CheckList.{RuleError, overlap_of, shadow_of, positions, is_multi, AreErrorsAt, AreErrorsBelow, AreErrorsOf, AreErrorsOfTerm, AreErrorsOfTerms, IsClean}
 use Rattle.isle_checks.specs.Firsts.{IsFirst}
 use Rattle.isle_checks.specs.OfTypes.{AreOfTypes, FitTerm}
 use Rattle.isle_checks.specs.RuleChecks.{Overlaps, OverlapsAt}
@@ -132,7 +132,7 @@ one_highest env id t listed single built fit clean m args count q r names others
     ⊎_elim
     (λ (lt : c.0 < d.0). absurd (none_below env rules (length rules) c.0 d.0 of_rules d.1 (lt, of_two (Overlaps env) _ _ q r first second (matched_overlap env m args t.arg_tys count q r names others (is_built q c) (is_built r d) (fits q c) (fits r d) e k same))))
     (λ (h : (d.0 < c.0) ⊎ (c.0 ≡ d.0)). ⊎_elim
-        (λ (lt : d.0 < c.0). absurd (none_below env rules (length rules) d.0 c.0 of_rules c.1 (lt, of_two (Overlaps env) _ _ r q second first (matched_overlap env m args t.arg_tys count r q others names (is_built r d) (is_built q c) (fits r d) (fits q c) k e (sym same)))))
-        (λ (at : c.0 ≡ d.0). some_rule q r (sym first ∙ ap (slice_get rules) at ∙ second))
-        h)
+    (λ (lt : d.0 < c.0). absurd (none_below env rules (length rules) d.0 c.0 of_rules c.1 (lt, of_two (Overlaps env) _ _ r q second first (matched_overlap env m args t.arg_tys count r q others names (is_built r d) (is_built q c) (fits r d) (fits q c) k e (sym same)))))
+    (λ (at : c.0 ≡ d.0). some_rule q r (sym first ∙ ap (slice_get rules) at ∙ second))
+    h)
     (two_places c.0 d.0)

@@ -1,5 +1,5 @@
 -- The errors of rules that stand in files have their places there.
-use Rattle.std.proofs.Common.{◌≡◌, ℕ, zero, suc, List, [], ◌∷◌, ◌++◌, length, map, Bool, true, false, Option, Some, None, refl, sym, ap, ◌∙◌, subst}
+use Rattle.std.proofs.Common.{◌≡◌, ℕ, zero, suc, List, [], ◌∷◌, ◌++◌, length, map, Bool, true, false, Option, Some, None, sym, subst}
 use Rattle.std.specs.Prelude.{All, IfSome, IsSomeAnd, MatchBool, slice_get}
 use Rattle.std.specs.List.{AllByRecursion}
 use Rattle.std.proofs.lemmas.List.Elements.{All-from_recursion}
@@ -12,7 +12,7 @@ use Rattle.isle_core.specs.ErrorLines.{IsPlaced}
 use Rattle.isle_core.specs.Places.{LiesIn}
 use Rattle.isle_core.specs.Terms.{with_rules}
 use Rattle.isle_core.specs.Rule.{Environment, Rule, rules_of}
-use Rattle.isle_checks.specs.CheckList.{RuleError, Overlap, Shadowed, span_at, overlap_of, shadow_of, errors_of, positions, told, told_spans, is_multi, AreErrorsAt, AreErrorsBelow, AreErrorsOf, AreErrorsOfTerms, IsCheckList}
+use Rattle.isle_checks.specs.CheckList.{RuleError, Overlap, Shadowed, span_at, overlap_of, shadow_of, positions, told, told_spans, is_multi, AreErrorsBelow, AreErrorsOf, AreErrorsOfTerms, IsCheckList}
 use Rattle.isle_checks.proofs.TermErrors.{all_filter}
 
 module _ (files : Files) where
@@ -85,8 +85,8 @@ module _ (files : Files) where
   error_placed (error.UnreachableError msg span) x h k = cc
   error_placed (error.RecursionError msg span) x h k = cc
 
-  head_same : (a : Option RuleError) (as bs : List (Option RuleError)) (b : Option RuleError) → a ∷ as ≡ b ∷ bs → (a ≡ b) × (as ≡ bs)
-  head_same a as bs b e = (cc, cc)
+  head_same : (a : Option RuleError) (os ps : List (Option RuleError)) (b : Option RuleError) → a ∷ os ≡ b ∷ ps → (a ≡ b) × (os ≡ ps)
+  head_same a os ps b e = (cc, cc)
 
   all_placed : (errors : List Error) (es : List RuleError) → map told errors ≡ map Some es → AreToldIn es → AllByRecursion (IsPlaced files) errors
   all_placed [] es h k = tt
