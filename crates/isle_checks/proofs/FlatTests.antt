@@ -21,16 +21,16 @@ use Rattle.isle_checks.proofs.PlacedLaws.{only_one}
 
 -- ---- paths that are tested are somewhere
 
-is_path : (p q : Path) (c d : Constraint) → Is p c ≡ Is q d → p ≡ q
+pub is_path : (p q : Path) (c d : Constraint) → Is p c ≡ Is q d → p ≡ q
 is_path p q c d e = cc
 
-is_constraint : (p q : Path) (c d : Constraint) → Is p c ≡ Is q d → c ≡ d
+pub is_constraint : (p q : Path) (c d : Constraint) → Is p c ≡ Is q d → c ≡ d
 is_constraint p q c d e = cc
 
 arg_somewhere : (n : ℕ) (p : Path) → Arg n ≡ p → p ≡ Nowhere → ⊥
 arg_somewhere n p e h = cc
 
-met_none : (o : Option Path) (q p : Path) (c : Constraint) → Contains (met_tests o q) (Is p c) → ⊥
+pub met_none : (o : Option Path) (q p : Path) (c : Constraint) → Contains (met_tests o q) (Is p c) → ⊥
 met_none None q p c h = none_contained (Is p c) h
 met_none (Some x) q p c h = let e = only_one (Equal x q) (Is p c) h in cc
 

@@ -68,7 +68,7 @@ two_of P None p h = absurd h
 two_of P (Some x) None h = absurd h
 two_of P (Some x) (Some y) h = (x, y, refl, refl, h)
 
-of_two : {X : Type 0} (P : X → X → Type 0) (o p : Option X) (x y : X) → o ≡ Some x → p ≡ Some y → P x y → IsSomeAnd o (λ (x : X). IsSomeAnd p (λ (y : X). P x y))
+pub of_two : {X : Type 0} (P : X → X → Type 0) (o p : Option X) (x y : X) → o ≡ Some x → p ≡ Some y → P x y → IsSomeAnd o (λ (x : X). IsSomeAnd p (λ (y : X). P x y))
 of_two P o p x y e k h = subst (λ a. IsSomeAnd a (λ (x : _). IsSomeAnd p (λ (y : _). P x y))) (sym e) (subst (λ b. IsSomeAnd b (λ (y : _). P x y)) (sym k) h)
 
 -- ---- errors at places

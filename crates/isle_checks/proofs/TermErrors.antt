@@ -24,7 +24,7 @@ filter_at : {X : Type 0} (P : X → Type 0) (x : X) (xs : List X) (t : Bool) →
 filter_at P x xs true h k = (h, k)
 filter_at P x xs false h k = k
 
-all_filter : {X : Type 0} (P : X → Type 0) (test : X → Bool) (xs : List X) → AllByRecursion P xs → AllByRecursion P (filter test xs)
+pub all_filter : {X : Type 0} (P : X → Type 0) (test : X → Bool) (xs : List X) → AllByRecursion P xs → AllByRecursion P (filter test xs)
 all_filter P test [] h = tt
 all_filter P test (x ∷ xs) h = filter_at P x (filter test xs) (test x) h.0 (all_filter P test xs h.1)
 

@@ -101,3 +101,7 @@ TellTerms env ids errors = (es : List RuleError) × AreErrorsOfTerms env ids es 
 -- errors that say what is wrong with the rules of an environment
 abbrev pub IsCheckList : Environment → List Error → Type 0
 IsCheckList env errors = TellTerms env (with_rules env) errors
+
+-- nothing is wrong with them
+abbrev pub IsClean : Environment → Type 0
+IsClean env = IsCheckList env []

@@ -12,6 +12,7 @@ use Rattle.isle_core.specs.StandsFor.{StandsFor}
 use Rattle.isle_core.specs.Terms.{term_name, with_rules}
 use Rattle.isle_core.specs.Rule.{Environment, rules_of}
 use Rattle.isle_syntax.specs.Tree.{Def}
+use Rattle.isle_checks.specs.CheckList.{IsClean}
 use Rattle.isle_rulesets.specs.Grouping.{AreRuleSets}
 use Rattle.isle_sema.specs.Typing.{Typed}
 use Rattle.isle_sema.proofs.TypedTerms.{typed_names, typed_types}
@@ -108,7 +109,7 @@ plain_terms defs env typed = each env.terms (λ i t e. record { types = typed_ty
     each [] h = tt
     each (t ∷ ts) h = (h 0 t refl, each ts (λ i u e. h (suc i) u e))
 
-module _ (defs : List Def) (files : Files) (env : Environment) (typed : Typed defs env) (sets : List (TermId × RuleSet)) (stand : AreRuleSets env sets) (fs : List Function) (emitted : AreEmitted files env sets fs) where
+module _ (defs : List Def) (files : Files) (env : Environment) (typed : Typed defs env) (clean : IsClean env) (sets : List (TermId × RuleSet)) (stand : AreRuleSets env sets) (fs : List Function) (emitted : AreEmitted files env sets fs) where
   names_of : map (λ (f : Function). f.term) fs ≡ map (term_name env) (with_rules env)
   names_of = emitted_names files env sets fs emitted ∙ ap (map (term_name env)) stand.ids
 
@@ -148,6 +149,6 @@ module _ (defs : List Def) (files : Files) (env : Environment) (typed : Typed de
         names = ap (map (λ (f : Function). f.term)) e ∙ names_of;
         declared = subst (λ (xs : List Function). AreDeclared files env (with_rules env) xs) (sym e) (subst (λ (ids : List TermId). AreDeclared files env ids fs) stand.ids (are_declared files env sets fs emitted));
         blocks = subst (λ (xs : List Function). AreFromBlocks files env (with_rules env) xs) (sym e) (subst (λ (ids : List TermId). AreFromBlocks files env ids fs) stand.ids (are_from_blocks files env sets fs (λ id. recursion_from_All (IsImpureRule env.terms) (rules_of env id) (of_term (IsImpureRule env.terms) env id (typed_impure defs env typed))) (recursion_from_All (λ (s : TermId × RuleSet). StandsFor env s.1 (rules_of env s.0)) sets stand.stand) emitted));
-        mean = λ id c. means_rules defs files env p id typed (subst (λ (xs : List Function). HasFunction files env xs id) (sym e) (function_for id c));
+        mean = λ id c. means_rules defs files env p id typed clean c (subst (λ (xs : List Function). HasFunction files env xs id) (sym e) (function_for id c));
         meant = λ id c. meant_of names id (function_for id c).emitted.term (function_for id c).emitted.found;
       }

@@ -7,7 +7,9 @@ pub mod MeanRules
 pub mod Emitting
 pub mod EmittedProgram
 pub mod Placed
-pub mod ListedNames
+pub mod RootNames
 pub mod PlainTerms
 pub mod Emissions
 pub mod Answerable
+pub mod RulesApart
+pub mod Accepted

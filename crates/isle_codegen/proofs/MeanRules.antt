@@ -21,12 +21,12 @@ use Rattle.isle_core.specs.Outcome.{Prescription, Prescribed}
 use Rattle.isle_core.specs.Path.{paths_of}
 use Rattle.isle_core.specs.BlockRun.{block_outcome}
 use Rattle.isle_core.specs.StandsFor.{StandsFor}
-use Rattle.isle_core.specs.Terms.{term_name}
+use Rattle.isle_core.specs.Terms.{term_name, with_rules}
 use Rattle.isle_core.specs.Rule.{Environment, Rule, rules_of}
 use Rattle.isle_core.specs.BuiltRule.{IsBuiltRule, IsImpureRule}
 use Rattle.isle_core.specs.Scope.{IsScopedRule}
 use Rattle.isle_core.proofs.Contained.{head_contained, tail_contained, contained_cases, none_contained}
-use Rattle.isle_core.proofs.OutcomeOf.{outcome_of_one}
+use Rattle.isle_core.proofs.OutcomeOf.{outcome_prescribed, highest_is_one}
 use Rattle.isle_core.proofs.OutcomeOnce.{prescribed_once}
 use Rattle.isle_core.proofs.ImpureCalls.{AreImpure, outcome_impure, all_kept}
 use Rattle.isle_core.proofs.SetMeans.{set_means}
@@ -35,7 +35,8 @@ use Rattle.isle_printer.proofs.Bytes.{same_bytes_refl, same_bytes_sound}
 use Rattle.isle_syntax.specs.Tree.{Def}
 use Rattle.isle_sema.specs.Typing.{Typed}
 use Rattle.isle_sema.proofs.TypedRules.{typed_built, typed_scoped, typed_impure, typed_args}
-use Rattle.isle_sema.proofs.OneRule.{typed_one}
+use Rattle.isle_checks.specs.CheckList.{IsClean}
+use Rattle.isle_codegen.proofs.RulesApart.{rules_apart}
 use Rattle.isle_tree.specs.Program.{Function, Program}
 use Rattle.isle_tree.specs.Run.{run, function_of}
 use Rattle.isle_codegen.specs.Emits.{IsEmitted, AreEmitted}
@@ -131,7 +132,7 @@ keep_all P keep (r ∷ rs) h = pick_all P r (filter keep rs) (keep r) h.0 (keep_
 pub of_term : (P : Rule → Type 0) (env : Environment) (id : TermId) → All P env.rules → All P (rules_of env id)
 of_term P env id h = All-from_recursion P (rules_of env id) (keep_all P (λ (r : Rule). r.root_term.0 == id.0) env.rules (recursion_from_All P env.rules h))
 
-module _ (defs : List Def) (files : Files) (env : Environment) (p : Program) (id : TermId) (typed : Typed defs env) (h : HasFunction files env p.fns id) where
+module _ (defs : List Def) (files : Files) (env : Environment) (p : Program) (id : TermId) (typed : Typed defs env) (clean : IsClean env) (listed : Contains (with_rules env) id) (h : HasFunction files env p.fns id) where
   abbrev the_term : Term
   the_term = h.emitted.term
 
@@ -158,7 +159,8 @@ module _ (defs : List Def) (files : Files) (env : Environment) (p : Program) (id
   gives_outcome : (args : List Value) (m : Meaning) → HaveTypes env args the_term.arg_tys → IsLawful env id m → GivesOutcome env p id the_term args m
   gives_outcome args m types lawful =
       let outcome = outcome_of env m args (rules_of env id) kind [] in
-      let prescribed : Prescribed env m args (rules_of env id) kind [] outcome = outcome_of_one env m args (rules_of env id) kind [] (typed_one defs env id typed) in
+      let apart = rules_apart defs env id the_term typed clean listed h.emitted.found h.emitted.once m args (as_many env args the_term.arg_tys types) in
+      let prescribed : Prescribed env m args (rules_of env id) kind [] outcome = outcome_prescribed env m args (rules_of env id) kind [] (highest_is_one env m args (rules_of env id) apart) in
       record {
         outcome = outcome;
         prescribed = prescribed;

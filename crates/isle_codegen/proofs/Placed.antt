@@ -2,16 +2,19 @@
 use Rattle.std.proofs.Common.{◌≡◌, ℕ, suc, ◌+◌, ◌<◌, ◌≤◌, List, [], ◌∷◌, ◌++◌, length, Some, refl, sym, ap, ◌∙◌, subst, arith, ⊎_elim}
 use Rattle.std.specs.Prelude.{Contains, slice_get, slice_index_or}
 use Rattle.std.specs.List.{AllByRecursion}
+use Rattle.std.proofs.lemmas.List.Elements.{recursion_from_All, Contains-get_or}
 use Rattle.isle_core.specs.declared.files.Files.{Files}
 use Rattle.isle_core.specs.declared.types.Term.{Term}
 use Rattle.isle_core.specs.Places.{LiesIn, text_in}
-use Rattle.isle_core.specs.Rule.{Environment}
+use Rattle.isle_core.specs.Rule.{Environment, Rule}
 use Rattle.isle_core.proofs.Contained.{contained_cases, none_contained}
 use Rattle.isle_syntax.specs.Tree.{Def}
 use Rattle.isle_syntax.specs.Positions.{place_of, AreWithin}
 use Rattle.isle_syntax.proofs.Within.{spelt_within}
 use Rattle.isle_sema.specs.Typing.{Typed}
 use Rattle.isle_sema.proofs.TypedTerms.{typed_places}
+use Rattle.isle_sema.proofs.RulePlaces.{rule_places}
+use Rattle.isle_checks.proofs.PlacedErrors.{LieIn}
 use Rattle.isle_codegen.specs.Source.{Source}
 use Rattle.isle_codegen.specs.Emission.{ArePlaced, DefsArePlaced}
 
@@ -42,7 +45,7 @@ source_from files file (text ∷ texts) defs same many each h =
     (source_from files (file + 1) texts h.1 same (omega (arith, many)) (λ i lt. ap (text_in files) {y = file + suc i} (omega arith) ∙ each (suc i) (omega (arith, lt))) h.3))
 
 -- the definitions that the texts of files spell stand in them
-source_placed : (files : Files) (defs : List Def) → length files.file_texts ≡ length files.file_names → Source 0 files.file_texts defs → DefsArePlaced files defs
+pub source_placed : (files : Files) (defs : List Def) → length files.file_texts ≡ length files.file_names → Source 0 files.file_texts defs → DefsArePlaced files defs
 source_placed files defs same h = source_from files 0 files.file_texts defs same (omega arith) (λ i lt. ap (text_in files) {y = i} (omega arith)) h
 
 placed_among : (files : Files) (defs : List Def) (d : Def) → DefsArePlaced files defs → Contains defs d → LiesIn files (place_of d)
@@ -54,10 +57,12 @@ each_placed files [] h = tt
 each_placed files (t ∷ ts) h = (h 0 t refl, each_placed files ts (λ i u e. h (suc i) u e))
 
 -- the terms of definitions that stand in the files are declared there
-terms_placed : (files : Files) (defs : List Def) (env : Environment) → Typed defs env → DefsArePlaced files defs → ArePlaced files env
+pub terms_placed : (files : Files) (defs : List Def) (env : Environment) → Typed defs env → DefsArePlaced files defs → ArePlaced files env
 terms_placed files defs env h k =
     each_placed files env.terms (λ i t e. let d = typed_places defs env i t h e in subst (LiesIn files) d.2 (placed_among files defs d.0 k d.1))
 
--- the terms of the definitions that the texts of files spell are declared there
-pub source_terms_placed : (files : Files) (defs : List Def) (env : Environment) → length files.file_texts ≡ length files.file_names → Source 0 files.file_texts defs → Typed defs env → ArePlaced files env
-source_terms_placed files defs env same source typed = terms_placed files defs env typed (source_placed files defs same source)
+-- and so are their rules
+pub rules_placed : (files : Files) (defs : List Def) (env : Environment) → Typed defs env → DefsArePlaced files defs → LieIn files env.rules
+rules_placed files defs env h k =
+    recursion_from_All (λ (r : Rule). LiesIn files r.pos) env.rules
+    (λ i r lt. let d = rule_places defs env _ h (Contains-get_or env.rules i r lt) in subst (LiesIn files) d.2 (placed_among files defs d.0 k d.1))

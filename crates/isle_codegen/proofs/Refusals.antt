@@ -1,12 +1,47 @@
 -- Refusals of the texts of files.
-use Rattle.std.proofs.Common.{◌≡◌, ℕ, List, Result, Ok, Err, Option, Some, None, subst}
+use Rattle.std.proofs.Common.{◌≡◌, ◌⊎◌, inl, inr, ⊎_elim, ℕ, List, [], true, Result, Ok, Err, Option, Some, None, refl, sym, subst}
 use Rattle.std.specs.Prelude.{IfErr, IfSome}
 use Rattle.isle_outside.specs.Directory.{Contents, Counts}
 use Rattle.isle_core.specs.declared.options.CodegenOptions.{CodegenOptions}
+use Rattle.isle_core.specs.declared.errors.Error.{Error}
+use Rattle.isle_core.specs.declared.files.Files.{Files}
 use Rattle.isle_core.specs.Inputs.{AreRead}
+use Rattle.isle_core.specs.Rule.{Environment}
+use Rattle.isle_syntax.specs.Tree.{Def}
+use Rattle.isle_checks.specs.CheckList.{IsCheckList}
+use Rattle.isle_checks.proofs.PlacedErrors.{errors_placed}
+use Rattle.isle_codegen.specs.declared.compile_error.CompileError.{CompileError}
+use Rattle.isle_codegen.specs.declared.compile_error.CompileError.TheVariants as compile_error
 use Rattle.isle_codegen.specs.declared.file_error.FileError.{FileError}
 use Rattle.isle_codegen.specs.declared.file_error.FileError.TheVariants as error
-use Rattle.isle_codegen.specs.Causes.{printed, IsNotOfIt, IsRefusal, AllTried, HasCause}
+use Rattle.isle_codegen.specs.Causes.{printed, of_texts, IsNotOfIt, IsUncompiled, IsRefusal, AllTried, HasCause}
+use Rattle.isle_codegen.specs.Emission.{DefsArePlaced}
+use Rattle.isle_codegen.specs.Errors.{IsErrors, of_rules}
+use Rattle.isle_codegen.specs.Names.{are_file_names}
+use Rattle.isle_codegen.specs.Source.{Source, IsCompilable, InLanguage}
+use Rattle.isle_codegen.proofs.Placed.{rules_placed}
+
+-- why texts give no text, where the definitions that they spell give none
+pub of_defs : (e : CompileError) (names texts : List (List ℕ)) (defs : List Def) → Source 0 texts defs → ((others : List Def) → Source 0 texts others → others ≡ defs) → IsUncompiled e (record { file_names = names; file_texts = texts }) defs
+    → IsRefusal (of_texts e) names texts
+of_defs compile_error.NotYet names texts defs source once h = ⊎_elim
+    (λ (never : (env : Environment) → IsCompilable defs env → ⊥). inl (λ (l : InLanguage texts). never l.1 (subst (λ ds. IsCompilable ds l.1) (once l.0 l.2) l.3)))
+    (λ bad. inr bad) h
+of_defs (compile_error.Errors errors) names texts defs source once h = record { told = h.told; names = h.names; cause = of_rules defs source once h.cause }
+of_defs (compile_error.Name name) names texts defs source once h = absurd h
+of_defs compile_error.Memory names texts defs source once h = tt
+
+-- errors that are told with files in which the definitions stand
+pub told_errors : (e : CompileError) (files : Files) (defs : List Def) (env : Environment) (errors : List Error) → (e ≡ compile_error.Memory) ⊎ (e ≡ compile_error.Errors (record { errors = errors; files = files })) → IsCompilable defs env → DefsArePlaced files defs
+    → are_file_names files.file_names ≡ true → IsCheckList env errors → (errors ≡ [] → ⊥) → IsUncompiled e files defs
+told_errors e files defs env errors is compilable placed named list some = ⊎_elim
+    (λ s. subst (λ x. IsUncompiled x files defs) (sym s) tt)
+    (λ s. subst (λ x. IsUncompiled x files defs) (sym s) (record {
+      told = record { given = refl; placed = errors_placed files env errors (rules_placed files defs env compilable.typed placed) list };
+      names = named;
+      cause = record { env = env; compilable = compilable; list = list; some = some };
+    }))
+    is
 
 -- behind inputs that were read, a refusal of their texts is one of the files
 pub read_causes : {T : Type 0} (r : Result T FileError) (options : CodegenOptions) (files : Option Contents) (inputs names texts : List (List ℕ)) (before after : Counts) → names ≡ printed options inputs
@@ -16,5 +51,6 @@ read_causes (Err error.NotYet) options (Some fs) inputs names texts before after
 read_causes (Err error.NotYet) options None inputs names texts before after is tried read h = (tried, tt)
 read_causes (Err error.Memory) options files inputs names texts before after is tried read h = tried.1
 read_causes (Err (error.Io index why)) options files inputs names texts before after is tried read h = absurd h
-read_causes (Err (error.Errors errors)) options files inputs names texts before after is tried read h = absurd h
+read_causes (Err (error.Errors errors)) options (Some fs) inputs names texts before after is tried read h = (tried, h.told.placed, record { texts = texts; read = read; errors = subst (λ (ns : List (List ℕ)). IsErrors errors ns texts) is h })
+read_causes (Err (error.Errors errors)) options None inputs names texts before after is tried read h = (tried, h.told.placed, tt)
 read_causes (Err (error.Name name)) options files inputs names texts before after is tried read h = absurd h

@@ -8,15 +8,17 @@ use Rattle.isle_core.specs.Places.{LiesIn}
 use Rattle.isle_core.specs.Rule.{Environment}
 use Rattle.isle_syntax.specs.Tree.{Def}
 use Rattle.isle_syntax.specs.Positions.{place_of}
+use Rattle.isle_checks.specs.CheckList.{IsClean}
 use Rattle.isle_codegen.specs.Source.{IsCompilable}
 use Rattle.isle_simulation.specs.TraitFns.{trait_fns_of}
 use Rattle.isle_tree.specs.declared.tree.TypeItem.{TypeItem}
 use Rattle.isle_tree.specs.Program.{Program}
 
--- an environment that definitions give, whose names may be emitted
+-- an environment that definitions give, whose names may be emitted, and with whose rules nothing is wrong
 pub record IsGiven (env : Environment) : Type 0 where
   pub defs : List Def
   pub compilable : IsCompilable defs env
+  pub clean : IsClean env
 
 -- the declarations of the terms lie in the files
 abbrev pub ArePlaced : Files → Environment → Type 0

@@ -14,6 +14,7 @@ use Rattle.isle_core.specs.Rule.{Environment, rules_of}
 use Rattle.isle_core.specs.Terms.{with_rules, term_name, is_impure}
 use Rattle.isle_syntax.specs.Tree.{Def}
 use Rattle.isle_sema.specs.Typing.{TypedOnly}
+use Rattle.isle_checks.specs.CheckList.{IsClean}
 use Rattle.isle_tree.specs.Program.{Function, Program}
 use Rattle.isle_target.specs.Reading.{SpellsOnly}
 use Rattle.isle_tree.specs.Run.{run}
@@ -60,10 +61,11 @@ pub record IsText (options : CodegenOptions) (files : Files) (env : Environment)
   pub frame : IsFrame options env program
   pub functions : FunctionsMean files env program
 
--- the text is that of the one environment of the definitions, which stand in the files
+-- the text is that of the one environment of the definitions, which stand in the files; nothing is wrong with its rules
 pub record HasHeadline (options : CodegenOptions) (files : Files) (defs : List Def) (text : List ℕ) : Type 0 where
   pub env : Environment
   pub typed : TypedOnly defs env
+  pub clean : IsClean env
   pub is_text : IsText options files env text
 
 -- the text spells exactly one program

@@ -8,4 +8,5 @@ pub mod CalledBy
 pub mod FromBlock
 pub mod Headline
 pub mod Emits
+pub mod Errors
 pub mod Causes

@@ -3,7 +3,7 @@ use Rattle.std.specs.Prelude.{ℕ, List, Bool, ◌==◌, ◌&&◌, not, nat_le}
 use Rattle.std.specs.List.{list_all}
 use Rattle.isle_printer.specs.Token.{is_word_byte}
 use Rattle.isle_core.specs.declared.TermId.{TermId}
-use Rattle.isle_core.specs.Rule.{Environment}
+use Rattle.isle_core.specs.Rule.{Environment, Rule}
 use Rattle.isle_core.specs.Terms.{with_rules, term_name}
 
 -- a byte that a name may have: none below 32, and not 127
@@ -21,6 +21,10 @@ are_file_names names = list_all is_file_name names
 -- the name of a term that may stand behind constructor_: letters, digits and _
 abbrev pub is_term_name : List ℕ → Bool
 is_term_name name = list_all is_word_byte name
+
+-- the names of the terms of these rules may be emitted
+abbrev pub are_root_names : Environment → List Rule → Bool
+are_root_names env rules = list_all (λ (r : Rule). is_term_name (term_name env r.root_term)) rules
 
 -- the names of the terms with rules may be emitted
 abbrev pub are_term_names : Environment → Bool

@@ -1,23 +1,25 @@
-ghost use Rattle.std.specs.Prelude.{◌≡◌, length, Err, IfOk, IfErr};
+ghost use Rattle.std.specs.Prelude.{◌≡◌, ◌⊎◌, true, length, Err, IfOk, IfErr};
 ghost use Rattle.isle_core.specs.Rule.{Environment};
 ghost use Rattle.isle_core.specs.RuleViews.{environment};
 ghost use Rattle.isle_syntax.specs.Views.{defs as seen};
 ghost use Rattle.isle_sema.specs.Typing.{TypedOnly};
 ghost use Rattle.isle_rulesets.specs.Grouping.{AreRuleSets};
 ghost use Rattle.isle_simulation.specs.TraitFns.{trait_fns_of};
-ghost use Rattle.isle_codegen.specs.Emission.{IsGiven};
+ghost use Rattle.isle_codegen.specs.Emission.{IsGiven, ArePlaced, DefsArePlaced};
 ghost use Rattle.isle_codegen.specs.Source.{IsCompilable};
 ghost use Rattle.isle_codegen.specs.Checked.{IsChecked};
-ghost use Rattle.isle_codegen.specs.Causes.{IsRefusal};
+ghost use Rattle.isle_codegen.specs.Names.{are_file_names};
+ghost use Rattle.isle_codegen.specs.Causes.{IsRefusal, IsUncompiled};
 
-use crate::file_error::FileError;
+use crate::compile_error::CompileError;
+use crate::file_error::{FileError, of_texts};
 use crate::names::{are_file_names, are_fn_names, are_term_names};
-use crate::source::parse_all;
-use isle_core::{Files, RuleSet, TermEnv, TermId, TypeEnv};
+use crate::source::parse_files;
+use isle_checks::{CheckError, overlap};
+use isle_core::{Error, Errors, Files, List, RuleSet, TermEnv, TermId, TypeEnv};
 use isle_emission::trait_fns;
-use isle_rulesets::rule_sets;
 use isle_sema::{EnvError, env_from_ast};
-use isle_syntax::{Def, ParseFail};
+use isle_syntax::Def;
 use isle_tree::TraitFn;
 use std::alloc::Global;
 
@@ -32,49 +34,82 @@ pub struct Checked {
 
 /// Checks the definitions that the files' texts spell, in order, and returns their environment (`specs/Checked.antt`).
 /// There are as many names as texts. `NotYet` comes exactly where the texts are not of the language that is built, or a
-/// file's name may not be emitted; beside it only want of memory.
+/// file's name may not be emitted; `Errors` where these definitions have rules that overlap or are shadowed, and tells each
+/// (`specs/Errors.antt`); beside these only want of memory.
 pub fn check_files(alloc: Global, files: &Files) -> Result<Checked, FileError>
     requires count { length files.now.file_texts ≡ length files.now.file_names }
     ensures ok { IfOk result (λ c. IsChecked files.now (environment c.typeenv c.termenv)) }
     ensures terms { IfOk result (λ c. AreRuleSets (environment c.typeenv c.termenv) c.terms.items) }
     ensures err { IfErr result (λ e. IsRefusal e files.now.file_names files.now.file_texts) }
 {
-    match check_all(alloc, files) {
+    let defs = match parse_files(alloc, files) {
+        Ok(defs) => defs,
+        Err(fail) => return Err(fail),
+    };
+    match check_defs(alloc, files, defs.as_slice()) {
         Ok((checked, _)) => Ok(checked),
-        Err(fail) => Err(fail),
+        Err(fail) => Err(of_texts(fail)),
     }
 }
 
-/// Does what `check_files` does, and returns the functions of the trait too.
-pub fn check_all(alloc: Global, files: &Files) -> Result<(Checked, Vec<TraitFn>), FileError>
-    requires count { length files.now.file_texts ≡ length files.now.file_names }
-    ensures ok { IfOk result (λ c. IsChecked files.now (environment c.0.typeenv c.0.termenv)) }
+/// Checks definitions that stand in the files, and returns their environment with the functions of the trait. `NotYet`
+/// comes exactly where they are not of the language that is built, or a name may not be emitted; `Errors` where rules
+/// overlap or are shadowed, and tells each (`specs/Errors.antt`); beside these only want of memory.
+pub fn check_defs(
+    alloc: Global,
+    files: &Files,
+    defs: &[Def],
+) -> Result<(Checked, Vec<TraitFn>), CompileError>
+    requires { DefsArePlaced files.now (seen defs.now) }
+    ensures typed { IfOk result (λ c. TypedOnly (seen defs.now) (environment c.0.typeenv c.0.termenv)) }
+    ensures given { IfOk result (λ c. IsGiven (environment c.0.typeenv c.0.termenv)) }
+    ensures places { IfOk result (λ c. ArePlaced files.now (environment c.0.typeenv c.0.termenv)) }
+    ensures names { IfOk result (λ c. are_file_names files.now.file_names ≡ true) }
     ensures terms { IfOk result (λ c. AreRuleSets (environment c.0.typeenv c.0.termenv) c.0.terms.items) }
     ensures fns { IfOk result (λ c. c.1.items ≡ trait_fns_of (environment c.0.typeenv c.0.termenv)) }
-    ensures err { IfErr result (λ e. IsRefusal e files.now.file_names files.now.file_texts) }
+    ensures err { IfErr result (λ e. IsUncompiled e files.now (seen defs.now)) }
 {
     if !are_file_names(files.file_names.as_slice()) {
-        return Err(FileError::NotYet);
+        return Err(CompileError::NotYet);
     }
-    let defs = match parse_all(alloc, files.file_texts.as_slice()) {
-        Ok(defs) => defs,
-        Err(ParseFail::NotYet) => return Err(FileError::NotYet),
-        Err(ParseFail::Memory) => return Err(FileError::Memory),
+    let (typeenv, termenv, fns) = match emittable(alloc, defs) {
+        Ok(envs) => envs,
+        Err(EnvError::NotYet) => return Err(CompileError::NotYet),
+        Err(EnvError::Memory) => return Err(CompileError::Memory),
     };
-    match check_defs(alloc, defs.as_slice()) {
-        Ok(checked) => Ok(checked),
-        Err(EnvError::NotYet) => Err(FileError::NotYet),
-        Err(EnvError::Memory) => Err(FileError::Memory),
+    match overlap::check(alloc, &termenv) {
+        Ok(terms) => {
+            let checked = Checked {
+                typeenv,
+                termenv,
+                terms,
+            };
+            Ok((checked, fns))
+        }
+        Err(CheckError::Rules(errors)) => Err(told(alloc, files, errors)),
+        Err(CheckError::Memory) => Err(CompileError::Memory),
+    }
+}
+
+// The errors of definitions, with the files that they stand in.
+fn told(alloc: Global, files: &Files, errors: List<Error>) -> CompileError
+    ensures { (result ≡ CompileError.Memory) ⊎ (result ≡ CompileError.Errors (record { errors = errors; files = files.now })) }
+{
+    match files.copied(alloc) {
+        Ok(files) => CompileError::Errors(Errors { errors, files }),
+        Err(_) => CompileError::Memory,
     }
 }
 
 // The environment of the definitions, with the functions of the trait. `NotYet` comes exactly where they are not of the
 // language that is built, or the name of a term or of an external function may not be emitted.
-fn check_defs(alloc: Global, defs: &[Def]) -> Result<(Checked, Vec<TraitFn>), EnvError>
-    ensures typed { IfOk result (λ c. TypedOnly (seen defs.now) (environment c.0.typeenv c.0.termenv)) }
-    ensures given { IfOk result (λ c. IsGiven (environment c.0.typeenv c.0.termenv)) }
-    ensures terms { IfOk result (λ c. AreRuleSets (environment c.0.typeenv c.0.termenv) c.0.terms.items) }
-    ensures fns { IfOk result (λ c. c.1.items ≡ trait_fns_of (environment c.0.typeenv c.0.termenv)) }
+fn emittable(
+    alloc: Global,
+    defs: &[Def],
+) -> Result<(TypeEnv, TermEnv, Vec<TraitFn>), EnvError>
+    ensures typed { IfOk result (λ e. TypedOnly (seen defs.now) (environment e.0 e.1)) }
+    ensures compilable { IfOk result (λ e. IsCompilable (seen defs.now) (environment e.0 e.1)) }
+    ensures fns { IfOk result (λ e. e.2.items ≡ trait_fns_of (environment e.0 e.1)) }
     ensures not_yet { result ≡ Err EnvError.NotYet → (env : Environment) → IsCompilable (seen defs.now) env → ⊥ }
 {
     let (typeenv, termenv) = match env_from_ast(alloc, defs) {
@@ -87,14 +122,8 @@ fn check_defs(alloc: Global, defs: &[Def]) -> Result<(Checked, Vec<TraitFn>), En
         Ok(false) => return Err(EnvError::NotYet),
         Err(_) => return Err(EnvError::Memory),
     }
-    let terms = rule_sets(alloc, &termenv)?;
-    if !are_term_names(&typeenv, &termenv, terms.as_slice()) {
+    if !are_term_names(&typeenv, &termenv) {
         return Err(EnvError::NotYet);
     }
-    let checked = Checked {
-        typeenv,
-        termenv,
-        terms,
-    };
-    Ok((checked, fns))
+    Ok((typeenv, termenv, fns))
 }

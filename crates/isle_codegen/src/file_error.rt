@@ -1,3 +1,7 @@
+ghost use Rattle.std.specs.Prelude.{◌≡◌};
+ghost use Rattle.isle_codegen.specs.Causes.{of_texts};
+
+use crate::compile_error::CompileError;
 use crate::names::NameError;
 use isle_core::{Errors, IoCause};
 
@@ -6,9 +10,22 @@ use isle_core::{Errors, IoCause};
 pub enum FileError {
     /// The first input that was not read, by its place among the inputs.
     Io { index: usize, cause: IoCause },
-    /// The inputs are not all of the language that is built.
+    /// The inputs are not all of the language that is built, or a name may not be emitted.
     NotYet,
+    /// What is wrong with the definitions of the inputs, in order, with the inputs.
     Errors(Errors),
     Name(NameError),
     Memory,
+}
+
+/// Gives why files that were read give no text, where their definitions give none.
+pub fn of_texts(fail: CompileError) -> FileError
+    ensures { result ≡ of_texts fail }
+{
+    match fail {
+        CompileError::NotYet => FileError::NotYet,
+        CompileError::Errors(errors) => FileError::Errors(errors),
+        CompileError::Name(name) => FileError::Name(name),
+        CompileError::Memory => FileError::Memory,
+    }
 }

@@ -7,16 +7,17 @@ ghost use Rattle.isle_codegen.specs.Header.{HasHeader};
 ghost use Rattle.isle_codegen.specs.Headline.{SpellsOne};
 ghost use Rattle.isle_codegen.specs.Causes.{CompilesTo, IsRefusal, IsCompiled, HasCause, printed};
 
-use crate::checked::check_all;
-use crate::file_error::FileError;
-use crate::text::text_of;
+use crate::compiled::compile;
+use crate::file_error::{FileError, of_texts};
+use crate::source::parse_files;
 use isle_core::{CodegenOptions, Dir, Files, ReadError};
 use std::alloc::Global;
 
 /// Compiles the named files, and returns the text of the program that their definitions give (`specs/Headline.antt`).
 /// `NotYet` comes exactly where all were read and they are not of the language that is built, or a name as printed may not
-/// be emitted; `Io` tells the first input that is not read. Each name is looked up once, none behind that input, and of
-/// each input at most 2^24 + 1 bytes are taken.
+/// be emitted; `Errors` where all were read and their definitions have rules that overlap or are shadowed, and tells each
+/// (`specs/Errors.antt`); `Io` tells the first input that is not read. Each name is looked up once, none behind that input,
+/// and of each input at most 2^24 + 1 bytes are taken.
 pub fn from_files<D: Dir>(
     alloc: Global,
     dir: &mut D,
@@ -52,17 +53,12 @@ fn compiled(alloc: Global, files: &Files, options: &CodegenOptions) -> Result<St
     ensures ok { IfOk result (λ text. CompilesTo options.now files.now (string_bytes text)) }
     ensures err { IfErr result (λ e. IsRefusal e files.now.file_names files.now.file_texts) }
 {
-    let (checked, fns) = check_all(alloc, files)?;
-    match text_of(
-        alloc,
-        files,
-        &checked.typeenv,
-        &checked.termenv,
-        checked.terms.as_slice(),
-        fns,
-        options,
-    ) {
+    let defs = match parse_files(alloc, files) {
+        Ok(defs) => defs,
+        Err(fail) => return Err(fail),
+    };
+    match compile(alloc, files, defs.as_slice(), options) {
         Ok(text) => Ok(text),
-        Err(_) => Err(FileError::Memory),
+        Err(fail) => Err(of_texts(fail)),
     }
 }

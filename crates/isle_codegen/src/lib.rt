@@ -2,6 +2,8 @@
 #![tactic(auto)]
 
 mod checked;
+mod compile_error;
+mod compiled;
 mod file_error;
 mod files;
 mod names;
@@ -10,6 +12,8 @@ mod text;
 mod tree;
 
 pub use checked::{Checked, check_files};
+pub use compile_error::CompileError;
+pub use compiled::compile;
 pub use file_error::FileError;
 pub use files::from_files;
 pub use isle_emission::emit_term;

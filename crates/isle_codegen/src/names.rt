@@ -1,14 +1,15 @@
-ghost use Rattle.std.specs.Prelude.{◌≡◌, ◌↔◌, IsTrue, IfOk, map};
-ghost use Rattle.std.specs.List.{AllByRecursion, list_all};
+ghost use Rattle.std.specs.Prelude.{◌≡◌, ◌↔◌, ◌<◌, IsTrue, IfOk, All, map, length};
+ghost use Rattle.std.specs.List.{AllByRecursion};
 ghost use Rattle.isle_tree.specs.declared.tree.TraitFn.{TraitFn as TheFn};
 ghost use Rattle.isle_spelling.specs.Identifier.{IsIdentifier};
 ghost use Rattle.isle_simulation.specs.TraitFns.{AreFnNames};
 ghost use Rattle.isle_printer.specs.Token.{is_word_byte};
-ghost use Rattle.isle_core.specs.RuleViews.{environment};
-ghost use Rattle.isle_core.specs.Terms.{with_rules, term_name};
-ghost use Rattle.isle_codegen.specs.Names.{is_name_byte, is_file_name, are_file_names, is_term_name, are_term_names};
+ghost use Rattle.isle_core.specs.Rule.{Rule as TheRule};
+ghost use Rattle.isle_core.specs.RuleViews.{rule as seen, environment};
+ghost use Rattle.isle_core.specs.Terms.{term_name};
+ghost use Rattle.isle_codegen.specs.Names.{is_name_byte, is_file_name, are_file_names, is_term_name, are_root_names, are_term_names};
 
-use isle_core::{OutOfMemory, RuleSet, TermEnv, TermId, Text, TypeEnv};
+use isle_core::{OutOfMemory, TermEnv, TermId, Text, TypeEnv};
 use isle_spelling::is_identifier;
 use isle_tree::{TraitFn, are_apart};
 use std::alloc::Global;
@@ -73,24 +74,25 @@ fn has_term_name(typeenv: &TypeEnv, termenv: &TermEnv, id: TermId) -> bool
     is_term_name(typeenv.term_name(termenv.terms.as_slice(), id))
 }
 
-// Whether the names of the listed terms may be emitted.
-fn are_listed_names(typeenv: &TypeEnv, termenv: &TermEnv, terms: &[(TermId, RuleSet)]) -> bool
-    ensures { result ≡ list_all (λ t. is_term_name (term_name (environment typeenv.now termenv.now) t.0)) terms.now }
+// Whether the names of the terms of all rules may be emitted.
+fn are_root_names(typeenv: &TypeEnv, termenv: &TermEnv) -> bool
+    ensures { result ≡ are_root_names (environment typeenv.now termenv.now) (map seen termenv.now.rules) }
 {
-    for listed in terms {
-        if !has_term_name(typeenv, termenv, listed.0) {
+    for rule in termenv.rules.as_slice() {
+        if !has_term_name(typeenv, termenv, rule.root_term) {
             return false;
         }
     }
     true
 }
 
-/// Tells whether the names of the terms with rules may be emitted (`specs/Names.antt`). `terms` lists these terms.
-pub fn are_term_names(typeenv: &TypeEnv, termenv: &TermEnv, terms: &[(TermId, RuleSet)]) -> bool
-    requires { map (λ t. t.0) terms.now ≡ with_rules (environment typeenv.now termenv.now) }
+/// Tells whether the names of the terms with rules may be emitted (`specs/Names.antt`). Each rule is of a term that is
+/// there.
+pub fn are_term_names(typeenv: &TypeEnv, termenv: &TermEnv) -> bool
+    requires { All (λ (r : TheRule). r.root_term.0 < length termenv.now.terms) (map seen termenv.now.rules) }
     ensures { result ≡ are_term_names (environment typeenv.now termenv.now) }
 {
-    are_listed_names(typeenv, termenv, terms)
+    are_root_names(typeenv, termenv)
 }
 
 /// Tells whether functions of the trait may be called by their names: each is a name of Rust, and no two are equal. The

@@ -1,5 +1,5 @@
 -- What the highest rule gives is prescribed.
-use Rattle.std.proofs.Common.{◌≡◌, ◌⊎◌, inl, inr, ⊎_elim, ◌≤◌, ℤ, List, [], ◌∷◌, cond, length, Option, Some, None, refl, sym, ap, ◌∙◌, subst, arith, Ordering}
+use Rattle.std.proofs.Common.{◌≡◌, ◌⊎◌, inl, inr, ⊎_elim, ℤ, List, [], ◌∷◌, cond, Option, Some, None, refl, sym, ap, ◌∙◌, subst, arith, Ordering}
 use Rattle.std.specs.Prelude.{◌<ℤ◌, ◌≤ℤ◌, Contains}
 use Rattle.std.specs.declared.cmp.Ordering.TheVariants.{Less, Equal, Greater}
 use Rattle.std.specs.Ordering.{int_cmp, is_lt, MatchOrdering}
@@ -10,7 +10,7 @@ use Rattle.isle_core.specs.Value.{Value, Made}
 use Rattle.isle_core.specs.Meaning.{Meaning}
 use Rattle.isle_core.specs.Match.{Names}
 use Rattle.isle_core.specs.Outcome.{Prescribed, no_rule, one_rule, IsHighest, NoneMatches, rule_names}
-use Rattle.isle_core.specs.HighestMatch.{or_later, highest_match, given_by, outcome_of, HighestIsOne}
+use Rattle.isle_core.specs.HighestMatch.{or_later, highest_match, given_by, outcome_of, AreApart, HighestIsOne}
 use Rattle.isle_core.specs.Rule.{Environment, Rule}
 use Rattle.isle_core.proofs.Contained.{head_contained, tail_contained, contained_cases, none_contained}
 
@@ -98,20 +98,14 @@ prescribed_by env m args rules kind made (Some o) e h f = one_rule o.0 o.1 (high
 pub outcome_prescribed : (env : Environment) (m : Meaning) (args : List Value) (rules : List Rule) (kind : ReturnKind) (made : List Made) → HighestIsOne env m args rules → Prescribed env m args rules kind made (outcome_of env m args rules kind made)
 outcome_prescribed env m args rules kind made h = prescribed_by env m args rules kind made (highest_match env m args rules) refl h (found env m args rules)
 
--- two rules of a list of at most one are one
-only_rule : (rules : List Rule) (r q : Rule) → length rules ≤ 1 → Contains rules r → Contains rules q → q ≡ r
-only_rule [] r q le c d = absurd (none_contained r c)
-only_rule (a ∷ []) r q le c d =
-    let same = λ (x : Rule) (e : Contains (a ∷ []) x). ⊎_elim (λ (s : a ≡ x). s) (λ n. absurd (none_contained x n)) (contained_cases a [] x e) in
-    sym (same q d) ∙ same r c
-only_rule (a ∷ b ∷ rules) r q le c d = absurd (omega arith)
+top_of : (env : Environment) (m : Meaning) (args : List Value) (rules : List Rule) (o : Rule × Names) (h : Option (Rule × Names)) → h ≡ Some o → Found env m args rules h → Tops env m args rules o
+top_of env m args rules o None e f = cc
+top_of env m args rules o (Some p) e f = subst (Tops env m args rules) (some_pair p o e) f
 
-tops_among : (env : Environment) (m : Meaning) (args : List Value) (rules : List Rule) (o : Rule × Names) (h : Option (Rule × Names)) → h ≡ Some o → Found env m args rules h → Contains rules o.0
-tops_among env m args rules o None e f = cc
-tops_among env m args rules o (Some p) e f = subst (λ (x : Rule × Names). Contains rules x.0) (some_pair p o e) f.among
-
--- of at most one rule it always is
-pub outcome_of_one : (env : Environment) (m : Meaning) (args : List Value) (rules : List Rule) (kind : ReturnKind) (made : List Made) → length rules ≤ 1 → Prescribed env m args rules kind made (outcome_of env m args rules kind made)
-outcome_of_one env m args rules kind made le =
-    outcome_prescribed env m args rules kind made
-    (record { one = λ r q names others e c f p. only_rule rules r q le (tops_among env m args rules (r, names) (highest_match env m args rules) e (found env m args rules)) c })
+-- where rules that match differ by priority, no other one has that of the highest
+pub highest_is_one : (env : Environment) (m : Meaning) (args : List Value) (rules : List Rule) → AreApart env m args rules → HighestIsOne env m args rules
+highest_is_one env m args rules h = record {
+  one = λ r q names others e c f p.
+      let t = top_of env m args rules (r, names) (highest_match env m args rules) e (found env m args rules) in
+      h q r others names c t.among f t.matched p;
+}

@@ -33,6 +33,11 @@ given_by env m kind (Some o) made = prescription_of (evaluated env m o.0.rhs o.1
 abbrev pub outcome_of : Environment → Meaning → List Value → List Rule → ReturnKind → List Made → Prescription
 outcome_of env m args rules kind made = given_by env m kind (highest_match env m args rules) made
 
+-- two rules that match and have one priority are one
+abbrev pub AreApart : Environment → Meaning → List Value → List Rule → Type 0
+AreApart env m args rules =
+    (q r : Rule) (names others : Names) → Contains rules q → Contains rules r → rule_names env m args q ≡ Some names → rule_names env m args r ≡ Some others → q.prio ≡ r.prio → q ≡ r
+
 -- no other rule that matches has the priority of the highest
 pub record HighestIsOne (env : Environment) (m : Meaning) (args : List Value) (rules : List Rule) : Type 0 where
   pub one : (r q : Rule) (names others : Names) → highest_match env m args rules ≡ Some (r, names) → Contains rules q → rule_names env m args q ≡ Some others → q.prio ≡ r.prio → q ≡ r

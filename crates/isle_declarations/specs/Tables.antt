@@ -42,6 +42,6 @@ IsFirstPlace defs number names found = (name : List ℕ) → index_of (symbols d
 abbrev pub IsFuncNumber : List Def → ℕ → Option ℕ → Type 0
 IsFuncNumber defs number found = (name : List ℕ) → index_of (symbols defs) name ≡ Some number → found ≡ option_map (λ (func : List ℕ). number_or (index_of (symbols defs) func)) (func_named (externs defs) name)
 
--- two declarations, external constructors or rules are of one term
+-- two declarations or external constructors are of one term
 abbrev pub any_repeat : List Def → Bool
-any_repeat defs = repeats (terms_of (signatures defs)) || repeats (extern_terms (externs defs)) || repeats (heads_of (rule_defs defs))
+any_repeat defs = repeats (terms_of (signatures defs)) || repeats (extern_terms (externs defs))

@@ -128,10 +128,10 @@ impl<'d> Declarations<'d> {
         Some(found.func_number)
     }
 
-    /// Tells whether two declarations, external constructors or rules are of one term.
+    /// Tells whether two declarations or external constructors are of one term.
     pub fn any_repeat(&self) -> bool
         ensures { result ≡ any_repeat (seen self.now) }
     {
-        self.declared.repeats || self.external.repeats || self.ruled.repeats
+        self.declared.repeats || self.external.repeats
     }
 }

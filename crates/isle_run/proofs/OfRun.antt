@@ -1,7 +1,7 @@
 -- What gives no lines of a run is a refusal of the run, and none of an input.
-use Rattle.std.specs.Prelude.{ℕ, List, All}
+use Rattle.std.specs.Prelude.{ℕ, List}
 use Rattle.isle_core.specs.declared.errors.Errors.{Errors}
-use Rattle.isle_core.specs.ErrorLines.{IsPlaced}
+use Rattle.isle_codegen.specs.Errors.{HavePlaces}
 use Rattle.isle_core.specs.declared.files.Files.{Files}
 use Rattle.isle_core.specs.declared.options.CodegenOptions.{CodegenOptions}
 use Rattle.isle_values.specs.Written.{Writtens}
@@ -26,7 +26,7 @@ IsOfRun refusal.Memory = Unit {0}
 abbrev HasPlaces : Refusal → Type 0
 HasPlaces refusal.NotYet = Unit {0}
 HasPlaces (refusal.Unread index why) = Unit {0}
-HasPlaces (refusal.Errors errors) = All (IsPlaced errors.files) errors.errors
+HasPlaces (refusal.Errors errors) = HavePlaces errors
 HasPlaces refusal.NoTerm = Unit {0}
 HasPlaces refusal.ArgCount = Unit {0}
 HasPlaces (refusal.ArgType i) = Unit {0}
@@ -63,5 +63,5 @@ has_places options files term ws text _ (no_lines.refused e s) = run_places _ te
 has_places options files term ws text _ no_lines.memory = tt
 
 -- errors that give no lines have their places in the files that are told with them
-pub lines_placed : {options : CodegenOptions} {files : Files} {term : List ℕ} {ws : Writtens} {text : List ℕ} {errors : Errors} → HasNoLines options files term ws text (refusal.Errors errors) → All (IsPlaced errors.files) errors.errors
+pub lines_placed : {options : CodegenOptions} {files : Files} {term : List ℕ} {ws : Writtens} {text : List ℕ} {errors : Errors} → HasNoLines options files term ws text (refusal.Errors errors) → HavePlaces errors
 lines_placed {options} {files} {term} {ws} {text} {errors} h = has_places options files term ws text (refusal.Errors errors) h

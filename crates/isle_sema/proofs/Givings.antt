@@ -1,6 +1,6 @@
 -- The environment of definitions that no test refuses.
 use Rattle.std.proofs.Common.{◌≡◌, Bool, true, false, List, [], ◌∷◌, map, Some, None, refl, sym, ap, ◌∙◌}
-use Rattle.std.specs.Prelude.{◌&&◌, ◌||◌, not, option_map, option_and_then}
+use Rattle.std.specs.Prelude.{◌||◌, not, option_map, option_and_then}
 use Rattle.std.specs.List.{list_all, list_any}
 use Rattle.std.proofs.lemmas.Bool.{or_parts, or_from, and_from}
 use Rattle.isle_core.specs.declared.types.Term.{Term}
@@ -9,7 +9,7 @@ use Rattle.isle_core.specs.Rule.{Rule as CoreRule, Environment}
 use Rattle.isle_core.specs.RuleViews.{rule as elaborated_rule, environment}
 use Rattle.isle_syntax.specs.Tree.{Def}
 use Rattle.isle_declarations.specs.Signatures.{Signature, signatures, externs, rule_defs}
-use Rattle.isle_declarations.specs.Heads.{terms_of, extern_terms, heads_of}
+use Rattle.isle_declarations.specs.Heads.{terms_of, extern_terms}
 use Rattle.isle_declarations.specs.Repeats.{repeats}
 use Rattle.isle_sema.specs.Language.{is_built_def, rules_call_ruled}
 use Rattle.isle_sema.specs.Tests.{binds_twice, is_misdeclared, has_undeclared}
@@ -44,7 +44,6 @@ misdeclared_parts (s ∷ sigs) = ap (λ b. is_misdeclared s || b) (misdeclared_p
 -- the tests of definitions that give an environment
 pub record IsKept (ds : List Def) : Type 0 where
   pub parts : TermParts ds [] ds
-  pub heads : repeats (heads_of (rule_defs ds)) ≡ false
   pub rules : List CoreRule
   pub taken : taken_rules (whole_of ds) 0 (rule_defs ds) ≡ Some rules
 
@@ -54,7 +53,6 @@ kept {ds = ds} {env = env} t =
     let w = whole_of ds in
     record {
       parts = terms_kept ds [] ds (forms_of ds g.built) g.terms_kept;
-      heads = g.apart;
       rules = env.rules;
       taken = are_taken w 0 (rule_defs ds) env.rules (rules_built ds g.built) (record { kept = none_fault w [] ds g.rules_kept; calls = g.unruled; trees = g.rules });
     }
@@ -75,7 +73,7 @@ misdeclared_untyped ds h env t =
 pub repeated_untyped : (ds : List Def) → any_repeat ds ≡ true → (env : Environment) → Typed ds env → ⊥
 repeated_untyped ds h env t =
     let k = kept t in
-    both h (or_from (repeats (terms_of (signatures ds)) || repeats (extern_terms (externs ds))) (repeats (heads_of (rule_defs ds))) (or_from (repeats (terms_of (signatures ds))) (repeats (extern_terms (externs ds))) k.parts.apart k.parts.externs_apart) k.heads)
+    both h (or_from (repeats (terms_of (signatures ds))) (repeats (extern_terms (externs ds))) k.parts.apart k.parts.externs_apart)
 
 pub undeclared_untyped : (ds : List Def) → has_undeclared (signatures ds) (externs ds) ≡ true → (env : Environment) → Typed ds env → ⊥
 undeclared_untyped ds h env t = both h (kept t).parts.known
@@ -94,23 +92,20 @@ untaken_untyped ds h env t = let k = kept t in let bad : None ≡ Some k.rules =
 pub parts_of : (ds : List Def) → list_any is_misdeclared (signatures ds) ≡ false → any_repeat ds ≡ false → has_undeclared (signatures ds) (externs ds) ≡ false → list_any (is_headless ds) (rule_defs ds) ≡ false → TermParts ds [] ds
 parts_of ds declared apart known heads =
     let d = or_parts (list_any has_too_many (signatures ds)) (list_any names_no_type (signatures ds)) (sym (misdeclared_parts (signatures ds)) ∙ declared) in
-    let a = or_parts (repeats (terms_of (signatures ds)) || repeats (extern_terms (externs ds))) (repeats (heads_of (rule_defs ds))) apart in
-    let b = or_parts (repeats (terms_of (signatures ds))) (repeats (extern_terms (externs ds))) a.0 in
-    record { apart = b.0; typed = d.1; few = d.0; externs_apart = b.1; known = known; heads = heads }
+    let a = or_parts (repeats (terms_of (signatures ds))) (repeats (extern_terms (externs ds))) apart in
+    record { apart = a.0; typed = d.1; few = d.0; externs_apart = a.1; known = known; heads = heads }
 
 -- ---- the environment
 
 -- definitions that no test refuses give what is made of them
-pub given_typed : (ds : List Def) (t : TermEnv) → list_all is_built_def ds ≡ true → any_repeat ds ≡ false → TermParts ds [] ds → terms_pass (whole_of ds) (signatures ds) ≡ Some t.terms
+pub given_typed : (ds : List Def) (t : TermEnv) → list_all is_built_def ds ≡ true → TermParts ds [] ds → terms_pass (whole_of ds) (signatures ds) ≡ Some t.terms
     → taken_rules (whole_of ds) 0 (rule_defs ds) ≡ Some (map elaborated_rule t.rules) → t.converters ≡ [] → Typed ds (environment (types_of ds) t)
-given_typed ds t built apart parts terms rules none =
+given_typed ds t built parts terms rules none =
     let w = whole_of ds in
-    let heads = (or_parts (repeats (terms_of (signatures ds)) || repeats (extern_terms (externs ds))) (repeats (heads_of (rule_defs ds))) apart).1 in
     let forms = forms_of ds built in
     let k = taken_are w 0 (rule_defs ds) (map elaborated_rule t.rules) (rules_built ds built) rules in
     record {
-      built = and_from (list_all is_built_def ds && not (repeats (heads_of (rule_defs ds)))) (not (rules_call_ruled (rule_defs ds) (rule_defs ds)))
-          (and_from (list_all is_built_def ds) (not (repeats (heads_of (rule_defs ds)))) built (ap not heads)) (ap not k.calls);
+      built = and_from (list_all is_built_def ds) (not (rules_call_ruled (rule_defs ds) (rule_defs ds))) built (ap not k.calls);
       sound =
           none_stages (fault_in OfTypes w) (or_later (fault_in OfTerms w) (or_later (fault_in OfExtractors w) (fault_in OfRules w))) (types_none w [] ds)
           (none_stages (fault_in OfTerms w) (or_later (fault_in OfExtractors w) (fault_in OfRules w)) (terms_none ds [] ds forms parts) (none_stages (fault_in OfExtractors w) (fault_in OfRules w) (extractors_none w [] ds forms) (fault_none w [] ds k.kept)));

@@ -24,7 +24,7 @@ use Rattle.isle_sema.specs.Environment.{whole_of, constructor_of}
 use Rattle.isle_sema.specs.Typing.{Typed}
 use Rattle.isle_sema.proofs.BuiltForms.{IsPlain, forms_of, plain_of}
 use Rattle.isle_sema.proofs.MadeTerms.{first_there, made_of, term_is}
-use Rattle.isle_sema.proofs.OneRule.{root_is}
+use Rattle.isle_sema.proofs.RuleRoots.{root_is}
 use Rattle.isle_sema.proofs.TermFaults.{is_headless, terms_kept}
 use Rattle.isle_sema.proofs.TypedExprs.{all_at}
 use Rattle.isle_sema.proofs.TypedParts.{typed_in}

@@ -20,7 +20,8 @@ pub mod TypedExprs
 pub mod RuleLaws
 pub mod TypedRules
 pub mod TypedTerms
-pub mod OneRule
+pub mod RuleRoots
+pub mod RulePlaces
 pub mod InternalTerms
 pub mod SerializableCalls
 pub mod SerializableRules

@@ -1,6 +1,6 @@
 -- The parts of what typed definitions are, and what their environment is.
 use Rattle.std.proofs.Common.{◌≡◌, true, false, List, Option, Some, None, sym, ap}
-use Rattle.std.specs.Prelude.{◌&&◌, not, option_map, option_and_then}
+use Rattle.std.specs.Prelude.{not, option_map, option_and_then}
 use Rattle.std.specs.List.{list_all}
 use Rattle.std.proofs.lemmas.Bool.{and_parts, not-true}
 use Rattle.std.proofs.lemmas.Option.{same_Some}
@@ -9,8 +9,6 @@ use Rattle.isle_core.specs.declared.types.TypeEnv.{TypeEnv}
 use Rattle.isle_core.specs.Rule.{Rule, Environment}
 use Rattle.isle_syntax.specs.Tree.{Def}
 use Rattle.isle_declarations.specs.Signatures.{signatures, rule_defs}
-use Rattle.isle_declarations.specs.Heads.{heads_of}
-use Rattle.isle_declarations.specs.Repeats.{repeats}
 use Rattle.isle_sema.specs.Language.{is_built_def, rules_call_ruled}
 use Rattle.isle_sema.specs.RulePass.{rules_pass}
 use Rattle.isle_sema.specs.Fault.{OfTypes, OfTerms, OfExtractors, OfRules, or_later, fault_in}
@@ -21,7 +19,6 @@ use Rattle.isle_sema.proofs.Firsts.{stages_none}
 -- what typed definitions keep, and what their environment has
 pub record IsTypedIn (defs : List Def) (env : Environment) : Type 0 where
   pub built : list_all is_built_def defs ≡ true
-  pub apart : repeats (heads_of (rule_defs defs)) ≡ false
   pub unruled : rules_call_ruled (rule_defs defs) (rule_defs defs) ≡ false
   pub terms_kept : fault_in OfTerms (whole_of defs) ≡ None
   pub rules_kept : fault_in OfRules (whole_of defs) ≡ None
@@ -38,17 +35,14 @@ env_parts types (Some ts) (Some rs) env h =
 
 pub typed_in : {defs : List Def} {env : Environment} → Typed defs env → IsTypedIn defs env
 typed_in {defs = defs} {env = env} t =
-    let apart = not (repeats (heads_of (rule_defs defs))) in
-    let a = and_parts (list_all is_built_def defs && apart) (not (rules_call_ruled (rule_defs defs) (rule_defs defs))) t.built in
-    let b = and_parts (list_all is_built_def defs) apart a.0 in
+    let a = and_parts (list_all is_built_def defs) (not (rules_call_ruled (rule_defs defs) (rule_defs defs))) t.built in
     let w = whole_of defs in
     let s = stages_none (fault_in OfTypes w) (or_later (fault_in OfTerms w) (or_later (fault_in OfExtractors w) (fault_in OfRules w))) t.sound in
     let u = stages_none (fault_in OfTerms w) (or_later (fault_in OfExtractors w) (fault_in OfRules w)) s.1 in
     let v = stages_none (fault_in OfExtractors w) (fault_in OfRules w) u.1 in
     let e = env_parts (types_of defs) (terms_pass w (signatures defs)) (rules_pass w 0 (rule_defs defs)) env t.given in
     record {
-      built = b.0;
-      apart = not-true (repeats (heads_of (rule_defs defs))) b.1;
+      built = a.0;
       unruled = not-true (rules_call_ruled (rule_defs defs) (rule_defs defs)) a.1;
       terms_kept = u.0;
       rules_kept = v.1;

@@ -57,6 +57,7 @@ pub record IsRuleMade (w : Whole) (r : RuleDef) (x : Rule) : Type 0 where
   pub args : (patterns_of w r).trees ≡ Some x.args
   pub iflets : conditions_of r.iflets ≡ Some x.iflets
   pub rhs : (right_side_of w r).tree ≡ Some x.rhs
+  pub pos : r.pos ≡ x.pos
 
 pub rule_made : (w : Whole) (i : ℕ) (r : RuleDef) (x : Rule) → rule_pass w i r ≡ Some x → IsRuleMade w r x
 rule_made w i r x h = by (term_named (signatures w.defs) r.term) (patterns_of w r).trees (conditions_of r.iflets) (right_side_of w r).tree refl refl refl refl h
@@ -69,7 +70,7 @@ rule_made w i r x h = by (term_named (signatures w.defs) r.term) (patterns_of w 
     by (Some term) (Some args) (Some iflets) None t p c s k = absurd cc
     by (Some term) (Some args) (Some iflets) (Some rhs) t p c s k =
         let is = same_Some (rule_from w i r term args iflets rhs) x k in
-        record { root = t ∙ ap (λ (y : Rule). Some y.root_term) is; args = p ∙ ap (λ (y : Rule). Some y.args) is; iflets = c ∙ ap (λ (y : Rule). Some y.iflets) is; rhs = s ∙ ap (λ (y : Rule). Some y.rhs) is }
+        record { root = t ∙ ap (λ (y : Rule). Some y.root_term) is; args = p ∙ ap (λ (y : Rule). Some y.args) is; iflets = c ∙ ap (λ (y : Rule). Some y.iflets) is; rhs = s ∙ ap (λ (y : Rule). Some y.rhs) is; pos = ap (λ (y : Rule). y.pos) is }
 
 -- ---- a rule that breaks no row
 

@@ -1,5 +1,5 @@
 -- The definitions that are built.
-use Rattle.std.specs.Prelude.{List, [], ◌∷◌, Bool, true, false, ◌&&◌, not, flat_map, map}
+use Rattle.std.specs.Prelude.{List, [], ◌∷◌, Bool, true, false, ◌&&◌, not, flat_map}
 use Rattle.std.specs.List.{list_all, list_any}
 use Rattle.isle_syntax.specs.Tree as tree
 use Rattle.isle_syntax.specs.Tree.{Pattern, Expr, Exprs, NoExpr, AnExpr, IfLet, Def, TypeDecl, Decl, ExternConstructor, ExternExtractor, ExternConst, Extractor, Converter, Rule, Passed}
@@ -56,6 +56,6 @@ is_built_def (Passed head items pos) = false
 abbrev pub rules_call_ruled : List RuleDef → List RuleDef → Bool
 rules_call_ruled all rules = list_any (λ (r : RuleDef). calls_ruled all r.rhs) rules
 
--- each is built, no term has two rules, and no term that has a rule is called
+-- each is built, and no term that has a rule is called
 abbrev pub are_built : List Def → Bool
-are_built defs = list_all is_built_def defs && not (repeats (map (λ (r : RuleDef). r.term) (rule_defs defs))) && not (rules_call_ruled (rule_defs defs) (rule_defs defs))
+are_built defs = list_all is_built_def defs && not (rules_call_ruled (rule_defs defs) (rule_defs defs))

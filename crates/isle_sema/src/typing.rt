@@ -75,8 +75,8 @@ pub fn type_env_from_ast(alloc: Global, defs: &[Def]) -> Result<TypeEnv, EnvErro
 }
 
 /// Types the terms, rules and converters of the definitions, whose types are given (`specs/Typing.antt`). `NotYet` comes as
-/// of `type_env_from_ast`, and where two rules are of one term, one calls a term without an external constructor, or a
-/// definition is wrong; beside it only want of memory.
+/// of `type_env_from_ast`, and where a rule calls a term without an external constructor, or a definition is wrong; beside it
+/// only want of memory.
 pub fn term_env_from_ast(alloc: Global, env: &TypeEnv, defs: &[Def]) -> Result<TermEnv, EnvError>
     requires { TypesFrom (seen defs.now) env.now }
     ensures ok { IfOk result (λ terms. TypedOnly (seen defs.now) (environment env.now terms)) }

@@ -13,7 +13,7 @@ use Rattle.isle_core.specs.declared.options.CodegenOptions.{CodegenOptions}
 use Rattle.isle_run.specs.NoLines.{HasNoLines}
 use Rattle.isle_run.specs.declared.refusal.Refusal.{Refusal}
 use Rattle.isle_run.specs.declared.refusal.Refusal.TheVariants as refusal
-use Rattle.isle_top.specs.Errors.{ArePlaced}
+use Rattle.isle_codegen.specs.Errors.{HavePlaces}
 use Rattle.isle_top.specs.Requests.{IsBuilt, inputs_of, source_name}
 use Rattle.isle_top.specs.Valid.{IsAnswersText, one_file}
 
@@ -62,7 +62,7 @@ HasErrors (Run trace options from term vs answers) files before after errors = I
 abbrev pub HasCause : Refusal → Request → Option Contents → (before after : Counts) → Type 0
 HasCause refusal.NotYet request files before after = (IsBuilt request → ⊥) ⊎ IsNotOfIt request files
 HasCause (refusal.Unread index why) request files before after = IsBuilt request × Fails (read.Io index why) files (inputs_of request) before after
-HasCause (refusal.Errors errors) request files before after = ArePlaced errors × HasErrors request files before after errors
+HasCause (refusal.Errors errors) request files before after = HavePlaces errors × HasErrors request files before after errors
 HasCause refusal.NoTerm request files before after = IsNotRun request files refusal.NoTerm
 HasCause refusal.ArgCount request files before after = IsNotRun request files refusal.ArgCount
 HasCause (refusal.ArgType i) request files before after = IsNotRun request files (refusal.ArgType i)

@@ -1,9 +1,7 @@
--- The status of errors, and where they stand.
-use Rattle.std.specs.Prelude.{ℕ, List, [], ◌∷◌, All}
+-- The status of errors.
+use Rattle.std.specs.Prelude.{ℕ, List, [], ◌∷◌}
 use Rattle.isle_core.specs.declared.errors.Error.{Error}
 use Rattle.isle_core.specs.declared.errors.Error.TheVariants as error
-use Rattle.isle_core.specs.declared.errors.Errors.{Errors}
-use Rattle.isle_core.specs.ErrorLines.{IsPlaced}
 
 -- the status of an error, by its kind
 abbrev pub error_status : Error → ℕ
@@ -18,7 +16,3 @@ error_status (error.RecursionError msg span) = 9
 abbrev pub errors_status : List Error → ℕ
 errors_status [] = 14
 errors_status (e ∷ es) = error_status e
-
--- each stands in the files that are told with it
-abbrev pub ArePlaced : Errors → Type 0
-ArePlaced errors = All (IsPlaced errors.files) errors.errors

@@ -6,7 +6,8 @@ use Rattle.isle_command_line.specs.Request.{Request}
 use Rattle.isle_command_line.specs.Lines.{IsBad, IsMissing}
 use Rattle.isle_run.specs.declared.refusal.Refusal.{Refusal}
 use Rattle.isle_run.specs.declared.refusal.Refusal.TheVariants as refusal
-use Rattle.isle_top.specs.Errors.{errors_status, ArePlaced}
+use Rattle.isle_top.specs.Errors.{errors_status}
+use Rattle.isle_codegen.specs.Errors.{HavePlaces}
 use Rattle.isle_top.specs.Requests.{inputs_of, term_of}
 use Rattle.isle_top.specs.Lines.{bad_word_line, missing_word_line, not_yet_line, unread_line, no_term_line, count_line, argument_line, answers_line, write_fault_line, memory_line}
 use Rattle.isle_top.specs.Causes.{HasCause}
@@ -26,7 +27,7 @@ status_of refusal.Memory = 12
 abbrev pub IsOfLine : Request → Refusal → Type 0
 IsOfLine request refusal.NotYet = Unit {0}
 IsOfLine request (refusal.Unread index why) = index < length (inputs_of request)
-IsOfLine request (refusal.Errors errors) = ArePlaced errors
+IsOfLine request (refusal.Errors errors) = HavePlaces errors
 IsOfLine request refusal.NoTerm = Unit {0}
 IsOfLine request refusal.ArgCount = Unit {0}
 IsOfLine request (refusal.ArgType i) = Unit {0}

@@ -2,8 +2,9 @@
 
 ghost use Rattle.std.specs.Prelude.{◌≡◌, ◌⊎◌, ◌≤◌};
 ghost use Rattle.isle_core.specs.ErrorLines.{error_lines};
+ghost use Rattle.isle_codegen.specs.Errors.{HavePlaces};
 ghost use Rattle.isle_command_line.specs.Views.{seen_command};
-ghost use Rattle.isle_top.specs.Errors.{error_status, errors_status, ArePlaced};
+ghost use Rattle.isle_top.specs.Errors.{error_status, errors_status};
 ghost use Rattle.isle_top.specs.Lines.{Wrote, memory_line};
 ghost use Rattle.isle_top.specs.Statuses.{IsOfLine, Ends};
 
@@ -57,7 +58,7 @@ pub fn complain<E: Sink>(err: &mut E, line: &str)
 
 // Writes the lines of errors, as far as the sink takes them, and returns their status; 12 where memory doesn't hold the lines.
 fn tell_errors<E: Sink>(alloc: Global, err: &mut E, errors: &Errors) -> Exit
-    requires { ArePlaced errors.now }
+    requires { HavePlaces errors.now }
     ensures later { E.faults err.old ≤ E.faults err.new }
     ensures told { let wrote = Wrote (E.taken err.old) (E.taken err.new) (E.faults err.old) (E.faults err.new) in
         ((result.0 ≡ errors_status errors.now.errors) × wrote (error_lines errors.now.files errors.now.errors)) ⊎ ((result.0 ≡ 12) × wrote memory_line) }

@@ -56,4 +56,4 @@ returns c =
     let terms : Some c.new.result ≡ terms_pass (whole_of defs) (signatures defs) = search rules in
     let given : Some (map elaborated_rule c.in-Some-2.rules.items) ≡ taken_rules (whole_of defs) 0 (rule_defs defs) = search rules in
     let items : c.new-2.result ≡ c.in-Some-2.rules.items = search rules in
-    given_typed defs _ c.requires apart (parts_of defs declared apart known heads) (sym terms) (sym (ap (λ rs. Some (map elaborated_rule rs)) items ∙ given)) (search rules)
+    given_typed defs _ c.requires (parts_of defs declared apart known heads) (sym terms) (sym (ap (λ rs. Some (map elaborated_rule rs)) items ∙ given)) (search rules)

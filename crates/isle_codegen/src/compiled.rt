@@ -1,0 +1,52 @@
+ghost use Rattle.std.specs.Prelude.{◌≡◌, true, IfOk, IfErr};
+ghost use Rattle.std.specs.String.{string_bytes};
+ghost use Rattle.isle_syntax.specs.Views.{defs as seen};
+ghost use Rattle.isle_emission.specs.Built.{IsBuilt};
+ghost use Rattle.isle_codegen.specs.Emission.{DefsArePlaced};
+ghost use Rattle.isle_codegen.specs.Names.{are_file_names};
+ghost use Rattle.isle_codegen.specs.Header.{HasHeader};
+ghost use Rattle.isle_codegen.specs.Headline.{HasHeadline, SpellsOne};
+ghost use Rattle.isle_codegen.specs.Causes.{IsUncompiled};
+
+use crate::checked::check_defs;
+use crate::compile_error::CompileError;
+use crate::text::text_of;
+use isle_core::{CodegenOptions, Files};
+use isle_syntax::Def;
+use std::alloc::Global;
+
+/// Compiles definitions that stand in the files, and returns the text of the program that they give
+/// (`specs/Headline.antt`). `NotYet` comes exactly where they are not of the language that is built, or a name may not be
+/// emitted; `Errors` where rules overlap or are shadowed, and tells each (`specs/Errors.antt`); beside these only want of
+/// memory.
+pub fn compile(
+    alloc: Global,
+    files: &Files,
+    defs: &[Def],
+    options: &CodegenOptions,
+) -> Result<String, CompileError>
+    requires places { DefsArePlaced files.now (seen defs.now) }
+    requires options { IsBuilt options.now }
+    ensures program { IfOk result (λ text. SpellsOne (string_bytes text)) }
+    ensures header { IfOk result (λ text. HasHeader files.now.file_names (string_bytes text)) }
+    ensures names { IfOk result (λ text. are_file_names files.now.file_names ≡ true) }
+    ensures headline { IfOk result (λ text. HasHeadline options.now files.now (seen defs.now) (string_bytes text)) }
+    ensures err { IfErr result (λ e. IsUncompiled e files.now (seen defs.now)) }
+{
+    let (checked, fns) = match check_defs(alloc, files, defs) {
+        Ok(checked) => checked,
+        Err(fail) => return Err(fail),
+    };
+    match text_of(
+        alloc,
+        files,
+        &checked.typeenv,
+        &checked.termenv,
+        checked.terms.as_slice(),
+        fns,
+        options,
+    ) {
+        Ok(text) => Ok(text),
+        Err(_) => Err(CompileError::Memory),
+    }
+}
