@@ -12,3 +12,4 @@ pub mod PlainTerms
 pub mod Emissions
 pub mod Answerable
 pub mod RulesApart
+pub mod Accepted

@@ -4,6 +4,7 @@ use Rattle.isle_core.specs.Rule.{Environment}
 use Rattle.isle_syntax.specs.Tree.{Def}
 use Rattle.isle_syntax.specs.Spelling.{Spells}
 use Rattle.isle_sema.specs.Typing.{Typed}
+use Rattle.isle_checks.specs.CheckList.{IsClean}
 use Rattle.isle_codegen.specs.Names.{are_term_names}
 use Rattle.isle_simulation.specs.TraitFns.{HasFnNames}
 
@@ -21,3 +22,11 @@ pub record IsCompilable (defs : List Def) (env : Environment) : Type 0 where
 -- the texts are of the language: they spell such definitions
 abbrev pub InLanguage : List (List ℕ) → Type 0
 InLanguage texts = (defs : List Def) × (env : Environment) × Source 0 texts defs × IsCompilable defs env
+
+-- they are, and nothing is wrong with the rules
+pub record AreAccepted (texts : List (List ℕ)) : Type 0 where
+  pub defs : List Def
+  pub env : Environment
+  pub source : Source 0 texts defs
+  pub compilable : IsCompilable defs env
+  pub clean : IsClean env
