@@ -27,7 +27,7 @@ pub of_defs : (e : CompileError) (names texts : List (List ℕ)) (defs : List De
 of_defs compile_error.NotYet names texts defs source once h = ⊎_elim
     (λ (never : (env : Environment) → IsCompilable defs env → ⊥). inl (λ (l : InLanguage texts). never l.1 (subst (λ ds. IsCompilable ds l.1) (once l.0 l.2) l.3)))
     (λ bad. inr bad) h
-of_defs (compile_error.Errors errors) names texts defs source once h = record { told = h.told; names = h.names; cause = of_rules defs source once h.cause }
+of_defs (compile_error.Errors errors) names texts defs source once h = record { told = h.told; named = h.named; cause = of_rules defs source once h.cause }
 of_defs (compile_error.Name name) names texts defs source once h = absurd h
 of_defs compile_error.Memory names texts defs source once h = tt
 
@@ -38,7 +38,7 @@ told_errors e files defs env errors is compilable placed named list some = ⊎_e
     (λ s. subst (λ x. IsUncompiled x files defs) (sym s) tt)
     (λ s. subst (λ x. IsUncompiled x files defs) (sym s) (record {
       told = record { given = refl; placed = errors_placed files env errors (rules_placed files defs env compilable.typed placed) list };
-      names = named;
+      named = named;
       cause = record { env = env; compilable = compilable; list = list; some = some };
     }))
     is

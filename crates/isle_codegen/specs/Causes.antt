@@ -72,10 +72,10 @@ pub record IsNotBuilt (options : CodegenOptions) (files : Contents) (names : Lis
   pub refused : IsNotOfIt (printed options names) texts
 
 -- all inputs were read, and their texts have these errors
-pub record HasErrors (errors : ErrorList) (options : CodegenOptions) (files : Contents) (names : List (List ℕ)) : Type 0 where
+pub record HasErrors (e : ErrorList) (options : CodegenOptions) (files : Contents) (names : List (List ℕ)) : Type 0 where
   pub texts : List (List ℕ)
   pub read : AreRead files names texts
-  pub errors : IsErrors errors (printed options names) texts
+  pub errors : IsErrors e (printed options names) texts
 
 -- all names were looked up, and no call of the directory failed
 abbrev pub AllTried : List (List ℕ) → Counts → Counts → Type 0

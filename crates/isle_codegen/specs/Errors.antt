@@ -33,11 +33,11 @@ pub data HaveErrors (texts : List (List ℕ)) (errors : List Error) : Type 0 whe
 -- the errors of texts of files with these printed names, which may be emitted
 pub record IsErrors (e : ErrorList) (names texts : List (List ℕ)) : Type 0 where
   pub told : AreToldIn (record { file_names = names; file_texts = texts }) e
-  pub names : are_file_names names ≡ true
+  pub named : are_file_names names ≡ true
   pub cause : HaveErrors texts e.errors
 
 -- the errors of definitions over files, whose names may be emitted
 pub record AreErrorsOfDefs (e : ErrorList) (files : Files) (defs : List Def) : Type 0 where
   pub told : AreToldIn files e
-  pub names : are_file_names files.file_names ≡ true
+  pub named : are_file_names files.file_names ≡ true
   pub cause : HasCheckErrors defs e.errors

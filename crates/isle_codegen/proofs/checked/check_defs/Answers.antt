@@ -1,0 +1,24 @@
+use Rattle.std.proofs.Common.{rules}
+use Rattle.isle_core.specs.RuleViews.{environment}
+use Rattle.isle_syntax.specs.Views.{defs as seen}
+use Rattle.isle_sema.proofs.TypedRules.{typed_built, typed_scoped, typed_impure}
+use Rattle.isle_codegen.proofs.Placed.{terms_placed}
+use Rattle.isle_codegen.proofs.Refusals.{told_errors}
+use Rattle.isle_codegen.proofs.checked.check_defs.Goals as goal
+
+pub check-requires-clause-built : goal.check-requires-clause-built
+check-requires-clause-built c = typed_built (seen c.args.defs.now) (environment c.in-Ok.envs.0 c.in-Ok.envs.1) c.in-Ok.ensures.typed.typed
+
+pub check-requires-clause-bound : goal.check-requires-clause-bound
+check-requires-clause-bound c = typed_scoped (seen c.args.defs.now) (environment c.in-Ok.envs.0 c.in-Ok.envs.1) c.in-Ok.ensures.typed.typed
+
+pub check-requires-clause-impure : goal.check-requires-clause-impure
+check-requires-clause-impure c = typed_impure (seen c.args.defs.now) (environment c.in-Ok.envs.0 c.in-Ok.envs.1) c.in-Ok.ensures.typed.typed
+
+pub returns-in-Ok-check-clause-places : goal.returns-in-Ok-check-clause-places
+returns-in-Ok-check-clause-places c = terms_placed c.args.files.now (seen c.args.defs.now) (environment c.in-Ok.envs.0 c.in-Ok.envs.1) c.in-Ok.ensures.typed.typed c.requires
+
+pub returns-in-Err-Rules-clause-err : goal.returns-in-Err-Rules-clause-err
+returns-in-Err-Rules-clause-err c =
+    told_errors c.told.result c.args.files.now (seen c.args.defs.now) (environment c.in-Ok.envs.0 c.in-Ok.envs.1) c.in-Err-Rules.errors c.told.ensures c.in-Ok.ensures.compilable c.requires (search rules)
+    (c.in-Err-Rules.ensures.err c.in-Err-Rules.errors (search rules) c.in-Ok.envs.0) (c.in-Err-Rules.ensures.some c.in-Err-Rules.errors (search rules))
