@@ -51,6 +51,6 @@ read_causes (Err error.NotYet) options (Some fs) inputs names texts before after
 read_causes (Err error.NotYet) options None inputs names texts before after is tried read h = (tried, tt)
 read_causes (Err error.Memory) options files inputs names texts before after is tried read h = tried.1
 read_causes (Err (error.Io index why)) options files inputs names texts before after is tried read h = absurd h
-read_causes (Err (error.Errors errors)) options (Some fs) inputs names texts before after is tried read h = (tried, record { texts = texts; read = read; errors = subst (λ (ns : List (List ℕ)). IsErrors errors ns texts) is h })
-read_causes (Err (error.Errors errors)) options None inputs names texts before after is tried read h = (tried, tt)
+read_causes (Err (error.Errors errors)) options (Some fs) inputs names texts before after is tried read h = (tried, h.told.placed, record { texts = texts; read = read; errors = subst (λ (ns : List (List ℕ)). IsErrors errors ns texts) is h })
+read_causes (Err (error.Errors errors)) options None inputs names texts before after is tried read h = (tried, h.told.placed, tt)
 read_causes (Err (error.Name name)) options files inputs names texts before after is tried read h = absurd h

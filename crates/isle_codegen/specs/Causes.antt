@@ -1,10 +1,11 @@
 -- What compiling files answers, and why.
-use Rattle.std.specs.Prelude.{◌≡◌, ℕ, ◌⊎◌, List, length, map, false, Option, IfSome}
+use Rattle.std.specs.Prelude.{◌≡◌, ℕ, ◌⊎◌, List, All, length, map, false, Option, IfSome}
 use Rattle.isle_outside.specs.Directory.{Contents, Counts}
 use Rattle.isle_core.specs.declared.options.CodegenOptions.{CodegenOptions}
 use Rattle.isle_core.specs.declared.errors.Errors.{Errors as ErrorList}
 use Rattle.isle_core.specs.declared.files.Files.{Files as FileTexts}
 use Rattle.isle_core.specs.declared.read_error.ReadError.TheVariants as read
+use Rattle.isle_core.specs.ErrorLines.{IsPlaced}
 use Rattle.isle_core.specs.Inputs.{AreRead, Fails, IsTried}
 use Rattle.isle_core.specs.Printed.{shown}
 use Rattle.isle_core.specs.Rule.{Environment}
@@ -81,10 +82,10 @@ pub record HasErrors (e : ErrorList) (options : CodegenOptions) (files : Content
 abbrev pub AllTried : List (List ℕ) → Counts → Counts → Type 0
 AllTried names before after = IsTried (length names) before after × (after.faults ≡ before.faults)
 
--- why files give no text
+-- why files give no text; errors have their places in the files that they are told with, also where the directory doesn't tell its files
 abbrev pub HasCause : FileError → CodegenOptions → Option Contents → List (List ℕ) → Counts → Counts → Type 0
 HasCause (error.Io index why) options files names before after = Fails (read.Io index why) files names before after
 HasCause error.NotYet options files names before after = AllTried names before after × IfSome files (λ fs. IsNotBuilt options fs names)
-HasCause (error.Errors errors) options files names before after = AllTried names before after × IfSome files (λ fs. HasErrors errors options fs names)
+HasCause (error.Errors errors) options files names before after = AllTried names before after × All (IsPlaced errors.files) errors.errors × IfSome files (λ fs. HasErrors errors options fs names)
 HasCause (error.Name name) options files names before after = ⊥
 HasCause error.Memory options files names before after = after.faults ≡ before.faults
