@@ -1,5 +1,5 @@
 -- Texts that are accepted have no errors.
-use Rattle.std.proofs.Common.{◌≡◌, ℕ, List, sym, subst}
+use Rattle.std.proofs.Common.{ℕ, List, subst}
 use Rattle.isle_core.specs.declared.errors.Error.{Error}
 use Rattle.isle_core.specs.declared.errors.Errors.{Errors}
 use Rattle.isle_core.specs.declared.files.Files.{Files}
@@ -11,7 +11,7 @@ use Rattle.isle_checks.specs.CheckList.{IsCheckList}
 use Rattle.isle_checks.proofs.ListOnce.{none_wrong}
 use Rattle.isle_codegen.specs.Checked.{IsChecked}
 use Rattle.isle_codegen.specs.Errors.{HaveErrors, of_rules, IsErrors}
-use Rattle.isle_codegen.specs.Source.{Source, AreAccepted}
+use Rattle.isle_codegen.specs.Source.{AreAccepted}
 
 none_have : (texts : List (List ℕ)) (errors : List Error) → AreAccepted texts → HaveErrors texts errors → ⊥
 none_have texts errors a (of_rules defs source once h) =

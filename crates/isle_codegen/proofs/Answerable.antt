@@ -1,37 +1,35 @@
 -- The terms that the rules of the built language call may be answered, where what they answer has values.
-use Rattle.std.proofs.Common.{◌≡◌, ◌⊎◌, ⊎_elim, ℕ, zero, suc, List, [], ◌∷◌, ◌++◌, Bool, true, false, cond, Option, Some, None, refl, sym, ap, ◌∙◌, subst}
+use Rattle.std.proofs.Common.{◌≡◌, ⊎_elim, ℕ, zero, suc, List, [], ◌∷◌, ◌++◌, Bool, true, false, cond, Option, Some, None, refl, sym, ap, ◌∙◌, subst}
 use Rattle.std.specs.Prelude.{Contains, IsSomeAnd, slice_get, option_map}
 use Rattle.std.specs.List.{AllByRecursion, IsDistinct, cons_option}
 use Rattle.std.specs.Str.{bytes_eq}
 use Rattle.std.proofs.lemmas.List.Elements.{All-contains, All-from_recursion, Contains-append_cases}
 use Rattle.std.proofs.lemmas.Slice.Eq.{bytes_eq-Decides}
 use Rattle.isle_core.specs.declared.Sym.{Sym}
-use Rattle.isle_core.specs.declared.TermId.{TermId}
 use Rattle.isle_core.specs.declared.TypeId.{TypeId}
 use Rattle.isle_core.specs.declared.types.ConstructorKind.TheVariants as constructor
 use Rattle.isle_core.specs.declared.types.ExtractorKind.{ExtractorKind}
 use Rattle.isle_core.specs.declared.types.Term.{Term}
 use Rattle.isle_core.specs.declared.types.TermKind.{TermKind}
 use Rattle.isle_core.specs.declared.types.TermKind.TheVariants as term_kind
-use Rattle.isle_core.specs.declared.values.Callee.{Callee}
 use Rattle.isle_core.specs.declared.values.Callee.TheVariants.{External}
 use Rattle.isle_core.specs.Calling.{calling_of, calling_by, kind_of, kind_by, pure_callee}
 use Rattle.isle_core.specs.CalledTerms.{Role, Constructor, CalledTerm, is_made, unless_made, called_by, called_by_all, extracted_in, called_in_iflets, called_in, called}
 use Rattle.isle_core.specs.Expr as expr
 use Rattle.isle_core.specs.Expr.{Expr, Exprs, NoExpr, AnExpr}
 use Rattle.isle_core.specs.HasType.{HasType}
-use Rattle.isle_core.specs.History.{Service, service_by, service_of, IsAnswerable, AreAnswerable}
+use Rattle.isle_core.specs.History.{Service, service_by, service_of, AreAnswerable}
 use Rattle.isle_core.specs.Lawful.{Fits, called_as, result_types}
 use Rattle.isle_core.specs.Pattern as pattern
 use Rattle.isle_core.specs.Pattern.{Pattern}
-use Rattle.isle_core.specs.Rule.{Environment, IfLet, Rule}
+use Rattle.isle_core.specs.Rule.{Environment, Rule}
 use Rattle.isle_core.specs.Terms.{sym_text, impure_callee}
 use Rattle.isle_core.specs.Value.{Value, Answer, Plain, Nothing}
 use Rattle.isle_core.proofs.Contained.{contained_cases, none_contained}
 use Rattle.isle_sema.specs.TypedRule.{ArePatternsOf, IsExternalKind, IsExprOf, AreExprsOf, IsRuleOf}
 use Rattle.isle_tree.specs.declared.tree.TraitFn.{TraitFn}
 use Rattle.isle_tree.specs.WellFormed.{fn_names}
-use Rattle.isle_simulation.specs.TraitFns.{constructor_fn, constructor_fn_of, extractor_fn_of, fns_before, func_of, trait_fns_in, HasFnNames}
+use Rattle.isle_simulation.specs.TraitFns.{constructor_fn, constructor_fn_of, extractor_fn_of, func_of, trait_fns_in, HasFnNames}
 use Rattle.isle_simulation.proofs.ExternalTerms.{fn_contained, name_contained}
 use Rattle.isle_codegen.specs.Meant.{AnswersInhabited}
 

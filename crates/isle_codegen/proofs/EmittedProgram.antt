@@ -24,7 +24,7 @@ use Rattle.isle_simulation.specs.Emitted.{IsEmittable}
 use Rattle.isle_simulation.specs.TraitFns.{trait_fns_of, HasFnNames}
 use Rattle.isle_simulation.proofs.TraitFnForms.{IsPlainTerm, fns_are}
 use Rattle.isle_codegen.proofs.PlainTerms.{typed_once, typed_unextracted}
-use Rattle.isle_simulation.specs.OfTerm.{IsOfTerm, AreDeclared}
+use Rattle.isle_simulation.specs.OfTerm.{AreDeclared}
 use Rattle.isle_core.specs.declared.TypeId.{TypeId}
 use Rattle.isle_core.specs.BuiltinType.{IsBuiltinType}
 use Rattle.isle_core.specs.HasType.{HaveTypes}

@@ -1,6 +1,6 @@
 -- The functions of an environment mean its rules.
 use Rattle.std.proofs.Common.{◌≡◌, ℕ, suc, List, [], ◌∷◌, length, map, Bool, true, false, cond, Option, Some, refl, sym, ap, ◌∙◌, subst, ⊎_elim}
-use Rattle.std.specs.Prelude.{Contains, All, IsSomeAnd, filter, option_map, slice_get, ◌==◌}
+use Rattle.std.specs.Prelude.{Contains, All, IsSomeAnd, filter, option_map, ◌==◌}
 use Rattle.std.proofs.lemmas.List.Elements.{All-from_recursion, recursion_from_All}
 use Rattle.std.proofs.lemmas.Slice.Eq.{bytes_eq-Decides}
 use Rattle.std.specs.List.{AllByRecursion, IsDistinct}

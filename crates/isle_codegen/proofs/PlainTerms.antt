@@ -1,5 +1,5 @@
 -- The terms of definitions that are typed answer at most once, and have no external extractor.
-use Rattle.std.proofs.Common.{◌≡◌, ℕ, List, Bool, true, false, Option, Some, None, refl, subst}
+use Rattle.std.proofs.Common.{◌≡◌, ℕ, List, Bool, true, false, Some, None, refl, subst}
 use Rattle.std.specs.Prelude.{slice_get}
 use Rattle.isle_core.specs.declared.types.ConstructorKind.{ConstructorKind}
 use Rattle.isle_core.specs.declared.types.ExtractorKind.TheVariants as extractor

@@ -1,7 +1,7 @@
 -- The names of the terms with rules are those of the terms of all rules.
 use Rattle.std.proofs.Common.{◌≡◌, ℕ, ◌+◌, ◌<◌, List, [], ◌∷◌, Bool, true, false, cond, ◌&&◌, ◌||◌, length, drop, get_or, map, refl, sym, ap, ◌∙◌, subst, ⊎_elim, arith}
 use Rattle.std.specs.Prelude.{◌==◌, All, Contains, filter}
-use Rattle.std.specs.List.{list_all, list_any, range_with_len}
+use Rattle.std.specs.List.{list_all, list_any}
 use Rattle.std.proofs.lemmas.Bool.{and_parts, eqb-true, eq-eqb}
 use Rattle.std.proofs.lemmas.List.{drop_more}
 use Rattle.std.proofs.lemmas.List.Elements.{All-contains, Contains-get_or, filter_passes}
@@ -82,6 +82,6 @@ root_listed env r c lt =
 pub root_names : (env : Environment) → All (λ (r : Rule). r.root_term.0 < length env.terms) env.rules → are_root_names env env.rules ≡ are_term_names env
 root_names env there = iff_same (are_root_names env env.rules) (are_term_names env)
     (λ h. all_from (λ (id : TermId). is_term_name (term_name env id)) (with_rules env)
-        (λ id c. named_by env id env.rules h (All-contains (λ (x : TermId). has_rules env x ≡ true) (with_rules env) id (filter_passes (has_rules env) (term_ids env)) c)))
+    (λ id c. named_by env id env.rules h (All-contains (λ (x : TermId). has_rules env x ≡ true) (with_rules env) id (filter_passes (has_rules env) (term_ids env)) c)))
     (λ h. all_from (λ (r : Rule). is_term_name (term_name env r.root_term)) env.rules
-        (λ r c. all_at (λ (id : TermId). is_term_name (term_name env id)) (with_rules env) h r.root_term (root_listed env r c (All-contains (λ (x : Rule). x.root_term.0 < length env.terms) env.rules r there c))))
+    (λ r c. all_at (λ (id : TermId). is_term_name (term_name env id)) (with_rules env) h r.root_term (root_listed env r c (All-contains (λ (x : Rule). x.root_term.0 < length env.terms) env.rules r there c))))

@@ -1,5 +1,5 @@
 -- No two rules of a typed term that match have one priority, where nothing is wrong with the rules.
-use Rattle.std.proofs.Common.{◌≡◌, ◌<◌, List, [], ◌∷◌, length, Bool, false, Option, Some, refl, ap, ◌∙◌}
+use Rattle.std.proofs.Common.{◌≡◌, ◌<◌, List, [], ◌∷◌, length, false, Option, Some, refl, ap, ◌∙◌}
 use Rattle.std.specs.Prelude.{All, Contains, slice_get}
 use Rattle.std.specs.Option.{option_map_or}
 use Rattle.std.proofs.lemmas.List.Elements.{recursion_from_All}

@@ -81,7 +81,7 @@ pub record HasErrors (e : ErrorList) (options : CodegenOptions) (files : Content
 abbrev pub AllTried : List (List ℕ) → Counts → Counts → Type 0
 AllTried names before after = IsTried (length names) before after × (after.faults ≡ before.faults)
 
--- why files give no text
+-- why files give no text; errors have their places in the files that they are told with, also where the directory doesn't tell its files
 abbrev pub HasCause : FileError → CodegenOptions → Option Contents → List (List ℕ) → Counts → Counts → Type 0
 HasCause (error.Io index why) options files names before after = Fails (read.Io index why) files names before after
 HasCause error.NotYet options files names before after = AllTried names before after × IfSome files (λ fs. IsNotBuilt options fs names)

@@ -1,5 +1,5 @@
 -- When functions are emitted for rule sets.
-use Rattle.std.specs.Prelude.{◌≡◌, List, [], ◌∷◌, Bool, Some, slice_get}
+use Rattle.std.specs.Prelude.{◌≡◌, List, [], ◌∷◌, Some, slice_get}
 use Rattle.isle_core.specs.declared.types.ReturnKind.{ReturnKind}
 use Rattle.isle_core.specs.declared.TermId.{TermId}
 use Rattle.isle_core.specs.declared.files.Files.{Files}

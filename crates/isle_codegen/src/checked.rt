@@ -103,10 +103,7 @@ fn told(alloc: Global, files: &Files, errors: List<Error>) -> CompileError
 
 // The environment of the definitions, with the functions of the trait. `NotYet` comes exactly where they are not of the
 // language that is built, or the name of a term or of an external function may not be emitted.
-fn emittable(
-    alloc: Global,
-    defs: &[Def],
-) -> Result<(TypeEnv, TermEnv, Vec<TraitFn>), EnvError>
+fn emittable(alloc: Global, defs: &[Def]) -> Result<(TypeEnv, TermEnv, Vec<TraitFn>), EnvError>
     ensures typed { IfOk result (λ e. TypedOnly (seen defs.now) (environment e.0 e.1)) }
     ensures compilable { IfOk result (λ e. IsCompilable (seen defs.now) (environment e.0 e.1)) }
     ensures fns { IfOk result (λ e. e.2.items ≡ trait_fns_of (environment e.0 e.1)) }
