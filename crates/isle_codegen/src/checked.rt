@@ -1,7 +1,7 @@
 ghost use Rattle.std.specs.Prelude.{◌≡◌, length, Err, IfOk, IfErr};
 ghost use Rattle.isle_core.specs.Rule.{Environment};
 ghost use Rattle.isle_core.specs.RuleViews.{environment};
-ghost use Rattle.isle_syntax.specs.Views.{defs as seen};
+ghost use Rattle.isle_ast.specs.Views.{defs as seen};
 ghost use Rattle.isle_sema.specs.Typing.{TypedOnly};
 ghost use Rattle.isle_rulesets.specs.Grouping.{AreRuleSets};
 ghost use Rattle.isle_simulation.specs.TraitFns.{trait_fns_of};
@@ -17,7 +17,8 @@ use isle_core::{Files, RuleSet, TermEnv, TermId, TypeEnv};
 use isle_emission::trait_fns;
 use isle_rulesets::rule_sets;
 use isle_sema::{EnvError, env_from_ast};
-use isle_syntax::{Def, ParseFail};
+use isle_ast::Def;
+use isle_syntax::ParseFail;
 use isle_tree::TraitFn;
 use std::alloc::Global;
 

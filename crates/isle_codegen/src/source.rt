@@ -1,10 +1,11 @@
 ghost use Rattle.std.specs.Prelude.{◌≡◌, List as ListOf, Err, IfOk};
-ghost use Rattle.isle_syntax.specs.Tree.{Def as PureDef};
-ghost use Rattle.isle_syntax.specs.Views.{defs};
+ghost use Rattle.isle_ast.specs.Tree.{Def as PureDef};
+ghost use Rattle.isle_ast.specs.Views.{defs};
 ghost use Rattle.isle_codegen.specs.Source.{Source};
 
 use isle_core::Text;
-use isle_syntax::{Def, ParseFail, parse_text};
+use isle_ast::Def;
+use isle_syntax::{ParseFail, parse_text};
 use std::alloc::Global;
 
 /// Parses the texts, and returns their definitions, one text after the other (`specs/Source.antt`). `NotYet` comes exactly

@@ -16,7 +16,7 @@ use Rattle.isle_answers.specs.Form.{Form}
 use Rattle.isle_answers.specs.Spelling.{SpellsForms}
 use Rattle.isle_answers.proofs.FaultOnce.{fault_unspelt}
 use Rattle.isle_answers.proofs.Files.{forms_once}
-use Rattle.isle_syntax.specs.Tree.{Def}
+use Rattle.isle_ast.specs.Tree.{Def}
 use Rattle.isle_sema.specs.Typing.{Typed}
 use Rattle.isle_sema.proofs.TypedTerms.{typed_types}
 use Rattle.isle_values.specs.Written.{Writtens}

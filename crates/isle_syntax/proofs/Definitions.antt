@@ -14,8 +14,8 @@ use Rattle.isle_reading.proofs.TokenLaws.{OpenS, CloseS, WordS, Gives, NoWord, l
 use Rattle.isle_reading.proofs.ListLaws.{law_many}
 use Rattle.isle_reading.proofs.NameLaws.{if_some, name_some, law_name, name_heads}
 use Rattle.isle_reading.proofs.States.{Inside, top_open, head_word, inside_open, inside_close, inside_word}
-use Rattle.isle_syntax.specs.Tree.{Pattern, Expr, Def}
-use Rattle.isle_syntax.specs.Tree as tree
+use Rattle.isle_ast.specs.Tree.{Pattern, Expr, Def}
+use Rattle.isle_ast.specs.Tree as tree
 use Rattle.isle_syntax.specs.Grammar.{PatternS, ExprS, RuleNameS, PrioS, unwritten, written, PartialS, DefS, decl, extern, rule}
 use Rattle.isle_syntax.specs.Reading.{read_pattern, read_right, decl_name_of, read_decl_name, read_declared, read_decl, constructor_of, read_constructor, read_extern, read_parts, read_rule, Head, DeclHead, RuleHead, ExternHead, head_of, read_head, read_behind, read_def}
 use Rattle.isle_syntax.proofs.Expressions.{law_expr}

@@ -7,9 +7,9 @@ use Rattle.isle_reading.specs.Views.{opens, stops}
 use Rattle.isle_reading.proofs.Steps.{passed, bind_refuses, open_peek, other_peek, barred_stops, word_none}
 use Rattle.isle_reading.proofs.ListSteps.{in_front-nil, list-full}
 use Rattle.isle_syntax.specs.Reading.{read_leaf, read_callee, read_call, read_expr}
-use Rattle.isle_syntax.specs.Tree.{Expr}
-use Rattle.isle_syntax.specs.Tree as tree
-use Rattle.isle_syntax.specs.Views.{exprs_of}
+use Rattle.isle_ast.specs.Tree.{Expr}
+use Rattle.isle_ast.specs.Tree as tree
+use Rattle.isle_ast.specs.Views.{exprs_of}
 
 leaf_none : run read_leaf [] ≡ Stuck []
 unfolding read_leaf

@@ -12,9 +12,9 @@ use Rattle.isle_reading.proofs.TokenLaws.{OpenS, WordS, Gives, law_ret, law_open
 use Rattle.isle_reading.proofs.ListLaws.{law_many}
 use Rattle.isle_reading.proofs.NameLaws.{a_plain, name_some}
 use Rattle.isle_reading.proofs.States.{Inside, inside_open, inside_close, inside_word, inside_over}
-use Rattle.isle_syntax.specs.Tree.{Expr, Exprs, AnExpr}
-use Rattle.isle_syntax.specs.Tree as tree
-use Rattle.isle_syntax.specs.Views.{exprs_of}
+use Rattle.isle_ast.specs.Tree.{Expr, Exprs, AnExpr}
+use Rattle.isle_ast.specs.Tree as tree
+use Rattle.isle_ast.specs.Views.{exprs_of}
 use Rattle.isle_syntax.specs.Grammar.{ExprS, number, fact, underscore, variable, call, ExprsS, no_expr, an_expr}
 use Rattle.isle_syntax.specs.Reading.{expr_of, read_leaf, callee_of, read_callee, read_call, read_expr}
 

@@ -11,7 +11,7 @@ use Rattle.isle_reading.proofs.Law.{Law, law_map}
 use Rattle.isle_reading.proofs.ListLaws.{law_all_from}
 use Rattle.isle_reading.proofs.Faults.{got_spelt, spelt_once, stop_fault, fault_map}
 use Rattle.isle_reading.proofs.States.{Inside, inside_start}
-use Rattle.isle_syntax.specs.Tree.{Def}
+use Rattle.isle_ast.specs.Tree.{Def}
 use Rattle.isle_syntax.specs.Grammar.{DefS, FileS, no_def, a_def}
 use Rattle.isle_syntax.specs.Reading.{read_def, read_file}
 use Rattle.isle_syntax.specs.Spelling.{IsFile}

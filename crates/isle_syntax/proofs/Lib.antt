@@ -3,7 +3,6 @@ pub mod WordForms
 pub mod Expressions
 pub mod Definitions
 pub mod Files
-pub mod Sees
 pub mod WordSteps
 pub mod ExpressionSteps
 pub mod Within

@@ -1,7 +1,7 @@
 -- A text spells at most one list of definitions.
 use Rattle.std.proofs.Common.{◌≡◌, ℕ, List}
 use Rattle.isle_lexer.specs.Lexeme.{lexemes}
-use Rattle.isle_syntax.specs.Tree.{Def}
+use Rattle.isle_ast.specs.Tree.{Def}
 use Rattle.isle_syntax.specs.Spelling.{Spells}
 use Rattle.isle_syntax.proofs.Files.{file_once}
 

@@ -5,11 +5,11 @@ use Rattle.std.specs.List.{AllByRecursion}
 use Rattle.isle_lexer.specs.Token.{tokens_of}
 use Rattle.isle_lexer.specs.declared.token.Tok.{Tok}
 use Rattle.isle_lexer.specs.Lexeme.{Lexeme, Open, Close, At, Less, Greater, Word, lexeme, lexemes}
-use Rattle.isle_syntax.specs.Tree.{Def}
+use Rattle.isle_ast.specs.Tree.{Def}
 use Rattle.isle_reading.specs.Names.{NameS, symbol}
 use Rattle.isle_reading.specs.Relations.{Many, none, more}
 use Rattle.isle_syntax.specs.Grammar.{PatternS, int, truth, wildcard, var, ExprS, number, fact, underscore, variable, call, ExprsS, no_expr, an_expr, RuleNameS, unnamed, named, PrioS, unwritten, written, PartialS, unflagged, flagged, DefS, decl, extern, rule, FileS, no_def, a_def}
-use Rattle.isle_syntax.specs.Positions.{place_of, IsWithin, AreWithin}
+use Rattle.isle_ast.specs.Positions.{place_of, IsWithin, AreWithin}
 use Rattle.isle_syntax.specs.Spelling.{Spells}
 use Rattle.isle_lexer.proofs.Begun.{Before, tokens_before}
 

@@ -14,8 +14,8 @@ use Rattle.isle_reading.specs.Nesting.{Nest}
 use Rattle.isle_reading.proofs.Law.{Law, Heads, Nothing, Either, law_map}
 use Rattle.isle_reading.proofs.TokenLaws.{WordS, WordSteps, NoWord, law_word, law_optional}
 use Rattle.isle_reading.proofs.NameLaws.{if_some, a_plain, a_named, name_some}
-use Rattle.isle_syntax.specs.Tree.{Pattern}
-use Rattle.isle_syntax.specs.Tree as tree
+use Rattle.isle_ast.specs.Tree.{Pattern}
+use Rattle.isle_ast.specs.Tree as tree
 use Rattle.isle_syntax.specs.Grammar.{PatternS, int, truth, wildcard, var, RuleNameS, unnamed, named, PrioS, unwritten, written, PartialS, unflagged, flagged}
 use Rattle.isle_syntax.specs.Reading.{pattern_of, read_pattern, read_rule_name, in_64_bits, prio_of, read_prio, partial_of, read_partial}
 

@@ -6,8 +6,8 @@ use Rattle.isle_lexer.specs.Word.{kind, IsName, is_flag, is_let}
 use Rattle.isle_lexer.specs.Word as word
 use Rattle.isle_reading.specs.Names.{NameS}
 use Rattle.isle_reading.specs.Relations.{Many}
-use Rattle.isle_syntax.specs.Tree.{Pattern, Expr, Exprs, NoExpr, AnExpr, Def}
-use Rattle.isle_syntax.specs.Tree as tree
+use Rattle.isle_ast.specs.Tree.{Pattern, Expr, Exprs, NoExpr, AnExpr, Def}
+use Rattle.isle_ast.specs.Tree as tree
 
 -- P
 pub data PatternS : Pattern → List Lexeme → List Lexeme → Type 0 where

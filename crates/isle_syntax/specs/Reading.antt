@@ -5,9 +5,9 @@ use Rattle.isle_reading.specs.Reader.{Reader, Ret, Peek, Halt, bind}
 use Rattle.isle_reading.specs.Combinators.{is_open, read_open, read_close, read_word, read_optional, many, all}
 use Rattle.isle_reading.specs.Names.{name_of, read_name}
 use Rattle.isle_reading.specs.Nesting.{most_open}
-use Rattle.isle_syntax.specs.Tree.{Pattern, Expr, Def}
-use Rattle.isle_syntax.specs.Tree as tree
-use Rattle.isle_syntax.specs.Views.{exprs_of}
+use Rattle.isle_ast.specs.Tree.{Pattern, Expr, Def}
+use Rattle.isle_ast.specs.Tree as tree
+use Rattle.isle_ast.specs.Views.{exprs_of}
 
 -- the pattern that a word of this kind is
 abbrev pub pattern_of : List ℕ → WordKind → Option Pattern

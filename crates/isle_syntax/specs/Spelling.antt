@@ -5,7 +5,7 @@ use Rattle.isle_lexer.specs.Token.{IsClosed}
 use Rattle.isle_lexer.specs.Lexeme.{Lexeme, lexemes}
 use Rattle.isle_reading.specs.Nesting.{depth, most_open}
 use Rattle.isle_syntax.specs.Grammar.{FileS}
-use Rattle.isle_syntax.specs.Tree.{Def}
+use Rattle.isle_ast.specs.Tree.{Def}
 
 -- the tokens spell some definitions
 abbrev pub IsFile : ℕ → List Lexeme → Type 0

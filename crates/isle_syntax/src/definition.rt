@@ -3,12 +3,12 @@ ghost use Rattle.isle_reading.specs.Combinators.{next_word, all};
 ghost use Rattle.isle_reading.specs.Views.{left, Reads};
 ghost use Rattle.isle_syntax.specs.Reading.{decl_name_of, read_decl_name, partial_of, read_partial, read_declared, read_decl, constructor_of, read_constructor, read_extern, read_parts, read_rule, head_of, read_head, read_behind, read_def, read_file};
 ghost use Rattle.isle_syntax.specs.ReadingViews.{head_seen};
-ghost use Rattle.isle_syntax.specs.Views.{def, defs, pattern};
+ghost use Rattle.isle_ast.specs.Views.{def, defs, pattern};
 
 use crate::expression::right_side;
 use crate::forms::{prio, rule_name};
 use crate::lists::{names, patterns};
-use crate::tree::{AstPattern, Def};
+use isle_ast::{AstPattern, Def};
 use isle_core::{List, Pos, Text};
 use isle_lexer::{is_flag, is_name};
 use isle_reading::{Fail, Tokens};

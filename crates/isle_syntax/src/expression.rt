@@ -3,16 +3,16 @@ ghost use Rattle.isle_lexer.specs.Word.{kind};
 ghost use Rattle.isle_reading.specs.Combinators.{next_word, many};
 ghost use Rattle.isle_reading.specs.Views.{left, Reads};
 ghost use Rattle.isle_syntax.specs.Reading.{expr_of, read_leaf, callee_of, read_callee, read_expr, read_right};
-ghost use Rattle.isle_syntax.specs.Views.{expr};
+ghost use Rattle.isle_ast.specs.Views.{expr};
 
-use crate::tree::AstExpr;
+use isle_ast::AstExpr;
 use isle_core::{List, Text};
 use isle_lexer::{Kind, is_let, is_name, kind_of};
 use isle_reading::{Fail, Tokens, most_inside};
 use std::alloc::{AllocError, Global};
 
 // The expression that a word is.
-#[tactic(auto, using(crate::proofs::Sees::sees))]
+#[tactic(auto, using(isle_ast::proofs::Sees::sees))]
 fn expr_of(alloc: Global, word: &str) -> Result<Option<AstExpr>, AllocError>
     ensures { IfOk result (λ read. option_map expr read ≡ expr_of word.now (kind word.now)) }
 {
@@ -77,7 +77,7 @@ fn callee(tokens: &mut Tokens<'_>, alloc: Global) -> Result<Text, Fail>
 
 // An expression whose parentheses nest at most `depth` deep, its lists of at most `most` tokens.
 #[cycle(expressions)]
-#[tactic(auto, using(crate::proofs::ExpressionSteps::expr_steps, crate::proofs::Sees::sees))]
+#[tactic(auto, using(crate::proofs::ExpressionSteps::expr_steps, isle_ast::proofs::Sees::sees))]
 fn expression(
     tokens: &mut Tokens<'_>,
     alloc: Global,

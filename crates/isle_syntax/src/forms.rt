@@ -3,9 +3,9 @@ ghost use Rattle.isle_lexer.specs.Word.{kind};
 ghost use Rattle.isle_reading.specs.Combinators.{next_word};
 ghost use Rattle.isle_reading.specs.Views.{left, Reads};
 ghost use Rattle.isle_syntax.specs.Reading.{read_rule_name, prio_of, read_prio, pattern_of, read_pattern};
-ghost use Rattle.isle_syntax.specs.Views.{pattern};
+ghost use Rattle.isle_ast.specs.Views.{pattern};
 
-use crate::tree::AstPattern;
+use isle_ast::AstPattern;
 use isle_core::Text;
 use isle_lexer::{Kind, kind_of};
 use isle_reading::{Fail, Tokens};
@@ -64,7 +64,7 @@ pub fn prio(tokens: &mut Tokens<'_>) -> Result<i64, Fail>
 }
 
 // The pattern that a word is.
-#[tactic(auto, using(crate::proofs::Sees::sees))]
+#[tactic(auto, using(isle_ast::proofs::Sees::sees))]
 fn pattern_of(alloc: Global, word: &str) -> Result<Option<AstPattern>, AllocError>
     ensures { IfOk result (λ read. option_map pattern read ≡ pattern_of word.now (kind word.now)) }
 {

@@ -6,11 +6,7 @@ mod expression;
 mod forms;
 mod lists;
 mod parser;
-mod tree;
 
 pub use isle_lexer::{Lexer, Signed, Tok, Token, is_name, signed_of};
 pub use isle_reading::{Fail, Tokens, most_inside};
 pub use parser::{ParseFail, parse, parse_text};
-pub use tree::{
-    AstAny, AstBody, AstExpr, AstFields, AstIfLet, AstLet, AstPattern, AstVariant, Def,
-};

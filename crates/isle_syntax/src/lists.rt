@@ -2,11 +2,11 @@ ghost use Rattle.isle_reading.specs.Combinators.{many};
 ghost use Rattle.isle_reading.specs.Names.{read_name};
 ghost use Rattle.isle_reading.specs.Views.{left, Reads};
 ghost use Rattle.isle_syntax.specs.Reading.{read_pattern};
-ghost use Rattle.isle_syntax.specs.Views.{pattern};
+ghost use Rattle.isle_ast.specs.Views.{pattern};
 ghost use Rattle.std.specs.Prelude.{map};
 
 use crate::forms::pattern;
-use crate::tree::AstPattern;
+use isle_ast::AstPattern;
 use isle_core::Text;
 use isle_reading::{Fail, Tokens};
 use std::alloc::Global;

@@ -7,11 +7,11 @@ ghost use Rattle.isle_reading.specs.Places.{IsFault};
 ghost use Rattle.isle_reading.specs.declared.cursor.Fail.TheVariants.{At};
 ghost use Rattle.isle_syntax.specs.Grammar.{FileS};
 ghost use Rattle.isle_syntax.specs.Spelling.{IsFile, Spells, SpellsTokens};
-ghost use Rattle.isle_syntax.specs.Tree.{Def as PureDef};
-ghost use Rattle.isle_syntax.specs.Views.{defs};
+ghost use Rattle.isle_ast.specs.Tree.{Def as PureDef};
+ghost use Rattle.isle_ast.specs.Views.{defs};
 
 use crate::definition::file_of;
-use crate::tree::Def;
+use isle_ast::Def;
 use isle_lexer::{LexFail, Lexer, Token, tokens};
 use isle_reading::{Fail, Tokens};
 use std::alloc::Global;

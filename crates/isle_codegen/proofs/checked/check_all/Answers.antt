@@ -1,6 +1,6 @@
 use Rattle.std.proofs.Common.{rules, subst}
 use Rattle.isle_core.specs.RuleViews.{environment}
-use Rattle.isle_syntax.specs.Views.{defs as seen}
+use Rattle.isle_ast.specs.Views.{defs as seen}
 use Rattle.isle_sema.specs.Typing.{TypedOnly}
 use Rattle.isle_codegen.proofs.Placed.{source_terms_placed}
 use Rattle.isle_codegen.proofs.checked.check_all.Goals as goal

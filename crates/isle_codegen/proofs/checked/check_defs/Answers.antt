@@ -1,5 +1,5 @@
 use Rattle.isle_core.specs.RuleViews.{environment}
-use Rattle.isle_syntax.specs.Views.{defs as seen}
+use Rattle.isle_ast.specs.Views.{defs as seen}
 use Rattle.isle_sema.proofs.TypedRules.{typed_built, typed_scoped, typed_impure}
 use Rattle.isle_codegen.proofs.checked.check_defs.Goals as goal
 

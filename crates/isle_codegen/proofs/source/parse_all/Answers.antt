@@ -1,7 +1,7 @@
 use Rattle.std.proofs.Common.{rules, ◌≡◌, ◌++◌, true, not, ap, ◌∙◌, cond}
 use Rattle.std.specs.Result.{is_ok}
 use Rattle.std.proofs.lemmas.List.{map-append}
-use Rattle.isle_syntax.specs.Views.{defs, def}
+use Rattle.isle_ast.specs.Views.{defs, def}
 use Rattle.isle_codegen.proofs.Sources.{source_next, source_once, source_none, source_all}
 use Rattle.isle_codegen.proofs.source.parse_all.Goals as goal
 

@@ -2,7 +2,7 @@ use Rattle.std.proofs.Common.{◌∙◌, rules, subst, sym}
 use Rattle.isle_reading.specs.Views.{left, Refuses}
 use Rattle.isle_reading.proofs.Steps.{passed, then_got, done_got, then_refuses, bind_refuses}
 use Rattle.isle_reading.proofs.ListSteps.{list-more, list-end, list-refuses}
-use Rattle.isle_syntax.proofs.Sees.{sees}
+use Rattle.isle_ast.proofs.Sees.{sees}
 use Rattle.isle_syntax.proofs.ExpressionSteps.{expr_none, expr_call}
 use Rattle.isle_syntax.proofs.expression.+expressions.Goals as goal
 

@@ -4,7 +4,7 @@ use Rattle.isle_reading.specs.Combinators.{many}
 use Rattle.isle_reading.specs.Views.{left}
 use Rattle.isle_reading.proofs.ListSteps.{in_front}
 use Rattle.isle_syntax.specs.Reading.{read_expr}
-use Rattle.isle_syntax.specs.Views.{expr}
+use Rattle.isle_ast.specs.Views.{expr}
 use Rattle.isle_syntax.proofs.expression.+expressions.Given as goal
 
 abbrev pub decreases-expression : goal.decreases-expression

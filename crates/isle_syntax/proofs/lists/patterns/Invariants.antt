@@ -4,7 +4,7 @@ use Rattle.isle_reading.specs.Combinators.{many}
 use Rattle.isle_reading.specs.Views.{left}
 use Rattle.isle_reading.proofs.ListSteps.{in_front}
 use Rattle.isle_syntax.specs.Reading.{read_pattern}
-use Rattle.isle_syntax.specs.Views.{pattern}
+use Rattle.isle_ast.specs.Views.{pattern}
 use Rattle.isle_syntax.proofs.lists.patterns.Given as goal
 
 -- with what was read in front, the rest reads as all

@@ -1,7 +1,7 @@
 -- Definitions as pure trees, in the grammar's shape.
 use Rattle.std.specs.Prelude.{ℕ, ℤ, List, Bool, Option}
 use Rattle.isle_core.specs.declared.position.Pos.{Pos}
-use Rattle.isle_syntax.specs.declared.tree.AstBody.{AstBody}
+use Rattle.isle_ast.specs.declared.tree.AstBody.{AstBody}
 
 -- a pattern
 mutual

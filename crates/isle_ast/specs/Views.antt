@@ -1,22 +1,22 @@
 -- What contracts see of the code's definitions.
 use Rattle.std.specs.Prelude.{ℕ, List, [], ◌∷◌, map}
-use Rattle.isle_syntax.specs.declared.tree.AstPattern.{AstPattern}
-use Rattle.isle_syntax.specs.declared.tree.AstPattern.TheOpen.{AstPattern-F}
-use Rattle.isle_syntax.specs.declared.tree.AstPattern.TheOpen as code_pattern
-use Rattle.isle_syntax.specs.declared.tree.AstPattern.TheFolds.{fold-AstPattern}
-use Rattle.isle_syntax.specs.declared.tree.AstExpr.{AstExpr}
-use Rattle.isle_syntax.specs.declared.tree.AstExpr.TheOpen.{AstExpr-F, AstLet-F}
-use Rattle.isle_syntax.specs.declared.tree.AstExpr.TheOpen as code_expr
-use Rattle.isle_syntax.specs.declared.tree.AstExpr.TheFolds.{fold-AstExpr}
-use Rattle.isle_syntax.specs.declared.tree.AstAny.{AstAny}
-use Rattle.isle_syntax.specs.declared.tree.AstAny.TheOpen.{AstAny-F}
-use Rattle.isle_syntax.specs.declared.tree.AstAny.TheOpen as code_any
-use Rattle.isle_syntax.specs.declared.tree.AstAny.TheFolds.{fold-AstAny}
-use Rattle.isle_syntax.specs.declared.tree.AstIfLet.{AstIfLet}
-use Rattle.isle_syntax.specs.declared.tree.Def.{Def as CodeDef}
-use Rattle.isle_syntax.specs.declared.tree.Def.TheVariants as code_def
-use Rattle.isle_syntax.specs.Tree as tree
-use Rattle.isle_syntax.specs.Tree.{Pattern, Patterns, NoPattern, APattern, Expr, Exprs, NoExpr, AnExpr, Lets, NoLet, ALet, Any, Anys, NoAny, AnAny, IfLet, Def}
+use Rattle.isle_ast.specs.declared.tree.AstPattern.{AstPattern}
+use Rattle.isle_ast.specs.declared.tree.AstPattern.TheOpen.{AstPattern-F}
+use Rattle.isle_ast.specs.declared.tree.AstPattern.TheOpen as code_pattern
+use Rattle.isle_ast.specs.declared.tree.AstPattern.TheFolds.{fold-AstPattern}
+use Rattle.isle_ast.specs.declared.tree.AstExpr.{AstExpr}
+use Rattle.isle_ast.specs.declared.tree.AstExpr.TheOpen.{AstExpr-F, AstLet-F}
+use Rattle.isle_ast.specs.declared.tree.AstExpr.TheOpen as code_expr
+use Rattle.isle_ast.specs.declared.tree.AstExpr.TheFolds.{fold-AstExpr}
+use Rattle.isle_ast.specs.declared.tree.AstAny.{AstAny}
+use Rattle.isle_ast.specs.declared.tree.AstAny.TheOpen.{AstAny-F}
+use Rattle.isle_ast.specs.declared.tree.AstAny.TheOpen as code_any
+use Rattle.isle_ast.specs.declared.tree.AstAny.TheFolds.{fold-AstAny}
+use Rattle.isle_ast.specs.declared.tree.AstIfLet.{AstIfLet}
+use Rattle.isle_ast.specs.declared.tree.Def.{Def as CodeDef}
+use Rattle.isle_ast.specs.declared.tree.Def.TheVariants as code_def
+use Rattle.isle_ast.specs.Tree as tree
+use Rattle.isle_ast.specs.Tree.{Pattern, Patterns, NoPattern, APattern, Expr, Exprs, NoExpr, AnExpr, Lets, NoLet, ALet, Any, Anys, NoAny, AnAny, IfLet, Def}
 
 -- patterns of a list
 abbrev pub patterns_of : List Pattern → Patterns

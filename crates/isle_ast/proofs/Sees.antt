@@ -1,16 +1,16 @@
 -- What contracts see of the variants of patterns and expressions.
 use Rattle.std.proofs.Common.{◌≡◌, ℕ, List, Bool, map, sym, ap, ◌∙◌}
 use Rattle.std.specs.Prelude.{ℤ}
-use Rattle.isle_syntax.specs.declared.tree.AstPattern.{AstPattern}
-use Rattle.isle_syntax.specs.declared.tree.AstPattern.TheVariants as code_pattern
-use Rattle.isle_syntax.specs.declared.tree.AstPattern.TheFolds.{fold-roll-AstPattern}
-use Rattle.isle_syntax.specs.declared.tree.AstExpr.{AstExpr}
-use Rattle.isle_syntax.specs.declared.tree.AstLet.{AstLet}
-use Rattle.isle_syntax.specs.declared.tree.AstExpr.TheVariants as code_expr
-use Rattle.isle_syntax.specs.declared.tree.AstExpr.TheFolds.{fold-roll-AstExpr, fold-AstLet}
-use Rattle.isle_syntax.specs.Tree as tree
-use Rattle.isle_syntax.specs.Tree.{Pattern, Expr}
-use Rattle.isle_syntax.specs.Views.{SeenBinding, patterns_of, pattern_step, pattern, exprs_of, lets_of, expr_step, bound_step, expr}
+use Rattle.isle_ast.specs.declared.tree.AstPattern.{AstPattern}
+use Rattle.isle_ast.specs.declared.tree.AstPattern.TheVariants as code_pattern
+use Rattle.isle_ast.specs.declared.tree.AstPattern.TheFolds.{fold-roll-AstPattern}
+use Rattle.isle_ast.specs.declared.tree.AstExpr.{AstExpr}
+use Rattle.isle_ast.specs.declared.tree.AstLet.{AstLet}
+use Rattle.isle_ast.specs.declared.tree.AstExpr.TheVariants as code_expr
+use Rattle.isle_ast.specs.declared.tree.AstExpr.TheFolds.{fold-roll-AstExpr, fold-AstLet}
+use Rattle.isle_ast.specs.Tree as tree
+use Rattle.isle_ast.specs.Tree.{Pattern, Expr}
+use Rattle.isle_ast.specs.Views.{SeenBinding, patterns_of, pattern_step, pattern, exprs_of, lets_of, expr_step, bound_step, expr}
 
 pub pattern-int : (n : ℤ) → pattern (code_pattern.Int n) ≡ tree.Int n
 pattern-int n = ap pattern (sym (code_pattern.rolls-Int n)) ∙ fold-roll-AstPattern Pattern pattern_step _
