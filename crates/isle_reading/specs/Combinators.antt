@@ -100,6 +100,11 @@ next_word f (Word at w ∷ ts) = f w
 unfoldable pub read_optional : {A : Type 0} → (List ℕ → Option A) → A → Reader A
 read_optional f other = Peek (on_word (λ w. is_some (f w))) (read_word f) (Ret other)
 
+-- at most k words, each of which takes a state to the next
+unfoldable pub words_from : {St : Type 0} → ℕ → (St → List ℕ → Option St) → St → Reader St
+words_from zero next s = Ret s
+words_from (suc k) next s = Peek (on_word (λ w. is_some (next s w))) (bind (read_word (next s)) (λ u. words_from k next u)) (Ret s)
+
 -- ---- lists
 
 -- values up to the closing parenthesis, which is taken, with at most n tokens for them and it
