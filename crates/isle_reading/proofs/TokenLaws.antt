@@ -178,14 +178,14 @@ word_is test (Less at) h = cc
 word_is test (Greater at) h = cc
 word_is test (Word at w) h = (refl, h)
 
-abbrev Given : {A : Type 0} → Option A → A → List Lexeme → List Lexeme → Type 0
+abbrev pub Given : {A : Type 0} → Option A → A → List Lexeme → List Lexeme → Type 0
 Given o a ts rest = (o ≡ Some a) × (ts ≡ rest)
 
 -- the state that each value that a word gives leads to
-abbrev Given_state : {A : Type 0} → (A → Nest → Type 0) → Option A → Nest → Type 0
+abbrev pub Given_state : {A : Type 0} → (A → Nest → Type 0) → Option A → Nest → Type 0
 Given_state {A = A} E o q = (a : A) → o ≡ Some a → E a q
 
-law_given : {A : Type 0} {E : A → Nest → Type 0} {C : List Lexeme → Type 0} {n : ℕ} (o : Option A) → IsTrue (is_some o) → Law (Given_state E o) E C n (Given o) (given o)
+pub law_given : {A : Type 0} {E : A → Nest → Type 0} {C : List Lexeme → Type 0} {n : ℕ} (o : Option A) → IsTrue (is_some o) → Law (Given_state E o) E C n (Given o) (given o)
 law_given None is = absurd (let x : false ≡ true = is in cc)
 law_given {A = A} (Some a) is = law_map (λ b ts rest s. (ap Some (sym s.0), s.1)) (λ b ts rest s. (let x : b ≡ a = cc (s.0) in x, s.1)) (law_ret a (λ q p. p a refl))
 

@@ -112,6 +112,10 @@ unfoldable pub many : {A : Type 0} → ℕ → Reader A → Reader (List A)
 many zero r = End refuse Halt
 many (suc n) r = Peek is_close (bind read_close (λ c. Ret [])) (bind r (λ a. bind (many n r) (λ others. Ret (a ∷ others))))
 
+-- values up to the closing parenthesis, at least one, with at most n tokens behind the first
+abbrev pub some : {A : Type 0} → ℕ → Reader A → Reader (List A)
+some n r = bind r (λ a. bind (many n r) (λ others. Ret (a ∷ others)))
+
 -- values up to the end of the text, at most n of them, where each value's reader hangs on a state and the value gives the next
 unfoldable pub all_from : {St A : Type 0} → ℕ → (St → Reader A) → (St → A → St) → St → Reader (List A)
 all_from zero r next s = End (Ret []) Halt

@@ -1,8 +1,10 @@
-pub mod SpeltOnce
-pub mod WordForms
+pub mod PatternLaws
 pub mod Expressions
+pub mod Conditions
+pub mod TypeForms
+pub mod PassedLists
+pub mod WordForms
+pub mod DefinitionForms
 pub mod Definitions
 pub mod Files
-pub mod WordSteps
-pub mod ExpressionSteps
-pub mod Within
+pub mod SpeltOnce

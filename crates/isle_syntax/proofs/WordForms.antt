@@ -1,52 +1,20 @@
 -- The laws of the readers of words.
 use Rattle.std.proofs.Common.{◌≡◌, ℕ, ◌<◌, ◌^◌, List, ◌∷◌, Bool, true, false, inl, inr, refl, ap, sym, ◌∙◌, subst, arith, Option, Some, None, ℤ, pos, negsuc}
-use Rattle.std.specs.Prelude.{option_map, if◌then◌else◌, bytes_eq, codes, FitsSigned}
+use Rattle.std.specs.Prelude.{option_map, if◌then◌else◌, ◌||◌, bytes_eq, codes, FitsSigned}
 use Rattle.std.specs.Int.{w64}
 use Rattle.std.proofs.lemmas.Bool.Decides.{nat_tests}
-use Rattle.std.proofs.lemmas.Slice.Eq.{bytes_eq-Decides}
 use Rattle.isle_core.specs.Int.{wrapped}
 use Rattle.isle_lexer.specs.Integer.{int_of, signed_of, magnitude}
 use Rattle.isle_lexer.specs.Lexeme.{Lexeme, Word}
-use Rattle.isle_lexer.specs.Word.{WordKind, Number, Malformed, Truth, Dollar, Underscore, Plain, kind, names}
-use Rattle.isle_reading.specs.Combinators.{is_close}
+use Rattle.isle_lexer.specs.Word.{WordKind, Number, Malformed, Truth, Dollar, Underscore, Plain, kind, names, is_flag}
 use Rattle.isle_reading.specs.Names.{name_of}
 use Rattle.isle_reading.specs.Nesting.{Nest}
-use Rattle.isle_reading.proofs.Law.{Law, Heads, Nothing, Either, law_map}
-use Rattle.isle_reading.proofs.TokenLaws.{WordS, WordSteps, NoWord, law_word, law_optional}
-use Rattle.isle_reading.proofs.NameLaws.{if_some, a_plain, a_named, name_some}
-use Rattle.isle_ast.specs.Tree.{Pattern}
-use Rattle.isle_ast.specs.Tree as tree
-use Rattle.isle_syntax.specs.Grammar.{PatternS, int, truth, wildcard, var, RuleNameS, unnamed, named, PrioS, unwritten, written, PartialS, unflagged, flagged}
-use Rattle.isle_syntax.specs.Reading.{pattern_of, read_pattern, read_rule_name, in_64_bits, prio_of, read_prio, partial_of, read_partial}
-
--- ---- patterns
-
-abbrev pub pattern_word : List ℕ → Option Pattern
-pattern_word w = pattern_of w (kind w)
-
-pattern_by : (k : WordKind) (at : ℕ) (w : List ℕ) (p : Pattern) (rest : List Lexeme) → kind w ≡ k → pattern_of w k ≡ Some p → PatternS p (Word at w ∷ rest) rest
-pattern_by (Number n) at w p rest e h = subst (λ z. PatternS z (Word at w ∷ rest) rest) (let x : tree.Int n ≡ p = cc in x) (int at w n rest e)
-pattern_by Malformed at w p rest e h = cc
-pattern_by (Truth b) at w p rest e h = subst (λ z. PatternS z (Word at w ∷ rest) rest) (let x : tree.Truth b ≡ p = cc in x) (truth at w b rest e)
-pattern_by (Dollar name) at w p rest e h = cc
-pattern_by Underscore at w p rest e h = subst (λ z. PatternS z (Word at w ∷ rest) rest) (let x : tree.Wildcard ≡ p = cc in x) (wildcard at w rest e)
-pattern_by Plain at w p rest e h = subst (λ z. PatternS z (Word at w ∷ rest) rest) (let x : tree.Var w ≡ p = cc in x) (var at w rest e)
-
-pattern_to : (p : Pattern) (ts rest : List Lexeme) → WordS pattern_word p ts rest → PatternS p ts rest
-pattern_to p ts rest (at, w, e, h) = subst (λ z. PatternS p z rest) (sym e) (pattern_by (kind w) at w p rest refl h)
-
-pattern_from : (p : Pattern) (ts rest : List Lexeme) → PatternS p ts rest → WordS pattern_word p ts rest
-pattern_from _ _ _ (int at w n ts e) = (at, w, refl, ap (pattern_of w) e)
-pattern_from _ _ _ (truth at w b ts e) = (at, w, refl, ap (pattern_of w) e)
-pattern_from _ _ _ (wildcard at w ts e) = (at, w, refl, ap (pattern_of w) e)
-pattern_from _ _ _ (var at w ts e) = (at, w, refl, ap (pattern_of w) e)
-
-pub pattern_heads : (p : Pattern) (ts rest : List Lexeme) → PatternS p ts rest → Heads is_close false ts
-pattern_heads p ts rest s = let x = pattern_from p ts rest s in (Word x.0 x.1, rest, x.2, refl)
-
-pub law_pattern : {P : Nest → Type 0} {E : Pattern → Nest → Type 0} {C : List Lexeme → Type 0} {n : ℕ} → WordSteps P E pattern_word → Law P E C n PatternS read_pattern
-unfolding read_pattern
-law_pattern steps = law_map pattern_to pattern_from (law_word pattern_word (codes "a", tree.Var (codes "a"), ap (pattern_of (codes "a")) a_plain) steps)
+use Rattle.isle_reading.specs.Relations.{WordsFrom}
+use Rattle.isle_reading.proofs.Law.{Law, Nothing, Either, law_map}
+use Rattle.isle_reading.proofs.TokenLaws.{WordS, WordSteps, NoWord, NoSuch, law_optional, law_words_from}
+use Rattle.isle_reading.proofs.NameLaws.{if_some, a_named, name_some}
+use Rattle.isle_syntax.specs.Grammar.{RuleNameS, unnamed, named_rule, PrioS, unwritten, written, Flags, no_flags, with_flag, Marks, no_marks, with_mark}
+use Rattle.isle_syntax.specs.Reading.{read_rule_name, in_64_bits, prio_of, read_prio, read_flags, read_marks}
 
 -- ---- the name of a rule
 
@@ -60,12 +28,12 @@ mapped_some false w o e = cc
 rule_name_to : (o : Option (List ℕ)) (ts rest : List Lexeme) → Either (WordS rule_name_of) (Nothing None) o ts rest → RuleNameS o ts rest
 rule_name_to o ts rest (inl (at, w, e, h)) =
     let x = mapped_some (names (kind w)) w o h in
-    subst (λ z. RuleNameS z ts rest) (sym x.1) (subst (λ z. RuleNameS (Some w) z rest) (sym e) (named at w rest x.0))
+    subst (λ z. RuleNameS z ts rest) (sym x.1) (subst (λ z. RuleNameS (Some w) z rest) (sym e) (named_rule at w rest x.0))
 rule_name_to o ts rest (inr (p, q)) = subst (λ z. RuleNameS z ts rest) (sym p) (subst (λ z. RuleNameS None z rest) (sym q) (unnamed rest))
 
 rule_name_from : (o : Option (List ℕ)) (ts rest : List Lexeme) → RuleNameS o ts rest → Either (WordS rule_name_of) (Nothing None) o ts rest
 rule_name_from _ _ _ (unnamed ts) = inr (refl, refl)
-rule_name_from _ _ _ (named at w ts h) = inl (at, w, refl, ap (option_map (λ name. Some name)) (name_some w h))
+rule_name_from _ _ _ (named_rule at w ts h) = inl (at, w, refl, ap (option_map (λ name. Some name)) (name_some w h))
 
 pub law_rule_name : {P : Nest → Type 0} {n : ℕ} → WordSteps P (λ o. P) rule_name_of → Law P (λ o. P) (NoWord rule_name_of) n RuleNameS read_rule_name
 unfolding read_rule_name
@@ -111,18 +79,38 @@ pub law_prio : {P : Nest → Type 0} {n : ℕ} → WordSteps P (λ z. P) prio_wo
 unfolding read_prio
 law_prio steps = law_map prio_to prio_from (law_optional prio_word (pos 0) (codes "1", pos 1, ap prio_of a_number) steps (λ q p. p))
 
--- ---- the flag `partial`
+-- ---- flags
 
-partial_to : (b : Bool) (ts rest : List Lexeme) → Either (WordS partial_of) (Nothing false) b ts rest → PartialS b ts rest
-partial_to b ts rest (inl (at, w, e, h)) =
-    let x = if_some (bytes_eq w (codes "partial")) true b h in
-    subst (λ y. PartialS y ts rest) (sym x.1) (subst (λ y. PartialS true y rest) (sym e) (flagged at w rest ((bytes_eq-Decides w (codes "partial")).0 x.0)))
-partial_to b ts rest (inr (p, q)) = subst (λ y. PartialS y ts rest) (sym p) (subst (λ y. PartialS false y rest) (sym q) (unflagged rest))
+-- a word that may be a flag more is one of the four
+flag_by : (b c d e p m q r : Bool) (w x y z : Flags) (u : Flags)
+    → (if b then (if p then None else Some w) else (if c then (if m then None else Some x) else (if d then (if q then None else Some y) else (if e then (if r then None else Some z) else None)))) ≡ Some u
+    → (b || c || d || e) ≡ true
+flag_by true c d e p m q r w x y z u h = refl
+flag_by false true d e p m q r w x y z u h = refl
+flag_by false false true e p m q r w x y z u h = refl
+flag_by false false false true p m q r w x y z u h = refl
+flag_by false false false false p m q r w x y z u h = cc
 
-partial_from : (b : Bool) (ts rest : List Lexeme) → PartialS b ts rest → Either (WordS partial_of) (Nothing false) b ts rest
-partial_from _ _ _ (unflagged ts) = inr (refl, refl)
-partial_from _ _ _ (flagged at w ts e) = inl (at, w, refl, ap partial_of e)
+flag_is : (s u : Flags) (w : List ℕ) → with_flag s w ≡ Some u → is_flag w ≡ true
+flag_is s u w h = flag_by (bytes_eq w (codes "pure")) (bytes_eq w (codes "multi")) (bytes_eq w (codes "partial")) (bytes_eq w (codes "rec")) s.pure s.multi s.partial s.recursive _ _ _ _ u h
 
-pub law_partial : {P : Nest → Type 0} {n : ℕ} → WordSteps P (λ b. P) partial_of → Law P (λ b. P) (NoWord partial_of) n PartialS read_partial
-unfolding read_partial
-law_partial steps = law_map partial_to partial_from (law_optional partial_of false (codes "partial", true, refl) steps (λ q p. p))
+-- no flag may follow
+abbrev pub NoFlag : List Lexeme → Type 0
+NoFlag = NoSuch is_flag
+
+pub law_flags : {P : Nest → Type 0} {n : ℕ} → ((s : Flags) → WordSteps P (λ u. P) (with_flag s)) → Law P (λ v. P) NoFlag n (WordsFrom with_flag 4 no_flags) read_flags
+unfolding read_flags
+law_flags steps = law_words_from with_flag is_flag flag_is steps 4 no_flags
+
+-- ---- marks of a type
+
+abbrev any_word : List ℕ → Bool
+any_word w = true
+
+-- no word may follow
+abbrev pub NoMark : List Lexeme → Type 0
+NoMark = NoSuch any_word
+
+pub law_marks : {P : Nest → Type 0} {n : ℕ} → ((s : Marks) → WordSteps P (λ u. P) (with_mark s)) → Law P (λ v. P) NoMark n (WordsFrom with_mark 2 no_marks) read_marks
+unfolding read_marks
+law_marks steps = law_words_from with_mark any_word (λ s u w h. refl) steps 2 no_marks
