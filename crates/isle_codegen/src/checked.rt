@@ -59,7 +59,7 @@ pub fn check_all(alloc: Global, files: &Files) -> Result<(Checked, Vec<TraitFn>)
     }
     let defs = match parse_all(alloc, files.file_texts.as_slice()) {
         Ok(defs) => defs,
-        Err(ParseFail::NotYet) => return Err(FileError::NotYet),
+        Err(ParseFail::At(_, _)) => return Err(FileError::NotYet),
         Err(ParseFail::Memory) => return Err(FileError::Memory),
     };
     match check_defs(alloc, defs.as_slice()) {

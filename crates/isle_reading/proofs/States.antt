@@ -130,6 +130,11 @@ inside_close m ms l at q p =
     let e : nest q (Close at) ≡ record { marks = ms; last = Other } = ap (λ z. record { marks = closed z; last = Other }) p.stands in
     (subst (λ z. length z.marks ≤ most_open) (sym e) l, settled_inside ms (nest q (Close at)) e)
 
+pub close_behind : (m : Mark) (ms : List Mark) → length ms ≤ most_open → (at : ℕ) → Steps (Inside (m ∷ ms)) (Behind ms) (Close at)
+close_behind m ms l at q p =
+    let e : nest q (Close at) ≡ record { marks = ms; last = Other } = ap (λ z. record { marks = closed z; last = Other }) p.stands in
+    (subst (λ z. length z.marks ≤ most_open) (sym e) l, e)
+
 worded_here : (l : Last) (w : List ℕ) (ms : List Mark) → IsHeaded l → worded l w ms ≡ here_by l ms
 worded_here Headless w ms h = absurd h
 worded_here Awaiting w ms h = refl

@@ -364,3 +364,6 @@ pub ruleset next = (next_some, next_none)
 pub ruleset words = (word_got, word_stops)
 
 pub ruleset optionals = (optional_got, optional_other, optional_stops)
+
+-- what closes a loop that reads words which lead from state to state
+pub ruleset states = (words-more, words-end, words-stop, words-full)

@@ -69,8 +69,12 @@ pub enum Expected {
     Expression,
     /// A `$` and a name.
     Constant,
-    /// A word that only this grammar tells.
+    /// The second word of an `extern`.
     Keyword,
+    /// What opens nothing, since as many are open as may be.
+    Shallower,
+    /// The end of a comment.
+    CommentEnd,
     /// Something else.
     Other,
 }

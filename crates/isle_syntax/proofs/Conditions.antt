@@ -5,19 +5,20 @@ use Rattle.isle_lexer.specs.Lexeme.{Lexeme, Open, Close, At, Less, Greater, Word
 use Rattle.isle_reading.specs.Reader.{Ret, bind}
 use Rattle.isle_reading.specs.Combinators.{is_close, read_close, both}
 use Rattle.isle_reading.specs.Names.{NameS, symbol}
-use Rattle.isle_reading.specs.Nesting.{Mark, Round, most_open}
+use Rattle.isle_reading.specs.Nesting.{Mark, Round, Nest, most_open}
 use Rattle.isle_reading.specs.Relations.{Begins, Anything}
-use Rattle.isle_reading.proofs.Law.{Law, Heads, Nothing, Then, Either, law_map, law_then, law_next, law_less}
+use Rattle.isle_reading.proofs.Passes.{Steps}
+use Rattle.isle_reading.proofs.Law.{Law, Heads, Nothing, Then, Either, law_map, law_then, law_next, law_states}
 use Rattle.isle_reading.proofs.TokenLaws.{OpenS, CloseS, WordS, law_ret, law_open, law_close, law_word, law_peek, law_spent}
 use Rattle.isle_reading.proofs.ListLaws.{takes}
-use Rattle.isle_reading.proofs.States.{Inside, inside_open, inside_close, inside_word}
+use Rattle.isle_reading.proofs.States.{Inside, Behind, inside_open, inside_close, inside_word, close_behind, behind_inside}
 use Rattle.isle_reading.proofs.BothLaw.{law_both, both_less}
 use Rattle.isle_ast.specs.Tree.{Pattern, Patterns, Expr, Exprs, Lets, IfLet}
 use Rattle.isle_ast.specs.Tree as tree
 use Rattle.isle_syntax.specs.Grammar.{PatternS, word_pattern, bound, list, PatternsS, no_pattern, a_pattern, ExprS, word_expr, let_in, call, ExprsS, no_expr, an_expr, LetsS, no_let, a_let, IfHead, IsIfLet, IsIf, if_head, IfLetS, if_let, if_only, TailS, last, more}
 use Rattle.isle_syntax.specs.Reading.{read_expr, read_if_head, if_behind, read_iflet, read_form, behind_form, read_tail}
 use Rattle.isle_syntax.proofs.PatternLaws.{NoAt, law_pattern}
-use Rattle.isle_syntax.proofs.Expressions.{Closed, expr_heads, law_closed, law_expr, a_name, a_whole}
+use Rattle.isle_syntax.proofs.Expressions.{Closed, expr_heads, law_closed, law_expr, law_expr_behind, a_name, a_whole}
 
 -- ---- conditions
 
@@ -48,15 +49,15 @@ expr_no_at _ _ _ (word_expr at w e ts h) = (Word at w, ts, refl, refl)
 expr_no_at _ _ _ (let_in at n o c w ls e ts mid rest h m s) = (Open at, Word n w ∷ Open o ∷ ts, refl, refl)
 expr_no_at _ _ _ (call at n w f es ts rest h m) = (Open at, Word n w ∷ ts, refl, refl)
 
-law_condition : (n d : ℕ) (ms : List Mark) → suc (length ms) + suc d ≡ most_open → Law (Inside (Round ∷ ms)) (λ i. Inside (Round ∷ ms)) Anything n IfLetS (read_iflet n d)
+law_condition : (E : Nest → Type 0) (n d : ℕ) (ms : List Mark) → suc (length ms) + suc d ≡ most_open → ((at : ℕ) → Steps (Inside (Round ∷ Round ∷ ms)) E (Close at)) → Law (Inside (Round ∷ ms)) (λ i. E) Anything n IfLetS (read_iflet n d)
 unfolding read_iflet read_if_head
-law_condition n d ms e = law_map if_to if_from (law_next _ _ (law_open (inside_open (Round ∷ ms) tt (omega (arith, e)))) (λ o.
+law_condition E n d ms e closing = law_map if_to if_from (law_next _ _ (law_open (inside_open (Round ∷ ms) tt (omega (arith, e)))) (λ o.
     law_next _ _ (law_word if_head (codes "if", IsIf, refl) (inside_word (Round ∷ Round ∷ ms) if_head (omega (arith, e)))) law_behind))
   where
-    law_rhs : (p : Pattern) → Law {A = IfLet} (Inside (Round ∷ Round ∷ ms)) (λ i. Inside (Round ∷ ms)) Anything n (Then ExprS (λ e. Closed {A = IfLet} (record { lhs = p; rhs = e }))) (bind (read_expr n d) (λ e. bind read_close (λ c. Ret (record { lhs = p; rhs = e }))))
-    law_rhs p = law_next _ _ (law_expr n d (Round ∷ ms) (omega (arith, e))) (λ v. law_closed ms (omega (arith, e)) (record { lhs = p; rhs = v }))
+    law_rhs : (p : Pattern) → Law {A = IfLet} (Inside (Round ∷ Round ∷ ms)) (λ i. E) Anything n (Then ExprS (λ e. Closed {A = IfLet} (record { lhs = p; rhs = e }))) (bind (read_expr n d) (λ e. bind read_close (λ c. Ret (record { lhs = p; rhs = e }))))
+    law_rhs p = law_next _ _ (law_expr n d (Round ∷ ms) (omega (arith, e))) (λ v. law_closed ms closing (record { lhs = p; rhs = v }))
 
-    law_behind : (h : IfHead) → Law (Inside (Round ∷ Round ∷ ms)) (λ i. Inside (Round ∷ ms)) Anything n (IfBehind h) (if_behind n d h)
+    law_behind : (h : IfHead) → Law (Inside (Round ∷ Round ∷ ms)) (λ i. E) Anything n (IfBehind h) (if_behind n d h)
     law_behind IsIfLet = law_then _ _ (λ p i ts rest s c. expr_no_at s.0 ts s.1 s.2) (law_pattern n d (Round ∷ Round ∷ ms) tt (omega (arith, e))) law_rhs
     law_behind IsIf = law_rhs tree.Wildcard
 
@@ -152,15 +153,17 @@ most_two : 1 + suc (most_open - 2) ≡ most_open
 unfolding most_open
 most_two = refl
 
-few_open : 0 ≤ most_open
+few_open : 2 ≤ most_open
 unfolding most_open
 few_open = omega arith
 
-pub law_right : (n : ℕ) → Law (Inside (Round ∷ [])) (λ e. Inside (Round ∷ [])) Anything n ExprS (read_expr n (most_open - 1))
-law_right n = law_expr n (most_open - 1) [] most_one
+-- behind them no `@` is open whose pattern goes on
+pub law_right : (n : ℕ) → Law (Inside (Round ∷ [])) (λ e. Behind (Round ∷ [])) Anything n ExprS (read_expr n (most_open - 1))
+unfolding most_open
+law_right n = law_expr_behind n 254 [] most_two
 
-pub law_if : (n : ℕ) → Law (Inside (Round ∷ [])) (λ i. Inside (Round ∷ [])) Anything n IfLetS (read_iflet n (most_open - 2))
-law_if n = law_condition n (most_open - 2) [] most_two
+pub law_if : (n : ℕ) → Law (Inside (Round ∷ [])) (λ i. Behind (Round ∷ [])) Anything n IfLetS (read_iflet n (most_open - 2))
+law_if n = law_condition (Behind (Round ∷ [])) n (most_open - 2) [] most_two (close_behind Round (Round ∷ []) (omega (arith, few_open)))
 
 tail_ends : Begins Anything TailS []
 tail_ends = (Word 0 (codes "a") ∷ Close 0 ∷ [], ([], a_name), λ tail c. last 0 a_name (Word 0 (codes "a") ∷ Close 0 ∷ tail) tail (a_whole (Close 0 ∷ tail)))
@@ -171,16 +174,16 @@ law_tail n zero l = law_spent (λ x ts rest s. let y = tail_heads x ts rest s in
 law_tail n (suc k) l = law_map tail_to tail_from (law_forms (law_tail n k (omega (arith, l))))
   where
     closed : (v : Expr) → Law (Inside (Round ∷ [])) (λ x. Inside []) Anything k (LastS v) (bind read_close (λ c. Ret ([], v)))
-    closed v = law_next _ _ (law_close (inside_close Round [] few_open)) (λ c. law_ret ([], v) (λ q p. p))
+    closed v = law_next _ _ (law_close (inside_close Round [] (omega (arith, few_open)))) (λ c. law_ret ([], v) (λ q p. p))
 
     others : Law (Inside (Round ∷ [])) (λ x. Inside []) Anything k TailS (read_tail n k) → (i : IfLet) → Law (Inside (Round ∷ [])) (λ x. Inside []) Anything k (MoreS i) (bind (read_tail n k) (λ x. Ret (i ∷ x.0, x.1)))
     others ih i = law_next _ _ ih (λ x. law_ret (i ∷ x.0, x.1) (λ q p. p))
 
     law_e : Law (Inside (Round ∷ [])) (λ e. Inside (Round ∷ [])) Anything (suc k) ExprS (read_expr n (most_open - 1))
-    law_e = law_less (suc k) l (law_right n)
+    law_e = law_states (suc k) l (λ q p. p) (λ a q e. behind_inside (Round ∷ []) q e) (law_right n)
 
     law_i : Law (Inside (Round ∷ [])) (λ i. Inside (Round ∷ [])) Anything (suc k) IfLetS (read_iflet n (most_open - 2))
-    law_i = law_less (suc k) l (law_if n)
+    law_i = law_states (suc k) l (λ q p. p) (λ a q e. behind_inside (Round ∷ []) q e) (law_if n)
 
     law_forms : Law (Inside (Round ∷ [])) (λ x. Inside []) Anything k TailS (read_tail n k)
         → Law (Inside (Round ∷ [])) (λ x. Inside []) Anything (suc k) (Either (Then ExprS LastS) (Then IfLetS MoreS)) (bind (both (read_expr n (most_open - 1)) (read_iflet n (most_open - 2))) (behind_form (read_tail n k)))

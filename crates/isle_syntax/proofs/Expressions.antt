@@ -6,13 +6,14 @@ use Rattle.isle_lexer.specs.Word.{kind}
 use Rattle.isle_reading.specs.Reader.{Ret, bind}
 use Rattle.isle_reading.specs.Combinators.{is_open, is_close, read_open, read_close}
 use Rattle.isle_reading.specs.Names.{NameS, symbol, name_of}
-use Rattle.isle_reading.specs.Nesting.{Mark, Round, most_open}
+use Rattle.isle_reading.specs.Nesting.{Mark, Round, Nest, most_open}
 use Rattle.isle_reading.specs.Relations.{Begins, Anything, Many, none, more}
+use Rattle.isle_reading.proofs.Passes.{Steps}
 use Rattle.isle_reading.proofs.Law.{Law, Heads, Nothing, Then, Either, law_map, law_next}
-use Rattle.isle_reading.proofs.TokenLaws.{OpenS, CloseS, WordS, Gives, law_ret, law_open, law_close, law_word, law_peek, law_barred, law_walled}
+use Rattle.isle_reading.proofs.TokenLaws.{OpenS, CloseS, WordS, WordSteps, Gives, law_ret, law_open, law_close, law_word, law_peek, law_barred, law_walled}
 use Rattle.isle_reading.proofs.ListLaws.{law_many}
 use Rattle.isle_reading.proofs.NameLaws.{law_name, a_named, a_plain}
-use Rattle.isle_reading.proofs.States.{Inside, inside_open, inside_close, inside_word, inside_over}
+use Rattle.isle_reading.proofs.States.{Inside, Behind, inside_open, inside_close, inside_word, inside_over, close_behind, behind_word}
 use Rattle.isle_ast.specs.Tree.{Expr, Exprs, AnExpr, Lets, ALet}
 use Rattle.isle_ast.specs.Tree as tree
 use Rattle.isle_ast.specs.Views.{exprs_of, SeenBinding, lets_of}
@@ -89,8 +90,8 @@ an_expr_head = (codes "let", IsLet, refl)
 abbrev pub ExprLaw : ℕ → ℕ → Type 0
 ExprLaw n d = (ms : List Mark) → suc (length ms) + d ≡ most_open → Law (Inside (Round ∷ ms)) (λ e. Inside (Round ∷ ms)) Anything n ExprS (read_expr n d)
 
-pub law_closed : {A : Type 0} {n : ℕ} (ms : List Mark) → suc (length ms) ≤ most_open → (a : A) → Law (Inside (Round ∷ Round ∷ ms)) (λ a. Inside (Round ∷ ms)) Anything n (Closed a) (bind read_close (λ c. Ret a))
-law_closed ms l a = law_next _ _ (law_close (inside_close Round (Round ∷ ms) l)) (λ c. law_ret a (λ q p. p))
+pub law_closed : {A : Type 0} {n : ℕ} {E : Nest → Type 0} (ms : List Mark) → ((at : ℕ) → Steps (Inside (Round ∷ Round ∷ ms)) E (Close at)) → (a : A) → Law (Inside (Round ∷ Round ∷ ms)) (λ a. E) Anything n (Closed a) (bind read_close (λ c. Ret a))
+law_closed ms closing a = law_next _ _ (law_close closing) (λ c. law_ret a (λ q p. p))
 
 list_heads : (e : Expr) (ts rest : List Lexeme) → ListE e ts rest → Anything rest → Heads is_open true ts
 list_heads e ts rest s c = (Open s.0, s.1, s.2, refl)
@@ -104,9 +105,9 @@ a_name = tree.Name (codes "a")
 pub a_whole : (tail : List Lexeme) → ExprS a_name (Word 0 (codes "a") ∷ tail) tail
 a_whole tail = word_expr 0 (codes "a") a_name tail (ap (expr_of (codes "a")) a_plain)
 
-law_leaf : (n : ℕ) (ms : List Mark) → suc (length ms) ≤ most_open → Law (Inside (Round ∷ ms)) (λ e. Inside (Round ∷ ms)) Anything n (WordS leaf_of) read_leaf
+law_leaf : {E : Nest → Type 0} (n : ℕ) (ms : List Mark) → WordSteps (Inside (Round ∷ ms)) (λ e. E) leaf_of → Law (Inside (Round ∷ ms)) (λ e. E) Anything n (WordS leaf_of) read_leaf
 unfolding read_leaf
-law_leaf n ms l = law_word leaf_of (codes "a", a_name, ap (expr_of (codes "a")) a_plain) (inside_word (Round ∷ ms) leaf_of l)
+law_leaf n ms steps = law_word leaf_of (codes "a", a_name, ap (expr_of (codes "a")) a_plain) steps
 
 binding_ends : Begins Anything BindingS []
 binding_ends = (
@@ -129,7 +130,7 @@ law_binding n zero h ms e = law_walled is_open (λ b ts rest s c. (Open s.0, s.1
 law_binding n (suc d) h ms e =
     law_next _ _ (law_open (inside_open (Round ∷ ms) tt (omega (arith, e)))) (λ o.
     law_next _ _ (law_name (inside_word (Round ∷ Round ∷ ms) name_of (omega (arith, e)))) (λ x. law_next _ _ (law_name (inside_word (Round ∷ Round ∷ ms) name_of (omega (arith, e)))) (λ t.
-    law_next _ _ (h d refl (Round ∷ ms) (omega (arith, e))) (λ v. law_closed ms (omega (arith, e)) ((x, t, v))))))
+    law_next _ _ (h d refl (Round ∷ ms) (omega (arith, e))) (λ v. law_closed ms (inside_close Round (Round ∷ ms) (omega (arith, e))) (x, t, v)))))
 
 law_bindings : (n d : ℕ) → ((k : ℕ) → d ≡ suc (suc k) → ExprLaw n k) → (ms : List Mark) → suc (length ms) + d ≡ most_open → Law (Inside (Round ∷ ms)) (λ ls. Inside (Round ∷ ms)) Anything n BindingsS (read_bindings n d)
 unfolding read_expr
@@ -138,22 +139,23 @@ law_bindings n (suc d) h ms e =
     law_next _ _ (law_open (inside_open (Round ∷ ms) tt (omega (arith, e)))) (λ o.
     law_many {C = Anything} (Inside (Round ∷ ms)) n BindingS (read_binding n d) (law_binding n d (λ k f. h k (ap suc f)) (Round ∷ ms) (omega (arith, e))) (λ b ts rest s. tt) (λ at ts. tt) binding_heads (inside_close Round (Round ∷ ms) (omega (arith, e))) n (omega arith))
 
-law_list : (n d : ℕ) → ((k : ℕ) → k ≤ d → ExprLaw n k) → (ms : List Mark) → suc (length ms) + suc d ≡ most_open
-    → Law (Inside (Round ∷ ms)) (λ e. Inside (Round ∷ ms)) Anything n ListE (bind read_open (λ o. bind read_expr_head (λ h. expr_behind n (read_expr n d) (read_bindings n d) h)))
+law_list : (E : Nest → Type 0) (n d : ℕ) → ((k : ℕ) → k ≤ d → ExprLaw n k) → (ms : List Mark) → suc (length ms) + suc d ≡ most_open → ((at : ℕ) → Steps (Inside (Round ∷ Round ∷ ms)) E (Close at))
+    → Law (Inside (Round ∷ ms)) (λ e. E) Anything n ListE (bind read_open (λ o. bind read_expr_head (λ h. expr_behind n (read_expr n d) (read_bindings n d) h)))
 unfolding read_expr_head
-law_list n d h ms e = law_next _ _ (law_open (inside_open (Round ∷ ms) tt (omega (arith, e)))) (λ o. law_next _ _ (law_word expr_head an_expr_head (inside_word (Round ∷ Round ∷ ms) expr_head (omega (arith, e)))) law_behind)
+law_list E n d h ms e closing = law_next _ _ (law_open (inside_open (Round ∷ ms) tt (omega (arith, e)))) (λ o. law_next _ _ (law_word expr_head an_expr_head (inside_word (Round ∷ Round ∷ ms) expr_head (omega (arith, e)))) law_behind)
   where
-    law_behind : (x : ExprHead) → Law (Inside (Round ∷ Round ∷ ms)) (λ e. Inside (Round ∷ ms)) Anything n (BehindS x) (expr_behind n (read_expr n d) (read_bindings n d) x)
+    law_behind : (x : ExprHead) → Law (Inside (Round ∷ Round ∷ ms)) (λ e. E) Anything n (BehindS x) (expr_behind n (read_expr n d) (read_bindings n d) x)
     law_behind IsLet = law_next _ _ (law_bindings n d (λ k f. h k (omega (arith, f))) (Round ∷ ms) (omega (arith, e))) (λ ls.
-        law_next _ _ (h d (omega arith) (Round ∷ ms) (omega (arith, e))) (λ v. law_closed ms (omega (arith, e)) (tree.Let (lets_of ls) v)))
+        law_next _ _ (h d (omega arith) (Round ∷ ms) (omega (arith, e))) (λ v. law_closed ms closing (tree.Let (lets_of ls) v)))
     law_behind (IsCall w) = law_next _ _
-        (law_many {C = Anything} (Inside (Round ∷ ms)) n ExprS (read_expr n d) (h d (omega arith) (Round ∷ ms) (omega (arith, e))) (λ e ts rest s. tt) (λ at ts. tt) expr_heads (inside_close Round (Round ∷ ms) (omega (arith, e))) n (omega arith))
+        (law_many {C = Anything} E n ExprS (read_expr n d) (h d (omega arith) (Round ∷ ms) (omega (arith, e))) (λ e ts rest s. tt) (λ at ts. tt) expr_heads closing n (omega arith))
         (λ es. law_ret (tree.Call w (exprs_of es)) (λ q p. p))
 
 law_level : (n d : ℕ) → ((k : ℕ) → suc k ≤ d → ExprLaw n k) → ExprLaw n d
 unfolding read_expr
-law_level n zero h ms e = law_map expr_to expr_from (law_barred is_open _ list_heads word_heads (inside_over (Round ∷ ms) tt (omega (arith, e))) (law_leaf n ms (omega (arith, e))))
-law_level n (suc d) h ms e = law_map expr_to expr_from (law_peek is_open _ _ list_heads word_heads (law_list n d (λ k l. h k (omega (arith, l))) ms e) (law_leaf n ms (omega (arith, e))))
+law_level n zero h ms e = law_map expr_to expr_from (law_barred is_open _ list_heads word_heads (inside_over (Round ∷ ms) tt (omega (arith, e))) (law_leaf n ms (inside_word (Round ∷ ms) leaf_of (omega (arith, e)))))
+law_level n (suc d) h ms e = law_map expr_to expr_from (law_peek is_open _ _ list_heads word_heads
+    (law_list (Inside (Round ∷ ms)) n d (λ k l. h k (omega (arith, l))) ms e (inside_close Round (Round ∷ ms) (omega (arith, e)))) (law_leaf n ms (inside_word (Round ∷ ms) leaf_of (omega (arith, e)))))
 
 law_below : (n d k : ℕ) → k ≤ d → ExprLaw n k
 law_below n zero k l = law_level n k (λ j m. absurd (omega (arith, l, m)))
@@ -161,3 +163,9 @@ law_below n (suc d) k l = law_level n k (λ j m. law_below n d j (omega (arith, 
 
 pub law_expr : (n d : ℕ) → ExprLaw n d
 law_expr n d = law_below n d d (omega arith)
+
+-- behind an expression no `@` is open whose pattern goes on
+pub law_expr_behind : (n d : ℕ) (ms : List Mark) → suc (length ms) + suc d ≡ most_open → Law (Inside (Round ∷ ms)) (λ e. Behind (Round ∷ ms)) Anything n ExprS (read_expr n (suc d))
+unfolding read_expr
+law_expr_behind n d ms e = law_map expr_to expr_from (law_peek is_open _ _ list_heads word_heads
+    (law_list (Behind (Round ∷ ms)) n d (λ k l. law_below n d k l) ms e (close_behind Round (Round ∷ ms) (omega (arith, e)))) (law_leaf n ms (behind_word (Round ∷ ms) leaf_of (omega (arith, e)))))

@@ -8,3 +8,13 @@ pub mod DefinitionForms
 pub mod Definitions
 pub mod Files
 pub mod SpeltOnce
+pub mod WordSteps
+pub mod Constants
+pub mod PatternSteps
+pub mod ExpressionSteps
+pub mod PassedSteps
+pub mod TypeSteps
+pub mod FormSteps
+pub mod DefinitionSteps
+pub mod Within
+pub mod TailSteps

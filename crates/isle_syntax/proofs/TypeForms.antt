@@ -42,7 +42,7 @@ law_a_name n ms l = law_name (inside_word (Round ∷ ms) name_of l)
 law_field : (n : ℕ) (ms : List Mark) → suc (suc (length ms)) ≤ most_open → Law (Inside (Round ∷ ms)) (λ x. Inside (Round ∷ ms)) Anything n FieldS read_field
 unfolding read_field
 law_field n ms l = law_map field_to field_from (law_next _ _ (law_open (inside_open (Round ∷ ms) tt l)) (λ o.
-    law_next _ _ (law_a_name n (Round ∷ ms) l) (λ f. law_next _ _ (law_a_name n (Round ∷ ms) l) (λ t. law_closed ms (omega (arith, l)) (f, t)))))
+    law_next _ _ (law_a_name n (Round ∷ ms) l) (λ f. law_next _ _ (law_a_name n (Round ∷ ms) l) (λ t. law_closed ms (inside_close Round (Round ∷ ms) (omega (arith, l))) (f, t)))))
 
 -- ---- shape )
 
@@ -110,7 +110,7 @@ law_types k ms l = law_next _ _
 law_shape : (n : ℕ) (ms : List Mark) → suc (suc (suc (length ms))) ≤ most_open → Law (Inside (Round ∷ Round ∷ ms)) (λ fs. Inside (Round ∷ ms)) Anything n ShapeS (read_shape n)
 unfolding read_shape
 law_shape zero ms l = law_spent shape_some (Close 0 ∷ [], fields.Unit, λ tail c. unit 0 tail)
-law_shape (suc k) ms l = law_map shape_to shape_from (law_peek is_close _ _ (λ x ts rest s c. (Close s.0, s.1, s.2, refl)) (λ x ts rest s c. some_heads x ts rest s) (law_closed ms (omega (arith, l)) fields.Unit)
+law_shape (suc k) ms l = law_map shape_to shape_from (law_peek is_close _ _ (λ x ts rest s c. (Close s.0, s.1, s.2, refl)) (λ x ts rest s c. some_heads x ts rest s) (law_closed ms (inside_close Round (Round ∷ ms) (omega (arith, l))) fields.Unit)
     (law_peek is_open _ _ (λ x ts rest s c. field_open s.2.0 ts s.2.1 s.2.2) (λ x ts rest s c. name_no_open s.2.0 ts s.2.1 s.2.2) (law_fields k ms l) (law_types k ms l)))
 
 -- ---- V or ( V shape )
@@ -177,7 +177,7 @@ law_body n = law_map body_to body_from (law_next _ _ (law_open (inside_open (Rou
     law_next _ _ (law_word body_head (codes "enum", IsEnum, refl) (inside_word (Round ∷ Round ∷ []) body_head (omega (arith, four_open)))) law_behind))
   where
     law_behind : (h : BodyHead) → Law (Inside (Round ∷ Round ∷ [])) (λ b. Inside (Round ∷ [])) Anything n (BodyBehind h) (body_behind n h)
-    law_behind IsPrimitive = law_next _ _ (law_a_name n (Round ∷ []) (omega (arith, four_open))) (λ name. law_closed [] (omega (arith, four_open)) (body.Primitive name))
+    law_behind IsPrimitive = law_next _ _ (law_a_name n (Round ∷ []) (omega (arith, four_open))) (λ name. law_closed [] (inside_close Round (Round ∷ []) (omega (arith, four_open))) (body.Primitive name))
     law_behind IsEnum = law_next _ _
         (law_many {C = Anything} (Inside (Round ∷ [])) n VariantS (read_variant n) (law_variant n (Round ∷ []) (omega (arith, four_open))) (λ v ts rest s. tt) (λ at ts. tt) variant_heads (inside_close Round (Round ∷ []) (omega (arith, four_open))) n (omega arith))
         (λ vs. law_ret (body.Enum vs) (λ q p. p))

@@ -57,6 +57,27 @@ read_pattern n zero = Peek is_open Halt (bind read_first (suffix (λ x. Halt)))
 read_pattern n (suc d) = Peek is_open (bind read_open (λ o. bind read_pattern_head (λ h. bind (many n (read_pattern n d)) (λ ps. Ret (listed h (patterns_of ps))))))
     (bind read_first (suffix (λ x. bind read_at (λ a. bind (read_pattern n d) (λ p. Ret (tree.Bind x p))))))
 
+-- behind an `@`, where d more may be open
+unfoldable pub read_binds : ℕ → ℕ → List ℕ → Reader Pattern
+read_binds n zero x = Halt
+read_binds n (suc d) x = bind read_at (λ a. bind (read_pattern n d) (λ p. Ret (tree.Bind x p)))
+
+-- behind the symbol that a pattern begins with
+unfoldable pub read_symbol : ℕ → ℕ → List ℕ → Reader Pattern
+read_symbol n d x = Peek is_at (read_binds n d x) (Ret (symbol_of x (kind x)))
+
+-- a pattern that begins with a word
+unfoldable pub read_worded : ℕ → ℕ → Reader Pattern
+read_worded n d = bind read_first (suffix (read_binds n d))
+
+-- a pattern's list, whose patterns are read so
+unfoldable pub read_listed : ℕ → Reader Pattern → Reader Pattern
+read_listed n r = bind read_open (λ o. bind read_pattern_head (λ h. bind (many n r) (λ ps. Ret (listed h (patterns_of ps)))))
+
+-- what a word of this kind is that begins with `$`
+abbrev pub constant_first : Option (List ℕ) → Option First
+constant_first o = option_map (λ name. Leaf (tree.Const name)) o
+
 -- ---- expressions
 
 -- an expression of one word
@@ -87,6 +108,14 @@ unfoldable mutual
   read_binding n zero = Peek is_open Halt refuse
   read_binding n (suc d) = bind read_open (λ o. bind read_name (λ x. bind read_name (λ t. bind (read_expr n d) (λ e. bind read_close (λ c. Ret (x, t, e))))))
 
+-- behind ( let
+unfoldable pub read_let : ℕ → ℕ → Reader Expr
+read_let n d = bind (read_bindings n d) (λ ls. bind (read_expr n d) (λ e. bind read_close (λ c. Ret (tree.Let (lets_of ls) e))))
+
+-- an expression's list
+unfoldable pub read_form_list : ℕ → ℕ → Reader Expr
+read_form_list n d = bind read_open (λ o. bind read_expr_head (λ h. expr_behind n (read_expr n d) (read_bindings n d) h))
+
 -- ---- conditions, and a rule's right side
 
 unfoldable pub read_if_head : Reader IfHead
@@ -114,6 +143,23 @@ behind_form others (BothGot e i) = Peek is_close (bind read_close (λ c. Ret ([]
 unfoldable pub read_tail : ℕ → ℕ → Reader (List IfLet × Expr)
 read_tail n zero = End refuse Halt
 read_tail n (suc k) = bind (read_form n) (behind_form (read_tail n k))
+
+-- what a form behind a rule's head is, by what follows it
+pub data Step : Type 0 where
+  Last : Expr → Step
+  More : IfLet → Step
+
+-- the last form, and the parenthesis behind it
+abbrev pub last_of : Expr → Reader Step
+last_of e = bind read_close (λ c. Ret (Last e))
+
+abbrev pub settled : Both Expr IfLet → Reader Step
+settled (OnlyFirst e) = last_of e
+settled (OnlySecond i) = Ret (More i)
+settled (BothGot e i) = Peek is_close (last_of e) (Ret (More i))
+
+unfoldable pub read_step : ℕ → Reader Step
+read_step n = bind (read_form n) settled
 
 -- ---- what types are declared as
 
@@ -150,6 +196,11 @@ read_body n = bind read_open (λ o. bind read_body_head (λ h. body_behind n h))
 -- a token that is no parenthesis
 unfoldable pub read_token : Reader Any
 read_token = Ask (λ t. is_some (any_of t)) (λ t. given (any_of t))
+
+-- the thing that is next
+abbrev pub next_any : List Lexeme → Option Any
+next_any [] = None
+next_any (t ∷ ts) = any_of t
 
 -- a thing inside which d more parentheses may be open
 unfoldable pub read_any : ℕ → ℕ → Reader Any

@@ -1,4 +1,16 @@
 //! Rule texts: the definitions that they spell.
 #![tactic(auto)]
 
-pub fn nothing() {}
+mod body;
+mod definition;
+mod expression;
+mod externs;
+mod flags;
+mod iflet;
+mod parser;
+mod passed;
+mod pattern;
+mod words;
+
+pub use isle_reading::Expected;
+pub use parser::{Mismatch, ParseFail, parse, parse_text};

@@ -5,9 +5,9 @@ use Rattle.isle_ast.specs.Views.{defs, def}
 use Rattle.isle_codegen.proofs.Sources.{source_next, source_once, source_none, source_all}
 use Rattle.isle_codegen.proofs.source.parse_all.Goals as goal
 
-pub returns-in-Err-clause-not_yet : goal.returns-in-Err-clause-not_yet
-returns-in-Err-clause-not_yet c = λ e.
-    source_none c.args.texts.now c.loop-file.file c.index-texts-file.result c.loop-file-test.true c.index-texts-file.is (λ es s. c.in-Err.ensures.not_yet e es (rw c.as_str.ensures s))
+pub returns-in-Err-clause-none : goal.returns-in-Err-clause-none
+returns-in-Err-clause-none c = λ at m e.
+    source_none c.args.texts.now c.loop-file.file c.index-texts-file.result c.loop-file-test.true c.index-texts-file.is (λ es s. c.in-Err.ensures.none at m e es (rw c.as_str.ensures s))
 
 pub loop-file-preserved : goal.loop-file-preserved
 loop-file-preserved c =

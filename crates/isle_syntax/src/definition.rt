@@ -1,0 +1,281 @@
+ghost use Rattle.std.specs.Prelude.{◌≡◌, ◌≤◌, length, map, IfOk, option_map};
+ghost use Rattle.isle_reading.specs.Combinators.{next_word, all};
+ghost use Rattle.isle_reading.specs.Views.{left, Reads};
+ghost use Rattle.isle_ast.specs.Views.{def, defs, pattern};
+ghost use Rattle.isle_syntax.specs.Reading.{read_type, read_declared, read_decl, read_extractor, read_convert, read_parts, read_rule, read_passed, head_of, read_head, read_behind, read_def, read_file};
+ghost use Rattle.isle_syntax.specs.ReadingViews.{flags_seen, head_seen};
+
+use crate::body::{body, names};
+use crate::externs::external;
+use crate::flags::{Flags, read_flags, read_marks};
+use crate::iflet::tail;
+use crate::passed::passed_items;
+use crate::pattern::{arguments, template};
+use crate::words::{decl_name, prio, rule_name};
+use isle_ast::{AstPattern, Def};
+use isle_core::{List, Pos, Text};
+use isle_reading::{Expected, Fail, Tokens};
+use std::alloc::{AllocError, Global};
+
+/// What a definition is, by the word that it begins with.
+#[derive(Drop)]
+enum Head {
+    Type,
+    Decl,
+    Rule,
+    Extern,
+    Extractor,
+    Convert,
+    /// A list that is passed over, with that word.
+    Passed(Text),
+}
+
+// What a definition is that begins with the word.
+fn head_of(alloc: Global, word: &str) -> Result<Option<Head>, AllocError>
+    ensures { IfOk result (λ read. option_map head_seen read ≡ head_of word.now) }
+{
+    match word {
+        "type" => Ok(Some(Head::Type)),
+        "decl" => Ok(Some(Head::Decl)),
+        "rule" => Ok(Some(Head::Rule)),
+        "extern" => Ok(Some(Head::Extern)),
+        "extractor" => Ok(Some(Head::Extractor)),
+        "convert" => Ok(Some(Head::Convert)),
+        "spec" | "model" | "form" | "instantiate" | "attr" | "state" => {
+            Ok(Some(Head::Passed(Text::copied(alloc, word)?)))
+        }
+        _ => Ok(None),
+    }
+}
+
+// What a definition is, by the word that is next.
+#[tactic(auto, using(isle_reading::proofs::Steps::next))]
+fn next_head(tokens: &Tokens<'_>, alloc: Global) -> Result<Option<Head>, AllocError>
+    ensures { IfOk result (λ next. option_map head_seen next ≡ next_word head_of (left tokens.now)) }
+{
+    match tokens.word() {
+        Some(word) => head_of(alloc, word),
+        None => Ok(None),
+    }
+}
+
+// What a definition is.
+#[tactic(auto, using(isle_reading::proofs::Steps::words), unfolding(crate::specs::Reading::read_head))]
+fn read_head(tokens: &mut Tokens<'_>, alloc: Global) -> Result<Head, Fail>
+    ensures { Reads head_seen result read_head (left tokens.old) (left tokens.new) }
+{
+    match next_head(tokens, alloc)? {
+        Some(head) => {
+            tokens.skip();
+            Ok(head)
+        }
+        None => Err(tokens.miss(Expected::Head)),
+    }
+}
+
+// What stands behind `( type`, for the definition at that place.
+#[tactic(auto, using(isle_reading::proofs::Steps::chain), unfolding(crate::specs::Reading::read_type))]
+fn type_decl(tokens: &mut Tokens<'_>, alloc: Global, most: usize, pos: Pos) -> Result<Def, Fail>
+    ensures { Reads def result (read_type most pos.file pos.offset) (left tokens.old) (left tokens.new) }
+{
+    let name = tokens.name_as(alloc, Expected::Type)?;
+    let marks = read_marks(tokens)?;
+    let body = body(tokens, alloc, most)?;
+    tokens.close()?;
+    Ok(Def::TypeDecl {
+        name,
+        is_extern: marks.is_extern,
+        is_nodebug: marks.is_nodebug,
+        body,
+        pos,
+    })
+}
+
+// What stands behind the flags of `( decl`, for the definition at that place.
+#[tactic(auto, using(isle_reading::proofs::Steps::chain), unfolding(crate::specs::Reading::read_declared))]
+fn declared(
+    tokens: &mut Tokens<'_>,
+    alloc: Global,
+    most: usize,
+    pos: Pos,
+    flags: Flags,
+) -> Result<Def, Fail>
+    ensures { Reads def result (read_declared most pos.file pos.offset (flags_seen flags)) (left tokens.old) (left tokens.new) }
+{
+    let term = decl_name(tokens, alloc)?;
+    tokens.open()?;
+    let args = names(tokens, alloc, most, Expected::Type)?;
+    let ret = tokens.name_as(alloc, Expected::Type)?;
+    tokens.close()?;
+    Ok(Def::Decl {
+        term,
+        pure: flags.pure,
+        multi: flags.multi,
+        partial: flags.partial,
+        recursive: flags.recursive,
+        args: List::new(args),
+        ret,
+        pos,
+    })
+}
+
+// What stands behind `( decl`, for the definition at that place.
+#[tactic(auto, using(isle_reading::proofs::Steps::chain), unfolding(crate::specs::Reading::read_decl))]
+fn decl(tokens: &mut Tokens<'_>, alloc: Global, most: usize, pos: Pos) -> Result<Def, Fail>
+    ensures { Reads def result (read_decl most pos.file pos.offset) (left tokens.old) (left tokens.new) }
+{
+    let flags = read_flags(tokens)?;
+    declared(tokens, alloc, most, pos, flags)
+}
+
+// What stands behind `( extractor`, for the definition at that place.
+#[tactic(auto, using(isle_reading::proofs::Steps::chain), unfolding(crate::specs::Reading::read_extractor))]
+fn extractor(tokens: &mut Tokens<'_>, alloc: Global, most: usize, pos: Pos) -> Result<Def, Fail>
+    ensures { Reads def result (read_extractor most pos.file pos.offset) (left tokens.old) (left tokens.new) }
+{
+    tokens.open()?;
+    let term = tokens.name(alloc)?;
+    let params = names(tokens, alloc, most, Expected::Name)?;
+    let template = template(tokens, alloc, most)?;
+    tokens.close()?;
+    Ok(Def::Extractor {
+        term,
+        params: List::new(params),
+        template,
+        pos,
+    })
+}
+
+// What stands behind `( convert`, for the definition at that place.
+#[tactic(auto, using(isle_reading::proofs::Steps::chain), unfolding(crate::specs::Reading::read_convert))]
+fn convert(tokens: &mut Tokens<'_>, alloc: Global, pos: Pos) -> Result<Def, Fail>
+    ensures { Reads def result (read_convert pos.file pos.offset) (left tokens.old) (left tokens.new) }
+{
+    let from = tokens.name_as(alloc, Expected::Type)?;
+    let to = tokens.name_as(alloc, Expected::Type)?;
+    let term = tokens.name(alloc)?;
+    tokens.close()?;
+    Ok(Def::Converter {
+        from,
+        to,
+        term,
+        pos,
+    })
+}
+
+// A rule's head: a term, and the patterns of its arguments.
+#[tactic(auto, using(isle_reading::proofs::Steps::chain), unfolding(crate::specs::Reading::read_parts))]
+fn parts(
+    tokens: &mut Tokens<'_>,
+    alloc: Global,
+    most: usize,
+) -> Result<(Text, Vec<AstPattern>), Fail>
+    ensures { Reads (λ parts. (parts.0, map pattern parts.1.items)) result (read_parts most) (left tokens.old) (left tokens.new) }
+{
+    tokens.open()?;
+    let term = tokens.name(alloc)?;
+    let args = arguments(tokens, alloc, most)?;
+    Ok((term, args))
+}
+
+// What stands behind `( rule`, for the definition at that place.
+#[tactic(auto, using(isle_reading::proofs::Steps::chain), unfolding(crate::specs::Reading::read_rule))]
+fn rule(tokens: &mut Tokens<'_>, alloc: Global, most: usize, pos: Pos) -> Result<Def, Fail>
+    requires { length (left tokens.old) ≤ most }
+    ensures { Reads def result (read_rule most pos.file pos.offset) (left tokens.old) (left tokens.new) }
+{
+    let name = rule_name(tokens, alloc)?;
+    let prio = prio(tokens)?;
+    let (term, args) = parts(tokens, alloc, most)?;
+    let (iflets, rhs) = tail(tokens, alloc, most)?;
+    Ok(Def::Rule {
+        name,
+        prio,
+        term,
+        args: List::new(args),
+        iflets: List::new(iflets),
+        rhs,
+        pos,
+    })
+}
+
+// What stands behind the first word of a list that is passed over, at that place.
+#[tactic(auto, using(isle_reading::proofs::Steps::chain), unfolding(crate::specs::Reading::read_passed))]
+fn passed(
+    tokens: &mut Tokens<'_>,
+    alloc: Global,
+    most: usize,
+    pos: Pos,
+    head: Text,
+) -> Result<Def, Fail>
+    ensures { Reads def result (read_passed most pos.file pos.offset head) (left tokens.old) (left tokens.new) }
+{
+    let items = passed_items(tokens, alloc, most)?;
+    Ok(Def::Passed {
+        head,
+        items: List::new(items),
+        pos,
+    })
+}
+
+// What stands behind the head of the definition at that place.
+fn behind(
+    tokens: &mut Tokens<'_>,
+    alloc: Global,
+    most: usize,
+    pos: Pos,
+    head: Head,
+) -> Result<Def, Fail>
+    requires { length (left tokens.old) ≤ most }
+    ensures { Reads def result (read_behind most pos.file pos.offset (head_seen head)) (left tokens.old) (left tokens.new) }
+{
+    match head {
+        Head::Type => type_decl(tokens, alloc, most, pos),
+        Head::Decl => decl(tokens, alloc, most, pos),
+        Head::Rule => rule(tokens, alloc, most, pos),
+        Head::Extern => external(tokens, alloc, pos),
+        Head::Extractor => extractor(tokens, alloc, most, pos),
+        Head::Convert => convert(tokens, alloc, pos),
+        Head::Passed(word) => passed(tokens, alloc, most, pos, word),
+    }
+}
+
+/// Reads a definition of the file of that number, its lists of at most `most` tokens.
+#[tactic(auto, using(isle_reading::proofs::Steps::chain), unfolding(crate::specs::Reading::read_def))]
+pub fn definition(
+    tokens: &mut Tokens<'_>,
+    alloc: Global,
+    most: usize,
+    file: usize,
+) -> Result<Def, Fail>
+    requires { length (left tokens.old) ≤ most }
+    ensures { Reads def result (read_def most file) (left tokens.old) (left tokens.new) }
+{
+    let offset = tokens.open()?;
+    let head = read_head(tokens, alloc)?;
+    behind(tokens, alloc, most, Pos { file, offset }, head)
+}
+
+/// Reads the definitions of a file of at most `most` tokens, up to its end.
+#[tactic(auto, using(isle_reading::proofs::ListSteps::alls))]
+pub fn file_of(
+    tokens: &mut Tokens<'_>,
+    alloc: Global,
+    most: usize,
+    file: usize,
+) -> Result<Vec<Def>, Fail>
+    requires { length (left tokens.old) ≤ most }
+    ensures { Reads (λ read. defs read.items) result (read_file most file) (left tokens.old) (left tokens.new) }
+{
+    let mut definitions = Vec::new(alloc);
+    for _ in 0..most {
+        if tokens.len() == 0 {
+            return Ok(definitions);
+        }
+        definitions.push(definition(tokens, alloc, most, file)?)?;
+    }
+    if tokens.len() == 0 {
+        return Ok(definitions);
+    }
+    Err(tokens.miss(Expected::Definition))
+}
