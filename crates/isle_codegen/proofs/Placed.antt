@@ -9,7 +9,7 @@ use Rattle.isle_core.specs.Rule.{Environment}
 use Rattle.isle_core.proofs.Contained.{contained_cases, none_contained}
 use Rattle.isle_ast.specs.Tree.{Def}
 use Rattle.isle_ast.specs.Positions.{place_of, AreWithin}
-use Rattle.isle_syntax.proofs.Within.{spelt_within}
+use Rattle.isle_grammar.proofs.Within.{spelt_within}
 use Rattle.isle_sema.specs.Typing.{Typed}
 use Rattle.isle_sema.proofs.TypedTerms.{typed_places}
 use Rattle.isle_codegen.specs.Source.{Source}

@@ -2,8 +2,8 @@
 use Rattle.std.proofs.Common.{◌≡◌, ℕ, zero, suc, ◌+◌, ◌<◌, ◌≤◌, List, [], ◌∷◌, ◌++◌, length, take, get_or, refl, sym, ap, ◌∙◌, subst, append_assoc, append-nil, arith}
 use Rattle.std.proofs.lemmas.List.{take_more, take_all}
 use Rattle.isle_ast.specs.Tree.{Def}
-use Rattle.isle_syntax.specs.Spelling.{Spells}
-use Rattle.isle_syntax.proofs.SpeltOnce.{spelt_once}
+use Rattle.isle_grammar.specs.Spelling.{Spells}
+use Rattle.isle_grammar.proofs.SpeltOnce.{spelt_once}
 use Rattle.isle_codegen.specs.Source.{Source}
 
 -- one text more

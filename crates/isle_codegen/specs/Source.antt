@@ -2,7 +2,7 @@
 use Rattle.std.specs.Prelude.{◌≡◌, ℕ, ◌+◌, List, [], ◌∷◌, ◌++◌, true}
 use Rattle.isle_core.specs.Rule.{Environment}
 use Rattle.isle_ast.specs.Tree.{Def}
-use Rattle.isle_syntax.specs.Spelling.{Spells}
+use Rattle.isle_grammar.specs.Spelling.{Spells}
 use Rattle.isle_sema.specs.Typing.{Typed}
 use Rattle.isle_codegen.specs.Names.{are_term_names}
 use Rattle.isle_simulation.specs.TraitFns.{HasFnNames}

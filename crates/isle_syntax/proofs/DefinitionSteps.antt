@@ -4,7 +4,7 @@ use Rattle.isle_lexer.specs.Lexeme.{Lexeme}
 use Rattle.isle_reading.specs.Reader.{run}
 use Rattle.isle_reading.specs.Views.{closes, stops}
 use Rattle.isle_reading.proofs.Steps.{close_peek, no_close_peek, peek_stops}
-use Rattle.isle_syntax.specs.Reading.{read_fallible, read_infallible, extractor_behind}
+use Rattle.isle_grammar.specs.Reading.{read_fallible, read_infallible, extractor_behind}
 
 -- the first is a term's
 pub two_plain : (file at : ℕ) (b : Bool) (term func : List ℕ) (ts : List Lexeme) → b ≡ false → run (extractor_behind file at b term func) ts ≡ run (read_fallible file at term func) ts

@@ -7,8 +7,8 @@ use Rattle.isle_reading.specs.Combinators.{given, read_open, many}
 use Rattle.isle_reading.specs.Views.{opens, stops}
 use Rattle.isle_reading.proofs.Steps.{passed, open_peek, other_peek, barred_stops}
 use Rattle.isle_reading.proofs.ListSteps.{in_front-nil, list-full}
-use Rattle.isle_syntax.specs.Grammar.{any_of}
-use Rattle.isle_syntax.specs.Reading.{next_any, read_token, read_any}
+use Rattle.isle_grammar.specs.Grammar.{any_of}
+use Rattle.isle_grammar.specs.Reading.{next_any, read_token, read_any}
 use Rattle.isle_ast.specs.Tree.{Any}
 use Rattle.isle_ast.specs.Tree as tree
 use Rattle.isle_ast.specs.Views.{anys_of}

@@ -12,7 +12,7 @@ use Rattle.isle_reading.proofs.ListSteps.{some-by}
 use Rattle.isle_ast.specs.declared.tree.AstFields.{AstFields}
 use Rattle.isle_ast.specs.declared.tree.AstFields.TheVariants as fields
 use Rattle.isle_ast.specs.declared.tree.AstVariant.{AstVariant}
-use Rattle.isle_syntax.specs.Reading.{read_field, read_shape, read_shaped, read_variant}
+use Rattle.isle_grammar.specs.Reading.{read_field, read_shape, read_shaped, read_variant}
 
 -- ---- the ends of lists
 

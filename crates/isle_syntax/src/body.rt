@@ -2,8 +2,8 @@ ghost use Rattle.std.specs.Prelude.{◌≡◌, map, option_map};
 ghost use Rattle.isle_reading.specs.Combinators.{next_word, many};
 ghost use Rattle.isle_reading.specs.Names.{read_name};
 ghost use Rattle.isle_reading.specs.Views.{left, Reads};
-ghost use Rattle.isle_syntax.specs.Grammar.{body_head};
-ghost use Rattle.isle_syntax.specs.Reading.{read_field, read_shape, read_shaped, read_variant, read_body_head, body_behind, read_body};
+ghost use Rattle.isle_grammar.specs.Grammar.{body_head};
+ghost use Rattle.isle_grammar.specs.Reading.{read_field, read_shape, read_shaped, read_variant, read_body_head, body_behind, read_body};
 ghost use Rattle.isle_syntax.specs.ReadingViews.{body_head_seen};
 
 use isle_ast::{AstBody, AstFields, AstVariant};
@@ -40,7 +40,7 @@ fn next_body_head(tokens: &Tokens<'_>) -> Option<BodyHead>
 }
 
 // What a body is.
-#[tactic(auto, using(isle_reading::proofs::Steps::words), unfolding(crate::specs::Reading::read_body_head))]
+#[tactic(auto, using(isle_reading::proofs::Steps::words), unfolding(isle_grammar::specs::Reading::read_body_head))]
 fn read_head(tokens: &mut Tokens<'_>) -> Result<BodyHead, Fail>
     ensures { Reads body_head_seen result read_body_head (left tokens.old) (left tokens.new) }
 {
@@ -54,7 +54,7 @@ fn read_head(tokens: &mut Tokens<'_>) -> Result<BodyHead, Fail>
 }
 
 // A field with its type.
-#[tactic(auto, using(isle_reading::proofs::Steps::chain), unfolding(crate::specs::Reading::read_field))]
+#[tactic(auto, using(isle_reading::proofs::Steps::chain), unfolding(isle_grammar::specs::Reading::read_field))]
 fn field(tokens: &mut Tokens<'_>, alloc: Global) -> Result<(Text, Text), Fail>
     ensures { Reads (λ field. field) result read_field (left tokens.old) (left tokens.new) }
 {
@@ -133,7 +133,7 @@ fn shape(tokens: &mut Tokens<'_>, alloc: Global, most: usize) -> Result<AstField
 }
 
 // A variant with fields.
-#[tactic(auto, using(isle_reading::proofs::Steps::chain), unfolding(crate::specs::Reading::read_shaped))]
+#[tactic(auto, using(isle_reading::proofs::Steps::chain), unfolding(isle_grammar::specs::Reading::read_shaped))]
 fn shaped(tokens: &mut Tokens<'_>, alloc: Global, most: usize) -> Result<AstVariant, Fail>
     ensures { Reads (λ variant. variant) result (read_shaped most) (left tokens.old) (left tokens.new) }
 {
@@ -200,7 +200,7 @@ fn body_behind(
 }
 
 /// Reads what a type is declared as, its lists of at most `most` tokens.
-#[tactic(auto, using(isle_reading::proofs::Steps::chain), unfolding(crate::specs::Reading::read_body))]
+#[tactic(auto, using(isle_reading::proofs::Steps::chain), unfolding(isle_grammar::specs::Reading::read_body))]
 pub fn body(tokens: &mut Tokens<'_>, alloc: Global, most: usize) -> Result<AstBody, Fail>
     ensures { Reads (λ body. body) result (read_body most) (left tokens.old) (left tokens.new) }
 {

@@ -2,18 +2,16 @@ ghost use Rattle.std.specs.Prelude.{◌≡◌, ◌≤◌, length, map, IfOk, opt
 ghost use Rattle.isle_reading.specs.Combinators.{next_word, all};
 ghost use Rattle.isle_reading.specs.Views.{left, Reads};
 ghost use Rattle.isle_ast.specs.Views.{def, defs, pattern};
-ghost use Rattle.isle_syntax.specs.Reading.{read_type, read_declared, read_decl, read_extractor, read_convert, read_parts, read_rule, read_passed, head_of, read_head, read_behind, read_def, read_file};
+ghost use Rattle.isle_grammar.specs.Reading.{read_type, read_declared, read_decl, read_extractor, read_convert, read_parts, read_rule, read_passed, head_of, read_head, read_behind, read_def, read_file};
 ghost use Rattle.isle_syntax.specs.ReadingViews.{flags_seen, head_seen};
 
 use crate::body::{body, names};
 use crate::externs::external;
 use crate::flags::{Flags, read_flags, read_marks};
-use crate::iflet::tail;
 use crate::passed::passed_items;
-use crate::pattern::{arguments, template};
-use crate::words::{decl_name, prio, rule_name};
 use isle_ast::{AstPattern, Def};
 use isle_core::{List, Pos, Text};
+use isle_forms::{arguments, decl_name, prio, rule_name, tail, template};
 use isle_reading::{Expected, Fail, Tokens};
 use std::alloc::{AllocError, Global};
 
@@ -60,7 +58,7 @@ fn next_head(tokens: &Tokens<'_>, alloc: Global) -> Result<Option<Head>, AllocEr
 }
 
 // What a definition is.
-#[tactic(auto, using(isle_reading::proofs::Steps::words), unfolding(crate::specs::Reading::read_head))]
+#[tactic(auto, using(isle_reading::proofs::Steps::words), unfolding(isle_grammar::specs::Reading::read_head))]
 fn read_head(tokens: &mut Tokens<'_>, alloc: Global) -> Result<Head, Fail>
     ensures { Reads head_seen result read_head (left tokens.old) (left tokens.new) }
 {
@@ -74,7 +72,7 @@ fn read_head(tokens: &mut Tokens<'_>, alloc: Global) -> Result<Head, Fail>
 }
 
 // What stands behind `( type`, for the definition at that place.
-#[tactic(auto, using(isle_reading::proofs::Steps::chain), unfolding(crate::specs::Reading::read_type))]
+#[tactic(auto, using(isle_reading::proofs::Steps::chain), unfolding(isle_grammar::specs::Reading::read_type))]
 fn type_decl(tokens: &mut Tokens<'_>, alloc: Global, most: usize, pos: Pos) -> Result<Def, Fail>
     ensures { Reads def result (read_type most pos.file pos.offset) (left tokens.old) (left tokens.new) }
 {
@@ -92,7 +90,7 @@ fn type_decl(tokens: &mut Tokens<'_>, alloc: Global, most: usize, pos: Pos) -> R
 }
 
 // What stands behind the flags of `( decl`, for the definition at that place.
-#[tactic(auto, using(isle_reading::proofs::Steps::chain), unfolding(crate::specs::Reading::read_declared))]
+#[tactic(auto, using(isle_reading::proofs::Steps::chain), unfolding(isle_grammar::specs::Reading::read_declared))]
 fn declared(
     tokens: &mut Tokens<'_>,
     alloc: Global,
@@ -120,7 +118,7 @@ fn declared(
 }
 
 // What stands behind `( decl`, for the definition at that place.
-#[tactic(auto, using(isle_reading::proofs::Steps::chain), unfolding(crate::specs::Reading::read_decl))]
+#[tactic(auto, using(isle_reading::proofs::Steps::chain), unfolding(isle_grammar::specs::Reading::read_decl))]
 fn decl(tokens: &mut Tokens<'_>, alloc: Global, most: usize, pos: Pos) -> Result<Def, Fail>
     ensures { Reads def result (read_decl most pos.file pos.offset) (left tokens.old) (left tokens.new) }
 {
@@ -129,7 +127,7 @@ fn decl(tokens: &mut Tokens<'_>, alloc: Global, most: usize, pos: Pos) -> Result
 }
 
 // What stands behind `( extractor`, for the definition at that place.
-#[tactic(auto, using(isle_reading::proofs::Steps::chain), unfolding(crate::specs::Reading::read_extractor))]
+#[tactic(auto, using(isle_reading::proofs::Steps::chain), unfolding(isle_grammar::specs::Reading::read_extractor))]
 fn extractor(tokens: &mut Tokens<'_>, alloc: Global, most: usize, pos: Pos) -> Result<Def, Fail>
     ensures { Reads def result (read_extractor most pos.file pos.offset) (left tokens.old) (left tokens.new) }
 {
@@ -147,7 +145,7 @@ fn extractor(tokens: &mut Tokens<'_>, alloc: Global, most: usize, pos: Pos) -> R
 }
 
 // What stands behind `( convert`, for the definition at that place.
-#[tactic(auto, using(isle_reading::proofs::Steps::chain), unfolding(crate::specs::Reading::read_convert))]
+#[tactic(auto, using(isle_reading::proofs::Steps::chain), unfolding(isle_grammar::specs::Reading::read_convert))]
 fn convert(tokens: &mut Tokens<'_>, alloc: Global, pos: Pos) -> Result<Def, Fail>
     ensures { Reads def result (read_convert pos.file pos.offset) (left tokens.old) (left tokens.new) }
 {
@@ -164,7 +162,7 @@ fn convert(tokens: &mut Tokens<'_>, alloc: Global, pos: Pos) -> Result<Def, Fail
 }
 
 // A rule's head: a term, and the patterns of its arguments.
-#[tactic(auto, using(isle_reading::proofs::Steps::chain), unfolding(crate::specs::Reading::read_parts))]
+#[tactic(auto, using(isle_reading::proofs::Steps::chain), unfolding(isle_grammar::specs::Reading::read_parts))]
 fn parts(
     tokens: &mut Tokens<'_>,
     alloc: Global,
@@ -179,7 +177,7 @@ fn parts(
 }
 
 // What stands behind `( rule`, for the definition at that place.
-#[tactic(auto, using(isle_reading::proofs::Steps::chain), unfolding(crate::specs::Reading::read_rule))]
+#[tactic(auto, using(isle_reading::proofs::Steps::chain), unfolding(isle_grammar::specs::Reading::read_rule))]
 fn rule(tokens: &mut Tokens<'_>, alloc: Global, most: usize, pos: Pos) -> Result<Def, Fail>
     requires { length (left tokens.old) ≤ most }
     ensures { Reads def result (read_rule most pos.file pos.offset) (left tokens.old) (left tokens.new) }
@@ -200,7 +198,7 @@ fn rule(tokens: &mut Tokens<'_>, alloc: Global, most: usize, pos: Pos) -> Result
 }
 
 // What stands behind the first word of a list that is passed over, at that place.
-#[tactic(auto, using(isle_reading::proofs::Steps::chain), unfolding(crate::specs::Reading::read_passed))]
+#[tactic(auto, using(isle_reading::proofs::Steps::chain), unfolding(isle_grammar::specs::Reading::read_passed))]
 fn passed(
     tokens: &mut Tokens<'_>,
     alloc: Global,
@@ -241,7 +239,7 @@ fn behind(
 }
 
 /// Reads a definition of the file of that number, its lists of at most `most` tokens.
-#[tactic(auto, using(isle_reading::proofs::Steps::chain), unfolding(crate::specs::Reading::read_def))]
+#[tactic(auto, using(isle_reading::proofs::Steps::chain), unfolding(isle_grammar::specs::Reading::read_def))]
 pub fn definition(
     tokens: &mut Tokens<'_>,
     alloc: Global,

@@ -2,10 +2,10 @@ ghost use Rattle.std.specs.Prelude.{◌≡◌, option_map, bytes_eq, codes};
 ghost use Rattle.isle_reading.specs.Combinators.{next_word};
 ghost use Rattle.isle_reading.specs.Views.{left, Reads};
 ghost use Rattle.isle_ast.specs.Views.{def};
-ghost use Rattle.isle_syntax.specs.Reading.{extern_head, read_extern_head, read_constructor, read_fallible, read_infallible, extractor_behind, read_extractor_function, read_const, extern_behind, read_extern};
+ghost use Rattle.isle_grammar.specs.Reading.{extern_head, read_extern_head, read_constructor, read_fallible, read_infallible, extractor_behind, read_extractor_function, read_const, extern_behind, read_extern};
 ghost use Rattle.isle_syntax.specs.ReadingViews.{extern_head_seen};
 
-use crate::words::constant;
+use isle_forms::constant;
 use isle_ast::Def;
 use isle_core::{Pos, Text};
 use isle_reading::{Expected, Fail, Tokens};
@@ -40,7 +40,7 @@ fn next_extern_head(tokens: &Tokens<'_>) -> Option<ExternHead>
 }
 
 // What an `extern` is.
-#[tactic(auto, using(isle_reading::proofs::Steps::words), unfolding(crate::specs::Reading::read_extern_head))]
+#[tactic(auto, using(isle_reading::proofs::Steps::words), unfolding(isle_grammar::specs::Reading::read_extern_head))]
 fn read_head(tokens: &mut Tokens<'_>) -> Result<ExternHead, Fail>
     ensures { Reads extern_head_seen result read_extern_head (left tokens.old) (left tokens.new) }
 {
@@ -54,7 +54,7 @@ fn read_head(tokens: &mut Tokens<'_>) -> Result<ExternHead, Fail>
 }
 
 // What stands behind `( extern constructor`.
-#[tactic(auto, using(isle_reading::proofs::Steps::chain), unfolding(crate::specs::Reading::read_constructor))]
+#[tactic(auto, using(isle_reading::proofs::Steps::chain), unfolding(isle_grammar::specs::Reading::read_constructor))]
 fn constructor(tokens: &mut Tokens<'_>, alloc: Global, pos: Pos) -> Result<Def, Fail>
     ensures { Reads def result (read_constructor pos.file pos.offset) (left tokens.old) (left tokens.new) }
 {
@@ -65,7 +65,7 @@ fn constructor(tokens: &mut Tokens<'_>, alloc: Global, pos: Pos) -> Result<Def, 
 }
 
 // The end of an external extractor that may fail.
-#[tactic(auto, using(isle_reading::proofs::Steps::chain), unfolding(crate::specs::Reading::read_fallible))]
+#[tactic(auto, using(isle_reading::proofs::Steps::chain), unfolding(isle_grammar::specs::Reading::read_fallible))]
 fn fallible(tokens: &mut Tokens<'_>, pos: Pos, term: Text, func: Text) -> Result<Def, Fail>
     ensures { Reads def result (read_fallible pos.file pos.offset term func) (left tokens.old) (left tokens.new) }
 {
@@ -79,7 +79,7 @@ fn fallible(tokens: &mut Tokens<'_>, pos: Pos, term: Text, func: Text) -> Result
 }
 
 // The end of an external extractor that may not fail, behind its term.
-#[tactic(auto, using(isle_reading::proofs::Steps::chain), unfolding(crate::specs::Reading::read_infallible))]
+#[tactic(auto, using(isle_reading::proofs::Steps::chain), unfolding(isle_grammar::specs::Reading::read_infallible))]
 fn infallible(tokens: &mut Tokens<'_>, alloc: Global, pos: Pos, term: Text) -> Result<Def, Fail>
     ensures { Reads def result (read_infallible pos.file pos.offset term) (left tokens.old) (left tokens.new) }
 {
@@ -117,7 +117,7 @@ fn extractor_behind(
 }
 
 // What stands behind `( extern extractor`.
-#[tactic(auto, using(isle_reading::proofs::Steps::chain), unfolding(crate::specs::Reading::read_extractor_function))]
+#[tactic(auto, using(isle_reading::proofs::Steps::chain), unfolding(isle_grammar::specs::Reading::read_extractor_function))]
 fn extractor(tokens: &mut Tokens<'_>, alloc: Global, pos: Pos) -> Result<Def, Fail>
     ensures { Reads def result (read_extractor_function pos.file pos.offset) (left tokens.old) (left tokens.new) }
 {
@@ -127,7 +127,7 @@ fn extractor(tokens: &mut Tokens<'_>, alloc: Global, pos: Pos) -> Result<Def, Fa
 }
 
 // What stands behind `( extern const`.
-#[tactic(auto, using(isle_reading::proofs::Steps::chain), unfolding(crate::specs::Reading::read_const))]
+#[tactic(auto, using(isle_reading::proofs::Steps::chain), unfolding(isle_grammar::specs::Reading::read_const))]
 fn const_of(tokens: &mut Tokens<'_>, alloc: Global, pos: Pos) -> Result<Def, Fail>
     ensures { Reads def result (read_const pos.file pos.offset) (left tokens.old) (left tokens.new) }
 {
@@ -154,7 +154,7 @@ fn extern_behind(
 }
 
 /// Reads what stands behind `( extern`, for the definition at that place.
-#[tactic(auto, using(isle_reading::proofs::Steps::chain), unfolding(crate::specs::Reading::read_extern))]
+#[tactic(auto, using(isle_reading::proofs::Steps::chain), unfolding(isle_grammar::specs::Reading::read_extern))]
 pub fn external(tokens: &mut Tokens<'_>, alloc: Global, pos: Pos) -> Result<Def, Fail>
     ensures { Reads def result (read_extern pos.file pos.offset) (left tokens.old) (left tokens.new) }
 {

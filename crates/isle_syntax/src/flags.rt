@@ -1,8 +1,8 @@
 ghost use Rattle.std.specs.Prelude.{◌≡◌, option_map};
 ghost use Rattle.isle_reading.specs.Combinators.{next_word};
 ghost use Rattle.isle_reading.specs.Views.{left, Reads};
-ghost use Rattle.isle_syntax.specs.Grammar.{no_flags, with_flag, no_marks, with_mark};
-ghost use Rattle.isle_syntax.specs.Reading.{read_flags, read_marks};
+ghost use Rattle.isle_grammar.specs.Grammar.{no_flags, with_flag, no_marks, with_mark};
+ghost use Rattle.isle_grammar.specs.Reading.{read_flags, read_marks};
 ghost use Rattle.isle_syntax.specs.ReadingViews.{flags_seen, marks_seen};
 
 use isle_reading::{Expected, Fail, Tokens};
@@ -57,7 +57,7 @@ fn next_flag(tokens: &Tokens<'_>, flags: Flags) -> Option<Flags>
 }
 
 /// Reads the flags of a `decl`.
-#[tactic(auto, using(isle_reading::proofs::Steps::states), unfolding(crate::specs::Reading::read_flags))]
+#[tactic(auto, using(isle_reading::proofs::Steps::states), unfolding(isle_grammar::specs::Reading::read_flags))]
 pub fn read_flags(tokens: &mut Tokens<'_>) -> Result<Flags, Fail>
     ensures { Reads flags_seen result read_flags (left tokens.old) (left tokens.new) }
 {
@@ -108,7 +108,7 @@ fn next_mark(tokens: &Tokens<'_>, marks: Marks) -> Option<Marks>
 }
 
 /// Reads the words behind a type's name.
-#[tactic(auto, using(isle_reading::proofs::Steps::states), unfolding(crate::specs::Reading::read_marks))]
+#[tactic(auto, using(isle_reading::proofs::Steps::states), unfolding(isle_grammar::specs::Reading::read_marks))]
 pub fn read_marks(tokens: &mut Tokens<'_>) -> Result<Marks, Fail>
     ensures { Reads marks_seen result read_marks (left tokens.old) (left tokens.new) }
 {

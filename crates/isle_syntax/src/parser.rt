@@ -10,8 +10,8 @@ ghost use Rattle.isle_reading.specs.declared.cursor.Fail.TheVariants.{At};
 ghost use Rattle.isle_core.specs.declared.position.Pos.{Pos};
 ghost use Rattle.isle_ast.specs.Tree.{Def as PureDef};
 ghost use Rattle.isle_ast.specs.Views.{defs};
-ghost use Rattle.isle_syntax.specs.Grammar.{FileS};
-ghost use Rattle.isle_syntax.specs.Spelling.{IsFile, IsTextFault, Spells, SpellsTokens};
+ghost use Rattle.isle_grammar.specs.Grammar.{FileS};
+ghost use Rattle.isle_grammar.specs.Spelling.{IsFile, IsTextFault, Spells, SpellsTokens};
 ghost use Rattle.isle_syntax.specs.declared.parser.Mismatch.{Mismatch};
 ghost use Rattle.isle_syntax.specs.declared.parser.ParseFail.TheVariants as fail;
 

@@ -2,8 +2,8 @@ ghost use Rattle.std.specs.Prelude.{◌≡◌, ◌-◌, IfOk, map, option_map};
 ghost use Rattle.isle_reading.specs.Combinators.{many};
 ghost use Rattle.isle_reading.specs.Views.{left, Reads};
 ghost use Rattle.isle_ast.specs.Views.{any};
-ghost use Rattle.isle_syntax.specs.Grammar.{any_of};
-ghost use Rattle.isle_syntax.specs.Reading.{next_any, read_token, read_any};
+ghost use Rattle.isle_grammar.specs.Grammar.{any_of};
+ghost use Rattle.isle_grammar.specs.Reading.{next_any, read_token, read_any};
 ghost use Rattle.isle_lexer.specs.TokenViews.{token_seen};
 ghost use Rattle.isle_reading.specs.Nesting.{most_open};
 

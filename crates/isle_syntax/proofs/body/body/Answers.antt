@@ -1,5 +1,5 @@
 use Rattle.isle_reading.proofs.Steps.{then_comes, then_refuses, bind_refuses, passed}
-use Rattle.isle_syntax.specs.Reading.{read_body}
+use Rattle.isle_grammar.specs.Reading.{read_body}
 use Rattle.isle_syntax.proofs.body.body.Goals as goal
 
 pub returns-in_err-head : goal.returns-in_err-head

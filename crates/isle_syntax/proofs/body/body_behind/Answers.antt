@@ -2,7 +2,7 @@ use Rattle.std.proofs.Common.{◌∙◌, rules, ap, sym, subst}
 use Rattle.isle_reading.specs.Reader.{run}
 use Rattle.isle_reading.specs.Views.{left, Refuses}
 use Rattle.isle_reading.proofs.Steps.{then_got, done_got, then_refuses, bind_refuses, passed}
-use Rattle.isle_syntax.specs.Reading.{body_behind}
+use Rattle.isle_grammar.specs.Reading.{body_behind}
 use Rattle.isle_syntax.specs.ReadingViews.{body_head_seen}
 use Rattle.isle_syntax.proofs.body.body_behind.Goals as goal
 

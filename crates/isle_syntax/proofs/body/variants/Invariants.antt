@@ -3,7 +3,7 @@ use Rattle.isle_reading.specs.Reader.{run}
 use Rattle.isle_reading.specs.Combinators.{many}
 use Rattle.isle_reading.specs.Views.{left}
 use Rattle.isle_reading.proofs.ListSteps.{in_front}
-use Rattle.isle_syntax.specs.Reading.{read_variant}
+use Rattle.isle_grammar.specs.Reading.{read_variant}
 use Rattle.isle_syntax.proofs.body.variants.Given as goal
 
 -- with what was read in front, the rest reads as all

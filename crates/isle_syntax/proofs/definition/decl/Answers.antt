@@ -1,5 +1,5 @@
 use Rattle.isle_reading.proofs.Steps.{then_comes}
-use Rattle.isle_syntax.specs.Reading.{read_decl}
+use Rattle.isle_grammar.specs.Reading.{read_decl}
 use Rattle.isle_syntax.proofs.definition.decl.Goals as goal
 
 pub returns : goal.returns

@@ -2,7 +2,7 @@ use Rattle.isle_reading.proofs.Steps.{then_comes, then_refuses, bind_refuses, pa
 use Rattle.std.proofs.Common.{◌≤◌, length, arith}
 use Rattle.isle_reading.proofs.Running.{got_shrinks}
 use Rattle.isle_reading.specs.Views.{left}
-use Rattle.isle_syntax.specs.Reading.{read_def}
+use Rattle.isle_grammar.specs.Reading.{read_def}
 use Rattle.isle_syntax.proofs.definition.definition.Goals as goal
 
 pub returns-in_err-head : goal.returns-in_err-head

@@ -4,7 +4,7 @@ use Rattle.isle_reading.specs.Combinators.{all}
 use Rattle.isle_reading.specs.Views.{left}
 use Rattle.isle_reading.proofs.ListSteps.{in_front}
 use Rattle.isle_ast.specs.Views.{defs}
-use Rattle.isle_syntax.specs.Reading.{read_def}
+use Rattle.isle_grammar.specs.Reading.{read_def}
 use Rattle.isle_syntax.proofs.definition.file_of.Given as goal
 
 -- with what was read in front, the rest reads as all; and no more tokens are left than may be

@@ -1,6 +1,6 @@
 use Rattle.std.proofs.Common.{rules}
 use Rattle.isle_reading.proofs.Steps.{then_got, done_got}
-use Rattle.isle_syntax.specs.Reading.{read_passed}
+use Rattle.isle_grammar.specs.Reading.{read_passed}
 use Rattle.isle_syntax.proofs.definition.passed.Goals as goal
 
 pub returns : goal.returns

@@ -3,7 +3,7 @@ use Rattle.isle_reading.proofs.Steps.{then_got, done_got, then_refuses, bind_ref
 use Rattle.std.proofs.Common.{◌≤◌, length, arith}
 use Rattle.isle_reading.proofs.Running.{got_shrinks}
 use Rattle.isle_reading.specs.Views.{left}
-use Rattle.isle_syntax.specs.Reading.{read_rule}
+use Rattle.isle_grammar.specs.Reading.{read_rule}
 use Rattle.isle_syntax.proofs.definition.rule.Goals as goal
 
 pub returns-in_err-prio : goal.returns-in_err-prio

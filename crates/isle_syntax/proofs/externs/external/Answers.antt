@@ -1,5 +1,5 @@
 use Rattle.isle_reading.proofs.Steps.{then_comes}
-use Rattle.isle_syntax.specs.Reading.{read_extern}
+use Rattle.isle_grammar.specs.Reading.{read_extern}
 use Rattle.isle_syntax.proofs.externs.external.Goals as goal
 
 pub returns : goal.returns

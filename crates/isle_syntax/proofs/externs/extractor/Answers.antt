@@ -1,5 +1,5 @@
 use Rattle.isle_reading.proofs.Steps.{then_comes, then_refuses, bind_refuses, passed}
-use Rattle.isle_syntax.specs.Reading.{read_extractor_function}
+use Rattle.isle_grammar.specs.Reading.{read_extractor_function}
 use Rattle.isle_syntax.proofs.externs.extractor.Goals as goal
 
 pub returns-in_err-func : goal.returns-in_err-func

@@ -1,6 +1,6 @@
 use Rattle.std.proofs.Common.{rules}
 use Rattle.isle_reading.proofs.Steps.{then_got, done_got}
-use Rattle.isle_syntax.specs.Reading.{read_fallible}
+use Rattle.isle_grammar.specs.Reading.{read_fallible}
 use Rattle.isle_syntax.proofs.externs.fallible.Goals as goal
 
 pub returns : goal.returns

@@ -2,7 +2,7 @@ use Rattle.std.proofs.Common.{◌≡◌, ◌-◌}
 use Rattle.isle_reading.specs.Reader.{run}
 use Rattle.isle_reading.specs.Combinators.{words_from}
 use Rattle.isle_reading.specs.Views.{left}
-use Rattle.isle_syntax.specs.Grammar.{no_marks, with_mark}
+use Rattle.isle_grammar.specs.Grammar.{no_marks, with_mark}
 use Rattle.isle_syntax.specs.ReadingViews.{marks_seen}
 use Rattle.isle_syntax.proofs.flags.read_marks.Given as goal
 

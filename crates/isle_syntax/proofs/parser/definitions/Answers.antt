@@ -7,8 +7,8 @@ use Rattle.isle_reading.specs.Reader.{run}
 use Rattle.isle_reading.specs.Views.{left, Comes}
 use Rattle.isle_reading.proofs.Steps.{comes_got, comes_stops}
 use Rattle.isle_ast.specs.Views.{defs}
-use Rattle.isle_syntax.specs.Reading.{read_file}
-use Rattle.isle_syntax.proofs.Files.{file_got, file_stops}
+use Rattle.isle_grammar.specs.Reading.{read_file}
+use Rattle.isle_grammar.proofs.Files.{file_got, file_stops}
 use Rattle.isle_syntax.proofs.parser.definitions.Goals as goal
 
 pub file_of-requires : goal.file_of-requires

@@ -2,8 +2,8 @@ use Rattle.std.proofs.Common.{◌≡◌, ap, ◌∙◌, Err}
 use Rattle.isle_lexer.specs.TokenViews.{tokens_seen}
 use Rattle.isle_reading.proofs.Faults.{fault_unspelt}
 use Rattle.isle_syntax.specs.declared.parser.ParseFail.TheVariants as fail
-use Rattle.isle_syntax.specs.Spelling.{IsFile}
-use Rattle.isle_syntax.proofs.Files.{file_once}
+use Rattle.isle_grammar.specs.Spelling.{IsFile}
+use Rattle.isle_grammar.proofs.Files.{file_once}
 use Rattle.isle_syntax.proofs.parser.of_tokens.Goals as goal
 
 pub returns-in-Ok-clause-only : goal.returns-in-Ok-clause-only

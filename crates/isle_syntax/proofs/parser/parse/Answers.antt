@@ -3,7 +3,7 @@ use Rattle.isle_lexer.specs.Lexer.{lexer_file, lexer_text}
 use Rattle.isle_lexer.specs.Lexeme.{lexemes}
 use Rattle.isle_lexer.specs.TokenViews.{tokens_seen}
 use Rattle.isle_reading.specs.Places.{IsFaultAt}
-use Rattle.isle_syntax.specs.Spelling.{IsFile}
+use Rattle.isle_grammar.specs.Spelling.{IsFile}
 use Rattle.isle_syntax.proofs.parser.parse.Goals as goal
 
 pub returns-in-Ok-clause-fault : goal.returns-in-Ok-clause-fault

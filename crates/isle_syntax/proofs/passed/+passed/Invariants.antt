@@ -4,7 +4,7 @@ use Rattle.isle_reading.specs.Combinators.{many}
 use Rattle.isle_reading.specs.Views.{left}
 use Rattle.isle_reading.proofs.ListSteps.{in_front}
 use Rattle.isle_ast.specs.Views.{any}
-use Rattle.isle_syntax.specs.Reading.{read_any}
+use Rattle.isle_grammar.specs.Reading.{read_any}
 use Rattle.isle_syntax.proofs.passed.+passed.Given as goal
 
 abbrev pub decreases-any : goal.decreases-any
