@@ -13,7 +13,7 @@ use Rattle.isle_core.specs.StandsFor.{StandsFor}
 use Rattle.isle_core.specs.Terms.{term_name, with_rules}
 use Rattle.isle_core.specs.Rule.{Environment, rules_of}
 use Rattle.isle_core.proofs.Contained.{head_contained, tail_contained}
-use Rattle.isle_syntax.specs.Tree.{Def}
+use Rattle.isle_ast.specs.Tree.{Def}
 use Rattle.isle_rulesets.specs.Grouping.{AreRuleSets}
 use Rattle.isle_sema.specs.Typing.{Typed}
 use Rattle.isle_sema.proofs.SerializableRules.{set_serializable}

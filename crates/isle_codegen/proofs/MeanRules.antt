@@ -32,7 +32,7 @@ use Rattle.isle_core.proofs.ImpureCalls.{AreImpure, outcome_impure, all_kept}
 use Rattle.isle_core.proofs.SetMeans.{set_means}
 use Rattle.isle_printer.specs.Bytes.{same_bytes}
 use Rattle.isle_printer.proofs.Bytes.{same_bytes_refl, same_bytes_sound}
-use Rattle.isle_syntax.specs.Tree.{Def}
+use Rattle.isle_ast.specs.Tree.{Def}
 use Rattle.isle_sema.specs.Typing.{Typed}
 use Rattle.isle_sema.proofs.TypedRules.{typed_built, typed_scoped, typed_impure, typed_args}
 use Rattle.isle_checks.specs.CheckList.{IsClean}

@@ -8,14 +8,16 @@ use Rattle.isle_core.specs.declared.types.Term.{Term}
 use Rattle.isle_core.specs.Places.{LiesIn, text_in}
 use Rattle.isle_core.specs.Rule.{Environment, Rule}
 use Rattle.isle_core.proofs.Contained.{contained_cases, none_contained}
-use Rattle.isle_syntax.specs.Tree.{Def}
-use Rattle.isle_syntax.specs.Positions.{place_of, AreWithin}
-use Rattle.isle_syntax.proofs.Within.{spelt_within}
+use Rattle.isle_ast.specs.Tree.{Def}
+use Rattle.isle_ast.specs.Positions.{place_of, AreWithin}
+use Rattle.isle_grammar.proofs.Within.{spelt_within}
 use Rattle.isle_sema.specs.Typing.{Typed}
 use Rattle.isle_sema.proofs.TypedTerms.{typed_places}
 use Rattle.isle_sema.proofs.RulePlaces.{rule_places}
 use Rattle.isle_checks.proofs.PlacedErrors.{LieIn}
-use Rattle.isle_codegen.specs.Source.{Source}
+use Rattle.isle_core.specs.declared.position.Pos.{Pos}
+use Rattle.isle_grammar.proofs.TextFaults.{fault_within}
+use Rattle.isle_codegen.specs.Source.{Source, GoesWrong, here, later}
 use Rattle.isle_codegen.specs.Emission.{ArePlaced, DefsArePlaced}
 
 within_files : (files : Files) (file : ℕ) (text : List ℕ) (defs : List Def) → file < length files.file_names → file < length files.file_texts → text_in files file ≡ text → AreWithin file text defs → DefsArePlaced files defs
@@ -47,6 +49,22 @@ source_from files file (text ∷ texts) defs same many each h =
 -- the definitions that the texts of files spell stand in them
 pub source_placed : (files : Files) (defs : List Def) → length files.file_texts ≡ length files.file_names → Source 0 files.file_texts defs → DefsArePlaced files defs
 source_placed files defs same h = source_from files 0 files.file_texts defs same (omega arith) (λ i lt. ap (text_in files) {y = i} (omega arith)) h
+
+wrong_from : (files : Files) (file : ℕ) (texts : List (List ℕ)) (pos : Pos) → length files.file_texts ≡ length files.file_names → file + length texts ≡ length files.file_texts
+    → ((i : ℕ) → i < length texts → text_in files (file + i) ≡ slice_index_or texts i []) → GoesWrong file texts pos → LiesIn files pos
+wrong_from files _ _ _ same many each (here file at text texts f) =
+    let is : text_in files file ≡ text = ap (text_in files) {y = file + 0} (omega arith) ∙ each 0 (omega arith) in
+    record {
+      named = omega (arith, same, many);
+      found = omega (arith, many);
+      within = subst (λ (bs : List ℕ). at ≤ length bs) (sym is) (fault_within file at text f);
+    }
+wrong_from files _ _ _ same many each (later file text texts defs pos spelt wrong) =
+    wrong_from files (file + 1) texts pos same (omega (arith, many)) (λ i lt. ap (text_in files) {y = file + suc i} (omega arith) ∙ each (suc i) (omega (arith, lt))) wrong
+
+-- the texts of files go wrong in the files
+pub wrong_placed : (files : Files) (pos : Pos) → length files.file_texts ≡ length files.file_names → GoesWrong 0 files.file_texts pos → LiesIn files pos
+wrong_placed files pos same wrong = wrong_from files 0 files.file_texts pos same (omega arith) (λ i lt. ap (text_in files) {y = i} (omega arith)) wrong
 
 placed_among : (files : Files) (defs : List Def) (d : Def) → DefsArePlaced files defs → Contains defs d → LiesIn files (place_of d)
 placed_among files [] d h c = absurd (none_contained d c)

@@ -1,13 +1,18 @@
 -- Refusals of the texts of files.
-use Rattle.std.proofs.Common.{◌≡◌, ◌⊎◌, inl, inr, ⊎_elim, ℕ, List, [], true, Result, Ok, Err, Option, Some, None, refl, sym, subst}
-use Rattle.std.specs.Prelude.{IfErr, IfSome}
+use Rattle.std.proofs.Common.{◌≡◌, ◌⊎◌, inl, inr, ⊎_elim, ℕ, List, [], ◌∷◌, length, true, Result, Ok, Err, Option, Some, None, refl, sym, subst}
+use Rattle.std.specs.Prelude.{All, IfErr, IfSome}
+use Rattle.std.proofs.lemmas.List.Elements.{All-from_recursion}
 use Rattle.isle_outside.specs.Directory.{Contents, Counts}
 use Rattle.isle_core.specs.declared.options.CodegenOptions.{CodegenOptions}
 use Rattle.isle_core.specs.declared.errors.Error.{Error}
+use Rattle.isle_core.specs.declared.errors.Error.TheVariants as told_error
+use Rattle.isle_core.specs.declared.position.Pos.{Pos}
+use Rattle.isle_core.specs.ErrorLines.{IsPlaced}
+use Rattle.isle_core.specs.Places.{LiesIn}
 use Rattle.isle_core.specs.declared.files.Files.{Files}
 use Rattle.isle_core.specs.Inputs.{AreRead}
 use Rattle.isle_core.specs.Rule.{Environment}
-use Rattle.isle_syntax.specs.Tree.{Def}
+use Rattle.isle_ast.specs.Tree.{Def}
 use Rattle.isle_checks.specs.CheckList.{IsCheckList}
 use Rattle.isle_checks.proofs.PlacedErrors.{errors_placed}
 use Rattle.isle_codegen.specs.declared.compile_error.CompileError.{CompileError}
@@ -16,20 +21,33 @@ use Rattle.isle_codegen.specs.declared.file_error.FileError.{FileError}
 use Rattle.isle_codegen.specs.declared.file_error.FileError.TheVariants as error
 use Rattle.isle_codegen.specs.Causes.{printed, of_texts, IsNotOfIt, IsUncompiled, IsRefusal, AllTried, HasCause}
 use Rattle.isle_codegen.specs.Emission.{DefsArePlaced}
-use Rattle.isle_codegen.specs.Errors.{IsErrors, of_rules}
+use Rattle.isle_codegen.specs.Errors.{IsErrors, TellsParseError, of_parsing, of_rules}
 use Rattle.isle_codegen.specs.Names.{are_file_names}
-use Rattle.isle_codegen.specs.Source.{Source, IsCompilable, InLanguage}
-use Rattle.isle_codegen.proofs.Placed.{rules_placed}
+use Rattle.isle_codegen.specs.Source.{Source, GoesWrong, IsCompilable, InLanguage}
+use Rattle.isle_codegen.proofs.Placed.{rules_placed, wrong_placed}
 
 -- why texts give no text, where the definitions that they spell give none
 pub of_defs : (e : CompileError) (names texts : List (List ℕ)) (defs : List Def) → Source 0 texts defs → ((others : List Def) → Source 0 texts others → others ≡ defs) → IsUncompiled e (record { file_names = names; file_texts = texts }) defs
     → IsRefusal (of_texts e) names texts
-of_defs compile_error.NotYet names texts defs source once h = ⊎_elim
+of_defs compile_error.NotYet names texts defs source once h = ((defs, source), ⊎_elim
     (λ (never : (env : Environment) → IsCompilable defs env → ⊥). inl (λ (l : InLanguage texts). never l.1 (subst (λ ds. IsCompilable ds l.1) (once l.0 l.2) l.3)))
-    (λ bad. inr bad) h
-of_defs (compile_error.Errors errors) names texts defs source once h = record { told = h.told; named = h.named; cause = of_rules defs source once h.cause }
+    (λ bad. inr bad) h)
+of_defs (compile_error.Errors errors) names texts defs source once h = record { told = h.told; cause = of_rules defs source once h.named h.cause }
 of_defs (compile_error.Name name) names texts defs source once h = absurd h
 of_defs compile_error.Memory names texts defs source once h = tt
+
+-- the error of a text that goes wrong
+pub parse_refusal : (e : FileError) (files : Files) (pos : Pos) → length files.file_texts ≡ length files.file_names → TellsParseError e files pos → GoesWrong 0 files.file_texts pos → IsRefusal e files.file_names files.file_texts
+parse_refusal error.Memory files pos same h wrong = tt
+parse_refusal (error.Errors e) files pos same h wrong =
+    let lies : LiesIn e.files h.1.span.from = subst (λ (p : Pos). LiesIn e.files p) (sym h.1.begins) (subst (λ (fs : Files). LiesIn fs pos) (sym h.0) (wrong_placed files pos same wrong)) in
+    record {
+      told = record { given = h.0; placed = subst (λ es. All (IsPlaced e.files) es) (sym h.1.one) (All-from_recursion (IsPlaced e.files) (told_error.ParseError h.1.words h.1.span ∷ []) (lies, tt)) };
+      cause = of_parsing pos wrong h.1;
+    }
+parse_refusal error.NotYet files pos same h wrong = absurd h
+parse_refusal (error.Io index why) files pos same h wrong = absurd h
+parse_refusal (error.Name name) files pos same h wrong = absurd h
 
 -- errors that are told with files in which the definitions stand
 pub told_errors : (e : CompileError) (files : Files) (defs : List Def) (env : Environment) (errors : List Error) → (e ≡ compile_error.Memory) ⊎ (e ≡ compile_error.Errors (record { errors = errors; files = files })) → IsCompilable defs env → DefsArePlaced files defs

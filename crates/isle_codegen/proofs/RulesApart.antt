@@ -17,7 +17,7 @@ use Rattle.isle_core.specs.Pattern.{Pattern}
 use Rattle.isle_core.specs.Terms.{with_rules}
 use Rattle.isle_core.specs.Value.{Value}
 use Rattle.isle_core.specs.Rule.{Environment, Rule, rules_of}
-use Rattle.isle_syntax.specs.Tree.{Def}
+use Rattle.isle_ast.specs.Tree.{Def}
 use Rattle.isle_sema.specs.TypedRule.{ArePatternsOf}
 use Rattle.isle_sema.specs.Typing.{Typed}
 use Rattle.isle_sema.proofs.TypedRules.{typed_built, typed_of, typed_rules}

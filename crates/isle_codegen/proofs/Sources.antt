@@ -1,10 +1,13 @@
 -- The definitions that texts spell together, text by text.
 use Rattle.std.proofs.Common.{◌≡◌, ℕ, zero, suc, ◌+◌, ◌<◌, ◌≤◌, List, [], ◌∷◌, ◌++◌, length, take, get_or, refl, sym, ap, ◌∙◌, subst, append_assoc, append-nil, arith}
 use Rattle.std.proofs.lemmas.List.{take_more, take_all}
-use Rattle.isle_syntax.specs.Tree.{Def}
-use Rattle.isle_syntax.specs.Spelling.{Spells}
-use Rattle.isle_syntax.proofs.SpeltOnce.{spelt_once}
-use Rattle.isle_codegen.specs.Source.{Source}
+use Rattle.isle_ast.specs.Tree.{Def}
+use Rattle.isle_grammar.specs.Spelling.{Spells}
+use Rattle.isle_grammar.proofs.SpeltOnce.{spelt_once}
+use Rattle.isle_grammar.specs.Spelling.{IsTextFault}
+use Rattle.isle_grammar.proofs.TextFaults.{fault_unspelt}
+use Rattle.isle_core.specs.declared.position.Pos.{Pos}
+use Rattle.isle_codegen.specs.Source.{Source, GoesWrong, here, later}
 
 -- one text more
 source_more : (n : ℕ) (ts : List (List ℕ)) (t : List ℕ) (ds es : List Def) → Source n ts ds → Spells (n + length ts) t es → Source n (ts ++ t ∷ []) (ds ++ es)
@@ -31,22 +34,30 @@ source_once n (t ∷ ts) ds es h k =
     let others : k.1 ≡ h.1 = source_once (n + 1) ts h.1 k.1 h.3 k.3 in
     k.4 ∙ ap (λ xs. xs ++ k.1) first ∙ ap (λ xs. h.0 ++ xs) others ∙ sym h.4
 
-spells_at : (n : ℕ) (ts : List (List ℕ)) (ds : List Def) (i : ℕ) (d : List ℕ) → Source n ts ds → i < length ts → (es : List Def) × Spells (n + i) (get_or ts i d) es
-spells_at n [] ds i d h lt = absurd (omega arith)
-spells_at n (t ∷ ts) ds zero d h lt =
-    let at : n ≡ n + 0 = omega arith in
-    (h.0, subst (λ m. Spells m t h.0) at h.2)
-spells_at n (t ∷ ts) ds (suc i) d h lt =
-    let r = spells_at (n + 1) ts h.1 i d h.3 (omega arith) in
-    let at : n + 1 + i ≡ n + suc i = omega arith in
-    (r.0, subst (λ m. Spells m (get_or ts i d) r.0) at r.1)
+wrong_at : (n : ℕ) (ts : List (List ℕ)) (i at : ℕ) (t : List ℕ) (ds : List Def) → i < length ts → t ≡ get_or ts i t → Source n (take i ts) ds → IsTextFault (n + i) t at
+    → GoesWrong n ts (record { file = n + i; offset = at })
+wrong_at n [] i at t ds lt is s f = absurd (omega (arith, lt))
+wrong_at n (u ∷ ts) zero at t ds lt is s f =
+    let same : n ≡ n + 0 = omega arith in
+    let fault : IsTextFault n u at = subst (λ x. IsTextFault n x at) is (subst (λ m. IsTextFault m t at) (sym same) f) in
+    subst (λ m. GoesWrong n (u ∷ ts) (record { file = m; offset = at })) same (here n at u ts fault)
+wrong_at n (u ∷ ts) (suc i) at t ds lt is s f =
+    let same : n + 1 + i ≡ n + suc i = omega arith in
+    let behind : GoesWrong (n + 1) ts (record { file = n + 1 + i; offset = at }) = wrong_at (n + 1) ts i at t s.1 (omega (arith, lt)) is s.3 (subst (λ m. IsTextFault m t at) (sym same) f) in
+    later n u ts s.0 (record { file = n + suc i; offset = at }) s.2 (subst (λ m. GoesWrong (n + 1) ts (record { file = m; offset = at })) same behind)
 
--- a text that spells none
-pub source_none : (texts : List (List ℕ)) (i : ℕ) (t : List ℕ) → i < length texts → t ≡ get_or texts i t → ((es : List Def) → Spells i t es → ⊥) → (ds : List Def) → Source 0 texts ds → ⊥
-source_none texts i t lt is none ds h =
-    let r = spells_at 0 texts ds i t h lt in
-    let at : 0 + i ≡ i = omega arith in
-    none r.0 (subst (λ x. Spells i x r.0) (sym is) (subst (λ m. Spells m (get_or texts i t) r.0) at r.1))
+-- a text goes wrong behind those that spell definitions
+pub source_wrong : (texts : List (List ℕ)) (i : ℕ) (t : List ℕ) (ds : List Def) (pos : Pos) → i < length texts → t ≡ get_or texts i t → Source 0 (take i texts) ds → pos.file ≡ i → IsTextFault i t pos.offset
+    → GoesWrong 0 texts pos
+source_wrong texts i t ds pos lt is s file f =
+    let same : i ≡ 0 + i = omega arith in
+    let wrong : GoesWrong 0 texts (record { file = 0 + i; offset = pos.offset }) = wrong_at 0 texts i pos.offset t ds lt is s (subst (λ m. IsTextFault m t pos.offset) same f) in
+    subst (λ m. GoesWrong 0 texts (record { file = m; offset = pos.offset })) (sym (file ∙ same)) wrong
+
+-- texts of which one goes wrong spell no definitions
+pub wrong_unspelt : (n : ℕ) (ts : List (List ℕ)) (pos : Pos) (ds : List Def) → GoesWrong n ts pos → Source n ts ds → ⊥
+wrong_unspelt _ _ _ ds (here file at text texts f) s = fault_unspelt file at text s.0 f s.2
+wrong_unspelt _ _ _ ds (later file text texts es pos spelt wrong) s = wrong_unspelt (file + 1) texts pos s.1 wrong s.3
 
 -- no text is left
 pub source_all : (texts : List (List ℕ)) (i : ℕ) (ds : List Def) → length texts ≤ i → Source 0 (take i texts) ds → Source 0 texts ds

@@ -8,14 +8,14 @@ use Rattle.isle_core.specs.declared.read_error.ReadError.TheVariants as read
 use Rattle.isle_core.specs.Inputs.{AreRead, Fails, IsTried}
 use Rattle.isle_core.specs.Printed.{shown}
 use Rattle.isle_core.specs.Rule.{Environment}
-use Rattle.isle_syntax.specs.Tree.{Def}
+use Rattle.isle_ast.specs.Tree.{Def}
 use Rattle.isle_codegen.specs.declared.compile_error.CompileError.{CompileError}
 use Rattle.isle_codegen.specs.declared.compile_error.CompileError.TheVariants as compile_error
 use Rattle.isle_codegen.specs.declared.file_error.FileError.{FileError}
 use Rattle.isle_codegen.specs.declared.file_error.FileError.TheVariants as error
 use Rattle.isle_codegen.specs.Errors.{HavePlaces, IsErrors, AreErrorsOfDefs}
 use Rattle.isle_codegen.specs.Names.{are_file_names}
-use Rattle.isle_codegen.specs.Source.{Source, IsCompilable, InLanguage}
+use Rattle.isle_codegen.specs.Source.{Source, AreSpelt, IsCompilable, InLanguage}
 use Rattle.isle_codegen.specs.Headline.{HasHeadline}
 
 -- the names of the inputs, as printed
@@ -46,9 +46,9 @@ pub record IsCompiled (options : CodegenOptions) (files : Contents) (names : Lis
   pub read : AreRead files names texts
   pub compiles : CompilesTo options (record { file_names = printed options names; file_texts = texts }) text
 
--- the texts are not of the language, or a name as printed may not be emitted
+-- the texts spell definitions, and are not of the language, or a name as printed may not be emitted
 abbrev pub IsNotOfIt : List (List ℕ) → List (List ℕ) → Type 0
-IsNotOfIt names texts = (InLanguage texts → ⊥) ⊎ (are_file_names names ≡ false)
+IsNotOfIt names texts = AreSpelt texts × ((InLanguage texts → ⊥) ⊎ (are_file_names names ≡ false))
 
 -- why texts of files with these printed names give no text
 abbrev pub IsRefusal : FileError → List (List ℕ) → List (List ℕ) → Type 0

@@ -2,7 +2,7 @@
 use Rattle.std.specs.Prelude.{◌≡◌, List, true}
 use Rattle.isle_core.specs.declared.files.Files.{Files}
 use Rattle.isle_core.specs.Rule.{Environment}
-use Rattle.isle_syntax.specs.Tree.{Def}
+use Rattle.isle_ast.specs.Tree.{Def}
 use Rattle.isle_sema.specs.Typing.{TypedOnly}
 use Rattle.isle_codegen.specs.Names.{are_file_names}
 use Rattle.isle_codegen.specs.Source.{Source}

@@ -6,8 +6,8 @@ use Rattle.isle_core.specs.declared.files.Files.{Files}
 use Rattle.isle_core.specs.declared.types.Term.{Term}
 use Rattle.isle_core.specs.Places.{LiesIn}
 use Rattle.isle_core.specs.Rule.{Environment}
-use Rattle.isle_syntax.specs.Tree.{Def}
-use Rattle.isle_syntax.specs.Positions.{place_of}
+use Rattle.isle_ast.specs.Tree.{Def}
+use Rattle.isle_ast.specs.Positions.{place_of}
 use Rattle.isle_checks.specs.CheckList.{IsClean}
 use Rattle.isle_codegen.specs.Source.{IsCompilable}
 use Rattle.isle_simulation.specs.TraitFns.{trait_fns_of}

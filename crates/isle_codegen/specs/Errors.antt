@@ -1,14 +1,19 @@
 -- The errors of definitions, and of the texts that spell them.
-use Rattle.std.specs.Prelude.{◌≡◌, ℕ, List, [], All, true}
+use Rattle.std.specs.Prelude.{◌≡◌, ℕ, List, [], ◌∷◌, All, true}
 use Rattle.isle_core.specs.declared.errors.Error.{Error}
+use Rattle.isle_core.specs.declared.errors.Error.TheVariants as error
+use Rattle.isle_core.specs.declared.position.Pos.{Pos}
+use Rattle.isle_core.specs.declared.position.Span.{Span}
 use Rattle.isle_core.specs.declared.errors.Errors.{Errors as ErrorList}
 use Rattle.isle_core.specs.declared.files.Files.{Files}
 use Rattle.isle_core.specs.ErrorLines.{IsPlaced}
 use Rattle.isle_core.specs.Rule.{Environment}
-use Rattle.isle_syntax.specs.Tree.{Def}
+use Rattle.isle_ast.specs.Tree.{Def}
 use Rattle.isle_checks.specs.CheckList.{IsCheckList}
+use Rattle.isle_codegen.specs.declared.file_error.FileError.{FileError}
+use Rattle.isle_codegen.specs.declared.file_error.FileError.TheVariants as file
 use Rattle.isle_codegen.specs.Names.{are_file_names}
-use Rattle.isle_codegen.specs.Source.{Source, IsCompilable}
+use Rattle.isle_codegen.specs.Source.{Source, GoesWrong, IsCompilable}
 
 -- the definitions give an environment that may be emitted, and these are the errors of its rules, of which there are some
 pub record HasCheckErrors (defs : List Def) (errors : List Error) : Type 0 where
@@ -26,15 +31,32 @@ pub record AreToldIn (files : Files) (e : ErrorList) : Type 0 where
   pub given : e.files ≡ files
   pub placed : HavePlaces e
 
--- why texts have these errors: they spell definitions, and no others, that have them
-pub data HaveErrors (texts : List (List ℕ)) (errors : List Error) : Type 0 where
-  of_rules : (defs : List Def) → Source 0 texts defs → ((others : List Def) → Source 0 texts others → others ≡ defs) → HasCheckErrors defs errors → HaveErrors texts errors
+-- the one error of the grammar, at this place
+pub record IsParseError (pos : Pos) (errors : List Error) : Type 0 where
+  pub words : List ℕ
+  pub span : Span
+  pub begins : span.from ≡ pos
+  pub one : errors ≡ error.ParseError words span ∷ []
 
--- the errors of texts of files with these printed names, which may be emitted
+-- why texts of files with these printed names have these errors: the first text that goes wrong does so at the place of the
+-- one error; or they spell definitions, and no others, that have them, and the names may be emitted
+pub data HaveErrors (names texts : List (List ℕ)) (errors : List Error) : Type 0 where
+  of_parsing : (pos : Pos) → GoesWrong 0 texts pos → IsParseError pos errors → HaveErrors names texts errors
+  of_rules : (defs : List Def) → Source 0 texts defs → ((others : List Def) → Source 0 texts others → others ≡ defs) → are_file_names names ≡ true → HasCheckErrors defs errors
+      → HaveErrors names texts errors
+
+-- the errors of texts of files with these printed names
 pub record IsErrors (e : ErrorList) (names texts : List (List ℕ)) : Type 0 where
   pub told : AreToldIn (record { file_names = names; file_texts = texts }) e
-  pub named : are_file_names names ≡ true
-  pub cause : HaveErrors texts e.errors
+  pub cause : HaveErrors names texts e.errors
+
+-- want of memory, or the error of the grammar at this place, told with these files
+abbrev pub TellsParseError : FileError → Files → Pos → Type 0
+TellsParseError file.Memory files pos = Unit {0}
+TellsParseError (file.Errors e) files pos = (e.files ≡ files) × IsParseError pos e.errors
+TellsParseError file.NotYet files pos = ⊥
+TellsParseError (file.Io index why) files pos = ⊥
+TellsParseError (file.Name name) files pos = ⊥
 
 -- the errors of definitions over files, whose names may be emitted
 pub record AreErrorsOfDefs (e : ErrorList) (files : Files) (defs : List Def) : Type 0 where

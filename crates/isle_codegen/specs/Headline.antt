@@ -12,7 +12,7 @@ use Rattle.isle_core.specs.Lawful.{IsLawful}
 use Rattle.isle_core.specs.Outcome.{Prescription, Prescribed, kind_of}
 use Rattle.isle_core.specs.Rule.{Environment, rules_of}
 use Rattle.isle_core.specs.Terms.{with_rules, term_name, is_impure}
-use Rattle.isle_syntax.specs.Tree.{Def}
+use Rattle.isle_ast.specs.Tree.{Def}
 use Rattle.isle_sema.specs.Typing.{TypedOnly}
 use Rattle.isle_checks.specs.CheckList.{IsClean}
 use Rattle.isle_tree.specs.Program.{Function, Program}

@@ -1,8 +1,9 @@
 -- The definitions that texts spell together.
 use Rattle.std.specs.Prelude.{◌≡◌, ℕ, ◌+◌, List, [], ◌∷◌, ◌++◌, true}
 use Rattle.isle_core.specs.Rule.{Environment}
-use Rattle.isle_syntax.specs.Tree.{Def}
-use Rattle.isle_syntax.specs.Spelling.{Spells}
+use Rattle.isle_ast.specs.Tree.{Def}
+use Rattle.isle_core.specs.declared.position.Pos.{Pos}
+use Rattle.isle_grammar.specs.Spelling.{Spells, IsTextFault}
 use Rattle.isle_sema.specs.Typing.{Typed}
 use Rattle.isle_checks.specs.CheckList.{IsClean}
 use Rattle.isle_codegen.specs.Names.{are_term_names}
@@ -12,6 +13,15 @@ use Rattle.isle_simulation.specs.TraitFns.{HasFnNames}
 abbrev pub Source : ℕ → List (List ℕ) → List Def → Type 0
 Source file [] defs = defs ≡ []
 Source file (text ∷ texts) defs = (ds : List Def) × (es : List Def) × Spells file text ds × Source (file + 1) texts es × (defs ≡ ds ++ es)
+
+-- they spell some definitions
+abbrev pub AreSpelt : List (List ℕ) → Type 0
+AreSpelt texts = (defs : List Def) × Source 0 texts defs
+
+-- of the texts, read as the files from that number on, the first that spells no definitions goes wrong at this place
+pub data GoesWrong : ℕ → List (List ℕ) → Pos → Type 0 where
+  here : (file at : ℕ) (text : List ℕ) (texts : List (List ℕ)) → IsTextFault file text at → GoesWrong file (text ∷ texts) (record { file = file; offset = at })
+  later : (file : ℕ) (text : List ℕ) (texts : List (List ℕ)) (defs : List Def) (pos : Pos) → Spells file text defs → GoesWrong (file + 1) texts pos → GoesWrong file (text ∷ texts) pos
 
 -- the definitions are built and have no fault, and the names of their terms and external functions may be emitted
 pub record IsCompilable (defs : List Def) (env : Environment) : Type 0 where

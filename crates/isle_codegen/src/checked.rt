@@ -1,7 +1,7 @@
 ghost use Rattle.std.specs.Prelude.{◌≡◌, ◌⊎◌, true, length, Err, IfOk, IfErr};
 ghost use Rattle.isle_core.specs.Rule.{Environment};
 ghost use Rattle.isle_core.specs.RuleViews.{environment};
-ghost use Rattle.isle_syntax.specs.Views.{defs as seen};
+ghost use Rattle.isle_ast.specs.Views.{defs as seen};
 ghost use Rattle.isle_sema.specs.Typing.{TypedOnly};
 ghost use Rattle.isle_rulesets.specs.Grouping.{AreRuleSets};
 ghost use Rattle.isle_simulation.specs.TraitFns.{trait_fns_of};
@@ -19,7 +19,7 @@ use isle_checks::{CheckError, overlap};
 use isle_core::{Error, Errors, Files, List, RuleSet, TermEnv, TermId, TypeEnv};
 use isle_emission::trait_fns;
 use isle_sema::{EnvError, env_from_ast};
-use isle_syntax::Def;
+use isle_ast::Def;
 use isle_tree::TraitFn;
 use std::alloc::Global;
 

@@ -1,6 +1,6 @@
 ghost use Rattle.std.specs.Prelude.{◌≡◌, true, IfOk, IfErr};
 ghost use Rattle.std.specs.String.{string_bytes};
-ghost use Rattle.isle_syntax.specs.Views.{defs as seen};
+ghost use Rattle.isle_ast.specs.Views.{defs as seen};
 ghost use Rattle.isle_emission.specs.Built.{IsBuilt};
 ghost use Rattle.isle_codegen.specs.Emission.{DefsArePlaced};
 ghost use Rattle.isle_codegen.specs.Names.{are_file_names};
@@ -12,7 +12,7 @@ use crate::checked::check_defs;
 use crate::compile_error::CompileError;
 use crate::text::text_of;
 use isle_core::{CodegenOptions, Files};
-use isle_syntax::Def;
+use isle_ast::Def;
 use std::alloc::Global;
 
 /// Compiles definitions that stand in the files, and returns the text of the program that they give

@@ -7,6 +7,7 @@ mod compiled;
 mod file_error;
 mod files;
 mod names;
+mod parse_error;
 mod source;
 mod text;
 mod tree;

@@ -1,17 +1,23 @@
 ghost use Rattle.std.specs.Prelude.{◌≡◌, List as ListOf, length, Err, IfOk, IfErr};
-ghost use Rattle.isle_syntax.specs.Tree.{Def as PureDef};
-ghost use Rattle.isle_syntax.specs.Views.{defs};
-ghost use Rattle.isle_codegen.specs.Source.{Source};
+ghost use Rattle.isle_ast.specs.Tree.{Def as PureDef};
+ghost use Rattle.isle_ast.specs.Views.{defs};
+ghost use Rattle.isle_core.specs.declared.position.Pos.{Pos};
+ghost use Rattle.isle_syntax.specs.declared.parser.Mismatch.{Mismatch};
+ghost use Rattle.isle_syntax.specs.declared.parser.ParseFail.TheVariants as fail;
+ghost use Rattle.isle_codegen.specs.Source.{Source, GoesWrong};
 ghost use Rattle.isle_codegen.specs.Emission.{DefsArePlaced};
 ghost use Rattle.isle_codegen.specs.Causes.{IsRefusal};
 
 use crate::file_error::FileError;
+use crate::parse_error::parse_error;
 use isle_core::{Files, Text};
-use isle_syntax::{Def, ParseFail, parse_text};
+use isle_ast::Def;
+use isle_syntax::{ParseFail, parse_text};
 use std::alloc::Global;
 
 /// Parses the files' texts, and returns their definitions, one text after the other. There are as many names as texts.
-/// `NotYet` comes exactly where the texts spell none of forms that are built; beside it only want of memory.
+/// `Errors` comes exactly where a text goes wrong, and tells the place of the first that does (`specs/Errors.antt`); beside it
+/// only want of memory.
 pub fn parse_files(alloc: Global, files: &Files) -> Result<Vec<Def>, FileError>
     requires { length files.now.file_texts ≡ length files.now.file_names }
     ensures ok { IfOk result (λ read. Source 0 files.now.file_texts (defs read.items)) }
@@ -21,17 +27,17 @@ pub fn parse_files(alloc: Global, files: &Files) -> Result<Vec<Def>, FileError>
 {
     match parse_all(alloc, files.file_texts.as_slice()) {
         Ok(read) => Ok(read),
-        Err(ParseFail::NotYet) => Err(FileError::NotYet),
+        Err(ParseFail::At(at, mismatch)) => Err(parse_error(alloc, files, at, mismatch)),
         Err(ParseFail::Memory) => Err(FileError::Memory),
     }
 }
 
-/// Parses the texts, and returns their definitions, one text after the other (`specs/Source.antt`). `NotYet` comes exactly
-/// where they spell none of forms that are built; beside it only want of memory.
+/// Parses the texts, and returns their definitions, one text after the other (`specs/Source.antt`). `At` comes exactly where
+/// one goes wrong, and tells the place of the first that does; beside it only want of memory.
 pub fn parse_all(alloc: Global, texts: &[Text]) -> Result<Vec<Def>, ParseFail>
     ensures ok { IfOk result (λ read. Source 0 texts.now (defs read.items)) }
     ensures once { IfOk result (λ read. (others : ListOf PureDef) → Source 0 texts.now others → others ≡ defs read.items) }
-    ensures not_yet { result ≡ Err ParseFail.NotYet → (others : ListOf PureDef) → Source 0 texts.now others → ⊥ }
+    ensures fault { (at : Pos) (m : Mismatch) → result ≡ Err (fail.At at m) → GoesWrong 0 texts.now at }
 {
     let mut all = Vec::new(alloc);
     for (file, text) in texts.iter().enumerate() {

@@ -3,9 +3,9 @@ use Rattle.std.proofs.Common.{◌≡◌, ℕ, ◌+◌, ◌<◌, List, [], ◌∷
 use Rattle.std.specs.Prelude.{fold, drop, filter_map, option_to_list}
 use Rattle.std.specs.List.{cons_option}
 use Rattle.std.proofs.lemmas.List.{drop_more, map-append, append_assoc}
-use Rattle.isle_syntax.specs.declared.tree.Def.{Def as CodeDef}
-use Rattle.isle_syntax.specs.Tree.{Def}
-use Rattle.isle_syntax.specs.Views.{def}
+use Rattle.isle_ast.specs.declared.tree.Def.{Def as CodeDef}
+use Rattle.isle_ast.specs.Tree.{Def}
+use Rattle.isle_ast.specs.Views.{def}
 use Rattle.isle_declarations.specs.declared.collected.Signature.{Signature as CodeSignature}
 use Rattle.isle_declarations.specs.declared.collected.Extern.{Extern as CodeExtern}
 use Rattle.isle_declarations.specs.declared.collected.RuleDef.{RuleDef as CodeRule}

@@ -3,9 +3,9 @@ use Rattle.std.proofs.Common.{◌≡◌, ℕ, ◌+◌, ◌<◌, List, ◌∷◌,
 use Rattle.std.specs.Prelude.{fold, flat_map, drop}
 use Rattle.std.proofs.lemmas.List.{drop_more}
 use Rattle.std.proofs.lemmas.List.Sums.{fold-append}
-use Rattle.isle_syntax.specs.declared.tree.AstPattern.{AstPattern}
-use Rattle.isle_syntax.specs.declared.tree.Def.{Def as CodeDef}
-use Rattle.isle_syntax.specs.Views.{pattern, def}
+use Rattle.isle_ast.specs.declared.tree.AstPattern.{AstPattern}
+use Rattle.isle_ast.specs.declared.tree.Def.{Def as CodeDef}
+use Rattle.isle_ast.specs.Views.{pattern, def}
 use Rattle.isle_declarations.specs.Symbols.{added, pattern_names, def_names}
 
 -- one text more

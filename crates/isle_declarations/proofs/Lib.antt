@@ -1,6 +1,5 @@
 pub mod SymbolLaws
 pub mod PlaceLaws
-pub mod Sees
 pub mod LookUps
 pub mod NumberLaws
 pub mod Interned

@@ -1,7 +1,7 @@
 -- What contracts see of the collected declarations and rules.
 use Rattle.std.specs.Prelude.{◌≡◌, ℕ, List, [], ◌∷◌, map, option_map, option_to_list}
-use Rattle.isle_syntax.specs.Tree.{Def}
-use Rattle.isle_syntax.specs.Views.{pattern, expr, iflet}
+use Rattle.isle_ast.specs.Tree.{Def}
+use Rattle.isle_ast.specs.Views.{pattern, expr, iflet}
 use Rattle.isle_declarations.specs.declared.collected.Signature.{Signature as CodeSignature}
 use Rattle.isle_declarations.specs.declared.collected.RuleDef.{RuleDef as CodeRule}
 use Rattle.isle_declarations.specs.declared.collected.Extern.{Extern as CodeExtern}

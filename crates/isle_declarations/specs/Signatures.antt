@@ -4,7 +4,7 @@ use Rattle.std.specs.List.{list_any}
 use Rattle.std.specs.Str.{bytes_eq}
 use Rattle.isle_core.specs.declared.position.Pos.{Pos}
 use Rattle.isle_core.specs.declared.TermId.{TermId}
-use Rattle.isle_syntax.specs.Tree.{Pattern, Expr, IfLet, Def, TypeDecl, Decl, ExternConstructor, ExternExtractor, ExternConst, Extractor, Converter, Rule, Passed}
+use Rattle.isle_ast.specs.Tree.{Pattern, Expr, IfLet, Def, TypeDecl, Decl, ExternConstructor, ExternExtractor, ExternConst, Extractor, Converter, Rule, Passed}
 use Rattle.isle_declarations.specs.Symbols.{index_of}
 
 -- a declaration

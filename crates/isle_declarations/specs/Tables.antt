@@ -1,6 +1,6 @@
 -- The first places of names by their numbers.
 use Rattle.std.specs.Prelude.{◌≡◌, ℕ, List, Bool, ◌||◌, Option, Some, map, option_map}
-use Rattle.isle_syntax.specs.Tree.{Def}
+use Rattle.isle_ast.specs.Tree.{Def}
 use Rattle.isle_declarations.specs.declared.collected.Definitions.{Definitions}
 use Rattle.isle_declarations.specs.declared.first_places.FirstPlaces.{FirstPlaces}
 use Rattle.isle_declarations.specs.Symbols.{index_of, number_or, symbols}

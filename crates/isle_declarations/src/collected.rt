@@ -5,7 +5,7 @@ ghost use Rattle.isle_declarations.specs.Collected.{item_signatures, item_extern
 
 use crate::symbols::Symbols;
 use isle_core::{Pos, Text};
-use isle_syntax::{AstExpr, AstIfLet, AstPattern};
+use isle_ast::{AstExpr, AstIfLet, AstPattern};
 use std::alloc::AllocError;
 
 /// A declaration, and the number of its name.

@@ -1,7 +1,7 @@
 //! Declarations, external constructors and rules, looked up by the numbers of their names.
 
 ghost use Rattle.std.specs.Prelude.{◌≡◌, IfOk};
-ghost use Rattle.isle_syntax.specs.Views.{defs as seen};
+ghost use Rattle.isle_ast.specs.Views.{defs as seen};
 ghost use Rattle.isle_declarations.specs.Symbols.{index_of, symbols};
 ghost use Rattle.isle_declarations.specs.Signatures.{signatures, externs, rule_defs};
 ghost use Rattle.isle_declarations.specs.Heads.{terms_of, extern_terms, heads_of};
@@ -13,7 +13,7 @@ use crate::first_places::{FirstPlaces, place_in};
 use crate::interning::definitions;
 use crate::tables::{declared_places, external_places, ruled_places};
 use isle_core::Text;
-use isle_syntax::Def;
+use isle_ast::Def;
 use std::alloc::{AllocError, Global};
 use std::marker::Model;
 
@@ -31,9 +31,9 @@ pub struct Declarations<'d> {
 impl<'d> Model for Declarations<'d> {
     ghost use Rattle.std.specs.Prelude.{List};
     ghost use Rattle.std.specs.Coded.{codes};
-    ghost use Rattle.isle_syntax.specs.contracts.tree.Def as d;
-    ghost use Rattle.isle_syntax.specs.declared.tree.Def.{Def};
-    ghost use Rattle.isle_syntax.specs.Views.{defs as seen};
+    ghost use Rattle.isle_ast.specs.contracts.tree.Def as d;
+    ghost use Rattle.isle_ast.specs.declared.tree.Def.{Def};
+    ghost use Rattle.isle_ast.specs.Views.{defs as seen};
     ghost use Rattle.isle_declarations.specs.Tables.{AreTables};
 
     ghost Value = { List Def };

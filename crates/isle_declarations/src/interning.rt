@@ -1,14 +1,14 @@
 //! The names in definitions, from left to right.
 
 ghost use Rattle.std.specs.Prelude.{◌≡◌, ◌++◌, ◌∷◌, [], Some, IfOk, OnOk, map, fold, flat_map, option_to_list};
-ghost use Rattle.isle_syntax.specs.Views.{pattern, expr, exprs_of, def, defs as seen};
+ghost use Rattle.isle_ast.specs.Views.{pattern, expr, exprs_of, def, defs as seen};
 ghost use Rattle.isle_declarations.specs.Symbols.{index_of, added, pattern_names, expr_names, exprs_names, rule_names, def_names};
 ghost use Rattle.isle_declarations.specs.Collected.{IsItem, AreCollected};
 
 use crate::collected::{Definitions, Extern, Item, RuleDef, Signature, keep};
 use crate::symbols::Symbols;
 use isle_core::Text;
-use isle_syntax::{AstExpr, AstPattern, Def};
+use isle_ast::{AstExpr, AstPattern, Def};
 use std::alloc::{AllocError, Global};
 
 // One name.
@@ -30,7 +30,7 @@ fn intern_texts<'d>(names: &mut Symbols<'d>, texts: &'d [Text]) -> Result<(), Al
 }
 
 // The names in a pattern.
-#[tactic(auto, using(crate::proofs::Sees::pattern_sees))]
+#[tactic(auto, using(isle_ast::proofs::Sees::pattern_sees))]
 fn intern_pattern<'d>(names: &mut Symbols<'d>, p: &'d AstPattern) -> Result<(), AllocError>
     ensures { OnOk result (names.new ≡ fold added names.old (pattern_names (pattern p.now))) }
 {
@@ -55,7 +55,7 @@ fn intern_patterns<'d>(
 
 // The names in an expression, a call's own before those of its arguments.
 #[cycle(names)]
-#[tactic(auto, using(crate::proofs::Sees::expr_sees))]
+#[tactic(auto, using(isle_ast::proofs::Sees::expr_sees))]
 fn intern_expr<'d>(names: &mut Symbols<'d>, e: &'d AstExpr) -> Result<(), AllocError>
     ensures { OnOk result (names.new ≡ fold added names.old (expr_names (expr e.now))) }
 {

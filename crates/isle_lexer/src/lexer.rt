@@ -1,4 +1,4 @@
-ghost use Rattle.std.specs.Prelude.{◌≡◌, [], ◌∷◌, IfOk, IfErr, IfSome, Some, None};
+ghost use Rattle.std.specs.Prelude.{◌≡◌, [], ◌∷◌, IfOk, IfErr, IfSome, Some, None, length};
 ghost use Rattle.std.specs.Str.{IsUtf8};
 ghost use Rattle.isle_lexer.specs.Token.{unclosed, IsClosed};
 ghost use Rattle.isle_lexer.specs.Lexeme.{lexemes};
@@ -73,6 +73,13 @@ impl<'a> Lexer<'a> {
         ensures { result ≡ lexer_file self.now }
     {
         self.file
+    }
+
+    /// Returns how many bytes the text has.
+    pub fn text_len(&self) -> usize
+        ensures { result ≡ length (lexer_text self.now) }
+    {
+        self.text.len()
     }
 
     /// Returns the tokens that are left, in order, as the grammar sees them.

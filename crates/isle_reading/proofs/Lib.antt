@@ -11,8 +11,4 @@ pub mod ListSteps
 pub mod Merging
 pub mod BothLaw
 pub mod BothSteps
-pub mod TrialGrammar
-pub mod TrialLaws
-pub mod TrialForms
-pub mod TrialTexts
 pub mod TrialNesting

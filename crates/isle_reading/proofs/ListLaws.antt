@@ -2,7 +2,7 @@
 use Rattle.std.proofs.Common.{◌≡◌, ℕ, zero, suc, ◌+◌, ◌≤◌, ◌<◌, List, [], ◌∷◌, ◌++◌, length, length-append, true, false, inl, inr, refl, ap, sym, ◌∙◌, subst, arith}
 use Rattle.isle_lexer.specs.Lexeme.{Lexeme, Close}
 use Rattle.isle_reading.specs.Reader.{Got, Stuck, Deep, Reader, Ret, End, Halt, run, bind}
-use Rattle.isle_reading.specs.Combinators.{is_close, read_close, many, all_from}
+use Rattle.isle_reading.specs.Combinators.{is_close, read_close, many, some, all_from}
 use Rattle.isle_reading.specs.Nesting.{Nest}
 use Rattle.isle_reading.specs.Relations.{Taken, Begins, Begun, Anything, Ended, Many, none, more, AllFrom, no_item, an_item}
 use Rattle.isle_reading.proofs.Running.{stuck_not_got, stuck_not_deep, got_not_deep, got_is, deep_is}
@@ -28,7 +28,7 @@ takes {S = S} r h some c not a ts rest e =
     longer x.0 ts rest (λ z. not a (subst (λ front. S a (front ++ some) some) z (x.2 some c))) x.1
 
 -- one value, and the others
-abbrev One_more : {A : Type 0} → (A → List Lexeme → List Lexeme → Type 0) → List A → List Lexeme → List Lexeme → Type 0
+abbrev pub One_more : {A : Type 0} → (A → List Lexeme → List Lexeme → Type 0) → List A → List Lexeme → List Lexeme → Type 0
 One_more S = Then S (λ a. Then (Many S) (λ others. Nothing (a ∷ others)))
 
 -- no value, and the parenthesis
@@ -71,6 +71,11 @@ module _ {A : Type 0} {P : Nest → Type 0} {C : List Lexeme → Type 0} (E : Ne
       (law_less_then k r (λ a. bind (many k r) (λ others. Ret (a ∷ others))) (λ a ts mid e l. let x : length mid < length ts = takes r h (Close 0 ∷ []) (close_follows 0 []) closed_not a ts mid e in omega (arith, l, x))
       (λ a b ts rest s d. many_follows s.0 ts s.1 s.2) (law_less (suc k) le h)
       (λ a. law_next (many k r) (λ others. Ret (a ∷ others)) (law_many k (omega (arith, le))) (λ others. law_ret (a ∷ others) (λ q p. p)))))
+
+  -- at least one value
+  pub law_some : (k : ℕ) → suc k ≤ n → Law P (λ as'. E) Anything (suc k) (One_more S) (some k r)
+  law_some k le = law_less_then k r (λ a. bind (many k r) (λ others. Ret (a ∷ others))) (λ a ts mid e l. let x : length mid < length ts = takes r h (Close 0 ∷ []) (close_follows 0 []) closed_not a ts mid e in omega (arith, l, x))
+      (λ a b ts rest s d. many_follows s.0 ts s.1 s.2) (law_less (suc k) le h) (λ a. law_next (many k r) (λ others. Ret (a ∷ others)) (law_many k (omega (arith, le))) (λ others. law_ret (a ∷ others) (λ q p. p)))
 
 -- ---- values up to the end of the text
 

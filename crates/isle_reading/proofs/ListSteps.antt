@@ -4,10 +4,10 @@ use Rattle.std.proofs.lemmas.List.{map-append}
 use Rattle.isle_lexer.specs.Lexeme.{Lexeme, Open, Close, At, Less, Greater, Word}
 use Rattle.isle_reading.specs.declared.cursor.Fail.{Fail}
 use Rattle.isle_reading.specs.Reader.{Reading, Got, Stuck, Deep, Reader, Ret, after, run, bind}
-use Rattle.isle_reading.specs.Combinators.{read_close, many, all_from}
+use Rattle.isle_reading.specs.Combinators.{read_close, many, some, all_from}
 use Rattle.isle_reading.specs.Views.{closes, stops, Refuses}
 use Rattle.isle_reading.proofs.Running.{run-bind}
-use Rattle.isle_reading.proofs.Steps.{passed, refuses_after}
+use Rattle.isle_reading.proofs.Steps.{passed, refuses_after, no_close_peek}
 
 -- values in front of those that are still to be read
 unfoldable pub in_front : {A : Type 0} → List A → Reading (List A) → Reading (List A)
@@ -80,6 +80,11 @@ full-by : {A : Type 0} (r : Reader A) (ts : List Lexeme) → stops (run (many ze
 unfolding many run
 full-by r [] = refl
 full-by r (t ∷ ts) = refl
+
+-- a list of values where no parenthesis is next has at least one
+pub some-by : {A : Type 0} (r : Reader A) (m : ℕ) (ts : List Lexeme) → 0 < length ts → None ≡ closes ts → run (many (suc m) r) ts ≡ run (some m r) ts
+unfolding many
+some-by r m ts l e = no_close_peek (bind read_close (λ c. Ret [])) (some m r) ts l e
 
 -- a value more
 pub list-more : {T A : Type 0} (view : T → A) (r : Reader A) (m i : ℕ) (ts us : List Lexeme) (xs ys : List T) (x : T) (whole : Reading (List A)) → i < m → run r [] ≡ Stuck [] → None ≡ closes ts

@@ -1,8 +1,8 @@
 -- How tokens lead from state to state.
-use Rattle.std.proofs.Common.{◌≡◌, ℕ, suc, ◌≤◌, ◌<◌, List, [], ◌∷◌, length, Bool, true, false, IsTrue, refl, ap, sym, ◌∙◌, subst, arith, Option, Some}
+use Rattle.std.proofs.Common.{◌≡◌, ℕ, zero, suc, ◌≤◌, ◌<◌, List, [], ◌∷◌, length, Bool, true, false, IsTrue, refl, ap, sym, ◌∙◌, subst, arith, Option, Some}
 use Rattle.std.specs.Prelude.{if◌then◌else◌}
-use Rattle.isle_lexer.specs.Lexeme.{Lexeme, Open, Close, At, Word}
-use Rattle.isle_reading.specs.Combinators.{is_open, is_at, place}
+use Rattle.isle_lexer.specs.Lexeme.{Lexeme, Open, Close, At, Less, Greater, Word}
+use Rattle.isle_reading.specs.Combinators.{is_open, is_close, is_at, place}
 use Rattle.isle_reading.specs.Nesting.{Mark, Round, Passed, Sign, Last, Headless, Awaiting, Other, Nest, nothing_open, is_passed, settled, here_by, here, opened, closed, signed, passed_over, worded, nest, most_open}
 use Rattle.isle_reading.proofs.Passes.{Steps}
 use Rattle.isle_reading.proofs.TokenLaws.{WordSteps, open_is, at_is}
@@ -130,6 +130,11 @@ inside_close m ms l at q p =
     let e : nest q (Close at) ≡ record { marks = ms; last = Other } = ap (λ z. record { marks = closed z; last = Other }) p.stands in
     (subst (λ z. length z.marks ≤ most_open) (sym e) l, settled_inside ms (nest q (Close at)) e)
 
+pub close_behind : (m : Mark) (ms : List Mark) → length ms ≤ most_open → (at : ℕ) → Steps (Inside (m ∷ ms)) (Behind ms) (Close at)
+close_behind m ms l at q p =
+    let e : nest q (Close at) ≡ record { marks = ms; last = Other } = ap (λ z. record { marks = closed z; last = Other }) p.stands in
+    (subst (λ z. length z.marks ≤ most_open) (sym e) l, e)
+
 worded_here : (l : Last) (w : List ℕ) (ms : List Mark) → IsHeaded l → worded l w ms ≡ here_by l ms
 worded_here Headless w ms h = absurd h
 worded_here Awaiting w ms h = refl
@@ -174,3 +179,59 @@ pub behind_over : (ms : List Mark) → InList ms → most_open ≡ length ms →
 behind_over ms h e q t p is =
     let x : length (nest q (At (place t))).marks ≡ suc (length ms) = ap (λ (z : Nest). length z.marks) (ap (λ (z : Nest). signed z.marks) p ∙ more_signed ms h) in
     subst (λ z. most_open < length (nest q z).marks) (sym (at_is t is)) (omega (arith, e, x))
+
+-- ---- in a list that is passed over, where an `@` is a token like another
+
+-- so many parentheses
+abbrev pub passed : ℕ → List Mark
+passed zero = []
+passed (suc k) = Passed ∷ passed k
+
+abbrev pub InPassed : ℕ → Nest → Type 0
+InPassed k q = q ≡ record { marks = passed k; last = Other }
+
+passed_length : (k : ℕ) → length (passed k) ≡ k
+passed_length zero = refl
+passed_length (suc k) = ap suc (passed_length k)
+
+-- a token that leads there, where so many may be open
+led : (j k : ℕ) (t : Lexeme) → k ≤ most_open → nest (record { marks = passed j; last = Other }) t ≡ record { marks = passed k; last = Other } → Steps (InPassed j) (InPassed k) t
+led j k t l e q p =
+    let x : nest q t ≡ record { marks = passed k; last = Other } = ap (λ (z : Nest). nest z t) p ∙ e in
+    let y : length (passed k) ≡ k = passed_length k in
+    (subst (λ (z : Nest). length z.marks ≤ most_open) (sym x) (omega (arith, l, y)), x)
+
+pub passed_open : (k : ℕ) → suc (suc k) ≤ most_open → (at : ℕ) → Steps (InPassed (suc k)) (InPassed (suc (suc k))) (Open at)
+passed_open k l at = led (suc k) (suc (suc k)) (Open at) l refl
+
+pub passed_close : (k : ℕ) → k ≤ most_open → (at : ℕ) → Steps (InPassed (suc k)) (InPassed k) (Close at)
+passed_close k l at = led (suc k) k (Close at) l refl
+
+pub passed_token : (k : ℕ) → suc k ≤ most_open → (t : Lexeme) → is_open t ≡ false → is_close t ≡ false → Steps (InPassed (suc k)) (InPassed (suc k)) t
+passed_token k l (Open at) e f = cc
+passed_token k l (Close at) e f = cc
+passed_token k l (At at) e f = led (suc k) (suc k) (At at) l refl
+passed_token k l (Less at) e f = led (suc k) (suc k) (Less at) l refl
+passed_token k l (Greater at) e f = led (suc k) (suc k) (Greater at) l refl
+passed_token k l (Word at w) e f = led (suc k) (suc k) (Word at w) l refl
+
+pub passed_over_more : (k : ℕ) → most_open ≡ suc k → (q : Nest) (t : Lexeme) → InPassed (suc k) q → IsTrue (is_open t) → most_open < length (nest q t).marks
+passed_over_more k e q t p is =
+    let x : length (nest q (Open (place t))).marks ≡ suc (suc (length (passed k))) = ap (λ (z : Nest). length (nest z (Open (place t))).marks) p in
+    let y : length (passed k) ≡ k = passed_length k in
+    subst (λ z. most_open < length (nest q z).marks) (sym (open_is t is)) (omega (arith, e, x, y))
+
+-- behind its last parenthesis
+pub passed_behind : (q : Nest) → InPassed 0 q → Inside [] q
+passed_behind q p = settled_inside [] q p
+
+-- the first word of a list at the top, by what it gives: whether the list is passed over
+pub head_word_by : {A : Type 0} (f : List ℕ → Option A) (over : A → Bool) → 1 ≤ most_open → ((w : List ℕ) (a : A) → f w ≡ Some a → is_passed w ≡ over a)
+    → WordSteps AtHead (λ a q. q ≡ record { marks = if over a then Passed ∷ [] else Round ∷ []; last = Other }) f
+head_word_by f over l is at w a e q p =
+    let x : nest q (Word at w) ≡ record { marks = if over a then Passed ∷ [] else Round ∷ []; last = Other } = ap (λ z. nest z (Word at w)) p ∙ ap (λ b. record { marks = if b then Passed ∷ [] else Round ∷ []; last = Other }) (is w a e) in
+    (subst (λ z. length z.marks ≤ most_open) (sym x) (one_mark (over a)), x)
+  where
+    one_mark : (b : Bool) → length (if b then Passed ∷ [] else Round ∷ []) ≤ most_open
+    one_mark true = l
+    one_mark false = l

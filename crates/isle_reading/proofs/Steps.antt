@@ -1,12 +1,12 @@
 -- One step of a reader, by what comes next.
-use Rattle.std.proofs.Common.{◌≡◌, ℕ, zero, suc, ◌<◌, List, [], ◌∷◌, length, drop, cond, refl, ap, sym, ◌∙◌, subst, arith, Option, Some, None}
+use Rattle.std.proofs.Common.{◌≡◌, Bool, ℕ, zero, suc, ◌+◌, ◌-◌, ◌≤◌, ◌<◌, List, [], ◌∷◌, length, drop, cond, refl, ap, sym, ◌∙◌, subst, arith, Option, Some, None}
 use Rattle.std.specs.Prelude.{is_some, slice_get, Result, Ok, Err, IfOk, IsErrAnd}
 use Rattle.isle_lexer.specs.Lexeme.{Lexeme, Open, Close, At, Less, Greater, Word}
 use Rattle.isle_reading.specs.declared.cursor.Fail.{Fail}
 use Rattle.isle_reading.specs.declared.cursor.Fail.TheVariants as code
 use Rattle.isle_reading.specs.Reader.{Reading, Got, Stuck, Deep, Reader, Ret, Peek, Halt, after, run, bind}
-use Rattle.isle_reading.specs.Combinators.{is_open, read_open, read_close, given, read_word, next_word, read_optional}
-use Rattle.isle_reading.specs.Views.{opens, closes, stops, Refuses, Comes}
+use Rattle.isle_reading.specs.Combinators.{is_open, is_close, is_at, read_open, read_close, read_at, given, read_word, next_word, read_optional, words_from}
+use Rattle.isle_reading.specs.Views.{opens, closes, signs, stops, Refuses, Comes}
 use Rattle.isle_reading.proofs.Running.{run-bind}
 
 -- the first of what is left
@@ -139,6 +139,77 @@ barred_stops n at ts e = ap stops (open_peek Halt n at ts e)
 
 pub ruleset round = (open_got, open_stops, close_got, close_stops)
 
+-- ---- an `@`
+
+-- a list where an `@` is next
+pub at_peek : {A : Type 0} (y n : Reader A) (at : ℕ) (ts : List Lexeme) → Some at ≡ signs ts → run (Peek is_at y n) ts ≡ run y ts
+unfolding run
+at_peek y n at [] e = cc
+at_peek y n at (Open m ∷ ts) e = cc
+at_peek y n at (Close m ∷ ts) e = cc
+at_peek y n at (At m ∷ ts) e = refl
+at_peek y n at (Less m ∷ ts) e = cc
+at_peek y n at (Greater m ∷ ts) e = cc
+at_peek y n at (Word m w ∷ ts) e = cc
+
+-- something else where none is
+pub no_at_peek : {A : Type 0} (y n : Reader A) (ts : List Lexeme) → 0 < length ts → None ≡ signs ts → run (Peek is_at y n) ts ≡ run n ts
+unfolding run
+no_at_peek y n [] l e = absurd (omega (arith, l))
+no_at_peek y n (Open m ∷ ts) l e = refl
+no_at_peek y n (Close m ∷ ts) l e = refl
+no_at_peek y n (At m ∷ ts) l e = cc
+no_at_peek y n (Less m ∷ ts) l e = refl
+no_at_peek y n (Greater m ∷ ts) l e = refl
+no_at_peek y n (Word m w ∷ ts) l e = refl
+
+pub at_got : (ts us : List Lexeme) (at : ℕ) → Some at ≡ signs ts → us ≡ drop 1 ts → run read_at ts ≡ Got at us
+unfolding read_at run
+at_got [] us at e f = cc
+at_got (Open n ∷ ts) us at e f = cc
+at_got (Close n ∷ ts) us at e f = cc
+at_got (At n ∷ ts) us at e f = let x : n ≡ at = cc in let y : us ≡ ts = f in ap (λ m. Got m ts) x ∙ ap (Got at) (sym y)
+at_got (Less n ∷ ts) us at e f = cc
+at_got (Greater n ∷ ts) us at e f = cc
+at_got (Word n w ∷ ts) us at e f = cc
+
+-- at the end of the text no look is taken
+pub peek_stops : {A : Type 0} (test : Lexeme → Bool) (y n : Reader A) (ts : List Lexeme) → length ts ≡ 0 → stops (run (Peek test y n) ts) ≡ Some (length ts)
+unfolding run
+peek_stops test y n [] e = refl
+peek_stops test y n (t ∷ ts) e = absurd (omega (arith, e))
+
+-- where a parenthesis closes, and where none does
+pub close_peek : {A : Type 0} (y n : Reader A) (at : ℕ) (ts : List Lexeme) → Some at ≡ closes ts → run (Peek is_close y n) ts ≡ run y ts
+unfolding run
+close_peek y n at [] e = cc
+close_peek y n at (Open m ∷ ts) e = cc
+close_peek y n at (Close m ∷ ts) e = refl
+close_peek y n at (At m ∷ ts) e = cc
+close_peek y n at (Less m ∷ ts) e = cc
+close_peek y n at (Greater m ∷ ts) e = cc
+close_peek y n at (Word m w ∷ ts) e = cc
+
+pub no_close_peek : {A : Type 0} (y n : Reader A) (ts : List Lexeme) → 0 < length ts → None ≡ closes ts → run (Peek is_close y n) ts ≡ run n ts
+unfolding run
+no_close_peek y n [] l e = absurd (omega (arith, l))
+no_close_peek y n (Open m ∷ ts) l e = refl
+no_close_peek y n (Close m ∷ ts) l e = cc
+no_close_peek y n (At m ∷ ts) l e = refl
+no_close_peek y n (Less m ∷ ts) l e = refl
+no_close_peek y n (Greater m ∷ ts) l e = refl
+no_close_peek y n (Word m w ∷ ts) l e = refl
+
+pub no_open_peek : {A : Type 0} (y n : Reader A) (ts : List Lexeme) → 0 < length ts → None ≡ opens ts → run (Peek is_open y n) ts ≡ run n ts
+unfolding run
+no_open_peek y n [] l e = absurd (omega (arith, l))
+no_open_peek y n (Open m ∷ ts) l e = cc
+no_open_peek y n (Close m ∷ ts) l e = refl
+no_open_peek y n (At m ∷ ts) l e = refl
+no_open_peek y n (Less m ∷ ts) l e = refl
+no_open_peek y n (Greater m ∷ ts) l e = refl
+no_open_peek y n (Word m w ∷ ts) l e = refl
+
 -- ---- words
 
 -- what the next word gives, by that word
@@ -230,6 +301,62 @@ unfolding run read_optional read_word
 optional_stops f other [] e = refl
 optional_stops f other (t ∷ ts) e = absurd (omega (arith, e))
 
+-- ---- words that lead from state to state
+
+words_peek : {St : Type 0} (next : St → List ℕ → Option St) (k : ℕ) (s u : St) (ts : List Lexeme) → next_word (next s) ts ≡ Some u → run (words_from (suc k) next s) ts ≡ run (bind (read_word (next s)) (λ u. words_from k next u)) ts
+unfolding run words_from
+words_peek next k s u [] e = cc
+words_peek next k s u (Open n ∷ ts) e = cc
+words_peek next k s u (Close n ∷ ts) e = cc
+words_peek next k s u (At n ∷ ts) e = cc
+words_peek next k s u (Less n ∷ ts) e = cc
+words_peek next k s u (Greater n ∷ ts) e = cc
+words_peek next k s u (Word n w ∷ ts) e = ap (λ b. cond b (run (bind (read_word (next s)) (λ u. words_from k next u)) (Word n w ∷ ts)) (Got s (Word n w ∷ ts))) (ap is_some e)
+
+words_one : {St : Type 0} (next : St → List ℕ → Option St) (k : ℕ) (s u : St) (ts us : List Lexeme) → next_word (next s) ts ≡ Some u → us ≡ drop 1 ts → run (words_from (suc k) next s) ts ≡ run (words_from k next u) us
+words_one next k s u ts us e f = words_peek next k s u ts e ∙ then_got (read_word (next s)) (λ u. words_from k next u) ts us u _ (word_got (next s) ts us u e f) refl
+
+words_none : {St : Type 0} (next : St → List ℕ → Option St) (k : ℕ) (s : St) (ts : List Lexeme) → next_word (next s) ts ≡ None → 0 < length ts → run (words_from (suc k) next s) ts ≡ Got s ts
+unfolding run words_from
+words_none next k s [] e l = absurd (omega (arith, l))
+words_none next k s (Open n ∷ ts) e l = refl
+words_none next k s (Close n ∷ ts) e l = refl
+words_none next k s (At n ∷ ts) e l = refl
+words_none next k s (Less n ∷ ts) e l = refl
+words_none next k s (Greater n ∷ ts) e l = refl
+words_none next k s (Word n w ∷ ts) e l = ap (λ b. cond b (run (bind (read_word (next s)) (λ u. words_from k next u)) (Word n w ∷ ts)) (Got s (Word n w ∷ ts))) (ap is_some e)
+
+words_stops : {St : Type 0} (next : St → List ℕ → Option St) (k : ℕ) (s : St) (ts : List Lexeme) → length ts ≡ 0 → stops (run (words_from (suc k) next s) ts) ≡ Some (length ts)
+unfolding run words_from
+words_stops next k s [] e = refl
+words_stops next k s (t ∷ ts) e = absurd (omega (arith, e))
+
+-- a word more
+pub words-more : {St : Type 0} (next : St → List ℕ → Option St) (m i : ℕ) (s u : St) (ts us : List Lexeme) (whole : Reading St) → i < m → next_word (next s) ts ≡ Some u → us ≡ drop 1 ts
+    → run (words_from (m - i) next s) ts ≡ whole → run (words_from (m - (i + 1)) next u) us ≡ whole
+words-more next m i s u ts us whole l e f h =
+    let k : m - i ≡ suc (m - (i + 1)) = omega arith in
+    sym (words_one next (m - (i + 1)) s u ts us e f) ∙ ap (λ n. run (words_from n next s) ts) (sym k) ∙ h
+
+-- no word more
+pub words-end : {St : Type 0} (next : St → List ℕ → Option St) (m i : ℕ) (s : St) (ts : List Lexeme) (whole : Reading St) → i < m → next_word (next s) ts ≡ None → 0 < length ts → run (words_from (m - i) next s) ts ≡ whole → whole ≡ Got s ts
+words-end next m i s ts whole l e some h =
+    let k : m - i ≡ suc (m - (i + 1)) = omega arith in
+    sym h ∙ ap (λ n. run (words_from n next s) ts) k ∙ words_none next (m - (i + 1)) s ts e some
+
+-- the end of the text
+pub words-stop : {St : Type 0} (next : St → List ℕ → Option St) (m i : ℕ) (s : St) (ts : List Lexeme) (whole : Reading St) → i < m → length ts ≡ 0 → run (words_from (m - i) next s) ts ≡ whole → stops whole ≡ Some (length ts)
+words-stop next m i s ts whole l e h =
+    let k : m - i ≡ suc (m - (i + 1)) = omega arith in
+    ap stops (sym h ∙ ap (λ n. run (words_from n next s) ts) k) ∙ words_stops next (m - (i + 1)) s ts e
+
+-- no more words may stand there
+pub words-full : {St : Type 0} (next : St → List ℕ → Option St) (m i : ℕ) (s : St) (ts : List Lexeme) (whole : Reading St) → m ≤ i → run (words_from (m - i) next s) ts ≡ whole → whole ≡ Got s ts
+unfolding run words_from
+words-full next m i s ts whole l h =
+    let k : m - i ≡ zero = omega arith in
+    sym h ∙ ap (λ n. run (words_from n next s) ts) k
+
 -- what closes the function that tells what the next word gives
 pub ruleset next = (next_some, next_none)
 
@@ -237,3 +364,6 @@ pub ruleset next = (next_some, next_none)
 pub ruleset words = (word_got, word_stops)
 
 pub ruleset optionals = (optional_got, optional_other, optional_stops)
+
+-- what closes a loop that reads words which lead from state to state
+pub ruleset states = (words-more, words-end, words-stop, words-full)

@@ -1,14 +1,14 @@
 -- The laws of readers of one token, of a word, and of a look at the next token.
-use Rattle.std.proofs.Common.{◌≡◌, ℕ, ◌<◌, List, [], ◌∷◌, ◌++◌, length, Bool, true, false, IsTrue, ◌⊎◌, inl, inr, cond, refl, ap, sym, ◌∙◌, subst, arith, Option, Some, None}
+use Rattle.std.proofs.Common.{◌≡◌, ℕ, zero, suc, ◌<◌, List, [], ◌∷◌, ◌++◌, length, Bool, true, false, IsTrue, ◌⊎◌, inl, inr, cond, refl, ap, sym, ◌∙◌, subst, arith, Option, Some, None}
 use Rattle.std.specs.Prelude.{is_some}
 use Rattle.isle_lexer.specs.Lexeme.{Lexeme, Open, Close, At, Less, Greater, Word}
-use Rattle.isle_reading.specs.Reader.{Reading, Got, Stuck, Deep, Reader, Ret, Ask, Peek, End, Halt, run}
-use Rattle.isle_reading.specs.Combinators.{is_open, is_close, is_at, on_word, bytes, place, refuse, read_open, read_close, read_at, given, read_word, read_optional, at_end}
+use Rattle.isle_reading.specs.Reader.{Reading, Got, Stuck, Deep, Reader, Ret, Ask, Peek, End, Halt, run, bind}
+use Rattle.isle_reading.specs.Combinators.{is_open, is_close, is_at, on_word, bytes, place, refuse, read_open, read_close, read_at, given, read_word, read_optional, words_from, at_end}
 use Rattle.isle_reading.specs.Nesting.{Nest, nest, most_open}
-use Rattle.isle_reading.specs.Relations.{Begins, Taken, Begun, Ended}
+use Rattle.isle_reading.specs.Relations.{Begins, Taken, Begun, Ended, WordsFrom, no_word, a_word}
 use Rattle.isle_reading.proofs.Running.{stuck_not_got, stuck_not_deep, got_not_deep, got_is, stuck_is, deep_is}
 use Rattle.isle_reading.proofs.Passes.{none, one, Nests, Within, Steps}
-use Rattle.isle_reading.proofs.Law.{Hits, hit, too_deep, Law, Heads, Some_token, Nothing, NothingLeft, Either, law_map, leads_behind}
+use Rattle.isle_reading.proofs.Law.{Hits, hit, too_deep, Law, Heads, Some_token, Nothing, NothingLeft, Then, Either, law_map, law_next, leads_behind}
 
 -- ---- nothing
 
@@ -178,14 +178,14 @@ word_is test (Less at) h = cc
 word_is test (Greater at) h = cc
 word_is test (Word at w) h = (refl, h)
 
-abbrev Given : {A : Type 0} → Option A → A → List Lexeme → List Lexeme → Type 0
+abbrev pub Given : {A : Type 0} → Option A → A → List Lexeme → List Lexeme → Type 0
 Given o a ts rest = (o ≡ Some a) × (ts ≡ rest)
 
 -- the state that each value that a word gives leads to
-abbrev Given_state : {A : Type 0} → (A → Nest → Type 0) → Option A → Nest → Type 0
+abbrev pub Given_state : {A : Type 0} → (A → Nest → Type 0) → Option A → Nest → Type 0
 Given_state {A = A} E o q = (a : A) → o ≡ Some a → E a q
 
-law_given : {A : Type 0} {E : A → Nest → Type 0} {C : List Lexeme → Type 0} {n : ℕ} (o : Option A) → IsTrue (is_some o) → Law (Given_state E o) E C n (Given o) (given o)
+pub law_given : {A : Type 0} {E : A → Nest → Type 0} {C : List Lexeme → Type 0} {n : ℕ} (o : Option A) → IsTrue (is_some o) → Law (Given_state E o) E C n (Given o) (given o)
 law_given None is = absurd (let x : false ≡ true = is in cc)
 law_given {A = A} (Some a) is = law_map (λ b ts rest s. (ap Some (sym s.0), s.1)) (λ b ts rest s. (let x : b ≡ a = cc (s.0) in x, s.1)) (law_ret a (λ q p. p a refl))
 
@@ -238,39 +238,45 @@ left_sound S T a ts rest (s, x) = (inl s, (x.0, x.1, λ tail c. inl (x.2 tail c)
 right_sound : {A : Type 0} {C : List Lexeme → Type 0} (S T : A → List Lexeme → List Lexeme → Type 0) (a : A) (ts rest : List Lexeme) → T a ts rest × Taken C T a ts rest → Either S T a ts rest × Taken C (Either S T) a ts rest
 right_sound S T a ts rest (s, x) = (inr s, (x.0, x.1, λ tail c. inr (x.2 tail c)))
 
-cond_leads : {A : Type 0} (E : A → Nest → Type 0) (n : ℕ) (q : Nest) (ts : List Lexeme) (b : Bool) (o p : Reading A) → Nests E n q ts o → Nests E n q ts p → Nests E n q ts (cond b o p)
-cond_leads E n q ts true o p h k = h
+cond_leads : {A : Type 0} (E : A → Nest → Type 0) (n : ℕ) (q : Nest) (ts : List Lexeme) (b : Bool) (o p : Reading A) → (IsTrue b → Nests E n q ts o) → Nests E n q ts p → Nests E n q ts (cond b o p)
+cond_leads E n q ts true o p h k = h refl
 cond_leads E n q ts false o p h k = k
 
-pub law_peek : {A : Type 0} {P : Nest → Type 0} {E : A → Nest → Type 0} {C : List Lexeme → Type 0} {n : ℕ} {S T : A → List Lexeme → List Lexeme → Type 0} (test : Lexeme → Bool) (y r : Reader A)
+-- the law of what is read where the test is passed is needed only there
+pub law_peek_when : {A : Type 0} {P : Nest → Type 0} {E : A → Nest → Type 0} {C : List Lexeme → Type 0} {n : ℕ} {S T : A → List Lexeme → List Lexeme → Type 0} (test : Lexeme → Bool) (y r : Reader A)
     → ((a : A) (ts rest : List Lexeme) → S a ts rest → C rest → Heads test true ts) → ((a : A) (ts rest : List Lexeme) → T a ts rest → C rest → Heads test false ts)
-    → Law P E C n S y → Law P E C n T r → Law P E C n (Either S T) (Peek test y r)
+    → ((t : Lexeme) → IsTrue (test t) → Law P E C n S y) → Law P E C n T r → Law P E C n (Either S T) (Peek test y r)
 unfolding run
-law_peek {A = A} {P = P} {E = E} {C = C} {n = n} {S = S} {T = T} test y r sy sr hy hr = record { sound = sound; complete = complete; closes = closes; deepens = deepens; leads = leads; ends = right_ends S T hr.ends }
+law_peek_when {A = A} {P = P} {E = E} {C = C} {n = n} {S = S} {T = T} test y r sy sr hy hr = record { sound = sound; complete = complete; closes = closes; deepens = deepens; leads = leads; ends = right_ends S T hr.ends }
   where
     sound : (ts rest : List Lexeme) (a : A) → run (Peek test y r) ts ≡ Got a rest → Either S T a ts rest × Taken C (Either S T) a ts rest
     sound [] rest a e = absurd (stuck_not_got _ [] rest a refl e)
-    sound (t ∷ us) rest a e = elim (cond_case (test t) _ _ _ e) [ inl x ↦ left_sound S T a (t ∷ us) rest (hy.sound (t ∷ us) rest a x.1) | inr x ↦ right_sound S T a (t ∷ us) rest (hr.sound (t ∷ us) rest a x.1) ]
+    sound (t ∷ us) rest a e = elim (cond_case (test t) _ _ _ e) [ inl x ↦ left_sound S T a (t ∷ us) rest ((hy t x.0).sound (t ∷ us) rest a x.1) | inr x ↦ right_sound S T a (t ∷ us) rest (hr.sound (t ∷ us) rest a x.1) ]
 
     complete : (ts rest : List Lexeme) (a : A) → Either S T a ts rest → C rest → Hits (run (Peek test y r) ts) a rest
     complete ts rest a (inl s) c =
         let x = sy a ts rest s c in
-        subst (λ z. Hits (run (Peek test y r) z) a rest) (sym x.2) (subst (λ b. Hits (cond b (run y (x.0 ∷ x.1)) (run r (x.0 ∷ x.1))) a rest) (sym x.3) (subst (λ z. Hits (run y z) a rest) x.2 (hy.complete ts rest a s c)))
+        subst (λ z. Hits (run (Peek test y r) z) a rest) (sym x.2) (subst (λ b. Hits (cond b (run y (x.0 ∷ x.1)) (run r (x.0 ∷ x.1))) a rest) (sym x.3) (subst (λ z. Hits (run y z) a rest) x.2 ((hy x.0 x.3).complete ts rest a s c)))
     complete ts rest a (inr s) c =
         let x = sr a ts rest s c in
         subst (λ z. Hits (run (Peek test y r) z) a rest) (sym x.2) (subst (λ b. Hits (cond b (run y (x.0 ∷ x.1)) (run r (x.0 ∷ x.1))) a rest) (sym x.3) (subst (λ z. Hits (run r z) a rest) x.2 (hr.complete ts rest a s c)))
 
     closes : (ts rest : List Lexeme) → run (Peek test y r) ts ≡ Stuck rest → Begun C (Either S T) ts rest
     closes [] rest e = right_begun S T [] rest ([], stuck_is [] rest _ refl e, hr.ends)
-    closes (t ∷ us) rest e = elim (cond_case (test t) _ _ _ e) [ inl x ↦ left_begun S T _ _ (hy.closes (t ∷ us) rest x.1) | inr x ↦ right_begun S T _ _ (hr.closes (t ∷ us) rest x.1) ]
+    closes (t ∷ us) rest e = elim (cond_case (test t) _ _ _ e) [ inl x ↦ left_begun S T _ _ ((hy t x.0).closes (t ∷ us) rest x.1) | inr x ↦ right_begun S T _ _ (hr.closes (t ∷ us) rest x.1) ]
 
     deepens : (ts rest : List Lexeme) → run (Peek test y r) ts ≡ Deep rest → Begun C (Either S T) ts rest
     deepens [] rest e = absurd (stuck_not_deep _ [] rest refl e)
-    deepens (t ∷ us) rest e = elim (cond_case (test t) _ _ _ e) [ inl x ↦ left_begun S T _ _ (hy.deepens (t ∷ us) rest x.1) | inr x ↦ right_begun S T _ _ (hr.deepens (t ∷ us) rest x.1) ]
+    deepens (t ∷ us) rest e = elim (cond_case (test t) _ _ _ e) [ inl x ↦ left_begun S T _ _ ((hy t x.0).deepens (t ∷ us) rest x.1) | inr x ↦ right_begun S T _ _ (hr.deepens (t ∷ us) rest x.1) ]
 
     leads : (q : Nest) (ts : List Lexeme) → P q → Nests E n q ts (run (Peek test y r) ts)
     leads q [] p = (q, none q [])
-    leads q (t ∷ us) p = cond_leads E n q (t ∷ us) (test t) (run y (t ∷ us)) (run r (t ∷ us)) (hy.leads q (t ∷ us) p) (hr.leads q (t ∷ us) p)
+    leads q (t ∷ us) p = cond_leads E n q (t ∷ us) (test t) (run y (t ∷ us)) (run r (t ∷ us)) (λ is. (hy t is).leads q (t ∷ us) p) (hr.leads q (t ∷ us) p)
+
+pub law_peek : {A : Type 0} {P : Nest → Type 0} {E : A → Nest → Type 0} {C : List Lexeme → Type 0} {n : ℕ} {S T : A → List Lexeme → List Lexeme → Type 0} (test : Lexeme → Bool) (y r : Reader A)
+    → ((a : A) (ts rest : List Lexeme) → S a ts rest → C rest → Heads test true ts) → ((a : A) (ts rest : List Lexeme) → T a ts rest → C rest → Heads test false ts)
+    → Law P E C n S y → Law P E C n T r → Law P E C n (Either S T) (Peek test y r)
+law_peek test y r sy sr hy hr = law_peek_when test y r sy sr (λ t is. hy) hr
 
 -- ---- where no more may be open
 
@@ -391,6 +397,53 @@ pub law_optional : {A : Type 0} {P : Nest → Type 0} {E : A → Nest → Type 0
 unfolding read_optional
 law_optional f other x steps same = law_peek (on_word (λ w. is_some (f w))) (read_word f) (Ret other)
     (λ a ts rest s c. word_heads f a ts rest s) (λ a ts rest s c. subst (NoWord f) (sym s.1) c) (law_word f x steps) (law_ret other same)
+
+-- ---- words that lead from state to state
+
+some_given : {A : Type 0} (o : Option A) → IsTrue (is_some o) → (a : A) × (o ≡ Some a)
+some_given None h = cc
+some_given (Some a) h = (a, refl)
+
+none_given : {A : Type 0} (o : Option A) (b : Bool) → ((a : A) → o ≡ Some a → b ≡ true) → b ≡ false → is_some o ≡ false
+none_given None b h e = refl
+none_given (Some a) b h e = let x : b ≡ true = h a refl in cc
+
+-- no word that passes the test is next
+abbrev pub NoSuch : (List ℕ → Bool) → List Lexeme → Type 0
+NoSuch test = Heads (on_word test) false
+
+module _ {St : Type 0} {P : Nest → Type 0} (next : St → List ℕ → Option St) (test : List ℕ → Bool) (tested : (s u : St) (w : List ℕ) → next s w ≡ Some u → test w ≡ true) (steps : (s : St) → WordSteps P (λ u. P) (next s)) where
+  silent : (s : St) (t : Lexeme) → on_word test t ≡ false → on_word (λ w. is_some (next s w)) t ≡ false
+  silent s (Open at) e = refl
+  silent s (Close at) e = refl
+  silent s (At at) e = refl
+  silent s (Less at) e = refl
+  silent s (Greater at) e = refl
+  silent s (Word at w) e = none_given (next s w) (test w) (λ u. tested s u w) e
+
+  words_to : (k : ℕ) (s v : St) (ts rest : List Lexeme) → Either (Then (WordS (next s)) (WordsFrom next k)) (Nothing s) v ts rest → WordsFrom next (suc k) s v ts rest
+  words_to k s v ts rest (inl (u, mid, (at, w, e, h), m)) = subst (λ z. WordsFrom next (suc k) s v z rest) (sym e) (a_word k at w s u v mid rest h m)
+  words_to k s v ts rest (inr (p, q)) = subst (λ z. WordsFrom next (suc k) s z ts rest) (sym p) (subst (λ z. WordsFrom next (suc k) s s z rest) (sym q) (no_word (suc k) s rest))
+
+  words_from_is : (k : ℕ) (s v : St) (ts rest : List Lexeme) → WordsFrom next (suc k) s v ts rest → Either (Then (WordS (next s)) (WordsFrom next k)) (Nothing s) v ts rest
+  words_from_is _ _ _ _ _ (no_word k s ts) = inr (refl, refl)
+  words_from_is _ _ _ _ _ (a_word k at w s u v ts rest h m) = inl (u, ts, (at, w, refl, h), m)
+
+  none_to : (s v : St) (ts rest : List Lexeme) → Nothing s v ts rest → WordsFrom next 0 s v ts rest
+  none_to s v ts rest (p, q) = subst (λ z. WordsFrom next 0 s z ts rest) (sym p) (subst (λ z. WordsFrom next 0 s s z rest) (sym q) (no_word 0 s rest))
+
+  none_from : (s v : St) (ts rest : List Lexeme) → WordsFrom next 0 s v ts rest → Nothing s v ts rest
+  none_from _ _ _ _ (no_word k s ts) = (refl, refl)
+
+  pub law_words_from : {n : ℕ} (k : ℕ) (s : St) → Law P (λ v. P) (NoSuch test) n (WordsFrom next k s) (words_from k next s)
+  unfolding words_from
+  law_words_from zero s = law_map (none_to s) (none_from s) (law_ret s (λ q p. p))
+  law_words_from (suc k) s = law_map (words_to k s) (words_from_is k s) (law_peek_when (on_word (λ w. is_some (next s w))) (bind (read_word (next s)) (λ u. words_from k next u)) (Ret s)
+      (λ v ts rest x c. word_heads (next s) x.0 ts x.1 x.2)
+      (λ v ts rest x c. let y = subst (NoSuch test) (sym x.1) c in (y.0, y.1, y.2, silent s y.0 y.3))
+      (λ t is. let y = word_is (λ w. is_some (next s w)) t is in let z = some_given (next s (bytes t)) y.1 in
+          law_next (read_word (next s)) (λ u. words_from k next u) (law_word (next s) (bytes t, z.0, z.1) (steps s)) (law_words_from k))
+      (law_ret s (λ q p. p)))
 
 -- ---- at the end of the text, or before it
 

@@ -100,12 +100,21 @@ next_word f (Word at w ∷ ts) = f w
 unfoldable pub read_optional : {A : Type 0} → (List ℕ → Option A) → A → Reader A
 read_optional f other = Peek (on_word (λ w. is_some (f w))) (read_word f) (Ret other)
 
+-- at most k words, each of which takes a state to the next
+unfoldable pub words_from : {St : Type 0} → ℕ → (St → List ℕ → Option St) → St → Reader St
+words_from zero next s = Ret s
+words_from (suc k) next s = Peek (on_word (λ w. is_some (next s w))) (bind (read_word (next s)) (λ u. words_from k next u)) (Ret s)
+
 -- ---- lists
 
 -- values up to the closing parenthesis, which is taken, with at most n tokens for them and it
 unfoldable pub many : {A : Type 0} → ℕ → Reader A → Reader (List A)
 many zero r = End refuse Halt
 many (suc n) r = Peek is_close (bind read_close (λ c. Ret [])) (bind r (λ a. bind (many n r) (λ others. Ret (a ∷ others))))
+
+-- values up to the closing parenthesis, at least one, with at most n tokens behind the first
+abbrev pub some : {A : Type 0} → ℕ → Reader A → Reader (List A)
+some n r = bind r (λ a. bind (many n r) (λ others. Ret (a ∷ others)))
 
 -- values up to the end of the text, at most n of them, where each value's reader hangs on a state and the value gives the next
 unfoldable pub all_from : {St A : Type 0} → ℕ → (St → Reader A) → (St → A → St) → St → Reader (List A)

@@ -1,6 +1,6 @@
 -- What tokens spell.
-use Rattle.std.specs.Prelude.{◌≡◌, ℕ, List, [], ◌∷◌, ◌++◌}
-use Rattle.isle_lexer.specs.Lexeme.{Lexeme, Close}
+use Rattle.std.specs.Prelude.{◌≡◌, ℕ, suc, List, [], ◌∷◌, ◌++◌, Option, Some}
+use Rattle.isle_lexer.specs.Lexeme.{Lexeme, Close, Word}
 
 -- which value some tokens begin with, and which tokens are behind it
 abbrev pub Relation : Type 0 → Type 1
@@ -39,3 +39,8 @@ pub data Many {A : Type 0} (S : A → List Lexeme → List Lexeme → Type 0) : 
 pub data AllFrom {St A : Type 0} (S : St → A → List Lexeme → List Lexeme → Type 0) (next : St → A → St) : St → List A → List Lexeme → List Lexeme → Type 0 where
   no_item : (s : St) → AllFrom S next s [] [] []
   an_item : (s : St) (a : A) (others : List A) (ts rest : List Lexeme) → S s a ts rest → AllFrom S next (next s a) others rest [] → AllFrom S next s (a ∷ others) ts []
+
+-- at most k words, each of which takes a state to the next
+pub data WordsFrom {St : Type 0} (next : St → List ℕ → Option St) : ℕ → St → St → List Lexeme → List Lexeme → Type 0 where
+  no_word : (k : ℕ) (s : St) (ts : List Lexeme) → WordsFrom next k s s ts ts
+  a_word : (k at : ℕ) (w : List ℕ) (s u v : St) (ts rest : List Lexeme) → next s w ≡ Some u → WordsFrom next k u v ts rest → WordsFrom next (suc k) s v (Word at w ∷ ts) rest

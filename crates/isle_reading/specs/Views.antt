@@ -31,6 +31,16 @@ closes (Less at ∷ ts) = None
 closes (Greater at ∷ ts) = None
 closes (Word at w ∷ ts) = None
 
+-- the place of an `@` that is next
+abbrev pub signs : List Lexeme → Option ℕ
+signs [] = None
+signs (Open at ∷ ts) = None
+signs (Close at ∷ ts) = None
+signs (At at ∷ ts) = Some at
+signs (Less at ∷ ts) = None
+signs (Greater at ∷ ts) = None
+signs (Word at w ∷ ts) = None
+
 -- how many tokens are left where reading stops short
 abbrev pub stops : {A : Type 0} → Reading A → Option ℕ
 stops (Got a ts) = None

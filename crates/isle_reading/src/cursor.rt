@@ -2,7 +2,8 @@ ghost use Rattle.std.specs.Prelude.{◌≡◌, ◌-◌, ◌<◌, Some, length, d
 ghost use Rattle.isle_reading.specs.Combinators.{read_open, read_close, next_word, place};
 ghost use Rattle.isle_reading.specs.Nesting.{most_open};
 ghost use Rattle.isle_reading.specs.Places.{place_left};
-ghost use Rattle.isle_reading.specs.Views.{left, opens, closes, Reads};
+ghost use Rattle.isle_reading.specs.Views.{left, opens, closes, signs, Reads};
+ghost use Rattle.isle_reading.specs.declared.cursor.Fail.TheVariants.{At};
 ghost use Rattle.isle_lexer.specs.TokenViews.{token_seen, tokens_seen};
 
 use isle_lexer::Token;
@@ -47,11 +48,43 @@ impl<T: Drop> From<AllocFailed<T>> for Fail {
     }
 }
 
-/// The tokens of a text, and how many of them were read.
+/// What may stand where reading stops, as words for the user: no clause speaks of it.
+#[derive(Clone, Copy, Debug, PartialEq, Eq)]
+pub enum Expected {
+    /// A `(`.
+    Open,
+    /// A `)`.
+    Close,
+    /// A word that begins a definition.
+    Head,
+    Definition,
+    Name,
+    /// The name of a type.
+    Type,
+    /// What a type is declared as.
+    Body,
+    Field,
+    Variant,
+    Pattern,
+    Expression,
+    /// A `$` and a name.
+    Constant,
+    /// The second word of an `extern`.
+    Keyword,
+    /// What opens nothing, since as many are open as may be.
+    Shallower,
+    /// The end of a comment.
+    CommentEnd,
+    /// Something else.
+    Other,
+}
+
+/// The tokens of a text, and how many of them were read; also what was expected last where reading stopped.
 #[derive(Clone, Copy, Debug)]
 pub struct Tokens<'t> {
     all: &'t [Token<'t>],
     next: usize,
+    expected: Expected,
 }
 
 impl<'t> Tokens<'t> {
@@ -59,7 +92,11 @@ impl<'t> Tokens<'t> {
     pub fn new(all: &'t [Token<'t>]) -> Tokens<'t>
         ensures { left result ≡ tokens_seen all.now }
     {
-        Tokens { all, next: 0 }
+        Tokens {
+            all,
+            next: 0,
+            expected: Expected::Other,
+        }
     }
 
     /// Returns how many tokens are still to be read.
@@ -81,6 +118,19 @@ impl<'t> Tokens<'t> {
         ensures { left self.new ≡ drop 1 (left self.old) }
     {
         self.next += 1;
+    }
+
+    /// Returns the failure that reading stops here, and notes what may stand here.
+    pub fn miss(&mut self, expected: Expected) -> Fail
+        ensures { result ≡ At (length (left self.old)) }
+    {
+        self.expected = expected;
+        Fail::At(self.len())
+    }
+
+    /// Returns what was expected where reading stopped last.
+    pub fn expected(&self) -> Expected {
+        self.expected
     }
 
     /// Returns a word that is next.
@@ -113,6 +163,23 @@ impl<'t> Tokens<'t> {
         }
     }
 
+    /// Returns the place of an `@` that is next.
+    pub fn signs(&self) -> Option<usize>
+        ensures { result ≡ signs (left self.now) }
+    {
+        match self.first() {
+            Some(Token::At(at)) => Some(at),
+            _ => None,
+        }
+    }
+
+    /// Returns the next token.
+    pub fn token(&self) -> Option<Token<'t>>
+        ensures { option_map token_seen result ≡ slice_get (left self.now) 0 }
+    {
+        self.first()
+    }
+
     /// Returns the place of an opening parenthesis, which is taken.
     #[tactic(auto, using(crate::proofs::Steps::round))]
     pub fn open(&mut self) -> Result<usize, Fail>
@@ -123,7 +190,7 @@ impl<'t> Tokens<'t> {
                 self.skip();
                 Ok(at)
             }
-            None => Err(Fail::At(self.len())),
+            None => Err(self.miss(Expected::Open)),
         }
     }
 
@@ -137,7 +204,7 @@ impl<'t> Tokens<'t> {
                 self.skip();
                 Ok(at)
             }
-            None => Err(Fail::At(self.len())),
+            None => Err(self.miss(Expected::Close)),
         }
     }
 }
@@ -162,6 +229,22 @@ pub fn place_of(tokens: &[Token<'_>], left: usize, end: usize) -> usize
 {
     match tokens.get(tokens.len().saturating_sub(left)) {
         Some(token) => place(*token),
+        None => end,
+    }
+}
+
+// Where a token ends.
+fn end_of(token: Token<'_>) -> usize {
+    match token {
+        Token::Word(at, word) => at.saturating_add(word.len()),
+        other => place(other).saturating_add(1),
+    }
+}
+
+/// Returns the end of the first token where so many are left of a text of that length, or the text's length.
+pub fn token_end(tokens: &[Token<'_>], left: usize, end: usize) -> usize {
+    match tokens.get(tokens.len().saturating_sub(left)) {
+        Some(token) => end_of(*token),
         None => end,
     }
 }

@@ -3,7 +3,7 @@ ghost use Rattle.isle_reading.specs.Combinators.{next_word};
 ghost use Rattle.isle_reading.specs.Names.{name_of, read_name};
 ghost use Rattle.isle_reading.specs.Views.{left, Reads};
 
-use crate::cursor::{Fail, Tokens};
+use crate::cursor::{Expected, Fail, Tokens};
 use isle_core::Text;
 use isle_lexer::is_name;
 use std::alloc::Global;
@@ -19,8 +19,15 @@ impl<'t> Tokens<'t> {
     }
 
     /// Returns a name.
-    #[tactic(auto, using(crate::proofs::Steps::words), unfolding(crate::specs::Names::read_name))]
     pub fn name(&mut self, alloc: Global) -> Result<Text, Fail>
+        ensures { Reads (λ name. name) result read_name (left self.old) (left self.new) }
+    {
+        self.name_as(alloc, Expected::Name)
+    }
+
+    /// Returns a name, which is expected as this.
+    #[tactic(auto, using(crate::proofs::Steps::words), unfolding(crate::specs::Names::read_name))]
+    pub fn name_as(&mut self, alloc: Global, expected: Expected) -> Result<Text, Fail>
         ensures { Reads (λ name. name) result read_name (left self.old) (left self.new) }
     {
         match self.next_name() {
@@ -28,7 +35,7 @@ impl<'t> Tokens<'t> {
                 self.skip();
                 Ok(Text::copied(alloc, word)?)
             }
-            None => Err(Fail::At(self.len())),
+            None => Err(self.miss(expected)),
         }
     }
 }

@@ -16,7 +16,7 @@ use Rattle.isle_answers.specs.Form.{Form}
 use Rattle.isle_answers.specs.Spelling.{SpellsForms}
 use Rattle.isle_answers.proofs.FaultOnce.{fault_unspelt}
 use Rattle.isle_answers.proofs.Files.{forms_once}
-use Rattle.isle_syntax.specs.Tree.{Def}
+use Rattle.isle_ast.specs.Tree.{Def}
 use Rattle.isle_sema.specs.Typing.{Typed}
 use Rattle.isle_sema.proofs.TypedTerms.{typed_types}
 use Rattle.isle_values.specs.Written.{Writtens}
@@ -51,7 +51,7 @@ in_language : (files : Files) (env : Environment) → IsChecked files env → In
 in_language files env c = (c.defs, env, c.source, record { typed = c.typed.typed; names = c.given.compilable.names; fns = c.given.compilable.fns })
 
 not_of_it : (files : Files) (env : Environment) → IsChecked files env → IsNotOfIt files.file_names files.file_texts → ⊥
-not_of_it files env c h = ⊎_elim (λ never. never (in_language files env c)) (λ bad. let same : true ≡ false = sym c.names ∙ bad in cc) h
+not_of_it files env c h = ⊎_elim (λ never. never (in_language files env c)) (λ bad. let same : true ≡ false = sym c.names ∙ bad in cc) h.1
 
 -- files that are checked have one environment
 same_env : (files : Files) (a b : Environment) → IsChecked files a → IsChecked files b → b ≡ a

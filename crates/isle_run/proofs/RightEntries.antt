@@ -18,7 +18,7 @@ use Rattle.isle_core.specs.Meaning.{TurnAnswers}
 use Rattle.isle_core.specs.Rule.{Environment}
 use Rattle.isle_core.specs.Terms.{sym_text, goes_to, with_rules}
 use Rattle.isle_core.specs.Value.{Answer}
-use Rattle.isle_syntax.specs.Tree.{Def}
+use Rattle.isle_ast.specs.Tree.{Def}
 use Rattle.isle_sema.specs.Typing.{Typed}
 use Rattle.isle_sema.proofs.TypedTerms.{typed_types}
 use Rattle.isle_tree.specs.declared.tree.TraitFn.{TraitFn}

@@ -4,8 +4,8 @@ use Rattle.std.specs.Prelude.{ℤ, ◌&&◌, ◌||◌, not, flat_map}
 use Rattle.std.specs.List.{AllByRecursion, list_all, list_any}
 use Rattle.std.proofs.lemmas.Bool.{and_parts, not-true, and_from}
 use Rattle.isle_core.specs.declared.position.Pos.{Pos}
-use Rattle.isle_syntax.specs.Tree as tree
-use Rattle.isle_syntax.specs.Tree.{Pattern, Expr, IfLet, Def}
+use Rattle.isle_ast.specs.Tree as tree
+use Rattle.isle_ast.specs.Tree.{Pattern, Expr, IfLet, Def}
 use Rattle.isle_declarations.specs.Symbols.{pattern_names}
 use Rattle.isle_declarations.specs.Signatures.{Signature, RuleDef, signatures, rule_defs}
 use Rattle.isle_declarations.specs.Repeats.{repeats}

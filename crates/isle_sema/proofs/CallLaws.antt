@@ -1,7 +1,7 @@
 -- How many arguments there are.
 use Rattle.std.proofs.Common.{◌≡◌, suc, List, [], ◌∷◌, length, map, refl, ap}
-use Rattle.isle_syntax.specs.declared.tree.AstExpr.{AstExpr}
-use Rattle.isle_syntax.specs.Views.{expr, exprs_of}
+use Rattle.isle_ast.specs.declared.tree.AstExpr.{AstExpr}
+use Rattle.isle_ast.specs.Views.{expr, exprs_of}
 use Rattle.isle_sema.specs.Calls.{count_of}
 
 -- there are as many expressions as the code's list has

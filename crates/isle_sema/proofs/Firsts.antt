@@ -4,7 +4,7 @@ use Rattle.std.specs.Prelude.{option_map, filter_map}
 use Rattle.std.specs.List.{list_any, cons_option}
 use Rattle.std.proofs.lemmas.Bool.{or_parts, or_from}
 use Rattle.std.proofs.lemmas.List.{append-nil}
-use Rattle.isle_syntax.specs.Tree.{Def}
+use Rattle.isle_ast.specs.Tree.{Def}
 use Rattle.isle_sema.specs.Fault.{or_later}
 
 -- ---- tests in order

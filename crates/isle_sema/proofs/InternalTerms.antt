@@ -15,7 +15,7 @@ use Rattle.isle_core.specs.declared.types.ConstructorKind.TheVariants as constru
 use Rattle.isle_core.specs.declared.types.ExtractorKind.TheVariants as extractor
 use Rattle.isle_core.specs.Rule.{Rule, Environment}
 use Rattle.isle_core.specs.Terms.{term_ids, has_rules, with_rules}
-use Rattle.isle_syntax.specs.Tree.{Def}
+use Rattle.isle_ast.specs.Tree.{Def}
 use Rattle.isle_declarations.specs.Signatures.{Signature, RuleDef, signatures, externs, rule_defs, func_named, has_rule, signature_named}
 use Rattle.isle_declarations.proofs.LookUps.{at_place, named_at, named_is}
 use Rattle.isle_sema.specs.Whole.{Whole}

@@ -7,7 +7,7 @@ use Rattle.std.proofs.lemmas.Bool.{leb-true, le-leb}
 use Rattle.std.proofs.lemmas.List.{length-map, length-append}
 use Rattle.std.proofs.lemmas.List.Folds.{list_any-append}
 use Rattle.isle_core.specs.declared.TypeId.{TypeId}
-use Rattle.isle_syntax.specs.Tree.{IfLet}
+use Rattle.isle_ast.specs.Tree.{IfLet}
 use Rattle.isle_sema.specs.declared.judged.Judged.{Judged}
 use Rattle.isle_sema.specs.declared.known.Called.{Called}
 use Rattle.isle_declarations.specs.Signatures.{Signature, RuleDef, externs, rule_defs, func_named, has_rule}

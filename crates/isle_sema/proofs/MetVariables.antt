@@ -2,8 +2,8 @@
 use Rattle.std.proofs.Common.{◌≡◌, ℕ, ◌+◌, ◌<◌, List, ◌∷◌, ◌++◌, length, map, Bool, true, cond, get_or, sym, ap, ◌∙◌}
 use Rattle.std.specs.Prelude.{flat_map, drop}
 use Rattle.std.proofs.lemmas.List.{drop_more}
-use Rattle.isle_syntax.specs.declared.tree.AstPattern.{AstPattern}
-use Rattle.isle_syntax.specs.Views.{pattern}
+use Rattle.isle_ast.specs.declared.tree.AstPattern.{AstPattern}
+use Rattle.isle_ast.specs.Views.{pattern}
 use Rattle.isle_declarations.specs.Symbols.{pattern_names}
 use Rattle.isle_declarations.specs.Repeats.{repeats_after}
 use Rattle.isle_declarations.proofs.Interned.{names_from}

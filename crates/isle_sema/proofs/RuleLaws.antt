@@ -10,10 +10,10 @@ use Rattle.isle_core.specs.declared.TypeId.{TypeId}
 use Rattle.isle_core.specs.Pattern.{Pattern as CorePattern}
 use Rattle.isle_core.specs.Expr.{Expr as CoreExpr}
 use Rattle.isle_core.specs.Rule.{Rule as CoreRule, IfLet as CoreIfLet}
-use Rattle.isle_syntax.specs.declared.tree.AstIfLet.{AstIfLet}
-use Rattle.isle_syntax.specs.Views.{iflet}
-use Rattle.isle_syntax.specs.Tree as tree
-use Rattle.isle_syntax.specs.Tree.{Expr, Exprs, NoExpr, AnExpr, IfLet, Def}
+use Rattle.isle_ast.specs.declared.tree.AstIfLet.{AstIfLet}
+use Rattle.isle_ast.specs.Views.{iflet}
+use Rattle.isle_ast.specs.Tree as tree
+use Rattle.isle_ast.specs.Tree.{Expr, Exprs, NoExpr, AnExpr, IfLet, Def}
 use Rattle.isle_declarations.specs.Signatures.{Signature, RuleDef, signatures, rule_defs, has_rule, signature_named, term_named}
 use Rattle.isle_sema.specs.Calls.{count_of, calls_ruled, any_calls_ruled}
 use Rattle.isle_sema.specs.Language.{is_built_expr, are_built_exprs}

@@ -5,9 +5,9 @@ use Rattle.std.proofs.lemmas.Option.{same_Some}
 use Rattle.isle_core.specs.declared.position.Pos.{Pos}
 use Rattle.isle_core.specs.Rule.{Rule, Environment}
 use Rattle.isle_core.proofs.Contained.{head_contained, tail_contained, contained_cases, none_contained}
-use Rattle.isle_syntax.specs.Tree as tree
-use Rattle.isle_syntax.specs.Tree.{Def}
-use Rattle.isle_syntax.specs.Positions.{place_of}
+use Rattle.isle_ast.specs.Tree as tree
+use Rattle.isle_ast.specs.Tree.{Def}
+use Rattle.isle_ast.specs.Positions.{place_of}
 use Rattle.isle_declarations.specs.Signatures.{RuleDef, rule_defs}
 use Rattle.isle_sema.specs.Whole.{Whole}
 use Rattle.isle_sema.specs.RulePass.{rule_pass, rules_pass}

@@ -31,7 +31,7 @@ use Rattle.isle_core.proofs.CallOccurrences.{AreRising, rising_firsts}
 use Rattle.isle_core.proofs.Contained.{head_contained, tail_contained, contained_cases, none_contained}
 use Rattle.isle_core.proofs.KeptPlaces.{args_keep}
 use Rattle.isle_core.proofs.SetMeans.{without_iflets}
-use Rattle.isle_syntax.specs.Tree.{Def}
+use Rattle.isle_ast.specs.Tree.{Def}
 use Rattle.isle_sema.specs.TypedRule.{IsPatternOf, ArePatternsOf, IsRuleOf, numbers}
 use Rattle.isle_sema.specs.SerializableRule.{IsSerializableTest}
 use Rattle.isle_sema.specs.Typing.{Typed}

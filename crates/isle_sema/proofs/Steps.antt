@@ -10,10 +10,10 @@ use Rattle.isle_core.specs.declared.rules.Rule.{Rule as CodeRule}
 use Rattle.isle_core.specs.Expr.{Expr, Exprs, NoExpr, AnExpr}
 use Rattle.isle_core.specs.Rule.{Rule}
 use Rattle.isle_core.specs.RuleViews.{pattern as elaborated_pattern, expr as elaborated_expr, exprs_of, rule as elaborated_rule}
-use Rattle.isle_syntax.specs.declared.tree.AstPattern.{AstPattern}
-use Rattle.isle_syntax.specs.declared.tree.AstExpr.{AstExpr}
-use Rattle.isle_syntax.specs.Tree.{Def}
-use Rattle.isle_syntax.specs.Views.{pattern, expr, exprs_of as seen_exprs}
+use Rattle.isle_ast.specs.declared.tree.AstPattern.{AstPattern}
+use Rattle.isle_ast.specs.declared.tree.AstExpr.{AstExpr}
+use Rattle.isle_ast.specs.Tree.{Def}
+use Rattle.isle_ast.specs.Views.{pattern, expr, exprs_of as seen_exprs}
 use Rattle.isle_declarations.specs.declared.collected.RuleDef.{RuleDef as CodeRuleDef}
 use Rattle.isle_sema.specs.declared.judged.Judged.{Judged}
 use Rattle.isle_declarations.specs.Collected.{rule as seen_rule}

@@ -23,7 +23,7 @@ use Rattle.isle_core.specs.RightSide.{bool_type}
 use Rattle.isle_core.specs.Value.{Truth}
 use Rattle.isle_core.specs.HasType.{HasType, IsReduced, IsOfDef}
 use Rattle.isle_core.specs.Constants.{int_value, int_of_def}
-use Rattle.isle_syntax.specs.Tree.{Def}
+use Rattle.isle_ast.specs.Tree.{Def}
 use Rattle.isle_declarations.specs.Symbols.{index_of}
 use Rattle.isle_declarations.proofs.SymbolLaws.{index_below}
 use Rattle.isle_sema.specs.Builtins.{builtins, builtin_names, type_id}

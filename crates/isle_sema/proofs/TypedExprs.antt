@@ -21,8 +21,8 @@ use Rattle.isle_core.specs.Rule.{Environment}
 use Rattle.isle_core.specs.BuiltRule.{IsBuiltExpr, AreBuiltExprs, IsImpureKind, CallsImpure, AllCallImpure}
 use Rattle.isle_core.specs.Scope.{all_variables, IsInScope, AreInScope}
 use Rattle.isle_core.proofs.ScopeLaws.{in_scope}
-use Rattle.isle_syntax.specs.Tree as tree
-use Rattle.isle_syntax.specs.Tree.{Expr, Exprs, NoExpr, AnExpr, Def}
+use Rattle.isle_ast.specs.Tree as tree
+use Rattle.isle_ast.specs.Tree.{Expr, Exprs, NoExpr, AnExpr, Def}
 use Rattle.isle_declarations.specs.Symbols.{index_of}
 use Rattle.isle_declarations.specs.Heads.{terms_of}
 use Rattle.isle_declarations.specs.Signatures.{Signature, signatures, externs, rule_defs, func_named, has_rule, term_named}

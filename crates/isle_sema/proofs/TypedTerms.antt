@@ -16,9 +16,9 @@ use Rattle.isle_core.specs.BuiltinType.{IsBuiltinType}
 use Rattle.isle_core.specs.Rule.{Environment}
 use Rattle.isle_core.specs.Terms.{symbol_text, sym_text, term_ids, has_rules, with_rules}
 use Rattle.isle_core.proofs.Contained.{head_contained, tail_contained}
-use Rattle.isle_syntax.specs.Tree as tree
-use Rattle.isle_syntax.specs.Tree.{Def}
-use Rattle.isle_syntax.specs.Positions.{place_of}
+use Rattle.isle_ast.specs.Tree as tree
+use Rattle.isle_ast.specs.Tree.{Def}
+use Rattle.isle_ast.specs.Positions.{place_of}
 use Rattle.isle_declarations.specs.Heads.{terms_of}
 use Rattle.isle_declarations.specs.Signatures.{Signature, signatures}
 use Rattle.isle_declarations.proofs.DeclaredNames.{AreAmong, are_among, text_of}

@@ -1,6 +1,6 @@
 -- Whether a definition breaks a row of the typing table.
 use Rattle.std.specs.Prelude.{Bool, false, Option, Some, None}
-use Rattle.isle_syntax.specs.Tree.{Def}
+use Rattle.isle_ast.specs.Tree.{Def}
 use Rattle.isle_sema.specs.Row as row
 use Rattle.isle_sema.specs.Row.{Row}
 use Rattle.isle_sema.specs.Context.{Context}

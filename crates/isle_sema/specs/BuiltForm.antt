@@ -1,7 +1,7 @@
 -- The forms of definitions that are built, whatever names stand in them.
 use Rattle.std.specs.Prelude.{Bool, true, false, ◌&&◌, not}
 use Rattle.std.specs.List.{list_all}
-use Rattle.isle_syntax.specs.Tree.{Def, TypeDecl, Decl, ExternConstructor, ExternExtractor, ExternConst, Extractor, Converter, Rule, Passed}
+use Rattle.isle_ast.specs.Tree.{Def, TypeDecl, Decl, ExternConstructor, ExternExtractor, ExternConst, Extractor, Converter, Rule, Passed}
 use Rattle.isle_sema.specs.Language.{is_built_pattern, is_built_expr, are_none}
 
 -- a declaration with at most the flag `partial`, an external constructor, or a rule without conditions

@@ -1,7 +1,7 @@
 -- The calls in an expression. Those of a `let` are not built.
 use Rattle.std.specs.Prelude.{ℕ, suc, List, Bool, false, ◌||◌}
-use Rattle.isle_syntax.specs.Tree as tree
-use Rattle.isle_syntax.specs.Tree.{Expr, Exprs, NoExpr, AnExpr}
+use Rattle.isle_ast.specs.Tree as tree
+use Rattle.isle_ast.specs.Tree.{Expr, Exprs, NoExpr, AnExpr}
 use Rattle.isle_declarations.specs.Signatures.{RuleDef, has_rule}
 
 -- how many expressions there are

@@ -1,6 +1,6 @@
 -- What a definition is judged in.
 use Rattle.std.specs.Prelude.{List, Bool, false, Option, Some, None}
-use Rattle.isle_syntax.specs.Tree.{Def}
+use Rattle.isle_ast.specs.Tree.{Def}
 use Rattle.isle_sema.specs.Whole.{Whole}
 
 -- all definitions, and those before the one that is judged

@@ -1,7 +1,7 @@
 -- The rows of declarations, external constructors and heads, one definition each.
 use Rattle.std.specs.Prelude.{ℕ, List, length, Bool, ◌&&◌, ◌||◌, not, Option, Some, None, is_some, nat_le}
 use Rattle.std.specs.List.{list_all}
-use Rattle.isle_syntax.specs.Tree.{Def, TypeDecl, Decl, ExternConstructor, ExternExtractor, ExternConst, Extractor, Converter, Rule, Passed}
+use Rattle.isle_ast.specs.Tree.{Def, TypeDecl, Decl, ExternConstructor, ExternExtractor, ExternConst, Extractor, Converter, Rule, Passed}
 use Rattle.isle_declarations.specs.Symbols.{index_of}
 use Rattle.isle_declarations.specs.Signatures.{Signature, Extern, RuleDef, signature_of, extern_of, rule_of, signatures, externs, func_named}
 use Rattle.isle_declarations.specs.Heads.{terms_of, extern_terms}

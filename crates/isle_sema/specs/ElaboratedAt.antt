@@ -7,7 +7,7 @@ use Rattle.isle_core.specs.declared.rules.Expr.{Expr as CodeExpr}
 use Rattle.isle_core.specs.Pattern.{Pattern as CorePattern}
 use Rattle.isle_core.specs.Expr.{Exprs as CoreExprs}
 use Rattle.isle_core.specs.RuleViews.{pattern as elaborated_pattern, expr as elaborated_expr, exprs_of}
-use Rattle.isle_syntax.specs.Tree.{Pattern, Expr, Exprs}
+use Rattle.isle_ast.specs.Tree.{Pattern, Expr, Exprs}
 use Rattle.isle_sema.specs.declared.judged.Judged.{Judged}
 use Rattle.isle_sema.specs.declared.sides.Sides.{Sides}
 use Rattle.isle_declarations.specs.Signatures.{RuleDef}

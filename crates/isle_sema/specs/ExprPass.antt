@@ -7,8 +7,8 @@ use Rattle.isle_core.specs.declared.VarId.{VarId}
 use Rattle.isle_core.specs.declared.types.TypeEnv.{TypeEnv}
 use Rattle.isle_core.specs.Expr as core_expr
 use Rattle.isle_core.specs.Expr.{Expr as CoreExpr, Exprs as CoreExprs, NoExpr as CoreNoExpr, AnExpr as CoreAnExpr}
-use Rattle.isle_syntax.specs.Tree as tree
-use Rattle.isle_syntax.specs.Tree.{Expr, Exprs, NoExpr, AnExpr}
+use Rattle.isle_ast.specs.Tree as tree
+use Rattle.isle_ast.specs.Tree.{Expr, Exprs, NoExpr, AnExpr}
 use Rattle.isle_sema.specs.Reduced.{typed_integer}
 use Rattle.isle_declarations.specs.Signatures.{signatures, term_named}
 use Rattle.isle_sema.specs.Calls.{count_of}

@@ -2,8 +2,8 @@
 -- the lowest row that it breaks.
 use Rattle.std.specs.Prelude.{List, [], ◌∷◌, ◌++◌, Bool, true, false, Option, Some, None, option_map, if◌then◌else◌}
 use Rattle.isle_core.specs.declared.position.Pos.{Pos}
-use Rattle.isle_syntax.specs.Tree.{Def, TypeDecl, Decl, ExternConstructor, ExternExtractor, ExternConst, Extractor, Converter, Rule, Passed}
-use Rattle.isle_syntax.specs.Positions.{place_of}
+use Rattle.isle_ast.specs.Tree.{Def, TypeDecl, Decl, ExternConstructor, ExternExtractor, ExternConst, Extractor, Converter, Rule, Passed}
+use Rattle.isle_ast.specs.Positions.{place_of}
 use Rattle.isle_sema.specs.Row as row
 use Rattle.isle_sema.specs.Row.{Row}
 use Rattle.isle_sema.specs.Whole.{Whole}

@@ -1,7 +1,7 @@
 -- What the code that resolves names sees.
 use Rattle.std.specs.Prelude.{◌≡◌, ℕ, List, Option, Some, None, is_some, map}
-use Rattle.isle_syntax.specs.declared.tree.Def.{Def as CodeDef}
-use Rattle.isle_syntax.specs.Views.{defs}
+use Rattle.isle_ast.specs.declared.tree.Def.{Def as CodeDef}
+use Rattle.isle_ast.specs.Views.{defs}
 use Rattle.isle_sema.specs.declared.known.Called.{Called}
 use Rattle.isle_declarations.specs.Signatures.{Signature, signatures, externs, rule_defs, term_named, func_named, has_rule}
 use Rattle.isle_sema.specs.TypeNames.{type_named}

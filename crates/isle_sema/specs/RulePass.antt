@@ -4,7 +4,7 @@ use Rattle.isle_core.specs.declared.TermId.{TermId}
 use Rattle.isle_core.specs.Pattern.{Pattern as CorePattern}
 use Rattle.isle_core.specs.Expr.{Expr as CoreExpr}
 use Rattle.isle_core.specs.Rule.{Rule as CoreRule, IfLet as CoreIfLet}
-use Rattle.isle_syntax.specs.Tree.{IfLet}
+use Rattle.isle_ast.specs.Tree.{IfLet}
 use Rattle.isle_declarations.specs.Symbols.{sym_of}
 use Rattle.isle_declarations.specs.Signatures.{RuleDef, signatures, term_named}
 use Rattle.isle_sema.specs.Site.{Site, NotBuiltAt}

@@ -2,7 +2,7 @@
 use Rattle.std.specs.Prelude.{ℕ, length, Bool, true, false, ◌==◌, ◌&&◌, ◌||◌, not, Option, Some, None, is_some, nat_le}
 use Rattle.std.specs.List.{list_any}
 use Rattle.isle_core.specs.declared.TypeId.{TypeId}
-use Rattle.isle_syntax.specs.Tree.{Def}
+use Rattle.isle_ast.specs.Tree.{Def}
 use Rattle.isle_declarations.specs.Signatures.{Signature, RuleDef, rule_of}
 use Rattle.isle_sema.specs.TypeNames.{type_named, takes_integers, takes_truths}
 use Rattle.isle_sema.specs.Whole.{Whole, declared, has_constructor}

@@ -4,7 +4,7 @@ use Rattle.std.specs.List.{list_any}
 use Rattle.isle_core.specs.declared.types.TermEnv.{TermEnv}
 use Rattle.isle_core.specs.Rule.{Rule as CoreRule, Environment}
 use Rattle.isle_core.specs.RuleViews.{environment}
-use Rattle.isle_syntax.specs.Tree.{Def, Rule}
+use Rattle.isle_ast.specs.Tree.{Def, Rule}
 use Rattle.isle_declarations.specs.Signatures.{RuleDef}
 use Rattle.isle_sema.specs.Row.{Row}
 use Rattle.isle_sema.specs.Whole.{Whole}

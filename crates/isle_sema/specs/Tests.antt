@@ -3,7 +3,7 @@ use Rattle.std.specs.Prelude.{List, [], Bool, ◌||◌, not, is_some, flat_map}
 use Rattle.std.specs.List.{list_any}
 use Rattle.isle_declarations.specs.Symbols.{pattern_names}
 use Rattle.isle_declarations.specs.Signatures.{Signature, Extern, RuleDef, signature_named, func_named}
-use Rattle.isle_syntax.specs.Tree.{Def, Decl}
+use Rattle.isle_ast.specs.Tree.{Def, Decl}
 use Rattle.isle_sema.specs.Row as row
 use Rattle.isle_sema.specs.Context.{Context}
 use Rattle.isle_sema.specs.Breaks.{breaks}

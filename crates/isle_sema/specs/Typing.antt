@@ -4,7 +4,7 @@ use Rattle.std.specs.List.{list_all}
 use Rattle.isle_core.specs.declared.position.Pos.{Pos}
 use Rattle.isle_core.specs.declared.types.TypeEnv.{TypeEnv}
 use Rattle.isle_core.specs.Rule.{Environment}
-use Rattle.isle_syntax.specs.Tree.{Def}
+use Rattle.isle_ast.specs.Tree.{Def}
 use Rattle.isle_sema.specs.Row.{Row}
 use Rattle.isle_sema.specs.Fault.{OfTypes, fault_in, fault_of}
 use Rattle.isle_sema.specs.Environment.{types_of, whole_of, env_of}

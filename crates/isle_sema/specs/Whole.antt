@@ -3,7 +3,7 @@ use Rattle.std.specs.Prelude.{ℕ, List, [], Bool, ◌||◌, Option, Some, None,
 use Rattle.isle_core.specs.declared.TermId.{TermId}
 use Rattle.isle_core.specs.declared.TypeId.{TypeId}
 use Rattle.isle_core.specs.declared.types.TypeEnv.{TypeEnv}
-use Rattle.isle_syntax.specs.Tree.{Def}
+use Rattle.isle_ast.specs.Tree.{Def}
 use Rattle.isle_declarations.specs.Signatures.{Signature, signatures, externs, rule_defs, signature_named, term_named, func_named, has_rule}
 use Rattle.isle_sema.specs.TypeNames.{type_named}
 

@@ -2,18 +2,18 @@
 
 ghost use Rattle.std.specs.Prelude.{◌≡◌, ◌∷◌, IfOk, true, flat_map, map};
 ghost use Rattle.std.specs.List.{list_any};
-ghost use Rattle.isle_syntax.specs.Views.{pattern, defs as seen};
+ghost use Rattle.isle_ast.specs.Views.{pattern, defs as seen};
 ghost use Rattle.isle_declarations.specs.Symbols.{pattern_names};
 ghost use Rattle.isle_declarations.specs.Signatures.{rule_defs};
 ghost use Rattle.isle_declarations.specs.Repeats.{repeats, IsFound};
 ghost use Rattle.isle_sema.specs.Tests.{binds_twice};
 
 use isle_declarations::{Declarations, Symbols};
-use isle_syntax::AstPattern;
+use isle_ast::AstPattern;
 use std::alloc::{AllocError, Global};
 
 // Whether a pattern is a variable that was met before; it is met now.
-#[tactic(auto, using(isle_declarations::proofs::Sees::pattern_sees))]
+#[tactic(auto, using(isle_ast::proofs::Sees::pattern_sees))]
 fn meets_again<'d>(before: &mut Symbols<'d>, p: &'d AstPattern) -> Result<bool, AllocError>
     ensures { IfOk result (λ found. IsFound before.old before.new (pattern_names (pattern p.now)) found) }
 {

@@ -1,9 +1,9 @@
 //! Expressions with types in them, their variables and terms as numbers.
 
 ghost use Rattle.std.specs.Prelude.{◌≡◌, List, Option, IfOk, Some, map, option_map};
-ghost use Rattle.isle_syntax.specs.Tree as tree;
-ghost use Rattle.isle_syntax.specs.Tree.{Def};
-ghost use Rattle.isle_syntax.specs.Views.{expr, exprs_of};
+ghost use Rattle.isle_ast.specs.Tree as tree;
+ghost use Rattle.isle_ast.specs.Tree.{Def};
+ghost use Rattle.isle_ast.specs.Views.{expr, exprs_of};
 ghost use Rattle.isle_core.specs.RuleViews.{expr as elaborated};
 ghost use Rattle.isle_declarations.specs.Signatures.{Signature};
 ghost use Rattle.isle_sema.specs.Whole.{Whole, arg_types, ret_type, number_of};
@@ -17,7 +17,7 @@ use crate::known::{Called, Known};
 use crate::reduced::{int_type, reduced};
 use crate::variables::Variables;
 use isle_core::{Expr, List, Text, TypeId, VarId};
-use isle_syntax::AstExpr;
+use isle_ast::AstExpr;
 use std::alloc::{AllocError, Global};
 
 // An integer where this type is expected.
@@ -77,7 +77,7 @@ fn call_of(callee: &Option<Called>, args: Option<Vec<Expr>>) -> Option<Expr>
 /// Elaborates an expression where this type is expected: gives its tree, where its form is built and its types are known
 /// (`specs/ExprPass.antt`).
 #[cycle(exprs)]
-#[tactic(auto, using(isle_declarations::proofs::Sees::expr_sees, isle_core::proofs::SeesRules::sees))]
+#[tactic(auto, using(isle_ast::proofs::Sees::expr_sees, isle_core::proofs::SeesRules::sees))]
 pub fn expr_at(
     alloc: Global,
     known: &Known,

@@ -1,8 +1,8 @@
 //! Patterns with types in them, their variables as numbers.
 
 ghost use Rattle.std.specs.Prelude.{◌≡◌, List, IfOk, map, option_map};
-ghost use Rattle.isle_syntax.specs.Tree.{Def};
-ghost use Rattle.isle_syntax.specs.Views.{pattern};
+ghost use Rattle.isle_ast.specs.Tree.{Def};
+ghost use Rattle.isle_ast.specs.Views.{pattern};
 ghost use Rattle.isle_core.specs.RuleViews.{pattern as elaborated};
 ghost use Rattle.isle_sema.specs.Environment.{types_of, whole_of};
 ghost use Rattle.isle_sema.specs.PatternPass.{integer_tree, variable_tree};
@@ -12,7 +12,7 @@ use crate::judged::Judged;
 use crate::reduced::{int_type, reduced};
 use crate::variables::Variables;
 use isle_core::{Pattern, Text, TypeId, VarId};
-use isle_syntax::AstPattern;
+use isle_ast::AstPattern;
 use std::alloc::{AllocError, Global};
 
 // An integer where this type is expected.
@@ -37,7 +37,7 @@ fn variable_at(vars: &Variables, name: &Text) -> Option<Pattern>
 }
 
 // A pattern where this type is expected: its tree, where its form is built and its types are known.
-#[tactic(auto, using(isle_declarations::proofs::Sees::pattern_sees, isle_core::proofs::SeesRules::sees))]
+#[tactic(auto, using(isle_ast::proofs::Sees::pattern_sees, isle_core::proofs::SeesRules::sees))]
 fn pattern_at<'d>(
     vars: &mut Variables<'d>,
     judged: &mut Judged,

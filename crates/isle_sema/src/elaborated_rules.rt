@@ -2,7 +2,7 @@
 
 ghost use Rattle.std.specs.Prelude.{◌≡◌, IfOk, Some, [], map, option_map};
 ghost use Rattle.isle_core.specs.RuleViews.{rule as elaborated_rule, pattern as elaborated_pattern, expr as elaborated_expr};
-ghost use Rattle.isle_syntax.specs.Views.{defs as seen_defs};
+ghost use Rattle.isle_ast.specs.Views.{defs as seen_defs};
 ghost use Rattle.isle_declarations.specs.Symbols.{index_of, sym_of};
 ghost use Rattle.isle_declarations.specs.Collected.{rule as seen};
 ghost use Rattle.isle_declarations.specs.Signatures.{rule_defs};

@@ -1,8 +1,8 @@
 //! Terms with types in them, their names as symbols.
 
 ghost use Rattle.std.specs.Prelude.{◌≡◌, ℕ, List, Some, IfOk, option_map};
-ghost use Rattle.isle_syntax.specs.Tree.{Def};
-ghost use Rattle.isle_syntax.specs.Views.{defs};
+ghost use Rattle.isle_ast.specs.Tree.{Def};
+ghost use Rattle.isle_ast.specs.Views.{defs};
 ghost use Rattle.isle_declarations.specs.Collected.{signature as seen};
 ghost use Rattle.isle_declarations.specs.Symbols.{index_of, symbols};
 ghost use Rattle.isle_declarations.specs.Signatures.{signatures};

@@ -1,7 +1,7 @@
 //! What may stand where a type is expected.
 
 ghost use Rattle.std.specs.Prelude.{◌≡◌, List};
-ghost use Rattle.isle_syntax.specs.Tree.{Def};
+ghost use Rattle.isle_ast.specs.Tree.{Def};
 ghost use Rattle.isle_sema.specs.TypeNames.{takes_integers, takes_truths};
 ghost use Rattle.isle_sema.specs.Environment.{types_of};
 

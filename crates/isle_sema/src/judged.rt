@@ -1,7 +1,7 @@
 //! What the typing table says of the parts of a rule.
 
 ghost use Rattle.std.specs.Prelude.{◌≡◌, Option, Some, List, []};
-ghost use Rattle.isle_syntax.specs.Tree.{Def};
+ghost use Rattle.isle_ast.specs.Tree.{Def};
 ghost use Rattle.isle_declarations.specs.Signatures.{Signature};
 ghost use Rattle.isle_sema.specs.Whole.{Whole};
 ghost use Rattle.isle_sema.specs.Site.{IntegerAt, TruthAt, WildcardAt, MetAt, UsedAt, CalledAt, NotBuiltAt};

@@ -1,7 +1,7 @@
 //! The terms that names call.
 
 ghost use Rattle.std.specs.Prelude.{◌≡◌, ℕ, List, Some};
-ghost use Rattle.isle_syntax.specs.Views.{defs as seen};
+ghost use Rattle.isle_ast.specs.Views.{defs as seen};
 ghost use Rattle.isle_declarations.specs.Symbols.{index_of, symbols};
 ghost use Rattle.isle_declarations.specs.Collected.{AreRules};
 ghost use Rattle.isle_sema.specs.Whole.{declared};
@@ -35,8 +35,8 @@ pub struct Known<'s, 'd> {
 impl<'s, 'd> Model for Known<'s, 'd> {
     ghost use Rattle.std.specs.Prelude.{◌≡◌, List, Some};
     ghost use Rattle.std.specs.Coded.{codes};
-    ghost use Rattle.isle_syntax.specs.contracts.tree.Def as d;
-    ghost use Rattle.isle_syntax.specs.declared.tree.Def.{Def};
+    ghost use Rattle.isle_ast.specs.contracts.tree.Def as d;
+    ghost use Rattle.isle_ast.specs.declared.tree.Def.{Def};
     ghost use Rattle.isle_declarations.specs.Signatures.{signatures};
     ghost use Rattle.isle_sema.specs.Environment.{terms_pass};
     ghost use Rattle.isle_sema.specs.Known.{whole};

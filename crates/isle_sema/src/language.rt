@@ -2,14 +2,14 @@
 
 ghost use Rattle.std.specs.Prelude.{◌≡◌, map};
 ghost use Rattle.std.specs.List.{list_all};
-ghost use Rattle.isle_syntax.specs.Views.{pattern, expr, exprs_of, iflet, def, defs as seen};
+ghost use Rattle.isle_ast.specs.Views.{pattern, expr, exprs_of, iflet, def, defs as seen};
 ghost use Rattle.isle_sema.specs.Language.{is_built_pattern, is_built_expr, are_built_exprs};
 ghost use Rattle.isle_sema.specs.BuiltForm.{is_built_form};
 
-use isle_syntax::{AstExpr, AstPattern, Def};
+use isle_ast::{AstExpr, AstPattern, Def};
 
 // Whether the form of a pattern is built.
-#[tactic(auto, using(isle_declarations::proofs::Sees::pattern_sees))]
+#[tactic(auto, using(isle_ast::proofs::Sees::pattern_sees))]
 fn is_built_pattern(p: &AstPattern) -> bool
     ensures { result ≡ is_built_pattern (pattern p.now) }
 {
@@ -27,7 +27,7 @@ fn is_built_pattern(p: &AstPattern) -> bool
 
 // Whether the form of an expression is built.
 #[cycle(built)]
-#[tactic(auto, using(isle_declarations::proofs::Sees::expr_sees))]
+#[tactic(auto, using(isle_ast::proofs::Sees::expr_sees))]
 fn is_built_expr(e: &AstExpr) -> bool
     ensures { result ≡ is_built_expr (expr e.now) }
 {

@@ -3,7 +3,7 @@
 ghost use Rattle.std.specs.Prelude.{◌≡◌, ℕ, List, is_some};
 ghost use Rattle.std.specs.List.{list_all, list_any};
 ghost use Rattle.isle_sema.specs.Builtins.{builtin_named};
-ghost use Rattle.isle_syntax.specs.Views.{defs};
+ghost use Rattle.isle_ast.specs.Views.{defs};
 ghost use Rattle.isle_declarations.specs.Signatures.{signatures};
 ghost use Rattle.isle_declarations.specs.Collected.{signature as seen};
 ghost use Rattle.isle_sema.specs.Tests.{is_misdeclared};

@@ -3,7 +3,7 @@
 ghost use Rattle.std.specs.Prelude.{◌≡◌, IfOk, Some, true, map, option_map};
 ghost use Rattle.std.specs.List.{list_all, list_any};
 ghost use Rattle.isle_core.specs.RuleViews.{rule as elaborated_rule};
-ghost use Rattle.isle_syntax.specs.Views.{defs as seen};
+ghost use Rattle.isle_ast.specs.Views.{defs as seen};
 ghost use Rattle.isle_declarations.specs.Signatures.{signatures, externs, rule_defs};
 ghost use Rattle.isle_sema.specs.Language.{is_built_def};
 ghost use Rattle.isle_sema.specs.Environment.{terms_pass};

@@ -2,7 +2,7 @@ ghost use Rattle.std.specs.Prelude.{◌≡◌, Err, IfOk};
 ghost use Rattle.isle_core.specs.declared.types.TypeEnv.{TypeEnv as TheTypes};
 ghost use Rattle.isle_core.specs.Rule.{Environment};
 ghost use Rattle.isle_core.specs.RuleViews.{environment};
-ghost use Rattle.isle_syntax.specs.Views.{defs as seen};
+ghost use Rattle.isle_ast.specs.Views.{defs as seen};
 ghost use Rattle.isle_sema.specs.Environment.{types_of};
 ghost use Rattle.isle_sema.specs.Typing.{TypesFrom, Typed, TypedOnly};
 
@@ -11,7 +11,7 @@ use crate::language::are_built_forms;
 use crate::term_env::term_env;
 use isle_core::{BuiltinType, IntType, List, TermEnv, TypeDef, TypeEnv};
 use isle_declarations::Declarations;
-use isle_syntax::Def;
+use isle_ast::Def;
 use std::alloc::{AllocError, Global};
 
 /// Why definitions give no environment.

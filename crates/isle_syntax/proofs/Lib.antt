@@ -1,9 +1,3 @@
-pub mod SpeltOnce
-pub mod WordForms
-pub mod Expressions
-pub mod Definitions
-pub mod Files
-pub mod Sees
-pub mod WordSteps
-pub mod ExpressionSteps
-pub mod Within
+pub mod PassedSteps
+pub mod TypeSteps
+pub mod DefinitionSteps

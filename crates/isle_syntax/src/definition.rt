@@ -1,154 +1,116 @@
-ghost use Rattle.std.specs.Prelude.{◌≡◌, map, option_map};
+ghost use Rattle.std.specs.Prelude.{◌≡◌, ◌≤◌, length, map, IfOk, option_map};
 ghost use Rattle.isle_reading.specs.Combinators.{next_word, all};
 ghost use Rattle.isle_reading.specs.Views.{left, Reads};
-ghost use Rattle.isle_syntax.specs.Reading.{decl_name_of, read_decl_name, partial_of, read_partial, read_declared, read_decl, constructor_of, read_constructor, read_extern, read_parts, read_rule, head_of, read_head, read_behind, read_def, read_file};
-ghost use Rattle.isle_syntax.specs.ReadingViews.{head_seen};
-ghost use Rattle.isle_syntax.specs.Views.{def, defs, pattern};
+ghost use Rattle.isle_ast.specs.Views.{def, defs, pattern};
+ghost use Rattle.isle_grammar.specs.Reading.{read_type, read_declared, read_decl, read_extractor, read_convert, read_parts, read_rule, read_passed, head_of, read_head, read_behind, read_def, read_file};
+ghost use Rattle.isle_syntax.specs.ReadingViews.{flags_seen, head_seen};
 
-use crate::expression::right_side;
-use crate::forms::{prio, rule_name};
-use crate::lists::{names, patterns};
-use crate::tree::{AstPattern, Def};
+use crate::body::{body, names};
+use crate::externs::external;
+use crate::flags::{Flags, read_flags, read_marks};
+use crate::passed::passed_items;
+use isle_ast::{AstPattern, Def};
 use isle_core::{List, Pos, Text};
-use isle_lexer::{is_flag, is_name};
-use isle_reading::{Fail, Tokens};
-use std::alloc::Global;
+use isle_forms::{arguments, decl_name, prio, rule_name, tail, template};
+use isle_reading::{Expected, Fail, Tokens};
+use std::alloc::{AllocError, Global};
 
 /// What a definition is, by the word that it begins with.
-#[derive(Clone, Copy, Debug, PartialEq, Eq)]
+#[derive(Drop)]
 enum Head {
+    Type,
     Decl,
     Rule,
     Extern,
+    Extractor,
+    Convert,
+    /// A list that is passed over, with that word.
+    Passed(Text),
 }
 
 // What a definition is that begins with the word.
-fn head_of(word: &str) -> Option<Head>
-    ensures { option_map head_seen result ≡ head_of word.now }
+fn head_of(alloc: Global, word: &str) -> Result<Option<Head>, AllocError>
+    ensures { IfOk result (λ read. option_map head_seen read ≡ head_of word.now) }
 {
     match word {
-        "decl" => Some(Head::Decl),
-        "rule" => Some(Head::Rule),
-        "extern" => Some(Head::Extern),
-        _ => None,
-    }
-}
-
-// That a word is the flag `partial`.
-fn partial_of(word: &str) -> Option<bool>
-    ensures { result ≡ partial_of word.now }
-{
-    match word {
-        "partial" => Some(true),
-        _ => None,
-    }
-}
-
-// The word, if it is `constructor`.
-fn constructor_of(word: &str) -> Option<&str>
-    ensures { option_map (λ found. found.now) result ≡ constructor_of word.now }
-{
-    match word {
-        "constructor" => Some(word),
-        _ => None,
+        "type" => Ok(Some(Head::Type)),
+        "decl" => Ok(Some(Head::Decl)),
+        "rule" => Ok(Some(Head::Rule)),
+        "extern" => Ok(Some(Head::Extern)),
+        "extractor" => Ok(Some(Head::Extractor)),
+        "convert" => Ok(Some(Head::Convert)),
+        "spec" | "model" | "form" | "instantiate" | "attr" | "state" => {
+            Ok(Some(Head::Passed(Text::copied(alloc, word)?)))
+        }
+        _ => Ok(None),
     }
 }
 
 // What a definition is, by the word that is next.
 #[tactic(auto, using(isle_reading::proofs::Steps::next))]
-fn next_head(tokens: &Tokens<'_>) -> Option<Head>
-    ensures { option_map head_seen result ≡ next_word head_of (left tokens.now) }
+fn next_head(tokens: &Tokens<'_>, alloc: Global) -> Result<Option<Head>, AllocError>
+    ensures { IfOk result (λ next. option_map head_seen next ≡ next_word head_of (left tokens.now)) }
 {
-    head_of(tokens.word()?)
+    match tokens.word() {
+        Some(word) => head_of(alloc, word),
+        None => Ok(None),
+    }
 }
 
 // What a definition is.
-#[tactic(auto, using(isle_reading::proofs::Steps::words), unfolding(crate::specs::Reading::read_head))]
-fn read_head(tokens: &mut Tokens<'_>) -> Result<Head, Fail>
+#[tactic(auto, using(isle_reading::proofs::Steps::words), unfolding(isle_grammar::specs::Reading::read_head))]
+fn read_head(tokens: &mut Tokens<'_>, alloc: Global) -> Result<Head, Fail>
     ensures { Reads head_seen result read_head (left tokens.old) (left tokens.new) }
 {
-    match next_head(tokens) {
+    match next_head(tokens, alloc)? {
         Some(head) => {
             tokens.skip();
             Ok(head)
         }
-        None => Err(Fail::At(tokens.len())),
+        None => Err(tokens.miss(Expected::Head)),
     }
 }
 
-// A name that is next and no flag.
-#[tactic(auto, using(isle_reading::proofs::Steps::next))]
-fn next_decl_name<'t>(tokens: &Tokens<'t>) -> Option<&'t str>
-    ensures { option_map (λ word. word.now) result ≡ next_word decl_name_of (left tokens.now) }
+// What stands behind `( type`, for the definition at that place.
+#[tactic(auto, using(isle_reading::proofs::Steps::chain), unfolding(isle_grammar::specs::Reading::read_type))]
+fn type_decl(tokens: &mut Tokens<'_>, alloc: Global, most: usize, pos: Pos) -> Result<Def, Fail>
+    ensures { Reads def result (read_type most pos.file pos.offset) (left tokens.old) (left tokens.new) }
 {
-    let word = tokens.word()?;
-    if is_flag(word) || !is_name(word) {
-        return None;
-    }
-    Some(word)
+    let name = tokens.name_as(alloc, Expected::Type)?;
+    let marks = read_marks(tokens)?;
+    let body = body(tokens, alloc, most)?;
+    tokens.close()?;
+    Ok(Def::TypeDecl {
+        name,
+        is_extern: marks.is_extern,
+        is_nodebug: marks.is_nodebug,
+        body,
+        pos,
+    })
 }
 
-// A name that is no flag.
-#[tactic(auto, using(isle_reading::proofs::Steps::words), unfolding(crate::specs::Reading::read_decl_name))]
-fn decl_name(tokens: &mut Tokens<'_>, alloc: Global) -> Result<Text, Fail>
-    ensures { Reads (λ name. name) result read_decl_name (left tokens.old) (left tokens.new) }
-{
-    match next_decl_name(tokens) {
-        Some(word) => {
-            tokens.skip();
-            Ok(Text::copied(alloc, word)?)
-        }
-        None => Err(Fail::At(tokens.len())),
-    }
-}
-
-// The flag `partial` that is next.
-#[tactic(auto, using(isle_reading::proofs::Steps::next))]
-fn next_partial(tokens: &Tokens<'_>) -> Option<bool>
-    ensures { result ≡ next_word partial_of (left tokens.now) }
-{
-    partial_of(tokens.word()?)
-}
-
-// Whether the flag `partial` stands here.
-#[tactic(auto, using(isle_reading::proofs::Steps::optionals), unfolding(crate::specs::Reading::read_partial))]
-fn partial(tokens: &mut Tokens<'_>) -> Result<bool, Fail>
-    ensures { Reads (λ partial. partial) result read_partial (left tokens.old) (left tokens.new) }
-{
-    if tokens.len() == 0 {
-        return Err(Fail::At(0));
-    }
-    match next_partial(tokens) {
-        Some(partial) => {
-            tokens.skip();
-            Ok(partial)
-        }
-        None => Ok(false),
-    }
-}
-
-// What stands behind the flag of `( decl`, for the definition at that place.
-#[tactic(auto, using(isle_reading::proofs::Steps::chain), unfolding(crate::specs::Reading::read_declared))]
+// What stands behind the flags of `( decl`, for the definition at that place.
+#[tactic(auto, using(isle_reading::proofs::Steps::chain), unfolding(isle_grammar::specs::Reading::read_declared))]
 fn declared(
     tokens: &mut Tokens<'_>,
     alloc: Global,
     most: usize,
     pos: Pos,
-    partial: bool,
+    flags: Flags,
 ) -> Result<Def, Fail>
-    ensures { Reads def result (read_declared most pos.file pos.offset partial) (left tokens.old) (left tokens.new) }
+    ensures { Reads def result (read_declared most pos.file pos.offset (flags_seen flags)) (left tokens.old) (left tokens.new) }
 {
     let term = decl_name(tokens, alloc)?;
     tokens.open()?;
-    let args = names(tokens, alloc, most)?;
-    let ret = tokens.name(alloc)?;
+    let args = names(tokens, alloc, most, Expected::Type)?;
+    let ret = tokens.name_as(alloc, Expected::Type)?;
     tokens.close()?;
     Ok(Def::Decl {
         term,
-        pure: false,
-        multi: false,
-        partial,
-        recursive: false,
+        pure: flags.pure,
+        multi: flags.multi,
+        partial: flags.partial,
+        recursive: flags.recursive,
         args: List::new(args),
         ret,
         pos,
@@ -156,50 +118,51 @@ fn declared(
 }
 
 // What stands behind `( decl`, for the definition at that place.
-#[tactic(auto, using(isle_reading::proofs::Steps::chain), unfolding(crate::specs::Reading::read_decl))]
+#[tactic(auto, using(isle_reading::proofs::Steps::chain), unfolding(isle_grammar::specs::Reading::read_decl))]
 fn decl(tokens: &mut Tokens<'_>, alloc: Global, most: usize, pos: Pos) -> Result<Def, Fail>
     ensures { Reads def result (read_decl most pos.file pos.offset) (left tokens.old) (left tokens.new) }
 {
-    let partial = partial(tokens)?;
-    declared(tokens, alloc, most, pos, partial)
+    let flags = read_flags(tokens)?;
+    declared(tokens, alloc, most, pos, flags)
 }
 
-// The word `constructor` that is next.
-#[tactic(auto, using(isle_reading::proofs::Steps::next))]
-fn next_constructor<'t>(tokens: &Tokens<'t>) -> Option<&'t str>
-    ensures { option_map (λ word. word.now) result ≡ next_word constructor_of (left tokens.now) }
+// What stands behind `( extractor`, for the definition at that place.
+#[tactic(auto, using(isle_reading::proofs::Steps::chain), unfolding(isle_grammar::specs::Reading::read_extractor))]
+fn extractor(tokens: &mut Tokens<'_>, alloc: Global, most: usize, pos: Pos) -> Result<Def, Fail>
+    ensures { Reads def result (read_extractor most pos.file pos.offset) (left tokens.old) (left tokens.new) }
 {
-    constructor_of(tokens.word()?)
-}
-
-// The word `constructor`.
-#[tactic(auto, using(isle_reading::proofs::Steps::words), unfolding(crate::specs::Reading::read_constructor))]
-fn constructor<'t>(tokens: &mut Tokens<'t>) -> Result<&'t str, Fail>
-    ensures { Reads (λ word. word.now) result read_constructor (left tokens.old) (left tokens.new) }
-{
-    match next_constructor(tokens) {
-        Some(word) => {
-            tokens.skip();
-            Ok(word)
-        }
-        None => Err(Fail::At(tokens.len())),
-    }
-}
-
-// What stands behind `( extern`, for the definition at that place.
-#[tactic(auto, using(isle_reading::proofs::Steps::chain), unfolding(crate::specs::Reading::read_extern))]
-fn extern_constructor(tokens: &mut Tokens<'_>, alloc: Global, pos: Pos) -> Result<Def, Fail>
-    ensures { Reads def result (read_extern pos.file pos.offset) (left tokens.old) (left tokens.new) }
-{
-    constructor(tokens)?;
+    tokens.open()?;
     let term = tokens.name(alloc)?;
-    let func = tokens.name(alloc)?;
+    let params = names(tokens, alloc, most, Expected::Name)?;
+    let template = template(tokens, alloc, most)?;
     tokens.close()?;
-    Ok(Def::ExternConstructor { term, func, pos })
+    Ok(Def::Extractor {
+        term,
+        params: List::new(params),
+        template,
+        pos,
+    })
+}
+
+// What stands behind `( convert`, for the definition at that place.
+#[tactic(auto, using(isle_reading::proofs::Steps::chain), unfolding(isle_grammar::specs::Reading::read_convert))]
+fn convert(tokens: &mut Tokens<'_>, alloc: Global, pos: Pos) -> Result<Def, Fail>
+    ensures { Reads def result (read_convert pos.file pos.offset) (left tokens.old) (left tokens.new) }
+{
+    let from = tokens.name_as(alloc, Expected::Type)?;
+    let to = tokens.name_as(alloc, Expected::Type)?;
+    let term = tokens.name(alloc)?;
+    tokens.close()?;
+    Ok(Def::Converter {
+        from,
+        to,
+        term,
+        pos,
+    })
 }
 
 // A rule's head: a term, and the patterns of its arguments.
-#[tactic(auto, using(isle_reading::proofs::Steps::chain), unfolding(crate::specs::Reading::read_parts))]
+#[tactic(auto, using(isle_reading::proofs::Steps::chain), unfolding(isle_grammar::specs::Reading::read_parts))]
 fn parts(
     tokens: &mut Tokens<'_>,
     alloc: Global,
@@ -209,27 +172,46 @@ fn parts(
 {
     tokens.open()?;
     let term = tokens.name(alloc)?;
-    let args = patterns(tokens, alloc, most)?;
+    let args = arguments(tokens, alloc, most)?;
     Ok((term, args))
 }
 
 // What stands behind `( rule`, for the definition at that place.
-#[tactic(auto, using(isle_reading::proofs::Steps::chain), unfolding(crate::specs::Reading::read_rule))]
+#[tactic(auto, using(isle_reading::proofs::Steps::chain), unfolding(isle_grammar::specs::Reading::read_rule))]
 fn rule(tokens: &mut Tokens<'_>, alloc: Global, most: usize, pos: Pos) -> Result<Def, Fail>
+    requires { length (left tokens.old) ≤ most }
     ensures { Reads def result (read_rule most pos.file pos.offset) (left tokens.old) (left tokens.new) }
 {
     let name = rule_name(tokens, alloc)?;
     let prio = prio(tokens)?;
     let (term, args) = parts(tokens, alloc, most)?;
-    let rhs = right_side(tokens, alloc, most)?;
-    tokens.close()?;
+    let (iflets, rhs) = tail(tokens, alloc, most)?;
     Ok(Def::Rule {
         name,
         prio,
         term,
         args: List::new(args),
-        iflets: List::new(Vec::new(alloc)),
+        iflets: List::new(iflets),
         rhs,
+        pos,
+    })
+}
+
+// What stands behind the first word of a list that is passed over, at that place.
+#[tactic(auto, using(isle_reading::proofs::Steps::chain), unfolding(isle_grammar::specs::Reading::read_passed))]
+fn passed(
+    tokens: &mut Tokens<'_>,
+    alloc: Global,
+    most: usize,
+    pos: Pos,
+    head: Text,
+) -> Result<Def, Fail>
+    ensures { Reads def result (read_passed most pos.file pos.offset head) (left tokens.old) (left tokens.new) }
+{
+    let items = passed_items(tokens, alloc, most)?;
+    Ok(Def::Passed {
+        head,
+        items: List::new(items),
         pos,
     })
 }
@@ -242,27 +224,33 @@ fn behind(
     pos: Pos,
     head: Head,
 ) -> Result<Def, Fail>
+    requires { length (left tokens.old) ≤ most }
     ensures { Reads def result (read_behind most pos.file pos.offset (head_seen head)) (left tokens.old) (left tokens.new) }
 {
     match head {
+        Head::Type => type_decl(tokens, alloc, most, pos),
         Head::Decl => decl(tokens, alloc, most, pos),
         Head::Rule => rule(tokens, alloc, most, pos),
-        Head::Extern => extern_constructor(tokens, alloc, pos),
+        Head::Extern => external(tokens, alloc, pos),
+        Head::Extractor => extractor(tokens, alloc, most, pos),
+        Head::Convert => convert(tokens, alloc, pos),
+        Head::Passed(word) => passed(tokens, alloc, most, pos, word),
     }
 }
 
 /// Reads a definition of the file of that number, its lists of at most `most` tokens.
-#[tactic(auto, using(isle_reading::proofs::Steps::chain), unfolding(crate::specs::Reading::read_def))]
+#[tactic(auto, using(isle_reading::proofs::Steps::chain), unfolding(isle_grammar::specs::Reading::read_def))]
 pub fn definition(
     tokens: &mut Tokens<'_>,
     alloc: Global,
     most: usize,
     file: usize,
 ) -> Result<Def, Fail>
+    requires { length (left tokens.old) ≤ most }
     ensures { Reads def result (read_def most file) (left tokens.old) (left tokens.new) }
 {
     let offset = tokens.open()?;
-    let head = read_head(tokens)?;
+    let head = read_head(tokens, alloc)?;
     behind(tokens, alloc, most, Pos { file, offset }, head)
 }
 
@@ -274,6 +262,7 @@ pub fn file_of(
     most: usize,
     file: usize,
 ) -> Result<Vec<Def>, Fail>
+    requires { length (left tokens.old) ≤ most }
     ensures { Reads (λ read. defs read.items) result (read_file most file) (left tokens.old) (left tokens.new) }
 {
     let mut definitions = Vec::new(alloc);
@@ -286,5 +275,5 @@ pub fn file_of(
     if tokens.len() == 0 {
         return Ok(definitions);
     }
-    Err(Fail::At(tokens.len()))
+    Err(tokens.miss(Expected::Definition))
 }

@@ -1,16 +1,12 @@
 //! Rule texts: the definitions that they spell.
 #![tactic(auto)]
 
+mod body;
 mod definition;
-mod expression;
-mod forms;
-mod lists;
+mod externs;
+mod flags;
 mod parser;
-mod tree;
+mod passed;
 
-pub use isle_lexer::{Lexer, Signed, Tok, Token, is_name, signed_of};
-pub use isle_reading::{Fail, Tokens, most_inside};
-pub use parser::{ParseFail, parse, parse_text};
-pub use tree::{
-    AstAny, AstBody, AstExpr, AstFields, AstIfLet, AstLet, AstPattern, AstVariant, Def,
-};
+pub use isle_reading::Expected;
+pub use parser::{Mismatch, ParseFail, parse, parse_text};

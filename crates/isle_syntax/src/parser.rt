@@ -1,78 +1,133 @@
-ghost use Rattle.std.specs.Prelude.{◌≡◌, ◌≤◌, ℕ, List, Err, IfOk};
+ghost use Rattle.std.specs.Prelude.{◌≡◌, ◌≤◌, ℕ, List, length, Err, IfOk};
 ghost use Rattle.isle_lexer.specs.Lexer.{lexer_file, lexer_text, IsUntaken};
 ghost use Rattle.isle_lexer.specs.Token.{IsClosed};
 ghost use Rattle.isle_lexer.specs.TokenViews.{tokens_seen};
 ghost use Rattle.isle_reading.specs.Nesting.{depth, most_open};
-ghost use Rattle.isle_reading.specs.Places.{IsFault};
+ghost use Rattle.isle_reading.specs.Places.{IsFault, IsFaultAt, place_left};
+ghost use Rattle.isle_reading.specs.Views.{left};
+ghost use Rattle.isle_lexer.specs.Lexeme.{lexemes};
 ghost use Rattle.isle_reading.specs.declared.cursor.Fail.TheVariants.{At};
-ghost use Rattle.isle_syntax.specs.Grammar.{FileS};
-ghost use Rattle.isle_syntax.specs.Spelling.{IsFile, Spells, SpellsTokens};
-ghost use Rattle.isle_syntax.specs.Tree.{Def as PureDef};
-ghost use Rattle.isle_syntax.specs.Views.{defs};
+ghost use Rattle.isle_core.specs.declared.position.Pos.{Pos};
+ghost use Rattle.isle_ast.specs.Tree.{Def as PureDef};
+ghost use Rattle.isle_ast.specs.Views.{defs};
+ghost use Rattle.isle_grammar.specs.Grammar.{FileS};
+ghost use Rattle.isle_grammar.specs.Spelling.{IsFile, IsTextFault, Spells, SpellsTokens};
+ghost use Rattle.isle_syntax.specs.declared.parser.Mismatch.{Mismatch};
+ghost use Rattle.isle_syntax.specs.declared.parser.ParseFail.TheVariants as fail;
 
 use crate::definition::file_of;
-use crate::tree::Def;
+use isle_ast::Def;
+use isle_core::Pos;
 use isle_lexer::{LexFail, Lexer, Token, tokens};
-use isle_reading::{Fail, Tokens};
+use isle_reading::{Expected, Fail, Tokens, place_of, token_end};
 use std::alloc::Global;
+
+/// What was met where a text goes wrong, and what may stand there: the user's help, of which no clause speaks.
+#[derive(Clone, Copy, Debug, PartialEq, Eq)]
+pub struct Mismatch {
+    /// The end of the token that was met, or the place itself where one is missing.
+    pub to: Pos,
+    pub expected: Expected,
+}
 
 /// Why a text gives no definitions.
 #[derive(Clone, Copy, Debug, PartialEq, Eq)]
 pub enum ParseFail {
-    /// No definitions of the forms that are built are spelt by it.
-    NotYet,
+    /// Where the text goes wrong: the first token with which no text of the language goes on, or that is the 257th open
+    /// parenthesis or `@`, else the text's end; before all else the start of a comment that never ends.
+    At(Pos, Mismatch),
     Memory,
 }
 
-// The definitions that tokens of the file of that number spell. `At` comes exactly where they spell none, or nest too
-// deep, and says how many tokens are left where they go wrong.
-fn definitions(alloc: Global, file: usize, tokens: &[Token<'_>]) -> Result<Vec<Def>, Fail>
+// The definitions that tokens of the file of that number spell, which a cursor stands in front of. `At` comes exactly
+// where they spell none, or nest too deep, and says how many tokens are left where they go wrong.
+fn definitions(
+    cursor: &mut Tokens<'_>,
+    alloc: Global,
+    file: usize,
+    tokens: &[Token<'_>],
+) -> Result<Vec<Def>, Fail>
+    requires { left cursor.old ≡ tokens_seen tokens.now }
     ensures spelt { IfOk result (λ read. FileS file (tokens_seen tokens.now) (defs read.items) × (depth (tokens_seen tokens.now) ≤ most_open)) }
-    ensures fault { (left : ℕ) → result ≡ Err (At left) → IsFault (IsFile file) (tokens_seen tokens.now) left }
+    ensures fault { (k : ℕ) → result ≡ Err (At k) → IsFault (IsFile file) (tokens_seen tokens.now) k }
 {
-    file_of(&mut Tokens::new(tokens), alloc, tokens.len(), file)
+    file_of(cursor, alloc, tokens.len(), file)
 }
 
-// The definitions that tokens of the file of that number spell. `NotYet` comes exactly where they spell none.
-fn of_tokens(alloc: Global, file: usize, tokens: &[Token<'_>]) -> Result<Vec<Def>, ParseFail>
+// The failure at the place where so many tokens are left.
+fn fail_at(file: usize, tokens: &[Token<'_>], end: usize, left: usize, expected: Expected) -> ParseFail
+    ensures { (at : Pos) (m : Mismatch) → result ≡ fail.At at m → (at.file ≡ file) × (at.offset ≡ place_left (tokens_seen tokens.now) left end) }
+{
+    let offset = place_of(tokens, left, end);
+    let to = Pos {
+        file,
+        offset: token_end(tokens, left, end),
+    };
+    ParseFail::At(Pos { file, offset }, Mismatch { to, expected })
+}
+
+// The definitions that tokens of a text of that length spell. `At` comes exactly where they spell none.
+fn of_tokens(
+    alloc: Global,
+    file: usize,
+    tokens: &[Token<'_>],
+    end: usize,
+) -> Result<Vec<Def>, ParseFail>
     ensures ok { IfOk result (λ read. SpellsTokens file (tokens_seen tokens.now) (defs read.items)) }
     ensures only { IfOk result (λ read. (others : List PureDef) → SpellsTokens file (tokens_seen tokens.now) others → others ≡ defs read.items) }
-    ensures not_yet { result ≡ Err ParseFail.NotYet → (others : List PureDef) → SpellsTokens file (tokens_seen tokens.now) others → ⊥ }
+    ensures fault { (at : Pos) (m : Mismatch) → result ≡ Err (fail.At at m) → (at.file ≡ file) × IsFaultAt (IsFile file) (tokens_seen tokens.now) end at.offset }
+    ensures none { (at : Pos) (m : Mismatch) → result ≡ Err (fail.At at m) → (others : List PureDef) → SpellsTokens file (tokens_seen tokens.now) others → ⊥ }
 {
-    match definitions(alloc, file, tokens) {
+    let mut cursor = Tokens::new(tokens);
+    match definitions(&mut cursor, alloc, file, tokens) {
         Ok(read) => Ok(read),
-        Err(Fail::At(_)) => Err(ParseFail::NotYet),
+        Err(Fail::At(left)) => Err(fail_at(file, tokens, end, left, cursor.expected())),
         Err(Fail::Memory) => Err(ParseFail::Memory),
     }
 }
 
-/// Returns the definitions that the reader's text spells, in order. `NotYet` comes exactly where no definitions of the
-/// forms that are built are spelt: `decl` with no flag but `partial`, `extern constructor`, and `rule` without
-/// conditions whose right side is a word or a call, with at most 256 parentheses open at once.
+/// Returns the definitions that the reader's text spells, in order (`specs/Grammar.antt`). `At` comes exactly where none
+/// are spelt, and gives the place where the text goes wrong.
 pub fn parse(alloc: Global, lexer: Lexer<'_>) -> Result<Vec<Def>, ParseFail>
     requires closed { IsClosed (lexer_text lexer) }
     requires untaken { IsUntaken lexer }
     ensures ok { IfOk result (λ read. Spells (lexer_file lexer.entry) (lexer_text lexer.entry) (defs read.items)) }
     ensures only { IfOk result (λ read. (others : List PureDef) → Spells (lexer_file lexer.entry) (lexer_text lexer.entry) others → others ≡ defs read.items) }
-    ensures not_yet { result ≡ Err ParseFail.NotYet → (others : List PureDef) → Spells (lexer_file lexer.entry) (lexer_text lexer.entry) others → ⊥ }
+    ensures fault { (at : Pos) (m : Mismatch) → result ≡ Err (fail.At at m) → (at.file ≡ lexer_file lexer.entry) × IsFaultAt (IsFile (lexer_file lexer.entry)) (lexemes (lexer_text lexer.entry)) (length (lexer_text lexer.entry)) at.offset }
+    ensures none { (at : Pos) (m : Mismatch) → result ≡ Err (fail.At at m) → (others : List PureDef) → Spells (lexer_file lexer.entry) (lexer_text lexer.entry) others → ⊥ }
 {
     let file = lexer.file();
+    let end = lexer.text_len();
     match lexer.tokens(alloc) {
-        Ok(tokens) => of_tokens(alloc, file, tokens.as_slice()),
+        Ok(tokens) => of_tokens(alloc, file, tokens.as_slice(), end),
         Err(_) => Err(ParseFail::Memory),
     }
 }
 
-/// Returns the definitions that the text of the file of that number spells, read in one pass for its tokens. `NotYet`
-/// as of `parse`, and where a comment never ends.
+// The failure at the comment that never ends.
+fn unclosed_at(file: usize, offset: usize) -> ParseFail
+    ensures { (at : Pos) (m : Mismatch) → result ≡ fail.At at m → (at.file ≡ file) × (at.offset ≡ offset) }
+{
+    let at = Pos { file, offset };
+    let to = Pos {
+        file,
+        offset: offset.saturating_add(2),
+    };
+    let expected = Expected::CommentEnd;
+    ParseFail::At(at, Mismatch { to, expected })
+}
+
+/// Returns the definitions that the text of the file of that number spells, read in one pass for its tokens. `At` as of
+/// `parse`, and before all else where a comment never ends.
 pub fn parse_text(alloc: Global, file: usize, text: &str) -> Result<Vec<Def>, ParseFail>
     ensures ok { IfOk result (λ read. Spells file text.now (defs read.items)) }
     ensures only { IfOk result (λ read. (others : List PureDef) → Spells file text.now others → others ≡ defs read.items) }
-    ensures not_yet { result ≡ Err ParseFail.NotYet → (others : List PureDef) → Spells file text.now others → ⊥ }
+    ensures fault { (at : Pos) (m : Mismatch) → result ≡ Err (fail.At at m) → (at.file ≡ file) × IsTextFault file text.now at.offset }
+    ensures none { (at : Pos) (m : Mismatch) → result ≡ Err (fail.At at m) → (others : List PureDef) → Spells file text.now others → ⊥ }
 {
     match tokens(alloc, text) {
-        Ok(tokens) => of_tokens(alloc, file, tokens.as_slice()),
-        Err(LexFail::Unclosed(_)) => Err(ParseFail::NotYet),
+        Ok(tokens) => of_tokens(alloc, file, tokens.as_slice(), text.len()),
+        Err(LexFail::Unclosed(offset)) => Err(unclosed_at(file, offset)),
         Err(LexFail::Memory) => Err(ParseFail::Memory),
     }
 }

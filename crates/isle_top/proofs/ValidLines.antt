@@ -105,7 +105,7 @@ valid_files options fs names v h =
     ⊎_elim
     (λ never. never (subst InLanguage same (v.accepted.defs, v.accepted.env, v.accepted.source, v.accepted.compilable)))
     (λ bad. let clash : true ≡ false = sym v.emitted ∙ bad in cc)
-    h.refused
+    h.refused.1
 
 no_file_errors : (options : CodegenOptions) (fs : Contents) (names : List (List ℕ)) (errors : Errors) → AreValid options fs names → compiling.HasErrors errors options fs names → ⊥
 no_file_errors options fs names errors v h =

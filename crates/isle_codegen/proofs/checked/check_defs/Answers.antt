@@ -1,6 +1,6 @@
 use Rattle.std.proofs.Common.{rules}
 use Rattle.isle_core.specs.RuleViews.{environment}
-use Rattle.isle_syntax.specs.Views.{defs as seen}
+use Rattle.isle_ast.specs.Views.{defs as seen}
 use Rattle.isle_sema.proofs.TypedRules.{typed_built, typed_scoped, typed_impure}
 use Rattle.isle_codegen.proofs.Placed.{terms_placed}
 use Rattle.isle_codegen.proofs.Refusals.{told_errors}

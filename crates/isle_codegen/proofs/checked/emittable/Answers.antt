@@ -1,5 +1,5 @@
 use Rattle.isle_core.specs.RuleViews.{environment}
-use Rattle.isle_syntax.specs.Views.{defs as seen}
+use Rattle.isle_ast.specs.Views.{defs as seen}
 use Rattle.isle_codegen.proofs.RulesApart.{typed_roots}
 use Rattle.isle_codegen.proofs.checked.emittable.Goals as goal
 

@@ -1,5 +1,5 @@
 use Rattle.std.proofs.Common.{subst, sym}
-use Rattle.isle_syntax.specs.Views.{defs as seen}
+use Rattle.isle_ast.specs.Views.{defs as seen}
 use Rattle.isle_codegen.specs.Causes.{IsRefusal, IsUncompiled}
 use Rattle.isle_codegen.proofs.Refusals.{of_defs}
 use Rattle.isle_codegen.proofs.files.compiled.Goals as goal

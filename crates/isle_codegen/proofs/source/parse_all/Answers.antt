@@ -1,13 +1,14 @@
 use Rattle.std.proofs.Common.{rules, ◌≡◌, ◌++◌, true, not, ap, ◌∙◌, cond}
 use Rattle.std.specs.Result.{is_ok}
 use Rattle.std.proofs.lemmas.List.{map-append}
-use Rattle.isle_syntax.specs.Views.{defs, def}
-use Rattle.isle_codegen.proofs.Sources.{source_next, source_once, source_none, source_all}
+use Rattle.isle_ast.specs.Views.{defs, def}
+use Rattle.isle_codegen.proofs.Sources.{source_next, source_once, source_wrong, source_all}
 use Rattle.isle_codegen.proofs.source.parse_all.Goals as goal
 
-pub returns-in-Err-clause-not_yet : goal.returns-in-Err-clause-not_yet
-returns-in-Err-clause-not_yet c = λ e.
-    source_none c.args.texts.now c.loop-file.file c.index-texts-file.result c.loop-file-test.true c.index-texts-file.is (λ es s. c.in-Err.ensures.not_yet e es (rw c.as_str.ensures s))
+pub returns-in-Err-clause-fault : goal.returns-in-Err-clause-fault
+returns-in-Err-clause-fault c = λ at m e.
+    let f = c.in-Err.ensures.fault at m e in
+    source_wrong c.args.texts.now c.loop-file.file c.index-texts-file.result (defs c.loop-file.all.items) at c.loop-file-test.true c.index-texts-file.is c.loop-file.invariant.source f.0 (rw (← c.as_str.ensures) f.1)
 
 pub loop-file-preserved : goal.loop-file-preserved
 loop-file-preserved c =

@@ -1,5 +1,5 @@
 use Rattle.std.proofs.Common.{◌≡◌, take, length}
-use Rattle.isle_syntax.specs.Views.{defs}
+use Rattle.isle_ast.specs.Views.{defs}
 use Rattle.isle_codegen.specs.Source.{Source}
 use Rattle.isle_codegen.proofs.source.parse_all.Given as goal
 

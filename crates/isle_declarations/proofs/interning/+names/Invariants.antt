@@ -1,6 +1,6 @@
 use Rattle.std.proofs.Common.{◌≡◌, fold, map}
 use Rattle.std.specs.Prelude.{drop}
-use Rattle.isle_syntax.specs.Views.{expr, exprs_of}
+use Rattle.isle_ast.specs.Views.{expr, exprs_of}
 use Rattle.isle_declarations.specs.Symbols.{added, exprs_names}
 use Rattle.isle_declarations.proofs.interning.+names.Given as goal
 

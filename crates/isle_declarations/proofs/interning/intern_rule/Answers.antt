@@ -1,6 +1,6 @@
 use Rattle.std.proofs.Common.{◌≡◌, rules, map, Some}
 use Rattle.std.specs.Prelude.{flat_map}
-use Rattle.isle_syntax.specs.Views.{pattern, expr}
+use Rattle.isle_ast.specs.Views.{pattern, expr}
 use Rattle.isle_declarations.specs.Symbols.{index_of, pattern_names, expr_names}
 use Rattle.isle_declarations.proofs.Gathered.{stays_numbered}
 use Rattle.isle_declarations.proofs.interning.intern_rule.Goals as goal

@@ -1,6 +1,6 @@
 use Rattle.std.proofs.Common.{◌≡◌, flat_map, map}
 use Rattle.std.specs.Prelude.{drop}
-use Rattle.isle_syntax.specs.Views.{pattern}
+use Rattle.isle_ast.specs.Views.{pattern}
 use Rattle.isle_declarations.specs.Symbols.{pattern_names}
 use Rattle.isle_declarations.specs.Repeats.{repeats, repeats_after}
 use Rattle.isle_sema.proofs.bound_once.repeats_variable.Given as goal

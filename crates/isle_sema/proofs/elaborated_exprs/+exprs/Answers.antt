@@ -2,8 +2,8 @@ use Rattle.std.proofs.Common.{◌≡◌, rules, Some, true, false, map, ap, sym,
 use Rattle.std.specs.Prelude.{option_map, slice_get}
 use Rattle.std.specs.Int.{w128}
 use Rattle.isle_core.specs.RuleViews.{expr as elaborated, exprs_of as elaborated_of}
-use Rattle.isle_syntax.specs.Tree as tree
-use Rattle.isle_syntax.specs.Views.{expr, exprs_of, defs as seen}
+use Rattle.isle_ast.specs.Tree as tree
+use Rattle.isle_ast.specs.Views.{expr, exprs_of, defs as seen}
 use Rattle.isle_declarations.specs.Signatures.{signatures, term_named}
 use Rattle.isle_sema.specs.Whole.{declared, arg_types, ret_type}
 use Rattle.isle_sema.specs.ExprPass.{integer_tree, call_tree, expr_pass, exprs_pass}
@@ -13,7 +13,7 @@ use Rattle.isle_sema.specs.declared.judged.Judged.{Judged}
 use Rattle.isle_sema.specs.Site.{CalledAt}
 use Rattle.isle_sema.specs.Judging.{judge, judge_all}
 use Rattle.isle_sema.proofs.CallLaws.{counted}
-use Rattle.isle_declarations.proofs.Sees.{expr-number, expr-name}
+use Rattle.isle_ast.proofs.Sees.{expr-number, expr-name}
 use Rattle.isle_declarations.proofs.LookUps.{got}
 use Rattle.isle_sema.proofs.RuleLaws.{number_is}
 use Rattle.isle_sema.proofs.Steps.{exprs_before, same_cond, exprs_more, expr_more, expr_missing, exprs_all}

@@ -1,5 +1,5 @@
 use Rattle.std.proofs.Common.{map, Some}
-use Rattle.isle_syntax.specs.Views.{expr, exprs_of, defs as seen}
+use Rattle.isle_ast.specs.Views.{expr, exprs_of, defs as seen}
 use Rattle.isle_sema.specs.Environment.{whole_of}
 use Rattle.isle_sema.specs.ExprPass.{exprs_pass}
 use Rattle.isle_sema.proofs.Steps.{ExprsMade, exprs_left}

@@ -1,11 +1,11 @@
 use Rattle.std.proofs.Common.{◌≡◌, rules, to_z, of_z, ap, sym, ◌∙◌}
 use Rattle.std.specs.Int.{w128}
-use Rattle.isle_syntax.specs.Tree as tree
-use Rattle.isle_syntax.specs.Views.{pattern}
+use Rattle.isle_ast.specs.Tree as tree
+use Rattle.isle_ast.specs.Views.{pattern}
 use Rattle.isle_sema.specs.Environment.{types_of, whole_of}
 use Rattle.isle_sema.specs.PatternPass.{integer_tree, pattern_pass}
 use Rattle.isle_sema.specs.Judging.{judge_all}
-use Rattle.isle_declarations.proofs.Sees.{pattern-int}
+use Rattle.isle_ast.proofs.Sees.{pattern-int}
 use Rattle.isle_sema.proofs.elaborated_patterns.pattern_at.Goals as goal
 
 pub returns-in-Int : goal.returns-in-Int

@@ -1,6 +1,6 @@
 use Rattle.std.proofs.Common.{List, map, Some}
-use Rattle.isle_syntax.specs.Tree.{Def}
-use Rattle.isle_syntax.specs.Views.{pattern}
+use Rattle.isle_ast.specs.Tree.{Def}
+use Rattle.isle_ast.specs.Views.{pattern}
 use Rattle.isle_sema.specs.Environment.{whole_of}
 use Rattle.isle_sema.specs.PatternPass.{patterns_pass}
 use Rattle.isle_sema.proofs.Steps.{AreMade, patterns_left}

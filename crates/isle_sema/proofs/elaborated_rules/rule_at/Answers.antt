@@ -1,5 +1,5 @@
 use Rattle.std.proofs.Common.{subst}
-use Rattle.isle_syntax.specs.Views.{defs as seen_defs}
+use Rattle.isle_ast.specs.Views.{defs as seen_defs}
 use Rattle.isle_declarations.specs.Collected.{rule as seen}
 use Rattle.isle_sema.specs.Whole.{declared}
 use Rattle.isle_sema.specs.Environment.{whole_of}

@@ -2,7 +2,7 @@ use Rattle.std.proofs.Common.{◌≡◌, rules, None, Some, true, false, [], len
 use Rattle.std.specs.Prelude.{option_map, is_some}
 use Rattle.std.proofs.lemmas.List.{length-map}
 use Rattle.isle_core.specs.RuleViews.{pattern as elaborated_pattern, expr as elaborated_expr}
-use Rattle.isle_syntax.specs.Views.{pattern}
+use Rattle.isle_ast.specs.Views.{pattern}
 use Rattle.isle_declarations.specs.Collected.{rule as seen}
 use Rattle.isle_sema.specs.ElaboratedAt.{pattern_trees}
 use Rattle.isle_sema.specs.Known.{whole}

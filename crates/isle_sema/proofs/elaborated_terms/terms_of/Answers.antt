@@ -1,5 +1,5 @@
 use Rattle.std.proofs.Common.{rules}
-use Rattle.isle_syntax.specs.Views.{defs}
+use Rattle.isle_ast.specs.Views.{defs}
 use Rattle.isle_declarations.specs.declared.collected.Signature.{Signature}
 use Rattle.isle_declarations.specs.Symbols.{symbols}
 use Rattle.isle_declarations.proofs.NumberLaws.{item_number}

@@ -1,6 +1,6 @@
 use Rattle.std.proofs.Common.{◌≡◌, map}
 use Rattle.std.specs.Prelude.{drop}
-use Rattle.isle_syntax.specs.Views.{defs}
+use Rattle.isle_ast.specs.Views.{defs}
 use Rattle.isle_declarations.specs.Signatures.{signatures}
 use Rattle.isle_declarations.specs.Collected.{signature}
 use Rattle.isle_sema.specs.Environment.{terms_pass}

@@ -1,6 +1,6 @@
 use Rattle.std.proofs.Common.{◌≡◌, List}
 use Rattle.std.specs.Prelude.{drop}
-use Rattle.isle_syntax.specs.Tree.{Def}
+use Rattle.isle_ast.specs.Tree.{Def}
 use Rattle.isle_sema.specs.Environment.{types_of, types_named}
 use Rattle.isle_sema.proofs.Steps.{before}
 use Rattle.isle_sema.proofs.elaborated_terms.types_of.Given as goal

@@ -1,6 +1,6 @@
 use Rattle.std.proofs.Common.{◌≡◌, map}
 use Rattle.std.specs.Prelude.{drop}
-use Rattle.isle_syntax.specs.Views.{expr, exprs_of}
+use Rattle.isle_ast.specs.Views.{expr, exprs_of}
 use Rattle.isle_sema.specs.Language.{are_built_exprs}
 use Rattle.isle_sema.proofs.language.+built.Given as goal
 

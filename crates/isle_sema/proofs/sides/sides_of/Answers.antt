@@ -1,6 +1,6 @@
 use Rattle.isle_declarations.specs.Collected.{rule as seen}
 use Rattle.isle_sema.specs.Known.{whole}
-use Rattle.isle_syntax.specs.Views.{defs}
+use Rattle.isle_ast.specs.Views.{defs}
 use Rattle.isle_sema.proofs.RuleLaws.{sides_are}
 use Rattle.isle_sema.proofs.sides.sides_of.Goals as goal
 

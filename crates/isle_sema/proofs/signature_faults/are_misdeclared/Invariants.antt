@@ -1,7 +1,7 @@
 use Rattle.std.proofs.Common.{◌≡◌, map}
 use Rattle.std.specs.Prelude.{drop}
 use Rattle.std.specs.List.{list_any}
-use Rattle.isle_syntax.specs.Views.{defs}
+use Rattle.isle_ast.specs.Views.{defs}
 use Rattle.isle_declarations.specs.Signatures.{signatures}
 use Rattle.isle_declarations.specs.Collected.{signature}
 use Rattle.isle_sema.specs.Tests.{is_misdeclared}

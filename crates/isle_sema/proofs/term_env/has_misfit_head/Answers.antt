@@ -1,6 +1,6 @@
 use Rattle.std.proofs.Common.{◌≡◌, rules, true, false, refl, sym, ◌∙◌}
 use Rattle.std.specs.Prelude.{is_some}
-use Rattle.isle_syntax.specs.Views.{defs as seen}
+use Rattle.isle_ast.specs.Views.{defs as seen}
 use Rattle.isle_declarations.specs.declared.collected.RuleDef.{RuleDef}
 use Rattle.isle_declarations.specs.Symbols.{index_of, symbols}
 use Rattle.isle_declarations.specs.Signatures.{signatures, externs}

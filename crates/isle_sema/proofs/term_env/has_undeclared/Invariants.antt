@@ -1,6 +1,6 @@
 use Rattle.std.proofs.Common.{◌≡◌, map}
 use Rattle.std.specs.Prelude.{drop}
-use Rattle.isle_syntax.specs.Views.{defs as seen}
+use Rattle.isle_ast.specs.Views.{defs as seen}
 use Rattle.isle_declarations.specs.Signatures.{signatures, externs}
 use Rattle.isle_declarations.specs.Collected.{extern}
 use Rattle.isle_sema.specs.Tests.{has_undeclared}

@@ -1,7 +1,7 @@
 use Rattle.std.proofs.Common.{◌≡◌, rules, true, false, None, Some, map, ap, sym, ◌∙◌}
 use Rattle.std.specs.List.{list_any}
 use Rattle.isle_core.specs.RuleViews.{rule as elaborated_rule}
-use Rattle.isle_syntax.specs.Views.{defs as seen}
+use Rattle.isle_ast.specs.Views.{defs as seen}
 use Rattle.isle_declarations.specs.Signatures.{signatures, externs, rule_defs}
 use Rattle.isle_declarations.specs.Tables.{any_repeat}
 use Rattle.isle_sema.specs.Environment.{whole_of, terms_pass}

@@ -2,8 +2,8 @@ use Rattle.std.proofs.Common.{◌≡◌, rules, List, true, false, None, Some, s
 use Rattle.std.specs.List.{list_all, list_any}
 use Rattle.isle_core.specs.RuleViews.{environment}
 use Rattle.isle_core.specs.declared.types.TypeEnv.{TypeEnv}
-use Rattle.isle_syntax.specs.declared.tree.Def.{Def}
-use Rattle.isle_syntax.specs.Views.{defs as seen}
+use Rattle.isle_ast.specs.declared.tree.Def.{Def}
+use Rattle.isle_ast.specs.Views.{defs as seen}
 use Rattle.isle_declarations.specs.Signatures.{rule_defs}
 use Rattle.isle_sema.specs.BuiltForm.{is_built_form}
 use Rattle.isle_sema.specs.Language.{is_built_def}

@@ -1,8 +1,8 @@
 use Rattle.std.proofs.Common.{◌≡◌, rules, List, None, Some, sym, subst}
 use Rattle.isle_core.specs.RuleViews.{environment}
 use Rattle.isle_core.specs.declared.types.TypeEnv.{TypeEnv}
-use Rattle.isle_syntax.specs.declared.tree.Def.{Def}
-use Rattle.isle_syntax.specs.Views.{defs as seen}
+use Rattle.isle_ast.specs.declared.tree.Def.{Def}
+use Rattle.isle_ast.specs.Views.{defs as seen}
 use Rattle.isle_sema.specs.Typing.{Typed}
 use Rattle.isle_sema.specs.Taken.{IsTermEnvOf}
 use Rattle.isle_sema.proofs.TypedOnce.{typed_only}

@@ -1,6 +1,6 @@
 use Rattle.std.proofs.Common.{◌≡◌, rules, true, false, []}
 use Rattle.std.specs.List.{list_all, list_any}
-use Rattle.isle_syntax.specs.Views.{defs as seen}
+use Rattle.isle_ast.specs.Views.{defs as seen}
 use Rattle.isle_declarations.specs.Signatures.{rule_defs}
 use Rattle.isle_sema.specs.BuiltForm.{is_built_form}
 use Rattle.isle_sema.specs.Tests.{binds_twice}

@@ -1,7 +1,7 @@
 use Rattle.isle_reading.proofs.Steps.{then_comes}
-use Rattle.isle_syntax.specs.Reading.{read_decl}
+use Rattle.isle_grammar.specs.Reading.{read_decl}
 use Rattle.isle_syntax.proofs.definition.decl.Goals as goal
 
 pub returns : goal.returns
 unfolding read_decl
-returns c = then_comes _ _ _ _ _ _ _ _ c.in_ok-partial.ensures (c.declared.ensures)
+returns c = then_comes _ _ _ _ _ _ _ _ c.in_ok-flags.ensures (c.declared.ensures)

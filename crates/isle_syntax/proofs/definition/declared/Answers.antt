@@ -1,6 +1,6 @@
 use Rattle.std.proofs.Common.{rules}
 use Rattle.isle_reading.proofs.Steps.{then_got, done_got, then_refuses, bind_refuses, passed}
-use Rattle.isle_syntax.specs.Reading.{read_declared}
+use Rattle.isle_grammar.specs.Reading.{read_declared}
 use Rattle.isle_syntax.proofs.definition.declared.Goals as goal
 
 pub returns-in_err-open : goal.returns-in_err-open

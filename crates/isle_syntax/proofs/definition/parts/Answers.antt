@@ -1,6 +1,6 @@
 use Rattle.std.proofs.Common.{rules}
 use Rattle.isle_reading.proofs.Steps.{then_got, done_got, then_refuses, bind_refuses, passed}
-use Rattle.isle_syntax.specs.Reading.{read_parts}
+use Rattle.isle_grammar.specs.Reading.{read_parts}
 use Rattle.isle_syntax.proofs.definition.parts.Goals as goal
 
 pub returns-in_err-term : goal.returns-in_err-term

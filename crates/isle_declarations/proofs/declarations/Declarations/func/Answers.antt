@@ -1,8 +1,8 @@
 use Rattle.std.proofs.Common.{◌≡◌, rules, None, Some, List, ap, sym, ◌∙◌, subst}
 use Rattle.std.specs.Prelude.{option_map, slice_get}
 use Rattle.std.specs.Option.{option_copied}
-use Rattle.isle_syntax.specs.declared.tree.Def.{Def}
-use Rattle.isle_syntax.specs.Views.{defs as seen}
+use Rattle.isle_ast.specs.declared.tree.Def.{Def}
+use Rattle.isle_ast.specs.Views.{defs as seen}
 use Rattle.isle_declarations.specs.declared.collected.Extern.{Extern}
 use Rattle.isle_declarations.specs.Tables.{AreTables}
 use Rattle.isle_declarations.proofs.LookUps.{got, there}

@@ -2,8 +2,8 @@ use Rattle.std.proofs.Common.{◌≡◌, rules, Some, None, List, refl, ap, sym,
 use Rattle.std.specs.Prelude.{is_some, option_map, slice_get}
 use Rattle.std.specs.Option.{option_copied}
 use Rattle.std.proofs.lemmas.Option.{slice_get-map}
-use Rattle.isle_syntax.specs.declared.tree.Def.{Def}
-use Rattle.isle_syntax.specs.Views.{defs as seen}
+use Rattle.isle_ast.specs.declared.tree.Def.{Def}
+use Rattle.isle_ast.specs.Views.{defs as seen}
 use Rattle.isle_declarations.specs.Signatures.{Signature, signatures, externs, rule_defs}
 use Rattle.isle_declarations.specs.Heads.{terms_of, extern_terms, heads_of}
 use Rattle.isle_declarations.specs.Collected.{signature, AreSignatures}

@@ -1,5 +1,5 @@
 use Rattle.std.proofs.Common.{◌≡◌, rules, None}
-use Rattle.isle_syntax.specs.Views.{defs as seen}
+use Rattle.isle_ast.specs.Views.{defs as seen}
 use Rattle.isle_declarations.specs.Symbols.{index_of, symbols}
 use Rattle.isle_declarations.proofs.DeclaredNames.{undeclared}
 use Rattle.isle_sema.specs.Known.{whole}

@@ -1,0 +1,8 @@
+//! Rule texts as trees: definitions, patterns and expressions.
+#![tactic(auto)]
+
+mod tree;
+
+pub use tree::{
+    AstAny, AstBody, AstExpr, AstFields, AstIfLet, AstLet, AstPattern, AstVariant, Def,
+};

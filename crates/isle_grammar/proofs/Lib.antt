@@ -1,0 +1,12 @@
+pub mod PatternLaws
+pub mod Expressions
+pub mod Conditions
+pub mod TypeForms
+pub mod PassedLists
+pub mod WordForms
+pub mod DefinitionForms
+pub mod Definitions
+pub mod Files
+pub mod SpeltOnce
+pub mod Within
+pub mod TextFaults

@@ -1,0 +1,2 @@
+//! The grammar of rule texts: definitions, readers and laws, without code.
+#![tactic(auto)]

@@ -1,0 +1,16 @@
+use Rattle.std.proofs.Common.{rules}
+use Rattle.isle_reading.proofs.Steps.{then_got, done_got, then_refuses, bind_refuses, passed}
+use Rattle.isle_grammar.specs.Reading.{read_const}
+use Rattle.isle_syntax.proofs.externs.const_of.Goals as goal
+
+pub returns-in_err-ty : goal.returns-in_err-ty
+unfolding read_const
+returns-in_err-ty c = passed _ _ _ _ _ c.from_residual-in_err-ty.ensures.1 (then_refuses _ _ _ _ _ _ c.in_ok-name.ensures (bind_refuses _ _ _ _ c.in_err-ty.ensures))
+
+pub returns-in_err-close : goal.returns-in_err-close
+unfolding read_const
+returns-in_err-close c = passed _ _ _ _ _ c.from_residual-in_err-close.ensures.1 (then_refuses _ _ _ _ _ _ c.in_ok-name.ensures (then_refuses _ _ _ _ _ _ c.in_ok-ty.ensures (bind_refuses _ _ _ _ c.in_err-close.ensures)))
+
+pub returns : goal.returns
+unfolding read_const
+returns c = then_got _ _ _ _ _ _ c.in_ok-name.ensures (then_got _ _ _ _ _ _ c.in_ok-ty.ensures (then_got _ _ _ _ _ _ c.in_ok-close.ensures (search (rules, done_got))))

@@ -1,0 +1,163 @@
+ghost use Rattle.std.specs.Prelude.{◌≡◌, option_map, bytes_eq, codes};
+ghost use Rattle.isle_reading.specs.Combinators.{next_word};
+ghost use Rattle.isle_reading.specs.Views.{left, Reads};
+ghost use Rattle.isle_ast.specs.Views.{def};
+ghost use Rattle.isle_grammar.specs.Reading.{extern_head, read_extern_head, read_constructor, read_fallible, read_infallible, extractor_behind, read_extractor_function, read_const, extern_behind, read_extern};
+ghost use Rattle.isle_syntax.specs.ReadingViews.{extern_head_seen};
+
+use isle_forms::constant;
+use isle_ast::Def;
+use isle_core::{Pos, Text};
+use isle_reading::{Expected, Fail, Tokens};
+use std::alloc::Global;
+
+/// What an `extern` is, by its second word.
+#[derive(Clone, Copy)]
+enum ExternHead {
+    Constructor,
+    Extractor,
+    Const,
+}
+
+// What an `extern` is whose second word this is.
+fn extern_head_of(word: &str) -> Option<ExternHead>
+    ensures { option_map extern_head_seen result ≡ extern_head word.now }
+{
+    match word {
+        "constructor" => Some(ExternHead::Constructor),
+        "extractor" => Some(ExternHead::Extractor),
+        "const" => Some(ExternHead::Const),
+        _ => None,
+    }
+}
+
+// What an `extern` is, by the word that is next.
+#[tactic(auto, using(isle_reading::proofs::Steps::next))]
+fn next_extern_head(tokens: &Tokens<'_>) -> Option<ExternHead>
+    ensures { option_map extern_head_seen result ≡ next_word extern_head (left tokens.now) }
+{
+    extern_head_of(tokens.word()?)
+}
+
+// What an `extern` is.
+#[tactic(auto, using(isle_reading::proofs::Steps::words), unfolding(isle_grammar::specs::Reading::read_extern_head))]
+fn read_head(tokens: &mut Tokens<'_>) -> Result<ExternHead, Fail>
+    ensures { Reads extern_head_seen result read_extern_head (left tokens.old) (left tokens.new) }
+{
+    match next_extern_head(tokens) {
+        Some(head) => {
+            tokens.skip();
+            Ok(head)
+        }
+        None => Err(tokens.miss(Expected::Keyword)),
+    }
+}
+
+// What stands behind `( extern constructor`.
+#[tactic(auto, using(isle_reading::proofs::Steps::chain), unfolding(isle_grammar::specs::Reading::read_constructor))]
+fn constructor(tokens: &mut Tokens<'_>, alloc: Global, pos: Pos) -> Result<Def, Fail>
+    ensures { Reads def result (read_constructor pos.file pos.offset) (left tokens.old) (left tokens.new) }
+{
+    let term = tokens.name(alloc)?;
+    let func = tokens.name(alloc)?;
+    tokens.close()?;
+    Ok(Def::ExternConstructor { term, func, pos })
+}
+
+// The end of an external extractor that may fail.
+#[tactic(auto, using(isle_reading::proofs::Steps::chain), unfolding(isle_grammar::specs::Reading::read_fallible))]
+fn fallible(tokens: &mut Tokens<'_>, pos: Pos, term: Text, func: Text) -> Result<Def, Fail>
+    ensures { Reads def result (read_fallible pos.file pos.offset term func) (left tokens.old) (left tokens.new) }
+{
+    tokens.close()?;
+    Ok(Def::ExternExtractor {
+        term,
+        func,
+        infallible: false,
+        pos,
+    })
+}
+
+// The end of an external extractor that may not fail, behind its term.
+#[tactic(auto, using(isle_reading::proofs::Steps::chain), unfolding(isle_grammar::specs::Reading::read_infallible))]
+fn infallible(tokens: &mut Tokens<'_>, alloc: Global, pos: Pos, term: Text) -> Result<Def, Fail>
+    ensures { Reads def result (read_infallible pos.file pos.offset term) (left tokens.old) (left tokens.new) }
+{
+    let func = tokens.name(alloc)?;
+    tokens.close()?;
+    Ok(Def::ExternExtractor {
+        term,
+        func,
+        infallible: true,
+        pos,
+    })
+}
+
+// What stands behind two names, of which the first may be the word `infallible`.
+#[tactic(auto, using(crate::proofs::DefinitionSteps::two_names))]
+fn extractor_behind(
+    tokens: &mut Tokens<'_>,
+    alloc: Global,
+    pos: Pos,
+    term: Text,
+    func: Text,
+) -> Result<Def, Fail>
+    ensures { Reads def result (extractor_behind pos.file pos.offset (bytes_eq term (codes "infallible")) term func) (left tokens.old) (left tokens.new) }
+{
+    if term.as_str() != "infallible" {
+        return fallible(tokens, pos, term, func);
+    }
+    if tokens.len() == 0 {
+        return Err(tokens.miss(Expected::Name));
+    }
+    match tokens.closes() {
+        Some(_) => fallible(tokens, pos, term, func),
+        None => infallible(tokens, alloc, pos, func),
+    }
+}
+
+// What stands behind `( extern extractor`.
+#[tactic(auto, using(isle_reading::proofs::Steps::chain), unfolding(isle_grammar::specs::Reading::read_extractor_function))]
+fn extractor(tokens: &mut Tokens<'_>, alloc: Global, pos: Pos) -> Result<Def, Fail>
+    ensures { Reads def result (read_extractor_function pos.file pos.offset) (left tokens.old) (left tokens.new) }
+{
+    let term = tokens.name(alloc)?;
+    let func = tokens.name(alloc)?;
+    extractor_behind(tokens, alloc, pos, term, func)
+}
+
+// What stands behind `( extern const`.
+#[tactic(auto, using(isle_reading::proofs::Steps::chain), unfolding(isle_grammar::specs::Reading::read_const))]
+fn const_of(tokens: &mut Tokens<'_>, alloc: Global, pos: Pos) -> Result<Def, Fail>
+    ensures { Reads def result (read_const pos.file pos.offset) (left tokens.old) (left tokens.new) }
+{
+    let name = constant(tokens, alloc)?;
+    let ty = tokens.name_as(alloc, Expected::Type)?;
+    tokens.close()?;
+    Ok(Def::ExternConst { name, ty, pos })
+}
+
+// What stands behind the second word of an `extern`.
+fn extern_behind(
+    tokens: &mut Tokens<'_>,
+    alloc: Global,
+    pos: Pos,
+    head: ExternHead,
+) -> Result<Def, Fail>
+    ensures { Reads def result (extern_behind pos.file pos.offset (extern_head_seen head)) (left tokens.old) (left tokens.new) }
+{
+    match head {
+        ExternHead::Constructor => constructor(tokens, alloc, pos),
+        ExternHead::Extractor => extractor(tokens, alloc, pos),
+        ExternHead::Const => const_of(tokens, alloc, pos),
+    }
+}
+
+/// Reads what stands behind `( extern`, for the definition at that place.
+#[tactic(auto, using(isle_reading::proofs::Steps::chain), unfolding(isle_grammar::specs::Reading::read_extern))]
+pub fn external(tokens: &mut Tokens<'_>, alloc: Global, pos: Pos) -> Result<Def, Fail>
+    ensures { Reads def result (read_extern pos.file pos.offset) (left tokens.old) (left tokens.new) }
+{
+    let head = read_head(tokens)?;
+    extern_behind(tokens, alloc, pos, head)
+}
