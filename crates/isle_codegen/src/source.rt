@@ -6,8 +6,8 @@ ghost use Rattle.isle_core.specs.declared.position.Pos.{Pos};
 ghost use Rattle.isle_syntax.specs.declared.parser.Mismatch.{Mismatch};
 ghost use Rattle.isle_syntax.specs.declared.parser.ParseFail.TheVariants as fail;
 
-use isle_core::Text;
 use isle_ast::Def;
+use isle_core::Text;
 use isle_syntax::{ParseFail, parse_text};
 use std::alloc::Global;
 
