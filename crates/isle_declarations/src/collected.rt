@@ -4,8 +4,8 @@ ghost use Rattle.std.specs.Prelude.{◌≡◌, ◌++◌, OnOk};
 ghost use Rattle.isle_declarations.specs.Collected.{item_signatures, item_externs, item_rules};
 
 use crate::symbols::Symbols;
-use isle_core::{Pos, Text};
 use isle_ast::{AstExpr, AstIfLet, AstPattern};
+use isle_core::{Pos, Text};
 use std::alloc::AllocError;
 
 /// A declaration, and the number of its name.

@@ -12,8 +12,8 @@ use crate::collected::{Definitions, Extern, RuleDef, Signature};
 use crate::first_places::{FirstPlaces, place_in};
 use crate::interning::definitions;
 use crate::tables::{declared_places, external_places, ruled_places};
-use isle_core::Text;
 use isle_ast::Def;
+use isle_core::Text;
 use std::alloc::{AllocError, Global};
 use std::marker::Model;
 

@@ -7,8 +7,8 @@ ghost use Rattle.isle_declarations.specs.Collected.{IsItem, AreCollected};
 
 use crate::collected::{Definitions, Extern, Item, RuleDef, Signature, keep};
 use crate::symbols::Symbols;
-use isle_core::Text;
 use isle_ast::{AstExpr, AstPattern, Def};
+use isle_core::Text;
 use std::alloc::{AllocError, Global};
 
 // One name.

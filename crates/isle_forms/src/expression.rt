@@ -135,12 +135,7 @@ pub fn expression(
 // An expression's list, inside whose parenthesis `depth` more may be open.
 #[cycle(expressions)]
 #[tactic(auto, using(isle_reading::proofs::Steps::chain, isle_ast::proofs::Sees::expr_sees), unfolding(isle_grammar::specs::Reading::read_form_list))]
-fn list(
-    tokens: &mut Tokens<'_>,
-    alloc: Global,
-    most: usize,
-    depth: usize,
-) -> Result<AstExpr, Fail>
+fn list(tokens: &mut Tokens<'_>, alloc: Global, most: usize, depth: usize) -> Result<AstExpr, Fail>
     ensures { Reads expr result (read_form_list most depth) (left tokens.old) (left tokens.new) }
 {
     tokens.open()?;

@@ -269,7 +269,11 @@ pub fn template(tokens: &mut Tokens<'_>, alloc: Global, most: usize) -> Result<A
 
 /// Reads the patterns of a rule's head up to the closing parenthesis, which is taken, of at most `most` tokens.
 #[tactic(auto, unfolding(isle_grammar::specs::Reading::read_argument))]
-pub fn arguments(tokens: &mut Tokens<'_>, alloc: Global, most: usize) -> Result<Vec<AstPattern>, Fail>
+pub fn arguments(
+    tokens: &mut Tokens<'_>,
+    alloc: Global,
+    most: usize,
+) -> Result<Vec<AstPattern>, Fail>
     ensures { Reads (λ args. map pattern args.items) result (many most (read_argument most)) (left tokens.old) (left tokens.new) }
 {
     patterns(tokens, alloc, most, inside_list())

@@ -16,7 +16,6 @@ use Rattle.isle_ast.specs.Views.{anys_of}
 use Rattle.isle_grammar.specs.Grammar.{any_of, AnyS, token, nested, AnysS, no_any, an_any}
 use Rattle.isle_grammar.specs.Reading.{read_token, read_any}
 
-
 -- ---- a token that is no parenthesis
 
 abbrev TokenS : Any → List Lexeme → List Lexeme → Type 0

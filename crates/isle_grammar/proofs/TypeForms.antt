@@ -138,7 +138,7 @@ law_variant : (n : ℕ) (ms : List Mark) → suc (suc (suc (length ms))) ≤ mos
 unfolding read_variant read_shaped
 law_variant n ms l = law_map variant_to variant_from (law_peek is_open _ _ (λ v ts rest s c. (Open s.0, s.1, s.2, refl)) (λ v ts rest s c. name_no_open s.0 ts s.1 s.2)
     (law_next _ _ (law_open (inside_open (Round ∷ ms) tt (omega (arith, l)))) (λ o. law_next _ _ (law_a_name n (Round ∷ ms) (omega (arith, l))) (λ name.
-        law_next _ _ (law_shape n ms l) (λ fs. law_ret (record { name = name; fields = fs }) (λ q p. p)))))
+    law_next _ _ (law_shape n ms l) (λ fs. law_ret (record { name = name; fields = fs }) (λ q p. p)))))
     (law_next _ _ (law_a_name n ms (omega (arith, l))) (λ name. law_ret (record { name = name; fields = fields.Unit }) (λ q p. p))))
 
 -- ---- a body, in a definition's list

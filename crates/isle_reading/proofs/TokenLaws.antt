@@ -442,7 +442,7 @@ module _ {St : Type 0} {P : Nest → Type 0} (next : St → List ℕ → Option 
       (λ v ts rest x c. word_heads (next s) x.0 ts x.1 x.2)
       (λ v ts rest x c. let y = subst (NoSuch test) (sym x.1) c in (y.0, y.1, y.2, silent s y.0 y.3))
       (λ t is. let y = word_is (λ w. is_some (next s w)) t is in let z = some_given (next s (bytes t)) y.1 in
-          law_next (read_word (next s)) (λ u. words_from k next u) (law_word (next s) (bytes t, z.0, z.1) (steps s)) (law_words_from k))
+      law_next (read_word (next s)) (λ u. words_from k next u) (law_word (next s) (bytes t, z.0, z.1) (steps s)) (law_words_from k))
       (law_ret s (λ q p. p)))
 
 -- ---- at the end of the text, or before it

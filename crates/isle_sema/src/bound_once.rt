@@ -8,8 +8,8 @@ ghost use Rattle.isle_declarations.specs.Signatures.{rule_defs};
 ghost use Rattle.isle_declarations.specs.Repeats.{repeats, IsFound};
 ghost use Rattle.isle_sema.specs.Tests.{binds_twice};
 
-use isle_declarations::{Declarations, Symbols};
 use isle_ast::AstPattern;
+use isle_declarations::{Declarations, Symbols};
 use std::alloc::{AllocError, Global};
 
 // Whether a pattern is a variable that was met before; it is met now.

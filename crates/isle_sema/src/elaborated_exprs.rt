@@ -16,8 +16,8 @@ use crate::judged::Judged;
 use crate::known::{Called, Known};
 use crate::reduced::{int_type, reduced};
 use crate::variables::Variables;
-use isle_core::{Expr, List, Text, TypeId, VarId};
 use isle_ast::AstExpr;
+use isle_core::{Expr, List, Text, TypeId, VarId};
 use std::alloc::{AllocError, Global};
 
 // An integer where this type is expected.

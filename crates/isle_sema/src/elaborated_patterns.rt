@@ -11,8 +11,8 @@ ghost use Rattle.isle_sema.specs.ElaboratedAt.{IsPatternAt, ArePatternsAt};
 use crate::judged::Judged;
 use crate::reduced::{int_type, reduced};
 use crate::variables::Variables;
-use isle_core::{Pattern, Text, TypeId, VarId};
 use isle_ast::AstPattern;
+use isle_core::{Pattern, Text, TypeId, VarId};
 use std::alloc::{AllocError, Global};
 
 // An integer where this type is expected.

@@ -9,9 +9,9 @@ ghost use Rattle.isle_sema.specs.Typing.{TypesFrom, Typed, TypedOnly};
 use crate::bound_once::any_binds_twice;
 use crate::language::are_built_forms;
 use crate::term_env::term_env;
+use isle_ast::Def;
 use isle_core::{BuiltinType, IntType, List, TermEnv, TypeDef, TypeEnv};
 use isle_declarations::Declarations;
-use isle_ast::Def;
 use std::alloc::{AllocError, Global};
 
 /// Why definitions give no environment.

@@ -5,9 +5,9 @@ ghost use Rattle.isle_ast.specs.Views.{def};
 ghost use Rattle.isle_grammar.specs.Reading.{extern_head, read_extern_head, read_constructor, read_fallible, read_infallible, extractor_behind, read_extractor_function, read_const, extern_behind, read_extern};
 ghost use Rattle.isle_syntax.specs.ReadingViews.{extern_head_seen};
 
-use isle_forms::constant;
 use isle_ast::Def;
 use isle_core::{Pos, Text};
+use isle_forms::constant;
 use isle_reading::{Expected, Fail, Tokens};
 use std::alloc::Global;
 

@@ -55,7 +55,13 @@ fn definitions(
 }
 
 // The failure at the place where so many tokens are left.
-fn fail_at(file: usize, tokens: &[Token<'_>], end: usize, left: usize, expected: Expected) -> ParseFail
+fn fail_at(
+    file: usize,
+    tokens: &[Token<'_>],
+    end: usize,
+    left: usize,
+    expected: Expected,
+) -> ParseFail
     ensures { (at : Pos) (m : Mismatch) → result ≡ fail.At at m → (at.file ≡ file) × (at.offset ≡ place_left (tokens_seen tokens.now) left end) }
 {
     let offset = place_of(tokens, left, end);

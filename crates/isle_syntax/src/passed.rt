@@ -96,7 +96,11 @@ fn anys(
 }
 
 /// Reads what stands in a list that is passed over, up to its closing parenthesis, which is taken.
-pub fn passed_items(tokens: &mut Tokens<'_>, alloc: Global, most: usize) -> Result<Vec<AstAny>, Fail>
+pub fn passed_items(
+    tokens: &mut Tokens<'_>,
+    alloc: Global,
+    most: usize,
+) -> Result<Vec<AstAny>, Fail>
     ensures { Reads (λ items. map any items.items) result (many most (read_any most (most_open - 1))) (left tokens.old) (left tokens.new) }
 {
     anys(tokens, alloc, most, most_inside())
