@@ -29,9 +29,12 @@ use Rattle.isle_codegen.proofs.Placed.{rules_placed, wrong_placed}
 -- why texts give no text, where the definitions that they spell give none
 pub of_defs : (e : CompileError) (names texts : List (List ℕ)) (defs : List Def) → Source 0 texts defs → ((others : List Def) → Source 0 texts others → others ≡ defs) → IsUncompiled e (record { file_names = names; file_texts = texts }) defs
     → IsRefusal (of_texts e) names texts
-of_defs compile_error.NotYet names texts defs source once h = ((defs, source), ⊎_elim
-    (λ (never : (env : Environment) → IsCompilable defs env → ⊥). inl (λ (l : InLanguage texts). never l.1 (subst (λ ds. IsCompilable ds l.1) (once l.0 l.2) l.3)))
-    (λ bad. inr bad) h)
+of_defs compile_error.NotYet names texts defs source once h = (
+  (defs, source),
+  ⊎_elim
+      (λ (never : (env : Environment) → IsCompilable defs env → ⊥). inl (λ (l : InLanguage texts). never l.1 (subst (λ ds. IsCompilable ds l.1) (once l.0 l.2) l.3)))
+      (λ bad. inr bad) h,
+)
 of_defs (compile_error.Errors errors) names texts defs source once h = record { told = h.told; cause = of_rules defs source once h.named h.cause }
 of_defs (compile_error.Name name) names texts defs source once h = absurd h
 of_defs compile_error.Memory names texts defs source once h = tt

@@ -15,11 +15,11 @@ use crate::compile_error::CompileError;
 use crate::file_error::{FileError, of_texts};
 use crate::names::{are_file_names, are_fn_names, are_term_names};
 use crate::source::parse_files;
+use isle_ast::Def;
 use isle_checks::{CheckError, overlap};
 use isle_core::{Error, Errors, Files, List, RuleSet, TermEnv, TermId, TypeEnv};
 use isle_emission::trait_fns;
 use isle_sema::{EnvError, env_from_ast};
-use isle_ast::Def;
 use isle_tree::TraitFn;
 use std::alloc::Global;
 

@@ -11,8 +11,8 @@ ghost use Rattle.isle_codegen.specs.Causes.{IsUncompiled};
 use crate::checked::check_defs;
 use crate::compile_error::CompileError;
 use crate::text::text_of;
-use isle_core::{CodegenOptions, Files};
 use isle_ast::Def;
+use isle_core::{CodegenOptions, Files};
 use std::alloc::Global;
 
 /// Compiles definitions that stand in the files, and returns the text of the program that they give

@@ -10,8 +10,8 @@ ghost use Rattle.isle_codegen.specs.Causes.{IsRefusal};
 
 use crate::file_error::FileError;
 use crate::parse_error::parse_error;
-use isle_core::{Files, Text};
 use isle_ast::Def;
+use isle_core::{Files, Text};
 use isle_syntax::{ParseFail, parse_text};
 use std::alloc::Global;
 

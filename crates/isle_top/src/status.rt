@@ -31,9 +31,8 @@ fn error_status(error: &Error) -> Exit
     match error {
         Error::ParseError { .. } => Exit(6),
         Error::TypeError { .. } => Exit(7),
-        Error::UnreachableError { .. }
-        | Error::OverlapError { .. }
-        | Error::ShadowedError { .. } => Exit(8),
+        Error::UnreachableError { .. } | Error::OverlapError { .. } | Error::ShadowedError { .. } =>
+            Exit(8),
         Error::RecursionError { .. } => Exit(9),
     }
 }
