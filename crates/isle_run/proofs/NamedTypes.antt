@@ -1,5 +1,5 @@
 -- Values of builtin types are of the types of these names.
-use Rattle.std.proofs.Common.{◌≡◌, ℕ, List, [], ◌∷◌, map, true, Option, Some, None, refl}
+use Rattle.std.proofs.Common.{◌≡◌, ℕ, List, [], ◌∷◌, map, Option, Some, None, refl}
 use Rattle.std.specs.Prelude.{IsSomeAnd, slice_get}
 use Rattle.std.specs.List.{AllByRecursion}
 use Rattle.isle_core.specs.declared.TypeId.{TypeId}
@@ -11,13 +11,13 @@ use Rattle.isle_core.specs.declared.types.ReturnKind.TheVariants as kind
 use Rattle.isle_core.specs.declared.types.TypeDef.{TypeDef}
 use Rattle.isle_core.specs.declared.types.TypeDef.TheVariants as def
 use Rattle.isle_core.specs.BuiltinType.{IsBuiltinDef, IsBuiltinType}
-use Rattle.isle_core.specs.HasType.{IsOfDef, HasType, HaveTypes}
+use Rattle.isle_core.specs.HasType.{IsOfDef, HaveTypes}
 use Rattle.isle_core.specs.Lawful.{Fits}
 use Rattle.isle_core.specs.Rule.{Environment}
 use Rattle.isle_core.specs.Value.{Value, Truth, Int, Opaque, Variant, Struct, Answer, Plain, Found, Nothing, Several}
 use Rattle.isle_core.specs.Int.{type_name}
 use Rattle.isle_spelling.specs.Literal.{type_named}
-use Rattle.isle_interpreter.specs.Signatures.{Signature, IsNamed, AreNamed, AnswerFits}
+use Rattle.isle_interpreter.specs.Signatures.{IsNamed, AreNamed, AnswerFits}
 use Rattle.isle_simulation.specs.TermFunction.{def_text, type_text}
 
 named_again : (ty : IntType) → type_named (type_name ty) ≡ Some ty

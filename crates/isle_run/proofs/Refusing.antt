@@ -10,7 +10,10 @@ use Rattle.isle_codegen.specs.Checked.{IsChecked}
 use Rattle.isle_run.specs.declared.refusal.Refusal.{Refusal}
 use Rattle.isle_run.specs.declared.refusal.Refusal.TheVariants as refusal
 use Rattle.isle_run.specs.Conforming.{Conforms}
-use Rattle.isle_run.specs.NoLines.{IsRunRefused, HasNoLines, memory}
+use Rattle.isle_codegen.specs.declared.file_error.FileError.{FileError}
+use Rattle.isle_codegen.specs.declared.file_error.FileError.TheVariants as file
+use Rattle.isle_codegen.specs.Causes.{IsRefusal}
+use Rattle.isle_run.specs.NoLines.{IsRunRefused, HasNoLines, memory, of_source}
 use Rattle.isle_run.specs.NoLines as no_lines
 use Rattle.isle_run.specs.Trial.{args_given}
 
@@ -24,3 +27,11 @@ pub by_refusal : (options : CodegenOptions) (files : Files) (env : Environment) 
 by_refusal options files env p term ws args text e checked conforms given (inl is) = by_memory e is
 by_refusal options files env p term ws args text e checked conforms given (inr refused) =
     no_lines.refused e (record { env = env; checked = checked; program = p; conforms = conforms; refused = subst (λ vs. IsRunRefused (record { program = p; env = env; term = term; args = vs }) text e) given refused })
+
+-- the source isn't checked
+pub by_source : (options : CodegenOptions) (files : Files) (term : List ℕ) (ws : Writtens) (text : List ℕ) (e : FileError) → IsRefusal e files.file_names files.file_texts → HasNoLines options files term ws text (of_source e)
+by_source options files term ws text file.NotYet h = no_lines.not_of_it h
+by_source options files term ws text (file.Errors errors) h = no_lines.faulty errors h
+by_source options files term ws text (file.Io index why) h = absurd h
+by_source options files term ws text (file.Name name) h = absurd h
+by_source options files term ws text file.Memory h = memory

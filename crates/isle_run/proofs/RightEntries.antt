@@ -1,36 +1,30 @@
 -- Turns that are right at the types of a source are right entries of a program that conforms to it.
-use Rattle.std.proofs.Common.{◌≡◌, ℕ, List, [], ◌∷◌, ◌++◌, map, true, false, Option, Some, None, refl, sym, ap, ◌∙◌, subst}
-use Rattle.std.specs.Prelude.{IsSomeAnd, slice_get, option_map}
+use Rattle.std.proofs.Common.{◌≡◌, List, [], ◌∷◌, ◌++◌, map, Option, Some, refl, sym, ap, ◌∙◌, subst}
+use Rattle.std.specs.Prelude.{IsSomeAnd, option_map}
 use Rattle.std.specs.List.{AllByRecursion, IsDistinct}
 use Rattle.std.specs.Str.{bytes_eq}
 use Rattle.std.proofs.lemmas.List.{map-append}
-use Rattle.isle_core.specs.declared.TypeId.{TypeId}
 use Rattle.isle_core.specs.declared.files.Files.{Files}
 use Rattle.isle_core.specs.declared.options.CodegenOptions.{CodegenOptions}
-use Rattle.isle_core.specs.declared.types.ReturnKind.{ReturnKind}
 use Rattle.isle_core.specs.declared.types.Term.{Term}
 use Rattle.isle_core.specs.declared.values.Callee.{Callee}
-use Rattle.isle_core.specs.declared.values.Callee.TheVariants as callee
 use Rattle.isle_core.specs.BuiltinType.{IsBuiltinType}
 use Rattle.isle_core.specs.Calling.{kind_of}
 use Rattle.isle_core.specs.Lawful.{Fits}
 use Rattle.isle_core.specs.Meaning.{TurnAnswers}
 use Rattle.isle_core.specs.Rule.{Environment}
-use Rattle.isle_core.specs.Terms.{sym_text, goes_to, with_rules}
+use Rattle.isle_core.specs.Terms.{sym_text, with_rules}
 use Rattle.isle_core.specs.Value.{Answer}
 use Rattle.isle_ast.specs.Tree.{Def}
 use Rattle.isle_sema.specs.Typing.{Typed}
 use Rattle.isle_sema.proofs.TypedTerms.{typed_types}
 use Rattle.isle_tree.specs.declared.tree.TraitFn.{TraitFn}
-use Rattle.isle_tree.specs.declared.tree.Ty.{Ty}
-use Rattle.isle_tree.specs.Program.{Program, Function}
-use Rattle.isle_tree.specs.Run.{function_of}
+use Rattle.isle_tree.specs.Program.{Program}
 use Rattle.isle_tree.specs.WellFormed.{trait_fn, fn_names}
-use Rattle.isle_interpreter.specs.Entries.{Entry, Constant, Cases, Turns, answers_for, IsUnanswered, EntryFits, IsRight, AreRight}
-use Rattle.isle_interpreter.specs.Signatures.{Signature, type_names, trait_signature, term_signature, signature_of, AnswerFits}
-use Rattle.isle_simulation.specs.OfTerm.{IsDeclared}
-use Rattle.isle_simulation.specs.TermFunction.{parameter, type_text}
-use Rattle.isle_simulation.specs.TraitFns.{constructor_fn, func_of, trait_fns_of}
+use Rattle.isle_interpreter.specs.Entries.{Turns, IsUnanswered, EntryFits, IsRight, AreRight}
+use Rattle.isle_interpreter.specs.Signatures.{Signature, trait_signature, term_signature, signature_of, AnswerFits}
+use Rattle.isle_simulation.specs.TermFunction.{type_text}
+use Rattle.isle_simulation.specs.TraitFns.{constructor_fn, trait_fns_of}
 use Rattle.isle_run.specs.Conforming.{Conforms}
 use Rattle.isle_run.specs.Valid.{IsServed, external, internal, HasNoTurns, AreRightTurns, AllRight}
 use Rattle.isle_run.proofs.RequestedTerms.{requested_function}

@@ -16,6 +16,7 @@ use Rattle.isle_interpreter.specs.Judged.{Takes}
 use Rattle.isle_interpreter.specs.Refusals.{IsRefused}
 use Rattle.isle_interpreter.specs.declared.run_error.RunError.TheVariants as error
 use Rattle.isle_core.specs.declared.errors.Errors.{Errors}
+use Rattle.isle_codegen.specs.declared.file_error.FileError.{FileError}
 use Rattle.isle_codegen.specs.declared.file_error.FileError.TheVariants as file
 use Rattle.isle_codegen.specs.Causes.{IsNotOfIt, IsRefusal}
 use Rattle.isle_codegen.specs.Checked.{IsChecked}
@@ -44,6 +45,14 @@ pub record IsSourceRefused (options : CodegenOptions) (files : Files) (term : Li
   pub program : Program
   pub conforms : Conforms options files env program
   pub refused : IsRunRefused (record { program = program; env = env; term = term; args = args_given env term ws }) text e
+
+-- why there are no lines of a source that isn't checked; inputs are read before, and no name is refused by itself
+abbrev pub of_source : FileError → Refusal
+of_source file.NotYet = refusal.NotYet
+of_source (file.Errors errors) = refusal.Errors errors
+of_source (file.Io index why) = refusal.Memory
+of_source (file.Name name) = refusal.Memory
+of_source file.Memory = refusal.Memory
 
 -- why there are no lines: the source is not of the language, or errors are in it; or it isn't run; or memory ran out
 pub data HasNoLines (options : CodegenOptions) (files : Files) (term : List ℕ) (ws : Writtens) (text : List ℕ) : Refusal → Type 0 where

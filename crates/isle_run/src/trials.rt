@@ -8,7 +8,7 @@ ghost use Rattle.isle_values.specs.Views.{seen};
 ghost use Rattle.isle_emission.specs.Built.{IsBuilt};
 ghost use Rattle.isle_codegen.specs.Checked.{IsChecked};
 ghost use Rattle.isle_run.specs.Trial.{IsTrial};
-ghost use Rattle.isle_run.specs.NoLines.{HasNoLines};
+ghost use Rattle.isle_run.specs.NoLines.{of_source, HasNoLines};
 ghost use Rattle.isle_run.specs.Valid.{CanRun};
 
 use crate::checked::of_checked;
@@ -17,6 +17,17 @@ use isle_codegen::{FileError, check_files};
 use isle_core::{CodegenOptions, Files};
 use isle_values::Written;
 use std::alloc::Global;
+
+// Why there are no lines of a source that isn't checked.
+fn of_source(fail: FileError) -> Refusal
+    ensures { result ≡ of_source fail }
+{
+    match fail {
+        FileError::NotYet => Refusal::NotYet,
+        FileError::Errors(errors) => Refusal::Errors(errors),
+        FileError::Memory | FileError::Io { .. } | FileError::Name(_) => Refusal::Memory,
+    }
+}
 
 /// Returns the lines of a run of the term of this name, of the source that the files' texts are, at the values, under
 /// the answers that a text spells: the line of the end, and one for each call of an impure term, in order. There are as
@@ -38,11 +49,7 @@ pub fn trial(
 {
     let checked = match check_files(alloc, files) {
         Ok(checked) => checked,
-        Err(FileError::NotYet) => return Err(Refusal::NotYet),
-        Err(FileError::Errors(errors)) => return Err(Refusal::Errors(errors)),
-        Err(FileError::Memory | FileError::Io { .. } | FileError::Name(_)) => {
-            return Err(Refusal::Memory);
-        }
+        Err(fail) => return Err(of_source(fail)),
     };
     of_checked(alloc, files, options, &checked, term, given, answers)
 }

@@ -16,7 +16,7 @@ pub run_cause : (options : CodegenOptions) (name term : List ℕ) (vs : Writtens
     → HasCause e (Run false options (File name) term vs answers) files before after
 run_cause options name term vs answers files before after refusal.NotYet built plain h = inr h
 run_cause options name term vs answers files before after (refusal.Unread index why) built plain h = absurd (lines_of options _ term vs h.given (refusal.Unread index why) h.none)
-run_cause options name term vs answers files before after (refusal.Errors errors) built plain h = (lines_placed h.none, (refl, built, tt, plain), h)
+run_cause options name term vs answers files before after (refusal.Errors errors) built plain h = (lines_placed h.none, ((refl, built, tt, plain), h))
 run_cause options name term vs answers files before after refusal.NoTerm built plain h = ((refl, built, tt, plain), h)
 run_cause options name term vs answers files before after refusal.ArgCount built plain h = ((refl, built, tt, plain), h)
 run_cause options name term vs answers files before after (refusal.ArgType i) built plain h = ((refl, built, tt, plain), h)
