@@ -42,7 +42,7 @@ built_forms (tree.ExternExtractor term func infallible pos ∷ defs) = refl
 built_forms (tree.ExternConst name ty pos ∷ defs) = refl
 built_forms (tree.Extractor term params template pos ∷ defs) = refl
 built_forms (tree.Converter from to term pos ∷ defs) = refl
-built_forms (tree.Passed head items pos ∷ defs) = refl
+built_forms (tree.Passed head items pos ∷ defs) = built_forms defs
 
 forms_parts : (defs : List Def) → list_all is_built_def defs ≡ true → (list_all is_built_form defs ≡ true) × (not (list_any binds_twice (rule_defs defs)) ≡ true)
 forms_parts defs h = and_parts (list_all is_built_form defs) (not (list_any binds_twice (rule_defs defs))) (sym (built_forms defs) ∙ h)
@@ -113,7 +113,7 @@ plain_of (tree.ExternExtractor term func infallible pos ∷ ds) h = absurd cc
 plain_of (tree.ExternConst name ty pos ∷ ds) h = absurd cc
 plain_of (tree.Extractor term params template pos ∷ ds) h = absurd cc
 plain_of (tree.Converter from to term pos ∷ ds) h = absurd cc
-plain_of (tree.Passed head items pos ∷ ds) h = absurd cc
+plain_of (tree.Passed head items pos ∷ ds) h = plain_of ds h
 
 -- the rules have built forms
 pub rules_built : (ds : List Def) → list_all is_built_def ds ≡ true → AllByRecursion IsRuleBuilt (rule_defs ds)
@@ -129,4 +129,4 @@ rules_built (tree.ExternExtractor term func infallible pos ∷ ds) h = absurd cc
 rules_built (tree.ExternConst name ty pos ∷ ds) h = absurd cc
 rules_built (tree.Extractor term params template pos ∷ ds) h = absurd cc
 rules_built (tree.Converter from to term pos ∷ ds) h = absurd cc
-rules_built (tree.Passed head items pos ∷ ds) h = absurd cc
+rules_built (tree.Passed head items pos ∷ ds) h = rules_built ds h

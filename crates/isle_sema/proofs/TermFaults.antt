@@ -41,7 +41,7 @@ extractors_none w before (tree.ExternExtractor term func infallible pos ∷ ds) 
 extractors_none w before (tree.ExternConst name ty pos ∷ ds) f = absurd cc
 extractors_none w before (tree.Extractor term params template pos ∷ ds) f = absurd cc
 extractors_none w before (tree.Converter from to term pos ∷ ds) f = absurd cc
-extractors_none w before (tree.Passed head items pos ∷ ds) f = absurd cc
+extractors_none w before (tree.Passed head items pos ∷ ds) f = extractors_none w (before ++ tree.Passed head items pos ∷ []) ds f
 
 -- ---- terms
 
@@ -143,7 +143,17 @@ terms_kept all before (tree.ExternExtractor term func infallible pos ∷ ds) f h
 terms_kept all before (tree.ExternConst name ty pos ∷ ds) f h = absurd cc
 terms_kept all before (tree.Extractor term params template pos ∷ ds) f h = absurd cc
 terms_kept all before (tree.Converter from to term pos ∷ ds) f h = absurd cc
-terms_kept all before (tree.Passed head items pos ∷ ds) f h = absurd cc
+terms_kept all before (tree.Passed head items pos ∷ ds) f h =
+    let d = tree.Passed head items pos in
+    let rest = terms_kept all (before ++ d ∷ []) ds f h in
+    record {
+      apart = ap (λ ns. repeats_after ns (terms_of (signatures ds))) (sym (unchanged signature_of (λ (x : Signature). x.term) before d refl)) ∙ rest.apart;
+      typed = rest.typed;
+      few = rest.few;
+      externs_apart = ap (λ ns. repeats_after ns (extern_terms (externs ds))) (sym (unchanged extern_of (λ (x : Extern). x.term) before d refl)) ∙ rest.externs_apart;
+      known = rest.known;
+      heads = rest.heads;
+    }
 
 -- and where each fails, the rows are kept
 pub terms_none : (all before ds : List Def) → list_all is_built_form ds ≡ true → TermParts all before ds → fault_after OfTerms (whole_of all) before ds ≡ None
@@ -201,4 +211,13 @@ terms_none all before (tree.ExternExtractor term func infallible pos ∷ ds) f p
 terms_none all before (tree.ExternConst name ty pos ∷ ds) f p = absurd cc
 terms_none all before (tree.Extractor term params template pos ∷ ds) f p = absurd cc
 terms_none all before (tree.Converter from to term pos ∷ ds) f p = absurd cc
-terms_none all before (tree.Passed head items pos ∷ ds) f p = absurd cc
+terms_none all before (tree.Passed head items pos ∷ ds) f p =
+    let d = tree.Passed head items pos in
+    terms_none all (before ++ d ∷ []) ds f (record {
+      apart = ap (λ ns. repeats_after ns (terms_of (signatures ds))) (unchanged signature_of (λ (x : Signature). x.term) before d refl) ∙ p.apart;
+      typed = p.typed;
+      few = p.few;
+      externs_apart = ap (λ ns. repeats_after ns (extern_terms (externs ds))) (unchanged extern_of (λ (x : Extern). x.term) before d refl) ∙ p.externs_apart;
+      known = p.known;
+      heads = p.heads;
+    })

@@ -4,7 +4,7 @@ use Rattle.std.specs.List.{list_all}
 use Rattle.isle_ast.specs.Tree.{Def, TypeDecl, Decl, ExternConstructor, ExternExtractor, ExternConst, Extractor, Converter, Rule, Passed}
 use Rattle.isle_sema.specs.Language.{is_built_pattern, is_built_expr, are_none}
 
--- a declaration with at most the flag `partial`, an external constructor, or a rule without conditions
+-- a declaration with at most the flag `partial`, an external constructor, a rule without conditions, or a list that is passed over
 abbrev pub is_built_form : Def → Bool
 is_built_form (Decl term pure multi partial recursive args ret pos) = not pure && not multi && not recursive
 is_built_form (ExternConstructor term func pos) = true
@@ -14,4 +14,4 @@ is_built_form (ExternExtractor term func infallible pos) = false
 is_built_form (ExternConst name ty pos) = false
 is_built_form (Extractor term params template pos) = false
 is_built_form (Converter from to term pos) = false
-is_built_form (Passed head items pos) = false
+is_built_form (Passed head items pos) = true

@@ -39,8 +39,8 @@ abbrev pub are_none : List IfLet → Bool
 are_none [] = true
 are_none (c ∷ cs) = false
 
--- a declaration with at most the flag `partial`, an external constructor, or a rule without conditions that names no
--- variable twice in its patterns
+-- a declaration with at most the flag `partial`, an external constructor, a rule without conditions that names no
+-- variable twice in its patterns, or a list that is passed over
 abbrev pub is_built_def : Def → Bool
 is_built_def (Decl term pure multi partial recursive args ret pos) = not pure && not multi && not recursive
 is_built_def (ExternConstructor term func pos) = true
@@ -50,7 +50,7 @@ is_built_def (ExternExtractor term func infallible pos) = false
 is_built_def (ExternConst name ty pos) = false
 is_built_def (Extractor term params template pos) = false
 is_built_def (Converter from to term pos) = false
-is_built_def (Passed head items pos) = false
+is_built_def (Passed head items pos) = true
 
 -- rules call no term that has a rule
 abbrev pub rules_call_ruled : List RuleDef → List RuleDef → Bool

@@ -66,8 +66,8 @@ fn are_built_patterns(patterns: &[AstPattern]) -> bool
     true
 }
 
-// Whether the form of a definition is built: a declaration with at most the flag `partial`, an external constructor, or a
-// rule without conditions whose forms are built.
+// Whether the form of a definition is built: a declaration with at most the flag `partial`, an external constructor, a
+// rule without conditions whose forms are built, or a list that is passed over.
 fn is_built_form(given: &Def) -> bool
     ensures { result ≡ is_built_form (def given.now) }
 {
@@ -78,7 +78,7 @@ fn is_built_form(given: &Def) -> bool
             recursive,
             ..
         } => !*pure && !*multi && !*recursive,
-        Def::ExternConstructor { .. } => true,
+        Def::ExternConstructor { .. } | Def::Passed { .. } => true,
         Def::Rule {
             args,
             iflets,
