@@ -181,8 +181,15 @@ impl<'t> Tokens<'t> {
     }
 
     /// Returns the place of an opening parenthesis, which is taken.
-    #[tactic(auto, using(crate::proofs::Steps::round))]
     pub fn open(&mut self) -> Result<usize, Fail>
+        ensures { Reads (λ at. at) result read_open (left self.old) (left self.new) }
+    {
+        self.open_as(Expected::Open)
+    }
+
+    /// Returns the place of an opening parenthesis, which is taken and begins what is expected as this.
+    #[tactic(auto, using(crate::proofs::Steps::round))]
+    pub fn open_as(&mut self, expected: Expected) -> Result<usize, Fail>
         ensures { Reads (λ at. at) result read_open (left self.old) (left self.new) }
     {
         match self.opens() {
@@ -190,7 +197,7 @@ impl<'t> Tokens<'t> {
                 self.skip();
                 Ok(at)
             }
-            None => Err(self.miss(Expected::Open)),
+            None => Err(self.miss(expected)),
         }
     }
 

@@ -249,7 +249,7 @@ pub fn definition(
     requires { length (left tokens.old) ≤ most }
     ensures { Reads def result (read_def most file) (left tokens.old) (left tokens.new) }
 {
-    let offset = tokens.open()?;
+    let offset = tokens.open_as(Expected::Definition)?;
     let head = read_head(tokens, alloc)?;
     behind(tokens, alloc, most, Pos { file, offset }, head)
 }

@@ -15,6 +15,6 @@ returns c = then_comes _ _ _ _ _ _ _ _ c.in_ok-offset.ensures (then_comes _ _ _ 
 
 pub behind-requires : goal.behind-requires
 behind-requires c =
-    let a : length (left c.open.new.self) ≤ length (left c.args.tokens.now) = got_shrinks _ _ _ _ c.in_ok-offset.ensures in
-    let b : length (left c.read_head.new.tokens) ≤ length (left c.open.new.self) = got_shrinks _ _ _ _ c.in_ok-head.ensures in
+    let a : length (left c.open_as.new.self) ≤ length (left c.args.tokens.now) = got_shrinks _ _ _ _ c.in_ok-offset.ensures in
+    let b : length (left c.read_head.new.tokens) ≤ length (left c.open_as.new.self) = got_shrinks _ _ _ _ c.in_ok-head.ensures in
     omega (arith, a, b, c.requires)
