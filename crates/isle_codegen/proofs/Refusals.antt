@@ -1,5 +1,5 @@
 -- Refusals of the texts of files.
-use Rattle.std.proofs.Common.{◌≡◌, ◌⊎◌, inl, inr, ⊎_elim, ℕ, List, [], ◌∷◌, length, true, Result, Ok, Err, Option, Some, None, refl, sym, subst}
+use Rattle.std.proofs.Common.{◌≡◌, ◌⊎◌, inl, inr, ⊎_elim, ℕ, List, [], ◌∷◌, length, true, Result, Ok, Err, Option, refl, sym, subst}
 use Rattle.std.specs.Prelude.{All, IfErr, IfSome}
 use Rattle.std.proofs.lemmas.List.Elements.{All-from_recursion}
 use Rattle.isle_outside.specs.Directory.{Contents, Counts}
@@ -68,10 +68,8 @@ told_errors e files defs env errors is compilable placed named list some = ⊎_e
 pub read_causes : {T : Type 0} (r : Result T FileError) (options : CodegenOptions) (files : Option Contents) (inputs names texts : List (List ℕ)) (before after : Counts) → names ≡ printed options inputs
     → AllTried inputs before after → IfSome files (λ fs. AreRead fs inputs texts) → IfErr r (λ e. IsRefusal e names texts) → IfErr r (λ e. HasCause e options files inputs before after)
 read_causes (Ok x) options files inputs names texts before after is tried read h = tt
-read_causes (Err error.NotYet) options (Some fs) inputs names texts before after is tried read h = (tried, record { texts = texts; read = read; refused = subst (λ (ns : List (List ℕ)). IsNotOfIt ns texts) is h })
-read_causes (Err error.NotYet) options None inputs names texts before after is tried read h = (tried, tt)
+read_causes (Err error.NotYet) options files inputs names texts before after is tried read h = (tried, record { texts = texts; read = read; refused = subst (λ (ns : List (List ℕ)). IsNotOfIt ns texts) is h })
 read_causes (Err error.Memory) options files inputs names texts before after is tried read h = tried.1
 read_causes (Err (error.Io index why)) options files inputs names texts before after is tried read h = absurd h
-read_causes (Err (error.Errors errors)) options (Some fs) inputs names texts before after is tried read h = (tried, h.told.placed, record { texts = texts; read = read; errors = subst (λ (ns : List (List ℕ)). IsErrors errors ns texts) is h })
-read_causes (Err (error.Errors errors)) options None inputs names texts before after is tried read h = (tried, h.told.placed, tt)
+read_causes (Err (error.Errors errors)) options files inputs names texts before after is tried read h = (tried, record { texts = texts; read = read; errors = subst (λ (ns : List (List ℕ)). IsErrors errors ns texts) is h })
 read_causes (Err (error.Name name)) options files inputs names texts before after is tried read h = absurd h

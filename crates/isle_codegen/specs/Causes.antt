@@ -13,7 +13,7 @@ use Rattle.isle_codegen.specs.declared.compile_error.CompileError.{CompileError}
 use Rattle.isle_codegen.specs.declared.compile_error.CompileError.TheVariants as compile_error
 use Rattle.isle_codegen.specs.declared.file_error.FileError.{FileError}
 use Rattle.isle_codegen.specs.declared.file_error.FileError.TheVariants as error
-use Rattle.isle_codegen.specs.Errors.{HavePlaces, IsErrors, AreErrorsOfDefs}
+use Rattle.isle_codegen.specs.Errors.{IsErrors, AreErrorsOfDefs}
 use Rattle.isle_codegen.specs.Names.{are_file_names}
 use Rattle.isle_codegen.specs.Source.{Source, AreSpelt, IsCompilable, InLanguage}
 use Rattle.isle_codegen.specs.Headline.{HasHeadline}
@@ -66,25 +66,25 @@ of_texts (compile_error.Name name) = error.Name name
 of_texts compile_error.Memory = error.Memory
 
 -- all inputs were read, and they are not of the language, or a name may not be emitted
-pub record IsNotBuilt (options : CodegenOptions) (files : Contents) (names : List (List ℕ)) : Type 0 where
+pub record IsNotBuilt (options : CodegenOptions) (files : Option Contents) (names : List (List ℕ)) : Type 0 where
   pub texts : List (List ℕ)
-  pub read : AreRead files names texts
+  pub read : IfSome files (λ fs. AreRead fs names texts)
   pub refused : IsNotOfIt (printed options names) texts
 
 -- all inputs were read, and their texts have these errors
-pub record HasErrors (e : ErrorList) (options : CodegenOptions) (files : Contents) (names : List (List ℕ)) : Type 0 where
+pub record HasErrors (e : ErrorList) (options : CodegenOptions) (files : Option Contents) (names : List (List ℕ)) : Type 0 where
   pub texts : List (List ℕ)
-  pub read : AreRead files names texts
+  pub read : IfSome files (λ fs. AreRead fs names texts)
   pub errors : IsErrors e (printed options names) texts
 
 -- all names were looked up, and no call of the directory failed
 abbrev pub AllTried : List (List ℕ) → Counts → Counts → Type 0
 AllTried names before after = IsTried (length names) before after × (after.faults ≡ before.faults)
 
--- why files give no text; errors have their places in the files that they are told with, also where the directory doesn't tell its files
+-- why files give no text; where the directory doesn't tell its files, some texts give none for it
 abbrev pub HasCause : FileError → CodegenOptions → Option Contents → List (List ℕ) → Counts → Counts → Type 0
 HasCause (error.Io index why) options files names before after = Fails (read.Io index why) files names before after
-HasCause error.NotYet options files names before after = AllTried names before after × IfSome files (λ fs. IsNotBuilt options fs names)
-HasCause (error.Errors errors) options files names before after = AllTried names before after × HavePlaces errors × IfSome files (λ fs. HasErrors errors options fs names)
+HasCause error.NotYet options files names before after = AllTried names before after × IsNotBuilt options files names
+HasCause (error.Errors errors) options files names before after = AllTried names before after × HasErrors errors options files names
 HasCause (error.Name name) options files names before after = ⊥
 HasCause error.Memory options files names before after = after.faults ≡ before.faults

@@ -99,7 +99,7 @@ read_once fs (n ∷ names) (x ∷ a) (y ∷ b) r k =
     cc
 
 -- the files of a `compile`
-valid_files : (options : CodegenOptions) (fs : Contents) (names : List (List ℕ)) → AreValid options fs names → IsNotBuilt options fs names → ⊥
+valid_files : (options : CodegenOptions) (fs : Contents) (names : List (List ℕ)) → AreValid options fs names → IsNotBuilt options (Some fs) names → ⊥
 valid_files options fs names v h =
     let same : v.texts ≡ h.texts = read_once fs names v.texts h.texts v.found h.read in
     ⊎_elim
@@ -107,7 +107,7 @@ valid_files options fs names v h =
     (λ bad. let clash : true ≡ false = sym v.emitted ∙ bad in cc)
     h.refused.1
 
-no_file_errors : (options : CodegenOptions) (fs : Contents) (names : List (List ℕ)) (errors : Errors) → AreValid options fs names → compiling.HasErrors errors options fs names → ⊥
+no_file_errors : (options : CodegenOptions) (fs : Contents) (names : List (List ℕ)) (errors : Errors) → AreValid options fs names → compiling.HasErrors errors options (Some fs) names → ⊥
 no_file_errors options fs names errors v h =
     accepted_none (printed options names) h.texts errors (subst AreAccepted (read_once fs names v.texts h.texts v.found h.read) v.accepted) h.errors
 
@@ -156,7 +156,7 @@ not_run (Run trace options from term vs answers) fs e v h = has_lines options fs
 no_errors : (request : Request) (fs : Contents) (before after : Counts) (errors : Errors) → IsValidLine request fs → HasErrors request (Some fs) before after errors → refusal.Errors errors ≡ refusal.Memory
 no_errors Help fs before after errors v h = absurd h
 no_errors Version fs before after errors v h = absurd h
-no_errors (Compile options names) fs before after errors v h = absurd (no_file_errors options fs names errors v.1 h.1.2)
+no_errors (Compile options names) fs before after errors v h = absurd (no_file_errors options fs names errors v.1 h.1.1)
 no_errors (Build options unit) fs before after errors v h = absurd h
 no_errors (Prelude kind) fs before after errors v h = absurd h
 no_errors Units fs before after errors v h = absurd h

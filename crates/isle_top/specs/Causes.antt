@@ -28,7 +28,7 @@ pub record GivesNoLines (options : CodegenOptions) (name term : List ℕ) (vs : 
 abbrev pub IsNotOfIt : Request → Option Contents → Type 0
 IsNotOfIt Help files = ⊥
 IsNotOfIt Version files = ⊥
-IsNotOfIt (Compile options names) files = IfSome files (λ fs. IsNotBuilt options fs names)
+IsNotOfIt (Compile options names) files = IsNotBuilt options files names
 IsNotOfIt (Build options unit) files = ⊥
 IsNotOfIt (Prelude kind) files = ⊥
 IsNotOfIt Units files = ⊥
