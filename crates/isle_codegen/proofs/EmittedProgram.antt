@@ -17,8 +17,9 @@ use Rattle.isle_rulesets.specs.Grouping.{AreRuleSets}
 use Rattle.isle_sema.specs.Typing.{Typed}
 use Rattle.isle_sema.proofs.TypedTerms.{typed_names, typed_types}
 use Rattle.isle_tree.specs.Program.{Function, Program}
-use Rattle.isle_tree.specs.WellFormed.{IsTraitFn, fn_names, IsFunction, IsWellFormed}
+use Rattle.isle_tree.specs.WellFormed.{IsTraitFn, fn_names, declared_names, IsFunction, IsWellFormed}
 use Rattle.isle_tree.specs.declared.tree.TraitFn.{TraitFn}
+use Rattle.isle_tree.specs.declared.tree.TypeItem.{TypeItem}
 use Rattle.isle_codegen.specs.Emits.{CanEmit, AreEmitted}
 use Rattle.isle_simulation.specs.Emitted.{IsEmittable}
 use Rattle.isle_simulation.specs.TraitFns.{trait_fns_of, HasFnNames}
@@ -109,6 +110,11 @@ plain_terms defs env typed = each env.terms (λ i t e. record { types = typed_ty
     each [] h = tt
     each (t ∷ ts) h = (h 0 t refl, each ts (λ i u e. h (suc i) u e))
 
+-- where there are no types, no two have one name
+no_types : IsDistinct bytes_eq (declared_names [])
+unfolding IsDistinct
+no_types = tt
+
 module _ (defs : List Def) (files : Files) (env : Environment) (typed : Typed defs env) (clean : IsClean env) (sets : List (TermId × RuleSet)) (stand : AreRuleSets env sets) (fs : List Function) (emitted : AreEmitted files env sets fs) where
   names_of : map (λ (f : Function). f.term) fs ≡ map (term_name env) (with_rules env)
   names_of = emitted_names files env sets fs emitted ∙ ap (map (term_name env)) stand.ids
@@ -125,6 +131,7 @@ module _ (defs : List Def) (files : Files) (env : Environment) (typed : Typed de
         fns = subst (AllByRecursion (IsFunction p)) (sym e) (are_well_formed files env p sets fs a c emitted);
         distinct = subst (λ (xs : List Function). IsDistinct bytes_eq (map (λ (f : Function). f.term) xs)) (sym e) distinct;
         trait_names = subst (λ (xs : List TraitFn). IsDistinct bytes_eq (fn_names xs)) (sym a) names.distinct;
+        type_names = subst (λ (xs : List TypeItem). IsDistinct bytes_eq (declared_names xs)) (sym b) no_types;
       }
 
   -- the function of each term with rules

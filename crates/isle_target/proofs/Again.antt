@@ -16,6 +16,7 @@ use Rattle.isle_core.specs.declared.types.ReturnKind.{ReturnKind}
 use Rattle.isle_core.specs.declared.types.ReturnKind.TheVariants as kind
 use Rattle.isle_tree.specs.declared.tree.Ty.{Ty}
 use Rattle.isle_tree.specs.declared.tree.TraitFn.{TraitFn}
+use Rattle.isle_tree.specs.declared.tree.TypeItem.{TypeItem}
 use Rattle.isle_tree.specs.declared.tree.Operand.{Operand}
 use Rattle.isle_tree.specs.declared.tree.Operand.TheVariants as operand
 use Rattle.isle_tree.specs.declared.tree.Read.{Read}
@@ -24,34 +25,15 @@ use Rattle.isle_tree.specs.declared.tree.TExpr.{TExpr}
 use Rattle.isle_tree.specs.declared.tree.TExpr.TheVariants as expr
 use Rattle.isle_spelling.specs.Literal.{literal_tokens, literal_word}
 use Rattle.isle_core.specs.declared.types.IntType.{IntType}
-use Rattle.isle_target.specs.Spelling.{local_token, param_token, truth_token, operand_tokens, read_tokens, args_tokens, call_tokens, expr_tokens, stmt_tokens, body_tokens, constructor_word, no_rule, params_tokens, result_tokens, if_eq_head, function_head, function_tokens, functions_tokens, allow_part, close, program_tokens, joined_tokens, results_tokens, trait_fn_head, trait_fn_tokens, trait_fns_tokens, trait_tokens}
+use Rattle.isle_target.specs.Spelling.{local_token, param_token, truth_token, operand_tokens, read_tokens, args_tokens, call_tokens, expr_tokens, stmt_tokens, body_tokens, constructor_word, no_rule, params_tokens, result_tokens, if_eq_head, function_head, function_tokens, functions_tokens, allow_part, close, program_tokens, joined_tokens, results_tokens, trait_fn_head, trait_fn_tokens, trait_fns_tokens, trait_tokens, types_tokens}
 use Rattle.isle_tree.specs.Program.{Stmt, Let, IfEq, Return, Tail, Body, Done, Then, Function, Program}
-use Rattle.isle_tree.specs.WellFormed.{IsOperand, IsRead, IsCallee, IsExpr, IsStmt, IsBody, IsTy, IsKind, AreResults, IsTraitFn, IsTypeItem, IsFunction, IsWellFormed}
-use Rattle.isle_target.specs.Reading.{same_token, phrase, at, rest, goes_on, begins, read_suffixed, read_read, read_args, read_expr, read_stmt, read_body, read_params, read_result, read_function, read_functions, read_joined, read_trait_fn, read_trait_fns, read_trait, read_items, read_program, program_of, SpellsOnly}
+use Rattle.isle_tree.specs.WellFormed.{IsOperand, IsRead, IsCallee, IsExpr, IsStmt, IsBody, IsTy, IsKind, AreResults, IsTraitFn, IsFunction, IsWellFormed}
+use Rattle.isle_target.specs.Tokens.{same_token, phrase, at, rest}
+use Rattle.isle_target.specs.Reading.{goes_on, begins, read_suffixed, read_read, read_args, read_expr, read_stmt, read_body, read_params, read_result, read_function, read_functions, read_joined, read_trait_fn, read_trait_fns, read_trait, read_items, read_program, program_of, SpellsOnly}
 use Rattle.isle_target.proofs.Words.{operand_again}
+use Rattle.isle_target.proofs.Phrases.{is_whole, phrase_again}
+use Rattle.isle_target.proofs.TypesAgain.{types_again, length-types}
 use Rattle.isle_target.proofs.NoComments.{program_read}
-
--- whether a token is none of those that no program has
-abbrev pub is_whole : Token → Bool
-is_whole (Word w) = true
-is_whole (Mark m) = true
-is_whole (Quoted s) = true
-is_whole Stray = false
-is_whole Comment = false
-
-same_token_refl : (t : Token) → is_whole t ≡ true → same_token t t ≡ true
-same_token_refl (Word w) h = same_bytes_refl w
-same_token_refl (Mark m) h = same_bytes_refl m
-same_token_refl (Quoted s) h = same_bytes_refl s
-same_token_refl Stray h = absurd cc
-same_token_refl Comment h = absurd cc
-
--- tokens are found where they stand
-pub phrase_again : (ps ts : List Token) → list_all is_whole ps ≡ true → phrase ps (ps ++ ts) ≡ Some ts
-phrase_again [] ts h = refl
-phrase_again (p ∷ ps) ts h =
-    let parts = and_parts (is_whole p) _ h in
-    rw (same_token_refl p parts.0) (phrase_again ps ts parts.1)
 
 -- ---- the fixed texts
 
@@ -316,42 +298,39 @@ trait_again fs ts h =
 -- ---- the program
 
 -- the tokens from the uses on
-items : List TraitFn → List Function → List Token
-items tfns fs = uses_tokens ++ (trait_tokens tfns ++ (fixed_tokens ++ functions_tokens fs))
+items : List TraitFn → List TypeItem → List Function → List Token
+items tfns types fs = uses_tokens ++ (trait_tokens tfns ++ (fixed_tokens ++ (types_tokens types ++ functions_tokens fs)))
 
--- a program without types
-made_of : Bool → List TraitFn → List Function → Program
-made_of allow tfns fs = record { allow = allow; trait_fns = tfns; types = []; fns = fs }
+-- a program of these items
+made_of : Bool → List TraitFn → List TypeItem → List Function → Program
+made_of allow tfns types fs = record { allow = allow; trait_fns = tfns; types = types; fns = fs }
 
-items_again : (p : Program) (allow : Bool) (tfns : List TraitFn) (fs : List Function) → AllByRecursion IsTraitFn tfns → AllByRecursion (IsFunction p) fs → read_items (allow, items tfns fs) ≡ Some (made_of allow tfns fs)
+-- no function begins as a type does
+functions_begin : (fs : List Function) → at (Mark (codes "#")) (functions_tokens fs) ≡ false
+unfolding function_tokens
+functions_begin [] = refl
+functions_begin (f ∷ fs) = refl
+
+items_again : (p : Program) (allow : Bool) (tfns : List TraitFn) (types : List TypeItem) (fs : List Function) → AllByRecursion IsTraitFn tfns → AllByRecursion (IsFunction p) fs → read_items (allow, items tfns types fs) ≡ Some (made_of allow tfns types fs)
 unfolding items made_of
-items_again p allow tfns fs k h =
-    rw (phrase_again uses_tokens (trait_tokens tfns ++ (fixed_tokens ++ functions_tokens fs)) uses_whole, trait_again tfns (fixed_tokens ++ functions_tokens fs) k, phrase_again fixed_tokens (functions_tokens fs) fixed_whole, functions_again p (length (functions_tokens fs)) fs h (omega arith)) refl
+items_again p allow tfns types fs k h =
+    let behind = types_tokens types ++ functions_tokens fs in
+    let fuel : length types ≤ length behind = omega (arith, length-append (types_tokens types) (functions_tokens fs), length-types types) in
+    rw (phrase_again uses_tokens (trait_tokens tfns ++ (fixed_tokens ++ behind)) uses_whole, trait_again tfns (fixed_tokens ++ behind) k, phrase_again fixed_tokens behind fixed_whole, types_again (length behind) types (functions_tokens fs) (functions_begin fs) fuel, functions_again p (length (functions_tokens fs)) fs h (omega arith)) refl
 
-items_apart : (tfns : List TraitFn) (fs : List Function) → phrase allow_tokens (items tfns fs) ≡ None
+items_apart : (tfns : List TraitFn) (types : List TypeItem) (fs : List Function) → phrase allow_tokens (items tfns types fs) ≡ None
 unfolding items
-items_apart tfns fs = uses_apart (trait_tokens tfns ++ (fixed_tokens ++ functions_tokens fs))
+items_apart tfns types fs = uses_apart (trait_tokens tfns ++ (fixed_tokens ++ (types_tokens types ++ functions_tokens fs)))
 
-made_again : (p : Program) (allow : Bool) (tfns : List TraitFn) (fs : List Function) → AllByRecursion IsTraitFn tfns → AllByRecursion (IsFunction p) fs → read_program (allow_part allow ++ items tfns fs) ≡ Some (made_of allow tfns fs)
+made_again : (p : Program) (allow : Bool) (tfns : List TraitFn) (types : List TypeItem) (fs : List Function) → AllByRecursion IsTraitFn tfns → AllByRecursion (IsFunction p) fs → read_program (allow_part allow ++ items tfns types fs) ≡ Some (made_of allow tfns types fs)
 unfolding read_program
-made_again p true tfns fs k h = rw (phrase_again allow_tokens (items tfns fs) allow_whole) (items_again p true tfns fs k h)
-made_again p false tfns fs k h = rw (items_apart tfns fs) (items_again p false tfns fs k h)
-
-none : {A : Type 0} (P : A → Type 0) → ((a : A) → P a → ⊥) → (xs : List A) → AllByRecursion P xs → xs ≡ []
-none P never [] all = refl
-none P never (x ∷ xs) all = absurd (never x all.0)
-
--- a well-formed program has no types
-made_if_well_formed : (p : Program) → IsWellFormed p → made_of p.allow p.trait_fns p.fns ≡ p
-unfolding made_of
-made_if_well_formed p h =
-    let no_types = none IsTypeItem (λ t e. e) p.types h.types in
-    sym (λ i. record { allow = p.allow; trait_fns = p.trait_fns; types = no_types i; fns = p.fns })
+made_again p true tfns types fs k h = rw (phrase_again allow_tokens (items tfns types fs) allow_whole) (items_again p true tfns types fs k h)
+made_again p false tfns types fs k h = rw (items_apart tfns types fs) (items_again p false tfns types fs k h)
 
 -- what is spelled is read again
 pub program_again : (p : Program) → IsWellFormed p → read_program (program_tokens p) ≡ Some p
-unfolding items
-program_again p h = made_again p p.allow p.trait_fns p.fns h.trait_fns h.fns ∙ ap Some (made_if_well_formed p h)
+unfolding items made_of
+program_again p h = made_again p p.allow p.trait_fns p.types p.fns h.trait_fns h.fns
 
 -- a text of the program's tokens spells it and no other
 pub spells_only : (text : List ℕ) (p : Program) → IsWellFormed p → tokens_of text ≡ program_tokens p → SpellsOnly text p
@@ -366,19 +345,21 @@ spells_only text p h e =
 pub no_comment : (text : List ℕ) (p : Program) → tokens_of text ≡ program_tokens p → list_all is_read (tokens_of text) ≡ true
 no_comment text p e = ap (list_all is_read) e ∙ program_read p
 
--- what a printer has printed behind the head, the trait, the fixed items and the functions
-pub printed_program : (p : Program) (text : List ℕ) (fresh head body whole all : List Token)
+-- what a printer has printed behind the head, the trait, the fixed items, the types and the functions
+pub printed_program : (p : Program) (text : List ℕ) (fresh head body whole typed all : List Token)
     → fresh ≡ []
     → head ≡ fresh ++ (allow_part p.allow ++ uses_tokens)
     → body ≡ head ++ trait_tokens p.trait_fns
     → whole ≡ body ++ fixed_tokens
-    → all ≡ whole ++ functions_tokens p.fns
+    → typed ≡ whole ++ types_tokens p.types
+    → all ≡ typed ++ functions_tokens p.fns
     → tokens_of text ≡ all
     → tokens_of text ≡ program_tokens p
-printed_program p text fresh head body whole all e1 e2 e3 e4 e5 e6 =
-    e6
-    ∙ e5
-    ∙ ap (λ l. l ++ functions_tokens p.fns) e4
-    ∙ ap (λ l. (l ++ fixed_tokens) ++ functions_tokens p.fns) e3
-    ∙ ap (λ l. ((l ++ trait_tokens p.trait_fns) ++ fixed_tokens) ++ functions_tokens p.fns) (e2 ∙ ap (λ l. l ++ (allow_part p.allow ++ uses_tokens)) e1)
+printed_program p text fresh head body whole typed all e1 e2 e3 e4 e5 e6 e7 =
+    e7
+    ∙ e6
+    ∙ ap (λ l. l ++ functions_tokens p.fns) e5
+    ∙ ap (λ l. (l ++ types_tokens p.types) ++ functions_tokens p.fns) e4
+    ∙ ap (λ l. ((l ++ fixed_tokens) ++ types_tokens p.types) ++ functions_tokens p.fns) e3
+    ∙ ap (λ l. (((l ++ trait_tokens p.trait_fns) ++ fixed_tokens) ++ types_tokens p.types) ++ functions_tokens p.fns) (e2 ∙ ap (λ l. l ++ (allow_part p.allow ++ uses_tokens)) e1)
     ∙ simp append_assoc

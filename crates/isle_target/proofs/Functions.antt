@@ -1,16 +1,15 @@
 -- Whether the functions of a program are well formed, one after another.
 use Rattle.std.proofs.Common.{◌≡◌, ℕ, ◌+◌, ◌<◌, ◌≤◌, List, [], ◌∷◌, length, drop, map, get_or, Bool, true, false, refl, sym, ap, ◌∙◌, subst, arith}
-use Rattle.std.specs.Prelude.{◌↔◌, IsTrue, ◌==◌}
+use Rattle.std.specs.Prelude.{◌↔◌, IsTrue}
 use Rattle.std.specs.List.{AllByRecursion, IsDistinct}
 use Rattle.std.specs.Str.{bytes_eq}
-use Rattle.std.proofs.lemmas.Bool.{eqb-true}
 use Rattle.std.proofs.lemmas.List.{drop_more, at_drop_all}
 use Rattle.isle_tree.specs.declared.tree.Function.{Function as CodeFunction}
 use Rattle.isle_tree.specs.declared.tree.Program.{Program as CodeProgram}
 use Rattle.isle_tree.specs.declared.tree.TraitFn.{TraitFn}
 use Rattle.isle_tree.specs.Program.{Program}
 use Rattle.isle_tree.specs.Views.{program, function}
-use Rattle.isle_tree.specs.WellFormed.{IsTraitFn, IsTypeItem, IsFunction, IsWellFormed, terms, fn_names}
+use Rattle.isle_tree.specs.WellFormed.{IsTraitFn, IsTypeItem, IsFunction, IsWellFormed, terms, fn_names, declared_names}
 
 -- all are where those that are left are, in a program with these functions of the trait
 abbrev pub Left : List TraitFn → List CodeFunction → ℕ → Type 0
@@ -47,14 +46,6 @@ left_none tfns fns i le h = λ p e.
 
 -- ---- the program
 
-holds_all : {A : Type 0} (P : A → Type 0) (xs : List A) → (length xs == 0) ≡ true → AllByRecursion P xs
-holds_all P [] e = tt
-holds_all P (x ∷ xs) e = let none : length (x ∷ xs) ≡ 0 = eqb-true (length (x ∷ xs)) 0 e in absurd (omega arith)
-
-holds_no : {A : Type 0} (P : A → Type 0) → ((a : A) → P a → ⊥) → (xs : List A) → (length xs == 0) ≡ false → AllByRecursion P xs → ⊥
-holds_no P never [] e all = absurd cc
-holds_no P never (x ∷ xs) e all = never x all.0
-
 -- a program with a function that the trait may not have
 pub refused_trait_fns : (p : CodeProgram) → (IsTrue false ↔ AllByRecursion IsTraitFn p.trait_fns) → IsTrue false ↔ IsWellFormed (program p)
 refused_trait_fns p h = (λ t. absurd cc, λ w. h.1 w.trait_fns)
@@ -63,18 +54,23 @@ refused_trait_fns p h = (λ t. absurd cc, λ w. h.1 w.trait_fns)
 pub refused_names : (p : CodeProgram) → (IsTrue false ↔ IsDistinct bytes_eq (fn_names p.trait_fns)) → IsTrue false ↔ IsWellFormed (program p)
 refused_names p h = (λ t. absurd cc, λ w. h.1 w.trait_names)
 
--- with a type
-pub refused_types : (p : CodeProgram) → (length p.types == 0) ≡ false → IsTrue false ↔ IsWellFormed (program p)
-refused_types p e = (λ t. absurd cc, λ h. absurd (holds_no IsTypeItem (λ i b. b) p.types e h.types))
+-- with a type that no program has
+pub refused_types : (p : CodeProgram) → (IsTrue false ↔ AllByRecursion IsTypeItem p.types) → IsTrue false ↔ IsWellFormed (program p)
+refused_types p h = (λ t. absurd cc, λ w. h.1 w.types)
+
+-- with two types of one name
+pub refused_type_names : (p : CodeProgram) → (IsTrue false ↔ IsDistinct bytes_eq (declared_names p.types)) → IsTrue false ↔ IsWellFormed (program p)
+refused_type_names p h = (λ t. absurd cc, λ w. h.1 w.type_names)
 
 -- with a function that is not well formed
 pub refused_fns : (p : CodeProgram) → DecideAll p.trait_fns false p.fns → IsTrue false ↔ IsWellFormed (program p)
 refused_fns p h = (λ t. absurd cc, λ w. (h (program p) refl).1 w.fns)
 
 -- with none of these: by the names of its functions
-pub by_names : (p : CodeProgram) (b : Bool) → (IsTrue true ↔ AllByRecursion IsTraitFn p.trait_fns) → (IsTrue true ↔ IsDistinct bytes_eq (fn_names p.trait_fns)) → (length p.types == 0) ≡ true
+pub by_names : (p : CodeProgram) (b : Bool) → (IsTrue true ↔ AllByRecursion IsTraitFn p.trait_fns) → (IsTrue true ↔ IsDistinct bytes_eq (fn_names p.trait_fns))
+    → (IsTrue true ↔ AllByRecursion IsTypeItem p.types) → (IsTrue true ↔ IsDistinct bytes_eq (declared_names p.types))
     → DecideAll p.trait_fns true p.fns → (IsTrue b ↔ IsDistinct bytes_eq (terms (map function p.fns))) → IsTrue b ↔ IsWellFormed (program p)
-by_names p b k n f h d = (
-  λ t. record { trait_fns = k.0 refl; trait_names = n.0 refl; types = holds_all IsTypeItem p.types f; fns = (h (program p) refl).0 refl; distinct = d.0 t },
+by_names p b k n f m h d = (
+  λ t. record { trait_fns = k.0 refl; trait_names = n.0 refl; types = f.0 refl; type_names = m.0 refl; fns = (h (program p) refl).0 refl; distinct = d.0 t },
   λ w. d.1 w.distinct,
 )

@@ -4,4 +4,6 @@ pub mod TypeNames
 pub mod Prints
 pub mod Words
 pub mod NoComments
+pub mod Phrases
+pub mod TypesAgain
 pub mod Again

@@ -14,6 +14,12 @@ use Rattle.isle_spelling.specs.Fixed.{allow_tokens, uses_tokens, fixed_tokens}
 use Rattle.isle_spelling.specs.Literal.{literal_tokens}
 use Rattle.isle_tree.specs.declared.tree.Ty.{Ty}
 use Rattle.isle_tree.specs.declared.tree.TraitFn.{TraitFn}
+use Rattle.isle_tree.specs.declared.tree.TFields.{TFields}
+use Rattle.isle_tree.specs.declared.tree.TFields.TheVariants as shape
+use Rattle.isle_tree.specs.declared.tree.TypeBody.{TypeBody}
+use Rattle.isle_tree.specs.declared.tree.TypeBody.TheVariants as type_body
+use Rattle.isle_tree.specs.declared.tree.TypeItem.{TypeItem}
+use Rattle.isle_tree.specs.Plain.{is_plain}
 use Rattle.isle_tree.specs.declared.tree.Operand.{Operand}
 use Rattle.isle_tree.specs.declared.tree.Operand.TheVariants as operand
 use Rattle.isle_tree.specs.declared.tree.Read.{Read}
@@ -21,7 +27,7 @@ use Rattle.isle_tree.specs.declared.tree.Read.TheVariants as read
 use Rattle.isle_tree.specs.declared.tree.TExpr.{TExpr}
 use Rattle.isle_tree.specs.declared.tree.TExpr.TheVariants as expr
 use Rattle.isle_tree.specs.Program.{Stmt, Let, LetList, IfEq, IfLet, Match, Loop, Return, Extend, Overflow, Log, Split, Tail, Body, Done, Then, Function, Program}
-use Rattle.isle_target.specs.Spelling.{truth_token, operand_tokens, read_tokens, args_tokens, call_tokens, expr_tokens, close, if_eq_head, tail_tokens, stmt_tokens, body_tokens, params_tokens, result_tokens, result_part, function_tokens, functions_tokens, allow_part, comma, typed_tokens, joined_tokens, results_tokens, trait_result, trait_fn_tokens, trait_fns_tokens, trait_tokens, program_tokens}
+use Rattle.isle_target.specs.Spelling.{truth_token, operand_tokens, read_tokens, args_tokens, call_tokens, expr_tokens, close, if_eq_head, tail_tokens, stmt_tokens, body_tokens, params_tokens, result_tokens, result_part, function_tokens, functions_tokens, allow_part, comma, typed_tokens, joined_tokens, results_tokens, trait_result, trait_fn_tokens, trait_fns_tokens, trait_tokens, named_tokens, places_tokens, visible, fields_tokens, variant_tokens, variants_tokens, struct_end, type_body_tokens, derive_tokens, type_tokens, types_tokens, program_tokens}
 
 -- none of the tokens is a comment
 abbrev AreRead : List Token → Type 0
@@ -136,6 +142,51 @@ trait_fns_read : (fs : List TraitFn) → AreRead (trait_fns_tokens fs)
 trait_fns_read [] = refl
 trait_fns_read (f ∷ fs) = both_read (trait_fn_tokens f) (trait_fns_tokens fs) (trait_fn_read f) (trait_fns_read fs)
 
+named_read : (public : Bool) (fs : List (List ℕ × List ℕ)) → AreRead (named_tokens public fs)
+named_read public [] = refl
+named_read true (f ∷ fs) = named_read true fs
+named_read false (f ∷ fs) = named_read false fs
+
+visible_read : (public : Bool) → AreRead (visible public)
+visible_read true = refl
+visible_read false = refl
+
+places_read : (public : Bool) (n : ℕ) (tys : List (List ℕ)) → AreRead (places_tokens public n tys)
+places_read public n [] = refl
+places_read public n (ty ∷ tys) = both_read (comma n) _ (comma_read n) (both_read (visible public) _ (visible_read public) (places_read public (n + 1) tys))
+
+fields_read : (public : Bool) (fs : TFields) → AreRead (fields_tokens public fs)
+fields_read public shape.Unit = refl
+fields_read public (shape.Named fs) = named_read public fs
+fields_read public (shape.Tuple tys) = places_read public 0 tys
+
+variants_read : (vs : List (List ℕ × TFields)) → AreRead (variants_tokens vs)
+variants_read [] = refl
+variants_read (v ∷ vs) =
+    both_read (variant_tokens v) (variants_tokens vs) (both_read (fields_tokens false v.1) (Mark (codes ",") ∷ []) (fields_read false v.1) refl) (variants_read vs)
+
+end_read : (fs : TFields) → AreRead (struct_end fs)
+end_read shape.Unit = refl
+end_read (shape.Named fs) = refl
+end_read (shape.Tuple tys) = refl
+
+type_body_read : (name : List ℕ) (body : TypeBody) → AreRead (type_body_tokens name body)
+type_body_read name (type_body.Enum vs) = variants_read vs
+type_body_read name (type_body.Struct fs) = both_read (fields_tokens true fs) (struct_end fs) (fields_read true fs) (end_read fs)
+
+derive_read : (plain debug : Bool) → AreRead (derive_tokens plain debug)
+derive_read true true = refl
+derive_read true false = refl
+derive_read false true = refl
+derive_read false false = refl
+
+types_read : (ts : List TypeItem) → AreRead (types_tokens ts)
+unfolding type_tokens
+types_read [] = refl
+types_read (t ∷ ts) =
+    both_read (type_tokens t) (types_tokens ts)
+    (both_read (derive_tokens (is_plain t.body) t.debug) (type_body_tokens t.name t.body) (derive_read (is_plain t.body) t.debug) (type_body_read t.name t.body)) (types_read ts)
+
 allow_read : (allow : Bool) → AreRead (allow_part allow)
 unfolding allow_tokens step begun
 allow_read true = refl
@@ -155,4 +206,5 @@ program_read p =
     both_read (allow_part p.allow) _ (allow_read p.allow)
     (both_read uses_tokens _ uses_read
     (both_read (trait_tokens p.trait_fns) _ (both_read (trait_fns_tokens p.trait_fns) close (trait_fns_read p.trait_fns) refl)
-    (both_read fixed_tokens _ fixed_read (functions_read p.fns))))
+    (both_read fixed_tokens _ fixed_read
+    (both_read (types_tokens p.types) _ (types_read p.types) (functions_read p.fns)))))

@@ -7,7 +7,7 @@ use Rattle.isle_core.specs.declared.types.IntType.{IntType}
 use Rattle.isle_core.specs.declared.values.Callee.TheVariants as callee
 use Rattle.isle_core.specs.declared.types.ReturnKind.{ReturnKind}
 use Rattle.isle_core.specs.declared.types.ReturnKind.TheVariants as kind
-use Rattle.isle_printer.specs.Token.{Token, Word, Mark, Quoted, Stray, Comment, tokens_of, without_comments}
+use Rattle.isle_printer.specs.Token.{Token, Word, Mark, Quoted, tokens_of, without_comments}
 use Rattle.isle_printer.specs.Bytes.{same_bytes}
 use Rattle.isle_printer.specs.Number.{numeral_of}
 use Rattle.isle_tree.specs.declared.tree.Ty.{Ty}
@@ -21,85 +21,10 @@ use Rattle.isle_tree.specs.declared.tree.TExpr.TheVariants as expr
 use Rattle.isle_spelling.specs.Fixed.{allow_tokens, uses_tokens, fixed_tokens}
 use Rattle.isle_spelling.specs.Literal.{literal_of, signed_bits}
 use Rattle.isle_target.specs.Spelling.{param_token, generics, context_param, self_param, comma, trait_head, close, no_rule, unreachable_head}
+use Rattle.isle_target.specs.Tokens.{◌>>=◌, Reads, phrase, at, rest, after, any_word, any_quoted}
+use Rattle.isle_target.specs.TypeReading.{read_types}
 use Rattle.isle_tree.specs.Program.{Stmt, Let, IfEq, Return, Tail, Body, Done, Then, Function, Program}
 use Rattle.isle_tree.specs.WellFormed.{IsWellFormed}
-
-infixl 10 ◌>>=◌
-abbrev pub ◌>>=◌ : {A B : Type 0} → Option A → (A → Option B) → Option B
-None >>= f = None
-(Some x) >>= f = f x
-
--- what is read, and the tokens behind it
-abbrev pub Reads : Type 0 → Type 0
-Reads A = Option (A × List Token)
-
--- ---- tokens
-
--- whether two tokens are one that a program may have; strays and comments are none
-abbrev pub same_token : Token → Token → Bool
-same_token (Word a) (Word b) = same_bytes a b
-same_token (Word a) (Mark b) = false
-same_token (Word a) (Quoted b) = false
-same_token (Word a) Stray = false
-same_token (Word a) Comment = false
-same_token (Mark a) (Word b) = false
-same_token (Mark a) (Mark b) = same_bytes a b
-same_token (Mark a) (Quoted b) = false
-same_token (Mark a) Stray = false
-same_token (Mark a) Comment = false
-same_token (Quoted a) (Word b) = false
-same_token (Quoted a) (Mark b) = false
-same_token (Quoted a) (Quoted b) = same_bytes a b
-same_token (Quoted a) Stray = false
-same_token (Quoted a) Comment = false
-same_token Stray (Word b) = false
-same_token Stray (Mark b) = false
-same_token Stray (Quoted b) = false
-same_token Stray Stray = false
-same_token Stray Comment = false
-same_token Comment (Word b) = false
-same_token Comment (Mark b) = false
-same_token Comment (Quoted b) = false
-same_token Comment Stray = false
-same_token Comment Comment = false
-
--- the tokens behind these
-abbrev pub phrase : List Token → List Token → Option (List Token)
-phrase [] ts = Some ts
-phrase (p ∷ ps) [] = None
-phrase (p ∷ ps) (t ∷ ts) = if same_token p t then phrase ps ts else None
-
--- whether the next token is this one
-abbrev pub at : Token → List Token → Bool
-at t [] = false
-at t (u ∷ us) = same_token t u
-
--- the tokens behind the next
-abbrev pub rest : List Token → List Token
-rest [] = []
-rest (t ∷ ts) = ts
-
--- the tokens behind this one
-abbrev pub after : Token → List Token → Option (List Token)
-after t ts = if at t ts then Some (rest ts) else None
-
--- the next token, a word
-abbrev pub any_word : List Token → Reads (List ℕ)
-any_word [] = None
-any_word (Word w ∷ ts) = Some (w, ts)
-any_word (Mark a ∷ ts) = None
-any_word (Quoted a ∷ ts) = None
-any_word (Stray ∷ ts) = None
-any_word (Comment ∷ ts) = None
-
--- the next token, a text between quotes
-abbrev pub any_quoted : List Token → Reads (List ℕ)
-any_quoted [] = None
-any_quoted (Word a ∷ ts) = None
-any_quoted (Mark a ∷ ts) = None
-any_quoted (Quoted s ∷ ts) = Some (s, ts)
-any_quoted (Stray ∷ ts) = None
-any_quoted (Comment ∷ ts) = None
 
 -- ---- words
 
@@ -451,8 +376,9 @@ read_items start = do
   ts1 ← phrase uses_tokens start.1
   tfns ← read_trait ts1
   ts2 ← phrase fixed_tokens tfns.1
-  fs ← read_functions (length ts2) ts2
-  Some (record { allow = start.0; trait_fns = tfns.0; types = []; fns = fs })
+  types ← read_types (length ts2) ts2
+  fs ← read_functions (length types.1) types.1
+  Some (record { allow = start.0; trait_fns = tfns.0; types = types.0; fns = fs })
 
 -- the program that the tokens spell, or none
 unfoldable pub read_program : List Token → Option Program

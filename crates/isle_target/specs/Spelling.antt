@@ -9,6 +9,11 @@ use Rattle.isle_printer.specs.Token.{Token, Word, Mark, Quoted}
 use Rattle.isle_printer.specs.Number.{numeral}
 use Rattle.isle_tree.specs.declared.tree.Ty.{Ty}
 use Rattle.isle_tree.specs.declared.tree.TraitFn.{TraitFn}
+use Rattle.isle_tree.specs.declared.tree.TFields.{TFields}
+use Rattle.isle_tree.specs.declared.tree.TFields.TheVariants as shape
+use Rattle.isle_tree.specs.declared.tree.TypeBody.{TypeBody}
+use Rattle.isle_tree.specs.declared.tree.TypeBody.TheVariants as type_body
+use Rattle.isle_tree.specs.declared.tree.TypeItem.{TypeItem}
 use Rattle.isle_tree.specs.declared.tree.Operand.{Operand}
 use Rattle.isle_tree.specs.declared.tree.Operand.TheVariants as operand
 use Rattle.isle_tree.specs.declared.tree.Read.{Read}
@@ -17,6 +22,7 @@ use Rattle.isle_tree.specs.declared.tree.TExpr.{TExpr}
 use Rattle.isle_tree.specs.declared.tree.TExpr.TheVariants as expr
 use Rattle.isle_spelling.specs.Fixed.{allow_tokens, uses_tokens, fixed_tokens}
 use Rattle.isle_spelling.specs.Literal.{literal_tokens}
+use Rattle.isle_tree.specs.Plain.{is_plain}
 use Rattle.isle_tree.specs.Program.{Stmt, Let, LetList, IfEq, IfLet, Match, Loop, Return, Extend, Overflow, Log, Split, Tail, Body, Done, Then, Function, Program}
 
 -- what is spelled of a form that is not built
@@ -235,7 +241,88 @@ trait_fns_tokens (f ∷ fs) = trait_fn_tokens f ++ trait_fns_tokens fs
 abbrev pub trait_tokens : List TraitFn → List Token
 trait_tokens fs = trait_head ++ (trait_fns_tokens fs ++ close)
 
--- the allow lines, the uses, the trait, the fixed items, the functions
+-- ---- declared types
+
+-- what stands before a field that others see
+abbrev pub visible : Bool → List Token
+visible true = Word (codes "pub") ∷ []
+visible false = []
+
+-- NAME: TYPE,
+abbrev pub field_tokens : Bool → List ℕ × List ℕ → List Token
+field_tokens public f = visible public ++ Word f.0 ∷ Mark (codes ":") ∷ Word f.1 ∷ Mark (codes ",") ∷ []
+
+-- fields with names, and what closes them
+abbrev pub named_tokens : Bool → List (List ℕ × List ℕ) → List Token
+named_tokens public [] = Mark (codes "}") ∷ []
+named_tokens public (f ∷ fs) = field_tokens public f ++ named_tokens public fs
+
+-- fields without names, from number n on, and what closes them
+abbrev pub places_tokens : Bool → ℕ → List (List ℕ) → List Token
+places_tokens public n [] = Mark (codes ")") ∷ []
+places_tokens public n (ty ∷ tys) = comma n ++ (visible public ++ Word ty ∷ places_tokens public (n + 1) tys)
+
+-- the fields of a variant or a struct
+abbrev pub fields_tokens : Bool → TFields → List Token
+fields_tokens public shape.Unit = []
+fields_tokens public (shape.Named fs) = Mark (codes "{") ∷ named_tokens public fs
+fields_tokens public (shape.Tuple tys) = Mark (codes "(") ∷ places_tokens public 0 tys
+
+-- a variant: its name and its fields
+abbrev pub variant_tokens : List ℕ × TFields → List Token
+variant_tokens v = Word v.0 ∷ (fields_tokens false v.1 ++ Mark (codes ",") ∷ [])
+
+-- variants, and what closes them
+abbrev pub variants_tokens : List (List ℕ × TFields) → List Token
+variants_tokens [] = Mark (codes "}") ∷ []
+variants_tokens (v ∷ vs) = variant_tokens v ++ variants_tokens vs
+
+-- what stands behind the fields of a struct
+abbrev pub struct_end : TFields → List Token
+struct_end shape.Unit = Mark (codes ";") ∷ []
+struct_end (shape.Named fs) = []
+struct_end (shape.Tuple tys) = Mark (codes ";") ∷ []
+
+-- an enum or a struct
+abbrev pub type_body_tokens : List ℕ → TypeBody → List Token
+type_body_tokens name (type_body.Enum vs) = Word (codes "pub") ∷ Word (codes "enum") ∷ Word name ∷ Mark (codes "{") ∷ variants_tokens vs
+type_body_tokens name (type_body.Struct fs) = Word (codes "pub") ∷ Word (codes "struct") ∷ Word name ∷ (fields_tokens true fs ++ struct_end fs)
+
+-- what every type derives, and what one without fields does
+abbrev pub derives : Bool → List Token
+derives true =
+    Word (codes "Copy") ∷ Mark (codes ",") ∷ Word (codes "Clone") ∷ Mark (codes ",") ∷ Word (codes "PartialEq") ∷ Mark (codes ",") ∷ Word (codes "Eq") ∷ []
+derives false = Word (codes "Clone") ∷ []
+
+-- whether its values can be shown
+abbrev pub debug_part : Bool → List Token
+debug_part true = Mark (codes ",") ∷ Word (codes "Debug") ∷ []
+debug_part false = []
+
+-- #[derive(
+abbrev pub derive_head : List Token
+derive_head = Mark (codes "#") ∷ Mark (codes "[") ∷ Word (codes "derive") ∷ Mark (codes "(") ∷ []
+
+-- )]
+abbrev pub derive_end : List Token
+derive_end = Mark (codes ")") ∷ Mark (codes "]") ∷ []
+
+-- #[derive(..)], of a type without fields or another one, shown or not
+abbrev pub derive_tokens : Bool → Bool → List Token
+derive_tokens plain debug = derive_head ++ (derives plain ++ (debug_part debug ++ derive_end))
+
+-- a declared type
+unfoldable pub type_tokens : TypeItem → List Token
+type_tokens t = derive_tokens (is_plain t.body) t.debug ++ type_body_tokens t.name t.body
+
+-- the declared types in order
+abbrev pub types_tokens : List TypeItem → List Token
+types_tokens [] = []
+types_tokens (t ∷ ts) = type_tokens t ++ types_tokens ts
+
+-- ---- the program
+
+-- the allow lines, the uses, the trait, the fixed items, the types, the functions
 abbrev pub program_tokens : Program → List Token
 program_tokens p =
-    allow_part p.allow ++ (uses_tokens ++ (trait_tokens p.trait_fns ++ (fixed_tokens ++ functions_tokens p.fns)))
+    allow_part p.allow ++ (uses_tokens ++ (trait_tokens p.trait_fns ++ (fixed_tokens ++ (types_tokens p.types ++ functions_tokens p.fns))))

@@ -31,8 +31,8 @@ fn print_name(out: &mut Printer, name: &str) -> Result<(), AllocError>
     print_self(out)
 }
 
-// Prints what stands before the parameter of this number.
-fn print_comma(out: &mut Printer, i: usize) -> Result<(), AllocError>
+/// Prints what stands before the item of this number. What is printed after an error is left open.
+pub fn print_comma(out: &mut Printer, i: usize) -> Result<(), AllocError>
     ensures { OnOk result (out.new ≡ out.old ++ comma i) }
 {
     if i == 0 {

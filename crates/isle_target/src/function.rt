@@ -48,9 +48,9 @@ fn print_head(out: &mut Printer, term: &str) -> Result<(), AllocError>
     print_generics(out)
 }
 
-// Prints `: `.
+/// Prints `:`, with a blank behind it. What is printed after an error is left open.
 #[tactic(auto, unfolding(isle_printer::specs::Token::step, isle_printer::specs::Token::begun))]
-fn print_colon(out: &mut Printer) -> Result<(), AllocError>
+pub fn print_colon(out: &mut Printer) -> Result<(), AllocError>
     ensures { OnOk result (out.new ≡ out.old ++ Mark (codes ":") ∷ []) }
 {
     out.piece(": ")

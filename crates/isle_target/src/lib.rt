@@ -15,6 +15,7 @@ mod statement;
 #[cfg(test)]
 mod tests;
 mod trait_fns;
+mod types;
 mod well_formedness;
 
 pub use isle_spelling::rust_int_literal;

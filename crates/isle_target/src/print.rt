@@ -10,6 +10,7 @@ ghost use Rattle.isle_target.specs.Reading.{SpellsOnly};
 
 use crate::context::print_trait;
 use crate::function::print_function;
+use crate::types::print_types;
 use isle_core::OutOfMemory;
 use isle_printer::Printer;
 use isle_spelling::{print_allow, print_fixed, print_uses};
@@ -49,6 +50,7 @@ pub fn print_program(alloc: Global, p: &Program) -> Result<String, OutOfMemory>
     print_head(&mut out, p.allow)?;
     print_trait(&mut out, p.trait_fns.as_slice())?;
     print_fixed(&mut out)?;
+    print_types(&mut out, p.types.as_slice())?;
     print_functions(&mut out, p)?;
     Ok(out.into_text())
 }

@@ -13,7 +13,9 @@ use crate::shapes::is_body;
 use crate::trait_fns::are_trait_fns;
 use isle_core::OutOfMemory;
 use isle_scope::Table;
-use isle_tree::{Callees, Function, Program, are_apart, are_distinct};
+use isle_tree::{
+    Callees, Function, Program, are_apart, are_distinct, are_type_items, are_types_apart,
+};
 use std::alloc::Global;
 
 // Whether a function is well formed in a program with these functions of the trait, whatever else is in it.
@@ -60,7 +62,10 @@ pub fn well_formed(alloc: Global, p: &Program) -> Result<bool, OutOfMemory>
     if !are_apart(alloc, p.trait_fns.as_slice())? {
         return Ok(false);
     }
-    if !p.types.as_slice().is_empty() {
+    if !are_type_items(p.types.as_slice()) {
+        return Ok(false);
+    }
+    if !are_types_apart(alloc, p.types.as_slice())? {
         return Ok(false);
     }
     let fns = p.fns.as_slice();

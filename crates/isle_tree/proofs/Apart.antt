@@ -14,8 +14,9 @@ use Rattle.std.specs.declared.cmp.Ordering.{Ordering}
 use denote.Ref.{Bor}
 use Rattle.isle_tree.specs.declared.tree.Function.{Function}
 use Rattle.isle_tree.specs.declared.tree.TraitFn.{TraitFn}
+use Rattle.isle_tree.specs.declared.tree.TypeItem.{TypeItem}
 use Rattle.isle_tree.specs.Views.{function}
-use Rattle.isle_tree.specs.WellFormed.{terms, fn_names}
+use Rattle.isle_tree.specs.WellFormed.{terms, fn_names, declared_names}
 
 -- the order of names that a set keeps
 abbrev pub name_cmp : Bor (List ℕ) → Bor (List ℕ) → Ordering
@@ -114,3 +115,12 @@ names_more fns i f lt is = ap fn_names (up_to fns i f lt is) ∙ names-append (t
 
 pub names_whole : (fns : List TraitFn) (i : ℕ) (f : TraitFn) → i < length fns → f ≡ get_or fns i f → fn_names fns ≡ fn_names (take i fns) ++ f.name ∷ fn_names (drop (i + 1) fns)
 names_whole fns i f lt is = ap fn_names (whole fns i f lt is) ∙ names-append (take i fns) (f ∷ drop (i + 1) fns)
+
+types-append : (xs ys : List TypeItem) → declared_names (xs ++ ys) ≡ declared_names xs ++ declared_names ys
+types-append xs ys = map-append _ xs ys
+
+pub types_more : (ts : List TypeItem) (i : ℕ) (t : TypeItem) → i < length ts → t ≡ get_or ts i t → declared_names (take (i + 1) ts) ≡ declared_names (take i ts) ++ t.name ∷ []
+types_more ts i t lt is = ap declared_names (up_to ts i t lt is) ∙ types-append (take i ts) (t ∷ [])
+
+pub types_whole : (ts : List TypeItem) (i : ℕ) (t : TypeItem) → i < length ts → t ≡ get_or ts i t → declared_names ts ≡ declared_names (take i ts) ++ t.name ∷ declared_names (drop (i + 1) ts)
+types_whole ts i t lt is = ap declared_names (whole ts i t lt is) ∙ types-append (take i ts) (t ∷ drop (i + 1) ts)

@@ -1,5 +1,5 @@
 -- What a program keeps to that has a spelling. What is not built is not well formed.
-use Rattle.std.specs.Prelude.{◌≡◌, ℕ, ◌==◌, nat_lt, List, [], ◌∷◌, ◌++◌, length, map, fold, find, Bool, true, false, is_some, ◌||◌, if◌then◌else◌, IsTrue, IsSome, Option, Some, None, codes}
+use Rattle.std.specs.Prelude.{◌≡◌, ℕ, ◌<◌, ◌==◌, nat_lt, List, [], ◌∷◌, ◌++◌, length, map, fold, find, Bool, true, false, is_some, ◌||◌, if◌then◌else◌, IsTrue, IsSome, Option, Some, None, codes}
 use Rattle.std.specs.List.{AllByRecursion, IsDistinct, list_all}
 use Rattle.std.specs.Str.{bytes_eq}
 use Rattle.isle_core.specs.HasType.{IsReduced}
@@ -15,6 +15,10 @@ use Rattle.isle_tree.specs.declared.holds.Item.TheVariants as item
 use Rattle.isle_tree.specs.declared.tree.Ty.{Ty}
 use Rattle.isle_tree.specs.declared.tree.TCall.{TCall}
 use Rattle.isle_tree.specs.declared.tree.TraitFn.{TraitFn}
+use Rattle.isle_tree.specs.declared.tree.TFields.{TFields}
+use Rattle.isle_tree.specs.declared.tree.TFields.TheVariants as shape
+use Rattle.isle_tree.specs.declared.tree.TypeBody.{TypeBody}
+use Rattle.isle_tree.specs.declared.tree.TypeBody.TheVariants as type_body
 use Rattle.isle_tree.specs.declared.tree.TypeItem.{TypeItem}
 use Rattle.isle_tree.specs.declared.tree.Operand.{Operand}
 use Rattle.isle_tree.specs.declared.tree.Operand.TheVariants as operand
@@ -330,9 +334,29 @@ pub record IsTraitFn (f : TraitFn) : Type 0 where
   pub results : AreResults f.results
   pub kind : IsKind f.kind
 
--- a declared type; no form of one is built
-abbrev pub IsTypeItem : TypeItem → Type 0
-IsTypeItem t = ⊥
+-- a field with a name, and its type
+abbrev pub IsField : List ℕ × List ℕ → Type 0
+IsField f = IsIdentifier f.0 × IsIdentifier f.1
+
+-- the fields of a variant or a struct: some, or Unit in place of none
+abbrev pub AreFields : TFields → Type 0
+AreFields shape.Unit = Unit {0}
+AreFields (shape.Named fs) = (0 < length fs) × AllByRecursion IsField fs
+AreFields (shape.Tuple tys) = (0 < length tys) × AllByRecursion IsIdentifier tys
+
+-- a variant: its name and its fields
+abbrev pub IsVariant : List ℕ × TFields → Type 0
+IsVariant v = IsIdentifier v.0 × AreFields v.1
+
+-- what a type is made of
+abbrev pub IsTypeBody : TypeBody → Type 0
+IsTypeBody (type_body.Enum vs) = AllByRecursion IsVariant vs
+IsTypeBody (type_body.Struct fs) = AreFields fs
+
+-- a declared type: all names in it are names of Rust
+pub record IsTypeItem (t : TypeItem) : Type 0 where
+  pub name : IsIdentifier t.name
+  pub body : IsTypeBody t.body
 
 -- the names in the head of a function
 pub record HasNames (f : Function) : Type 0 where
@@ -356,10 +380,15 @@ terms fs = map (λ (f : Function). f.term) fs
 abbrev pub fn_names : List TraitFn → List (List ℕ)
 fn_names fs = map (λ (f : TraitFn). f.name) fs
 
--- each item is of a form that is built, and no two functions have one name
+-- the names of the declared types
+abbrev pub declared_names : List TypeItem → List (List ℕ)
+declared_names ts = map (λ (t : TypeItem). t.name) ts
+
+-- each item is of a form that is built, and no two functions, no two of the trait and no two types have one name
 pub record IsWellFormed (p : Program) : Type 0 where
   pub trait_fns : AllByRecursion IsTraitFn p.trait_fns
   pub types : AllByRecursion IsTypeItem p.types
   pub fns : AllByRecursion (IsFunction p) p.fns
   pub distinct : IsDistinct bytes_eq (terms p.fns)
   pub trait_names : IsDistinct bytes_eq (fn_names p.trait_fns)
+  pub type_names : IsDistinct bytes_eq (declared_names p.types)

@@ -1,12 +1,12 @@
-//! Whether functions have different names, those of the program and those of the trait.
+//! Whether items have different names: the functions of the program, those of the trait, and the types.
 
 ghost use Rattle.std.specs.Prelude.{IfOk, IsTrue, ◌↔◌, map};
 ghost use Rattle.std.specs.List.{IsDistinct};
 ghost use Rattle.std.specs.Str.{bytes_eq};
 ghost use Rattle.isle_tree.specs.Views.{function};
-ghost use Rattle.isle_tree.specs.WellFormed.{terms, fn_names};
+ghost use Rattle.isle_tree.specs.WellFormed.{terms, fn_names, declared_names};
 
-use crate::tree::{Function, TraitFn};
+use crate::tree::{Function, TraitFn, TypeItem};
 use isle_core::OutOfMemory;
 use std::alloc::Global;
 use std::collections::BTreeSet;
@@ -31,6 +31,19 @@ pub fn are_apart(alloc: Global, fns: &[TraitFn]) -> Result<bool, OutOfMemory>
     let mut seen: BTreeSet<&str> = BTreeSet::new(alloc);
     for f in fns {
         if !seen.insert(f.name.as_str())? {
+            return Ok(false);
+        }
+    }
+    Ok(true)
+}
+
+/// Tells whether no two types have one name. The only error is want of memory.
+pub fn are_types_apart(alloc: Global, types: &[TypeItem]) -> Result<bool, OutOfMemory>
+    ensures { IfOk result (λ b. IsTrue b ↔ IsDistinct bytes_eq (declared_names types.now)) }
+{
+    let mut seen: BTreeSet<&str> = BTreeSet::new(alloc);
+    for item in types {
+        if !seen.insert(item.name.as_str())? {
             return Ok(false);
         }
     }

@@ -4,12 +4,16 @@
 mod callees;
 mod distinct;
 mod holds;
+mod plain;
 mod tree;
+mod type_items;
 
 pub use callees::Callees;
-pub use distinct::{are_apart, are_distinct};
+pub use distinct::{are_apart, are_distinct, are_types_apart};
 pub use holds::{Holds, Item};
+pub use plain::is_plain;
 pub use tree::{
     Function, Operand, Program, Read, Stmt, TBind, TCall, TExpr, TFields, TPat, TraitFn, Ty,
     TypeBody, TypeItem,
 };
+pub use type_items::are_type_items;
