@@ -7,7 +7,9 @@ use Rattle.std.proofs.lemmas.Slice.Eq.{bytes_eq-Decides}
 use Rattle.std.proofs.lemmas.List.Sums.{fold-append}
 use Rattle.isle_ast.specs.Tree as tree
 use Rattle.isle_ast.specs.Tree.{Def}
-use Rattle.isle_declarations.specs.Symbols.{index_of, added, number_or, def_names, symbols}
+use Rattle.isle_declarations.specs.Names.{def_names}
+use Rattle.isle_declarations.specs.DeclaredTypes.{made_terms}
+use Rattle.isle_declarations.specs.Symbols.{index_of, added, number_or, symbols}
 use Rattle.isle_declarations.specs.Signatures.{Signature, signatures}
 use Rattle.isle_declarations.specs.Heads.{terms_of}
 use Rattle.isle_declarations.proofs.SymbolLaws.{met, stands, kept}
@@ -30,19 +32,34 @@ all_among (tree.Decl term pure multi partial recursive args ret pos ∷ defs) na
 all_among (tree.Rule name prio term args iflets rhs pos ∷ defs) names =
     let d = tree.Rule name prio term args iflets rhs pos in
     among_after names d defs (all_among defs (fold added names (def_names d)))
-all_among (tree.TypeDecl name is_extern is_nodebug body pos ∷ defs) names = all_among defs names
+all_among (tree.TypeDecl name is_extern is_nodebug body pos ∷ defs) names =
+    let d = tree.TypeDecl name is_extern is_nodebug body pos in
+    among_after names d defs (all_among defs (fold added names (def_names d)))
 all_among (tree.ExternConstructor term func pos ∷ defs) names =
     let d = tree.ExternConstructor term func pos in
     among_after names d defs (all_among defs (fold added names (def_names d)))
-all_among (tree.ExternExtractor term func infallible pos ∷ defs) names = all_among defs names
-all_among (tree.ExternConst name ty pos ∷ defs) names = all_among defs names
-all_among (tree.Extractor term params template pos ∷ defs) names = all_among defs names
-all_among (tree.Converter from to term pos ∷ defs) names = all_among defs names
+all_among (tree.ExternExtractor term func infallible pos ∷ defs) names =
+    let d = tree.ExternExtractor term func infallible pos in
+    among_after names d defs (all_among defs (fold added names (def_names d)))
+all_among (tree.ExternConst name ty pos ∷ defs) names =
+    let d = tree.ExternConst name ty pos in
+    among_after names d defs (all_among defs (fold added names (def_names d)))
+all_among (tree.Extractor term params template pos ∷ defs) names =
+    let d = tree.Extractor term params template pos in
+    among_after names d defs (all_among defs (fold added names (def_names d)))
+all_among (tree.Converter from to term pos ∷ defs) names =
+    let d = tree.Converter from to term pos in
+    among_after names d defs (all_among defs (fold added names (def_names d)))
 all_among (tree.Passed head items pos ∷ defs) names = all_among defs names
+
+-- what is among names stays so while names are added
+among_more : (more names : List (List ℕ)) (sigs : List Signature) → AreAmong names sigs → AreAmong (fold added names more) sigs
+among_more more names [] h = tt
+among_more more names (s ∷ sigs) h = ((h.0.0, kept more names s.term h.0.0 h.0.1), among_more more names sigs h.1)
 
 -- each declared name is a symbol
 pub are_among : (defs : List Def) → AreAmong (symbols defs) (signatures defs)
-are_among defs = all_among defs []
+are_among defs = among_more (made_terms defs) (fold added [] (flat_map def_names defs)) (signatures defs) (all_among defs [])
 
 -- the text of a name's symbol is the name
 pub text_of : (syms : List (List ℕ)) (name : List ℕ) (n : ℕ) → index_of syms name ≡ Some n → get_or syms (number_or (index_of syms name)) [] ≡ name

@@ -1,6 +1,6 @@
 -- Definitions that are gathered one after the other, with the numbers of their names.
 use Rattle.std.proofs.Common.{◌≡◌, ℕ, ◌+◌, ◌<◌, List, [], ◌∷◌, ◌++◌, length, map, get_or, Option, Some, None, refl, sym, ap, ◌∙◌}
-use Rattle.std.specs.Prelude.{fold, drop, filter_map, option_to_list}
+use Rattle.std.specs.Prelude.{fold, flat_map, drop, filter_map, option_to_list}
 use Rattle.std.specs.List.{cons_option}
 use Rattle.std.proofs.lemmas.List.{drop_more, map-append, append_assoc}
 use Rattle.isle_ast.specs.declared.tree.Def.{Def as CodeDef}
@@ -10,12 +10,15 @@ use Rattle.isle_declarations.specs.declared.collected.Signature.{Signature as Co
 use Rattle.isle_declarations.specs.declared.collected.Extern.{Extern as CodeExtern}
 use Rattle.isle_declarations.specs.declared.collected.RuleDef.{RuleDef as CodeRule}
 use Rattle.isle_declarations.specs.declared.collected.Item.{Item}
-use Rattle.isle_declarations.specs.Symbols.{index_of, added, def_names}
+use Rattle.isle_declarations.specs.declared.collected.Definitions.{Definitions}
+use Rattle.isle_declarations.specs.DeclaredTypes.{made_of, made_terms}
+use Rattle.isle_declarations.specs.Names.{def_names}
+use Rattle.isle_declarations.specs.Symbols.{index_of, added}
 use Rattle.isle_declarations.specs.Numbered.{AreNumbered}
 use Rattle.isle_declarations.specs.Signatures.{signature_of, extern_of, rule_of}
-use Rattle.isle_declarations.specs.Collected.{signature, extern, rule, item_signatures, item_externs, item_rules, HaveNumbers, IsItem}
+use Rattle.isle_declarations.specs.Collected.{signature, extern, rule, item_signatures, item_externs, item_rules, HaveNumbers, IsItem, AreFound, AreCollected}
 use Rattle.isle_declarations.proofs.SymbolLaws.{kept}
-use Rattle.isle_declarations.proofs.Interned.{def_names_from, defs_more}
+use Rattle.isle_declarations.proofs.Interned.{def_names_from, defs_more, flat_mapped}
 use Rattle.isle_declarations.proofs.NumberLaws.{numbered_kept, numbered_more}
 
 -- a number stays while names are added
@@ -70,4 +73,24 @@ gathered_more ds i x d item syms new sigs all_sigs xs all_xs rules all_rules lt 
     of_funcs = numbers_more (λ (x : CodeExtern). x.func.now) (λ (x : CodeExtern). x.func_number) (def_names (def x)) syms new xs all_xs (item_externs item) named e h.numbers.of_funcs it.numbers.of_funcs;
     of_rules = numbers_more (λ (r : CodeRule). r.term.now) (λ (r : CodeRule). r.number) (def_names (def x)) syms new rules all_rules (item_rules item) named r h.numbers.of_rules it.numbers.of_rules;
   };
+}
+
+-- numbers stay while names are added
+all_kept : (more syms new : List (List ℕ)) (sigs : List CodeSignature) (xs : List CodeExtern) (rules : List CodeRule) → new ≡ fold added syms more → HaveNumbers syms sigs xs rules → HaveNumbers new sigs xs rules
+all_kept more syms new sigs xs rules is h = record {
+  of_signatures = rw is (numbered_kept more syms (map (λ (s : CodeSignature). s.term.now) sigs) (map (λ (s : CodeSignature). s.number) sigs) h.of_signatures);
+  of_externs = rw is (numbered_kept more syms (map (λ (x : CodeExtern). x.term.now) xs) (map (λ (x : CodeExtern). x.number) xs) h.of_externs);
+  of_funcs = rw is (numbered_kept more syms (map (λ (x : CodeExtern). x.func.now) xs) (map (λ (x : CodeExtern). x.func_number) xs) h.of_funcs);
+  of_rules = rw is (numbered_kept more syms (map (λ (r : CodeRule). r.term.now) rules) (map (λ (r : CodeRule). r.number) rules) h.of_rules);
+}
+
+-- the terms that types make are added to what was found
+pub collected : (defs : List Def) (made : List (List (List ℕ))) (given : Definitions) (new : List (List ℕ)) → made ≡ map made_of defs → new ≡ fold added given.symbols (flat_map (λ names. names) made) → AreFound defs given
+    → AreCollected defs (record { symbols = new; signatures = given.signatures; externs = given.externs; rules = given.rules })
+collected defs made given new of is h = record {
+  named = is ∙ ap (fold added given.symbols) (ap (flat_map (λ names. names)) of ∙ flat_mapped made_of defs) ∙ ap (λ names. fold added names (made_terms defs)) h.named;
+  declared = h.declared;
+  external = h.external;
+  ruled = h.ruled;
+  numbers = all_kept (flat_map (λ names. names) made) given.symbols new given.signatures.items given.externs.items given.rules.items is h.numbers;
 }

@@ -1,5 +1,5 @@
 -- What contracts see of the collected declarations and rules.
-use Rattle.std.specs.Prelude.{◌≡◌, ℕ, List, [], ◌∷◌, map, option_map, option_to_list}
+use Rattle.std.specs.Prelude.{◌≡◌, ℕ, List, [], ◌∷◌, map, fold, flat_map, option_map, option_to_list}
 use Rattle.isle_ast.specs.Tree.{Def}
 use Rattle.isle_ast.specs.Views.{pattern, expr, iflet}
 use Rattle.isle_declarations.specs.declared.collected.Signature.{Signature as CodeSignature}
@@ -8,7 +8,8 @@ use Rattle.isle_declarations.specs.declared.collected.Extern.{Extern as CodeExte
 use Rattle.isle_declarations.specs.declared.collected.Definitions.{Definitions}
 use Rattle.isle_declarations.specs.declared.collected.Item.{Item}
 use Rattle.isle_declarations.specs.declared.collected.Item.TheVariants as item
-use Rattle.isle_declarations.specs.Symbols.{symbols}
+use Rattle.isle_declarations.specs.Names.{def_names}
+use Rattle.isle_declarations.specs.Symbols.{added, symbols}
 use Rattle.isle_declarations.specs.Signatures.{Signature, Extern, RuleDef, signature_of, extern_of, rule_of, signatures, externs, rule_defs}
 use Rattle.isle_declarations.specs.Numbered.{AreNumbered}
 
@@ -63,7 +64,15 @@ pub record IsItem (syms : List (List ℕ)) (d : Def) (i : Item) : Type 0 where
   pub ruled : map rule (item_rules i) ≡ option_to_list (rule_of d)
   pub numbers : HaveNumbers syms (item_signatures i) (item_externs i) (item_rules i)
 
--- the symbols, declarations, external constructors and rules of definitions, with their numbers
+-- the names, declarations, external constructors and rules in definitions, with their numbers
+pub record AreFound (defs : List Def) (given : Definitions) : Type 0 where
+  pub named : given.symbols ≡ fold added [] (flat_map def_names defs)
+  pub declared : map signature given.signatures.items ≡ signatures defs
+  pub external : map extern given.externs.items ≡ externs defs
+  pub ruled : map rule given.rules.items ≡ rule_defs defs
+  pub numbers : AreAllNumbered given
+
+-- the same with the symbols, among which are the terms that types make
 pub record AreCollected (defs : List Def) (given : Definitions) : Type 0 where
   pub named : given.symbols ≡ symbols defs
   pub declared : map signature given.signatures.items ≡ signatures defs

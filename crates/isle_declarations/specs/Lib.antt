@@ -1,3 +1,6 @@
+pub mod Names
+pub mod Bindings
+pub mod DeclaredTypes
 pub mod Symbols
 pub mod Signatures
 pub mod Heads

@@ -1,5 +1,5 @@
 -- The declarations, external constructors and rules among definitions.
-use Rattle.std.specs.Prelude.{ℕ, ℤ, List, Bool, Option, Some, None, map, filter_map, option_map, find}
+use Rattle.std.specs.Prelude.{ℕ, ℤ, List, Bool, true, false, Option, Some, None, map, filter_map, option_map, find}
 use Rattle.std.specs.List.{list_any}
 use Rattle.std.specs.Str.{bytes_eq}
 use Rattle.isle_core.specs.declared.position.Pos.{Pos}
@@ -68,6 +68,18 @@ rule_of (ExternConst name ty pos) = None
 rule_of (Extractor term params template pos) = None
 rule_of (Converter from to term pos) = None
 rule_of (Passed head items pos) = None
+
+-- whether a definition is a declaration, an external constructor or a rule
+abbrev pub is_collected : Def → Bool
+is_collected (Decl term pure multi partial recursive args ret pos) = true
+is_collected (ExternConstructor term func pos) = true
+is_collected (Rule name prio term args iflets rhs pos) = true
+is_collected (TypeDecl name is_extern is_nodebug body pos) = false
+is_collected (ExternExtractor term func infallible pos) = false
+is_collected (ExternConst name ty pos) = false
+is_collected (Extractor term params template pos) = false
+is_collected (Converter from to term pos) = false
+is_collected (Passed head items pos) = false
 
 -- the declarations, in order
 abbrev pub signatures : List Def → List Signature

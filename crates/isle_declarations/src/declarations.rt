@@ -1,8 +1,9 @@
 //! Declarations, external constructors and rules, looked up by the numbers of their names.
 
-ghost use Rattle.std.specs.Prelude.{◌≡◌, IfOk};
+ghost use Rattle.std.specs.Prelude.{◌≡◌, IfOk, map};
 ghost use Rattle.isle_ast.specs.Views.{defs as seen};
 ghost use Rattle.isle_declarations.specs.Symbols.{index_of, symbols};
+ghost use Rattle.isle_declarations.specs.DeclaredTypes.{made_of};
 ghost use Rattle.isle_declarations.specs.Signatures.{signatures, externs, rule_defs};
 ghost use Rattle.isle_declarations.specs.Heads.{terms_of, extern_terms, heads_of};
 ghost use Rattle.isle_declarations.specs.Collected.{AreSignatures, AreExterns, AreRules};
@@ -13,7 +14,7 @@ use crate::first_places::{FirstPlaces, place_in};
 use crate::interning::definitions;
 use crate::tables::{declared_places, external_places, ruled_places};
 use isle_ast::Def;
-use isle_core::Text;
+use isle_core::{List, Text};
 use std::alloc::{AllocError, Global};
 use std::marker::Model;
 
@@ -46,11 +47,16 @@ impl<'d> Model for Declarations<'d> {
 }
 
 impl<'d> Declarations<'d> {
-    /// Gathers what is declared in definitions. The only error is want of memory.
-    pub fn gather(alloc: Global, defs: &'d [Def]) -> Result<Declarations<'d>, AllocError>
+    /// Gathers what is declared in definitions, whose types make these terms. The only error is want of memory.
+    pub fn gather(
+        alloc: Global,
+        defs: &'d [Def],
+        made: &'d [List<Text>],
+    ) -> Result<Declarations<'d>, AllocError>
+        requires { made.now ≡ map made_of (seen defs.now) }
         ensures { IfOk result (λ found. found ≡ defs.now) }
     {
-        let given = definitions(alloc, defs)?;
+        let given = definitions(alloc, defs, made)?;
         let declared = declared_places(alloc, &given)?;
         let external = external_places(alloc, &given)?;
         let ruled = ruled_places(alloc, &given)?;
@@ -61,6 +67,13 @@ impl<'d> Declarations<'d> {
             external,
             ruled,
         })
+    }
+
+    /// Returns the definitions.
+    pub fn defs(&self) -> &'d [Def]
+        ensures { result.now ≡ self.now }
+    {
+        self.defs
     }
 
     /// Copies the symbols, in order.

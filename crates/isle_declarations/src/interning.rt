@@ -1,84 +1,22 @@
 //! The names in definitions, from left to right.
 
-ghost use Rattle.std.specs.Prelude.{◌≡◌, ◌++◌, ◌∷◌, [], Some, IfOk, OnOk, map, fold, flat_map, option_to_list};
-ghost use Rattle.isle_ast.specs.Views.{pattern, expr, exprs_of, def, defs as seen};
-ghost use Rattle.isle_declarations.specs.Symbols.{index_of, added, pattern_names, expr_names, exprs_names, rule_names, def_names};
-ghost use Rattle.isle_declarations.specs.Collected.{IsItem, AreCollected};
+ghost use Rattle.std.specs.Prelude.{◌≡◌, ◌++◌, ◌∷◌, [], Some, None, IfOk, OnOk, Bool, false, map, fold};
+ghost use Rattle.isle_ast.specs.Views.{pattern, def, defs as seen};
+ghost use Rattle.isle_declarations.specs.Symbols.{index_of, added};
+ghost use Rattle.isle_declarations.specs.Names.{pattern_names, body_names, def_names};
+ghost use Rattle.isle_declarations.specs.DeclaredTypes.{made_of};
+ghost use Rattle.isle_declarations.specs.Signatures.{is_collected, signature_of};
+ghost use Rattle.isle_declarations.specs.Collected.{IsItem, AreCollected, AreFound};
 
 use crate::collected::{Definitions, Extern, Item, RuleDef, Signature, keep};
+use crate::pattern_interning::intern_pattern;
+use crate::rule_interning::intern_rule;
 use crate::symbols::Symbols;
-use isle_ast::{AstExpr, AstPattern, Def};
-use isle_core::Text;
+use crate::text_interning::{intern, intern_lists, intern_texts};
+use crate::type_interning::intern_body;
+use isle_ast::{AstBody, AstPattern, Def};
+use isle_core::{List, Text};
 use std::alloc::{AllocError, Global};
-
-// One name.
-fn intern<'d>(names: &mut Symbols<'d>, name: &'d Text) -> Result<(), AllocError>
-    ensures { OnOk result (names.new ≡ added names.old name.now) }
-{
-    names.intern(name.as_str())?;
-    Ok(())
-}
-
-// Names in order.
-fn intern_texts<'d>(names: &mut Symbols<'d>, texts: &'d [Text]) -> Result<(), AllocError>
-    ensures { OnOk result (names.new ≡ fold added names.old texts.now) }
-{
-    for text in texts {
-        intern(names, text)?;
-    }
-    Ok(())
-}
-
-// The names in a pattern.
-#[tactic(auto, using(isle_ast::proofs::Sees::pattern_sees))]
-fn intern_pattern<'d>(names: &mut Symbols<'d>, p: &'d AstPattern) -> Result<(), AllocError>
-    ensures { OnOk result (names.new ≡ fold added names.old (pattern_names (pattern p.now))) }
-{
-    match p {
-        AstPattern::Var(name) => intern(names, name),
-        _ => Ok(()),
-    }
-}
-
-// The names in patterns, in order.
-fn intern_patterns<'d>(
-    names: &mut Symbols<'d>,
-    patterns: &'d [AstPattern],
-) -> Result<(), AllocError>
-    ensures { OnOk result (names.new ≡ fold added names.old (flat_map pattern_names (map pattern patterns.now))) }
-{
-    for p in patterns {
-        intern_pattern(names, p)?;
-    }
-    Ok(())
-}
-
-// The names in an expression, a call's own before those of its arguments.
-#[cycle(names)]
-#[tactic(auto, using(isle_ast::proofs::Sees::expr_sees))]
-fn intern_expr<'d>(names: &mut Symbols<'d>, e: &'d AstExpr) -> Result<(), AllocError>
-    ensures { OnOk result (names.new ≡ fold added names.old (expr_names (expr e.now))) }
-{
-    match e {
-        AstExpr::Var(name) => intern(names, name),
-        AstExpr::Term(name, args) => {
-            intern(names, name)?;
-            intern_exprs(names, args.as_slice())
-        }
-        _ => Ok(()),
-    }
-}
-
-// The names in expressions, in order.
-#[cycle(names)]
-fn intern_exprs<'d>(names: &mut Symbols<'d>, es: &'d [AstExpr]) -> Result<(), AllocError>
-    ensures { OnOk result (names.new ≡ fold added names.old (exprs_names (exprs_of (map expr es.now)))) }
-{
-    for e in es {
-        intern_expr(names, e)?;
-    }
-    Ok(())
-}
 
 // The names in a declaration, and its name's number.
 fn intern_decl<'d>(
@@ -110,32 +48,121 @@ fn intern_extern<'d>(
     Ok((number, func_number))
 }
 
-// A rule's own name.
-fn intern_name<'d>(names: &mut Symbols<'d>, name: &'d Option<Text>) -> Result<(), AllocError>
-    ensures { OnOk result (names.new ≡ fold added names.old (option_to_list name.now)) }
+// The names in a type.
+fn intern_type<'d>(
+    names: &mut Symbols<'d>,
+    name: &'d Text,
+    body: &'d AstBody,
+) -> Result<(), AllocError>
+    ensures { OnOk result (names.new ≡ fold added names.old (name.now ∷ body_names body.now)) }
 {
-    match name {
-        Some(name) => intern(names, name),
-        None => Ok(()),
+    intern(names, name)?;
+    intern_body(names, body)
+}
+
+// Two names.
+fn intern_two<'d>(
+    names: &mut Symbols<'d>,
+    first: &'d Text,
+    second: &'d Text,
+) -> Result<(), AllocError>
+    ensures { OnOk result (names.new ≡ fold added names.old (first.now ∷ second.now ∷ [])) }
+{
+    intern(names, first)?;
+    intern(names, second)
+}
+
+// The names in an extractor with a pattern.
+fn intern_extractor<'d>(
+    names: &mut Symbols<'d>,
+    term: &'d Text,
+    params: &'d [Text],
+    template: &'d AstPattern,
+) -> Result<(), AllocError>
+    ensures { OnOk result (names.new ≡ fold added names.old (term.now ∷ params.now ++ pattern_names (pattern template.now))) }
+{
+    intern(names, term)?;
+    intern_texts(names, params)?;
+    intern_pattern(names, template)
+}
+
+// The names in a converter.
+fn intern_converter<'d>(
+    names: &mut Symbols<'d>,
+    from: &'d Text,
+    to: &'d Text,
+    term: &'d Text,
+) -> Result<(), AllocError>
+    ensures { OnOk result (names.new ≡ fold added names.old (from.now ∷ to.now ∷ term.now ∷ [])) }
+{
+    intern(names, from)?;
+    intern_two(names, to, term)
+}
+
+// The names in a definition that is no declaration, external constructor or rule.
+fn intern_uncollected<'d>(names: &mut Symbols<'d>, given: &'d Def) -> Result<(), AllocError>
+    ensures { OnOk result (is_collected (def given.now) ≡ false → names.new ≡ fold added names.old (def_names (def given.now))) }
+{
+    match given {
+        Def::TypeDecl { name, body, .. } => intern_type(names, name, body),
+        Def::Decl { .. } => Ok(()),
+        Def::ExternConstructor { .. } => Ok(()),
+        Def::ExternExtractor { term, func, .. } => intern_two(names, term, func),
+        Def::ExternConst { name, ty, .. } => intern_two(names, name, ty),
+        Def::Extractor {
+            term,
+            params,
+            template,
+            ..
+        } => intern_extractor(names, term, params.as_slice(), template),
+        Def::Converter { from, to, term, .. } => intern_converter(names, from, to, term),
+        Def::Rule { .. } => Ok(()),
+        Def::Passed { .. } => Ok(()),
     }
 }
 
-// The names in a rule, and the number of its term's.
-fn intern_rule<'d>(
-    names: &mut Symbols<'d>,
-    name: &'d Option<Text>,
-    term: &'d Text,
-    args: &'d [AstPattern],
-    rhs: &'d AstExpr,
-) -> Result<usize, AllocError>
-    ensures names { OnOk result (names.new ≡ fold added names.old (rule_names name.now term.now (map pattern args.now) (expr rhs.now))) }
-    ensures number { IfOk result (λ number. index_of names.new term.now ≡ Some number) }
+// A definition that is no declaration, by its kind, and the names in it from left to right.
+#[tactic(auto, using(crate::proofs::Gathered::numbered_one))]
+fn intern_undeclared<'d>(names: &mut Symbols<'d>, given: &'d Def) -> Result<Item<'d>, AllocError>
+    ensures names { OnOk result (signature_of (def given.now) ≡ None → names.new ≡ fold added names.old (def_names (def given.now))) }
+    ensures item { IfOk result (λ item. signature_of (def given.now) ≡ None → IsItem names.new (def given.now) item) }
 {
-    intern_name(names, name)?;
-    let number = names.intern(term.as_str())?;
-    intern_patterns(names, args)?;
-    intern_expr(names, rhs)?;
-    Ok(number)
+    match given {
+        Def::ExternConstructor { term, func, .. } => {
+            let (number, func_number) = intern_extern(names, term, func)?;
+            Ok(Item::External(Extern {
+                number,
+                term,
+                func_number,
+                func,
+            }))
+        }
+        Def::Rule {
+            name,
+            prio,
+            term,
+            args,
+            iflets,
+            rhs,
+            pos,
+        } => {
+            let number = intern_rule(names, name, term, args.as_slice(), iflets.as_slice(), rhs)?;
+            Ok(Item::Rule(RuleDef {
+                name: name.as_ref(),
+                prio: *prio,
+                number,
+                term,
+                args: args.as_slice(),
+                iflets: iflets.as_slice(),
+                rhs,
+                pos: *pos,
+            }))
+        }
+        _ => {
+            intern_uncollected(names, given)?;
+            Ok(Item::Other)
+        }
+    }
 }
 
 // A definition by its kind, and the names in it from left to right.
@@ -168,43 +195,13 @@ fn intern_def<'d>(names: &mut Symbols<'d>, given: &'d Def) -> Result<Item<'d>, A
                 pos: *pos,
             }))
         }
-        Def::ExternConstructor { term, func, .. } => {
-            let (number, func_number) = intern_extern(names, term, func)?;
-            Ok(Item::External(Extern {
-                number,
-                term,
-                func_number,
-                func,
-            }))
-        }
-        Def::Rule {
-            name,
-            prio,
-            term,
-            args,
-            iflets,
-            rhs,
-            pos,
-        } => {
-            let number = intern_rule(names, name, term, args.as_slice(), rhs)?;
-            Ok(Item::Rule(RuleDef {
-                name: name.as_ref(),
-                prio: *prio,
-                number,
-                term,
-                args: args.as_slice(),
-                iflets: iflets.as_slice(),
-                rhs,
-                pos: *pos,
-            }))
-        }
-        _ => Ok(Item::Other),
+        _ => intern_undeclared(names, given),
     }
 }
 
-/// Returns the definitions by their kinds, and their symbols.
-pub fn definitions<'d>(alloc: Global, defs: &'d [Def]) -> Result<Definitions<'d>, AllocError>
-    ensures { IfOk result (λ given. AreCollected (seen defs.now) given) }
+// The definitions by their kinds, and the names that stand in them.
+fn found_in<'d>(alloc: Global, defs: &'d [Def]) -> Result<Definitions<'d>, AllocError>
+    ensures { IfOk result (λ given. AreFound (seen defs.now) given) }
 {
     let mut symbols = Symbols::new(alloc);
     let mut signatures = Vec::new(alloc);
@@ -220,4 +217,19 @@ pub fn definitions<'d>(alloc: Global, defs: &'d [Def]) -> Result<Definitions<'d>
         externs,
         rules,
     })
+}
+
+/// Returns the definitions by their kinds, and their symbols; the terms that the types of each make are given. The only error
+/// is want of memory.
+pub fn definitions<'d>(
+    alloc: Global,
+    defs: &'d [Def],
+    made: &'d [List<Text>],
+) -> Result<Definitions<'d>, AllocError>
+    requires { made.now ≡ map made_of (seen defs.now) }
+    ensures { IfOk result (λ given. AreCollected (seen defs.now) given) }
+{
+    let mut given = found_in(alloc, defs)?;
+    intern_lists(&mut given.symbols, made)?;
+    Ok(given)
 }

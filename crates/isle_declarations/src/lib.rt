@@ -1,13 +1,23 @@
-//! The declarations, external constructors and rules among definitions, gathered and looked up by name.
+//! The declarations, external constructors and rules among definitions, gathered and looked up by name; the types and constants
+//! that each declares, and the terms that types make.
 #![tactic(auto)]
 
 mod collected;
 mod declarations;
+mod declared_types;
+mod expr_interning;
 mod first_places;
 mod interning;
+mod made;
+mod pattern_interning;
+mod rule_interning;
 mod symbols;
 mod tables;
+mod text_interning;
+mod type_interning;
 
 pub use collected::{Extern, RuleDef, Signature};
 pub use declarations::Declarations;
+pub use declared_types::{constant_of, type_of};
+pub use made::made_each;
 pub use symbols::Symbols;

@@ -6,7 +6,7 @@ use Rattle.std.proofs.lemmas.Bool.{and_parts, not-true, and_from}
 use Rattle.isle_core.specs.declared.position.Pos.{Pos}
 use Rattle.isle_ast.specs.Tree as tree
 use Rattle.isle_ast.specs.Tree.{Pattern, Expr, IfLet, Def}
-use Rattle.isle_declarations.specs.Symbols.{pattern_names}
+use Rattle.isle_sema.specs.VariableNames.{variable_names}
 use Rattle.isle_declarations.specs.Signatures.{Signature, RuleDef, signatures, rule_defs}
 use Rattle.isle_declarations.specs.Repeats.{repeats}
 use Rattle.isle_sema.specs.Language.{is_built_pattern, are_none, is_built_expr, is_built_def}
@@ -73,21 +73,21 @@ pub record IsRuleBuilt (r : RuleDef) : Type 0 where
   pub patterns : list_all is_built_pattern r.args ≡ true
   pub conditions : r.iflets ≡ []
   pub right : is_built_expr r.rhs ≡ true
-  pub apart : repeats (flat_map pattern_names r.args) ≡ false
+  pub apart : repeats (flat_map variable_names r.args) ≡ false
 
 -- what a rule that is built keeps
 record RuleForms (args : List Pattern) (iflets : List IfLet) (rhs : Expr) : Type 0 where
   patterns : list_all is_built_pattern args ≡ true
   conditions : are_none iflets ≡ true
   right : is_built_expr rhs ≡ true
-  apart : repeats (flat_map pattern_names args) ≡ false
+  apart : repeats (flat_map variable_names args) ≡ false
 
 rule_forms : (name : Option (List ℕ)) (prio : ℤ) (term : List ℕ) (args : List Pattern) (iflets : List IfLet) (rhs : Expr) (pos : Pos) → is_built_def (tree.Rule name prio term args iflets rhs pos) ≡ true → RuleForms args iflets rhs
 rule_forms name prio term args iflets rhs pos h =
-    let k = and_parts (list_all is_built_pattern args && are_none iflets && is_built_expr rhs) (not (repeats (flat_map pattern_names args))) h in
+    let k = and_parts (list_all is_built_pattern args && are_none iflets && is_built_expr rhs) (not (repeats (flat_map variable_names args))) h in
     let l = and_parts (list_all is_built_pattern args && are_none iflets) (is_built_expr rhs) k.0 in
     let m = and_parts (list_all is_built_pattern args) (are_none iflets) l.0 in
-    record { patterns = m.0; conditions = m.1; right = l.1; apart = not-true (repeats (flat_map pattern_names args)) k.1 }
+    record { patterns = m.0; conditions = m.1; right = l.1; apart = not-true (repeats (flat_map variable_names args)) k.1 }
 
 no_conditions : (cs : List IfLet) → are_none cs ≡ true → cs ≡ []
 no_conditions [] h = refl

@@ -107,7 +107,7 @@ given_typed ds t built parts terms rules none =
     record {
       built = and_from (list_all is_built_def ds) (not (rules_call_ruled (rule_defs ds) (rule_defs ds))) built (ap not k.calls);
       sound =
-          none_stages (fault_in OfTypes w) (or_later (fault_in OfTerms w) (or_later (fault_in OfExtractors w) (fault_in OfRules w))) (types_none w [] ds)
+          none_stages (fault_in OfTypes w) (or_later (fault_in OfTerms w) (or_later (fault_in OfExtractors w) (fault_in OfRules w))) (types_none w [] ds forms)
           (none_stages (fault_in OfTerms w) (or_later (fault_in OfExtractors w) (fault_in OfRules w)) (terms_none ds [] ds forms parts) (none_stages (fault_in OfExtractors w) (fault_in OfRules w) (extractors_none w [] ds forms) (fault_none w [] ds k.kept)));
       given =
           ap (λ o. option_and_then (λ (ts : List Term). option_map (env_over (types_of ds) ts) (rules_pass w 0 (rule_defs ds))) o) terms

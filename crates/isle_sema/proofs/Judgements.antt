@@ -14,9 +14,9 @@ use Rattle.isle_declarations.specs.Signatures.{Signature, RuleDef, externs, rule
 use Rattle.isle_sema.specs.Site.{Site, CalledAt, NotBuiltAt}
 use Rattle.isle_sema.specs.Whole.{Whole, declared}
 use Rattle.isle_sema.specs.TypeNames.{type_named}
-use Rattle.isle_sema.specs.Row as row
-use Rattle.isle_sema.specs.Row.{Row}
-use Rattle.isle_sema.specs.Context.{on}
+use Rattle.isle_types.specs.declared.row.Row.TheVariants as row
+use Rattle.isle_types.specs.declared.row.Row.{Row}
+use Rattle.isle_types.specs.TypeRows.{on}
 use Rattle.isle_sema.specs.RulePass.{patterns_of, right_side_of, sites_of}
 use Rattle.isle_sema.specs.RuleRows.{differ, is_misplaced, is_met_otherwise, is_unknown, is_mistyped}
 use Rattle.isle_sema.specs.Known.{IsCalled}

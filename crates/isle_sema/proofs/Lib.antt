@@ -26,4 +26,5 @@ pub mod InternalTerms
 pub mod SerializableCalls
 pub mod SerializableRules
 pub mod TypedOnce
+pub mod BuiltTypes
 pub mod Givings

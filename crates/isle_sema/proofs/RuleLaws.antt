@@ -17,7 +17,7 @@ use Rattle.isle_ast.specs.Tree.{Expr, Exprs, NoExpr, AnExpr, IfLet, Def}
 use Rattle.isle_declarations.specs.Signatures.{Signature, RuleDef, signatures, rule_defs, has_rule, signature_named, term_named}
 use Rattle.isle_sema.specs.Calls.{count_of, calls_ruled, any_calls_ruled}
 use Rattle.isle_sema.specs.Language.{is_built_expr, are_built_exprs}
-use Rattle.isle_sema.specs.Row.{Row}
+use Rattle.isle_types.specs.declared.row.Row.{Row}
 use Rattle.isle_sema.specs.Scope.{Scope}
 use Rattle.isle_sema.specs.Site.{Site, NotBuiltAt}
 use Rattle.isle_sema.specs.Whole.{Whole, declared, arg_types, ret_type}
@@ -25,10 +25,9 @@ use Rattle.isle_sema.specs.PatternPass.{PatternsPass, patterns_pass, first_expec
 use Rattle.isle_sema.specs.ExprPass.{ExprPass, expr_pass, exprs_pass}
 use Rattle.isle_sema.specs.RulePass.{patterns_of, right_side_of, conditions_of, rule_from, rule_pass, rules_pass}
 use Rattle.isle_sema.specs.RuleRows.{is_unknown, is_call_misfit}
-use Rattle.isle_sema.specs.Context.{on}
+use Rattle.isle_types.specs.TypeRows.{on}
 use Rattle.isle_sema.specs.Fault.{OfRules, broken_in, fault_after}
-use Rattle.isle_sema.specs.Judging.{is_ruled_call, unjudged, judge_all, seen_row, lowest}
-use Rattle.isle_sema.specs.declared.rows.Row.{Row as CodeRow}
+use Rattle.isle_sema.specs.Judging.{is_ruled_call, unjudged, judge_all, lowest}
 use Rattle.isle_sema.specs.Known.{IsHead, MayBeCalled}
 use Rattle.isle_sema.specs.ElaboratedAt.{ArePatternsAt, IsExprAt, AreSides}
 use Rattle.isle_sema.specs.declared.judged.Judged.{Judged}
@@ -201,16 +200,12 @@ pub no_conditions : (cs : List AstIfLet) → length cs ≡ 0 → map iflet cs �
 no_conditions [] h = refl
 no_conditions (c ∷ cs) h = absurd (omega (arith, h))
 
-some_seen : (o : Option CodeRow) → is_some (option_map seen_row o) ≡ is_some o
-some_seen None = refl
-some_seen (Some x) = refl
-
 -- what the code finds is a row where the rule breaks one
-pub row_found : (w : Whole) (r : RuleDef) (own : Called) (sides : Sides) (found : Option CodeRow) (count : ℕ) → IsHead w r.term own → r.iflets ≡ [] → AreSides w r sides → count ≡ length r.args
-    → option_map seen_row found ≡ lowest own count sides.left sides.right → is_some (row_of w r) ≡ is_some found
+pub row_found : (w : Whole) (r : RuleDef) (own : Called) (sides : Sides) (found : Option Row) (count : ℕ) → IsHead w r.term own → r.iflets ≡ [] → AreSides w r sides → count ≡ length r.args
+    → found ≡ lowest own count sides.left sides.right → is_some (row_of w r) ≡ is_some found
 row_found w r own sides found count h none p as_many f =
     ap is_some (sym (f ∙ ap (λ n. lowest own n sides.left sides.right) as_many ∙ ap (λ (j : Judged). lowest own (length r.args) j sides.right) p.left
-    ∙ ap (λ (j : Judged). lowest own (length r.args) (judge_all w unjudged (patterns_of w r).sites) j) p.right ∙ lowest_is w r h.signature own h.there h.called none)) ∙ some_seen found
+    ∙ ap (λ (j : Judged). lowest own (length r.args) (judge_all w unjudged (patterns_of w r).sites) j) p.right ∙ lowest_is w r h.signature own h.there h.called none))
 
 -- a rule that breaks a row
 pub with_row : (w : Whole) (i : ℕ) (r : RuleDef) → is_some (row_of w r) ≡ true → None ≡ taken_rule w i r

@@ -6,14 +6,14 @@ use Rattle.std.proofs.lemmas.Bool.{or_parts, or_from, and_parts}
 use Rattle.isle_ast.specs.Tree as tree
 use Rattle.isle_ast.specs.Tree.{Def}
 use Rattle.isle_declarations.specs.Symbols.{index_of}
-use Rattle.isle_sema.specs.Builtins.{builtin_named}
+use Rattle.isle_types.specs.Builtins.{builtin_named}
 use Rattle.isle_declarations.specs.Signatures.{Signature, Extern, RuleDef, signature_of, extern_of, signatures, externs, rule_defs, signature_named, func_named}
 use Rattle.isle_declarations.specs.Heads.{terms_of, extern_terms}
 use Rattle.isle_declarations.specs.Repeats.{repeats_after}
 use Rattle.isle_sema.specs.BuiltForm.{is_built_form}
 use Rattle.isle_sema.specs.Tests.{has_undeclared}
-use Rattle.isle_sema.specs.Row as row
-use Rattle.isle_sema.specs.Row.{Row}
+use Rattle.isle_types.specs.declared.row.Row.TheVariants as row
+use Rattle.isle_types.specs.declared.row.Row.{Row}
 use Rattle.isle_sema.specs.Whole.{Whole}
 use Rattle.isle_sema.specs.Fault.{OfTypes, OfTerms, OfExtractors, broken_in, fault_after}
 use Rattle.isle_sema.specs.Environment.{whole_of}
@@ -21,10 +21,20 @@ use Rattle.isle_sema.proofs.Firsts.{first_none, none_first, later_none, none_lat
 
 -- ---- types
 
--- no definition breaks a row of types
-pub types_none : (w : Whole) (before ds : List Def) → fault_after OfTypes w before ds ≡ None
-types_none w before [] = refl
-types_none w before (d ∷ ds) = types_none w (before ++ d ∷ []) ds
+-- no definition that is built breaks a row of types
+pub types_none : (w : Whole) (before ds : List Def) → list_all is_built_form ds ≡ true → fault_after OfTypes w before ds ≡ None
+types_none w before [] f = refl
+types_none w before (tree.Decl term pure multi partial recursive args ret pos ∷ ds) f =
+    types_none w (before ++ tree.Decl term pure multi partial recursive args ret pos ∷ []) ds (and_parts (is_built_form (tree.Decl term pure multi partial recursive args ret pos)) (list_all is_built_form ds) f).1
+types_none w before (tree.ExternConstructor term func pos ∷ ds) f = types_none w (before ++ tree.ExternConstructor term func pos ∷ []) ds f
+types_none w before (tree.Rule name prio term args iflets rhs pos ∷ ds) f =
+    types_none w (before ++ tree.Rule name prio term args iflets rhs pos ∷ []) ds (and_parts (is_built_form (tree.Rule name prio term args iflets rhs pos)) (list_all is_built_form ds) f).1
+types_none w before (tree.TypeDecl name is_extern is_nodebug body pos ∷ ds) f = absurd cc
+types_none w before (tree.ExternExtractor term func infallible pos ∷ ds) f = absurd cc
+types_none w before (tree.ExternConst name ty pos ∷ ds) f = absurd cc
+types_none w before (tree.Extractor term params template pos ∷ ds) f = absurd cc
+types_none w before (tree.Converter from to term pos ∷ ds) f = absurd cc
+types_none w before (tree.Passed head items pos ∷ ds) f = types_none w (before ++ tree.Passed head items pos ∷ []) ds f
 
 -- ---- extractors
 

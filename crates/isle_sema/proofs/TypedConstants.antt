@@ -26,7 +26,7 @@ use Rattle.isle_core.specs.Constants.{int_value, int_of_def}
 use Rattle.isle_ast.specs.Tree.{Def}
 use Rattle.isle_declarations.specs.Symbols.{index_of}
 use Rattle.isle_declarations.proofs.SymbolLaws.{index_below}
-use Rattle.isle_sema.specs.Builtins.{builtins, builtin_names, type_id}
+use Rattle.isle_types.specs.Builtins.{builtins, builtin_names, type_id}
 use Rattle.isle_sema.specs.Reduced.{reduced, integer_by, typed_integer}
 use Rattle.isle_sema.specs.TypeNames.{is_bool_def, type_named, takes_truths}
 use Rattle.isle_sema.specs.Environment.{types_of}

@@ -36,7 +36,7 @@ use Rattle.isle_sema.specs.Whole.{Whole, declared, has_constructor}
 use Rattle.isle_sema.specs.Whole as whole
 use Rattle.isle_sema.specs.ExprPass.{call_tree, expr_before, expr_pass, exprs_pass}
 use Rattle.isle_sema.specs.RuleRows.{differ, is_other_type, is_misplaced, is_call_misfit, is_unknown, is_mistyped}
-use Rattle.isle_sema.specs.Context.{on}
+use Rattle.isle_types.specs.TypeRows.{on}
 use Rattle.isle_sema.specs.Environment.{types_of, whole_of, constructor_of}
 use Rattle.isle_sema.specs.Judging.{is_partial_call}
 use Rattle.isle_sema.specs.TypedRule.{IsExternalKind, IsExprOf, AreExprsOf}

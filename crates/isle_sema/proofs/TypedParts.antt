@@ -9,6 +9,7 @@ use Rattle.isle_core.specs.declared.types.TypeEnv.{TypeEnv}
 use Rattle.isle_core.specs.Rule.{Rule, Environment}
 use Rattle.isle_ast.specs.Tree.{Def}
 use Rattle.isle_declarations.specs.Signatures.{signatures, rule_defs}
+use Rattle.isle_types.specs.Fault.{type_fault}
 use Rattle.isle_sema.specs.Language.{is_built_def, rules_call_ruled}
 use Rattle.isle_sema.specs.RulePass.{rules_pass}
 use Rattle.isle_sema.specs.Fault.{OfTypes, OfTerms, OfExtractors, OfRules, or_later, fault_in}
@@ -20,6 +21,7 @@ use Rattle.isle_sema.proofs.Firsts.{stages_none}
 pub record IsTypedIn (defs : List Def) (env : Environment) : Type 0 where
   pub built : list_all is_built_def defs ≡ true
   pub unruled : rules_call_ruled (rule_defs defs) (rule_defs defs) ≡ false
+  pub types_kept : fault_in OfTypes (whole_of defs) ≡ None
   pub terms_kept : fault_in OfTerms (whole_of defs) ≡ None
   pub rules_kept : fault_in OfRules (whole_of defs) ≡ None
   pub types : env.types ≡ types_of defs
@@ -44,9 +46,14 @@ typed_in {defs = defs} {env = env} t =
     record {
       built = a.0;
       unruled = not-true (rules_call_ruled (rule_defs defs) (rule_defs defs)) a.1;
+      types_kept = s.0;
       terms_kept = u.0;
       rules_kept = v.1;
       types = e.0;
       terms = e.1;
       rules = e.2;
     }
+
+-- typed definitions have no fault of types and constants
+pub typed_types_sound : {defs : List Def} {env : Environment} → Typed defs env → type_fault defs ≡ None
+typed_types_sound t = (typed_in t).types_kept

@@ -17,9 +17,10 @@ use Rattle.isle_core.specs.StandsFor.{EachOnce}
 use Rattle.isle_core.proofs.Contained.{head_contained, tail_contained}
 use Rattle.isle_ast.specs.Tree as tree
 use Rattle.isle_ast.specs.Tree.{Pattern, Def}
-use Rattle.isle_declarations.specs.Symbols.{index_of, pattern_names}
+use Rattle.isle_declarations.specs.Symbols.{index_of}
+use Rattle.isle_sema.specs.VariableNames.{variable_names}
 use Rattle.isle_declarations.specs.Repeats.{repeats_after}
-use Rattle.isle_sema.specs.Builtins.{type_id}
+use Rattle.isle_types.specs.Builtins.{type_id}
 use Rattle.isle_sema.specs.Reduced.{typed_integer}
 use Rattle.isle_sema.specs.Scope.{Scope, scope_names, bound_at, met, variable}
 use Rattle.isle_sema.specs.Site.{TruthAt}
@@ -118,8 +119,8 @@ from_next n ms h = let here : n ≤ n = omega arith in record { least = (here, l
 
 -- a pattern adds a number where it is a variable alone
 NumbersOf : Scope → Pattern → CorePattern → Type 0
-NumbersOf scope p q = (w : Whole) (expected : Option TypeId) (ps : List Pattern) (qs : List CorePattern) → (pattern_pass w expected scope p).tree ≡ Some q → repeats_after (scope_names scope) (pattern_names p ++ flat_map pattern_names ps) ≡ false
-    → (repeats_after (scope_names (pattern_pass w expected scope p).scope) (flat_map pattern_names ps) ≡ false → AreFrom (length (pattern_pass w expected scope p).scope) (numbers qs)) → AreFrom (length scope) (numbers (q ∷ qs))
+NumbersOf scope p q = (w : Whole) (expected : Option TypeId) (ps : List Pattern) (qs : List CorePattern) → (pattern_pass w expected scope p).tree ≡ Some q → repeats_after (scope_names scope) (variable_names p ++ flat_map variable_names ps) ≡ false
+    → (repeats_after (scope_names (pattern_pass w expected scope p).scope) (flat_map variable_names ps) ≡ false → AreFrom (length (pattern_pass w expected scope p).scope) (numbers qs)) → AreFrom (length scope) (numbers (q ∷ qs))
 
 numbers_of : (scope : Scope) (p : Pattern) (q : CorePattern) → NumbersOf scope p q
 unfolding NumbersOf
@@ -132,14 +133,14 @@ numbers_of scope tree.Wildcard q w expected ps qs h apart rest =
     subst (λ x. AreFrom (length scope) (numbers (x ∷ qs))) m.is (rest apart)
 numbers_of scope (tree.Var name) q w expected ps qs h apart rest =
     let after = met scope name expected in
-    let k = or_parts (is_some (index_of (scope_names scope) name)) (repeats_after (scope_names scope ++ name ∷ []) (flat_map pattern_names ps)) apart in
+    let k = or_parts (is_some (index_of (scope_names scope) name)) (repeats_after (scope_names scope ++ name ∷ []) (flat_map variable_names ps)) apart in
     let m = mapped (λ (v : TypeId × VarId). core_pattern.Var v.0 v.1) (variable after name) q h in
     let v = variable_is (bound_at after name) (index_of (scope_names after) name) m.from m.there in
     let number : m.from.1.0 ≡ length scope = same_Some m.from.1.0 (length scope) (sym v.place_is ∙ place_new scope name expected k.0) in
     let new : after ≡ scope ++ (name, expected) ∷ [] = met_new scope name expected (unbound scope name k.0) in
     let names : scope_names after ≡ scope_names scope ++ name ∷ [] = ap scope_names new ∙ names_more scope name expected in
     let long : length after ≡ length scope + 1 = ap length new ∙ length-append scope ((name, expected) ∷ []) in
-    let others = rest (ap (λ ns. repeats_after ns (flat_map pattern_names ps)) names ∙ k.1) in
+    let others = rest (ap (λ ns. repeats_after ns (flat_map variable_names ps)) names ∙ k.1) in
     subst (λ x. AreFrom (length scope) (numbers (x ∷ qs))) m.is (subst (λ n. AreFrom (length scope) (n ∷ numbers qs)) (sym number) (from_next (length scope) (numbers qs) (subst (λ n. AreFrom n (numbers qs)) long others)))
 numbers_of scope (tree.Const name) q w expected ps qs h apart rest = absurd cc
 numbers_of scope (tree.Bind name p) q w expected ps qs h apart rest = absurd cc
@@ -147,7 +148,7 @@ numbers_of scope (tree.And ps) q w expected rs qs h apart rest = absurd cc
 numbers_of scope (tree.Term name ps) q w expected rs qs h apart rest = absurd cc
 
 -- the variables of patterns whose names don't repeat
-pub numbers_apart : (w : Whole) (expected : List (Option TypeId)) (scope : Scope) (ps : List Pattern) (qs : List CorePattern) → (patterns_pass w expected scope ps).trees ≡ Some qs → repeats_after (scope_names scope) (flat_map pattern_names ps) ≡ false
+pub numbers_apart : (w : Whole) (expected : List (Option TypeId)) (scope : Scope) (ps : List Pattern) (qs : List CorePattern) → (patterns_pass w expected scope ps).trees ≡ Some qs → repeats_after (scope_names scope) (flat_map variable_names ps) ≡ false
     → AreFrom (length scope) (numbers qs)
 unfolding NumbersOf
 numbers_apart w expected scope [] qs h apart = subst (λ (xs : List CorePattern). AreFrom (length scope) (numbers xs)) (same_Some [] qs h) (record { least = tt; once = tt })

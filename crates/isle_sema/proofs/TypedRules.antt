@@ -35,7 +35,7 @@ use Rattle.isle_sema.specs.PatternPass.{PatternsPass, patterns_pass}
 use Rattle.isle_sema.specs.ExprPass.{ExprPass, expr_pass}
 use Rattle.isle_sema.specs.RulePass.{patterns_of, right_side_of, conditions_of, rule_from, rule_pass, rules_pass}
 use Rattle.isle_sema.specs.RuleRows.{is_misplaced, is_met_otherwise, is_unknown, is_mistyped}
-use Rattle.isle_sema.specs.Context.{on}
+use Rattle.isle_types.specs.TypeRows.{on}
 use Rattle.isle_sema.specs.Environment.{whole_of, constructor_named}
 use Rattle.isle_sema.specs.Judging.{is_partial_call}
 use Rattle.isle_sema.specs.Taken.{row_of}

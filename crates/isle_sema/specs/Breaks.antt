@@ -1,20 +1,21 @@
 -- Whether a definition breaks a row of the typing table.
 use Rattle.std.specs.Prelude.{Bool, false, Option, Some, None}
 use Rattle.isle_ast.specs.Tree.{Def}
-use Rattle.isle_sema.specs.Row as row
-use Rattle.isle_sema.specs.Row.{Row}
+use Rattle.isle_types.specs.declared.row.Row.TheVariants as row
+use Rattle.isle_types.specs.declared.row.Row.{Row}
+use Rattle.isle_types.specs.TypeRows.{type_repeats, field_repeats, field_type_missing, many_fields, made_term_repeats, constant_misfit}
 use Rattle.isle_sema.specs.Context.{Context}
 use Rattle.isle_sema.specs.DeclarationRows.{declaration_repeats, type_missing, many_arguments, multi_and_partial, term_undeclared, second_of_term, head_misfit}
 use Rattle.isle_sema.specs.RuleRows.{pattern_term_misfit, literal_misfit, variable_type_misfit, expr_name_misfit, expr_type_misfit, partial_call, impure_call, multi_call, many_nodes}
 
 -- what a row refuses; nothing is said yet of the rows that no definition of a built form can break
 abbrev pub judge : Row → Option (Context → Def → Bool)
-judge row.TypeRepeats = None
-judge row.FieldRepeats = None
-judge row.FieldTypeMissing = None
-judge row.ManyFields = None
-judge row.MadeTermRepeats = None
-judge row.ConstantMisfit = None
+judge row.TypeRepeats = Some (λ (c : Context). type_repeats c.before)
+judge row.FieldRepeats = Some (λ (c : Context). field_repeats)
+judge row.FieldTypeMissing = Some (λ (c : Context). field_type_missing c.whole.defs)
+judge row.ManyFields = Some (λ (c : Context). many_fields)
+judge row.MadeTermRepeats = Some (λ (c : Context). made_term_repeats c.before)
+judge row.ConstantMisfit = Some (λ (c : Context). constant_misfit c.whole.defs c.before)
 judge row.DeclarationRepeats = Some declaration_repeats
 judge row.TypeMissing = Some type_missing
 judge row.ManyArguments = Some many_arguments

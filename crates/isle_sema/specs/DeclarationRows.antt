@@ -7,7 +7,8 @@ use Rattle.isle_declarations.specs.Signatures.{Signature, Extern, RuleDef, signa
 use Rattle.isle_declarations.specs.Heads.{terms_of, extern_terms}
 use Rattle.isle_sema.specs.TypeNames.{type_named}
 use Rattle.isle_sema.specs.Whole.{declared}
-use Rattle.isle_sema.specs.Context.{Context, on}
+use Rattle.isle_types.specs.TypeRows.{on}
+use Rattle.isle_sema.specs.Context.{Context}
 
 -- a declaration's name is that of an earlier declaration; made terms are not built
 abbrev pub declaration_repeats : Context → Def → Bool

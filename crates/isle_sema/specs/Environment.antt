@@ -10,7 +10,7 @@ use Rattle.isle_core.specs.declared.types.TypeEnv.{TypeEnv}
 use Rattle.isle_core.specs.Rule.{Rule as CoreRule, Environment}
 use Rattle.isle_ast.specs.Tree.{Def}
 use Rattle.isle_declarations.specs.Symbols.{symbols, sym_of}
-use Rattle.isle_sema.specs.Builtins.{builtins}
+use Rattle.isle_types.specs.Builtins.{builtins}
 use Rattle.isle_declarations.specs.Signatures.{Signature, signatures, externs, rule_defs, func_named, has_rule}
 use Rattle.isle_sema.specs.TypeNames.{type_named}
 use Rattle.isle_sema.specs.Whole.{Whole}

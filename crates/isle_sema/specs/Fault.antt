@@ -1,11 +1,13 @@
 -- The fault of a list of definitions: of the first stage in which one breaks a row, the first definition that does, and
 -- the lowest row that it breaks.
-use Rattle.std.specs.Prelude.{List, [], ◌∷◌, ◌++◌, Bool, true, false, Option, Some, None, option_map, if◌then◌else◌}
+use Rattle.std.specs.Prelude.{List, [], ◌∷◌, Bool, true, false, Option, None, if◌then◌else◌}
 use Rattle.isle_core.specs.declared.position.Pos.{Pos}
 use Rattle.isle_ast.specs.Tree.{Def, TypeDecl, Decl, ExternConstructor, ExternExtractor, ExternConst, Extractor, Converter, Rule, Passed}
-use Rattle.isle_ast.specs.Positions.{place_of}
-use Rattle.isle_sema.specs.Row as row
-use Rattle.isle_sema.specs.Row.{Row}
+use Rattle.isle_types.specs.declared.row.Row.TheVariants as row
+use Rattle.isle_types.specs.declared.row.Row.{Row}
+use Rattle.isle_types.specs.Fault as found
+use Rattle.isle_types.specs.Fault.{first_broken, type_rows}
+pub use Rattle.isle_types.specs.Fault.{or_later}
 use Rattle.isle_sema.specs.Whole.{Whole}
 use Rattle.isle_sema.specs.Context.{Context}
 use Rattle.isle_sema.specs.Breaks.{breaks}
@@ -19,7 +21,7 @@ pub data Stage : Type 0 where
 
 -- the rows of a stage, the lowest first
 abbrev pub rows_of : Stage → List Row
-rows_of OfTypes = row.TypeRepeats ∷ row.FieldRepeats ∷ row.FieldTypeMissing ∷ row.ManyFields ∷ row.MadeTermRepeats ∷ row.ConstantMisfit ∷ []
+rows_of OfTypes = type_rows
 rows_of OfTerms =
     row.DeclarationRepeats ∷ row.TypeMissing ∷ row.ManyArguments ∷ row.MultiAndPartial ∷ row.TermUndeclared
     ∷ row.SecondOfTerm ∷ row.InfallibleMulti ∷ row.ParametersMisfit ∷ row.ConverterMisfit ∷ row.HeadMisfit ∷ []
@@ -62,24 +64,13 @@ looks_at OfTerms d = true
 looks_at OfExtractors d = is_extractor d
 looks_at OfRules d = is_rule d
 
--- the first of these rows that a definition breaks
-abbrev pub first_broken : List Row → Context → Def → Option Row
-first_broken [] c d = None
-first_broken (r ∷ rows) c d = if breaks r c d then Some r else first_broken rows c d
-
 -- the row of a stage that a definition breaks
 abbrev pub broken_in : Stage → Context → Def → Option Row
-broken_in stage c d = if looks_at stage d then first_broken (rows_of stage) c d else None
-
--- the first of two, where there is one
-abbrev pub or_later : {X : Type 0} → Option X → Option X → Option X
-or_later None later = later
-or_later (Some first) later = Some first
+broken_in stage c d = if looks_at stage d then first_broken (λ (r : Row). breaks r c d) (rows_of stage) else None
 
 -- the fault of a stage in these definitions, which follow those
 abbrev pub fault_after : Stage → Whole → List Def → List Def → Option (Row × Pos)
-fault_after stage w before [] = None
-fault_after stage w before (d ∷ ds) = or_later (option_map (λ (r : Row). (r, place_of d)) (broken_in stage (record { whole = w; before = before }) d)) (fault_after stage w (before ++ d ∷ []) ds)
+fault_after stage w before ds = found.fault_after (λ bs d. broken_in stage (record { whole = w; before = bs }) d) before ds
 
 -- the fault of a stage
 abbrev pub fault_in : Stage → Whole → Option (Row × Pos)

@@ -2,10 +2,8 @@
 use Rattle.std.specs.Prelude.{ℕ, ◌+◌, ◌-◌, ◌^◌, List, length, Bool, false, ◌==◌, ◌&&◌, ◌||◌, not, Option, Some, None, fold, min, nat_le, if◌then◌else◌}
 use Rattle.isle_sema.specs.declared.judged.Judged.{Judged}
 use Rattle.isle_sema.specs.declared.known.Called.{Called}
-use Rattle.isle_sema.specs.declared.rows.Row.{Row as CodeRow}
-use Rattle.isle_sema.specs.declared.rows.Row.TheVariants as code
-use Rattle.isle_sema.specs.Row as row
-use Rattle.isle_sema.specs.Row.{Row}
+use Rattle.isle_types.specs.declared.row.Row.TheVariants as row
+use Rattle.isle_types.specs.declared.row.Row.{Row}
 use Rattle.isle_declarations.specs.Signatures.{Signature, rule_defs, has_rule}
 use Rattle.isle_sema.specs.Site.{Site}
 use Rattle.isle_sema.specs.Whole.{Whole}
@@ -48,18 +46,6 @@ judge w j site = record {
 -- these parts more
 abbrev pub judge_all : Whole → Judged → List Site → Judged
 judge_all w j sites = fold (judge w) j sites
-
--- a row that the code names
-abbrev pub seen_row : CodeRow → Row
-seen_row code.PatternTermMisfit = row.PatternTermMisfit
-seen_row code.LiteralMisfit = row.LiteralMisfit
-seen_row code.VariableTypeMisfit = row.VariableTypeMisfit
-seen_row code.ExprNameMisfit = row.ExprNameMisfit
-seen_row code.ExprTypeMisfit = row.ExprTypeMisfit
-seen_row code.PartialCall = row.PartialCall
-seen_row code.ImpureCall = row.ImpureCall
-seen_row code.MultiCall = row.MultiCall
-seen_row code.ManyNodes = row.ManyNodes
 
 -- the lowest row that a rule of this term breaks, with so many patterns that are judged so, and its right side so
 abbrev pub lowest : Called → ℕ → Judged → Judged → Option Row

@@ -3,7 +3,7 @@ use Rattle.std.specs.Prelude.{List, [], ◌∷◌, Bool, true, false, ◌&&◌, 
 use Rattle.std.specs.List.{list_all, list_any}
 use Rattle.isle_ast.specs.Tree as tree
 use Rattle.isle_ast.specs.Tree.{Pattern, Expr, Exprs, NoExpr, AnExpr, IfLet, Def, TypeDecl, Decl, ExternConstructor, ExternExtractor, ExternConst, Extractor, Converter, Rule, Passed}
-use Rattle.isle_declarations.specs.Symbols.{pattern_names}
+use Rattle.isle_sema.specs.VariableNames.{variable_names}
 use Rattle.isle_declarations.specs.Signatures.{RuleDef, rule_defs}
 use Rattle.isle_sema.specs.Calls.{calls_ruled}
 use Rattle.isle_declarations.specs.Repeats.{repeats}
@@ -44,7 +44,7 @@ are_none (c ∷ cs) = false
 abbrev pub is_built_def : Def → Bool
 is_built_def (Decl term pure multi partial recursive args ret pos) = not pure && not multi && not recursive
 is_built_def (ExternConstructor term func pos) = true
-is_built_def (Rule name prio term args iflets rhs pos) = list_all is_built_pattern args && are_none iflets && is_built_expr rhs && not (repeats (flat_map pattern_names args))
+is_built_def (Rule name prio term args iflets rhs pos) = list_all is_built_pattern args && are_none iflets && is_built_expr rhs && not (repeats (flat_map variable_names args))
 is_built_def (TypeDecl name is_extern is_nodebug body pos) = false
 is_built_def (ExternExtractor term func infallible pos) = false
 is_built_def (ExternConst name ty pos) = false

@@ -1,6 +1,6 @@
-pub mod Builtins
 pub mod Reduced
 pub mod Calls
+pub mod VariableNames
 pub mod Language
 pub mod TypedRule
 pub mod TypeNames
@@ -10,7 +10,6 @@ pub mod Site
 pub mod PatternPass
 pub mod ExprPass
 pub mod RulePass
-pub mod Row
 pub mod Context
 pub mod DeclarationRows
 pub mod RuleRows

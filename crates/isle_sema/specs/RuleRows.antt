@@ -8,7 +8,8 @@ use Rattle.isle_sema.specs.TypeNames.{type_named, takes_integers, takes_truths}
 use Rattle.isle_sema.specs.Whole.{Whole, declared, has_constructor}
 use Rattle.isle_sema.specs.Site.{Site, IntegerAt, TruthAt, WildcardAt, MetAt, UsedAt, CalledAt, NotBuiltAt}
 use Rattle.isle_sema.specs.RulePass.{right_side_of, sites_of}
-use Rattle.isle_sema.specs.Context.{Context, on}
+use Rattle.isle_types.specs.TypeRows.{on}
+use Rattle.isle_sema.specs.Context.{Context}
 
 -- two types, both known, that differ; no converter is built
 abbrev pub differ : Option TypeId → Option TypeId → Bool

@@ -6,7 +6,7 @@ use Rattle.isle_core.specs.Rule.{Rule as CoreRule, Environment}
 use Rattle.isle_core.specs.RuleViews.{environment}
 use Rattle.isle_ast.specs.Tree.{Def, Rule}
 use Rattle.isle_declarations.specs.Signatures.{RuleDef}
-use Rattle.isle_sema.specs.Row.{Row}
+use Rattle.isle_types.specs.declared.row.Row.{Row}
 use Rattle.isle_sema.specs.Whole.{Whole}
 use Rattle.isle_sema.specs.PatternPass.{tree_before}
 use Rattle.isle_sema.specs.RulePass.{right_side_of, rule_pass}

@@ -10,7 +10,7 @@ use Rattle.isle_core.specs.declared.types.TypeDef.{TypeDef}
 use Rattle.isle_core.specs.declared.types.TypeDef.TheVariants.{Builtin, Primitive, Enum, Struct}
 use Rattle.isle_core.specs.declared.types.TypeEnv.{TypeEnv}
 use Rattle.isle_declarations.specs.Symbols.{index_of}
-use Rattle.isle_sema.specs.Builtins.{type_id}
+use Rattle.isle_types.specs.Builtins.{type_id}
 
 -- the text of a symbol
 abbrev pub text_of : TypeEnv → Sym → List ℕ

@@ -3,7 +3,7 @@
 ghost use Rattle.std.specs.Prelude.{◌≡◌, ◌∷◌, IfOk, true, flat_map, map};
 ghost use Rattle.std.specs.List.{list_any};
 ghost use Rattle.isle_ast.specs.Views.{pattern, defs as seen};
-ghost use Rattle.isle_declarations.specs.Symbols.{pattern_names};
+ghost use Rattle.isle_sema.specs.VariableNames.{variable_names};
 ghost use Rattle.isle_declarations.specs.Signatures.{rule_defs};
 ghost use Rattle.isle_declarations.specs.Repeats.{repeats, IsFound};
 ghost use Rattle.isle_sema.specs.Tests.{binds_twice};
@@ -15,7 +15,7 @@ use std::alloc::{AllocError, Global};
 // Whether a pattern is a variable that was met before; it is met now.
 #[tactic(auto, using(isle_ast::proofs::Sees::pattern_sees))]
 fn meets_again<'d>(before: &mut Symbols<'d>, p: &'d AstPattern) -> Result<bool, AllocError>
-    ensures { IfOk result (λ found. IsFound before.old before.new (pattern_names (pattern p.now)) found) }
+    ensures { IfOk result (λ found. IsFound before.old before.new (variable_names (pattern p.now)) found) }
 {
     match p {
         AstPattern::Var(name) => {
@@ -31,7 +31,7 @@ fn meets_again<'d>(before: &mut Symbols<'d>, p: &'d AstPattern) -> Result<bool, 
 
 // Whether a variable stands in two of the patterns.
 fn repeats_variable(alloc: Global, patterns: &[AstPattern]) -> Result<bool, AllocError>
-    ensures { IfOk result (λ found. found ≡ repeats (flat_map pattern_names (map pattern patterns.now))) }
+    ensures { IfOk result (λ found. found ≡ repeats (flat_map variable_names (map pattern patterns.now))) }
 {
     let mut before = Symbols::new(alloc);
     for p in patterns {

@@ -9,9 +9,9 @@ ghost use Rattle.isle_declarations.specs.Signatures.{signatures};
 ghost use Rattle.isle_sema.specs.Environment.{types_of, types_named, constructor_named, term_pass, terms_pass};
 ghost use Rattle.isle_sema.specs.Known.{whole};
 
-use crate::builtins::type_named;
 use isle_core::{ConstructorKind, ExtractorKind, List, Sym, Term, TermKind, Text, TypeId};
 use isle_declarations::{Declarations, Signature};
+use isle_types::type_named;
 use std::alloc::{AllocError, Global};
 
 // A term comes from its external constructor, or else from its rules, where it has some.

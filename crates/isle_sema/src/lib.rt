@@ -2,7 +2,6 @@
 #![tactic(auto)]
 
 mod bound_once;
-mod builtins;
 mod elaborated_exprs;
 mod elaborated_patterns;
 mod elaborated_rules;

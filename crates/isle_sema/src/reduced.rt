@@ -3,7 +3,7 @@
 ghost use Rattle.std.specs.Prelude.{◌≡◌, slice_get};
 ghost use Rattle.std.specs.Int.{w8, w16, w32, w64};
 ghost use Rattle.isle_core.specs.Int.{residue};
-ghost use Rattle.isle_sema.specs.Builtins.{builtins};
+ghost use Rattle.isle_types.specs.Builtins.{builtins};
 ghost use Rattle.isle_sema.specs.Reduced.{reduced, int_type_by};
 
 use isle_core::{IntType, TypeId};

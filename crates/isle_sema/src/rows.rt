@@ -1,29 +1,16 @@
 //! The row of the typing table that a rule breaks.
 
-ghost use Rattle.std.specs.Prelude.{◌≡◌, option_map};
-ghost use Rattle.isle_sema.specs.Judging.{seen_row, lowest};
+ghost use Rattle.std.specs.Prelude.{◌≡◌};
+ghost use Rattle.isle_sema.specs.Judging.{lowest};
 
 use crate::judged::Judged;
 use crate::known::Called;
-
-/// A row of the typing table that a rule may break.
-#[derive(Clone, Copy)]
-pub enum Row {
-    PatternTermMisfit,
-    LiteralMisfit,
-    VariableTypeMisfit,
-    ExprNameMisfit,
-    ExprTypeMisfit,
-    PartialCall,
-    ImpureCall,
-    MultiCall,
-    ManyNodes,
-}
+use isle_types::Row;
 
 /// Returns the lowest row that a rule of a term breaks, on so many patterns, by what its patterns and its right side are
 /// judged.
 pub fn lowest_row(own: &Called, count: usize, left: &Judged, right: &Judged) -> Option<Row>
-    ensures { option_map seen_row result ≡ lowest own.now count left.now right.now }
+    ensures { result ≡ lowest own.now count left.now right.now }
 {
     if count != own.args.len() {
         Some(Row::PatternTermMisfit)

@@ -2,15 +2,15 @@
 
 ghost use Rattle.std.specs.Prelude.{◌≡◌, ℕ, List, is_some};
 ghost use Rattle.std.specs.List.{list_all, list_any};
-ghost use Rattle.isle_sema.specs.Builtins.{builtin_named};
+ghost use Rattle.isle_types.specs.Builtins.{builtin_named};
 ghost use Rattle.isle_ast.specs.Views.{defs};
 ghost use Rattle.isle_declarations.specs.Signatures.{signatures};
 ghost use Rattle.isle_declarations.specs.Collected.{signature as seen};
 ghost use Rattle.isle_sema.specs.Tests.{is_misdeclared};
 
-use crate::builtins::type_named;
 use isle_core::Text;
 use isle_declarations::{Declarations, Signature};
+use isle_types::type_named;
 
 // Whether each of the names is that of a type.
 fn are_types(names: &[Text]) -> bool

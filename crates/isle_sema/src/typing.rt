@@ -1,24 +1,25 @@
-ghost use Rattle.std.specs.Prelude.{◌≡◌, Err, IfOk};
-ghost use Rattle.isle_core.specs.declared.types.TypeEnv.{TypeEnv as TheTypes};
-ghost use Rattle.isle_core.specs.Rule.{Environment};
+ghost use Rattle.std.specs.Prelude.{◌≡◌, IfOk, IfErr};
 ghost use Rattle.isle_core.specs.RuleViews.{environment};
 ghost use Rattle.isle_ast.specs.Views.{defs as seen};
-ghost use Rattle.isle_sema.specs.Environment.{types_of};
-ghost use Rattle.isle_sema.specs.Typing.{TypesFrom, Typed, TypedOnly};
+ghost use Rattle.isle_sema.specs.Taken.{IsTermEnvOf};
+ghost use Rattle.isle_sema.specs.Typing.{TypesFrom, TypedOnly, SomeTypes, SomeTyped, IsUntyped};
 
 use crate::bound_once::any_binds_twice;
 use crate::language::are_built_forms;
 use crate::term_env::term_env;
 use isle_ast::Def;
-use isle_core::{BuiltinType, IntType, List, TermEnv, TypeDef, TypeEnv};
-use isle_declarations::Declarations;
+use isle_core::{Error, OutOfMemory, TermEnv, TypeEnv};
+use isle_declarations::{Declarations, made_each};
+use isle_types::{check_types, type_env};
 use std::alloc::{AllocError, Global};
 
 /// Why definitions give no environment.
-#[derive(Clone, Copy, Debug, PartialEq, Eq)]
+#[derive(Debug, Drop)]
 pub enum EnvError {
     /// They are not all of the forms that are built, or one of them is wrong.
     NotYet,
+    /// The first type or constant that is wrong, by the lowest row that it breaks.
+    Typing(Error),
     Memory,
 }
 
@@ -33,58 +34,58 @@ impl From<AllocError> for EnvError {
     }
 }
 
-// The symbols, types and constants of definitions; of types and constants none is built.
-fn types_of(alloc: Global, declarations: &Declarations) -> Result<TypeEnv, AllocError>
-    ensures { IfOk result (λ env. env ≡ types_of (seen declarations.now)) }
-{
-    Ok(TypeEnv {
-        syms: List::new(declarations.symbols(alloc)?),
-        types: List::new(vec![in alloc;
-            TypeDef::Builtin(BuiltinType::Bool),
-            TypeDef::Builtin(BuiltinType::Int(IntType::U8)),
-            TypeDef::Builtin(BuiltinType::Int(IntType::U16)),
-            TypeDef::Builtin(BuiltinType::Int(IntType::U32)),
-            TypeDef::Builtin(BuiltinType::Int(IntType::U64)),
-            TypeDef::Builtin(BuiltinType::Int(IntType::U128)),
-            TypeDef::Builtin(BuiltinType::Int(IntType::USize)),
-            TypeDef::Builtin(BuiltinType::Int(IntType::I8)),
-            TypeDef::Builtin(BuiltinType::Int(IntType::I16)),
-            TypeDef::Builtin(BuiltinType::Int(IntType::I32)),
-            TypeDef::Builtin(BuiltinType::Int(IntType::I64)),
-            TypeDef::Builtin(BuiltinType::Int(IntType::I128)),
-            TypeDef::Builtin(BuiltinType::Int(IntType::ISize)),
-        ]?),
-        consts: List::new(Vec::new(alloc)),
-    })
+impl From<OutOfMemory> for EnvError {
+    ghost use Rattle.std.specs.Prelude.{◌≡◌};
+    ghost use Rattle.isle_sema.specs.declared.typing.EnvError.TheVariants.{Memory};
+
+    ghost from_gives = { λ _ e. e ≡ Memory };
+
+    fn from(_: OutOfMemory) -> Self {
+        EnvError::Memory
+    }
 }
 
-/// Types the definitions' symbols, types and constants (`specs/Typing.antt`). `NotYet` comes exactly where they are not all
-/// of forms that are built; beside it only want of memory.
+// The terms and rules of definitions: nothing where they are not all of forms that are built, or one is wrong.
+fn built_terms(alloc: Global, declarations: &Declarations) -> Result<Option<TermEnv>, AllocError>
+    ensures { IfOk result (λ found. IsTermEnvOf (seen declarations.now) found) }
+{
+    if !are_built_forms(declarations.defs()) {
+        return Ok(None);
+    }
+    if any_binds_twice(alloc, declarations)? {
+        return Ok(None);
+    }
+    term_env(alloc, declarations)
+}
+
+/// Types the definitions' symbols, types and constants, of all forms (`specs/Typing.antt`). `Typing` comes exactly where one of
+/// their types or constants is wrong, and tells the first by the lowest row that it breaks; beside it only want of memory:
+/// `NotYet` never comes.
 pub fn type_env_from_ast(alloc: Global, defs: &[Def]) -> Result<TypeEnv, EnvError>
     ensures ok { IfOk result (λ env. TypesFrom (seen defs.now) env) }
-    ensures not_yet { result ≡ Err EnvError.NotYet → (env : TheTypes) → TypesFrom (seen defs.now) env → ⊥ }
+    ensures err { IfErr result (λ e. IsUntyped (SomeTypes (seen defs.now)) e (seen defs.now)) }
 {
-    if !are_built_forms(defs) {
-        return Err(EnvError::NotYet);
-    }
-    let declarations = Declarations::gather(alloc, defs)?;
-    if any_binds_twice(alloc, &declarations)? {
-        return Err(EnvError::NotYet);
-    }
-    Ok(types_of(alloc, &declarations)?)
+    let made = made_each(alloc, defs)?;
+    let before = match check_types(alloc, defs, made.as_slice())? {
+        Ok(before) => before,
+        Err(error) => return Err(EnvError::Typing(error)),
+    };
+    let declarations = Declarations::gather(alloc, defs, made.as_slice())?;
+    Ok(type_env(alloc, &declarations, &before)?)
 }
 
-/// Types the terms, rules and converters of the definitions, whose types are given (`specs/Typing.antt`). `NotYet` comes as
-/// of `type_env_from_ast`, and where a rule calls a term without an external constructor, or a definition is wrong; beside it
-/// only want of memory.
+/// Types the terms, rules and converters of the definitions, whose types are given (`specs/Typing.antt`). `NotYet` comes where
+/// they are not all of forms that are built, a rule calls a term without an external constructor, or a definition is wrong;
+/// beside it only want of memory.
 pub fn term_env_from_ast(alloc: Global, env: &TypeEnv, defs: &[Def]) -> Result<TermEnv, EnvError>
     requires { TypesFrom (seen defs.now) env.now }
     ensures ok { IfOk result (λ terms. TypedOnly (seen defs.now) (environment env.now terms)) }
-    ensures not_yet { result ≡ Err EnvError.NotYet → (all : Environment) → Typed (seen defs.now) all → ⊥ }
+    ensures err { IfErr result (λ e. IsUntyped (SomeTyped (seen defs.now)) e (seen defs.now)) }
 {
     let _given = env;
-    let declarations = Declarations::gather(alloc, defs)?;
-    match term_env(alloc, &declarations)? {
+    let made = made_each(alloc, defs)?;
+    let declarations = Declarations::gather(alloc, defs, made.as_slice())?;
+    match built_terms(alloc, &declarations)? {
         Some(terms) => Ok(terms),
         None => Err(EnvError::NotYet),
     }
@@ -94,17 +95,16 @@ pub fn term_env_from_ast(alloc: Global, env: &TypeEnv, defs: &[Def]) -> Result<T
 /// looked up once where it stands. The errors are theirs.
 pub fn env_from_ast(alloc: Global, defs: &[Def]) -> Result<(TypeEnv, TermEnv), EnvError>
     ensures ok { IfOk result (λ envs. TypedOnly (seen defs.now) (environment envs.0 envs.1)) }
-    ensures not_yet { result ≡ Err EnvError.NotYet → (all : Environment) → Typed (seen defs.now) all → ⊥ }
+    ensures err { IfErr result (λ e. IsUntyped (SomeTyped (seen defs.now)) e (seen defs.now)) }
 {
-    if !are_built_forms(defs) {
-        return Err(EnvError::NotYet);
-    }
-    let declarations = Declarations::gather(alloc, defs)?;
-    if any_binds_twice(alloc, &declarations)? {
-        return Err(EnvError::NotYet);
-    }
-    match term_env(alloc, &declarations)? {
-        Some(terms) => Ok((types_of(alloc, &declarations)?, terms)),
+    let made = made_each(alloc, defs)?;
+    let before = match check_types(alloc, defs, made.as_slice())? {
+        Ok(before) => before,
+        Err(error) => return Err(EnvError::Typing(error)),
+    };
+    let declarations = Declarations::gather(alloc, defs, made.as_slice())?;
+    match built_terms(alloc, &declarations)? {
+        Some(terms) => Ok((type_env(alloc, &declarations, &before)?, terms)),
         None => Err(EnvError::NotYet),
     }
 }

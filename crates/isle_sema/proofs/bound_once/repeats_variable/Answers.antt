@@ -1,7 +1,6 @@
 use Rattle.std.proofs.Common.{sym, ap, ◌∙◌, cond, true, ◌+◌}
 use Rattle.isle_declarations.specs.Repeats.{repeats_after}
-use Rattle.isle_declarations.proofs.Interned.{names_from}
-use Rattle.isle_sema.proofs.MetVariables.{met_more}
+use Rattle.isle_sema.proofs.MetVariables.{names_from, met_more}
 use Rattle.isle_sema.proofs.bound_once.repeats_variable.Goals as goal
 
 pub returns-then-branch : goal.returns-then-branch

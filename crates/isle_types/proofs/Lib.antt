@@ -1,0 +1,4 @@
+pub mod KnownLaws
+pub mod BeforeLaws
+pub mod FaultLaws
+pub mod TypeSteps

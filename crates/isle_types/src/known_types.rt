@@ -1,0 +1,77 @@
+//! The types of definitions by their names.
+
+ghost use Rattle.std.specs.Prelude.{◌≡◌, List, [], ◌∷◌, ◌++◌, IfOk, OnOk};
+ghost use Rattle.isle_ast.specs.Views.{def, defs as seen};
+ghost use Rattle.isle_ast.specs.Tree.{Def as PureDef};
+ghost use Rattle.isle_types.specs.TypeNames.{is_primitive, is_type, is_scalar};
+ghost use Rattle.isle_types.specs.Gathered.{AreKnown};
+
+use crate::builtins::type_named;
+use isle_ast::{AstBody, Def};
+use isle_core::Text;
+use isle_declarations::type_of;
+use std::alloc::{AllocError, Global};
+use std::collections::BTreeMap;
+
+/// The types that definitions declare, by their names, and whether the first of a name is primitive.
+#[derive(Drop)]
+pub struct KnownTypes<'d> {
+    primitive: BTreeMap<&'d str, bool>,
+}
+
+// Whether a type stands for one of Rust's.
+fn is_primitive(body: &AstBody) -> bool
+    ensures { result ≡ is_primitive body.now }
+{
+    match body {
+        AstBody::Primitive(_) => true,
+        AstBody::Enum(_) => false,
+        AstBody::Struct(_) => false,
+    }
+}
+
+impl<'d> KnownTypes<'d> {
+    /// Gathers the types of definitions. The only error is want of memory.
+    pub fn gather(alloc: Global, defs: &'d [Def]) -> Result<KnownTypes<'d>, AllocError>
+        ensures { IfOk result (λ known. AreKnown (seen defs.now) known) }
+    {
+        let mut known = KnownTypes {
+            primitive: BTreeMap::new(alloc),
+        };
+        for given in defs {
+            known.declare(given)?;
+        }
+        Ok(known)
+    }
+
+    // Adds the type that a definition declares, where it is the first of its name.
+    fn declare(&mut self, given: &'d Def) -> Result<(), AllocError>
+        ensures { OnOk result ((before : List PureDef) → AreKnown before self.old → AreKnown (before ++ def given.now ∷ []) self.new) }
+    {
+        if let Some((name, body)) = type_of(given) {
+            if self.primitive.contains_key(name.as_str()) {
+                return Ok(());
+            }
+            self.primitive.insert(name.as_str(), is_primitive(body))?;
+        }
+        Ok(())
+    }
+
+    /// Tells whether a name is that of a type.
+    pub fn is_type(&self, name: &Text) -> bool
+        ensures { (defs : List PureDef) → AreKnown defs self.now → result ≡ is_type defs name.now }
+    {
+        type_named(name.as_str()).is_some() || self.primitive.contains_key(name.as_str())
+    }
+
+    /// Tells whether it is that of a builtin or a primitive type.
+    pub fn is_scalar(&self, name: &Text) -> bool
+        ensures { (defs : List PureDef) → AreKnown defs self.now → result ≡ is_scalar defs name.now }
+    {
+        type_named(name.as_str()).is_some()
+            || match self.primitive.get(name.as_str()) {
+                Some(primitive) => *primitive,
+                None => false,
+            }
+    }
+}

@@ -1,0 +1,80 @@
+//! What is wrong with a definition, and how it is told.
+
+ghost use Rattle.std.specs.Prelude.{◌≡◌};
+ghost use Rattle.isle_types.specs.Gathered.{misfit_row};
+
+use crate::row::Row;
+use isle_core::{OutOfMemory, Text};
+use std::alloc::Global;
+
+/// What is wrong with a type or a constant, with the names concerned.
+#[derive(Clone, Copy)]
+pub enum Misfit<'d> {
+    TypeTwice(&'d Text),
+    VariantTwice(&'d Text),
+    FieldTwice(&'d Text),
+    TypeMissing(&'d Text),
+    ManyFields(&'d Text),
+    TermTwice(&'d Text),
+    ConstantTwice(&'d Text),
+    /// A constant, and its type's name.
+    NotScalar(&'d Text, &'d Text),
+}
+
+impl<'d> Misfit<'d> {
+    /// Returns the row of the typing table that it is of.
+    pub fn row(&self) -> Row
+        ensures { result ≡ misfit_row self.now }
+    {
+        match self {
+            Misfit::TypeTwice(_) => Row::TypeRepeats,
+            Misfit::VariantTwice(_) => Row::FieldRepeats,
+            Misfit::FieldTwice(_) => Row::FieldRepeats,
+            Misfit::TypeMissing(_) => Row::FieldTypeMissing,
+            Misfit::ManyFields(_) => Row::ManyFields,
+            Misfit::TermTwice(_) => Row::MadeTermRepeats,
+            Misfit::ConstantTwice(_) => Row::ConstantMisfit,
+            Misfit::NotScalar(_, _) => Row::ConstantMisfit,
+        }
+    }
+
+    /// Tells it in words, for the user: no clause speaks of them.
+    pub fn words(&self, alloc: Global) -> Result<Text, OutOfMemory> {
+        match self {
+            Misfit::TypeTwice(name) => told(alloc, "type '", name, "' is declared twice"),
+            Misfit::VariantTwice(name) => told(alloc, "variant '", name, "' is declared twice"),
+            Misfit::FieldTwice(name) => told(alloc, "field '", name, "' is declared twice"),
+            Misfit::TypeMissing(name) => told(alloc, "type '", name, "' is not declared"),
+            Misfit::ManyFields(name) => told(alloc, "'", name, "' has more than 256 fields"),
+            Misfit::TermTwice(name) => told(alloc, "term '", name, "' is made twice"),
+            Misfit::ConstantTwice(name) => told(alloc, "constant '", name, "' is declared twice"),
+            Misfit::NotScalar(name, ty) => not_scalar(alloc, name, ty),
+        }
+    }
+}
+
+// Words around a name; a byte below 32 in it is told as `?`.
+fn told(alloc: Global, before: &str, name: &Text, behind: &str) -> Result<Text, OutOfMemory> {
+    let mut words = String::from_str(alloc, before)?;
+    push_name(&mut words, name)?;
+    words.push_str(behind)?;
+    Ok(Text::new(words))
+}
+
+// That a constant's type is not one that a constant may have.
+fn not_scalar(alloc: Global, name: &Text, ty: &Text) -> Result<Text, OutOfMemory> {
+    let mut words = String::from_str(alloc, "constant '")?;
+    push_name(&mut words, name)?;
+    words.push_str("' has the type '")?;
+    push_name(&mut words, ty)?;
+    words.push_str("', which is neither builtin nor primitive")?;
+    Ok(Text::new(words))
+}
+
+// Adds a name.
+fn push_name(words: &mut String, name: &Text) -> Result<(), OutOfMemory> {
+    for letter in name.as_str().chars() {
+        words.push(if letter < ' ' { '?' } else { letter })?;
+    }
+    Ok(())
+}
