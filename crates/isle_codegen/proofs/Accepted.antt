@@ -7,18 +7,24 @@ use Rattle.isle_core.specs.Rule.{Environment}
 use Rattle.isle_ast.specs.Tree.{Def}
 use Rattle.isle_sema.specs.Typing.{Typed}
 use Rattle.isle_sema.proofs.TypedOnce.{typed_once}
-use Rattle.isle_checks.specs.CheckList.{IsCheckList}
+use Rattle.isle_sema.proofs.TypedParts.{typed_types_sound}
+use Rattle.isle_types.proofs.FaultLaws.{untold}
+use Rattle.isle_checks.specs.CheckList.{IsCheckList, IsClean}
 use Rattle.isle_checks.proofs.ListOnce.{none_wrong}
 use Rattle.isle_codegen.specs.Checked.{IsChecked}
-use Rattle.isle_codegen.specs.Errors.{HaveErrors, of_parsing, of_rules, IsErrors}
+use Rattle.isle_codegen.specs.Errors.{HaveErrors, HaveDefErrors, of_parsing, of_defs, of_types, of_rules, IsErrors}
 use Rattle.isle_codegen.proofs.Sources.{wrong_unspelt}
 use Rattle.isle_codegen.specs.Source.{AreAccepted}
 
+none_of_defs : (names : List (List ℕ)) (defs : List Def) (env : Environment) (errors : List Error) → Typed defs env → IsClean env → HaveDefErrors names defs errors → ⊥
+none_of_defs names defs env errors typed clean (of_types h) = untold defs h.error (typed_types_sound typed) h.told
+none_of_defs names defs env errors typed clean (of_rules named h) =
+    h.some (none_wrong env errors clean (subst (λ (e : Environment). IsCheckList e errors) (typed_once typed h.compilable.typed) h.list))
+
 none_have : (names texts : List (List ℕ)) (errors : List Error) → AreAccepted texts → HaveErrors names texts errors → ⊥
 none_have names texts errors a (of_parsing pos wrong one) = wrong_unspelt 0 texts pos a.defs wrong a.source
-none_have names texts errors a (of_rules defs source once named h) =
-    let typed : Typed defs a.env = subst (λ (ds : List Def). Typed ds a.env) (once a.defs a.source) a.compilable.typed in
-    h.some (none_wrong a.env errors a.clean (subst (λ (env : Environment). IsCheckList env errors) (typed_once typed h.compilable.typed) h.list))
+none_have names texts errors a (of_defs defs source once h) =
+    none_of_defs names defs a.env errors (subst (λ (ds : List Def). Typed ds a.env) (once a.defs a.source) a.compilable.typed) a.clean h
 
 -- texts that are accepted have no errors
 pub accepted_none : (names texts : List (List ℕ)) (e : Errors) → AreAccepted texts → IsErrors e names texts → ⊥

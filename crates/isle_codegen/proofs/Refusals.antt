@@ -1,5 +1,5 @@
 -- Refusals of the texts of files.
-use Rattle.std.proofs.Common.{◌≡◌, ◌⊎◌, inl, inr, ⊎_elim, ℕ, List, [], ◌∷◌, length, true, Result, Ok, Err, Option, refl, sym, subst}
+use Rattle.std.proofs.Common.{◌≡◌, ◌⊎◌, inl, inr, ⊎_elim, ℕ, List, [], ◌∷◌, length, true, Result, Ok, Err, Option, Some, refl, sym, subst}
 use Rattle.std.specs.Prelude.{All, IfErr, IfSome}
 use Rattle.std.proofs.lemmas.List.Elements.{All-from_recursion}
 use Rattle.isle_outside.specs.Directory.{Contents, Counts}
@@ -13,6 +13,11 @@ use Rattle.isle_core.specs.declared.files.Files.{Files}
 use Rattle.isle_core.specs.Inputs.{AreRead}
 use Rattle.isle_core.specs.Rule.{Environment}
 use Rattle.isle_ast.specs.Tree.{Def}
+use Rattle.isle_types.specs.Fault.{type_fault}
+use Rattle.isle_sema.specs.declared.typing.EnvError.{EnvError}
+use Rattle.isle_sema.specs.declared.typing.EnvError.TheVariants as env_error
+use Rattle.isle_sema.specs.Typing.{SomeTyped, IsUntyped}
+use Rattle.isle_types.specs.Gathered.{TellsTyping}
 use Rattle.isle_checks.specs.CheckList.{IsCheckList}
 use Rattle.isle_checks.proofs.PlacedErrors.{errors_placed}
 use Rattle.isle_codegen.specs.declared.compile_error.CompileError.{CompileError}
@@ -21,21 +26,21 @@ use Rattle.isle_codegen.specs.declared.file_error.FileError.{FileError}
 use Rattle.isle_codegen.specs.declared.file_error.FileError.TheVariants as error
 use Rattle.isle_codegen.specs.Causes.{printed, of_texts, IsNotOfIt, IsUncompiled, IsRefusal, AllTried, HasCause}
 use Rattle.isle_codegen.specs.Emission.{DefsArePlaced}
-use Rattle.isle_codegen.specs.Errors.{IsErrors, TellsParseError, of_parsing, of_rules}
+use Rattle.isle_codegen.specs.Errors.{IsErrors, TellsParseError, of_parsing, of_defs as of_source, of_types, of_rules}
 use Rattle.isle_codegen.specs.Names.{are_file_names}
-use Rattle.isle_codegen.specs.Source.{Source, GoesWrong, IsCompilable, InLanguage}
-use Rattle.isle_codegen.proofs.Placed.{rules_placed, wrong_placed}
+use Rattle.isle_codegen.specs.Source.{Source, GoesWrong, IsCompilable, SomeCompilable, InLanguage}
+use Rattle.isle_codegen.proofs.Placed.{rules_placed, wrong_placed, typing_placed}
 
 -- why texts give no text, where the definitions that they spell give none
 pub of_defs : (e : CompileError) (names texts : List (List ℕ)) (defs : List Def) → Source 0 texts defs → ((others : List Def) → Source 0 texts others → others ≡ defs) → IsUncompiled e (record { file_names = names; file_texts = texts }) defs
     → IsRefusal (of_texts e) names texts
 of_defs compile_error.NotYet names texts defs source once h = (
-  (defs, source),
+  (defs, source, h.0),
   ⊎_elim
-      (λ (never : (env : Environment) → IsCompilable defs env → ⊥). inl (λ (l : InLanguage texts). never l.1 (subst (λ ds. IsCompilable ds l.1) (once l.0 l.2) l.3)))
-      (λ bad. inr bad) h,
+      (λ (never : SomeCompilable defs → ⊥). inl (λ (l : InLanguage texts). never (l.1, subst (λ ds. IsCompilable ds l.1) (once l.0 l.2) l.3)))
+      (λ bad. inr bad) h.1,
 )
-of_defs (compile_error.Errors errors) names texts defs source once h = record { told = h.told; cause = of_rules defs source once h.named h.cause }
+of_defs (compile_error.Errors errors) names texts defs source once h = record { told = h.told; cause = of_source defs source once h.cause }
 of_defs (compile_error.Name name) names texts defs source once h = absurd h
 of_defs compile_error.Memory names texts defs source once h = tt
 
@@ -59,8 +64,18 @@ told_errors e files defs env errors is compilable placed named list some = ⊎_e
     (λ s. subst (λ x. IsUncompiled x files defs) (sym s) tt)
     (λ s. subst (λ x. IsUncompiled x files defs) (sym s) (record {
       told = record { given = refl; placed = errors_placed files env errors (rules_placed files defs env compilable.typed placed) list };
-      named = named;
-      cause = record { env = env; compilable = compilable; list = list; some = some };
+      cause = of_rules named (record { env = env; compilable = compilable; list = list; some = some });
+    }))
+    is
+
+-- the one error of a fault of types or constants, in which the definitions stand
+pub typing_told : (e : CompileError) (files : Files) (defs : List Def) (error : Error) → (e ≡ compile_error.Memory) ⊎ (e ≡ compile_error.Errors (record { errors = error ∷ []; files = files })) → DefsArePlaced files defs → TellsTyping (type_fault defs) (Some error)
+    → IsUncompiled e files defs
+typing_told e files defs error is placed told = ⊎_elim
+    (λ s. subst (λ x. IsUncompiled x files defs) (sym s) tt)
+    (λ s. subst (λ x. IsUncompiled x files defs) (sym s) (record {
+      told = record { given = refl; placed = All-from_recursion (IsPlaced files) (error ∷ []) (typing_placed files defs error placed told, tt) };
+      cause = of_types (record { error = error; told = told; one = refl });
     }))
     is
 
@@ -73,3 +88,9 @@ read_causes (Err error.Memory) options files inputs names texts before after is 
 read_causes (Err (error.Io index why)) options files inputs names texts before after is tried read h = absurd h
 read_causes (Err (error.Errors errors)) options files inputs names texts before after is tried read h = (tried, record { texts = texts; read = read; errors = subst (λ (ns : List (List ℕ)). IsErrors errors ns texts) is h })
 read_causes (Err (error.Name name)) options files inputs names texts before after is tried read h = absurd h
+
+-- what gives no environment gives none that may be emitted
+pub uncompilable : (e : EnvError) (defs : List Def) → IsUntyped (SomeTyped defs) e defs → IsUntyped (SomeCompilable defs) e defs
+uncompilable (env_error.Typing error) defs h = h
+uncompilable env_error.NotYet defs h = (h.0, λ c. h.1 (c.0, c.1.typed))
+uncompilable env_error.Memory defs h = tt

@@ -1,5 +1,5 @@
 -- What compiling files answers, and why.
-use Rattle.std.specs.Prelude.{◌≡◌, ℕ, ◌⊎◌, List, length, map, false, Option, IfSome}
+use Rattle.std.specs.Prelude.{◌≡◌, ℕ, ◌⊎◌, List, length, map, false, Option, None, IfSome}
 use Rattle.isle_outside.specs.Directory.{Contents, Counts}
 use Rattle.isle_core.specs.declared.options.CodegenOptions.{CodegenOptions}
 use Rattle.isle_core.specs.declared.errors.Errors.{Errors as ErrorList}
@@ -7,24 +7,25 @@ use Rattle.isle_core.specs.declared.files.Files.{Files as FileTexts}
 use Rattle.isle_core.specs.declared.read_error.ReadError.TheVariants as read
 use Rattle.isle_core.specs.Inputs.{AreRead, Fails, IsTried}
 use Rattle.isle_core.specs.Printed.{shown}
-use Rattle.isle_core.specs.Rule.{Environment}
 use Rattle.isle_ast.specs.Tree.{Def}
+use Rattle.isle_types.specs.Fault.{type_fault}
 use Rattle.isle_codegen.specs.declared.compile_error.CompileError.{CompileError}
 use Rattle.isle_codegen.specs.declared.compile_error.CompileError.TheVariants as compile_error
 use Rattle.isle_codegen.specs.declared.file_error.FileError.{FileError}
 use Rattle.isle_codegen.specs.declared.file_error.FileError.TheVariants as error
 use Rattle.isle_codegen.specs.Errors.{IsErrors, AreErrorsOfDefs}
 use Rattle.isle_codegen.specs.Names.{are_file_names}
-use Rattle.isle_codegen.specs.Source.{Source, AreSpelt, IsCompilable, InLanguage}
+use Rattle.isle_codegen.specs.Source.{Source, AreSpelt, SomeCompilable, InLanguage}
 use Rattle.isle_codegen.specs.Headline.{HasHeadline}
 
 -- the names of the inputs, as printed
 abbrev pub printed : CodegenOptions → List (List ℕ) → List (List ℕ)
 printed options names = map (shown options.prefixes) names
 
--- the definitions are not built, have a fault, or a name of theirs or of a file may not be emitted
+-- the definitions' types and constants have no fault, and they are not built, have another fault, or a name of theirs or of
+-- a file may not be emitted
 abbrev pub AreNotCompilable : FileTexts → List Def → Type 0
-AreNotCompilable files defs = ((env : Environment) → IsCompilable defs env → ⊥) ⊎ (are_file_names files.file_names ≡ false)
+AreNotCompilable files defs = (type_fault defs ≡ None) × ((SomeCompilable defs → ⊥) ⊎ (are_file_names files.file_names ≡ false))
 
 -- why definitions over files give no text
 abbrev pub IsUncompiled : CompileError → FileTexts → List Def → Type 0
@@ -46,7 +47,8 @@ pub record IsCompiled (options : CodegenOptions) (files : Contents) (names : Lis
   pub read : AreRead files names texts
   pub compiles : CompilesTo options (record { file_names = printed options names; file_texts = texts }) text
 
--- the texts spell definitions, and are not of the language, or a name as printed may not be emitted
+-- the texts spell definitions without a fault of types or constants, and are not of the language, or a name as printed may
+-- not be emitted
 abbrev pub IsNotOfIt : List (List ℕ) → List (List ℕ) → Type 0
 IsNotOfIt names texts = AreSpelt texts × ((InLanguage texts → ⊥) ⊎ (are_file_names names ≡ false))
 

@@ -1,5 +1,5 @@
 -- The errors of definitions, and of the texts that spell them.
-use Rattle.std.specs.Prelude.{◌≡◌, ℕ, List, [], ◌∷◌, All, true}
+use Rattle.std.specs.Prelude.{◌≡◌, ℕ, List, [], ◌∷◌, All, true, Option, Some}
 use Rattle.isle_core.specs.declared.errors.Error.{Error}
 use Rattle.isle_core.specs.declared.errors.Error.TheVariants as error
 use Rattle.isle_core.specs.declared.position.Pos.{Pos}
@@ -9,6 +9,8 @@ use Rattle.isle_core.specs.declared.files.Files.{Files}
 use Rattle.isle_core.specs.ErrorLines.{IsPlaced}
 use Rattle.isle_core.specs.Rule.{Environment}
 use Rattle.isle_ast.specs.Tree.{Def}
+use Rattle.isle_types.specs.Fault.{type_fault}
+use Rattle.isle_types.specs.Gathered.{TellsTyping}
 use Rattle.isle_checks.specs.CheckList.{IsCheckList}
 use Rattle.isle_codegen.specs.declared.file_error.FileError.{FileError}
 use Rattle.isle_codegen.specs.declared.file_error.FileError.TheVariants as file
@@ -38,12 +40,23 @@ pub record IsParseError (pos : Pos) (errors : List Error) : Type 0 where
   pub begins : span.from ≡ pos
   pub one : errors ≡ error.ParseError words span ∷ []
 
+-- the definitions' types or constants have a fault, which the one error tells
+pub record HasTypeError (defs : List Def) (errors : List Error) : Type 0 where
+  pub error : Error
+  pub told : TellsTyping (type_fault defs) (Some error)
+  pub one : errors ≡ error ∷ []
+
+-- why definitions of files with these printed names have these errors: of types or constants; or of rules, where the names may
+-- be emitted
+pub data HaveDefErrors (names : List (List ℕ)) (defs : List Def) (errors : List Error) : Type 0 where
+  of_types : HasTypeError defs errors → HaveDefErrors names defs errors
+  of_rules : are_file_names names ≡ true → HasCheckErrors defs errors → HaveDefErrors names defs errors
+
 -- why texts of files with these printed names have these errors: the first text that goes wrong does so at the place of the
--- one error; or they spell definitions, and no others, that have them, and the names may be emitted
+-- one error; or they spell definitions, and no others, that have them
 pub data HaveErrors (names texts : List (List ℕ)) (errors : List Error) : Type 0 where
   of_parsing : (pos : Pos) → GoesWrong 0 texts pos → IsParseError pos errors → HaveErrors names texts errors
-  of_rules : (defs : List Def) → Source 0 texts defs → ((others : List Def) → Source 0 texts others → others ≡ defs) → are_file_names names ≡ true → HasCheckErrors defs errors
-      → HaveErrors names texts errors
+  of_defs : (defs : List Def) → Source 0 texts defs → ((others : List Def) → Source 0 texts others → others ≡ defs) → HaveDefErrors names defs errors → HaveErrors names texts errors
 
 -- the errors of texts of files with these printed names
 pub record IsErrors (e : ErrorList) (names texts : List (List ℕ)) : Type 0 where
@@ -58,8 +71,7 @@ TellsParseError file.NotYet files pos = ⊥
 TellsParseError (file.Io index why) files pos = ⊥
 TellsParseError (file.Name name) files pos = ⊥
 
--- the errors of definitions over files, whose names may be emitted
+-- the errors of definitions over files
 pub record AreErrorsOfDefs (e : ErrorList) (files : Files) (defs : List Def) : Type 0 where
   pub told : AreToldIn files e
-  pub named : are_file_names files.file_names ≡ true
-  pub cause : HasCheckErrors defs e.errors
+  pub cause : HaveDefErrors files.file_names defs e.errors

@@ -1,9 +1,10 @@
 -- The definitions that texts spell together.
-use Rattle.std.specs.Prelude.{◌≡◌, ℕ, ◌+◌, List, [], ◌∷◌, ◌++◌, true}
+use Rattle.std.specs.Prelude.{◌≡◌, ℕ, ◌+◌, List, [], ◌∷◌, ◌++◌, true, Option, None}
 use Rattle.isle_core.specs.Rule.{Environment}
 use Rattle.isle_ast.specs.Tree.{Def}
 use Rattle.isle_core.specs.declared.position.Pos.{Pos}
 use Rattle.isle_grammar.specs.Spelling.{Spells, IsTextFault}
+use Rattle.isle_types.specs.Fault.{type_fault}
 use Rattle.isle_sema.specs.Typing.{Typed}
 use Rattle.isle_checks.specs.CheckList.{IsClean}
 use Rattle.isle_codegen.specs.Names.{are_term_names}
@@ -14,9 +15,9 @@ abbrev pub Source : ℕ → List (List ℕ) → List Def → Type 0
 Source file [] defs = defs ≡ []
 Source file (text ∷ texts) defs = (ds : List Def) × (es : List Def) × Spells file text ds × Source (file + 1) texts es × (defs ≡ ds ++ es)
 
--- they spell some definitions
+-- they spell some definitions, whose types and constants have no fault
 abbrev pub AreSpelt : List (List ℕ) → Type 0
-AreSpelt texts = (defs : List Def) × Source 0 texts defs
+AreSpelt texts = (defs : List Def) × Source 0 texts defs × (type_fault defs ≡ None)
 
 -- of the texts, read as the files from that number on, the first that spells no definitions goes wrong at this place
 pub data GoesWrong : ℕ → List (List ℕ) → Pos → Type 0 where
@@ -28,6 +29,10 @@ pub record IsCompilable (defs : List Def) (env : Environment) : Type 0 where
   pub typed : Typed defs env
   pub names : are_term_names env ≡ true
   pub fns : HasFnNames env
+
+-- some environment makes them so
+abbrev pub SomeCompilable : List Def → Type 0
+SomeCompilable defs = (env : Environment) × IsCompilable defs env
 
 -- the texts are of the language: they spell such definitions
 abbrev pub InLanguage : List (List ℕ) → Type 0

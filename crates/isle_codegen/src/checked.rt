@@ -1,12 +1,12 @@
-ghost use Rattle.std.specs.Prelude.{◌≡◌, ◌⊎◌, true, length, Err, IfOk, IfErr};
-ghost use Rattle.isle_core.specs.Rule.{Environment};
+ghost use Rattle.std.specs.Prelude.{◌≡◌, ◌⊎◌, List as ListOf, [], ◌∷◌, true, length, IfOk, IfErr};
 ghost use Rattle.isle_core.specs.RuleViews.{environment};
+ghost use Rattle.isle_ast.specs.Tree.{Def as Defs};
 ghost use Rattle.isle_ast.specs.Views.{defs as seen};
-ghost use Rattle.isle_sema.specs.Typing.{TypedOnly};
+ghost use Rattle.isle_sema.specs.Typing.{TypedOnly, IsUntyped};
 ghost use Rattle.isle_rulesets.specs.Grouping.{AreRuleSets};
 ghost use Rattle.isle_simulation.specs.TraitFns.{trait_fns_of};
 ghost use Rattle.isle_codegen.specs.Emission.{IsGiven, ArePlaced, DefsArePlaced};
-ghost use Rattle.isle_codegen.specs.Source.{IsCompilable};
+ghost use Rattle.isle_codegen.specs.Source.{IsCompilable, SomeCompilable};
 ghost use Rattle.isle_codegen.specs.Checked.{IsChecked};
 ghost use Rattle.isle_codegen.specs.Names.{are_file_names};
 ghost use Rattle.isle_codegen.specs.Causes.{IsRefusal, IsUncompiled};
@@ -69,14 +69,13 @@ pub fn check_defs(
     ensures fns { IfOk result (λ c. c.1.items ≡ trait_fns_of (environment c.0.typeenv c.0.termenv)) }
     ensures err { IfErr result (λ e. IsUncompiled e files.now (seen defs.now)) }
 {
+    let (typeenv, termenv, fns) = match emittable(alloc, defs) {
+        Ok(envs) => envs,
+        Err(fail) => return Err(untyped(alloc, files, fail)),
+    };
     if !are_file_names(files.file_names.as_slice()) {
         return Err(CompileError::NotYet);
     }
-    let (typeenv, termenv, fns) = match emittable(alloc, defs) {
-        Ok(envs) => envs,
-        Err(EnvError::NotYet) => return Err(CompileError::NotYet),
-        Err(EnvError::Memory) => return Err(CompileError::Memory),
-    };
     match overlap::check(alloc, &termenv) {
         Ok(terms) => {
             let checked = Checked {
@@ -101,13 +100,35 @@ fn told(alloc: Global, files: &Files, errors: List<Error>) -> CompileError
     }
 }
 
-// The environment of the definitions, with the functions of the trait. `NotYet` comes exactly where they are not of the
-// language that is built, or the name of a term or of an external function may not be emitted.
+// The one error, with the files that it stands in.
+fn told_alone(alloc: Global, files: &Files, error: Error) -> CompileError
+    ensures { (result ≡ CompileError.Memory) ⊎ (result ≡ CompileError.Errors (record { errors = error ∷ []; files = files.now })) }
+{
+    match vec![in alloc; error] {
+        Ok(errors) => told(alloc, files, List::new(errors)),
+        Err(_) => CompileError::Memory,
+    }
+}
+
+// Why definitions that have no environment can't be compiled.
+fn untyped(alloc: Global, files: &Files, fail: EnvError) -> CompileError
+    ensures { (defs : ListOf Defs) → DefsArePlaced files.now defs → IsUntyped (SomeCompilable defs) fail defs → IsUncompiled result files.now defs }
+{
+    match fail {
+        EnvError::NotYet => CompileError::NotYet,
+        EnvError::Typing(error) => told_alone(alloc, files, error),
+        EnvError::Memory => CompileError::Memory,
+    }
+}
+
+// The environment of the definitions, with the functions of the trait. `Typing` tells a fault of types or constants; `NotYet`
+// comes exactly where there is none, and they are not of the language that is built, or the name of a term or of an external
+// function may not be emitted.
 fn emittable(alloc: Global, defs: &[Def]) -> Result<(TypeEnv, TermEnv, Vec<TraitFn>), EnvError>
     ensures typed { IfOk result (λ e. TypedOnly (seen defs.now) (environment e.0 e.1)) }
     ensures compilable { IfOk result (λ e. IsCompilable (seen defs.now) (environment e.0 e.1)) }
     ensures fns { IfOk result (λ e. e.2.items ≡ trait_fns_of (environment e.0 e.1)) }
-    ensures not_yet { result ≡ Err EnvError.NotYet → (env : Environment) → IsCompilable (seen defs.now) env → ⊥ }
+    ensures err { IfErr result (λ e. IsUntyped (SomeCompilable (seen defs.now)) e (seen defs.now)) }
 {
     let (typeenv, termenv) = match env_from_ast(alloc, defs) {
         Ok(envs) => envs,

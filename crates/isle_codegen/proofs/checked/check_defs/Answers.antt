@@ -1,7 +1,9 @@
-use Rattle.std.proofs.Common.{rules}
+use Rattle.std.proofs.Common.{rules, ◌≡◌, false, inr}
 use Rattle.isle_core.specs.RuleViews.{environment}
 use Rattle.isle_ast.specs.Views.{defs as seen}
 use Rattle.isle_sema.proofs.TypedRules.{typed_built, typed_scoped, typed_impure}
+use Rattle.isle_codegen.specs.Names.{are_file_names}
+use Rattle.isle_sema.proofs.TypedParts.{typed_types_sound}
 use Rattle.isle_codegen.proofs.Placed.{terms_placed}
 use Rattle.isle_codegen.proofs.Refusals.{told_errors}
 use Rattle.isle_codegen.proofs.checked.check_defs.Goals as goal
@@ -22,3 +24,8 @@ pub returns-in-Err-Rules-clause-err : goal.returns-in-Err-Rules-clause-err
 returns-in-Err-Rules-clause-err c =
     told_errors c.told.result c.args.files.now (seen c.args.defs.now) (environment c.in-Ok.envs.0 c.in-Ok.envs.1) c.in-Err-Rules.errors c.told.ensures c.in-Ok.ensures.compilable c.requires (search rules)
     (c.in-Err-Rules.ensures.err c.in-Err-Rules.errors (search rules) c.in-Ok.envs.0) (c.in-Err-Rules.ensures.some c.in-Err-Rules.errors (search rules))
+
+pub returns-then-not-are_file_names-clause-err : goal.returns-then-not-are_file_names-clause-err
+returns-then-not-are_file_names-clause-err c =
+    let bad : are_file_names c.args.files.now.file_names ≡ false = search rules in
+    (typed_types_sound c.in-Ok.ensures.typed.typed, inr bad)
