@@ -1,5 +1,0 @@
-use Rattle.isle_declarations.proofs.Gathered.{AreGathered}
-use Rattle.isle_declarations.proofs.interning.definitions.Given as goal
-
-abbrev pub invariant-loop-given : goal.invariant-loop-given
-invariant-loop-given l = AreGathered l.defs l.given-index l.symbols l.signatures.items l.externs.items l.rules.items
