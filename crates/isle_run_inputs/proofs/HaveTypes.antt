@@ -1,26 +1,22 @@
 -- Written values that are no misfits are of their types.
-use Rattle.std.proofs.Common.{◌≡◌, ℕ, ◌<◌, ◌≤◌, ◌^◌, length, List, [], ◌∷◌, Bool, true, false, nat_lt, Option, Some, None, refl, sym, arith, subst}
-use Rattle.std.specs.Prelude.{ℤ, pos, negsuc, IsSomeAnd, slice_get, if◌then◌else◌}
-use Rattle.std.proofs.lemmas.Bool.Decides.{nat_tests}
-use Rattle.std.specs.Int.{Width, w8, w16, w32, w64, w128}
-use Rattle.std.specs.Int.RustNames.{FitsSigned}
-use Rattle.std.proofs.Math.Facts.{sfits_widen}
-use mir.Val.{hbits}
-use borrow.Author.Differences.{same_in, sum_is_lem, product_is}
+use Rattle.std.proofs.Common.{◌≡◌, ℕ, length, List, [], ◌∷◌, Bool, true, false, Option, Some, None, refl, sym, arith, subst}
+use Rattle.std.specs.Prelude.{ℤ, IsSomeAnd, slice_get, option_map, option_and_then, if◌then◌else◌}
 use Rattle.isle_core.specs.declared.TypeId.{TypeId}
 use Rattle.isle_core.specs.declared.types.IntType.{IntType}
 use Rattle.isle_core.specs.declared.types.IntType.TheVariants as int
 use Rattle.isle_core.specs.declared.types.BuiltinType.TheVariants as builtin
 use Rattle.isle_core.specs.declared.types.TypeDef.{TypeDef}
 use Rattle.isle_core.specs.declared.types.TypeDef.TheVariants as def
-use Rattle.isle_core.specs.Int.{IsBelow, wrapped}
-use Rattle.isle_core.specs.HasType.{IsReduced, IsOfDef, HaveTypes}
+use Rattle.isle_core.specs.Int.{wrapped}
+use Rattle.isle_core.specs.HasType.{TakesOpaque, IsOfDef, AreFieldsOf, HaveTypes}
 use Rattle.isle_core.specs.Rule.{Environment}
-use Rattle.isle_core.specs.Value.{Value, Int}
-use Rattle.isle_spelling.proofs.Wraps.{wraps, wraps_only}
+use Rattle.isle_core.specs.Terms.{sym_text}
+use Rattle.isle_core.specs.Value.{Value, Int, Opaque, FieldValues}
 use Rattle.isle_values.specs.Written as written
 use Rattle.isle_values.specs.Written.{Written, Writtens, NoValue, AValue}
-use Rattle.isle_run_inputs.specs.ValuesAt.{misfit, is_of, value_of_def, values_at}
+use Rattle.isle_run_inputs.specs.Makers.{Maker, OfVariant, OfStruct, maker_at, maker_fields, made_of}
+use Rattle.isle_run_inputs.specs.ValuesAt.{misfit, is_of, opaque_in, truth_in, number_in, put_field, value_in, fields_in, or_misfit, value_of_def, values_at}
+use Rattle.isle_run_inputs.proofs.HeldNumbers.{held, signed_fits}
 
 -- as many values as names, and this of each name and value
 abbrev pub Matched : (List ℕ → Value → Type 0) → List (List ℕ) → List Value → Type 0
@@ -29,82 +25,107 @@ Matched P (name ∷ names) (v ∷ vs) = P name v × Matched P names vs
 Matched P [] (v ∷ vs) = ⊥
 Matched P (name ∷ names) [] = ⊥
 
--- ---- numbers
+-- what holds of a value, where there is one
+abbrev IfThere : {X : Type 0} → (X → Type 0) → Option X → Type 0
+IfThere P None = Unit {0}
+IfThere P (Some x) = P x
 
--- a number of 128 signed bits wraps to itself
-kept : (n : ℤ) → FitsSigned w128 n → wrapped int.I128 n ≡ n
-kept n f = sym (wraps_only int.I128 n n (record { within = f; congruent = (pos 0, same_in _ _ (omega (arith, sum_is_lem, product_is))) }))
+-- ---- truths and numbers
 
--- a number from 0 on
-below : (limit n : ℕ) → limit ≤ 2 ^ 127 → nat_lt n limit ≡ true → IsBelow limit (wrapped int.I128 (pos n))
-below limit n small h =
-    let lt : n < limit = grind (arith, nat_tests) in
-    let fits : n < 2 ^ 127 = omega (arith, lt, small) in
-    subst (IsBelow limit) (sym (kept (pos n) (record { sfits = fits }))) lt
+-- a number at an integer type, by whether it is one of the type
+integer_by : (env : Environment) (ty : IntType) (n : ℤ) (fit : Bool) → is_of ty n ≡ fit → IfThere (IsOfDef env (def.Builtin (builtin.Int ty))) (if fit then Some (Int ty (wrapped int.I128 n)) else None)
+integer_by env ty n true is = (refl, held ty n is)
+integer_by env ty n false is = tt
 
-wide : (w : Width) (n : ℤ) → FitsSigned w n → FitsSigned w128 n
-wide w8 n f = sfits_widen tt f
-wide w16 n f = sfits_widen tt f
-wide w32 n f = sfits_widen tt f
-wide w64 n f = sfits_widen tt f
-wide w128 n f = f
+-- an opaque number, by whether it lies in 128 signed bits
+opaque_by : (env : Environment) (d : TypeDef) (name : List ℕ) (n : ℤ) (fit : Bool) → (is_of int.I128 n ≡ true → TakesOpaque env d name n) → is_of int.I128 n ≡ fit → IfThere (IsOfDef env d) (if fit then Some (Opaque name n) else None)
+opaque_by env d name n true takes is = takes is
+opaque_by env d name n false takes is = tt
 
--- whether a number lies in a signed width
-abbrev lies : Width → ℤ → Bool
-lies w (pos n) = nat_lt n (2 ^ hbits w)
-lies w (negsuc n) = nat_lt n (2 ^ hbits w)
+-- an opaque number at a type that takes such
+opaque_of : (env : Environment) (d : TypeDef) (name : List ℕ) (n : ℤ) → (is_of int.I128 n ≡ true → TakesOpaque env d name n) → IfThere (IsOfDef env d) (opaque_in name n)
+opaque_of env d name n takes = opaque_by env d name n (is_of int.I128 n) takes refl
 
-fits : (w : Width) (n : ℤ) → lies w n ≡ true → FitsSigned w n
-fits w (pos n) h = record { sfits = grind (arith, nat_tests) }
-fits w (negsuc n) h = record { sfits = grind (arith, nat_tests) }
+-- a truth that is there is of its type
+truth_of : (env : Environment) (d : TypeDef) (b : Bool) → IfThere (IsOfDef env d) (truth_in d b)
+truth_of env (def.Builtin builtin.Bool) b = tt
+truth_of env (def.Builtin (builtin.Int ty)) b = tt
+truth_of env (def.Primitive name rust at) b = tt
+truth_of env (def.Enum name is_extern is_nodebug variants at) b = tt
+truth_of env (def.Struct name is_extern is_nodebug fields at) b = tt
 
--- a number of a signed type
-within : (w : Width) (n : ℤ) → lies w n ≡ true → FitsSigned w (wrapped int.I128 n)
-within w n h = subst (FitsSigned w) (sym (kept n (wide w n (fits w n h)))) (fits w n h)
-
-held : (ty : IntType) (n : ℤ) → is_of ty n ≡ true → IsReduced ty (wrapped int.I128 n)
-held int.U8 (pos n) h = below (2 ^ 8) n (omega arith) h
-held int.U8 (negsuc n) h = absurd cc
-held int.U16 (pos n) h = below (2 ^ 16) n (omega arith) h
-held int.U16 (negsuc n) h = absurd cc
-held int.U32 (pos n) h = below (2 ^ 32) n (omega arith) h
-held int.U32 (negsuc n) h = absurd cc
-held int.U64 (pos n) h = below (2 ^ 64) n (omega arith) h
-held int.U64 (negsuc n) h = absurd cc
-held int.USize (pos n) h = below (2 ^ 64) n (omega arith) h
-held int.USize (negsuc n) h = absurd cc
-held int.U128 n h = (wraps int.I128 n).within
-held int.I8 (pos n) h = within w8 (pos n) h
-held int.I8 (negsuc n) h = within w8 (negsuc n) h
-held int.I16 (pos n) h = within w16 (pos n) h
-held int.I16 (negsuc n) h = within w16 (negsuc n) h
-held int.I32 (pos n) h = within w32 (pos n) h
-held int.I32 (negsuc n) h = within w32 (negsuc n) h
-held int.I64 (pos n) h = within w64 (pos n) h
-held int.I64 (negsuc n) h = within w64 (negsuc n) h
-held int.I128 n h = (wraps int.I128 n).within
-held int.ISize (pos n) h = within w64 (pos n) h
-held int.ISize (negsuc n) h = within w64 (negsuc n) h
+-- a number that is there is of its type
+number_of : (env : Environment) (d : TypeDef) (n : ℤ) → IfThere (IsOfDef env d) (number_in env d n)
+number_of env (def.Builtin builtin.Bool) n = tt
+number_of env (def.Builtin (builtin.Int ty)) n = integer_by env ty n (is_of ty n) refl
+number_of env (def.Primitive name rust at) n = opaque_of env (def.Primitive name rust at) (sym_text env rust) n (λ h. (refl, signed_fits n h))
+number_of env (def.Enum name true is_nodebug variants at) n = opaque_of env (def.Enum name true is_nodebug variants at) (sym_text env name) n (λ h. (refl, signed_fits n h))
+number_of env (def.Enum name false is_nodebug variants at) n = tt
+number_of env (def.Struct name true is_nodebug fields at) n = opaque_of env (def.Struct name true is_nodebug fields at) (sym_text env name) n (λ h. (refl, signed_fits n h))
+number_of env (def.Struct name false is_nodebug fields at) n = tt
 
 -- ---- values
 
--- a number, by whether it is one of the type
-number_by : (env : Environment) (P : List ℕ → Value → Type 0) → ((name : List ℕ) → P name misfit → ⊥) → (name : List ℕ) (ty : IntType) (n : ℤ) (fit : Bool) → is_of ty n ≡ fit
-    → P name (if fit then Int ty (wrapped int.I128 n) else misfit) → IsOfDef env (def.Builtin (builtin.Int ty)) (if fit then Int ty (wrapped int.I128 n) else misfit)
-number_by env P bad name ty n true is h = (refl, held ty n is)
-number_by env P bad name ty n false is h = absurd (bad name h)
+-- a value of fields that are those of its variant or struct
+of_maker : (env : Environment) (d : TypeDef) (m : Maker) (fs : FieldValues) → AreFieldsOf env (maker_fields env d m) fs → IsOfDef env d (made_of m fs)
+of_maker env d (OfVariant ty variant) fs h = h
+of_maker env d (OfStruct ty) fs h = h
 
-of_def : (env : Environment) (P : List ℕ → Value → Type 0) → ((name : List ℕ) → P name misfit → ⊥) → (name : List ℕ) (d : Option TypeDef) (w : Written) → P name (value_of_def d w) → IsSomeAnd d (λ x. IsOfDef env x (value_of_def d w))
-of_def env P bad name None w h = absurd (bad name h)
-of_def env P bad name (Some (def.Builtin builtin.Bool)) (written.Truth b) h = tt
-of_def env P bad name (Some (def.Builtin builtin.Bool)) (written.Number n) h = absurd (bad name h)
-of_def env P bad name (Some (def.Builtin builtin.Bool)) (written.Made m ws) h = absurd (bad name h)
-of_def env P bad name (Some (def.Builtin (builtin.Int ty))) (written.Truth b) h = absurd (bad name h)
-of_def env P bad name (Some (def.Builtin (builtin.Int ty))) (written.Number n) h = number_by env P bad name ty n (is_of ty n) refl h
-of_def env P bad name (Some (def.Builtin (builtin.Int ty))) (written.Made m ws) h = absurd (bad name h)
-of_def env P bad name (Some (def.Primitive a b c)) w h = absurd (bad name h)
-of_def env P bad name (Some (def.Enum a b c d e)) w h = absurd (bad name h)
-of_def env P bad name (Some (def.Struct a b c d e)) w h = absurd (bad name h)
+-- what is made of fields that are there
+made_by : (env : Environment) (d : TypeDef) (m : Maker) (fields : List (List ℕ × TypeId)) (fs : Option FieldValues) → maker_fields env d m ≡ Some fields → IfThere (AreFieldsOf env (Some fields)) fs → IfThere (IsOfDef env d) (option_map (made_of m) fs)
+made_by env d m fields None e h = tt
+made_by env d m fields (Some fs) e h = of_maker env d m fs (subst (λ x. AreFieldsOf env x fs) (sym e) h)
+
+-- what a name makes, by the fields that it has at the type
+made_with : (env : Environment) (d : TypeDef) (m : Maker) (fields : Option (List (List ℕ × TypeId))) (parts : Writtens) → maker_fields env d m ≡ fields
+    → ((known : List (List ℕ × TypeId)) → IfThere (AreFieldsOf env (Some known)) (fields_in env known parts))
+    → IfThere (IsOfDef env d) (option_and_then (λ (x : Maker × List (List ℕ × TypeId)). option_map (made_of x.0) (fields_in env x.1 parts)) (option_map (λ known. (m, known)) fields))
+made_with env d m None parts e all = tt
+made_with env d m (Some known) parts e all = made_by env d m known (fields_in env known parts) e (all known)
+
+-- what a name makes, where it says something
+made_at : (env : Environment) (d : TypeDef) (m : Option Maker) (parts : Writtens)
+    → ((known : List (List ℕ × TypeId)) → IfThere (AreFieldsOf env (Some known)) (fields_in env known parts))
+    → IfThere (IsOfDef env d) (option_and_then (λ (x : Maker × List (List ℕ × TypeId)). option_map (made_of x.0) (fields_in env x.1 parts)) (option_and_then (λ y. option_map (λ known. (y, known)) (maker_fields env d y)) m))
+made_at env d None parts all = tt
+made_at env d (Some m) parts all = made_with env d m (maker_fields env d m) parts refl all
+
+-- a value at a type that may be missing
+at_type : (env : Environment) (d : Option TypeDef) (w : Written) → ((x : TypeDef) → IfThere (IsOfDef env x) (value_in env x w)) → IfThere (λ v. IsSomeAnd d (λ x. IsOfDef env x v)) (option_and_then (λ x. value_in env x w) d)
+at_type env None w of = tt
+at_type env (Some d) w of = of d
+
+-- a field in front
+put_of : (env : Environment) (f : List ℕ × TypeId) (more : List (List ℕ × TypeId)) (v : Option Value) (fs : Option FieldValues)
+    → IfThere (λ x. IsSomeAnd (slice_get env.types.types f.1.0) (λ d. IsOfDef env d x)) v → IfThere (AreFieldsOf env (Some more)) fs
+    → IfThere (AreFieldsOf env (Some (f ∷ more))) (put_field (option_map (λ x. (f.0, x)) v) fs)
+put_of env f more None fs h k = tt
+put_of env f more (Some v) None h k = tt
+put_of env f more (Some v) (Some fs) h k = (refl, h, k)
+
+-- a written value that is there is of its type, and fields are those of their names and types
+mutual
+  value_of : (env : Environment) (d : TypeDef) (w : Written) → IfThere (IsOfDef env d) (value_in env d w)
+  value_of env d (written.Truth b) = truth_of env d b
+  value_of env d (written.Number n) = number_of env d n
+  value_of env d (written.Made name parts) = made_at env d (maker_at env d name) parts (λ known. fields_of env known parts)
+
+  fields_of : (env : Environment) (fields : List (List ℕ × TypeId)) (parts : Writtens) → IfThere (AreFieldsOf env (Some fields)) (fields_in env fields parts)
+  fields_of env [] NoValue = tt
+  fields_of env [] (AValue w ws) = tt
+  fields_of env (f ∷ more) NoValue = tt
+  fields_of env (f ∷ more) (AValue w ws) =
+      put_of env f more (option_and_then (λ d. value_in env d w) (slice_get env.types.types f.1.0)) (fields_in env more ws) (at_type env (slice_get env.types.types f.1.0) w (λ d. value_of env d w)) (fields_of env more ws)
+
+-- a value that is no misfit
+fitting : (env : Environment) (P : List ℕ → Value → Type 0) → ((name : List ℕ) → P name misfit → ⊥) → (name : List ℕ) (d : Option TypeDef) (v : Option Value) → IfThere (λ x. IsSomeAnd d (λ y. IsOfDef env y x)) v → P name (or_misfit v)
+    → IsSomeAnd d (λ x. IsOfDef env x (or_misfit v))
+fitting env P bad name d None h p = absurd (bad name p)
+fitting env P bad name d (Some v) h p = h
+
+-- a value that is no misfit is of its type
+of_def : (env : Environment) (P : List ℕ → Value → Type 0) → ((name : List ℕ) → P name misfit → ⊥) → (name : List ℕ) (d : Option TypeDef) (w : Written) → P name (value_of_def env d w) → IsSomeAnd d (λ x. IsOfDef env x (value_of_def env d w))
+of_def env P bad name d w p = fitting env P bad name d (option_and_then (λ x. value_in env x w) d) (at_type env d w (λ x. value_of env x w)) p
 
 -- where a property that no misfit has holds of each value by the name at its place, and there are as many names as types, the values are of the types
 pub have_types : (P : List ℕ → Value → Type 0) → ((name : List ℕ) → P name misfit → ⊥) → (env : Environment) (names : List (List ℕ)) (tys : List TypeId) (ws : Writtens) → length names ≡ length tys

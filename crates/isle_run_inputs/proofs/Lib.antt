@@ -1,4 +1,8 @@
 pub mod HaveTypes
+mod HeldNumbers
+mod FieldPlaces
+mod Makes
+mod InFields
 mod AllSeen
 mod FindTypes
 mod Rest

@@ -1,3 +1,5 @@
+pub mod Makers
+pub mod MakerViews
 pub mod ValuesAt
 pub mod Requested
 pub mod Built

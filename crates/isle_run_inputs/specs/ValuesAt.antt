@@ -1,5 +1,5 @@
 -- Written values at the types of an environment.
-use Rattle.std.specs.Prelude.{ℕ, ℤ, pos, negsuc, ◌^◌, List, [], ◌∷◌, Bool, ◌&&◌, nat_lt, if◌then◌else◌, Option, Some, None, slice_get}
+use Rattle.std.specs.Prelude.{ℕ, ℤ, pos, negsuc, ◌^◌, List, [], ◌∷◌, Bool, true, false, ◌&&◌, nat_lt, if◌then◌else◌, Option, Some, None, option_map, option_and_then, slice_get}
 use mir.Val.{bits, hbits}
 use Rattle.isle_core.specs.declared.TypeId.{TypeId}
 use Rattle.isle_core.specs.declared.types.IntType.{IntType}
@@ -9,13 +9,17 @@ use Rattle.isle_core.specs.declared.types.TypeDef.TheVariants as def
 use Rattle.isle_core.specs.declared.types.IntType.TheVariants.{I128}
 use Rattle.isle_core.specs.Int.{width, is_signed, wrapped}
 use Rattle.isle_core.specs.Rule.{Environment}
-use Rattle.isle_core.specs.Value.{Value, Truth, Int, Opaque}
+use Rattle.isle_core.specs.Terms.{sym_text}
+use Rattle.isle_core.specs.Value.{Value, Truth, Int, Opaque, FieldValues, NoField, Field}
 use Rattle.isle_values.specs.Written as written
 use Rattle.isle_values.specs.Written.{Written, Writtens, NoValue, AValue}
+use Rattle.isle_run_inputs.specs.Makers.{making, made_of}
 
--- what is given for a written value that is none of its type: an opaque number under no name, which no type has
+-- what is given for a written value that is none of its type: an opaque number under no name, while each type has a name
 abbrev pub misfit : Value
 misfit = Opaque [] (pos 0)
+
+-- ---- numbers of a type
 
 -- how many numbers of the type lie from 0 on
 abbrev pub count_up : IntType → ℕ
@@ -26,34 +30,72 @@ abbrev pub is_of : IntType → ℤ → Bool
 is_of ty (pos n) = nat_lt n (count_up ty)
 is_of ty (negsuc n) = is_signed ty && nat_lt n (2 ^ hbits (width ty))
 
--- a written number at a type, held as its 128 signed bits
-abbrev pub number_at : IntType → ℤ → Value
-number_at ty n = if is_of ty n then Int ty (wrapped I128 n) else misfit
+-- ---- truths and numbers
 
--- a written value at `bool`
-abbrev pub truth_at : Written → Value
-truth_at (written.Truth b) = Truth b
-truth_at (written.Number n) = misfit
-truth_at (written.Made name parts) = misfit
+-- a number at an integer type, held as its 128 signed bits
+abbrev pub integer_in : IntType → ℤ → Option Value
+integer_in ty n = if is_of ty n then Some (Int ty (wrapped I128 n)) else None
 
--- a written value at an integer type
-abbrev pub integer_at : IntType → Written → Value
-integer_at ty (written.Truth b) = misfit
-integer_at ty (written.Number n) = number_at ty n
-integer_at ty (written.Made name parts) = misfit
+-- an opaque number of 128 signed bits, under this name
+abbrev pub opaque_in : (name : List ℕ) → ℤ → Option Value
+opaque_in name n = if is_of I128 n then Some (Opaque name n) else None
 
--- a written value at a type of this definition; only those of bool and of the integer types are built
-abbrev pub value_of_def : Option TypeDef → Written → Value
-value_of_def (Some (def.Builtin builtin.Bool)) w = truth_at w
-value_of_def (Some (def.Builtin (builtin.Int ty))) w = integer_at ty w
-value_of_def (Some (def.Primitive name rust at)) w = misfit
-value_of_def (Some (def.Enum name is_extern is_nodebug variants at)) w = misfit
-value_of_def (Some (def.Struct name is_extern is_nodebug fields at)) w = misfit
-value_of_def None w = misfit
+-- a truth at a type: at bool alone
+abbrev pub truth_in : TypeDef → Bool → Option Value
+truth_in (def.Builtin builtin.Bool) b = Some (Truth b)
+truth_in (def.Builtin (builtin.Int ty)) b = None
+truth_in (def.Primitive name rust at) b = None
+truth_in (def.Enum name is_extern is_nodebug variants at) b = None
+truth_in (def.Struct name is_extern is_nodebug fields at) b = None
+
+-- a number at a type: opaque at a primitive type, under its name in Rust, and at an extern one, under its own
+abbrev pub number_in : Environment → TypeDef → ℤ → Option Value
+number_in env (def.Builtin (builtin.Int ty)) n = integer_in ty n
+number_in env (def.Primitive name rust at) n = opaque_in (sym_text env rust) n
+number_in env (def.Enum name true is_nodebug variants at) n = opaque_in (sym_text env name) n
+number_in env (def.Struct name true is_nodebug fields at) n = opaque_in (sym_text env name) n
+number_in env (def.Enum name false is_nodebug variants at) n = None
+number_in env (def.Struct name false is_nodebug fields at) n = None
+number_in env (def.Builtin builtin.Bool) n = None
+
+-- ---- values
+
+-- a field in front of others, where it and they are there
+abbrev pub put_field : Option (List ℕ × Value) → Option FieldValues → Option FieldValues
+put_field None fs = None
+put_field (Some f) None = None
+put_field (Some f) (Some fs) = Some (Field f.0 f.1 fs)
+
+-- a written value at a type of this definition, where it is one of the type with all that is inside it
+abbrev mutual
+  pub value_in : Environment → TypeDef → Written → Option Value
+  value_in env d (written.Truth b) = truth_in d b
+  value_in env d (written.Number n) = number_in env d n
+  value_in env d (written.Made name parts) = option_and_then (λ m. option_map (made_of m.0) (fields_in env m.1 parts)) (making env d name)
+
+  -- as many values as fields, in order, each at the type of its field
+  pub fields_in : Environment → List (List ℕ × TypeId) → Writtens → Option FieldValues
+  fields_in env [] NoValue = Some NoField
+  fields_in env (f ∷ more) (AValue w ws) = put_field (option_map (λ v. (f.0, v)) (option_and_then (λ d. value_in env d w) (slice_get env.types.types f.1.0))) (fields_in env more ws)
+  fields_in env [] (AValue w ws) = None
+  fields_in env (f ∷ more) NoValue = None
+
+-- a written value at the type of a field, with the field's name
+abbrev pub field_in : Environment → List ℕ × TypeId → Written → Option (List ℕ × Value)
+field_in env f w = option_map (λ v. (f.0, v)) (option_and_then (λ d. value_in env d w) (slice_get env.types.types f.1.0))
+
+-- the value, or what is given where there is none
+abbrev pub or_misfit : Option Value → Value
+or_misfit None = misfit
+or_misfit (Some v) = v
+
+-- a written value at a type of this definition, where there is one
+abbrev pub value_of_def : Environment → Option TypeDef → Written → Value
+value_of_def env d w = or_misfit (option_and_then (λ x. value_in env x w) d)
 
 -- a written value at a type of the environment
 abbrev pub value_at : Environment → TypeId → Written → Value
-value_at env ty w = value_of_def (slice_get env.types.types ty.0) w
+value_at env ty w = value_of_def env (slice_get env.types.types ty.0) w
 
 -- where there is no type, no value fits
 abbrev pub value_at_any : Environment → Option TypeId → Written → Value

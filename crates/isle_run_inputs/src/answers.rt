@@ -27,7 +27,10 @@ fn result_at(
     ensures { IfOk result (λ vs. (env : Environment) → env.types ≡ typeenv.now → values vs.items ≡ result_at env ty (result_seen form.now)) }
 {
     match form {
-        ResultForm::One(written) => Ok(vec![in alloc; value_at_any(alloc, typeenv, ty, written)]?),
+        ResultForm::One(written) => {
+            let value = value_at_any(alloc, typeenv, ty, written)?;
+            Ok(vec![in alloc; value]?)
+        }
         ResultForm::Tuple(_) => Ok(Vec::new(alloc)),
     }
 }

@@ -4,9 +4,13 @@
 mod answer_types;
 mod answers;
 mod built;
+mod field;
+mod made_value;
+mod maker;
 mod number;
 mod places;
 mod requested;
+mod simple_value;
 mod value;
 mod values;
 

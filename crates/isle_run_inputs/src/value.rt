@@ -1,69 +1,58 @@
 //! One written value at a type.
 
-ghost use Rattle.std.specs.Prelude.{◌≡◌, [], Option, Some, None};
-ghost use Rattle.std.specs.Option.{option_copied};
+ghost use Rattle.std.specs.Prelude.{◌≡◌, IfOk, Option, option_map};
 ghost use Rattle.isle_core.specs.Rule.{Environment};
 ghost use Rattle.isle_core.specs.ValueViews.{value};
-ghost use Rattle.isle_lexer.specs.SignedViews.{signed};
 ghost use Rattle.isle_values.specs.Views.{written};
-ghost use Rattle.isle_run_inputs.specs.ValuesAt.{misfit, number_at, value_of_def, value_at, value_at_any};
+ghost use Rattle.isle_run_inputs.specs.ValuesAt.{misfit, or_misfit, value_at, value_at_any};
 
-use crate::number::{bits, is_of};
-use isle_core::{BuiltinType, IntType, Text, TypeDef, TypeEnv, TypeId, Value};
-use isle_lexer::Signed;
+use crate::made_value::typed_in;
+use isle_core::{Text, TypeEnv, TypeId, Value};
 use isle_values::Written;
-use std::alloc::Global;
+use std::alloc::{AllocError, Global};
 
 /// Returns what is given for a written value that is none of its type: a value of no type.
+#[tactic(auto, using(isle_outcomes::proofs::SeesValues::sees_values))]
 pub fn misfit(alloc: Global) -> Value
     ensures { value result ≡ misfit }
 {
     Value::Opaque(Text::new(String::new(alloc)), 0)
 }
 
-// A written number at a type.
-fn number_at(alloc: Global, ty: IntType, number: Signed) -> Value
-    ensures { value result ≡ number_at ty (signed number) }
+// A value, or what is given where there is none.
+fn or_misfit(alloc: Global, found: Option<Value>) -> Value
+    ensures { value result ≡ or_misfit (option_map value found) }
 {
-    if is_of(ty, number) {
-        Value::Int(ty, bits(number))
-    } else {
-        misfit(alloc)
-    }
-}
-
-// A written value at a type of this definition.
-fn value_of_def(alloc: Global, def: Option<&TypeDef>, given: &Written) -> Value
-    ensures { value result ≡ value_of_def (option_copied def.entry) (written given.now) }
-{
-    match def {
-        Some(TypeDef::Builtin(BuiltinType::Bool)) => match given {
-            Written::Bool(truth) => Value::Bool(*truth),
-            Written::Number(_) | Written::Made(..) => misfit(alloc),
-        },
-        Some(TypeDef::Builtin(BuiltinType::Int(ty))) => match given {
-            Written::Number(number) => number_at(alloc, *ty, *number),
-            Written::Bool(_) | Written::Made(..) => misfit(alloc),
-        },
-        Some(TypeDef::Primitive { .. } | TypeDef::Enum { .. } | TypeDef::Struct { .. }) | None => {
-            misfit(alloc)
-        }
+    match found {
+        Some(value) => value,
+        None => misfit(alloc),
     }
 }
 
 /// Returns a written value at a type of an environment; one of another type is a value of no type.
-pub fn value_at(alloc: Global, typeenv: &TypeEnv, ty: TypeId, given: &Written) -> Value
-    ensures { (env : Environment) → env.types ≡ typeenv.now → value result ≡ value_at env ty (written given.now) }
+pub fn value_at(
+    alloc: Global,
+    typeenv: &TypeEnv,
+    ty: TypeId,
+    given: &Written,
+) -> Result<Value, AllocError>
+    ensures { IfOk result (λ v. (env : Environment) → env.types ≡ typeenv.now → value v ≡ value_at env ty (written given.now)) }
 {
-    value_of_def(alloc, typeenv.types.as_slice().get(ty.index()), given)
+    let found = typed_in(alloc, typeenv, ty, given)?;
+    Ok(or_misfit(alloc, found))
 }
 
 /// Returns a written value at a type that may be missing; then none fits.
-pub fn value_at_any(alloc: Global, typeenv: &TypeEnv, ty: Option<TypeId>, given: &Written) -> Value
-    ensures { (env : Environment) → env.types ≡ typeenv.now → value result ≡ value_at_any env ty (written given.now) }
+pub fn value_at_any(
+    alloc: Global,
+    typeenv: &TypeEnv,
+    ty: Option<TypeId>,
+    given: &Written,
+) -> Result<Value, AllocError>
+    ensures { IfOk result (λ v. (env : Environment) → env.types ≡ typeenv.now → value v ≡ value_at_any env ty (written given.now)) }
 {
     match ty {
         Some(ty) => value_at(alloc, typeenv, ty, given),
-        None => misfit(alloc),
+        None => Ok(misfit(alloc)),
     }
 }

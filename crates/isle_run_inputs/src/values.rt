@@ -24,7 +24,7 @@ pub fn values_at(
     let mut found = Vec::new(alloc);
     for (index, written) in given.iter().enumerate() {
         let ty = tys.get(index).copied();
-        found.push(value_at_any(alloc, typeenv, ty, written))?;
+        found.push(value_at_any(alloc, typeenv, ty, written)?)?;
     }
     Ok(found)
 }

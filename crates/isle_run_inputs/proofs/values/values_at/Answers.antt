@@ -9,5 +9,5 @@ pub loop-index-preserved : goal.loop-index-preserved
 loop-index-preserved c = λ env e.
     let h = c.get.ensures.lookup in
     let ty : c.copied-ty.result ≡ slice_get c.args.tys.now c.loop-index.index = c.copied-ty.ensures ∙ got c.args.tys.now c.loop-index.index c.get.result h.1 h.3 in
-    values_more env c.args.tys.now c.args.given.now c.loop-index.index c.index-given-index.result c.loop-index.found.items c.push.new.self.items c.value_at_any.result c.loop-index-test.true c.index-given-index.is
-    (c.value_at_any.ensures env e ∙ ap (λ t. value_at_any env t (written c.index-given-index.result)) ty) c.in_ok-push.ensures.items (c.loop-index.invariant env e)
+    values_more env c.args.tys.now c.args.given.now c.loop-index.index c.index-given-index.result c.loop-index.found.items c.push.new.self.items c.in_ok-value_at_any.field-0 c.loop-index-test.true c.index-given-index.is
+    (c.in_ok-value_at_any.ensures env e ∙ ap (λ t. value_at_any env t (written c.index-given-index.result)) ty) c.in_ok-push.ensures.items (c.loop-index.invariant env e)
