@@ -1,6 +1,5 @@
 -- What words ask for, and which lines are built.
-use Rattle.std.specs.Prelude.{◌≡◌, ℕ, List, [], ◌∷◌, Bool, true, false, Option, Some, None}
-use Rattle.isle_values.specs.Written.{Written, Writtens, Truth, Number, Made, NoValue, AValue}
+use Rattle.std.specs.Prelude.{◌≡◌, ℕ, List, [], ◌∷◌, false, Option, Some, None}
 use Rattle.isle_command_line.specs.Request.{Request, Help, Version, Compile, Build, Prelude, Units, Isa, Run}
 use Rattle.isle_core.specs.declared.options.CodegenOptions.{CodegenOptions}
 use Rattle.isle_emission.specs.Built.{IsBuilt as AreEmitted}
@@ -12,17 +11,6 @@ use Rattle.isle_command_line.specs.declared.commands.Source.TheVariants as sourc
 pub record Asks (words : List (List ℕ)) (request : Request) : Type 0 where
   pub line : LineS words request
   pub only : (other : Request) → LineS words other → other ≡ request
-
--- a value that is built: a truth or a number
-abbrev pub is_plain : Written → Bool
-is_plain (Truth b) = true
-is_plain (Number n) = true
-is_plain (Made name parts) = false
-
--- all of them are
-abbrev pub ArePlain : Writtens → Type 0
-ArePlain NoValue = Unit {0}
-ArePlain (AValue v vs) = (is_plain v ≡ true) × ArePlain vs
 
 -- options that are built: neither logging nor splitting is asked for, nor is its threshold given
 abbrev pub AreBuilt : CodegenOptions → Type 0
@@ -42,7 +30,7 @@ IsBuilt (Build options unit) = ⊥
 IsBuilt (Prelude kind) = ⊥
 IsBuilt Units = ⊥
 IsBuilt (Isa target) = ⊥
-IsBuilt (Run trace options from term vs answers) = (trace ≡ false) × AreBuilt options × IsFile from × ArePlain vs
+IsBuilt (Run trace options from term vs answers) = (trace ≡ false) × AreBuilt options × IsFile from
 
 -- the name of a source
 abbrev pub source_name : Source → List ℕ
