@@ -7,14 +7,15 @@ use Rattle.isle_core.specs.Meaning.{Meaning}
 use Rattle.isle_core.specs.Calling.{Calling, ByTurns, ByCases, NoCall, calling, instance_of, one_more, impure, impure_all}
 use Rattle.isle_core.specs.Expr as expr
 use Rattle.isle_core.specs.Expr.{Expr, Exprs, NoExpr, AnExpr}
-use Rattle.isle_core.specs.Path.{Path, Called, Paths}
+use Rattle.isle_core.specs.Path.{Path, Called, MadeVariant, MadeStruct, Paths}
 use Rattle.isle_core.specs.OrderedCalls.{if_ordered, calls, calls_all}
-use Rattle.isle_core.specs.RightSide.{paths}
+use Rattle.isle_core.specs.Making.{Making, MakesVariant, MakesStruct, MakesNothing, making}
+use Rattle.isle_core.specs.RightSide.{term_path, paths}
 use Rattle.isle_core.specs.Tests.{Places}
 use Rattle.isle_core.specs.StandsFor.{AreFirsts, no_more, again, first}
 use Rattle.isle_core.specs.Rule.{Environment}
 use Rattle.isle_core.proofs.Contained.{contained_cases, none_contained}
-use Rattle.isle_core.proofs.TurnKinds.{TakesTurns, CallsByTurns, AllCallByTurns}
+use Rattle.isle_core.proofs.TurnKinds.{TakesTurns, TermTakes, CallsByTurns, AllCallByTurns}
 
 -- the occurrence of a call
 abbrev pub occurrence : Path → ℕ
@@ -35,6 +36,18 @@ term_rising (ByTurns callee kind) m n k term ps cs more t h r =
 term_rising (ByCases callee kind) m n k term ps cs more t h r = absurd t
 term_rising NoCall m n k term ps cs more t h r = absurd t
 
+none_ordered : (c : Calling) (n k : ℕ) (p : Path) (cs more : List Path) → c ≡ NoCall → ((after : List Path) → AreRising (n + k) after → AreRising n (cs ++ after)) → AreRising (n + one_more c k) more → AreRising n ((cs ++ if_ordered c p) ++ more)
+none_ordered NoCall n k p cs more e h r = subst (λ qs. AreRising n (qs ++ more)) (sym (append-nil cs)) (h more r)
+none_ordered (ByTurns callee kind) n k p cs more e h r = cc
+none_ordered (ByCases callee kind) n k p cs more e h r = cc
+
+-- so of a term that is made or called
+making_rising : (mk : Making) (c : Calling) (m : Meaning) (n k : ℕ) (term : TermId) (ps : Paths) (cs more : List Path) → TermTakes m mk c → ((after : List Path) → AreRising (n + k) after → AreRising n (cs ++ after)) → AreRising (n + one_more c k) more
+    → AreRising n ((cs ++ if_ordered c (term_path mk term ps (instance_of c (n + k)))) ++ more)
+making_rising MakesNothing c m n k term ps cs more t h r = term_rising c m n k term ps cs more t h r
+making_rising (MakesVariant ty variant) c m n k term ps cs more t h r = none_ordered c n k (MadeVariant ty variant ps) cs more t h r
+making_rising (MakesStruct ty) c m n k term ps cs more t h r = none_ordered c n k (MadeStruct ty ps) cs more t h r
+
 none_rising : (n : ℕ) (more : List Path) → AreRising (n + 0) more → AreRising n more
 none_rising n more r = subst (λ j. AreRising j more) same r
   where
@@ -47,8 +60,8 @@ mutual
   calls_rising (expr.ConstBool c) env m places n more t r = none_rising n more r
   calls_rising (expr.ConstInt ty k) env m places n more t r = none_rising n more r
   calls_rising (expr.Term ty term es) env m places n more t r =
-      term_rising (calling env term) m n (impure_all env es) term (paths env es places n) (calls_all env es places n) more t.0 (λ after s. all_calls_rising es env m places n after t.1 s) r
-  calls_rising (expr.ConstPrim ty name) env m places n more t r = absurd t
+      making_rising (making env term) (calling env term) m n (impure_all env es) term (paths env es places n) (calls_all env es places n) more t.0 (λ after s. all_calls_rising es env m places n after t.1 s) r
+  calls_rising (expr.ConstPrim ty name) env m places n more t r = none_rising n more r
   calls_rising (expr.Let ty bindings inner) env m places n more t r = absurd t
 
   all_calls_rising : (es : Exprs) (env : Environment) (m : Meaning) (places : Places) (n : ℕ) (more : List Path) → AllCallByTurns env m places es → AreRising (n + impure_all env es) more → AreRising n (calls_all env es places n ++ more)

@@ -7,23 +7,29 @@ use Rattle.isle_core.specs.declared.values.Callee.{Callee}
 use Rattle.isle_core.specs.declared.types.ReturnKind.{ReturnKind}
 use Rattle.isle_core.specs.declared.types.ReturnKind.TheVariants as return_kind
 use Rattle.isle_core.specs.Value.{Value, Answer, Made}
+use Rattle.std.specs.Prelude.{IsSome}
+use Rattle.std.proofs.lemmas.List.{append-nil}
+use Rattle.isle_core.specs.Having.{const_of}
+use Rattle.isle_core.specs.Terms.{sym_text}
+use Rattle.isle_core.specs.Making.{Making, MakesVariant, MakesStruct, MakesNothing, making}
+use Rattle.isle_core.specs.Form.{made_value}
 use Rattle.isle_core.specs.Meaning.{Meaning, turn}
 use Rattle.isle_core.specs.Answered.{Held, a_value, answer_held}
 use Rattle.isle_core.specs.Calling.{Calling, ByTurns, ByCases, NoCall, calling, may_be_nothing, is_fallible, instance_of, one_more, impure, impure_all}
 use Rattle.isle_core.specs.Expr as expr
 use Rattle.isle_core.specs.Expr.{Expr, Exprs, NoExpr, AnExpr}
 use Rattle.isle_core.specs.Match.{Names, with}
-use Rattle.isle_core.specs.Eval.{Evaluated, Answered, Failed, EvaluatedAll, AllAnswered, OneFailed, named, then_all, before, then_one, answered, called_with, evaluated, evaluated_all}
+use Rattle.isle_core.specs.Eval.{Evaluated, Answered, Failed, EvaluatedAll, AllAnswered, OneFailed, named, then_all, before, then_one, answered, called_with, made_or_called, evaluated, evaluated_all}
 use Rattle.isle_core.specs.Outcome.{Failure}
-use Rattle.isle_core.specs.Path.{Path, Called, Paths, APath}
+use Rattle.isle_core.specs.Path.{Path, ConstPrim, Called, MadeVariant, MadeStruct, Paths, APath}
 use Rattle.isle_core.specs.OrderedCalls.{if_ordered, calls, calls_all}
-use Rattle.isle_core.specs.RightSide.{path_or, answer_path, path, paths}
+use Rattle.isle_core.specs.RightSide.{path_or, term_path, answer_path, path, paths}
 use Rattle.isle_core.specs.Tests.{Places}
-use Rattle.isle_core.specs.ValueAt.{Known, held_of, inner_held, value_before, call_held, value_at, values_at}
+use Rattle.isle_core.specs.ValueAt.{Known, held as held_value, held_of, made_held, inner_held, value_before, call_held, value_at, values_at}
 use Rattle.isle_core.specs.CallRun.{Went, Goes, Ends, then_go, take_turn, make_call, check_call, unless_nothing, run_call, run_calls}
 use Rattle.isle_core.specs.Rule.{Environment}
 use Rattle.isle_core.proofs.PatternTests.{StandsAt, Agree}
-use Rattle.isle_core.proofs.TurnKinds.{IsOfKind, TakesTurns, IsPlaced, CallsByTurns, AllCallByTurns}
+use Rattle.isle_core.proofs.TurnKinds.{IsOfKind, TakesTurns, TermTakes, IsPlaced, CallsByTurns, AllCallByTurns}
 use Rattle.isle_core.proofs.KnownAnswers.{IsUpTo, Kept, Fresh, kept_on, kept_self, fresh_more, stable, PlacesUpTo, places_more, agree_still, path_up_to}
 
 -- ---- evaluation against calls
@@ -168,7 +174,38 @@ term_follows (ByTurns callee kind) env m args n k known made term ps cs r e t h 
 term_follows (ByCases callee kind) env m args n k known made term ps cs r e t h = absurd t
 term_follows NoCall env m args n k known made term ps cs r e t h = absurd t
 
+made_now : (mk : Making) (env : Environment) (m : Meaning) (args : List Value) (n n' : ℕ) (known : Known) (p : Path) (ps : Paths) (r : EvaluatedAll) (f : Went) → ((known' : Known) → value_at env m args known' p ≡ made_held env mk (values_at env m args known' ps)) → FollowsAll env m args n n' known ps r f
+    → Follows env m args n n' known p (then_one r (λ vs made. Answered (made_value env mk vs) made)) f
+made_now mk env m args n n' known p ps (AllAnswered vs made) (Goes known' made') is h = (record { held = is known' ∙ ap (made_held env mk) h.0.held; kept = h.0.kept; fresh = h.0.fresh }, h.1)
+made_now mk env m args n n' known p ps (OneFailed made) (Ends o) is h = h
+made_now mk env m args n n' known p ps (AllAnswered vs made) (Ends o) is h = absurd h
+made_now mk env m args n n' known p ps (OneFailed made) (Goes known' made') is h = absurd h
+
+-- what is made of the arguments; no call follows theirs
+made_follows : (mk : Making) (c : Calling) (env : Environment) (m : Meaning) (args : List Value) (n k : ℕ) (known : Known) (made : List Made) (p : Path) (ps : Paths) (cs : List Path) (r : EvaluatedAll) → c ≡ NoCall
+    → ((known' : Known) → value_at env m args known' p ≡ made_held env mk (values_at env m args known' ps)) → FollowsAll env m args n (n + k) known ps r (run_calls env m args cs known made)
+    → Follows env m args n (n + one_more c k) known (answer_path c p) (then_one r (λ vs made'. Answered (made_value env mk vs) made')) (run_calls env m args (cs ++ if_ordered c p) known made)
+made_follows mk (ByTurns callee kind) env m args n k known made p ps cs r e is h = cc
+made_follows mk (ByCases callee kind) env m args n k known made p ps cs r e is h = cc
+made_follows mk NoCall env m args n k known made p ps cs r e is h =
+    subst (λ qs. Follows env m args n (n + k) known p (then_one r (λ vs made'. Answered (made_value env mk vs) made')) (run_calls env m args qs known made)) (sym (append-nil cs))
+    (made_now mk env m args n (n + k) known p ps r (run_calls env m args cs known made) is h)
+
+-- the calls of the arguments, then what the term makes, or its call
+making_follows : (mk : Making) (c : Calling) (env : Environment) (m : Meaning) (args : List Value) (n k : ℕ) (known : Known) (made : List Made) (term : TermId) (ps : Paths) (cs : List Path) (r : EvaluatedAll) → calling env term ≡ c → TermTakes m mk c
+    → FollowsAll env m args n (n + k) known ps r (run_calls env m args cs known made)
+    → Follows env m args n (n + one_more c k) known (answer_path c (term_path mk term ps (instance_of c (n + k)))) (then_one r (made_or_called env m mk c))
+    (run_calls env m args (cs ++ if_ordered c (term_path mk term ps (instance_of c (n + k)))) known made)
+making_follows (MakesVariant ty variant) c env m args n k known made term ps cs r e t h = made_follows (MakesVariant ty variant) c env m args n k known made (MadeVariant ty variant ps) ps cs r t (λ known'. refl) h
+making_follows (MakesStruct ty) c env m args n k known made term ps cs r e t h = made_follows (MakesStruct ty) c env m args n k known made (MadeStruct ty ps) ps cs r t (λ known'. refl) h
+making_follows MakesNothing c env m args n k known made term ps cs r e t h = term_follows c env m args n k known made term ps cs r e t h
+
 -- ---- expressions
+
+const_follows : (env : Environment) (m : Meaning) (args : List Value) (n n' : ℕ) (known : Known) (made : List Made) (p : Path) (o : Option Value) → n ≤ n' → Fresh n known → IsSome o → ((known' : Known) → value_at env m args known' p ≡ held_value o)
+    → Follows env m args n n' known p (named o made) (Goes known made)
+const_follows env m args n n' known made p (Some v) le fr i is = (record { held = is known; kept = kept_self n known; fresh = fresh_more n n' known le fr }, refl)
+const_follows env m args n n' known made p None le fr i is = cc
 
 var_follows : (env : Environment) (m : Meaning) (args : List Value) (n n' : ℕ) (known : Known) (made : List Made) (o : Option Value) (q : Option Path) → n ≤ n' → Fresh n known → IsPlaced q → StandsAt (value_at env m args known) o q → Follows env m args n n' known (path_or q) (named o made) (Goes known made)
 var_follows env m args n n' known made (Some v) (Some p) le fr i h = (record { held = h; kept = kept_self n known; fresh = fresh_more n n' known le fr }, refl)
@@ -183,8 +220,8 @@ mutual
   expr_follows (expr.ConstBool c) env m args n known names places made t a b fr = (record { held = refl; kept = kept_self n known; fresh = fresh_more n (n + 0) known (omega arith) fr }, refl)
   expr_follows (expr.ConstInt ty k) env m args n known names places made t a b fr = (record { held = refl; kept = kept_self n known; fresh = fresh_more n (n + 0) known (omega arith) fr }, refl)
   expr_follows (expr.Term ty term es) env m args n known names places made t a b fr =
-      term_follows (calling env term) env m args n (impure_all env es) known made term (paths env es places n) (calls_all env es places n) (evaluated_all env m es names made) refl t.0 (exprs_follow es env m args n known names places made t.1 a b fr)
-  expr_follows (expr.ConstPrim ty name) env m args n known names places made t a b fr = absurd t
+      making_follows (making env term) (calling env term) env m args n (impure_all env es) known made term (paths env es places n) (calls_all env es places n) (evaluated_all env m es names made) refl t.0 (exprs_follow es env m args n known names places made t.1 a b fr)
+  expr_follows (expr.ConstPrim ty name) env m args n known names places made t a b fr = const_follows env m args n (n + 0) known made (ConstPrim name) (const_of m (sym_text env name)) (omega arith) fr t (λ known'. refl)
   expr_follows (expr.Let ty bindings inner) env m args n known names places made t a b fr = absurd t
 
   -- so of expressions in order

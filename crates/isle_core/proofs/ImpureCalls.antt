@@ -16,10 +16,12 @@ use Rattle.isle_core.specs.Calling.{Calling, ByTurns, ByCases, NoCall, calling, 
 use Rattle.isle_core.specs.Match.{Names}
 use Rattle.isle_core.specs.Expr as expr
 use Rattle.isle_core.specs.Expr.{Expr, Exprs, NoExpr, AnExpr}
-use Rattle.isle_core.specs.Eval.{Evaluated, Answered, Failed, EvaluatedAll, AllAnswered, OneFailed, named, answered, then_all, before, then_one, called_with, evaluated, evaluated_all}
+use Rattle.isle_core.specs.Eval.{Evaluated, Answered, Failed, EvaluatedAll, AllAnswered, OneFailed, named, answered, then_all, before, then_one, called_with, made_or_called, evaluated, evaluated_all}
 use Rattle.isle_core.specs.HighestMatch.{highest_match, given_by, outcome_of}
 use Rattle.isle_core.specs.Outcome.{prescription_of}
-use Rattle.isle_core.specs.Terms.{goes_to, impure_callee, is_impure}
+use Rattle.isle_core.specs.Having.{const_of}
+use Rattle.isle_core.specs.Making.{Making, MakesVariant, MakesStruct, MakesNothing, making}
+use Rattle.isle_core.specs.Terms.{sym_text, goes_to, impure_callee, is_impure}
 use Rattle.isle_core.specs.Rule.{Environment, Rule}
 
 -- each call goes to an impure term
@@ -97,6 +99,12 @@ called_impure env m (ByTurns callee kind) vs made h k = answered_impure env (ans
 called_impure env m (ByCases callee kind) vs made h k = answered_impure env (answer_held (case m callee vs)) made k
 called_impure env m NoCall vs made h k = k
 
+made_impure : (env : Environment) (m : Meaning) (mk : Making) (c : Calling) (vs : List Value) (made : List Made) → ((callee : Callee) (kind : ReturnKind) → c ≡ ByTurns callee kind → is_impure env callee ≡ true) → AreImpure env made → AreImpure env (calls_in (made_or_called env m mk c vs made))
+unfolding calls_in
+made_impure env m (MakesVariant ty variant) c vs made h k = k
+made_impure env m (MakesStruct ty) c vs made h k = k
+made_impure env m MakesNothing c vs made h k = called_impure env m c vs made h k
+
 then_impure : (env : Environment) (r : EvaluatedAll) (go : List Value → List Made → Evaluated) → AreImpure env (calls_in_all r) → ((vs : List Value) (made : List Made) → AreImpure env made → AreImpure env (calls_in (go vs made))) → AreImpure env (calls_in (then_one r go))
 unfolding calls_in calls_in_all
 then_impure env (AllAnswered vs made) go h k = k vs made h
@@ -119,11 +127,11 @@ mutual
   expr_impure (expr.Var ty x) env m names made h = named_impure env (names x.0) made h
   expr_impure (expr.ConstBool b) env m names made h = h
   expr_impure (expr.ConstInt ty n) env m names made h = h
-  expr_impure (expr.ConstPrim ty name) env m names made h = h
+  expr_impure (expr.ConstPrim ty name) env m names made h = named_impure env (const_of m (sym_text env name)) made h
   expr_impure (expr.Let ty bindings inner) env m names made h = h
   expr_impure (expr.Term ty term es) env m names made h =
-      then_impure env (evaluated_all env m es names made) (called_with m (calling env term)) (exprs_impure es env m names made h)
-      (λ vs calls k. called_impure env m (calling env term) vs calls (turned_impure env term) k)
+      then_impure env (evaluated_all env m es names made) (made_or_called env m (making env term) (calling env term)) (exprs_impure es env m names made h)
+      (λ vs calls k. made_impure env m (making env term) (calling env term) vs calls (turned_impure env term) k)
 
   exprs_impure : (es : Exprs) (env : Environment) (m : Meaning) (names : Names) (made : List Made) → AreImpure env made → AreImpure env (calls_in_all (evaluated_all env m es names made))
   exprs_impure NoExpr env m names made h = h

@@ -1,9 +1,10 @@
 -- A variable's place stays behind more patterns.
 use Rattle.std.proofs.Common.{◌≡◌, ℕ, suc, List, [], ◌∷◌, Bool, true, false, cond, eqb, Option, Some, None, refl, sym, ap, ◌∙◌}
 use Rattle.std.proofs.lemmas.Bool.{eqb-true}
-use Rattle.isle_core.specs.Pattern.{Pattern, Var}
+use Rattle.isle_core.specs.Making.{Making, making}
+use Rattle.isle_core.specs.Pattern.{Pattern, Patterns, NoPattern, APattern, Var, Term}
 use Rattle.isle_core.specs.Path.{Path, Arg}
-use Rattle.isle_core.specs.Tests.{Places, met_after, after, args_after}
+use Rattle.isle_core.specs.Tests.{Places, met_after, field_path, after, after_parts, args_after}
 use Rattle.isle_core.specs.Rule.{Environment}
 
 met_keeps : (o : Option Path) (x y : ℕ) (p q : Path) (places : Places) → places x ≡ o → places y ≡ Some q → met_after o x p places y ≡ Some q
@@ -14,11 +15,19 @@ met_keeps None x y p q places e h = pick (eqb x y) refl
     pick true t = let same : x ≡ y = eqb-true x y t in let bad : None ≡ Some q = sym e ∙ ap places same ∙ h in cc
     pick false t = h
 
-after_keeps : (env : Environment) (r : Pattern) (p : Path) (places : Places) (y : ℕ) (q : Path) → places y ≡ Some q → after env r p places y ≡ Some q
-after_keeps env (Var ty x) p places y q h = met_keeps (places x.0) x.0 y p q places refl h
-after_keeps env r p places y q h = h
+mutual
+  -- so behind one pattern
+  pub after_keeps : (r : Pattern) (env : Environment) (p : Path) (places : Places) (y : ℕ) (q : Path) → places y ≡ Some q → after env r p places y ≡ Some q
+  after_keeps (Var ty x) env p places y q h = met_keeps (places x.0) x.0 y p q places refl h
+  after_keeps (Term ty term rs) env p places y q h = parts_keep rs env (making env term) 0 p places y q h
+  after_keeps r env p places y q h = h
+
+  -- and behind parts
+  pub parts_keep : (rs : Patterns) (env : Environment) (made : Making) (i : ℕ) (p : Path) (places : Places) (y : ℕ) (q : Path) → places y ≡ Some q → after_parts env made rs i p places y ≡ Some q
+  parts_keep NoPattern env made i p places y q h = h
+  parts_keep (APattern r rs) env made i p places y q h = parts_keep rs env made (suc i) p (after env r (field_path made i p) places) y q (after_keeps r env (field_path made i p) places y q h)
 
 -- a place stays behind more patterns
 pub args_keep : (env : Environment) (qs : List Pattern) (n : ℕ) (places : Places) (y : ℕ) (q : Path) → places y ≡ Some q → args_after env qs n places y ≡ Some q
 args_keep env [] n places y q h = h
-args_keep env (r ∷ qs) n places y q h = args_keep env qs (suc n) (after env r (Arg n) places) y q (after_keeps env r (Arg n) places y q h)
+args_keep env (r ∷ qs) n places y q h = args_keep env qs (suc n) (after env r (Arg n) places) y q (after_keeps r env (Arg n) places y q h)

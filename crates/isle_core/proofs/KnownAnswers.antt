@@ -3,14 +3,17 @@ use Rattle.std.proofs.Common.{◌≡◌, ℕ, suc, ◌+◌, ◌<◌, ◌≤◌, 
 use Rattle.isle_core.specs.Value.{Value}
 use Rattle.isle_core.specs.Meaning.{Meaning}
 use Rattle.isle_core.specs.Calling.{Calling, ByTurns, ByCases, NoCall, calling, is_fallible, instance_of, one_more, impure, impure_all}
-use Rattle.isle_core.specs.Pattern.{Pattern, Var}
+use Rattle.isle_core.specs.Making.{Making, MakesVariant, MakesStruct, MakesNothing, making}
+use Rattle.isle_base.specs.declared.ids.TermId.{TermId}
+use Rattle.isle_core.specs.Pattern as pattern
+use Rattle.isle_core.specs.Pattern.{Pattern, Patterns, NoPattern, APattern, Var}
 use Rattle.isle_core.specs.Expr as expr
 use Rattle.isle_core.specs.Expr.{Expr, Exprs, NoExpr, AnExpr}
 use Rattle.isle_core.specs.Match.{Names}
-use Rattle.isle_core.specs.Path.{Path, Arg, Called, Inner, Paths, NoPath, APath}
-use Rattle.isle_core.specs.RightSide.{path_or, call_path, answer_path, path, paths}
-use Rattle.isle_core.specs.Tests.{Places, no_places, met_after, after, args_after}
-use Rattle.isle_core.specs.ValueAt.{Known, nothing_known, inner_held, value_before, call_held, value_at, values_at}
+use Rattle.isle_core.specs.Path.{Path, Arg, Called, Inner, MadeVariant, MadeStruct, VariantField, StructField, Paths, NoPath, APath}
+use Rattle.isle_core.specs.RightSide.{path_or, term_path, call_path, answer_path, path, paths}
+use Rattle.isle_core.specs.Tests.{Places, no_places, met_after, field_path, after, after_parts, args_after}
+use Rattle.isle_core.specs.ValueAt.{Known, nothing_known, made_held, field_held, inner_held, value_before, call_held, value_at, values_at}
 use Rattle.isle_core.specs.Rule.{Environment}
 use Rattle.isle_core.proofs.PatternTests.{StandsAt, Agree}
 
@@ -21,6 +24,10 @@ abbrev mutual
   pub IsUpTo : ℕ → Path → Type 0
   IsUpTo n (Called term ps k) = (k ≤ n) × AreUpTo n ps
   IsUpTo n (Inner p) = IsUpTo n p
+  IsUpTo n (MadeVariant ty variant ps) = AreUpTo n ps
+  IsUpTo n (MadeStruct ty ps) = AreUpTo n ps
+  IsUpTo n (VariantField variant i p) = IsUpTo n p
+  IsUpTo n (StructField i p) = IsUpTo n p
   IsUpTo n p = Unit {0}
 
   -- so of paths in order
@@ -33,6 +40,10 @@ mutual
   pub up_to_more : (p : Path) (n n' : ℕ) → n ≤ n' → IsUpTo n p → IsUpTo n' p
   up_to_more (Called term ps k) n n' le b = let low : k ≤ n = b.0 in let lower : k ≤ n' = omega arith in (lower, all_up_to_more ps n n' le b.1)
   up_to_more (Inner p) n n' le b = up_to_more p n n' le b
+  up_to_more (MadeVariant ty variant ps) n n' le b = all_up_to_more ps n n' le b
+  up_to_more (MadeStruct ty ps) n n' le b = all_up_to_more ps n n' le b
+  up_to_more (VariantField variant i p) n n' le b = up_to_more p n n' le b
+  up_to_more (StructField i p) n n' le b = up_to_more p n n' le b
   up_to_more p n n' le b = tt
 
   -- so of paths in order
@@ -70,6 +81,10 @@ mutual
   stable (Called term ps j) env m args n known known' b k =
       ap (λ o. call_held m (calling env term) o (values_at env m args known' ps)) (k.by j b.0) ∙ ap (call_held m (calling env term) (known j)) (all_stable ps env m args n known known' b.1 k)
   stable (Inner p) env m args n known known' b k = ap inner_held (stable p env m args n known known' b k)
+  stable (MadeVariant ty variant ps) env m args n known known' b k = ap (made_held env (MakesVariant ty variant)) (all_stable ps env m args n known known' b k)
+  stable (MadeStruct ty ps) env m args n known known' b k = ap (made_held env (MakesStruct ty)) (all_stable ps env m args n known known' b k)
+  stable (VariantField variant i p) env m args n known known' b k = ap (field_held i) (stable p env m args n known known' b k)
+  stable (StructField i p) env m args n known known' b k = ap (field_held i) (stable p env m args n known known' b k)
   stable p env m args n known known' b k = refl
 
   -- so of paths in order
@@ -105,18 +120,30 @@ place_with : (b : Bool) (n : ℕ) (p : Path) (o : Option Path) → IsUpTo n p �
 place_with true n p o h k = h
 place_with false n p o h k = k
 
-met_up_to : (o : Option Path) (n x i : ℕ) (places : Places) → PlacesUpTo n places → PlacesUpTo n (met_after o x (Arg i) places)
-met_up_to None n x i places b = record { by = λ y. place_with (eqb x y) n (Arg i) (places y) tt (b.by y) }
-met_up_to (Some q) n x i places b = b
+met_up_to : (o : Option Path) (n x : ℕ) (p : Path) (places : Places) → IsUpTo n p → PlacesUpTo n places → PlacesUpTo n (met_after o x p places)
+met_up_to None n x p places h b = record { by = λ y. place_with (eqb x y) n p (places y) h (b.by y) }
+met_up_to (Some q) n x p places h b = b
 
-after_up_to : (env : Environment) (q : Pattern) (n i : ℕ) (places : Places) → PlacesUpTo n places → PlacesUpTo n (after env q (Arg i) places)
-after_up_to env (Var ty x) n i places b = met_up_to (places x.0) n x.0 i places b
-after_up_to env q n i places b = b
+field_up_to : (made : Making) (n i : ℕ) (p : Path) → IsUpTo n p → IsUpTo n (field_path made i p)
+field_up_to (MakesVariant ty variant) n i p h = h
+field_up_to (MakesStruct ty) n i p h = h
+field_up_to MakesNothing n i p h = tt
+
+mutual
+  after_up_to : (q : Pattern) (env : Environment) (n : ℕ) (p : Path) (places : Places) → IsUpTo n p → PlacesUpTo n places → PlacesUpTo n (after env q p places)
+  after_up_to (Var ty x) env n p places h b = met_up_to (places x.0) n x.0 p places h b
+  after_up_to (pattern.Term ty term qs) env n p places h b = parts_up_to qs env (making env term) n 0 p places h b
+  after_up_to q env n p places h b = b
+
+  parts_up_to : (qs : Patterns) (env : Environment) (made : Making) (n i : ℕ) (p : Path) (places : Places) → IsUpTo n p → PlacesUpTo n places → PlacesUpTo n (after_parts env made qs i p places)
+  parts_up_to NoPattern env made n i p places h b = b
+  parts_up_to (APattern q qs) env made n i p places h b =
+      parts_up_to qs env made n (suc i) p (after env q (field_path made i p) places) h (after_up_to q env n (field_path made i p) places (field_up_to made n i p h) b)
 
 -- those of a rule's patterns stand on no call
 pub args_up_to : (env : Environment) (qs : List Pattern) (n i : ℕ) (places : Places) → PlacesUpTo n places → PlacesUpTo n (args_after env qs i places)
 args_up_to env [] n i places b = b
-args_up_to env (q ∷ qs) n i places b = args_up_to env qs n (suc i) (after env q (Arg i) places) (after_up_to env q n i places b)
+args_up_to env (q ∷ qs) n i places b = args_up_to env qs n (suc i) (after env q (Arg i) places) (after_up_to q env n (Arg i) places tt b)
 
 -- before all patterns there is no place
 pub none_up_to : (n : ℕ) → PlacesUpTo n no_places
@@ -140,6 +167,11 @@ answer_up_to c n p b = pick (is_fallible c)
     pick : (x : Bool) → IsUpTo n (cond x (Inner p) p)
     pick true = b
     pick false = b
+
+made_up_to : (made : Making) (n : ℕ) (term : TermId) (ps : Paths) (k : ℕ) → k ≤ n → AreUpTo n ps → IsUpTo n (term_path made term ps k)
+made_up_to (MakesVariant ty variant) n term ps k le b = b
+made_up_to (MakesStruct ty) n term ps k le b = b
+made_up_to MakesNothing n term ps k le b = (le, b)
 
 instance_up_to : (c : Calling) (n : ℕ) → instance_of c n ≤ one_more c n
 instance_up_to (ByTurns callee kind) n = omega arith
@@ -167,7 +199,7 @@ mutual
       let up : one_more c k ≡ n + one_more c (impure_all env es) = one_more_up c n (impure_all env es) in
       let low : k ≤ one_more c k = less_one c k in
       answer_up_to c (n + one_more c (impure_all env es)) (call_path env term (paths env es places n) k)
-      (omega arith, all_up_to_more (paths env es places n) k (n + one_more c (impure_all env es)) (omega arith) (paths_up_to es env places n b))
+      (made_up_to (making env term) (n + one_more c (impure_all env es)) term (paths env es places n) (instance_of c k) (omega arith) (all_up_to_more (paths env es places n) k (n + one_more c (impure_all env es)) (omega arith) (paths_up_to es env places n b)))
   path_up_to e env places n b = tt
 
   -- so of expressions in order

@@ -5,13 +5,16 @@ pub mod SameValueLaws
 pub mod RunEquality
 pub mod Contained
 pub mod OutcomeOf
+pub mod MadeParts
 pub mod PatternTests
+pub mod Within
 pub mod NotTrivial
 pub mod KeptPlaces
 pub mod TurnKinds
 pub mod KnownAnswers
 pub mod CallsFollow
 pub mod CallOccurrences
+pub mod OpenedPaths
 pub mod PlacedVariables
 pub mod ScopeLaws
 pub mod SetMeans

@@ -2,11 +2,15 @@
 use Rattle.std.proofs.Common.{◌≡◌, ⊎_elim, ℕ, suc, List, [], ◌∷◌, Bool, true, false, cond, eqb, Option, Some, None, T, refl, sym, subst}
 use Rattle.std.proofs.Math.Dec.{eqb_refl}
 use Rattle.std.specs.Prelude.{Contains}
-use Rattle.isle_base.specs.declared.ids.TypeId.{TypeId}
-use Rattle.isle_base.specs.declared.ids.VarId.{VarId}
-use Rattle.isle_core.specs.Pattern.{Pattern, Var}
+use Rattle.std.specs.List.{AllByRecursion}
+use Rattle.std.proofs.lemmas.List.Elements.{Contains-append_cases}
+use Rattle.isle_core.specs.declared.types.Term.{Term as CodeTerm}
+use Rattle.isle_core.specs.BuiltRule.{IsBuiltPattern, AreBuiltPatterns}
+use Rattle.isle_core.specs.Making.{Making, making}
+use Rattle.isle_core.specs.Pattern.{Pattern, Patterns, NoPattern, APattern, Var, ConstBool, ConstInt, ConstPrim, Wildcard, Term, BindPattern, And}
+use Rattle.isle_core.specs.Scope.{variables, variables_within, all_variables}
 use Rattle.isle_core.specs.Path.{Path, Arg}
-use Rattle.isle_core.specs.Tests.{Places, met_after, after, args_after}
+use Rattle.isle_core.specs.Tests.{Places, met_after, field_path, after, after_parts, args_after}
 use Rattle.isle_core.proofs.Contained.{contained_cases, none_contained}
 use Rattle.isle_core.proofs.TurnKinds.{IsPlaced}
 use Rattle.isle_core.specs.Rule.{Environment}
@@ -19,13 +23,19 @@ met_keeps : (o : Option Path) (x : ℕ) (p : Path) (places : Places) (y : ℕ) �
 met_keeps None x p places y h = with_keeps (eqb x y) p (places y) h
 met_keeps (Some q) x p places y h = h
 
-after_keeps : (env : Environment) (q : Pattern) (p : Path) (places : Places) (y : ℕ) → IsPlaced (places y) → IsPlaced (after env q p places y)
-after_keeps env (Var ty x) p places y h = met_keeps (places x.0) x.0 p places y h
-after_keeps env q p places y h = h
+mutual
+  after_keeps : (q : Pattern) (env : Environment) (p : Path) (places : Places) (y : ℕ) → IsPlaced (places y) → IsPlaced (after env q p places y)
+  after_keeps (Var ty x) env p places y h = met_keeps (places x.0) x.0 p places y h
+  after_keeps (Term ty term qs) env p places y h = parts_keep qs env (making env term) 0 p places y h
+  after_keeps q env p places y h = h
+
+  parts_keep : (qs : Patterns) (env : Environment) (made : Making) (i : ℕ) (p : Path) (places : Places) (y : ℕ) → IsPlaced (places y) → IsPlaced (after_parts env made qs i p places y)
+  parts_keep NoPattern env made i p places y h = h
+  parts_keep (APattern q qs) env made i p places y h = parts_keep qs env made (suc i) p (after env q (field_path made i p) places) y (after_keeps q env (field_path made i p) places y h)
 
 args_keep : (env : Environment) (qs : List Pattern) (i : ℕ) (places : Places) (y : ℕ) → IsPlaced (places y) → IsPlaced (args_after env qs i places y)
 args_keep env [] i places y h = h
-args_keep env (q ∷ qs) i places y h = args_keep env qs (suc i) (after env q (Arg i) places) y (after_keeps env q (Arg i) places y h)
+args_keep env (q ∷ qs) i places y h = args_keep env qs (suc i) (after env q (Arg i) places) y (after_keeps q env (Arg i) places y h)
 
 with_places : (b : Bool) (p : Path) (o : Option Path) → T b → IsPlaced (cond b (Some p) o)
 with_places true p o t = tt
@@ -35,9 +45,27 @@ met_places : (o : Option Path) (x : ℕ) (p : Path) (places : Places) → places
 met_places None x p places e = with_places (eqb x x) p (places x) (eqb_refl x)
 met_places (Some q) x p places e = subst IsPlaced (sym e) tt
 
+mutual
+  pattern_places : (q : Pattern) (env : Environment) (terms : List CodeTerm) (p : Path) (places : Places) (x : ℕ) → IsBuiltPattern terms q → Contains (variables q) x → IsPlaced (after env q p places x)
+  pattern_places (Var ty y) env terms p places x b c =
+      ⊎_elim (λ e. subst (λ k. IsPlaced (after env (Var ty y) p places k)) e (met_places (places y.0) y.0 p places refl)) (λ d. absurd (none_contained x d)) (contained_cases y.0 [] x c)
+  pattern_places (Term ty term qs) env terms p places x b c = parts_place qs env terms (making env term) 0 p places x b.2 c
+  pattern_places (ConstBool v) env terms p places x b c = absurd (none_contained x c)
+  pattern_places (ConstInt ty n) env terms p places x b c = absurd (none_contained x c)
+  pattern_places (ConstPrim ty name) env terms p places x b c = absurd (none_contained x c)
+  pattern_places (Wildcard ty) env terms p places x b c = absurd (none_contained x c)
+  pattern_places (BindPattern ty y q) env terms p places x b c = absurd b
+  pattern_places (And ty qs) env terms p places x b c = absurd b
+
+  parts_place : (qs : Patterns) (env : Environment) (terms : List CodeTerm) (made : Making) (i : ℕ) (p : Path) (places : Places) (x : ℕ) → AreBuiltPatterns terms qs → Contains (variables_within qs) x → IsPlaced (after_parts env made qs i p places x)
+  parts_place NoPattern env terms made i p places x b c = absurd (none_contained x c)
+  parts_place (APattern q qs) env terms made i p places x b c =
+      ⊎_elim (λ d. parts_keep qs env made (suc i) p (after env q (field_path made i p) places) x (pattern_places q env terms (field_path made i p) places x b.0 d))
+      (λ d. parts_place qs env terms made (suc i) p (after env q (field_path made i p) places) x b.1 d) (Contains-append_cases (variables q) (variables_within qs) x c)
+
 -- a variable of the patterns has a path
-pub args_placed : (env : Environment) (qs : List Pattern) (i : ℕ) (places : Places) (ty : TypeId) (x : VarId) → Contains qs (Var ty x) → IsPlaced (args_after env qs i places x.0)
-args_placed env [] i places ty x c = absurd (none_contained (Var ty x) c)
-args_placed env (q ∷ qs) i places ty x c =
-    ⊎_elim (λ (is : q ≡ Var ty x). args_keep env qs (suc i) (after env q (Arg i) places) x.0 (subst (λ p. IsPlaced (after env p (Arg i) places x.0)) (sym is) (met_places (places x.0) x.0 (Arg i) places refl)))
-    (λ d. args_placed env qs (suc i) (after env q (Arg i) places) ty x d) (contained_cases q qs (Var ty x) c)
+pub args_placed : (env : Environment) (terms : List CodeTerm) (qs : List Pattern) (i : ℕ) (places : Places) (x : ℕ) → AllByRecursion (IsBuiltPattern terms) qs → Contains (all_variables qs) x → IsPlaced (args_after env qs i places x)
+args_placed env terms [] i places x b c = absurd (none_contained x c)
+args_placed env terms (q ∷ qs) i places x b c =
+    ⊎_elim (λ d. args_keep env qs (suc i) (after env q (Arg i) places) x (pattern_places q env terms (Arg i) places x b.0 d))
+    (λ d. args_placed env terms qs (suc i) (after env q (Arg i) places) x b.1 d) (Contains-append_cases (variables q) (all_variables qs) x c)

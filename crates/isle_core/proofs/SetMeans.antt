@@ -1,6 +1,6 @@
 -- A rule set that stands for rules gives what they give.
-use Rattle.std.proofs.Common.{◌≡◌, ⊎_elim, ℕ, ◌+◌, List, [], ◌∷◌, ◌++◌, Bool, true, false, cond, length, get_or, map, Option, Some, None, refl, sym, ap, ◌∙◌, subst, arith}
-use Rattle.std.specs.Prelude.{Contains, All, option_and_then}
+use Rattle.std.proofs.Common.{◌≡◌, ⊎_elim, ℕ, ◌+◌, List, [], ◌∷◌, ◌++◌, Bool, true, false, cond, get_or, map, Option, Some, None, refl, sym, ap, ◌∙◌, subst, arith}
+use Rattle.std.specs.Prelude.{Contains, option_and_then}
 use Rattle.std.specs.Ordering.{int_cmp, is_lt}
 use Rattle.std.specs.List.{list_all, AllByRecursion}
 use Rattle.std.proofs.lemmas.List.Elements.{All-contains, recursion_from_All, Contains-get_or, Contains-append_left, Contains-append_right}
@@ -22,15 +22,18 @@ use Rattle.isle_core.specs.ValueAt.{Known, nothing_known, value_at, holds, all_h
 use Rattle.isle_core.specs.CallRun.{Went, Goes, Ends, then_go, returns, run_calls}
 use Rattle.isle_core.specs.RuleSet.{flat_tests, flat_holds, gave, flat_run, higher, highest, given, set_outcome}
 use Rattle.isle_core.specs.StandsFor.{IsFlat, AreFlat}
-use Rattle.isle_core.specs.Lawful.{CalledTermFits}
-use Rattle.isle_core.specs.CalledTerms.{CalledTerm, extracted_in, called_in_iflets, called_by, called_in, called}
-use Rattle.isle_core.specs.BuiltRule.{IsBuiltPattern, IsBuiltRule, IsImpureRule}
+use Rattle.isle_core.specs.HasType.{HaveTypes}
+use Rattle.isle_core.specs.OccurringConstants.{expr_constants, args_constants, iflets_constants, rule_constants, rules_constants}
+use Rattle.isle_core.specs.PatternType.{AreVariantsApart, ArePatternsOf}
+use Rattle.isle_base.specs.declared.ids.TypeId.{TypeId}
+use Rattle.isle_core.specs.CalledTerms.{extracted_in, called_in_iflets, called_by, called_in, called}
+use Rattle.isle_core.specs.BuiltRule.{IsBuiltPattern, IsBuiltRule, CallsBuiltTerms}
 use Rattle.isle_core.specs.Rule.{Environment, IfLet, Rule}
 use Rattle.isle_core.proofs.NotTrivial.{no_trivial}
-use Rattle.isle_core.proofs.PatternTests.{Agree, Both, none_agrees, patterns_both}
-use Rattle.isle_core.proofs.TurnKinds.{IsPlaced, CallsByTurns, calls_by_turns}
+use Rattle.isle_core.proofs.PatternTests.{HoldsFields, Agree, Both, none_agrees, patterns_both}
+use Rattle.isle_core.proofs.TurnKinds.{CallsByTurns, Supplies, supplies_less, calls_by_turns}
 use Rattle.isle_core.proofs.PlacedVariables.{args_placed}
-use Rattle.isle_core.proofs.ScopeLaws.{variable_of, rhs_in_scope}
+use Rattle.isle_core.proofs.ScopeLaws.{rhs_in_scope}
 use Rattle.isle_core.specs.Scope.{all_variables, IsScopedRule}
 use Rattle.isle_core.proofs.KnownAnswers.{nothing_fresh, none_up_to, args_up_to}
 use Rattle.isle_core.proofs.CallsFollow.{Follows, expr_follows}
@@ -52,10 +55,10 @@ all_from p xs h = list_all-from_AllPass p xs (λ k d lt. h (get_or xs k d) (Cont
 all_same : {A : Type 0} (p : A → Bool) (xs ys : List A) → ((x : A) → Contains xs x → Contains ys x) → ((x : A) → Contains ys x → Contains xs x) → list_all p xs ≡ list_all p ys
 all_same p xs ys h k = iff_same (list_all p xs) (list_all p ys) (λ e. all_from p ys (λ x c. all_at p xs e x (k x c))) (λ e. all_from p xs (λ x c. all_at p ys e x (h x c)))
 
-flat_same : (env : Environment) (m : Meaning) (args : List Value) (ps : List Path) (r : Rule) (n : ℕ) (f : FlatRule) → IsFlat env ps r n f → flat_holds env m args ps f ≡ all_hold env (value_at env m args nothing_known) (rule_tests env r)
-flat_same env m args ps r n f h =
-    all_same (holds env (value_at env m args nothing_known)) (flat_tests ps f) (rule_tests env r) (λ t c. (h.no_other t c).0)
-    (λ t c. ⊎_elim (λ d. d) (λ e. absurd (no_trivial env r t c e)) (h.tested t c))
+flat_same : (env : Environment) (m : Meaning) (args : List Value) (ps : List Path) (r : Rule) (n : ℕ) (f : FlatRule) → IsBuiltRule env.terms r → IsFlat env ps r n f → flat_holds env m args ps f ≡ all_hold env m (value_at env m args nothing_known) (rule_tests env r)
+flat_same env m args ps r n f b h =
+    all_same (holds env m (value_at env m args nothing_known)) (flat_tests ps f) (rule_tests env r) (λ t c. (h.no_other t c).0)
+    (λ t c. ⊎_elim (λ d. d) (λ e. absurd (no_trivial env r t b c e)) (h.tested t c))
 
 -- ---- one rule
 
@@ -67,14 +70,18 @@ no_iflets env m is (Some names) e = rw e refl
 pub without_iflets : (env : Environment) (r : Rule) → r.iflets ≡ [] → rule_tests env r ≡ args_tests env r.args 0 no_places
 without_iflets env r e = ap (λ is. iflets_tests is ++ args_tests env r.args 0 no_places) e
 
+-- the values of paths hold fields
+at_fields : (env : Environment) (m : Meaning) (args : List Value) (known : Known) → HoldsFields (value_at env m args known)
+at_fields env m args known = record { variant = λ variant i p. refl; struct = λ i p. refl }
+
 -- a rule matches exactly where its tests hold
-pub rule_both : (env : Environment) (m : Meaning) (args : List Value) (r : Rule) → IsBuiltRule r → length r.args ≡ length args
-    → Both (value_at env m args nothing_known) (rule_names env m args r) (all_hold env (value_at env m args nothing_known) (rule_tests env r)) (args_after env r.args 0 no_places)
-rule_both env m args r b l =
+pub rule_both : (env : Environment) (m : Meaning) (args : List Value) (tys : List TypeId) (r : Rule) → AreVariantsApart env → r.iflets ≡ [] → ArePatternsOf env tys r.args → HaveTypes env args tys
+    → Both (value_at env m args nothing_known) (rule_names env m args r) (all_hold env m (value_at env m args nothing_known) (rule_tests env r)) (args_after env r.args 0 no_places)
+rule_both env m args tys r apart none h t =
     let val = value_at env m args nothing_known in
-    subst (λ ts. Both val (rule_names env m args r) (all_hold env val ts) (args_after env r.args 0 no_places)) (sym (without_iflets env r b.iflets))
-    (subst (λ o. Both val o (all_hold env val (args_tests env r.args 0 no_places)) (args_after env r.args 0 no_places)) (sym (no_iflets env m r.iflets (matches_all env m r.args args no_names) b.iflets))
-    (patterns_both r.args args env m val 0 no_names no_places (recursion_from_All IsBuiltPattern r.args b.args) l (λ j. ap (λ n. val (Arg n)) (from_zero j)) (none_agrees val)))
+    subst (λ ts. Both val (rule_names env m args r) (all_hold env m val ts) (args_after env r.args 0 no_places)) (sym (without_iflets env r none))
+    (subst (λ o. Both val o (all_hold env m val (args_tests env r.args 0 no_places)) (args_after env r.args 0 no_places)) (sym (no_iflets env m r.iflets (matches_all env m r.args args no_names) none))
+    (patterns_both env m val apart (at_fields env m args nothing_known) r.args args tys 0 no_names no_places h t (λ j. ap (λ n. val (Arg n)) (from_zero j)) (none_agrees val)))
   where
     from_zero : (j : ℕ) → j + 0 ≡ j
     from_zero j = omega arith
@@ -83,11 +90,11 @@ rule_both env m args r b l =
 abbrev RuleByTurns : Environment → Meaning → Rule → Type 0
 RuleByTurns env m r = CallsByTurns env m (rule_places env r) r.rhs
 
-rule_by_turns : (env : Environment) (m : Meaning) (r : Rule) → IsBuiltRule r → IsScopedRule r → IsImpureRule env.terms r → ((o : CalledTerm) → Contains (called_in env r) o → CalledTermFits env m o) → RuleByTurns env m r
-rule_by_turns env m r b v i h = calls_by_turns r.rhs env m (all_variables r.args) (rule_places env r) placed b.rhs (rhs_in_scope r b v) i (λ o k. h o (Contains-append_right (extracted_in env r.args ++ called_in_iflets env r.iflets) (called_by env r.rhs) o k))
-  where
-    placed : (x : ℕ) → Contains (all_variables r.args) x → IsPlaced (rule_places env r x)
-    placed x c = let k = variable_of r.args x (recursion_from_All IsBuiltPattern r.args b.args) c in subst (λ n. IsPlaced (rule_places env r n)) k.is (args_placed env r.args 0 no_places k.ty k.var k.among)
+rule_by_turns : (env : Environment) (m : Meaning) (r : Rule) → IsBuiltRule env.terms r → IsScopedRule r → CallsBuiltTerms env.terms r → Supplies env m (called_in env r) (rule_constants r) → RuleByTurns env m r
+rule_by_turns env m r b v i h =
+    calls_by_turns r.rhs env m (all_variables r.args) (rule_places env r) (λ x c. args_placed env env.terms r.args 0 no_places x (recursion_from_All (IsBuiltPattern env.terms) r.args b.args) c) b.rhs (rhs_in_scope env.terms r b v) i
+    (supplies_less env m (called_in env r) (called_by env r.rhs) (rule_constants r) (expr_constants r.rhs) (λ o k. Contains-append_right (extracted_in env r.args ++ called_in_iflets env r.iflets) (called_by env r.rhs) o k)
+    (λ c k. Contains-append_right (args_constants r.args ++ iflets_constants r.iflets) (expr_constants r.rhs) c k) h)
 
 follows_returns : (env : Environment) (m : Meaning) (args : List Value) (n n' : ℕ) (known : Known) (p : Path) (r : Evaluated) (w : Went) → Follows env m args n n' known p r w → then_go w (returns env m args p) ≡ Ends (prescription_of r)
 follows_returns env m args n n' known p (Answered v made) (Goes known' made') h = rw (h.0.held, h.1) refl
@@ -132,18 +139,37 @@ alike_more env m args ps r n f b None later best t h k s = subst (λ x. Alike en
 alike_more env m args ps r n f b (Some names) later best t h k s =
     subst (λ x. Alike env m args ps (cond x (Some (higher f later)) later) (Some (better r names best))) (sym k.0) (alike_higher env m args ps r names f later best (h.prio, flat_gives env m args ps r n f names t h k.1) s)
 
-highest_alike : (rules : List Rule) (fs : List FlatRule) (env : Environment) (m : Meaning) (args : List Value) (ps : List Path) (n : ℕ) → AllByRecursion IsBuiltRule rules → AllByRecursion IsScopedRule rules → AllByRecursion (IsImpureRule env.terms) rules
-    → ((o : CalledTerm) → Contains (called env rules) o → CalledTermFits env m o) → AllByRecursion (λ (r : Rule). length r.args ≡ length args) rules → AreFlat env ps rules n fs
+-- what the rules of a term are like whose arguments have these types, and how the meaning serves them
+pub record AreMet (env : Environment) (m : Meaning) (tys : List TypeId) (rules : List Rule) : Type 0 where
+  pub built : AllByRecursion (IsBuiltRule env.terms) rules
+  pub scoped : AllByRecursion IsScopedRule rules
+  pub terms : AllByRecursion (CallsBuiltTerms env.terms) rules
+  pub typed : AllByRecursion (λ (r : Rule). ArePatternsOf env tys r.args) rules
+  pub served : Supplies env m (called env rules) (rules_constants rules)
+
+first_served : (env : Environment) (m : Meaning) (r : Rule) (rs : List Rule) → Supplies env m (called env (r ∷ rs)) (rules_constants (r ∷ rs)) → Supplies env m (called_in env r) (rule_constants r)
+first_served env m r rs h = supplies_less env m (called env (r ∷ rs)) (called_in env r) (rules_constants (r ∷ rs)) (rule_constants r) (λ o k. Contains-append_left (called_in env r) (called env rs) o k) (λ c k. Contains-append_left (rule_constants r) (rules_constants rs) c k) h
+
+rest_met : (env : Environment) (m : Meaning) (tys : List TypeId) (r : Rule) (rs : List Rule) → AreMet env m tys (r ∷ rs) → AreMet env m tys rs
+rest_met env m tys r rs h = record {
+  built = h.built.1;
+  scoped = h.scoped.1;
+  terms = h.terms.1;
+  typed = h.typed.1;
+  served = supplies_less env m (called env (r ∷ rs)) (called env rs) (rules_constants (r ∷ rs)) (rules_constants rs) (λ o k. Contains-append_right (called_in env r) (called env rs) o k) (λ c k. Contains-append_right (rule_constants r) (rules_constants rs) c k) h.served;
+}
+
+highest_alike : (rules : List Rule) (fs : List FlatRule) (env : Environment) (m : Meaning) (args : List Value) (tys : List TypeId) (ps : List Path) (n : ℕ) → AreVariantsApart env → HaveTypes env args tys → AreMet env m tys rules → AreFlat env ps rules n fs
     → Alike env m args ps (highest (flat_holds env m args ps) fs) (highest_match env m args rules)
-highest_alike [] [] env m args ps n b v i c l h = tt
-highest_alike (r ∷ rs) (f ∷ fs) env m args ps n b v i c l h =
+highest_alike [] [] env m args tys ps n apart t met h = tt
+highest_alike (r ∷ rs) (f ∷ fs) env m args tys ps n apart t met h =
     let val = value_at env m args nothing_known in
     alike_more env m args ps r n f (flat_holds env m args ps f) (rule_names env m args r) (highest (flat_holds env m args ps) fs) (highest_match env m args rs)
-    (rule_by_turns env m r b.0 v.0 i.0 (λ t k. c t (Contains-append_left (called_in env r) (called env rs) t k))) h.0
-    (subst (λ x. Both val (rule_names env m args r) x (rule_places env r)) (sym (flat_same env m args ps r n f h.0)) (rule_both env m args r b.0 l.0))
-    (highest_alike rs fs env m args ps (n + impure env r.rhs) b.1 v.1 i.1 (λ t k. c t (Contains-append_right (called_in env r) (called env rs) t k)) l.1 h.1)
-highest_alike [] (f ∷ fs) env m args ps n b v i c l h = absurd h
-highest_alike (r ∷ rs) [] env m args ps n b v i c l h = absurd h
+    (rule_by_turns env m r met.built.0 met.scoped.0 met.terms.0 (first_served env m r rs met.served)) h.0
+    (subst (λ x. Both val (rule_names env m args r) x (rule_places env r)) (sym (flat_same env m args ps r n f met.built.0 h.0)) (rule_both env m args tys r apart met.built.0.iflets met.typed.0 t))
+    (highest_alike rs fs env m args tys ps (n + impure env r.rhs) apart t (rest_met env m tys r rs met) h.1)
+highest_alike [] (f ∷ fs) env m args tys ps n apart t met h = absurd h
+highest_alike (r ∷ rs) [] env m args tys ps n apart t met h = absurd h
 
 alike_given : (env : Environment) (m : Meaning) (args : List Value) (ps : List Path) (kind : ReturnKind) (o : Option FlatRule) (best : Option (Rule × Names)) → Alike env m args ps o best → given env m args ps kind o ≡ given_by env m kind best []
 alike_given env m args ps kind None None h = refl
@@ -152,11 +178,7 @@ alike_given env m args ps kind None (Some o) h = absurd h
 alike_given env m args ps kind (Some f) None h = absurd h
 
 -- flat rules that are the rules give what the rules give
-pub set_means : (env : Environment) (m : Meaning) (args : List Value) (ps : List Path) (rules : List Rule) (fs : List FlatRule) (kind : ReturnKind)
-    → All IsBuiltRule rules → All IsScopedRule rules → All (IsImpureRule env.terms) rules → ((o : CalledTerm) → Contains (called env rules) o → CalledTermFits env m o)
-    → All (λ (r : Rule). length r.args ≡ length args) rules → AreFlat env ps rules 0 fs
+pub set_means : (env : Environment) (m : Meaning) (args : List Value) (tys : List TypeId) (ps : List Path) (rules : List Rule) (fs : List FlatRule) (kind : ReturnKind) → AreVariantsApart env → HaveTypes env args tys → AreMet env m tys rules → AreFlat env ps rules 0 fs
     → set_outcome env m args ps fs kind ≡ outcome_of env m args rules kind []
-set_means env m args ps rules fs kind b v i c l h =
-    alike_given env m args ps kind (highest (flat_holds env m args ps) fs) (highest_match env m args rules)
-    (highest_alike rules fs env m args ps 0 (recursion_from_All IsBuiltRule rules b) (recursion_from_All IsScopedRule rules v) (recursion_from_All (IsImpureRule env.terms) rules i) c
-    (recursion_from_All (λ (r : Rule). length r.args ≡ length args) rules l) h)
+set_means env m args tys ps rules fs kind apart t met h =
+    alike_given env m args ps kind (highest (flat_holds env m args ps) fs) (highest_match env m args rules) (highest_alike rules fs env m args tys ps 0 apart t met h)

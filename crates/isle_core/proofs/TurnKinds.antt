@@ -1,6 +1,6 @@
 -- A lawful impure term is answered by turns of its kind.
 use Rattle.std.proofs.Common.{◌≡◌, ℕ, zero, suc, List, [], ◌∷◌, false, Option, Some, None, refl, sym, subst, cond}
-use Rattle.std.specs.Prelude.{IsSomeAnd, All, slice_get, slice_index_or, Contains}
+use Rattle.std.specs.Prelude.{IsSomeAnd, IsSome, All, slice_get, slice_index_or, Contains}
 use Rattle.std.specs.List.{AllByRecursion}
 use Rattle.std.proofs.lemmas.List.Elements.{recursion_from_All, Contains-append_left, Contains-append_right}
 use Rattle.isle_core.proofs.Contained.{head_contained}
@@ -17,12 +17,16 @@ use Rattle.isle_core.specs.declared.types.ReturnKind.TheVariants as return_kind
 use Rattle.isle_core.specs.Value.{Value, Answer, Plain, Found, Nothing, Several, Made}
 use Rattle.isle_core.specs.Meaning.{Meaning, TurnAnswers, turns_of, turn_at, times, turn}
 use Rattle.isle_core.specs.Answered.{AValue, ATuple, Held, Absent, One, Optional, Listed, a_value, an_option, answer_held}
-use Rattle.isle_core.specs.Calling.{Calling, ByTurns, kind_of, kind_by, pure_callee, calling_by, calling_of, calling}
+use Rattle.isle_core.specs.Calling.{Calling, ByTurns, NoCall, kind_of, kind_by, pure_callee, calling_by, calling_of, calling}
 use Rattle.isle_core.specs.Terms.{sym_text, impure_callee}
 use Rattle.isle_core.specs.HasType.{HasType}
 use Rattle.isle_core.specs.Lawful.{Fits, all_turns, CallingFits, CalledTermFits}
-use Rattle.isle_core.specs.CalledTerms.{Constructor, CalledTerm, is_made_kind, is_made_term, unless_made, called_by, called_by_all}
-use Rattle.isle_core.specs.BuiltRule.{IsBuiltExpr, AreBuiltExprs, IsImpureKind, CallsImpure, AllCallImpure}
+use Rattle.isle_core.specs.CalledTerms.{Constructor, CalledTerm, is_made_kind, is_made_term, is_made, unless_made, called_by, called_by_all}
+use Rattle.isle_core.specs.BuiltRule.{IsBuiltExpr, AreBuiltExprs, IsBuiltKind, HasBuiltTerms, AllHaveBuiltTerms}
+use Rattle.isle_base.specs.declared.ids.Sym.{Sym}
+use Rattle.isle_core.specs.Having.{const_of}
+use Rattle.isle_core.specs.Making.{Making, MakesVariant, MakesStruct, MakesNothing, making_kind, making_of, making}
+use Rattle.isle_core.specs.OccurringConstants.{TypedConstant, Named, expr_constants, exprs_constants}
 use Rattle.isle_core.specs.Scope.{IsInScope, AreInScope}
 use Rattle.isle_core.specs.Expr as expr
 use Rattle.isle_core.specs.Expr.{Expr, Exprs, NoExpr, AnExpr}
@@ -113,31 +117,31 @@ turns_fit env m ty callee kind h made = turn_at_fits env ty kind (turns_of m cal
 
 -- ---- a term
 
-kind_takes : (env : Environment) (m : Meaning) (ty : TypeId) (t : Term) (k : TermKind) → IsImpureKind k
-    → CallingFits env m (ty ∷ []) (calling_by (kind_of k) (impure_callee env t k) (pure_callee env t k)) → TakesTurns m (calling_by (kind_of k) (impure_callee env t k) (pure_callee env t k))
-kind_takes env m ty t (term_kind.Decl false false partial recursive constructor.Internal extractor) i h = turns_fit env m ty (Internal (sym_text env t.name)) (kind_by false partial) h
-kind_takes env m ty t (term_kind.Decl false false partial recursive (constructor.External func) extractor) i h = turns_fit env m ty (External (sym_text env func)) (kind_by false partial) h
+-- a term that is made is not called, and any other one takes turns
+abbrev pub TermTakes : Meaning → Making → Calling → Type 0
+TermTakes m (MakesVariant ty variant) c = c ≡ NoCall
+TermTakes m (MakesStruct ty) c = c ≡ NoCall
+TermTakes m MakesNothing c = TakesTurns m c
+
+kind_takes : (env : Environment) (m : Meaning) (ty : TypeId) (t : Term) (k : TermKind) → IsBuiltKind k
+    → (is_made_kind k ≡ false → CallingFits env m (ty ∷ []) (calling_by (kind_of k) (impure_callee env t k) (pure_callee env t k)))
+    → TermTakes m (making_kind k) (calling_by (kind_of k) (impure_callee env t k) (pure_callee env t k))
+kind_takes env m ty t (term_kind.Decl false false partial recursive constructor.Internal extractor) i h = turns_fit env m ty (Internal (sym_text env t.name)) (kind_by false partial) (h refl)
+kind_takes env m ty t (term_kind.Decl false false partial recursive (constructor.External func) extractor) i h = turns_fit env m ty (External (sym_text env func)) (kind_by false partial) (h refl)
+kind_takes env m ty t (term_kind.Variant of variant) i h = refl
+kind_takes env m ty t (term_kind.Struct of) i h = refl
 kind_takes env m ty t k i h = absurd i
 
-term_takes : (env : Environment) (m : Meaning) (o : Option Term) → IsSomeAnd o (λ (t : Term). IsImpureKind t.kind) → IsSomeAnd o (λ (t : Term). CallingFits env m (t.ret_ty ∷ []) (calling_of env o)) → TakesTurns m (calling_of env o)
+term_takes : (env : Environment) (m : Meaning) (o : Option Term) → IsSomeAnd o (λ (t : Term). IsBuiltKind t.kind)
+    → (is_made_term o ≡ false → IsSomeAnd o (λ (t : Term). CallingFits env m (t.ret_ty ∷ []) (calling_of env o))) → TermTakes m (making_of o) (calling_of env o)
 term_takes env m None i h = absurd i
 term_takes env m (Some t) i h = kind_takes env m t.ret_ty t t.kind i h
 
--- a term with a constructor is not made
-not_made : (o : Option Term) → IsSomeAnd o (λ (t : Term). IsImpureKind t.kind) → is_made_term o ≡ false
-not_made None i = absurd i
-not_made (Some t) i = of_kind t.kind i
-  where
-    of_kind : (k : TermKind) → IsImpureKind k → is_made_kind k ≡ false
-    of_kind (term_kind.Decl pure multi partial recursive constructor extractor) h = refl
-    of_kind (term_kind.Variant ty variant) h = absurd h
-    of_kind (term_kind.Struct ty) h = absurd h
-
--- so it is called where it stands
-pub called_here : (env : Environment) (term : TermId) → IsSomeAnd (slice_get env.terms term.0) (λ (t : Term). IsImpureKind t.kind) → Contains {X = CalledTerm} (unless_made env Constructor term) (record { term = term; role = Constructor })
-called_here env term i =
+-- a term that is not made is called where it stands
+pub called_here : (env : Environment) (term : TermId) → is_made env term ≡ false → Contains {X = CalledTerm} (unless_made env Constructor term) (record { term = term; role = Constructor })
+called_here env term e =
     let o : CalledTerm = record { term = term; role = Constructor } in
-    subst (λ b. Contains (cond b [] (o ∷ [])) o) (sym (not_made (slice_get env.terms term.0) i)) (head_contained o [])
+    subst (λ b. Contains (cond b [] (o ∷ [])) o) (sym e) (head_contained o [])
 
 -- ---- an expression
 
@@ -146,14 +150,14 @@ abbrev pub IsPlaced : Option Path → Type 0
 IsPlaced None = ⊥
 IsPlaced (Some p) = Unit {0}
 
--- a built expression whose variables have paths and whose calls take turns
+-- a built expression whose variables have paths, whose named constants have values and whose calls take turns
 abbrev mutual
   pub CallsByTurns : Environment → Meaning → Places → Expr → Type 0
   CallsByTurns env m places (expr.Var ty x) = IsPlaced (places x.0)
   CallsByTurns env m places (expr.ConstBool b) = Unit {0}
   CallsByTurns env m places (expr.ConstInt ty n) = Unit {0}
-  CallsByTurns env m places (expr.Term ty term es) = TakesTurns m (calling env term) × AllCallByTurns env m places es
-  CallsByTurns env m places (expr.ConstPrim ty name) = ⊥
+  CallsByTurns env m places (expr.ConstPrim ty name) = IsSome (const_of m (sym_text env name))
+  CallsByTurns env m places (expr.Term ty term es) = TermTakes m (making env term) (calling env term) × AllCallByTurns env m places es
   CallsByTurns env m places (expr.Let ty bindings inner) = ⊥
 
   -- so of expressions in order
@@ -161,25 +165,40 @@ abbrev mutual
   AllCallByTurns env m places NoExpr = Unit {0}
   AllCallByTurns env m places (AnExpr e es) = CallsByTurns env m places e × AllCallByTurns env m places es
 
+-- the meaning answers what is called among these terms, and each name among these constants has a value
+pub record Supplies (env : Environment) (m : Meaning) (terms : List CalledTerm) (constants : List TypedConstant) : Type 0 where
+  pub answers : (o : CalledTerm) → Contains terms o → CalledTermFits env m o
+  pub named : (ty : TypeId) (name : Sym) → Contains constants (ty, Named name) → IsSome (const_of m (sym_text env name))
+
+-- so of a part of both
+pub supplies_less : (env : Environment) (m : Meaning) (terms others : List CalledTerm) (constants those : List TypedConstant) → ((o : CalledTerm) → Contains others o → Contains terms o) → ((c : TypedConstant) → Contains those c → Contains constants c)
+    → Supplies env m terms constants → Supplies env m others those
+supplies_less env m terms others constants those f g s = record { answers = λ o k. s.answers o (f o k); named = λ ty name k. s.named ty name (g (ty, Named name) k) }
+
 mutual
-  -- impure terms that are answered lawfully take turns
+  -- terms that are answered lawfully take turns or are made
   pub calls_by_turns : (e : Expr) (env : Environment) (m : Meaning) (scope : List ℕ) (places : Places) → ((x : ℕ) → Contains scope x → IsPlaced (places x))
-      → IsBuiltExpr e → IsInScope scope e → CallsImpure env.terms e → ((o : CalledTerm) → Contains (called_by env e) o → CalledTermFits env m o) → CallsByTurns env m places e
+      → IsBuiltExpr e → IsInScope scope e → HasBuiltTerms env.terms e → Supplies env m (called_by env e) (expr_constants e) → CallsByTurns env m places e
   calls_by_turns (expr.Var ty x) env m scope places p b v i h = p x.0 v
   calls_by_turns (expr.ConstBool c) env m scope places p b v i h = tt
   calls_by_turns (expr.ConstInt ty n) env m scope places p b v i h = tt
-  calls_by_turns (expr.Term ty term es) env m scope places p b v i h = (
-    term_takes env m (slice_get env.terms term.0) i.0 (h (record { term = term; role = Constructor }) (Contains-append_right (called_by_all env es) (unless_made env Constructor term) (record { term = term; role = Constructor }) (called_here env term i.0))),
-    all_call_by_turns es env m scope places p b v i.1 (λ o k. h o (Contains-append_left (called_by_all env es) (unless_made env Constructor term) o k)),
-  )
-  calls_by_turns (expr.ConstPrim ty name) env m scope places p b v i h = absurd b
+  calls_by_turns (expr.ConstPrim ty name) env m scope places p b v i h = h.named ty name (head_contained (ty, Named name) [])
+  calls_by_turns (expr.Term ty term es) env m scope places p b v i h =
+      let o : CalledTerm = record { term = term; role = Constructor } in (
+        term_takes env m (slice_get env.terms term.0) i.0 (λ e. h.answers o (Contains-append_right (called_by_all env es) (unless_made env Constructor term) o (called_here env term e))),
+        all_call_by_turns es env m scope places p b v i.1 (supplies_less env m (called_by env (expr.Term ty term es)) (called_by_all env es) (exprs_constants es) (exprs_constants es) (λ q k. Contains-append_left (called_by_all env es) (unless_made env Constructor term) q k) (λ c k. k) h),
+      )
   calls_by_turns (expr.Let ty bindings inner) env m scope places p b v i h = absurd b
 
   -- so of expressions in order
   pub all_call_by_turns : (es : Exprs) (env : Environment) (m : Meaning) (scope : List ℕ) (places : Places) → ((x : ℕ) → Contains scope x → IsPlaced (places x))
-      → AreBuiltExprs es → AreInScope scope es → AllCallImpure env.terms es → ((o : CalledTerm) → Contains (called_by_all env es) o → CalledTermFits env m o) → AllCallByTurns env m places es
+      → AreBuiltExprs es → AreInScope scope es → AllHaveBuiltTerms env.terms es → Supplies env m (called_by_all env es) (exprs_constants es) → AllCallByTurns env m places es
   all_call_by_turns NoExpr env m scope places p b v i h = tt
-  all_call_by_turns (AnExpr e es) env m scope places p b v i h = (
-    calls_by_turns e env m scope places p b.0 v.0 i.0 (λ o k. h o (Contains-append_left (called_by env e) (called_by_all env es) o k)),
-    all_call_by_turns es env m scope places p b.1 v.1 i.1 (λ o k. h o (Contains-append_right (called_by env e) (called_by_all env es) o k)),
-  )
+  all_call_by_turns (AnExpr e es) env m scope places p b v i h =
+      let terms = called_by_all env (AnExpr e es) in
+      let constants = exprs_constants (AnExpr e es) in (
+        calls_by_turns e env m scope places p b.0 v.0 i.0
+            (supplies_less env m terms (called_by env e) constants (expr_constants e) (λ o k. Contains-append_left (called_by env e) (called_by_all env es) o k) (λ c k. Contains-append_left (expr_constants e) (exprs_constants es) c k) h),
+        all_call_by_turns es env m scope places p b.1 v.1 i.1
+            (supplies_less env m terms (called_by_all env es) constants (exprs_constants es) (λ o k. Contains-append_right (called_by env e) (called_by_all env es) o k) (λ c k. Contains-append_right (expr_constants e) (exprs_constants es) c k) h),
+      )

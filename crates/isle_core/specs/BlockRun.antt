@@ -55,7 +55,7 @@ abbrev mutual
 
   pub arms_run : Environment → Meaning → List Value → List Path → Arms → Held → Known → List Made → Went
   arms_run env m args ps NoArm h known made = Goes known made
-  arms_run env m args ps (Arm c places body arms) h known made = if meets env c h then block_run env m args ps body known made else arms_run env m args ps arms h known made
+  arms_run env m args ps (Arm c places body arms) h known made = if meets env m c h then block_run env m args ps body known made else arms_run env m args ps arms h known made
 
 -- what a block gives whose bindings have these paths
 abbrev pub block_outcome : Environment → Meaning → List Value → List Path → Block → ReturnKind → Prescription

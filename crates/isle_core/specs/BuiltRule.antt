@@ -1,34 +1,52 @@
 -- The forms of rules that are built.
-use Rattle.std.specs.Prelude.{◌≡◌, List, [], true, false, All, IsSomeAnd, slice_get}
+use Rattle.std.specs.Prelude.{◌≡◌, ℕ, suc, ◌≤◌, List, [], true, false, All, IsSomeAnd, slice_get}
 use Rattle.isle_core.specs.declared.types.Term.{Term}
 use Rattle.isle_core.specs.declared.types.TermKind.{TermKind}
 use Rattle.isle_core.specs.declared.types.TermKind.TheVariants as kind
 use Rattle.isle_core.specs.declared.types.ConstructorKind.TheVariants as constructor
 use Rattle.isle_core.specs.Pattern as pattern
-use Rattle.isle_core.specs.Pattern.{Pattern}
+use Rattle.isle_core.specs.Making.{Making, MakesVariant, MakesStruct, MakesNothing, making_in}
+use Rattle.isle_core.specs.Pattern.{Pattern, Patterns, NoPattern, APattern}
 use Rattle.isle_core.specs.Expr as expr
 use Rattle.isle_core.specs.Expr.{Expr, Exprs, NoExpr, AnExpr}
 use Rattle.isle_core.specs.Rule.{Rule}
 
--- a variable, a constant or `_`
-abbrev pub IsBuiltPattern : Pattern → Type 0
-IsBuiltPattern (pattern.Var ty x) = Unit {0}
-IsBuiltPattern (pattern.ConstBool b) = Unit {0}
-IsBuiltPattern (pattern.ConstInt ty n) = Unit {0}
-IsBuiltPattern (pattern.Wildcard ty) = Unit {0}
-IsBuiltPattern (pattern.BindPattern of x q) = ⊥
-IsBuiltPattern (pattern.ConstPrim of name) = ⊥
-IsBuiltPattern (pattern.Term of term ps) = ⊥
-IsBuiltPattern (pattern.And of ps) = ⊥
+-- a made term
+abbrev pub IsMaking : Making → Type 0
+IsMaking (MakesVariant ty variant) = Unit {0}
+IsMaking (MakesStruct ty) = Unit {0}
+IsMaking MakesNothing = ⊥
 
--- a variable, a constant, or a call of a term on such expressions
+-- how many patterns there are
+abbrev pub count : Patterns → ℕ
+count NoPattern = 0
+count (APattern p ps) = suc (count ps)
+
+-- a variable, a constant, `_`, or a made term of at most 256 such patterns
+abbrev mutual
+  pub IsBuiltPattern : List Term → Pattern → Type 0
+  IsBuiltPattern terms (pattern.Var ty x) = Unit {0}
+  IsBuiltPattern terms (pattern.ConstBool b) = Unit {0}
+  IsBuiltPattern terms (pattern.ConstInt ty n) = Unit {0}
+  IsBuiltPattern terms (pattern.ConstPrim ty name) = Unit {0}
+  IsBuiltPattern terms (pattern.Wildcard ty) = Unit {0}
+  IsBuiltPattern terms (pattern.Term of term ps) = IsMaking (making_in terms term) × (count ps ≤ 256) × AreBuiltPatterns terms ps
+  IsBuiltPattern terms (pattern.BindPattern of x q) = ⊥
+  IsBuiltPattern terms (pattern.And of ps) = ⊥
+
+  -- so of patterns in order
+  pub AreBuiltPatterns : List Term → Patterns → Type 0
+  AreBuiltPatterns terms NoPattern = Unit {0}
+  AreBuiltPatterns terms (APattern p ps) = IsBuiltPattern terms p × AreBuiltPatterns terms ps
+
+-- a variable, a constant, or a term on such expressions
 abbrev mutual
   pub IsBuiltExpr : Expr → Type 0
   IsBuiltExpr (expr.Var ty x) = Unit {0}
   IsBuiltExpr (expr.ConstBool b) = Unit {0}
   IsBuiltExpr (expr.ConstInt ty n) = Unit {0}
   IsBuiltExpr (expr.Term ty term es) = AreBuiltExprs es
-  IsBuiltExpr (expr.ConstPrim of name) = ⊥
+  IsBuiltExpr (expr.ConstPrim of name) = Unit {0}
   IsBuiltExpr (expr.Let of bindings inner) = ⊥
 
   -- so of expressions in order
@@ -37,38 +55,38 @@ abbrev mutual
   AreBuiltExprs (AnExpr e es) = IsBuiltExpr e × AreBuiltExprs es
 
 -- a rule without conditions, of such patterns and such a right side
-pub record IsBuiltRule (r : Rule) : Type 0 where
-  pub args : All IsBuiltPattern r.args
+pub record IsBuiltRule (terms : List Term) (r : Rule) : Type 0 where
+  pub args : All (IsBuiltPattern terms) r.args
   pub iflets : r.iflets ≡ []
   pub rhs : IsBuiltExpr r.rhs
 
--- ---- what is called
+-- ---- the terms of right sides
 
--- an impure term that has a constructor and answers at most once
-abbrev pub IsImpureKind : TermKind → Type 0
-IsImpureKind (kind.Decl false false partial recursive constructor.Internal extractor) = Unit {0}
-IsImpureKind (kind.Decl false false partial recursive (constructor.External func) extractor) = Unit {0}
-IsImpureKind (kind.Decl false false partial recursive constructor.Absent extractor) = ⊥
-IsImpureKind (kind.Decl false true partial recursive by extractor) = ⊥
-IsImpureKind (kind.Decl true multi partial recursive by extractor) = ⊥
-IsImpureKind (kind.Variant ty variant) = ⊥
-IsImpureKind (kind.Struct ty) = ⊥
+-- a made term, or an impure one that has a constructor and answers at most once
+abbrev pub IsBuiltKind : TermKind → Type 0
+IsBuiltKind (kind.Decl false false partial recursive constructor.Internal extractor) = Unit {0}
+IsBuiltKind (kind.Decl false false partial recursive (constructor.External func) extractor) = Unit {0}
+IsBuiltKind (kind.Variant ty variant) = Unit {0}
+IsBuiltKind (kind.Struct ty) = Unit {0}
+IsBuiltKind (kind.Decl false false partial recursive constructor.Absent extractor) = ⊥
+IsBuiltKind (kind.Decl false true partial recursive by extractor) = ⊥
+IsBuiltKind (kind.Decl true multi partial recursive by extractor) = ⊥
 
--- each term that an expression calls is one; calls of others are not built
+-- each term of an expression is one; calls of others are not built
 abbrev mutual
-  pub CallsImpure : List Term → Expr → Type 0
-  CallsImpure terms (expr.Term ty term es) = IsSomeAnd (slice_get terms term.0) (λ (t : Term). IsImpureKind t.kind) × AllCallImpure terms es
-  CallsImpure terms (expr.Var of x) = Unit {0}
-  CallsImpure terms (expr.ConstBool b) = Unit {0}
-  CallsImpure terms (expr.ConstInt of n) = Unit {0}
-  CallsImpure terms (expr.ConstPrim of name) = Unit {0}
-  CallsImpure terms (expr.Let of bindings inner) = Unit {0}
+  pub HasBuiltTerms : List Term → Expr → Type 0
+  HasBuiltTerms terms (expr.Term ty term es) = IsSomeAnd (slice_get terms term.0) (λ (t : Term). IsBuiltKind t.kind) × AllHaveBuiltTerms terms es
+  HasBuiltTerms terms (expr.Var of x) = Unit {0}
+  HasBuiltTerms terms (expr.ConstBool b) = Unit {0}
+  HasBuiltTerms terms (expr.ConstInt of n) = Unit {0}
+  HasBuiltTerms terms (expr.ConstPrim of name) = Unit {0}
+  HasBuiltTerms terms (expr.Let of bindings inner) = Unit {0}
 
   -- so of expressions in order
-  pub AllCallImpure : List Term → Exprs → Type 0
-  AllCallImpure terms NoExpr = Unit {0}
-  AllCallImpure terms (AnExpr e es) = CallsImpure terms e × AllCallImpure terms es
+  pub AllHaveBuiltTerms : List Term → Exprs → Type 0
+  AllHaveBuiltTerms terms NoExpr = Unit {0}
+  AllHaveBuiltTerms terms (AnExpr e es) = HasBuiltTerms terms e × AllHaveBuiltTerms terms es
 
--- so of a rule
-abbrev pub IsImpureRule : List Term → Rule → Type 0
-IsImpureRule terms r = CallsImpure terms r.rhs
+-- so of a rule's right side
+abbrev pub CallsBuiltTerms : List Term → Rule → Type 0
+CallsBuiltTerms terms r = HasBuiltTerms terms r.rhs

@@ -6,6 +6,10 @@ use Rattle.isle_core.specs.Meaning.{Meaning, turn, case}
 use Rattle.isle_core.specs.Answered.{AValue, ATuple, Held, Absent, One, Optional, Listed, answer_held}
 use Rattle.isle_core.specs.Calling.{Calling, ByTurns, ByCases, NoCall, calling}
 use Rattle.isle_core.specs.Expr.{Expr, Exprs, NoExpr, AnExpr, Term, Var, ConstBool, ConstInt, ConstPrim, Let}
+use Rattle.isle_core.specs.Having.{const_of}
+use Rattle.isle_core.specs.Terms.{sym_text}
+use Rattle.isle_core.specs.Making.{Making, MakesVariant, MakesStruct, MakesNothing, making}
+use Rattle.isle_core.specs.Form.{made_value}
 use Rattle.isle_core.specs.Match.{Names, matches}
 use Rattle.isle_core.specs.Rule.{Environment, IfLet}
 
@@ -19,7 +23,7 @@ pub data EvaluatedAll : Type 0 where
   AllAnswered : List Value → List Made → EvaluatedAll
   OneFailed : List Made → EvaluatedAll
 
--- the value of a variable
+-- the value of a variable or of a named constant
 abbrev pub named : Option Value → List Made → Evaluated
 named (Some v) made = Answered v made
 named None made = Failed made
@@ -56,14 +60,20 @@ called_with m (ByTurns callee kind) vs made = answered (answer_held (turn m call
 called_with m (ByCases callee kind) vs made = answered (answer_held (case m callee vs)) made
 called_with m NoCall vs made = Failed made
 
--- the evaluation of an expression, after the calls made before, arguments first; a named constant and a `let` are not built
+-- a term with these arguments: a made one makes its value, any other one is called
+abbrev pub made_or_called : Environment → Meaning → Making → Calling → List Value → List Made → Evaluated
+made_or_called env m (MakesVariant ty variant) c vs made = Answered (made_value env (MakesVariant ty variant) vs) made
+made_or_called env m (MakesStruct ty) c vs made = Answered (made_value env (MakesStruct ty) vs) made
+made_or_called env m MakesNothing c vs made = called_with m c vs made
+
+-- the evaluation of an expression, after the calls made before, arguments first; a `let` is not built
 abbrev mutual
   pub evaluated : Environment → Meaning → Expr → Names → List Made → Evaluated
   evaluated env m (ConstBool b) names made = Answered (Truth b) made
   evaluated env m (ConstInt ty n) names made = Answered (int_value env ty n) made
   evaluated env m (Var ty x) names made = named (names x.0) made
-  evaluated env m (Term ty term es) names made = then_one (evaluated_all env m es names made) (called_with m (calling env term))
-  evaluated env m (ConstPrim ty name) names made = Failed made
+  evaluated env m (Term ty term es) names made = then_one (evaluated_all env m es names made) (made_or_called env m (making env term) (calling env term))
+  evaluated env m (ConstPrim ty name) names made = named (const_of m (sym_text env name)) made
   evaluated env m (Let ty bindings inner) names made = Failed made
 
   -- from left to right

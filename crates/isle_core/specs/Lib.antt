@@ -8,12 +8,15 @@ pub mod Expr
 pub mod Rule
 pub mod RuleViews
 pub mod HasType
+pub mod Making
+pub mod Form
 pub mod BuiltinType
 pub mod SameValue
 pub mod SameInRun
 pub mod Constants
 pub mod Calling
 pub mod Answered
+pub mod Having
 pub mod Match
 pub mod Eval
 pub mod Outcome
@@ -25,6 +28,7 @@ pub mod Tests
 pub mod RightSide
 pub mod OrderedCalls
 pub mod RulePaths
+pub mod PatternType
 pub mod ValueAt
 pub mod CallRun
 pub mod RuleSet
@@ -44,7 +48,6 @@ pub mod ArmPlaces
 pub mod BlockLawful
 pub mod SingleArms
 pub mod Serializable
-pub mod Having
 pub mod CalledTerms
 pub mod OccurringConstants
 pub mod Lawful

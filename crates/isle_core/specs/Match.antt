@@ -4,7 +4,11 @@ use Rattle.isle_core.specs.Value.{Value, Truth}
 use Rattle.isle_core.specs.SameValue.{same_value}
 use Rattle.isle_core.specs.Constants.{int_value}
 use Rattle.isle_core.specs.Meaning.{Meaning}
-use Rattle.isle_core.specs.Pattern.{Pattern, BindPattern, Var, ConstBool, ConstInt, ConstPrim, Term, Wildcard, And}
+use Rattle.isle_core.specs.Having.{const_of}
+use Rattle.isle_core.specs.Terms.{sym_text}
+use Rattle.isle_core.specs.Making.{making}
+use Rattle.isle_core.specs.Form.{is_made_by, parts}
+use Rattle.isle_core.specs.Pattern.{Pattern, Patterns, NoPattern, APattern, BindPattern, Var, ConstBool, ConstInt, ConstPrim, Term, Wildcard, And}
 use Rattle.isle_core.specs.Rule.{Environment}
 
 -- the value of each variable, by its number
@@ -28,16 +32,30 @@ abbrev pub met : Option Value → ℕ → Value → Names → Option Names
 met None x v names = Some (with names x v)
 met (Some w) x v names = if_holds (same_value w v) names
 
--- the names with those that the pattern binds, where it matches; a term, a named constant and patterns of parts are not built
-abbrev pub matches : Environment → Meaning → Pattern → Value → Names → Option Names
-matches env m (Var ty x) v names = met (names x.0) x.0 v names
-matches env m (ConstBool b) v names = if_holds (same_value v (Truth b)) names
-matches env m (ConstInt ty n) v names = if_holds (same_value v (int_value env ty n)) names
-matches env m (Wildcard ty) v names = Some names
-matches env m (BindPattern ty x p) v names = None
-matches env m (ConstPrim ty name) v names = None
-matches env m (Term ty term ps) v names = None
-matches env m (And ty ps) v names = None
+-- the value of a named constant, where it has one
+abbrev pub equals_const : Option Value → Value → Names → Option Names
+equals_const None v names = None
+equals_const (Some w) v names = if_holds (same_value v w) names
+
+-- the names with those that the pattern binds, where it matches; a made term's parts match the fields of what it makes. Terms
+-- that are extracted, and `@` and `and`, are not built
+abbrev mutual
+  pub matches : Environment → Meaning → Pattern → Value → Names → Option Names
+  matches env m (Var ty x) v names = met (names x.0) x.0 v names
+  matches env m (ConstBool b) v names = if_holds (same_value v (Truth b)) names
+  matches env m (ConstInt ty n) v names = if_holds (same_value v (int_value env ty n)) names
+  matches env m (ConstPrim ty name) v names = equals_const (const_of m (sym_text env name)) v names
+  matches env m (Wildcard ty) v names = Some names
+  matches env m (Term ty term ps) v names = if is_made_by env (making env term) v then matches_parts env m ps (parts v) names else None
+  matches env m (BindPattern ty x p) v names = None
+  matches env m (And ty ps) v names = None
+
+  -- parts against as many values, in order
+  pub matches_parts : Environment → Meaning → Patterns → List Value → Names → Option Names
+  matches_parts env m NoPattern [] names = Some names
+  matches_parts env m (APattern p ps) (v ∷ vs) names = option_and_then (matches_parts env m ps vs) (matches env m p v names)
+  matches_parts env m NoPattern (v ∷ vs) names = None
+  matches_parts env m (APattern p ps) [] names = None
 
 -- patterns against as many values, in order
 abbrev pub matches_all : Environment → Meaning → List Pattern → List Value → Names → Option Names

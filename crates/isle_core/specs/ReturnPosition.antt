@@ -38,7 +38,7 @@ abbrev mutual
 
   pub arms_position : Environment → Meaning → List Value → List Path → Arms → Held → Known → List Made → Option Pos
   arms_position env m args ps NoArm h known made = None
-  arms_position env m args ps (Arm c places body arms) h known made = if meets env c h then block_position env m args ps body known made else arms_position env m args ps arms h known made
+  arms_position env m args ps (Arm c places body arms) h known made = if meets env m c h then block_position env m args ps body known made else arms_position env m args ps arms h known made
 
 -- that of the rule whose result is given: none where no rule holds, or one of its calls fails
 abbrev pub rule_position : Environment → Meaning → List Value → List Path → Option FlatRule → Option Pos

@@ -5,7 +5,8 @@ use Rattle.isle_base.specs.declared.ids.TypeId.{TypeId}
 use Rattle.isle_core.specs.Expr as expr
 use Rattle.isle_core.specs.Expr.{Expr, Exprs, NoExpr, AnExpr}
 use Rattle.isle_core.specs.Calling.{Calling, calling, is_fallible, instance_of, impure, impure_all}
-use Rattle.isle_core.specs.Path.{Path, Nowhere, ConstBool, ConstInt, Called, Inner, Paths, NoPath, APath}
+use Rattle.isle_core.specs.Making.{Making, MakesVariant, MakesStruct, MakesNothing, making}
+use Rattle.isle_core.specs.Path.{Path, Nowhere, ConstBool, ConstInt, ConstPrim, Called, MadeVariant, MadeStruct, Inner, Paths, NoPath, APath}
 use Rattle.isle_core.specs.Rule.{Environment, Rule}
 use Rattle.isle_core.specs.Tests.{Places, rule_places}
 
@@ -18,23 +19,28 @@ abbrev pub path_or : Option Path → Path
 path_or None = Nowhere
 path_or (Some p) = p
 
--- the path of a call of a term on paths, after n impure calls
+-- the path of what a term makes of paths, or of a call of it with this occurrence
+abbrev pub term_path : Making → TermId → Paths → (instance : ℕ) → Path
+term_path (MakesVariant ty variant) term ps instance = MadeVariant ty variant ps
+term_path (MakesStruct ty) term ps instance = MadeStruct ty ps
+term_path MakesNothing term ps instance = Called term ps instance
+
+-- the path of a term on paths, after n impure calls
 abbrev pub call_path : Environment → TermId → Paths → ℕ → Path
-call_path env term ps n = Called term ps (instance_of (calling env term) n)
+call_path env term ps n = term_path (making env term) term ps (instance_of (calling env term) n)
 
 -- the path of a call's value: the inner value of what may be nothing
 abbrev pub answer_path : Calling → Path → Path
 answer_path c p = if is_fallible c then Inner p else p
 
--- the path of an expression's value, after n impure calls of the rules; a named constant and a `let`, which are not built,
--- stand nowhere
+-- the path of an expression's value, after n impure calls of the rules; a `let`, which is not built, stands nowhere
 abbrev mutual
   pub path : Environment → Expr → Places → ℕ → Path
   path env (expr.ConstBool b) places n = ConstBool bool_type b
   path env (expr.ConstInt ty k) places n = ConstInt ty k
   path env (expr.Var ty x) places n = path_or (places x.0)
   path env (expr.Term ty term es) places n = answer_path (calling env term) (call_path env term (paths env es places n) (n + impure_all env es))
-  path env (expr.ConstPrim ty name) places n = Nowhere
+  path env (expr.ConstPrim ty name) places n = ConstPrim name
   path env (expr.Let ty bindings inner) places n = Nowhere
 
   -- of expressions in order

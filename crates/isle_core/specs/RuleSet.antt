@@ -28,7 +28,7 @@ flat_tests ps f = map (is_test ps) f.constraints ++ map (equal_test ps) f.equals
 
 -- a flat rule holds
 abbrev pub flat_holds : Environment → Meaning → List Value → List Path → FlatRule → Bool
-flat_holds env m args ps f = all_hold env (value_at env m args nothing_known) (flat_tests ps f)
+flat_holds env m args ps f = all_hold env m (value_at env m args nothing_known) (flat_tests ps f)
 
 -- what a run gives; one that goes on behind the last step matched nothing
 abbrev pub gave : ReturnKind → Went → Prescription

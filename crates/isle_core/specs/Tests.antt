@@ -3,9 +3,10 @@ use Rattle.std.specs.Prelude.{ℕ, suc, List, [], ◌∷◌, ◌++◌, Option, S
 use Rattle.isle_core.specs.declared.rule_sets.Constraint.{Constraint}
 use Rattle.isle_core.specs.declared.rule_sets.Constraint.TheVariants as constraint
 use Rattle.isle_core.specs.Pattern as pattern
-use Rattle.isle_core.specs.Pattern.{Pattern}
+use Rattle.isle_core.specs.Pattern.{Pattern, Patterns, NoPattern, APattern}
+use Rattle.isle_core.specs.Making.{Making, MakesVariant, MakesStruct, MakesNothing, making}
 use Rattle.isle_core.specs.Match.{with}
-use Rattle.isle_core.specs.Path.{Path, Arg}
+use Rattle.isle_core.specs.Path.{Path, Nowhere, Arg, VariantField, StructField}
 use Rattle.isle_core.specs.Rule.{Environment, IfLet, Rule}
 
 -- a constraint on a path, or that two paths hold equal values; a form that is not built puts a test that never holds, and
@@ -33,27 +34,51 @@ abbrev pub met_after : Option Path → ℕ → Path → Places → Places
 met_after None x p places = with places x p
 met_after (Some q) x p places = places
 
--- the tests that a pattern puts on the path that it is matched against; terms, named constants and patterns of parts are not built
-abbrev pub tests : Environment → Pattern → Path → Places → List Test
-tests env (pattern.Var ty x) p places = met_tests (places x.0) p
-tests env (pattern.ConstBool b) p places = Is p (constraint.ConstBool b) ∷ []
-tests env (pattern.ConstInt ty n) p places = Is p (constraint.ConstInt n ty) ∷ []
-tests env (pattern.Wildcard ty) p places = []
-tests env (pattern.BindPattern ty x q) p places = Never ∷ []
-tests env (pattern.ConstPrim ty name) p places = Never ∷ []
-tests env (pattern.Term ty term qs) p places = Never ∷ []
-tests env (pattern.And ty qs) p places = Never ∷ []
+-- what a made term's pattern asks of a path
+abbrev pub made_test : Making → Path → Test
+made_test (MakesVariant ty variant) p = Is p (constraint.Variant ty variant)
+made_test (MakesStruct ty) p = Is p (constraint.Struct ty)
+made_test MakesNothing p = Never
 
--- the paths of variables after a pattern; one that is not built never holds, and places none
-abbrev pub after : Environment → Pattern → Path → Places → Places
-after env (pattern.Var ty x) p places = met_after (places x.0) x.0 p places
-after env (pattern.ConstBool b) p places = places
-after env (pattern.ConstInt ty n) p places = places
-after env (pattern.Wildcard ty) p places = places
-after env (pattern.BindPattern ty x q) p places = places
-after env (pattern.ConstPrim ty name) p places = places
-after env (pattern.Term ty term qs) p places = places
-after env (pattern.And ty qs) p places = places
+-- the path of a field of what a term makes
+abbrev pub field_path : Making → ℕ → Path → Path
+field_path (MakesVariant ty variant) i p = VariantField variant i p
+field_path (MakesStruct ty) i p = StructField i p
+field_path MakesNothing i p = Nowhere
+
+-- the paths of variables after a pattern on a path; one that is not built never holds, and places none
+abbrev mutual
+  pub after : Environment → Pattern → Path → Places → Places
+  after env (pattern.Var ty x) p places = met_after (places x.0) x.0 p places
+  after env (pattern.ConstBool b) p places = places
+  after env (pattern.ConstInt ty n) p places = places
+  after env (pattern.ConstPrim ty name) p places = places
+  after env (pattern.Wildcard ty) p places = places
+  after env (pattern.Term ty term qs) p places = after_parts env (making env term) qs 0 p places
+  after env (pattern.BindPattern ty x q) p places = places
+  after env (pattern.And ty qs) p places = places
+
+  -- after the parts of what is made, from the i-th on
+  pub after_parts : Environment → Making → Patterns → ℕ → Path → Places → Places
+  after_parts env made NoPattern i p places = places
+  after_parts env made (APattern q qs) i p places = after_parts env made qs (suc i) p (after env q (field_path made i p) places)
+
+-- the tests that a pattern puts on the path that it is matched against; terms that are extracted, and `@` and `and`, are not built
+abbrev mutual
+  pub tests : Environment → Pattern → Path → Places → List Test
+  tests env (pattern.Var ty x) p places = met_tests (places x.0) p
+  tests env (pattern.ConstBool b) p places = Is p (constraint.ConstBool b) ∷ []
+  tests env (pattern.ConstInt ty n) p places = Is p (constraint.ConstInt n ty) ∷ []
+  tests env (pattern.ConstPrim ty name) p places = Is p (constraint.ConstPrim name) ∷ []
+  tests env (pattern.Wildcard ty) p places = []
+  tests env (pattern.Term ty term qs) p places = made_test (making env term) p ∷ parts_tests env (making env term) qs 0 p places
+  tests env (pattern.BindPattern ty x q) p places = Never ∷ []
+  tests env (pattern.And ty qs) p places = Never ∷ []
+
+  -- those of the parts of what is made, from the i-th on
+  pub parts_tests : Environment → Making → Patterns → ℕ → Path → Places → List Test
+  parts_tests env made NoPattern i p places = []
+  parts_tests env made (APattern q qs) i p places = tests env q (field_path made i p) places ++ parts_tests env made qs (suc i) p (after env q (field_path made i p) places)
 
 -- the tests of patterns on the arguments from the i-th on
 abbrev pub args_tests : Environment → List Pattern → ℕ → Places → List Test

@@ -9,6 +9,10 @@ use Rattle.isle_core.specs.Constants.{int_value}
 use Rattle.isle_core.specs.Meaning.{Meaning, case}
 use Rattle.isle_core.specs.Calling.{Calling, ByTurns, ByCases, NoCall, calling}
 pub use Rattle.isle_core.specs.Answered.{Item, AValue, ATuple, Held, Absent, One, Optional, Listed, a_value, an_option, answer_held}
+use Rattle.isle_core.specs.Having.{const_of}
+use Rattle.isle_core.specs.Terms.{sym_text}
+use Rattle.isle_core.specs.Making.{Making, MakesVariant, MakesStruct}
+use Rattle.isle_core.specs.Form.{made_value, is_made_by, parts}
 use Rattle.isle_core.specs.Path.{Path, Nowhere, Arg, ConstBool, ConstInt, ConstPrim, Extracted, Called, Chosen, MadeVariant, MadeStruct, VariantField, StructField, Wrapped, Inner, Part, Paths, NoPath, APath}
 use Rattle.isle_core.specs.Tests.{Test, Is, Equal, Never}
 use Rattle.isle_core.specs.Rule.{Environment}
@@ -61,8 +65,21 @@ call_held m (ByTurns callee kind) known vs = held_of known
 call_held m (ByCases callee kind) known vs = case_held m (ByCases callee kind) vs
 call_held m NoCall known vs = Absent
 
--- what stands at a path, under the arguments and the answers known so far. Named constants, extractors, chosen items, made
--- values, fields, options that are made and parts are not built: nothing stands there
+-- what a term makes of values, where all are there
+abbrev pub made_held : Environment → Making → Option (List Value) → Held
+made_held env made None = Absent
+made_held env made (Some vs) = a_value (made_value env made vs)
+
+-- a field of what a place holds
+abbrev pub field_held : ℕ → Held → Held
+field_held i (One (AValue v)) = held (slice_get (parts v) i)
+field_held i (One (ATuple vs)) = Absent
+field_held i Absent = Absent
+field_held i (Optional o) = Absent
+field_held i (Listed is) = Absent
+
+-- what stands at a path, under the arguments and the answers known so far. Extractors, chosen items, options that are made
+-- and parts of answers are not built: nothing stands there
 abbrev mutual
   pub value_at : Environment → Meaning → List Value → Known → Path → Held
   value_at env m args known (Arg i) = held (slice_get args i)
@@ -71,13 +88,13 @@ abbrev mutual
   value_at env m args known (Called term ps instance) = call_held m (calling env term) (known instance) (values_at env m args known ps)
   value_at env m args known (Inner p) = inner_held (value_at env m args known p)
   value_at env m args known Nowhere = Absent
-  value_at env m args known (ConstPrim name) = Absent
+  value_at env m args known (ConstPrim name) = held (const_of m (sym_text env name))
   value_at env m args known (Extracted term p) = Absent
   value_at env m args known (Chosen p) = Absent
-  value_at env m args known (MadeVariant ty variant ps) = Absent
-  value_at env m args known (MadeStruct ty ps) = Absent
-  value_at env m args known (VariantField variant field p) = Absent
-  value_at env m args known (StructField field p) = Absent
+  value_at env m args known (MadeVariant ty variant ps) = made_held env (MakesVariant ty variant) (values_at env m args known ps)
+  value_at env m args known (MadeStruct ty ps) = made_held env (MakesStruct ty) (values_at env m args known ps)
+  value_at env m args known (VariantField variant field p) = field_held field (value_at env m args known p)
+  value_at env m args known (StructField field p) = field_held field (value_at env m args known p)
   value_at env m args known (Wrapped p) = Absent
   value_at env m args known (Part part p) = Absent
 
@@ -102,14 +119,27 @@ is_found Absent = false
 is_found (One i) = false
 is_found (Listed is) = false
 
--- what a place holds meets a constraint; variants, structs and named constants are not built: nothing meets them
-abbrev pub meets : Environment → Constraint → Held → Bool
-meets env (constraint.ConstBool val) h = is_value (Truth val) h
-meets env (constraint.ConstInt val ty) h = is_value (int_value env ty val) h
-meets env constraint.Some h = is_found h
-meets env (constraint.ConstPrim val) h = false
-meets env (constraint.Variant ty variant) h = false
-meets env (constraint.Struct ty) h = false
+-- a place holds a value of which this is true
+abbrev pub is_one : (Value → Bool) → Held → Bool
+is_one test (One (AValue v)) = test v
+is_one test (One (ATuple vs)) = false
+is_one test Absent = false
+is_one test (Optional o) = false
+is_one test (Listed is) = false
+
+-- a value of a named constant, where it has one
+abbrev pub is_const : Option Value → Held → Bool
+is_const None h = false
+is_const (Some w) h = is_value w h
+
+-- what a place holds meets a constraint
+abbrev pub meets : Environment → Meaning → Constraint → Held → Bool
+meets env m (constraint.ConstBool val) h = is_value (Truth val) h
+meets env m (constraint.ConstInt val ty) h = is_value (int_value env ty val) h
+meets env m (constraint.ConstPrim val) h = is_const (const_of m (sym_text env val)) h
+meets env m (constraint.Variant ty variant) h = is_one (is_made_by env (MakesVariant ty variant)) h
+meets env m (constraint.Struct ty) h = is_one (is_made_by env (MakesStruct ty)) h
+meets env m constraint.Some h = is_found h
 
 -- two lists of values are equal
 abbrev pub equal_values : List Value → List Value → Bool
@@ -159,11 +189,11 @@ equal_held (Listed is) (One j) = false
 equal_held (Listed is) (Optional p) = false
 
 -- a test holds where the paths have these values
-abbrev pub holds : Environment → (Path → Held) → Test → Bool
-holds env at (Is p c) = meets env c (at p)
-holds env at (Equal p q) = equal_held (at p) (at q)
-holds env at Never = false
+abbrev pub holds : Environment → Meaning → (Path → Held) → Test → Bool
+holds env m at (Is p c) = meets env m c (at p)
+holds env m at (Equal p q) = equal_held (at p) (at q)
+holds env m at Never = false
 
 -- all tests hold
-abbrev pub all_hold : Environment → (Path → Held) → List Test → Bool
-all_hold env at ts = list_all (holds env at) ts
+abbrev pub all_hold : Environment → Meaning → (Path → Held) → List Test → Bool
+all_hold env m at ts = list_all (holds env m at) ts

@@ -1,0 +1,78 @@
+-- The variables and the paths of patterns stand at arguments and at fields.
+use Rattle.std.proofs.Common.{ℕ, suc, List, [], ◌∷◌, ◌++◌, Bool, true, false, cond, eqb, Option, Some, None}
+use Rattle.std.specs.List.{AllByRecursion}
+use Rattle.isle_core.specs.Making.{Making, MakesVariant, MakesStruct, MakesNothing, making}
+use Rattle.isle_core.specs.Path.{Path, Nowhere, Arg, VariantField, StructField}
+use Rattle.isle_core.specs.Pattern.{Pattern, Patterns, NoPattern, APattern, Var, ConstBool, ConstInt, ConstPrim, Wildcard, Term, BindPattern, And}
+use Rattle.isle_core.specs.RulePaths.{pattern_paths, parts_paths, args_paths}
+use Rattle.isle_core.specs.Tests.{Places, met_after, field_path, after, after_parts, args_after}
+use Rattle.isle_core.specs.Rule.{Environment}
+
+-- an argument or a field, or nowhere
+abbrev pub IsOpened : Path → Type 0
+IsOpened (Arg i) = Unit {0}
+IsOpened (VariantField variant i p) = Unit {0}
+IsOpened (StructField i p) = Unit {0}
+IsOpened Nowhere = Unit {0}
+IsOpened p = ⊥
+
+-- so where there is a path
+abbrev pub IsOpenedPlace : Option Path → Type 0
+IsOpenedPlace None = Unit {0}
+IsOpenedPlace (Some p) = IsOpened p
+
+-- so of each variable
+abbrev pub AreOpened : Places → Type 0
+AreOpened places = (x : ℕ) → IsOpenedPlace (places x)
+
+field_opened : (mk : Making) (i : ℕ) (p : Path) → IsOpened (field_path mk i p)
+field_opened (MakesVariant ty variant) i p = tt
+field_opened (MakesStruct ty) i p = tt
+field_opened MakesNothing i p = tt
+
+picked : (b : Bool) (p : Path) (o : Option Path) → IsOpened p → IsOpenedPlace o → IsOpenedPlace (cond b (Some p) o)
+picked true p o h k = h
+picked false p o h k = k
+
+met_opened : (o : Option Path) (x : ℕ) (p : Path) (places : Places) → IsOpened p → AreOpened places → AreOpened (met_after o x p places)
+met_opened None x p places h a y = picked (eqb x y) p (places y) h (a y)
+met_opened (Some q) x p places h a y = a y
+
+mutual
+  after_opened : (q : Pattern) (env : Environment) (p : Path) (places : Places) → IsOpened p → AreOpened places → AreOpened (after env q p places)
+  after_opened (Var ty x) env p places h a = met_opened (places x.0) x.0 p places h a
+  after_opened (Term ty term qs) env p places h a = parts_opened qs env (making env term) 0 p places a
+  after_opened q env p places h a = a
+
+  parts_opened : (qs : Patterns) (env : Environment) (mk : Making) (i : ℕ) (p : Path) (places : Places) → AreOpened places → AreOpened (after_parts env mk qs i p places)
+  parts_opened NoPattern env mk i p places a = a
+  parts_opened (APattern q qs) env mk i p places a = parts_opened qs env mk (suc i) p (after env q (field_path mk i p) places) (after_opened q env (field_path mk i p) places (field_opened mk i p) a)
+
+-- the variables of arguments stand so
+pub args_opened : (env : Environment) (qs : List Pattern) (i : ℕ) (places : Places) → AreOpened places → AreOpened (args_after env qs i places)
+args_opened env [] i places a = a
+args_opened env (q ∷ qs) i places a = args_opened env qs (suc i) (after env q (Arg i) places) (after_opened q env (Arg i) places tt a)
+
+all_append : (xs ys : List Path) → AllByRecursion IsOpened xs → AllByRecursion IsOpened ys → AllByRecursion IsOpened (xs ++ ys)
+all_append [] ys h k = k
+all_append (x ∷ xs) ys h k = (h.0, all_append xs ys h.1 k)
+
+mutual
+  pattern_opens : (q : Pattern) (env : Environment) (p : Path) → AllByRecursion IsOpened (pattern_paths env q p)
+  pattern_opens (Term ty term qs) env p = parts_open qs env (making env term) 0 p
+  pattern_opens (Var ty x) env p = tt
+  pattern_opens (ConstBool b) env p = tt
+  pattern_opens (ConstInt ty n) env p = tt
+  pattern_opens (ConstPrim ty name) env p = tt
+  pattern_opens (Wildcard ty) env p = tt
+  pattern_opens (BindPattern ty x q) env p = tt
+  pattern_opens (And ty qs) env p = tt
+
+  parts_open : (qs : Patterns) (env : Environment) (mk : Making) (i : ℕ) (p : Path) → AllByRecursion IsOpened (parts_paths env mk qs i p)
+  parts_open NoPattern env mk i p = tt
+  parts_open (APattern q qs) env mk i p = (field_opened mk i p, all_append (pattern_paths env q (field_path mk i p)) (parts_paths env mk qs (suc i) p) (pattern_opens q env (field_path mk i p)) (parts_open qs env mk (suc i) p))
+
+-- and so do the paths of arguments' patterns
+pub args_open : (env : Environment) (qs : List Pattern) (i : ℕ) → AllByRecursion IsOpened (args_paths env qs i)
+args_open env [] i = tt
+args_open env (q ∷ qs) i = (tt, all_append (pattern_paths env q (Arg i)) (args_paths env qs (suc i)) (pattern_opens q env (Arg i)) (args_open env qs (suc i)))
