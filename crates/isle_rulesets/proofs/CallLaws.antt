@@ -10,11 +10,12 @@ use Rattle.isle_core.specs.declared.rule_sets.Binding.TheVariants as binding
 use Rattle.isle_core.specs.Path.{Path, Paths, Inner, Called, path_over, add_path, paths_of, at_all}
 use Rattle.isle_core.specs.StandsFor.{EachOnce}
 use Rattle.isle_core.proofs.Contained.{head_contained, tail_contained, contained_cases, none_contained}
-use Rattle.isle_rulesets.specs.declared.numbering.Key.{Key}
-use Rattle.isle_rulesets.specs.declared.numbering.Key.TheVariants as key
-use Rattle.isle_rulesets.specs.Numbering.{key_path, Numbered, Extends, next_call, Calls, IsKeyed, IsCallUpTo, AreNumbered}
-use Rattle.isle_rulesets.proofs.NumberingLaws.{get_push, get_last, get_either, push_extends, one_longer, extends_more, once_push, place_of, long_paths}
-use Rattle.isle_rulesets.proofs.PatternTestLaws.{at_get}
+use Rattle.isle_rulesets.specs.declared.keys.Key.{Key}
+use Rattle.isle_rulesets.specs.Keys.{key_path}
+use Rattle.isle_rulesets.specs.Numbering.{Numbered, Extends, next_call, Calls, IsKeyed, IsCallUpTo, AreNumbered}
+use Rattle.isle_rulesets.proofs.PlacedPaths.{at_get, get_last, get_either, push_extends, extends_more, place_of}
+use Rattle.isle_rulesets.proofs.KeyLaws.{parts_kept, path_kept, not_called}
+use Rattle.isle_rulesets.proofs.NumberingLaws.{one_longer, once_push, long_paths}
 
 -- ---- kinds of paths
 
@@ -22,16 +23,6 @@ up_to_more : (m n : ℕ) (p : Path) → m ≤ n → IsCallUpTo m p → IsCallUpT
 up_to_more m n (Called term ps instance) le h = omega arith
 up_to_more m n (Inner p) le h = up_to_more m n p le h
 up_to_more m n p le h = absurd h
-
-key_no_call : (k : Key) (term : TermId) (ps : Paths) (i : ℕ) → Called term ps i ≡ key_path k → ⊥
-key_no_call (key.Argument a) term ps i e = cc
-key_no_call (key.ConstBool a) term ps i e = cc
-key_no_call (key.ConstInt s a) term ps i e = cc
-
-key_no_inner : (k : Key) (p : Path) → Inner p ≡ key_path k → ⊥
-key_no_inner (key.Argument a) p e = cc
-key_no_inner (key.ConstBool a) p e = cc
-key_no_inner (key.ConstInt s a) p e = cc
 
 inner_no_call : (term : TermId) (ps : Paths) (i : ℕ) → Inner (Called term ps i) ≡ Called term ps i → ⊥
 inner_no_call term ps i e = cc
@@ -48,17 +39,27 @@ last_there bs items p m paths long = ap (λ ps. slice_get ps m) paths ∙ ap (sl
 call_pushed : (n : Numbered) (items : List Binding) (numbers : Key → Option BindingId) (p : Path) (k : ℕ) → AreNumbered n numbers → paths_of items ≡ paths_of n.bindings ++ p ∷ [] → n.calls ≤ k → k ≤ length items → IsCallUpTo k p → (Contains (paths_of n.bindings) p → ⊥)
     → AreNumbered (record { bindings = items; calls = k }) numbers
 call_pushed n items numbers p k a paths le few is new = record {
-  found = λ q b e. subst (λ ps. slice_get ps b.0 ≡ Some (key_path q)) (sym paths) (get_push (paths_of n.bindings) p b.0 (key_path q) (a.found q b e));
-  kinds = λ b q e. ⊎_elim (λ h. ⊎_elim (λ o. inl o) (λ c. inr (up_to_more n.calls k q le c)) (a.kinds b q h)) (λ h. inr (subst (IsCallUpTo k) h.1 is)) (get_either (paths_of n.bindings) p b q (subst (λ ps. slice_get ps b ≡ Some q) paths e));
-  once = subst EachOnce (sym paths) (once_push (paths_of n.bindings) p a.once new);
+  parts = λ q b e. parts_kept ps (paths_of items) q more (a.parts q b e);
+  found = λ q b e. more.kept b.0 (key_path ps q) (a.found q b e) ∙ ap Some (stays q b e);
+  kinds = λ b q e. ⊎_elim (λ h. ⊎_elim (λ o. inl (o.0, o.1 ∙ stays o.0 (record { 0 = b }) o.2, o.2)) (λ c. inr (up_to_more n.calls k q le c)) (a.kinds b q h)) (λ h. inr (subst (IsCallUpTo k) h.1 is)) (get_either ps p b q (subst (λ ps. slice_get ps b ≡ Some q) paths e));
+  once = subst EachOnce (sym paths) (once_push ps p a.once new);
   counted = few;
 }
+  where
+    ps : List Path
+    ps = paths_of n.bindings
+
+    more : Extends (paths_of n.bindings) (paths_of items)
+    more = push_extends (paths_of n.bindings) (paths_of items) p paths
+
+    stays : (q : Key) (b : BindingId) → numbers q ≡ Some b → key_path (paths_of n.bindings) q ≡ key_path (paths_of items) q
+    stays q b e = sym (path_kept (paths_of n.bindings) (paths_of items) q more (a.parts q b e))
 
 -- no path is of a later call
-none_later : (n : Numbered) (numbers : Key → Option BindingId) (p : Path) → AreNumbered n numbers → ((k : Key) → p ≡ key_path k → ⊥) → (IsCallUpTo n.calls p → ⊥) → Contains (paths_of n.bindings) p → ⊥
-none_later n numbers p a no_key no_call c =
+none_later : (n : Numbered) (numbers : Key → Option BindingId) (p : Path) (m : ℕ) → AreNumbered n numbers → IsCallUpTo m p → (IsCallUpTo n.calls p → ⊥) → Contains (paths_of n.bindings) p → ⊥
+none_later n numbers p m a is no_call c =
     let at = place_of (paths_of n.bindings) p c in
-    ⊎_elim (λ (h : IsKeyed numbers at.0 p). no_key h.0 h.1) no_call (a.kinds at.0 p at.1)
+    ⊎_elim (λ (h : IsKeyed (paths_of n.bindings) numbers at.0 p). not_called (paths_of n.bindings) m h.0 (subst (IsCallUpTo m) h.1 is)) no_call (a.kinds at.0 p at.1)
 
 -- ---- calls
 
@@ -66,7 +67,7 @@ none_later n numbers p a no_key no_call c =
 pub call_more : (old : Numbered) (items : List Binding) (numbers : Key → Option BindingId) (term : TermId) (bs : List BindingId) (m k : ℕ) → AreNumbered old numbers → k ≡ suc old.calls → m ≡ length old.bindings
     → items ≡ old.bindings ++ binding.Constructor term bs k ∷ [] → AreNumbered (record { bindings = items; calls = k }) numbers × Calls old (record { bindings = items; calls = k }) (next_call old term bs) false (record { 0 = m }) (record { 0 = m })
 call_more old items numbers term bs m k a count long is = (
-  call_pushed old items numbers p k a paths le few up (none_later old numbers p a (λ q. key_no_call q term qs (suc old.calls)) (λ h. omega arith)),
+  call_pushed old items numbers p k a paths le few up (none_later old numbers p k a up (λ h. omega arith)),
   record {
     found = last_there old.bindings items p m paths long;
     value = last_there old.bindings items p m paths long;
@@ -132,4 +133,4 @@ inner_more old mid items numbers term bs call value a b h long is = (
     first q c = ⊎_elim (λ (e : p ≡ q). subst (Contains (p ∷ Inner p ∷ [])) e (head_contained p (Inner p ∷ []))) (λ d. absurd (none_contained q d)) (contained_cases p [] q c)
 
     new : Contains (paths_of mid.bindings) (Inner (next_call old term bs)) → ⊥
-    new c = ⊎_elim (λ d. none_later old numbers (Inner p) a (λ k. key_no_inner k p) (λ e. omega arith) d) (λ d. ⊎_elim (λ (e : p ≡ Inner p). inner_no_call term (at_all (paths_of old.bindings) bs) (suc old.calls) (sym e)) (none_contained (Inner p)) (contained_cases p [] (Inner p) d)) (h.only (Inner p) c)
+    new c = ⊎_elim (λ d. none_later old numbers (Inner p) mid.calls a up (λ e. omega arith) d) (λ d. ⊎_elim (λ (e : p ≡ Inner p). inner_no_call term (at_all (paths_of old.bindings) bs) (suc old.calls) (sym e)) (none_contained (Inner p)) (contained_cases p [] (Inner p) d)) (h.only (Inner p) c)

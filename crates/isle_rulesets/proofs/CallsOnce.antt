@@ -1,5 +1,5 @@
 -- No call of a right side stands twice.
-use Rattle.std.proofs.Common.{◌≡◌, ⊎_elim, Bool, ℕ, suc, ◌<◌, ◌≤◌, ◌+◌, List, [], ◌∷◌, ◌++◌, sym, subst, arith}
+use Rattle.std.proofs.Common.{◌≡◌, ⊎_elim, ℕ, suc, ◌<◌, ◌≤◌, ◌+◌, List, [], ◌∷◌, ◌++◌, append-nil, sym, subst, arith}
 use Rattle.std.specs.Prelude.{Contains}
 use Rattle.std.specs.List.{AllByRecursion}
 use Rattle.std.proofs.lemmas.List.Elements.{All-contains, All-from_recursion}
@@ -10,16 +10,17 @@ use Rattle.isle_core.specs.declared.values.Callee.{Callee}
 use Rattle.isle_core.specs.Expr as expr
 use Rattle.isle_core.specs.Expr.{Expr, Exprs, NoExpr, AnExpr}
 use Rattle.isle_core.specs.Path.{Path, Paths, Called}
-use Rattle.isle_core.specs.Calling.{Calling, ByTurns, calling, instance_of, one_more, impure, impure_all}
+use Rattle.isle_core.specs.Calling.{Calling, ByTurns, NoCall, calling, instance_of, one_more, impure, impure_all}
 use Rattle.isle_core.specs.OrderedCalls.{calls, calls_all, if_ordered, rule_calls}
-use Rattle.isle_core.specs.RightSide.{paths}
+use Rattle.isle_core.specs.Making.{Making, MakesNothing, making}
+use Rattle.isle_core.specs.RightSide.{term_path, paths}
 use Rattle.isle_core.specs.Tests.{Places, rule_places}
 use Rattle.isle_core.specs.StandsFor.{EachOnce, AreFirsts, no_more, first}
-use Rattle.isle_core.specs.BuiltRule.{IsBuiltExpr, AreBuiltExprs, CallsImpure, AllCallImpure}
+use Rattle.isle_core.specs.BuiltRule.{IsBuiltExpr, AreBuiltExprs, HasBuiltTerms, AllHaveBuiltTerms}
 use Rattle.isle_core.specs.Rule.{Environment, Rule}
 use Rattle.isle_core.proofs.Contained.{head_contained, tail_contained, contained_cases, none_contained}
-use Rattle.isle_rulesets.proofs.RuleTests.{append_once}
-use Rattle.isle_rulesets.proofs.RightSideLaws.{turns_of}
+use Rattle.isle_rulesets.proofs.PlacedPaths.{append_once}
+use Rattle.isle_rulesets.proofs.RightSideLaws.{IsTurns, takes, never, turns_of}
 
 -- a call of an occurrence behind the m-th and up to the n-th
 abbrev IsCallWithin : ℕ → ℕ → Path → Type 0
@@ -94,29 +95,39 @@ last_call callee kind term ps n = record { rise = rise; within = ((low, high), t
     high = omega arith
 
 -- a call behind its arguments
-call_then : (c : Calling) (callee : Callee) (kind : ReturnKind) (term : TermId) (ps : Paths) (m n : ℕ) (cs : List Path) → c ≡ ByTurns callee kind → AreCalls n (n + m) cs
-    → AreCalls n (n + one_more c m) (cs ++ if_ordered c (Called term ps (instance_of c (n + m))))
-call_then c callee kind term ps m n cs is h =
-    subst (λ d. AreCalls n (n + one_more d m) (cs ++ if_ordered d (Called term ps (instance_of d (n + m))))) (sym is)
-    (subst (λ k. AreCalls n k (cs ++ Called term ps (suc (n + m)) ∷ [])) (up n m) (then_calls n (n + m) (suc (n + m)) cs (Called term ps (suc (n + m)) ∷ []) h (last_call callee kind term ps (n + m))))
+call_then : (mk : Making) (c : Calling) (callee : Callee) (kind : ReturnKind) (term : TermId) (ps : Paths) (m n : ℕ) (cs : List Path) → mk ≡ MakesNothing → c ≡ ByTurns callee kind → AreCalls n (n + m) cs
+    → AreCalls n (n + one_more c m) (cs ++ if_ordered c (term_path mk term ps (instance_of c (n + m))))
+call_then mk c callee kind term ps m n cs none is h =
+    subst (λ k. AreCalls n (n + one_more c m) (cs ++ if_ordered c (term_path k term ps (instance_of c (n + m))))) (sym none)
+    (subst (λ d. AreCalls n (n + one_more d m) (cs ++ if_ordered d (Called term ps (instance_of d (n + m))))) (sym is)
+    (subst (λ k. AreCalls n k (cs ++ Called term ps (suc (n + m)) ∷ [])) (up n m) (then_calls n (n + m) (suc (n + m)) cs (Called term ps (suc (n + m)) ∷ []) h (last_call callee kind term ps (n + m)))))
   where
     up : (a b : ℕ) → suc (a + b) ≡ a + suc b
     up a b = omega arith
+
+-- what is made is no call
+made_then : (mk : Making) (c : Calling) (term : TermId) (ps : Paths) (m n : ℕ) (cs : List Path) → c ≡ NoCall → AreCalls n (n + m) cs → AreCalls n (n + one_more c m) (cs ++ if_ordered c (term_path mk term ps (instance_of c (n + m))))
+made_then mk c term ps m n cs is h =
+    subst (λ d. AreCalls n (n + one_more d m) (cs ++ if_ordered d (term_path mk term ps (instance_of d (n + m))))) (sym is) (subst (AreCalls n (n + m)) (sym (append-nil cs)) h)
+
+term_then : (mk : Making) (c : Calling) (term : TermId) (ps : Paths) (m n : ℕ) (cs : List Path) → IsTurns mk c → AreCalls n (n + m) cs → AreCalls n (n + one_more c m) (cs ++ if_ordered c (term_path mk term ps (instance_of c (n + m))))
+term_then mk c term ps m n cs (takes callee kind none is) h = call_then mk c callee kind term ps m n cs none is h
+term_then mk c term ps m n cs (never is) h = made_then mk c term ps m n cs is h
 
 assoc : (a b c : ℕ) → (a + b) + c ≡ a + (b + c)
 assoc a b c = omega arith
 
 mutual
-  expr_calls : (env : Environment) (terms : List Term) (places : Places) (e : Expr) (n : ℕ) → env.terms ≡ terms → IsBuiltExpr e → CallsImpure terms e → AreCalls n (n + impure env e) (calls env e places n)
+  expr_calls : (env : Environment) (terms : List Term) (places : Places) (e : Expr) (n : ℕ) → env.terms ≡ terms → IsBuiltExpr e → HasBuiltTerms terms e → AreCalls n (n + impure env e) (calls env e places n)
   expr_calls env terms places (expr.Term ty term es) n same b h =
-      let t = turns_of env terms term same h.0 in
-      call_then (calling env term) t.0 t.1 term (paths env es places n) (impure_all env es) n (calls_all env es places n) t.2 (exprs_calls env terms places es n same b h.1)
+      term_then (making env term) (calling env term) term (paths env es places n) (impure_all env es) n (calls_all env es places n) (turns_of env terms term same h.0) (exprs_calls env terms places es n same b h.1)
   expr_calls env terms places (expr.Var ty x) n same b h = no_calls n
   expr_calls env terms places (expr.ConstBool v) n same b h = no_calls n
   expr_calls env terms places (expr.ConstInt ty v) n same b h = no_calls n
-  expr_calls env terms places e n same b h = absurd b
+  expr_calls env terms places (expr.ConstPrim ty name) n same b h = no_calls n
+  expr_calls env terms places (expr.Let ty bindings inner) n same b h = absurd b
 
-  exprs_calls : (env : Environment) (terms : List Term) (places : Places) (es : Exprs) (n : ℕ) → env.terms ≡ terms → AreBuiltExprs es → AllCallImpure terms es → AreCalls n (n + impure_all env es) (calls_all env es places n)
+  exprs_calls : (env : Environment) (terms : List Term) (places : Places) (es : Exprs) (n : ℕ) → env.terms ≡ terms → AreBuiltExprs es → AllHaveBuiltTerms terms es → AreCalls n (n + impure_all env es) (calls_all env es places n)
   exprs_calls env terms places NoExpr n same b h = no_calls n
   exprs_calls env terms places (AnExpr e es) n same b h =
       subst (λ k. AreCalls n k (calls_all env (AnExpr e es) places n)) (assoc n (impure env e) (impure_all env es))
@@ -130,5 +141,5 @@ firsts_of seen (x ∷ xs) h k =
     first seen x xs xs (λ c. k x c (head_contained x xs)) (firsts_of (x ∷ seen) xs h.1 (λ y c d. ⊎_elim (λ (e : x ≡ y). h.0 (subst (Contains xs) (sym e) d)) (λ s. k y s (tail_contained x xs y d)) (contained_cases x seen y c)))
 
 -- the calls of a rule are their own firsts
-pub rule_firsts : (env : Environment) (terms : List Term) (r : Rule) (n : ℕ) → env.terms ≡ terms → IsBuiltExpr r.rhs → CallsImpure terms r.rhs → AreFirsts [] (rule_calls env r n) (rule_calls env r n)
+pub rule_firsts : (env : Environment) (terms : List Term) (r : Rule) (n : ℕ) → env.terms ≡ terms → IsBuiltExpr r.rhs → HasBuiltTerms terms r.rhs → AreFirsts [] (rule_calls env r n) (rule_calls env r n)
 rule_firsts env terms r n same b h = firsts_of [] (rule_calls env r n) (expr_calls env terms (rule_places env r) r.rhs n same b h).once (λ x c d. none_contained x c)

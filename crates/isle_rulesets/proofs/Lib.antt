@@ -1,6 +1,9 @@
+pub mod PlacedPaths
+pub mod KeyLaws
 pub mod NumberingLaws
 pub mod PatternTestLaws
 pub mod RuleTests
+pub mod VariablePlaces
 pub mod CallLaws
 pub mod RightSideLaws
 pub mod CallsOnce

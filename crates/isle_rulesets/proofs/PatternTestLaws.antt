@@ -1,116 +1,256 @@
 -- What is gathered has the tests of patterns, one pattern after another.
-use Rattle.std.proofs.Common.{◌≡◌, inl, inr, ⊎_elim, ℕ, ◌<◌, ◌≤◌, ◌+◌, suc, List, [], ◌∷◌, ◌++◌, length, map, take, get_or, refl, sym, ap, ◌∙◌, subst, arith, append_assoc, append-nil, Some}
-use Rattle.std.specs.Prelude.{Contains, All, slice_get}
-use Rattle.std.proofs.lemmas.List.{map_more, length-map, length-take-le, get_or-map, take_all}
-use Rattle.std.proofs.lemmas.List.Elements.{Contains-push, Contains-push_cases, Contains-append_left}
-use Rattle.std.proofs.lemmas.Option.{get_or_from_slice_get, slice_get_within}
+use Rattle.std.proofs.Common.{◌≡◌, inl, inr, ⊎_elim, ℕ, ◌<◌, ◌≤◌, ◌+◌, suc, ℤ, List, [], ◌∷◌, ◌++◌, length, map, drop, get_or, Bool, Result, Ok, Err, refl, sym, ap, ◌∙◌, subst, arith, append_assoc, append-nil, Some}
+use Rattle.std.specs.Prelude.{Contains, All, OnOk, slice_get}
+use Rattle.std.specs.List.{AllByRecursion}
+use Rattle.std.proofs.lemmas.List.{drop_more, length-map, get_or-map, drop_all}
+use Rattle.std.proofs.lemmas.List.Elements.{All-from_recursion, Contains-append_left, Contains-append_right, Contains-append_cases}
 use Rattle.isle_core.specs.declared.BindingId.{BindingId}
+use Rattle.isle_core.specs.declared.Sym.{Sym}
+use Rattle.isle_core.specs.declared.TypeId.{TypeId}
+use Rattle.isle_core.specs.declared.VarId.{VarId}
+use Rattle.isle_core.specs.declared.TermId.{TermId}
+use Rattle.isle_core.specs.declared.TupleIndex.{TupleIndex}
+use Rattle.isle_core.specs.declared.types.Term.{Term}
 use Rattle.isle_core.specs.declared.rules.Pattern.{Pattern as CodePattern}
-use Rattle.isle_core.specs.Pattern.{Pattern}
-use Rattle.isle_core.specs.Path.{Path, Nowhere, Arg, at, paths_of}
-use Rattle.isle_core.specs.RulePaths.{arg_paths}
-use Rattle.isle_core.specs.Tests.{Test, Places, no_places, tests, after, args_tests, args_after}
-use Rattle.isle_core.specs.RuleViews.{pattern}
+use Rattle.isle_core.specs.declared.rule_sets.Constraint.{Constraint}
+use Rattle.isle_core.specs.declared.rule_sets.Constraint.TheVariants as constraint
+use Rattle.isle_core.specs.Making.{Making, making_in}
+use Rattle.isle_core.specs.Pattern as pure
+use Rattle.isle_core.specs.Pattern.{Pattern, Patterns, NoPattern, APattern}
+use Rattle.isle_core.specs.Path.{Path, Arg, at, paths_of}
+use Rattle.isle_core.specs.RulePaths.{pattern_paths, parts_paths, args_paths}
+use Rattle.isle_core.specs.Tests.{Test, Is, Places, no_places, met_tests, met_after, made_test, field_path, tests, parts_tests, after, after_parts, args_tests, args_after}
+use Rattle.isle_core.specs.RuleViews.{pattern, patterns_of}
 use Rattle.isle_core.specs.Rule.{Environment}
-use Rattle.isle_core.specs.BuiltRule.{IsBuiltPattern}
+use Rattle.isle_core.specs.BuiltRule.{IsBuiltPattern, AreBuiltPatterns, count}
+use Rattle.isle_core.proofs.Contained.{head_contained, contained_cases, none_contained}
 use Rattle.isle_rulesets.specs.declared.pattern_tests.PatternTests.{PatternTests}
-use Rattle.isle_rulesets.specs.Numbering.{Numbered, Extends, Numbers}
-use Rattle.isle_rulesets.specs.PatternTests.{HasTests, NumbersPatterns}
-use Rattle.isle_rulesets.proofs.NumberingLaws.{extends_self, extends_more, place_of}
+use Rattle.isle_rulesets.specs.declared.made.Made.{Made}
+use Rattle.isle_rulesets.specs.declared.made.Made.TheVariants as made
+use Rattle.isle_rulesets.specs.Keys.{key_path, IsThere, HasParts}
+use Rattle.isle_rulesets.specs.Made.{making_of, constraint_of, field_key}
+use Rattle.isle_rulesets.specs.Numbering.{Numbered, Extends, Joins, Numbers}
+use Rattle.isle_rulesets.specs.PatternTests.{HasTests, Reads, Takes, TakesParts, TakesMade, TakesArguments, NumbersPatterns}
+use Rattle.isle_rulesets.proofs.PlacedPaths.{extends_self, extends_more, at_kept, contains_there, contains_kept}
 
--- ---- paths of numbers
+-- ---- paths that join
 
-pub at_get : (ps : List Path) (b : ℕ) (p : Path) → slice_get ps b ≡ Some p → get_or ps b Nowhere ≡ p
-at_get ps b p e = get_or_from_slice_get ps b p Nowhere e
+joins_self : (n : Numbered) → Joins n n []
+joins_self n = record { extends = extends_self (paths_of n.bindings); only = λ p c. inl c; all = λ p c. absurd (none_contained p c); calls = refl }
 
-pub at_kept : (ps qs : List Path) (b : BindingId) (p : Path) → Extends ps qs → slice_get ps b.0 ≡ Some p → at qs b ≡ p
-at_kept ps qs b p x e = at_get qs b.0 p (x.kept b.0 p e)
+joins_then : (a b c : Numbered) (ps qs : List Path) → Joins a b ps → Joins b c qs → Joins a c (ps ++ qs)
+joins_then a b c ps qs g h = record {
+  extends = extends_more (paths_of a.bindings) (paths_of b.bindings) (paths_of c.bindings) g.extends h.extends;
+  only = λ p d. ⊎_elim (λ e. ⊎_elim (λ f. inl f) (λ f. inr (Contains-append_left ps qs p f)) (g.only p e)) (λ e. inr (Contains-append_right ps qs p e)) (h.only p d);
+  all = λ p d. ⊎_elim (λ e. contains_kept (paths_of b.bindings) (paths_of c.bindings) p h.extends (g.all p e)) (λ e. h.all p e) (Contains-append_cases ps qs p d);
+  calls = h.calls ∙ g.calls;
+}
 
-pub contains_there : (ps : List Path) (b : ℕ) (p : Path) → slice_get ps b ≡ Some p → Contains ps p
-contains_there ps b p e = (b, slice_get_within ps b p e, get_or_from_slice_get ps b p p e)
+joins_one : (old new : Numbered) (p : Path) (b : BindingId) → Numbers old new p b → Joins old new (p ∷ [])
+joins_one old new p b n = record {
+  extends = n.extends;
+  only = λ q c. ⊎_elim (λ d. inl d) (λ e. inr (subst (Contains (p ∷ [])) (sym e) (head_contained p []))) (n.only q c);
+  all = λ q c. ⊎_elim (λ e. subst (Contains (paths_of new.bindings)) e (contains_there (paths_of new.bindings) b.0 p n.found)) (λ d. absurd (none_contained q d)) (contained_cases p [] q c);
+  calls = n.calls;
+}
 
-pub contains_kept : (ps qs : List Path) (p : Path) → Extends ps qs → Contains ps p → Contains qs p
-contains_kept ps qs p x c = let e = place_of ps p c in contains_there qs e.0 p (x.kept e.0 p e.1)
+-- ---- one step after another
 
--- ---- one pattern more
+reads_self : (n : Numbered) (d : PatternTests) → Reads n n d d [] (λ places. places) (λ places. [])
+reads_self n d = record { joins = joins_self n; gathers = λ qs x places ts h. subst (λ us. HasTests qs places us d) (sym (append-nil ts)) h }
 
-next : (i n : ℕ) → suc i + n ≡ i + suc n
-next i n = omega arith
+reads_then : (a b c : Numbered) (d e f : PatternTests) (ps qs : List Path) (behind then : Places → Places) (more others : Places → List Test) → Reads a b d e ps behind more → Reads b c e f qs then others
+    → Reads a c d f (ps ++ qs) (λ places. then (behind places)) (λ places. more places ++ others (behind places))
+reads_then a b c d e f ps qs behind then more others g h = record {
+  joins = joins_then a b c ps qs g.joins h.joins;
+  gathers = λ rs x places ts k. subst (λ us. HasTests rs (then (behind places)) us f) (append_assoc ts (more places) (others (behind places)))
+      (h.gathers rs x (behind places) (ts ++ more places) (g.gathers rs (extends_more (paths_of b.bindings) (paths_of c.bindings) rs h.joins.extends x) places ts k));
+}
 
-here : (i : ℕ) → i ≡ i + 0
-here i = omega arith
+reads_behind : (a b c : Numbered) (d e : PatternTests) (p : Path) (n : BindingId) (ps : List Path) (behind : Places → Places) (more : Places → List Test) → Numbers a b p n → Reads b c d e ps behind more → Reads a c d e (p ∷ ps) behind more
+reads_behind a b c d e p n ps behind more g h = record { joins = joins_then a b c (p ∷ []) ps (joins_one a b p n g) h.joins; gathers = h.gathers }
 
-after_push : (env : Environment) (qs : List Pattern) (q : Pattern) (i : ℕ) (places : Places) → args_after env (qs ++ q ∷ []) i places ≡ after env q (Arg (i + length qs)) (args_after env qs i places)
-after_push env [] q i places = ap (λ n. after env q (Arg n) places) (here i)
-after_push env (p ∷ qs) q i places = after_push env qs q (suc i) (after env p (Arg i) places) ∙ ap (λ n. after env q (Arg n) (args_after env qs (suc i) (after env p (Arg i) places))) (next i (length qs))
+-- what the code says of a step on the path of a number
+abbrev pub Steps : PatternTests → PatternTests → BindingId → (Path → Places → Places) → (Path → Places → List Test) → Type 0
+Steps d e b behind more = (ps : List Path) (places : Places) (ts : List Test) → HasTests ps places ts d → HasTests ps (behind (at ps b) places) (ts ++ more (at ps b) places) e
 
-tests_push : (env : Environment) (qs : List Pattern) (q : Pattern) (i : ℕ) (places : Places) → args_tests env (qs ++ q ∷ []) i places ≡ args_tests env qs i places ++ tests env q (Arg (i + length qs)) (args_after env qs i places)
-tests_push env [] q i places = append-nil (tests env q (Arg i) places) ∙ ap (λ n. tests env q (Arg n) places) (here i)
-tests_push env (p ∷ qs) q i places =
-    let rest = args_after env qs (suc i) (after env p (Arg i) places) in
-    ap (λ ts. tests env p (Arg i) places ++ ts) (tests_push env qs q (suc i) (after env p (Arg i) places) ∙ ap (λ n. args_tests env qs (suc i) (after env p (Arg i) places) ++ tests env q (Arg n) rest) (next i (length qs)))
-    ∙ sym (append_assoc (tests env p (Arg i) places) (args_tests env qs (suc i) (after env p (Arg i) places)) (tests env q (Arg (i + length (p ∷ qs))) rest))
+reads_step : (n : Numbered) (d e : PatternTests) (b : BindingId) (p : Path) (behind : Path → Places → Places) (more : Path → Places → List Test) → slice_get (paths_of n.bindings) b.0 ≡ Some p → Steps d e b behind more → Reads n n d e [] (behind p) (more p)
+reads_step n d e b p behind more there h = record {
+  joins = joins_self n;
+  gathers = λ qs x places ts g. subst (λ q. HasTests qs (behind q places) (ts ++ more q places) e) (at_kept (paths_of n.bindings) qs b p x there) (h qs places ts g);
+}
 
-paths_push : (qs : List Pattern) (q : Pattern) (i : ℕ) → arg_paths (qs ++ q ∷ []) i ≡ arg_paths qs i ++ Arg (i + length qs) ∷ []
-paths_push [] q i = ap (λ n. Arg n ∷ []) (here i)
-paths_push (p ∷ qs) q i = ap (λ ps. Arg i ∷ ps) (paths_push qs q (suc i) ∙ ap (λ n. arg_paths qs (suc i) ++ Arg n ∷ []) (next i (length qs)))
+-- ---- one pattern
 
--- what the code says of a pattern's tests
-abbrev Takes : Environment → Pattern → BindingId → PatternTests → PatternTests → Type 0
-Takes env q b d e = (ps : List Path) (places : Places) (ts : List Test) → HasTests ps places ts d → HasTests ps (after env q (at ps b) places) (ts ++ tests env q (at ps b) places) e
+-- what the code says of a pattern
+abbrev pub TakesIn : List Term → Numbered → Numbered → PatternTests → PatternTests → Pattern → BindingId → Type 0
+TakesIn terms old new d e q b = (env : Environment) → env.terms ≡ terms → Takes env old new d e q b
 
-numbers_push : (env : Environment) (old mid new : Numbered) (qs : List Pattern) (q : Pattern) (d e : PatternTests) (b : BindingId) → NumbersPatterns env old mid qs d → Numbers mid new (Arg (length qs)) b → Takes env q b d e → NumbersPatterns env old new (qs ++ q ∷ []) e
-numbers_push env old mid new qs q d e b h n t = record {
-  extends = extends_more (paths_of old.bindings) (paths_of mid.bindings) (paths_of new.bindings) h.extends n.extends;
-  only = λ p c. ⊎_elim (λ k. ⊎_elim (λ x. inl x) (λ x. inr (more p (Contains-append_left (arg_paths qs 0) (Arg (length qs) ∷ []) p x))) (h.only p k)) (λ k. inr (more p (last p k))) (n.only p c);
-  all = λ p c. ⊎_elim (λ x. contains_kept (paths_of mid.bindings) (paths_of new.bindings) p n.extends (h.all p x)) (λ x. subst (Contains (paths_of new.bindings)) x (contains_there (paths_of new.bindings) b.0 (Arg (length qs)) n.found))
-      (Contains-push_cases (arg_paths qs 0) (Arg (length qs)) p (subst (λ ps. Contains ps p) paths c));
-  tests = λ ps x. gathered ps x;
-  calls = n.calls ∙ h.calls;
+pub takes_var : {T E : Type 0} (r : Result T E) (terms : List Term) (n : Numbered) (d e : PatternTests) (q : Pattern) (b : BindingId) (ty : TypeId) (x : VarId) → q ≡ pure.Var ty x
+    → OnOk r (Steps d e b (λ p places. met_after (places x.0) x.0 p places) (λ p places. met_tests (places x.0) p)) → OnOk r (TakesIn terms n n d e q b)
+takes_var (Err o) terms n d e q b ty x is h = tt
+takes_var (Ok o) terms n d e q b ty x is h = subst (λ s. TakesIn terms n n d e s b) (sym is) (λ env same p there. reads_step n d e b p (λ r places. met_after (places x.0) x.0 r places) (λ r places. met_tests (places x.0) r) there h)
+
+pub takes_test : {T E : Type 0} (r : Result T E) (terms : List Term) (n : Numbered) (d e : PatternTests) (q : Pattern) (b : BindingId) (c : Constraint) → ((env : Environment) (p : Path) → Reads n n d e [] (λ places. places) (λ places. Is p c ∷ []) → Reads n n d e (pattern_paths env q p) (after env q p) (tests env q p))
+    → OnOk r (Steps d e b (λ p places. places) (λ p places. Is p c ∷ [])) → OnOk r (TakesIn terms n n d e q b)
+takes_test (Err o) terms n d e q b c is h = tt
+takes_test (Ok o) terms n d e q b c is h = λ env same p there. is env p (reads_step n d e b p (λ p places. places) (λ p places. Is p c ∷ []) there h)
+
+pub takes_bool : {T E : Type 0} (r : Result T E) (terms : List Term) (n : Numbered) (d e : PatternTests) (q : Pattern) (b : BindingId) (v : Bool) → q ≡ pure.ConstBool v → OnOk r (Steps d e b (λ p places. places) (λ p places. Is p (constraint.ConstBool v) ∷ []))
+    → OnOk r (TakesIn terms n n d e q b)
+takes_bool r terms n d e q b v is h = takes_test r terms n d e q b (constraint.ConstBool v) (λ env p g. subst (λ s. Reads n n d e (pattern_paths env s p) (after env s p) (tests env s p)) (sym is) g) h
+
+pub takes_int : {T E : Type 0} (r : Result T E) (terms : List Term) (n : Numbered) (d e : PatternTests) (q : Pattern) (b : BindingId) (ty : TypeId) (v w : ℤ) → q ≡ pure.ConstInt ty v → OnOk r (Steps d e b (λ p places. places) (λ p places. Is p (constraint.ConstInt w ty) ∷ [])) → w ≡ v
+    → OnOk r (TakesIn terms n n d e q b)
+takes_int r terms n d e q b ty v w is h same =
+    takes_test r terms n d e q b (constraint.ConstInt w ty) (λ env p g. subst (λ s. Reads n n d e (pattern_paths env s p) (after env s p) (tests env s p)) (ap (pure.ConstInt ty) same ∙ sym is) g) h
+
+pub takes_prim : {T E : Type 0} (r : Result T E) (terms : List Term) (n : Numbered) (d e : PatternTests) (q : Pattern) (b : BindingId) (ty : TypeId) (v : Sym) → q ≡ pure.ConstPrim ty v → OnOk r (Steps d e b (λ p places. places) (λ p places. Is p (constraint.ConstPrim v) ∷ []))
+    → OnOk r (TakesIn terms n n d e q b)
+takes_prim r terms n d e q b ty v is h = takes_test r terms n d e q b (constraint.ConstPrim v) (λ env p g. subst (λ s. Reads n n d e (pattern_paths env s p) (after env s p) (tests env s p)) (sym is) g) h
+
+pub takes_wildcard : (terms : List Term) (n : Numbered) (d : PatternTests) (q : Pattern) (b : BindingId) (ty : TypeId) → q ≡ pure.Wildcard ty → TakesIn terms n n d d q b
+takes_wildcard terms n d q b ty is env same p there = subst (λ s. Reads n n d d (pattern_paths env s p) (after env s p) (tests env s p)) (sym is) (reads_self n d)
+
+-- what the code says of what a term makes
+abbrev pub TakesMadeIn : List Term → Numbered → Numbered → PatternTests → PatternTests → Making → Patterns → BindingId → Type 0
+TakesMadeIn terms old new d e mk qs b = (env : Environment) → env.terms ≡ terms → TakesMade env old new d e mk qs b
+
+pub takes_term : {T E : Type 0} (r : Result T E) (terms : List Term) (old new : Numbered) (d e : PatternTests) (q : Pattern) (b : BindingId) (ty : TypeId) (term : TermId) (qs : Patterns) → q ≡ pure.Term ty term qs
+    → OnOk r (TakesMadeIn terms old new d e (making_in terms term) qs b) → OnOk r (TakesIn terms old new d e q b)
+takes_term (Err o) terms old new d e q b ty term qs is h = tt
+takes_term (Ok o) terms old new d e q b ty term qs is h = λ env same p there.
+    subst (λ s. Reads old new d e (pattern_paths env s p) (after env s p) (tests env s p)) (sym is)
+    (subst (λ ts. Reads old new d e (parts_paths env (making_in ts term) qs 0 p) (after_parts env (making_in ts term) qs 0 p) (λ places. made_test (making_in ts term) p ∷ parts_tests env (making_in ts term) qs 0 p places)) (sym same) (h env same p there))
+
+-- ---- what a term makes
+
+-- wherever the rest of the parts is taken, the whole was
+pub record MadeSoFar (terms : List Term) (old now : Numbered) (d e : PatternTests) (mk : Making) (all rest : Patterns) (i : ℕ) (b : BindingId) : Type 0 where
+  pub extends : Extends (paths_of old.bindings) (paths_of now.bindings)
+  pub whole : (env : Environment) → env.terms ≡ terms → (p : Path) → slice_get (paths_of old.bindings) b.0 ≡ Some p → (new : Numbered) (f : PatternTests) → TakesParts env now new e f mk rest i p
+      → Reads old new d f (parts_paths env mk all 0 p) (after_parts env mk all 0 p) (λ places. made_test mk p ∷ parts_tests env mk all 0 p places)
+
+made_tested : (m : Made) (p : Path) → made_test (making_of m) p ≡ Is p (constraint_of m)
+made_tested (made.Variant ty variant) p = refl
+made_tested (made.Struct ty) p = refl
+
+-- behind the test of the whole
+pub made_first : (terms : List Term) (n : Numbered) (d e : PatternTests) (m : Made) (all : Patterns) (b : BindingId) → Steps d e b (λ p places. places) (λ p places. Is p (constraint_of m) ∷ []) → MadeSoFar terms n n d e (making_of m) all all 0 b
+made_first terms n d e m all b h = record {
+  extends = extends_self (paths_of n.bindings);
+  whole = λ env same p there new f g.
+      subst (λ t. Reads n new d f (parts_paths env (making_of m) all 0 p) (after_parts env (making_of m) all 0 p) (λ places. t ∷ parts_tests env (making_of m) all 0 p places)) (sym (made_tested m p))
+      (reads_then n n new d e f [] (parts_paths env (making_of m) all 0 p) (λ places. places) (after_parts env (making_of m) all 0 p) (λ places. Is p (constraint_of m) ∷ []) (parts_tests env (making_of m) all 0 p) (reads_step n d e b p (λ q places. places) (λ q places. Is q (constraint_of m) ∷ []) there h) g);
+}
+
+-- the key of a field has the path of the field
+field_key_path : (ps : List Path) (m : Made) (b : BindingId) (i : TupleIndex) → key_path ps (field_key m b i) ≡ field_path (making_of m) i.0 (at ps b)
+field_key_path ps (made.Variant ty variant) b i = refl
+field_key_path ps (made.Struct ty) b i = refl
+
+pub field_has_parts : (ps : List Path) (m : Made) (b : BindingId) (i : TupleIndex) → IsThere ps b → HasParts ps (field_key m b i)
+field_has_parts ps (made.Variant ty variant) b i h = h
+field_has_parts ps (made.Struct ty) b i h = h
+
+-- an environment of these terms and no more: what is known in each is so in it
+abbrev pub env_of : List Term → Environment
+env_of terms = record { types = record { syms = []; types = []; consts = [] }; terms = terms; rules = []; converters = [] }
+
+-- behind one part more
+made_more : (terms : List Term) (old now mid new : Numbered) (d e f : PatternTests) (m : Made) (all : Patterns) (q : Pattern) (rest : Patterns) (i : TupleIndex) (b part : BindingId) → MadeSoFar terms old now d e (making_of m) all (APattern q rest) i.0 b
+    → Numbers now mid (key_path (paths_of now.bindings) (field_key m b i)) part → TakesIn terms mid new e f q part → MadeSoFar terms old new d f (making_of m) all rest (suc i.0) b
+made_more terms old now mid new d e f m all q rest i b part so n t = record {
+  extends = extends_more (paths_of old.bindings) (paths_of mid.bindings) (paths_of new.bindings) (extends_more (paths_of old.bindings) (paths_of now.bindings) (paths_of mid.bindings) so.extends n.extends) (joined part);
+  whole = λ env same p there last g h. so.whole env same p there last g (behind env same p there last g h);
 }
   where
-    zero_plus : 0 + length qs ≡ length qs
-    zero_plus = omega arith
+    joined : (x : BindingId) → Extends (paths_of mid.bindings) (paths_of new.bindings)
+    joined x = (t (env_of terms) refl (key_path (paths_of now.bindings) (field_key m b i)) n.found).joins.extends
 
-    paths : arg_paths (qs ++ q ∷ []) 0 ≡ arg_paths qs 0 ++ Arg (length qs) ∷ []
-    paths = paths_push qs q 0 ∙ ap (λ k. arg_paths qs 0 ++ Arg k ∷ []) zero_plus
+    behind : (env : Environment) → env.terms ≡ terms → (p : Path) → slice_get (paths_of old.bindings) b.0 ≡ Some p → (last : Numbered) (g : PatternTests) → TakesParts env new last f g (making_of m) rest (suc i.0) p → TakesParts env now last e g (making_of m) (APattern q rest) i.0 p
+    behind env same p there last g h =
+        let place : key_path (paths_of now.bindings) (field_key m b i) ≡ field_path (making_of m) i.0 p = field_key_path (paths_of now.bindings) m b i ∙ ap (field_path (making_of m) i.0) (at_kept (paths_of old.bindings) (paths_of now.bindings) b p so.extends there) in
+        let part_there : Numbers now mid (field_path (making_of m) i.0 p) part = subst (λ r. Numbers now mid r part) place n in
+        let fp = field_path (making_of m) i.0 p in
+        reads_behind now mid last e g fp part (pattern_paths env q fp ++ parts_paths env (making_of m) rest (suc i.0) p) (after_parts env (making_of m) (APattern q rest) i.0 p) (parts_tests env (making_of m) (APattern q rest) i.0 p) part_there
+        (reads_then mid new last e f g (pattern_paths env q fp) (parts_paths env (making_of m) rest (suc i.0) p) (after env q fp) (after_parts env (making_of m) rest (suc i.0) p) (tests env q fp) (parts_tests env (making_of m) rest (suc i.0) p) (t env same fp part_there.found) h)
 
-    more : (p : Path) → Contains (arg_paths qs 0 ++ Arg (length qs) ∷ []) p → Contains (arg_paths (qs ++ q ∷ []) 0) p
-    more p c = subst (λ ps. Contains ps p) (sym paths) c
+-- the parts of the code's list that are left
+abbrev pub left_parts : List CodePattern → ℕ → Patterns
+left_parts parts i = patterns_of (map pattern (drop i parts))
 
-    last : (p : Path) → p ≡ Arg (length qs) → Contains (arg_paths qs 0 ++ Arg (length qs) ∷ []) p
-    last p e' = subst (Contains (arg_paths qs 0 ++ Arg (length qs) ∷ [])) (sym e') (Contains-push (arg_paths qs 0) (Arg (length qs)))
+left_more : (parts : List CodePattern) (i : ℕ) (x : CodePattern) → i < length parts → x ≡ get_or parts i x → left_parts parts i ≡ APattern (pattern x) (left_parts parts (i + 1))
+left_more parts i x lt is = ap (λ qs. patterns_of (map pattern qs)) (drop_more parts i x lt ∙ ap (λ y. y ∷ drop (i + 1) parts) (sym is))
 
-    gathered : (ps : List Path) → Extends (paths_of new.bindings) ps → HasTests ps (args_after env (qs ++ q ∷ []) 0 no_places) (args_tests env (qs ++ q ∷ []) 0 no_places) e
-    gathered ps x =
-        let places = args_after env qs 0 no_places in
-        let ts = args_tests env qs 0 no_places in
-        let place : at ps b ≡ Arg (0 + length qs) = at_kept (paths_of new.bindings) ps b (Arg (length qs)) x n.found ∙ ap Arg (sym zero_plus) in
-        let base = subst (λ p. HasTests ps (after env q p places) (ts ++ tests env q p places) e) place (t ps places ts (h.tests ps (extends_more (paths_of mid.bindings) (paths_of new.bindings) ps n.extends x))) in
-        subst (λ us. HasTests ps (args_after env (qs ++ q ∷ []) 0 no_places) us e) (sym (tests_push env qs q 0 no_places))
-        (subst (λ ls. HasTests ps ls (ts ++ tests env q (Arg (0 + length qs)) places) e) (sym (after_push env qs q 0 no_places)) base)
+next_is : (i : ℕ) → suc i ≡ i + 1
+next_is i = omega arith
 
--- no pattern
-pub numbers_no_pattern : (env : Environment) (bs : Numbered) (d : PatternTests) → ((ps : List Path) → HasTests ps no_places [] d) → NumbersPatterns env bs bs [] d
-numbers_no_pattern env bs d h = record { extends = extends_self (paths_of bs.bindings); only = λ p c. inl c; all = λ p c. absurd (omega arith); tests = λ ps x. h ps; calls = refl }
+-- behind the next part of the code's list
+pub made_next : (terms : List Term) (old now mid new : Numbered) (d e f : PatternTests) (m : Made) (all : Patterns) (parts : List CodePattern) (n : ℕ) (i : TupleIndex) (x : CodePattern) (b part : BindingId) → n < length parts → x ≡ get_or parts n x → i.0 ≡ n
+    → MadeSoFar terms old now d e (making_of m) all (left_parts parts n) n b → Numbers now mid (key_path (paths_of now.bindings) (field_key m b i)) part → TakesIn terms mid new e f (pattern x) part
+    → MadeSoFar terms old new d f (making_of m) all (left_parts parts (n + 1)) (n + 1) b
+made_next terms old now mid new d e f m all parts n i x b part lt is place so num t =
+    subst (λ k. MadeSoFar terms old new d f (making_of m) all (left_parts parts (n + 1)) k b) (ap suc place ∙ next_is n)
+    (made_more terms old now mid new d e f m all (pattern x) (left_parts parts (n + 1)) i b part
+    (subst (λ k. MadeSoFar terms old now d e (making_of m) all (APattern (pattern x) (left_parts parts (n + 1))) k b) (sym place) (subst (λ qs. MadeSoFar terms old now d e (making_of m) all qs n b) (left_more parts n x lt is) so)) num t)
 
--- the next pattern of the code's list
-pub numbers_more : (env : Environment) (old mid new : Numbered) (patterns : List CodePattern) (i : ℕ) (x : CodePattern) (d e : PatternTests) (b : BindingId) → i < length patterns → x ≡ get_or patterns i x → NumbersPatterns env old mid (map pattern (take i patterns)) d
-    → Numbers mid new (Arg i) b → Takes env (pattern x) b d e → NumbersPatterns env old new (map pattern (take (i + 1) patterns)) e
-numbers_more env old mid new patterns i x d e b lt is h n t =
-    let long : i ≡ length (map pattern (take i patterns)) = sym (length-map (take i patterns) pattern ∙ length-take-le i patterns le) in
-    subst (λ qs. NumbersPatterns env old new qs e) (sym (map_more pattern patterns i x lt ∙ ap (λ y. map pattern (take i patterns) ++ pattern y ∷ []) (sym is)))
-    (numbers_push env old mid new (map pattern (take i patterns)) (pattern x) d e b h (subst (λ k. Numbers mid new (Arg k) b) long n) t)
-  where
-    le : i ≤ length patterns
-    le = omega arith
+-- behind the last one
+pub made_all : (terms : List Term) (old now : Numbered) (d e : PatternTests) (m : Made) (all : Patterns) (parts : List CodePattern) (n : ℕ) (b : BindingId) → length parts ≤ n → MadeSoFar terms old now d e (making_of m) all (left_parts parts n) n b
+    → TakesMadeIn terms old now d e (making_of m) all b
+made_all terms old now d e m all parts n b le so env same p there =
+    so.whole env same p there now e (subst (λ qs. TakesParts env now now e e (making_of m) qs n p) (sym (ap (λ qs. patterns_of (map pattern qs)) (drop_all n parts le))) (reads_self now e))
 
--- after the last pattern of the code's list
-pub numbers_all : (env : Environment) (old new : Numbered) (patterns : List CodePattern) (i : ℕ) (d : PatternTests) → length patterns ≤ i → NumbersPatterns env old new (map pattern (take i patterns)) d → NumbersPatterns env old new (map pattern patterns) d
-numbers_all env old new patterns i d le h = subst (λ xs. NumbersPatterns env old new (map pattern xs) d) (take_all i patterns le) h
+-- ---- arguments
+
+-- wherever the rest of the arguments is taken, all were
+abbrev pub ArgumentsSoFar : List Term → Numbered → Numbered → PatternTests → List Pattern → List Pattern → ℕ → Type 0
+ArgumentsSoFar terms old now e all rest i = (env : Environment) → env.terms ≡ terms → (new : Numbered) (f : PatternTests) → TakesArguments env now new e f rest i → NumbersPatterns env old new all f
+
+-- before the first
+pub arguments_first : (terms : List Term) (n : Numbered) (d : PatternTests) (all : List Pattern) → ((ps : List Path) → HasTests ps no_places [] d) → ArgumentsSoFar terms n n d all all 0
+arguments_first terms n d all h env same new f g = record { joins = g.joins; tests = λ ps x. g.gathers ps x no_places [] (h ps) }
+
+-- behind the next pattern of the code's list
+pub arguments_next : (terms : List Term) (old now mid new : Numbered) (e f : PatternTests) (all : List Pattern) (patterns : List CodePattern) (i : ℕ) (x : CodePattern) (b : BindingId) → i < length patterns → x ≡ get_or patterns i x → ArgumentsSoFar terms old now e all (map pattern (drop i patterns)) i
+    → Numbers now mid (Arg i) b → TakesIn terms mid new e f (pattern x) b → ArgumentsSoFar terms old new f all (map pattern (drop (i + 1) patterns)) (i + 1)
+arguments_next terms old now mid new e f all patterns i x b lt is so n t env same last g h =
+    let rest = map pattern (drop (i + 1) patterns) in
+    let q = pattern x in
+    let left : map pattern (drop i patterns) ≡ q ∷ rest = ap (map pattern) (drop_more patterns i x lt ∙ ap (λ y. y ∷ drop (i + 1) patterns) (sym is)) in
+    let then : TakesArguments env new last f g rest (suc i) = subst (λ k. TakesArguments env new last f g rest k) (sym (next_is i)) h in
+    so env same last g
+    (subst (λ qs. TakesArguments env now last e g qs i) (sym left)
+    (reads_behind now mid last e g (Arg i) b (pattern_paths env q (Arg i) ++ args_paths env rest (suc i)) (args_after env (q ∷ rest) i) (args_tests env (q ∷ rest) i) n
+    (reads_then mid new last e f g (pattern_paths env q (Arg i)) (args_paths env rest (suc i)) (after env q (Arg i)) (args_after env rest (suc i)) (tests env q (Arg i)) (args_tests env rest (suc i)) (t env same (Arg i) n.found) then)))
+
+-- behind the last one
+pub arguments_all : (terms : List Term) (old now : Numbered) (e : PatternTests) (all : List Pattern) (patterns : List CodePattern) (i : ℕ) → length patterns ≤ i → ArgumentsSoFar terms old now e all (map pattern (drop i patterns)) i
+    → (env : Environment) → env.terms ≡ terms → NumbersPatterns env old now all e
+arguments_all terms old now e all patterns i le so env same =
+    so env same now e (subst (λ qs. TakesArguments env now now e e qs i) (sym (ap (map pattern) (drop_all i patterns le))) (reads_self now e))
+
+-- ---- built patterns
 
 -- a pattern of a list of built ones
-pub built_at : (patterns : List CodePattern) (i : ℕ) (x : CodePattern) → All IsBuiltPattern (map pattern patterns) → i < length patterns → x ≡ get_or patterns i x → IsBuiltPattern (pattern x)
-built_at patterns i x h lt is =
+pub built_at : (terms : List Term) (patterns : List CodePattern) (i : ℕ) (x : CodePattern) → All (IsBuiltPattern terms) (map pattern patterns) → i < length patterns → x ≡ get_or patterns i x → IsBuiltPattern terms (pattern x)
+built_at terms patterns i x h lt is =
     let within : i < length (map pattern patterns) = omega (arith, length-map patterns pattern) in
-    subst IsBuiltPattern (get_or-map pattern patterns i x (pattern x) lt ∙ ap pattern (sym is)) (h i (pattern x) within)
+    subst (IsBuiltPattern terms) (get_or-map pattern patterns i x (pattern x) lt ∙ ap pattern (sym is)) (h i (pattern x) within)
+
+are_built : (terms : List Term) (qs : List Pattern) → AreBuiltPatterns terms (patterns_of qs) → AllByRecursion (IsBuiltPattern terms) qs
+are_built terms [] h = tt
+are_built terms (q ∷ qs) h = (h.0, are_built terms qs h.1)
+
+-- a part of what is made
+pub part_built : (terms : List Term) (parts : List CodePattern) (i : ℕ) (x : CodePattern) → AreBuiltPatterns terms (patterns_of (map pattern parts)) → i < length parts → x ≡ get_or parts i x → IsBuiltPattern terms (pattern x)
+part_built terms parts i x h lt is = built_at terms parts i x (All-from_recursion (IsBuiltPattern terms) (map pattern parts) (are_built terms (map pattern parts) h)) lt is
+
+-- as many patterns as the code's list has
+pub counted : (parts : List CodePattern) → count (patterns_of (map pattern parts)) ≡ length parts
+counted [] = refl
+counted (x ∷ parts) = ap suc (counted parts)
+
+-- the number of a part fits in a byte
+pub part_fits : (parts : List CodePattern) (i : ℕ) → count (patterns_of (map pattern parts)) ≤ 256 → i < length parts → i < 256
+part_fits parts i few lt = let same = counted parts in omega (arith, same, few, lt)

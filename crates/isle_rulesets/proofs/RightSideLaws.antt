@@ -1,6 +1,7 @@
 -- The right side of a rule is numbered, call by call.
 use Rattle.std.proofs.Common.{◌≡◌, inl, inr, ⊎_elim, ℕ, zero, suc, ◌<◌, ◌≤◌, ◌+◌, ℤ, List, [], ◌∷◌, ◌++◌, length, map, take, get_or, if◌then◌else◌, Bool, true, false, Option, Some, None, Result, Ok, Err, refl, sym, ap, ◌∙◌, subst, arith, append_assoc, append-nil}
 use Rattle.std.specs.Prelude.{Contains, IsSomeAnd, IfOk, slice_get}
+use Rattle.std.specs.List.{AllByRecursion}
 use Rattle.std.specs.Ordering.{nat_cmp}
 use Rattle.std.specs.BTreeMap.{BTreeMap, get}
 use Rattle.std.proofs.lemmas.List.{map_more, map-append, length-map, get_or-map, take_all}
@@ -8,6 +9,7 @@ use Rattle.std.proofs.lemmas.List.Elements.{Contains-append_left, Contains-appen
 use Rattle.std.proofs.lemmas.Option.{slice_get-get_or}
 use Rattle.isle_core.specs.declared.BindingId.{BindingId}
 use Rattle.isle_core.specs.declared.TermId.{TermId}
+use Rattle.isle_core.specs.declared.Sym.{Sym}
 use Rattle.isle_core.specs.declared.TypeId.{TypeId}
 use Rattle.isle_core.specs.declared.VarId.{VarId}
 use Rattle.isle_core.specs.declared.types.ReturnKind.{ReturnKind}
@@ -22,20 +24,26 @@ use Rattle.isle_core.specs.declared.rules.Expr.{Expr as CodeExpr}
 use Rattle.isle_core.specs.Expr as expr
 use Rattle.isle_core.specs.Expr.{Expr, Exprs, NoExpr, AnExpr}
 use Rattle.isle_core.specs.RuleViews.{expr as seen, exprs_of}
-use Rattle.isle_core.specs.BuiltRule.{IsImpureKind, CallsImpure, AllCallImpure}
-use Rattle.isle_core.specs.Calling.{Calling, ByTurns, ByCases, NoCall, kind_of, may_be_nothing, pure_callee, calling_by, calling_of, calling, instance_of, one_more, impure, impure_all}
+use Rattle.isle_core.specs.BuiltRule.{IsBuiltKind, HasBuiltTerms, AllHaveBuiltTerms}
+use Rattle.isle_core.specs.Making.{Making, MakesNothing, making_kind, making_of as making_at, making_in, making}
+use Rattle.isle_core.specs.Calling.{Calling, ByTurns, ByCases, NoCall, kind_by, kind_of, may_be_nothing, pure_callee, calling_by, calling_of, calling, instance_of, one_more, impure, impure_all}
 use Rattle.isle_core.specs.Path as path
 use Rattle.isle_core.specs.Path.{Path, Paths, NoPath, APath, at, at_all, paths_of}
 use Rattle.isle_core.specs.OrderedCalls.{calls as calls_of, calls_all, if_ordered}
-use Rattle.isle_core.specs.RightSide.{path as path_of, paths, path_or, bool_type, call_path}
+use Rattle.isle_core.specs.RightSide.{path as path_of, paths, path_or, bool_type, term_path, call_path}
 use Rattle.isle_core.specs.RulePaths.{expr_paths, exprs_paths, with_inner}
 use Rattle.isle_core.specs.Tests.{Places}
 use Rattle.isle_core.specs.Rule.{Environment}
 use Rattle.isle_core.proofs.Contained.{head_contained, contained_cases, none_contained}
+use Rattle.isle_rulesets.specs.declared.made.Made.{Made}
+use Rattle.isle_rulesets.specs.declared.made.Made.TheVariants as made
+use Rattle.isle_rulesets.specs.Keys.{key_path, IsThere, HasParts}
+use Rattle.isle_rulesets.specs.Made.{making_of, whole_key}
 use Rattle.isle_rulesets.specs.Numbering.{Numbered, Extends, Numbers, next_call, Calls}
-use Rattle.isle_rulesets.specs.RightSides.{StandsAt, Stand, IsKnown, AreKnown, Grows, NumbersExpr, NumbersCall, AllAt, NumbersExprs}
-use Rattle.isle_rulesets.proofs.NumberingLaws.{extends_self, extends_more}
-use Rattle.isle_rulesets.proofs.PatternTestLaws.{at_get, at_kept, contains_there, contains_kept}
+use Rattle.isle_rulesets.specs.PatternTests.{path_at}
+use Rattle.isle_rulesets.specs.RightSides.{StandsAt, Stand, AreThere, IsKnown, AreKnown, Grows, NumbersExpr, NumbersTerm, AllAt, NumbersExprs}
+use Rattle.isle_rulesets.proofs.PlacedPaths.{extends_self, extends_more, at_get, at_kept, contains_there, contains_kept, there_kept}
+use Rattle.isle_rulesets.proofs.PatternTestLaws.{env_of}
 
 -- ---- one step after another
 
@@ -90,6 +98,10 @@ pub given_int : {E : Type 0} (r : Result BindingId E) (terms : List Term) (varia
 given_int (Err x) terms variables old new bs e ty n is h = tt
 given_int (Ok b) terms variables old new bs e ty n is h = λ env places t s. subst (λ d. NumbersExpr env places old new bs bs d b) (sym is) (record { grows = gives_key old new bs (path.ConstInt ty n) b h; found = h.found })
 
+pub given_prim : {E : Type 0} (r : Result BindingId E) (terms : List Term) (variables : BTreeMap ℕ BindingId) (old new : Numbered) (bs : List BindingId) (e : Expr) (ty : TypeId) (name : Sym) → e ≡ expr.ConstPrim ty name → IfOk r (Numbers old new (path.ConstPrim name)) → IfOk r (Given terms variables old new bs bs e)
+given_prim (Err x) terms variables old new bs e ty name is h = tt
+given_prim (Ok b) terms variables old new bs e ty name is h = λ env places t s. subst (λ d. NumbersExpr env places old new bs bs d b) (sym is) (record { grows = gives_key old new bs (path.ConstPrim name) b h; found = h.found })
+
 var_there : (ps : List Path) (o : Option BindingId) (q : Option Path) (b : BindingId) → o ≡ Some b → StandsAt ps o q → slice_get ps b.0 ≡ Some (path_or q)
 var_there ps (Some c) (Some p) b e h = subst (λ (x : BindingId). slice_get ps x.0 ≡ Some p) (some_same c b e) h
   where
@@ -118,6 +130,12 @@ all_at ps (b ∷ bs) (APath q qs) h = ap (λ p. APath p (at_all ps bs)) (at_get 
 all_at ps [] (APath q qs) h = absurd h
 all_at ps (b ∷ bs) NoPath h = absurd h
 
+all_there : (ps : List Path) (bs : List BindingId) (qs : Paths) → AllAt ps bs qs → AllByRecursion (IsThere ps) bs
+all_there ps [] NoPath h = tt
+all_there ps (b ∷ bs) (APath q qs) h = ((q, h.0), all_there ps bs qs h.1)
+all_there ps [] (APath q qs) h = absurd h
+all_there ps (b ∷ bs) NoPath h = absurd h
+
 one_behind : (c : Calling) (n : ℕ) → n + one_more c 0 ≡ one_more c n
 one_behind (ByTurns callee kind) n = omega arith
 one_behind (ByCases callee kind) n = omega arith
@@ -125,9 +143,9 @@ one_behind NoCall n = omega arith
 
 -- a call behind its arguments
 call_behind : (env : Environment) (places : Places) (old mid new : Numbered) (before middle after : List BindingId) (ty : TypeId) (term : TermId) (es : Exprs) (bs : List BindingId) (b : BindingId) → NumbersExprs env places old mid before middle es bs
-    → NumbersCall mid new middle after (calling env term) (call_path env term (at_all (paths_of mid.bindings) bs) mid.calls) b → NumbersExpr env places old new before after (expr.Term ty term es) b
+    → NumbersTerm mid new middle after (calling env term) (call_path env term (at_all (paths_of mid.bindings) bs) mid.calls) b → NumbersExpr env places old new before after (expr.Term ty term es) b
 call_behind env places old mid new before middle after ty term es bs b g h =
-    let k = subst (λ p. NumbersCall mid new middle after (calling env term) p b) same h in
+    let k = subst (λ p. NumbersTerm mid new middle after (calling env term) p b) same h in
     record {
       grows = subst (λ n. Grows old new before after (expr_paths env (expr.Term ty term es) places old.calls) (calls_of env (expr.Term ty term es) places old.calls) n) (one_behind (calling env term) (impure_all env es))
           (grows_then old mid new before middle after (exprs_paths env es places old.calls) (with_inner (calling env term) p) (calls_all env es places old.calls) (if_ordered (calling env term) p) (impure_all env es) (one_more (calling env term) 0) g.grows k.grows);
@@ -151,36 +169,96 @@ some_there P [] i x h e = absurd h
 some_there P (y ∷ xs) zero x h e = ap Some (sym e)
 some_there P (y ∷ xs) (suc i) x h e = some_there P xs i x h e
 
-turns_by : (env : Environment) (t : Term) (k : TermKind) → IsImpureKind k → (callee : Callee) × (calling_by (kind_of k) (impure_callee env t k) (pure_callee env t k) ≡ ByTurns callee (kind_of k))
-turns_by env t (kind.Decl false false partial recursive constructor.Internal extractor) h = (Internal (sym_text env t.name), refl)
-turns_by env t (kind.Decl false false partial recursive (constructor.External func) extractor) h = (External (sym_text env func), refl)
-turns_by env t k h = absurd h
+turns_by : (env : Environment) (t : Term) (k : TermKind) → IsBuiltKind k → making_kind k ≡ MakesNothing → (callee : Callee) × (calling_by (kind_of k) (impure_callee env t k) (pure_callee env t k) ≡ ByTurns callee (kind_of k))
+turns_by env t (kind.Decl false false partial recursive constructor.Internal extractor) h m = (Internal (sym_text env t.name), refl)
+turns_by env t (kind.Decl false false partial recursive (constructor.External func) extractor) h m = (External (sym_text env func), refl)
+turns_by env t (kind.Variant ty variant) h m = cc
+turns_by env t (kind.Struct ty) h m = cc
+turns_by env t k h m = absurd h
 
--- an impure term is called by turns
-pub called_by_turns : (env : Environment) (terms : List Term) (term : TermId) (t : Term) → env.terms ≡ terms → slice_get terms term.0 ≡ Some t → IsImpureKind t.kind → (callee : Callee) × (calling env term ≡ ByTurns callee (kind_of t.kind))
-called_by_turns env terms term t same there h =
-    let k = turns_by env t t.kind h in
+-- a built term that makes nothing is called by turns
+called_by_turns : (env : Environment) (terms : List Term) (term : TermId) (t : Term) → env.terms ≡ terms → slice_get terms term.0 ≡ Some t → IsBuiltKind t.kind → making_kind t.kind ≡ MakesNothing → (callee : Callee) × (calling env term ≡ ByTurns callee (kind_of t.kind))
+called_by_turns env terms term t same there h m =
+    let k = turns_by env t t.kind h m in
     (k.0, ap (λ ts. calling_of env (slice_get ts term.0)) same ∙ ap (calling_of env) there ∙ k.1)
+
+no_call_by : (env : Environment) (t : Term) (k : TermKind) (m : Made) → making_kind k ≡ making_of m → calling_by (kind_of k) (impure_callee env t k) (pure_callee env t k) ≡ NoCall
+no_call_by env t (kind.Variant ty variant) m e = refl
+no_call_by env t (kind.Struct ty) m e = refl
+no_call_by env t (kind.Decl pure multi partial recursive by extractor) (made.Variant ty variant) e = cc
+no_call_by env t (kind.Decl pure multi partial recursive by extractor) (made.Struct ty) e = cc
+
+no_call_of : (env : Environment) (o : Option Term) (m : Made) → making_at o ≡ making_of m → calling_of env o ≡ NoCall
+no_call_of env None m e = refl
+no_call_of env (Some t) m e = no_call_by env t t.kind m e
+
+-- a term that makes something is not called
+no_call : (env : Environment) (terms : List Term) (term : TermId) (m : Made) → env.terms ≡ terms → making_in terms term ≡ making_of m → calling env term ≡ NoCall
+no_call env terms term m same e = no_call_of env (slice_get env.terms term.0) m (ap (λ ts. making_in ts term) same ∙ e)
 
 -- so of a term that is there
 some_item : {A : Type 0} (P : A → Type 0) (o : Option A) → IsSomeAnd o P → (x : A) × (o ≡ Some x) × P x
 some_item P None h = absurd h
 some_item P (Some x) h = (x, refl, h)
 
-pub turns_of : (env : Environment) (terms : List Term) (term : TermId) → env.terms ≡ terms → IsSomeAnd (slice_get terms term.0) (λ (x : Term). IsImpureKind x.kind) → (callee : Callee) × (kind : ReturnKind) × (calling env term ≡ ByTurns callee kind)
+-- by turns where it makes nothing, or not at all
+pub data IsTurns (mk : Making) (c : Calling) : Type 0 where
+  takes : (callee : Callee) (kind : ReturnKind) → mk ≡ MakesNothing → c ≡ ByTurns callee kind → IsTurns mk c
+  never : c ≡ NoCall → IsTurns mk c
+
+turns_kind : (env : Environment) (t : Term) (k : TermKind) → IsBuiltKind k → IsTurns (making_kind k) (calling_by (kind_of k) (impure_callee env t k) (pure_callee env t k))
+turns_kind env t (kind.Decl false false partial recursive constructor.Internal extractor) h = takes (Internal (sym_text env t.name)) (kind_by false partial) refl refl
+turns_kind env t (kind.Decl false false partial recursive (constructor.External func) extractor) h = takes (External (sym_text env func)) (kind_by false partial) refl refl
+turns_kind env t (kind.Variant ty variant) h = never refl
+turns_kind env t (kind.Struct ty) h = never refl
+turns_kind env t k h = absurd h
+
+-- a built term is called so
+pub turns_of : (env : Environment) (terms : List Term) (term : TermId) → env.terms ≡ terms → IsSomeAnd (slice_get terms term.0) (λ (x : Term). IsBuiltKind x.kind) → IsTurns (making env term) (calling env term)
 turns_of env terms term same h =
-    let t = some_item (λ (x : Term). IsImpureKind x.kind) (slice_get terms term.0) h in
-    let k = called_by_turns env terms term t.0 same t.1 t.2 in
-    (k.0, kind_of t.0.kind, k.1)
+    let t = some_item (λ (x : Term). IsBuiltKind x.kind) (slice_get terms term.0) h in
+    subst (λ o. IsTurns (making_at o) (calling_of env o)) (sym (ap (λ ts. slice_get ts term.0) same ∙ t.1)) (turns_kind env t.0 t.0.kind t.2)
+
+-- the key of what is made has the path of the term
+whole_path : (ps : List Path) (m : Made) (term : TermId) (bs : List BindingId) (instance : ℕ) → key_path ps (whole_key m bs) ≡ term_path (making_of m) term (at_all ps bs) instance
+whole_path ps (made.Variant ty variant) term bs instance = refl
+whole_path ps (made.Struct ty) term bs instance = refl
+
+pub whole_has_parts : (ps : List Path) (m : Made) (bs : List BindingId) → AllByRecursion (IsThere ps) bs → HasParts ps (whole_key m bs)
+whole_has_parts ps (made.Variant ty variant) bs h = h
+whole_has_parts ps (made.Struct ty) bs h = h
+
+-- what the code says of a term on numbers
+abbrev pub TermGiven : List Term → TermId → List BindingId → Numbered → Numbered → List BindingId → List BindingId → BindingId → Type 0
+TermGiven terms term bs old new before after b = (env : Environment) → env.terms ≡ terms → NumbersTerm old new before after (calling env term) (call_path env term (at_all (paths_of old.bindings) bs) old.calls) b
+
+made_numbers : (terms : List Term) (term : TermId) (m : Made) (bs : List BindingId) (old new : Numbered) (ordered : List BindingId) (b : BindingId) → making_in terms term ≡ making_of m → Numbers old new (key_path (paths_of old.bindings) (whole_key m bs)) b → TermGiven terms term bs old new ordered ordered b
+made_numbers terms term m bs old new ordered b makes h env same =
+    let qs = at_all (paths_of old.bindings) bs in
+    let making_is : making env term ≡ making_of m = ap (λ ts. making_in ts term) same ∙ makes in
+    let none : calling env term ≡ NoCall = no_call env terms term m same makes in
+    let p = term_path (making_of m) term qs (instance_of (calling env term) old.calls) in
+    let number : Numbers old new p b = subst (λ q. Numbers old new q b) (whole_path (paths_of old.bindings) m term bs (instance_of (calling env term) old.calls)) h in
+    let base : NumbersTerm old new ordered ordered NoCall p b = record { grows = gives_key old new ordered p b number; found = number.found } in
+    subst (λ mk. NumbersTerm old new ordered ordered (calling env term) (term_path mk term qs (instance_of (calling env term) old.calls)) b) (sym making_is)
+    (subst (λ c. NumbersTerm old new ordered ordered c p b) (sym none) base)
+
+-- what was made
+pub made_given : {E : Type 0} (r : Result BindingId E) (terms : List Term) (term : TermId) (m : Made) (bs : List BindingId) (old new : Numbered) (ordered : List BindingId) → making_in terms term ≡ making_of m → IfOk r (Numbers old new (key_path (paths_of old.bindings) (whole_key m bs)))
+    → IfOk r (TermGiven terms term bs old new ordered ordered)
+made_given (Err x) terms term m bs old new ordered makes h = tt
+made_given (Ok b) terms term m bs old new ordered makes h = made_numbers terms term m bs old new ordered b makes h
 
 -- a call that was added
-pub call_given : (old new : Numbered) (before after : List BindingId) (terms : List Term) (term : TermId) (t : Term) (partial : Bool) (bs : List BindingId) (call value : BindingId) → IsSomeAnd (slice_get terms term.0) (λ (x : Term). IsImpureKind x.kind) → t ≡ get_or terms term.0 t
+pub call_given : (old new : Numbered) (before after : List BindingId) (terms : List Term) (term : TermId) (t : Term) (partial : Bool) (bs : List BindingId) (call value : BindingId) → IsSomeAnd (slice_get terms term.0) (λ (x : Term). IsBuiltKind x.kind) → making_in terms term ≡ MakesNothing → t ≡ get_or terms term.0 t
     → partial ≡ may_be_nothing (kind_of t.kind) → Calls old new (next_call old term bs) partial call value → after ≡ before ++ call ∷ []
-    → (env : Environment) → env.terms ≡ terms → NumbersCall old new before after (calling env term) (call_path env term (at_all (paths_of old.bindings) bs) old.calls) value
-call_given old new before after terms term t partial bs call value h here of k more env same =
+    → (env : Environment) → env.terms ≡ terms → NumbersTerm old new before after (calling env term) (call_path env term (at_all (paths_of old.bindings) bs) old.calls) value
+call_given old new before after terms term t partial bs call value h called here of k more env same =
     let fallible = may_be_nothing (kind_of t.kind) in
     let added : Calls old new (next_call old term bs) fallible call value = subst (λ b. Calls old new (next_call old term bs) b call value) of k in
-    subst (λ c. NumbersCall old new before after c (path.Called term (at_all (paths_of old.bindings) bs) (instance_of c old.calls)) value) (sym turns.1)
+    let making_is : making env term ≡ MakesNothing = ap (λ ts. making_in ts term) same ∙ called in
+    subst (λ mk. NumbersTerm old new before after (calling env term) (term_path mk term (at_all (paths_of old.bindings) bs) (instance_of (calling env term) old.calls)) value) (sym making_is)
+    (subst (λ c. NumbersTerm old new before after c (path.Called term (at_all (paths_of old.bindings) bs) (instance_of c old.calls)) value) (sym turns.1)
     (record {
       grows = record {
         extends = added.extends;
@@ -190,10 +268,12 @@ call_given old new before after terms term t partial bs call value h here of k m
         calls = added.calls ∙ one_more_is;
       };
       found = added.value;
-    })
+    }))
   where
     turns : (callee : Callee) × (calling env term ≡ ByTurns callee (kind_of t.kind))
-    turns = called_by_turns env terms term t same (some_there (λ (x : Term). IsImpureKind x.kind) terms term.0 t h here) (some_at (λ (x : Term). IsImpureKind x.kind) terms term.0 t h here)
+    turns =
+        let there = some_there (λ (x : Term). IsBuiltKind x.kind) terms term.0 t h here in
+        called_by_turns env terms term t same there (some_at (λ (x : Term). IsBuiltKind x.kind) terms term.0 t h here) (sym (ap making_at there) ∙ called)
 
     p : Path
     p = next_call old term bs
@@ -211,7 +291,7 @@ call_given old new before after terms term t partial bs call value h here of k m
 -- a call behind its arguments, where it was added
 pub given_call : {E : Type 0} (r : Result BindingId E) (terms : List Term) (variables : BTreeMap ℕ BindingId) (old mid new : Numbered) (before middle after : List BindingId) (e : Expr) (ty : TypeId) (term : TermId) (es : Exprs) (bs : List BindingId) → e ≡ expr.Term ty term es
     → AllGiven terms variables old mid before middle es bs
-    → IfOk r (λ b. (env : Environment) → env.terms ≡ terms → NumbersCall mid new middle after (calling env term) (call_path env term (at_all (paths_of mid.bindings) bs) mid.calls) b) → IfOk r (Given terms variables old new before after e)
+    → IfOk r (λ b. (env : Environment) → env.terms ≡ terms → NumbersTerm mid new middle after (calling env term) (call_path env term (at_all (paths_of mid.bindings) bs) mid.calls) b) → IfOk r (Given terms variables old new before after e)
 given_call (Err x) terms variables old mid new before middle after e ty term es bs is g h = tt
 given_call (Ok b) terms variables old mid new before middle after e ty term es bs is g h =
     λ env places t s. subst (λ d. NumbersExpr env places old new before after d b) (sym is) (call_behind env places old mid new before middle after ty term es bs b (g env places t s) (h env t))
@@ -311,13 +391,13 @@ known_in variables (x ∷ es) zero e h k = subst (IsKnown variables) (some_same 
     some_same x y e' = cc
 known_in variables (x ∷ es) (suc i) e h k = known_in variables es i e h.1 k
 
-impure_in : (terms : List Term) (es : List Expr) (i : ℕ) (e : Expr) → AllCallImpure terms (exprs_of es) → slice_get es i ≡ Some e → CallsImpure terms e
-impure_in terms [] i e h k = cc
-impure_in terms (x ∷ es) zero e h k = subst (CallsImpure terms) (some_same x e k) h.0
+terms_in : (terms : List Term) (es : List Expr) (i : ℕ) (e : Expr) → AllHaveBuiltTerms terms (exprs_of es) → slice_get es i ≡ Some e → HasBuiltTerms terms e
+terms_in terms [] i e h k = cc
+terms_in terms (x ∷ es) zero e h k = subst (HasBuiltTerms terms) (some_same x e k) h.0
   where
     some_same : (x y : Expr) → Some x ≡ Some y → x ≡ y
     some_same x y e' = cc
-impure_in terms (x ∷ es) (suc i) e h k = impure_in terms es i e h.1 k
+terms_in terms (x ∷ es) (suc i) e h k = terms_in terms es i e h.1 k
 
 seen_at : (es : List CodeExpr) (i : ℕ) (x : CodeExpr) → i < length es → x ≡ get_or es i x → slice_get (map seen es) i ≡ Some (seen x)
 seen_at es i x lt is = slice_get-get_or (map seen es) i (seen x) within ∙ ap Some (get_or-map seen es i x (seen x) lt ∙ ap seen (sym is))
@@ -329,5 +409,43 @@ seen_at es i x lt is = slice_get-get_or (map seen es) i (seen x) within ∙ ap S
 pub known_at : (variables : BTreeMap ℕ BindingId) (es : List CodeExpr) (i : ℕ) (x : CodeExpr) → AreKnown variables (exprs_of (map seen es)) → i < length es → x ≡ get_or es i x → IsKnown variables (seen x)
 known_at variables es i x h lt is = known_in variables (map seen es) i (seen x) h (seen_at es i x lt is)
 
-pub impure_at : (terms : List Term) (es : List CodeExpr) (i : ℕ) (x : CodeExpr) → AllCallImpure terms (exprs_of (map seen es)) → i < length es → x ≡ get_or es i x → CallsImpure terms (seen x)
-impure_at terms es i x h lt is = impure_in terms (map seen es) i (seen x) h (seen_at es i x lt is)
+pub terms_at : (terms : List Term) (es : List CodeExpr) (i : ℕ) (x : CodeExpr) → AllHaveBuiltTerms terms (exprs_of (map seen es)) → i < length es → x ≡ get_or es i x → HasBuiltTerms terms (seen x)
+terms_at terms es i x h lt is = terms_in terms (map seen es) i (seen x) h (seen_at es i x lt is)
+
+-- ---- the numbers of variables
+
+-- the paths at these numbers
+abbrev places_of : List Path → BTreeMap ℕ BindingId → Places
+places_of ps variables x = path_at ps (get nat_cmp variables x)
+
+stands_there : (ps : List Path) (o : Option BindingId) → ((b : BindingId) → o ≡ Some b → IsThere ps b) → StandsAt ps o (path_at ps o)
+stands_there ps None h = tt
+stands_there ps (Some b) h = let there = h b refl in there.1 ∙ ap Some (sym (at_get ps b.0 there.0 there.1))
+
+there_stand : (ps : List Path) (variables : BTreeMap ℕ BindingId) → AreThere ps variables → Stand ps variables (places_of ps variables)
+there_stand ps variables h = record { by = λ x. stands_there ps (get nat_cmp variables x) (h.by x) }
+
+there_by : (ps : List Path) (o : Option BindingId) (q : Option Path) (b : BindingId) → StandsAt ps o q → o ≡ Some b → IsThere ps b
+there_by ps None q b s e = cc
+there_by ps (Some c) (Some p) b s e = (p, subst (λ (d : BindingId). slice_get ps d.0 ≡ Some p) (some_same c b e) s)
+  where
+    some_same : (x y : BindingId) → Some x ≡ Some y → x ≡ y
+    some_same x y e' = cc
+there_by ps (Some c) None b s e = absurd s
+
+-- numbers that stand for paths are there
+pub stand_there : (ps : List Path) (variables : BTreeMap ℕ BindingId) (places : Places) → Stand ps variables places → AreThere ps variables
+stand_there ps variables places s = record { by = λ x b e. there_by ps (get nat_cmp variables x) (places x) b (s.by x) e }
+
+-- so behind expressions
+pub there_behind : (terms : List Term) (variables : BTreeMap ℕ BindingId) (old new : Numbered) (before after : List BindingId) (es : Exprs) (bs : List BindingId) → AreThere (paths_of old.bindings) variables → AllGiven terms variables old new before after es bs → AreThere (paths_of new.bindings) variables
+there_behind terms variables old new before after es bs h g =
+    let more = (g (env_of terms) (places_of (paths_of old.bindings) variables) refl (there_stand (paths_of old.bindings) variables h)).grows.extends in
+    record { by = λ x b e. there_kept (paths_of old.bindings) (paths_of new.bindings) b more (h.by x b e) }
+
+-- the numbers of expressions are there
+pub numbers_there : (terms : List Term) (variables : BTreeMap ℕ BindingId) (old new : Numbered) (before after : List BindingId) (es : Exprs) (bs : List BindingId) → AreThere (paths_of old.bindings) variables → AllGiven terms variables old new before after es bs → AllByRecursion (IsThere (paths_of new.bindings)) bs
+numbers_there terms variables old new before after es bs h g =
+    let places = places_of (paths_of old.bindings) variables in
+    let n = g (env_of terms) places refl (there_stand (paths_of old.bindings) variables h) in
+    all_there (paths_of new.bindings) bs (paths (env_of terms) es places old.calls) n.found

@@ -5,7 +5,7 @@ use Rattle.std.specs.Ordering.{nat_cmp}
 use Rattle.std.specs.BTreeMap.{get}
 use Rattle.std.proofs.lemmas.List.{map_more, length-map, get_or-map, take_all}
 use Rattle.std.specs.List.{AllByRecursion}
-use Rattle.std.proofs.lemmas.List.Elements.{Contains-append_left, Contains-append_right, Contains-append_cases}
+use Rattle.std.proofs.lemmas.List.Elements.{recursion_from_All, Contains-append_left, Contains-append_right, Contains-append_cases}
 use Rattle.isle_core.specs.declared.BindingId.{BindingId}
 use Rattle.isle_core.specs.declared.rule_sets.Binding.{Binding}
 use Rattle.isle_core.specs.declared.rule_sets.FlatRule.{FlatRule}
@@ -15,70 +15,65 @@ use Rattle.isle_core.specs.declared.types.Term.{Term}
 use Rattle.isle_core.specs.Pattern.{Pattern}
 use Rattle.isle_core.specs.Expr as expr
 use Rattle.isle_core.specs.Expr.{Expr, Exprs, NoExpr, AnExpr}
-use Rattle.isle_core.specs.Path.{Path, Nowhere, Arg, at, paths_of}
+use Rattle.isle_core.specs.Path.{Path, Nowhere, at, paths_of}
 use Rattle.isle_core.specs.Calling.{impure}
 use Rattle.isle_core.specs.OrderedCalls.{rule_calls}
-use Rattle.isle_core.specs.RulePaths.{arg_paths, expr_paths, rule_paths}
+use Rattle.isle_core.specs.RulePaths.{args_paths, expr_paths, rule_paths}
 use Rattle.isle_core.specs.Tests.{no_places, args_tests, args_after, rule_places, rule_tests}
 use Rattle.isle_core.specs.RuleSet.{is_test, equal_test, flat_tests}
 use Rattle.isle_core.specs.RuleViews.{rule, rules}
 use Rattle.isle_core.specs.RulePaths.{rules_paths}
 use Rattle.isle_core.specs.StandsFor.{EachOnce, AreFirsts, no_more, IsFlat, AreFlat, StandsFor}
-use Rattle.isle_core.specs.BuiltRule.{IsBuiltExpr, AreBuiltExprs, IsBuiltRule, IsBuiltPattern, IsImpureRule}
+use Rattle.isle_core.specs.BuiltRule.{IsBuiltExpr, AreBuiltExprs, IsBuiltRule, IsBuiltPattern, CallsBuiltTerms}
 use Rattle.isle_core.specs.Rule.{Environment, Rule}
 use Rattle.isle_core.proofs.NotTrivial.{no_trivial}
-use Rattle.isle_core.proofs.ScopeLaws.{variable_of}
+use Rattle.isle_core.proofs.PlacedVariables.{args_placed}
 use Rattle.isle_core.proofs.SetMeans.{without_iflets}
+use Rattle.isle_core.proofs.TurnKinds.{IsPlaced}
 use Rattle.isle_core.specs.Scope.{all_variables, IsInScope, AreInScope, IsScopedRule}
 use Rattle.isle_rulesets.specs.declared.pattern_tests.PatternTests.{PatternTests}
 use Rattle.isle_rulesets.specs.Numbering.{Numbered, Extends}
 use Rattle.isle_rulesets.specs.PatternTests.{is_constraint, path_at, NumbersPatterns}
-use Rattle.isle_rulesets.specs.RightSides.{StandsAt, Stand, IsKnown, AreKnown, NumbersExpr}
+use Rattle.isle_rulesets.specs.RightSides.{StandsAt, Stand, AreThere, IsKnown, AreKnown, NumbersExpr}
 use Rattle.isle_rulesets.specs.FlatRules.{Adds, rules_impure, Covers}
-use Rattle.isle_rulesets.proofs.NumberingLaws.{extends_self, extends_more}
-use Rattle.isle_rulesets.proofs.PatternTestLaws.{at_get, contains_kept}
-use Rattle.isle_rulesets.proofs.RuleTests.{rule_can, rule_once, parted, parted_keeps, parted_from, parted_once, stands_at, place_is_arg}
-use Rattle.isle_rulesets.proofs.RightSideLaws.{Given}
+use Rattle.isle_rulesets.proofs.PlacedPaths.{extends_self, extends_more, at_get, contains_kept}
+use Rattle.isle_rulesets.proofs.PatternTestLaws.{env_of}
+use Rattle.isle_rulesets.proofs.RuleTests.{rule_can, rule_once, parted, parted_keeps, parted_from, parted_once}
+use Rattle.isle_rulesets.proofs.VariablePlaces.{place_within, somewhere}
+use Rattle.isle_rulesets.proofs.RightSideLaws.{Given, stand_there}
 use Rattle.isle_rulesets.proofs.CallsOnce.{rule_firsts}
 use Rattle.isle_rulesets.proofs.NoIterators.{none_in_rule}
 
 -- ---- the variables of a rule
 
-is_there : (ps : List Path) (o : Option BindingId) (p : Path) → path_at ps o ≡ Some p → IsSome o
-is_there ps None p e = cc
-is_there ps (Some b) p e = refl
-
--- an environment of nothing: what is known of a pattern tests is so of each
-pub no_env : Environment
-no_env = record { types = record { syms = []; types = []; consts = [] }; terms = []; rules = []; converters = [] }
+is_there : (ps : List Path) (o : Option BindingId) (q : Option Path) → path_at ps o ≡ q → IsPlaced q → IsSome o
+is_there ps o None e h = absurd h
+is_there ps None (Some p) e h = cc
+is_there ps (Some b) (Some p) e h = refl
 
 -- an expression that is built and in scope has numbers for its variables
 mutual
-  pub expr_known : (env : Environment) (old new : Numbered) (args : List Pattern) (d : PatternTests) (e : Expr) → NumbersPatterns env old new args d → AllByRecursion IsBuiltPattern args → IsBuiltExpr e → IsInScope (all_variables args) e → IsKnown d.variables e
-  expr_known env old new args d (expr.Var ty x) h a b k =
-      let v = variable_of args x.0 a k in
-      let s = stands_at env args v.ty v.var v.among in
-      is_there (paths_of new.bindings) (get nat_cmp d.variables x.0) s.0 ((h.tests (paths_of new.bindings) (extends_self (paths_of new.bindings))).knows.by x.0 ∙ ap (args_after env args 0 no_places) (sym v.is) ∙ s.1)
-  expr_known env old new args d (expr.ConstBool v) h a b k = tt
-  expr_known env old new args d (expr.ConstInt ty v) h a b k = tt
-  expr_known env old new args d (expr.Term ty term es) h a b k = exprs_known env old new args d es h a b k
-  expr_known env old new args d e h a b k = absurd b
+  pub expr_known : (e : Expr) (terms : List Term) (old new : Numbered) (args : List Pattern) (d : PatternTests) → NumbersPatterns (env_of terms) old new args d → AllByRecursion (IsBuiltPattern terms) args → IsBuiltExpr e → IsInScope (all_variables args) e → IsKnown d.variables e
+  expr_known (expr.Var ty x) terms old new args d h a b k =
+      is_there (paths_of new.bindings) (get nat_cmp d.variables x.0) (args_after (env_of terms) args 0 no_places x.0) ((h.tests (paths_of new.bindings) (extends_self (paths_of new.bindings))).knows.by x.0) (args_placed (env_of terms) terms args 0 no_places x.0 a k)
+  expr_known (expr.ConstBool v) terms old new args d h a b k = tt
+  expr_known (expr.ConstInt ty v) terms old new args d h a b k = tt
+  expr_known (expr.ConstPrim ty name) terms old new args d h a b k = tt
+  expr_known (expr.Term ty term es) terms old new args d h a b k = exprs_known es terms old new args d h a b k
+  expr_known (expr.Let ty bindings inner) terms old new args d h a b k = absurd b
 
-  exprs_known : (env : Environment) (old new : Numbered) (args : List Pattern) (d : PatternTests) (es : Exprs) → NumbersPatterns env old new args d → AllByRecursion IsBuiltPattern args → AreBuiltExprs es → AreInScope (all_variables args) es → AreKnown d.variables es
-  exprs_known env old new args d NoExpr h a b k = tt
-  exprs_known env old new args d (AnExpr e es) h a b k = (expr_known env old new args d e h a b.0 k.0, exprs_known env old new args d es h a b.1 k.1)
+  exprs_known : (es : Exprs) (terms : List Term) (old new : Numbered) (args : List Pattern) (d : PatternTests) → NumbersPatterns (env_of terms) old new args d → AllByRecursion (IsBuiltPattern terms) args → AreBuiltExprs es → AreInScope (all_variables args) es → AreKnown d.variables es
+  exprs_known NoExpr terms old new args d h a b k = tt
+  exprs_known (AnExpr e es) terms old new args d h a b k = (expr_known e terms old new args d h a b.0 k.0, exprs_known es terms old new args d h a b.1 k.1)
 
-at_there : (ps : List Path) (b : ℕ) (i : ℕ) → get_or ps b Nowhere ≡ Arg i → slice_get ps b ≡ Some (Arg i)
-at_there [] b i e = cc
-at_there (q ∷ ps) zero i e = ap Some e
-at_there (q ∷ ps) (suc b) i e = at_there ps b i e
+at_there : (ps : List Path) (b : ℕ) (p : Path) → (p ≡ Nowhere → ⊥) → get_or ps b Nowhere ≡ p → slice_get ps b ≡ Some p
+at_there [] b p h e = absurd (h (sym e))
+at_there (q ∷ ps) zero p h e = ap Some e
+at_there (q ∷ ps) (suc b) p h e = at_there ps b p h e
 
-var_stands : (ps : List Path) (o : Option BindingId) (q : Option Path) → path_at ps o ≡ q → ((p : Path) → q ≡ Some p → (i : ℕ) × (p ≡ Arg i)) → StandsAt ps o q
+var_stands : (ps : List Path) (o : Option BindingId) (q : Option Path) → path_at ps o ≡ q → ((p : Path) → q ≡ Some p → p ≡ Nowhere → ⊥) → StandsAt ps o q
 var_stands ps None None e h = tt
-var_stands ps (Some b) (Some p) e h =
-    let arg = h p refl in
-    let here : at ps b ≡ p = some_same (at ps b) p e in
-    at_there ps b.0 arg.0 (here ∙ arg.1) ∙ ap Some (sym arg.1)
+var_stands ps (Some b) (Some p) e h = at_there ps b.0 p (h p refl) (some_same (at ps b) p e)
   where
     some_same : (x y : Path) → Some x ≡ Some y → x ≡ y
     some_same x y e' = cc
@@ -86,10 +81,14 @@ var_stands ps None (Some p) e h = cc
 var_stands ps (Some b) None e h = cc
 
 -- the variables' numbers stand for their paths
-tests_stand : (env : Environment) (old new : Numbered) (args : List Pattern) (d : PatternTests) → NumbersPatterns env old new args d → Stand (paths_of new.bindings) d.variables (args_after env args 0 no_places)
-tests_stand env old new args d h = record {
-  by = λ x. var_stands (paths_of new.bindings) (get nat_cmp d.variables x) (args_after env args 0 no_places x) ((h.tests (paths_of new.bindings) (extends_self (paths_of new.bindings))).knows.by x) (place_is_arg env args x);
+tests_stand : (env : Environment) (old new : Numbered) (args : List Pattern) (d : PatternTests) → AllByRecursion (IsBuiltPattern env.terms) args → NumbersPatterns env old new args d → Stand (paths_of new.bindings) d.variables (args_after env args 0 no_places)
+tests_stand env old new args d a h = record {
+  by = λ x. var_stands (paths_of new.bindings) (get nat_cmp d.variables x) (args_after env args 0 no_places x) ((h.tests (paths_of new.bindings) (extends_self (paths_of new.bindings))).knows.by x) (λ p e. somewhere p (place_within env args x p a e));
 }
+
+-- a path stands at the number of each variable
+pub tests_there : (terms : List Term) (old new : Numbered) (args : List Pattern) (d : PatternTests) → AllByRecursion (IsBuiltPattern terms) args → NumbersPatterns (env_of terms) old new args d → AreThere (paths_of new.bindings) d.variables
+tests_there terms old new args d a h = stand_there (paths_of new.bindings) d.variables (args_after (env_of terms) args 0 no_places) (tests_stand (env_of terms) old new args d a h)
 
 -- ---- a rule
 
@@ -103,25 +102,28 @@ pub record IsMade (r : Rule) (d : PatternTests) (calls : List BindingId) (b : Bi
   pub ordered : f.ordered ≡ calls
   pub result : f.result ≡ b
 
-pub rule_added : (terms : List Term) (old mid new : Numbered) (r : Rule) (d : PatternTests) (none calls : List BindingId) (b : BindingId) (f : FlatRule) → IsBuiltRule r → IsScopedRule r → IsImpureRule terms r → ((env : Environment) → NumbersPatterns env old mid r.args d) → none ≡ []
+pub rule_added : (terms : List Term) (old mid new : Numbered) (r : Rule) (d : PatternTests) (none calls : List BindingId) (b : BindingId) (f : FlatRule) → IsBuiltRule terms r → IsScopedRule r → CallsBuiltTerms terms r → ((env : Environment) → env.terms ≡ terms → NumbersPatterns env old mid r.args d) → none ≡ []
     → Given terms d.variables mid new none calls r.rhs b → IsMade r d calls b f → (env : Environment) → env.terms ≡ terms → Adds env old new r f
-rule_added terms old mid new r d none calls b f built bound impure_terms numbered start given is env same = record {
-  extends = extends_more (paths_of old.bindings) (paths_of mid.bindings) (paths_of new.bindings) (numbered env).extends g.grows.extends;
-  only = λ p c. ⊎_elim (λ k. ⊎_elim (λ x. inl x) (λ x. inr (Contains-append_left (arg_paths r.args 0) (expr_paths env r.rhs (rule_places env r) old.calls) p x)) ((numbered env).only p k))
-      (λ k. inr (Contains-append_right (arg_paths r.args 0) (expr_paths env r.rhs (rule_places env r) old.calls) p k)) (g.grows.only p c);
-  all = λ p c. ⊎_elim (λ k. contains_kept (paths_of mid.bindings) (paths_of new.bindings) p g.grows.extends ((numbered env).all p k)) (λ k. g.grows.all p k) (Contains-append_cases (arg_paths r.args 0) (expr_paths env r.rhs (rule_places env r) old.calls) p c);
+rule_added terms old mid new r d none calls b f built bound built_terms numbered start given is env same = record {
+  extends = extends_more (paths_of old.bindings) (paths_of mid.bindings) (paths_of new.bindings) h.joins.extends g.grows.extends;
+  only = λ p c. ⊎_elim (λ k. ⊎_elim (λ x. inl x) (λ x. inr (Contains-append_left (args_paths env r.args 0) (expr_paths env r.rhs (rule_places env r) old.calls) p x)) (h.joins.only p k))
+      (λ k. inr (Contains-append_right (args_paths env r.args 0) (expr_paths env r.rhs (rule_places env r) old.calls) p k)) (g.grows.only p c);
+  all = λ p c. ⊎_elim (λ k. contains_kept (paths_of mid.bindings) (paths_of new.bindings) p g.grows.extends (h.joins.all p k)) (λ k. g.grows.all p k) (Contains-append_cases (args_paths env r.args 0) (expr_paths env r.rhs (rule_places env r) old.calls) p c);
   flat = λ ps x. flat ps x;
   calls = g.grows.calls;
 }
   where
     h : NumbersPatterns env old mid r.args d
-    h = numbered env
+    h = numbered env same
+
+    built_env : IsBuiltRule env.terms r
+    built_env = subst (λ ts. IsBuiltRule ts r) (sym same) built
 
     g : NumbersExpr env (rule_places env r) (record { bindings = mid.bindings; calls = old.calls }) new [] calls r.rhs b
     g =
-        let first = given env (rule_places env r) same (tests_stand env old mid r.args d h) in
+        let first = given env (rule_places env r) same (tests_stand env old mid r.args d (recursion_from_All (IsBuiltPattern env.terms) r.args built_env.args) h) in
         let second = subst (λ ms. NumbersExpr env (rule_places env r) mid new ms calls r.rhs b) start first in
-        subst (λ n. NumbersExpr env (rule_places env r) (record { bindings = mid.bindings; calls = n }) new [] calls r.rhs b) h.calls second
+        subst (λ n. NumbersExpr env (rule_places env r) (record { bindings = mid.bindings; calls = n }) new [] calls r.rhs b) h.joins.calls second
 
     flat : (ps : List Path) → Extends (paths_of new.bindings) ps → IsFlat env ps r old.calls f
     flat ps x =
@@ -131,13 +133,13 @@ rule_added terms old mid new r d none calls b f built bound impure_terms numbere
         ap (λ cs. map (is_test ps) cs ++ map (equal_test ps) f.equals) is.constraints ∙ ap (λ es. map (is_test ps) d.constraints.items ++ map (equal_test ps) es) is.equals
         ∙ ap (λ ts. ts ++ map (equal_test ps) d.equals.items) dr.constraints ∙ ap (λ us. filter is_constraint ts ++ us) dr.equals ∙ ap parted (sym (without_iflets env r built.iflets)) in
         record {
-          tested = λ t c. inl (subst (λ ts. Contains ts t) (sym tests) (parted_keeps (rule_tests env r) t (rule_can env r t built c) c));
-          no_other = λ t c. let k = parted_from (rule_tests env r) t (subst (λ ts. Contains ts t) tests c) in (k, no_trivial env r t k);
-          once = subst EachOnce (sym tests) (parted_once (rule_tests env r) (rule_once env r built));
+          tested = λ t c. inl (subst (λ ts. Contains ts t) (sym tests) (parted_keeps (rule_tests env r) t (rule_can env r t built_env c) c));
+          no_other = λ t c. let k = parted_from (rule_tests env r) t (subst (λ ts. Contains ts t) tests c) in (k, no_trivial env r t built_env k);
+          once = subst EachOnce (sym tests) (parted_once (rule_tests env r) (rule_once env r built_env));
           prio = is.prio;
           pos = is.pos;
-          iterators = subst (λ qs. AreFirsts [] qs (map (at ps) f.iterators)) (sym (none_in_rule env terms r old.calls same built impure_terms)) (subst (λ bs. AreFirsts [] [] (map (at ps) bs)) (sym is.iterators) (no_more []));
-          ordered = subst (AreFirsts [] (rule_calls env r old.calls)) (sym (ap (map (at ps)) is.ordered ∙ g.grows.ordered ps x)) (rule_firsts env terms r old.calls same built.rhs impure_terms);
+          iterators = subst (λ qs. AreFirsts [] qs (map (at ps) f.iterators)) (sym (none_in_rule env terms r old.calls same built_env built_terms)) (subst (λ bs. AreFirsts [] [] (map (at ps) bs)) (sym is.iterators) (no_more []));
+          ordered = subst (AreFirsts [] (rule_calls env r old.calls)) (sym (ap (map (at ps)) is.ordered ∙ g.grows.ordered ps x)) (rule_firsts env terms r old.calls same built.rhs built_terms);
           result = ap (at ps) is.result ∙ at_get ps b.0 _ (x.kept b.0 _ g.found);
         }
 

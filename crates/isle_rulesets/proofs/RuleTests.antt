@@ -1,91 +1,153 @@
--- A rule's tests, each once, and where its variables stand.
-use Rattle.std.proofs.Common.{◌≡◌, ◌⊎◌, inl, inr, ⊎_elim, ℕ, ◌≤◌, suc, List, [], ◌∷◌, ◌++◌, Bool, true, false, cond, eqb, Option, Some, None, refl, sym, ap, ◌∙◌, subst, arith}
+-- A rule's tests, each once.
+use Rattle.std.proofs.Common.{◌≡◌, ◌⊎◌, inl, inr, ⊎_elim, ℕ, ◌≤◌, suc, List, [], ◌∷◌, ◌++◌, Bool, true, false, cond, Option, Some, None, refl, sym, ap, ◌∙◌, subst, arith}
 use Rattle.std.specs.Prelude.{Contains, filter}
 use Rattle.std.specs.List.{AllByRecursion}
-use Rattle.std.proofs.lemmas.Bool.{eqb-true, eq-eqb, false≢true}
+use Rattle.std.proofs.lemmas.Bool.{false≢true}
 use Rattle.std.proofs.lemmas.List.Elements.{All-contains, All-from_recursion, recursion_from_All, Contains-append_left, Contains-append_right, Contains-append_cases}
-use Rattle.isle_core.specs.declared.TypeId.{TypeId}
-use Rattle.isle_core.specs.declared.VarId.{VarId}
-use Rattle.isle_core.specs.Pattern.{Pattern, Var, ConstBool, ConstInt, Wildcard}
+use Rattle.isle_core.specs.BuiltRule.{IsMaking, IsBuiltPattern, AreBuiltPatterns, IsBuiltRule}
+use Rattle.isle_core.specs.Making.{Making, MakesVariant, MakesStruct, MakesNothing, making}
+use Rattle.isle_core.specs.Pattern as pattern
+use Rattle.isle_core.specs.Pattern.{Pattern, Patterns, NoPattern, APattern, Var, ConstBool, ConstInt, ConstPrim, Wildcard, BindPattern, And}
 use Rattle.isle_core.specs.Path.{Path, Arg}
-use Rattle.isle_core.specs.RulePaths.{arg_paths}
-use Rattle.isle_core.specs.Tests.{Test, Is, Equal, Never, Places, no_places, met_tests, met_after, tests, after, args_tests, args_after, rule_tests}
+use Rattle.isle_core.specs.Tests.{Test, Is, Equal, Never, Places, no_places, met_tests, made_test, field_path, tests, parts_tests, after, args_tests, rule_tests}
 use Rattle.isle_core.specs.StandsFor.{EachOnce}
-use Rattle.isle_core.specs.BuiltRule.{IsBuiltPattern, IsBuiltRule}
+use Rattle.isle_core.proofs.Within.{IsWithin, within_self, field_within, field_apart, siblings, args_apart}
 use Rattle.isle_core.proofs.SetMeans.{without_iflets}
 use Rattle.isle_core.specs.Rule.{Environment, Rule}
 use Rattle.isle_core.proofs.Contained.{head_contained, tail_contained, contained_cases, none_contained}
 use Rattle.isle_rulesets.specs.PatternTests.{is_constraint, is_equality}
+use Rattle.isle_rulesets.proofs.PlacedPaths.{append_once}
 
 -- ---- each test once
 
--- an argument from the n-th on
-abbrev IsArgFrom : ℕ → Path → Type 0
-IsArgFrom n p = (j : ℕ) × (n ≤ j) × (p ≡ Arg j)
+-- a test within a path: a constraint on what stands there, or an equality whose second side it is
+abbrev IsOf : Path → Test → Type 0
+IsOf p (Is q c) = IsWithin p q
+IsOf p (Equal r q) = IsWithin p q
+IsOf p Never = ⊥
 
--- a test of such an argument
-abbrev IsFrom : ℕ → Test → Type 0
-IsFrom n (Is p c) = IsArgFrom n p
-IsFrom n (Equal p q) = IsArgFrom n q
-IsFrom n Never = ⊥
+-- a test within a field of the path, from the i-th on
+abbrev IsOfField : Making → ℕ → Path → Test → Type 0
+IsOfField mk i p t = (j : ℕ) × (i ≤ j) × IsOf (field_path mk j p) t
 
-arg_more : (n : ℕ) (p : Path) → IsArgFrom (suc n) p → IsArgFrom n p
-arg_more n p h = let le : n ≤ h.0 = omega arith in (h.0, le, h.2)
+-- a test within an argument from the i-th on
+abbrev IsOfArg : ℕ → Test → Type 0
+IsOfArg i t = (j : ℕ) × (i ≤ j) × IsOf (Arg j) t
 
-arg_here : (n : ℕ) → IsArgFrom n (Arg n)
-arg_here n = let le : n ≤ n = omega arith in (n, le, refl)
+same_field : (mk : Making) (i j : ℕ) (p : Path) (t : Test) → IsMaking mk → IsOf (field_path mk i p) t → IsOf (field_path mk j p) t → i ≡ j
+same_field mk i j p (Is q c) m h k = siblings mk i j p q m h k
+same_field mk i j p (Equal r q) m h k = siblings mk i j p q m h k
+same_field mk i j p Never m h k = absurd h
 
-arg_same : (j n : ℕ) → Arg n ≡ Arg j → n ≡ j
-arg_same j n e = cc
+same_arg : (i j : ℕ) (t : Test) → IsOf (Arg i) t → IsOf (Arg j) t → i ≡ j
+same_arg i j (Is q c) h k = args_apart i j q h k
+same_arg i j (Equal r q) h k = args_apart i j q h k
+same_arg i j Never h k = absurd h
 
-not_arg : (n : ℕ) → IsArgFrom (suc n) (Arg n) → ⊥
-not_arg n h = let same : n ≡ h.0 = arg_same h.0 n h.2 in omega arith
+of_whole : (mk : Making) (i : ℕ) (p : Path) (t : Test) → IsMaking mk → IsOf (field_path mk i p) t → IsOf p t
+of_whole mk i p (Is q c) m h = field_within mk i p q m h
+of_whole mk i p (Equal r q) m h = field_within mk i p q m h
+of_whole mk i p Never m h = absurd h
 
-from_more : (n : ℕ) (t : Test) → IsFrom (suc n) t → IsFrom n t
-from_more n (Is p c) h = arg_more n p h
-from_more n (Equal p q) h = arg_more n q h
-from_more n Never h = absurd h
+-- all of one kind are of another
+all_as : {A : Type 0} (P Q : A → Type 0) (xs : List A) → ((x : A) → P x → Q x) → AllByRecursion P xs → AllByRecursion Q xs
+all_as P Q [] f h = tt
+all_as P Q (x ∷ xs) f h = (f x h.0, all_as P Q xs f h.1)
 
--- the tests of a pattern on the n-th argument: none, or one of that argument
-abbrev AreAt : ℕ → List Test → Type 0
-AreAt n [] = Unit {0}
-AreAt n (t ∷ ts) = IsFrom n t × (IsFrom (suc n) t → ⊥) × (ts ≡ [])
+all_both : {A : Type 0} (P : A → Type 0) (xs ys : List A) → AllByRecursion P xs → AllByRecursion P ys → AllByRecursion P (xs ++ ys)
+all_both P [] ys h k = k
+all_both P (x ∷ xs) ys h k = (h.0, all_both P xs ys h.1 k)
 
-met_at : (n : ℕ) (o : Option Path) → AreAt n (met_tests o (Arg n))
-met_at n None = tt
-met_at n (Some q) = (arg_here n, not_arg n, refl)
+among : {A : Type 0} (P : A → Type 0) (xs : List A) (x : A) → AllByRecursion P xs → Contains xs x → P x
+among P xs x h c = All-contains P xs x (All-from_recursion P xs h) c
 
-tests_at : (env : Environment) (q : Pattern) (n : ℕ) (places : Places) → IsBuiltPattern q → AreAt n (tests env q (Arg n) places)
-tests_at env (Var ty x) n places h = met_at n (places x.0)
-tests_at env (ConstBool b) n places h = (arg_here n, not_arg n, refl)
-tests_at env (ConstInt ty v) n places h = (arg_here n, not_arg n, refl)
-tests_at env (Wildcard ty) n places h = tt
-tests_at env q n places h = absurd h
+met_of : (o : Option Path) (p : Path) → AllByRecursion (IsOf p) (met_tests o p)
+met_of None p = tt
+met_of (Some q) p = (within_self p, tt)
 
-all_more : (n : ℕ) (ts : List Test) → AllByRecursion (IsFrom (suc n)) ts → AllByRecursion (IsFrom n) ts
-all_more n [] h = tt
-all_more n (t ∷ ts) h = (from_more n t h.0, all_more n ts h.1)
+made_of : (mk : Making) (p : Path) → IsMaking mk → IsOf p (made_test mk p)
+made_of (MakesVariant ty variant) p m = within_self p
+made_of (MakesStruct ty) p m = within_self p
+made_of MakesNothing p m = absurd m
 
-at_then : (n : ℕ) (ts us : List Test) → AreAt n ts → AllByRecursion (IsFrom (suc n)) us → AllByRecursion (IsFrom n) (ts ++ us)
-at_then n [] us h k = all_more n us k
-at_then n (t ∷ ts) us h k = (h.0, subst (λ xs. AllByRecursion (IsFrom n) (xs ++ us)) (sym h.2) (all_more n us k))
+-- each test of a pattern is of what stands within its path
+mutual
+  tests_of : (q : Pattern) (env : Environment) (p : Path) (places : Places) → IsBuiltPattern env.terms q → AllByRecursion (IsOf p) (tests env q p places)
+  tests_of (Var ty x) env p places b = met_of (places x.0) p
+  tests_of (ConstBool v) env p places b = (within_self p, tt)
+  tests_of (ConstInt ty v) env p places b = (within_self p, tt)
+  tests_of (ConstPrim ty name) env p places b = (within_self p, tt)
+  tests_of (Wildcard ty) env p places b = tt
+  tests_of (pattern.Term ty term qs) env p places b = (
+    made_of (making env term) p b.0,
+    all_as (IsOfField (making env term) 0 p) (IsOf p) (parts_tests env (making env term) qs 0 p places) (λ t h. of_whole (making env term) h.0 p t b.0 h.2) (parts_of qs env (making env term) 0 p places b.0 b.2),
+  )
+  tests_of (BindPattern ty x q) env p places b = absurd b
+  tests_of (And ty qs) env p places b = absurd b
 
-args_from : (env : Environment) (qs : List Pattern) (n : ℕ) (places : Places) → AllByRecursion IsBuiltPattern qs → AllByRecursion (IsFrom n) (args_tests env qs n places)
-args_from env [] n places h = tt
-args_from env (q ∷ qs) n places h = at_then n (tests env q (Arg n) places) (args_tests env qs (suc n) (after env q (Arg n) places)) (tests_at env q n places h.0) (args_from env qs (suc n) (after env q (Arg n) places) h.1)
+  parts_of : (qs : Patterns) (env : Environment) (mk : Making) (i : ℕ) (p : Path) (places : Places) → IsMaking mk → AreBuiltPatterns env.terms qs → AllByRecursion (IsOfField mk i p) (parts_tests env mk qs i p places)
+  parts_of NoPattern env mk i p places m b = tt
+  parts_of (APattern q qs) env mk i p places m b =
+      let here : i ≤ i = omega arith in
+      let rest = after env q (field_path mk i p) places in
+      all_both (IsOfField mk i p) (tests env q (field_path mk i p) places) (parts_tests env mk qs (suc i) p rest) (all_as (IsOf (field_path mk i p)) (IsOfField mk i p) (tests env q (field_path mk i p) places) (λ t h. (i, here, h)) (tests_of q env (field_path mk i p) places b.0))
+      (all_as (IsOfField mk (suc i) p) (IsOfField mk i p) (parts_tests env mk qs (suc i) p rest) (λ t h. let le : i ≤ h.0 = omega arith in (h.0, le, h.2)) (parts_of qs env mk (suc i) p rest m b.1))
 
-once_then : (n : ℕ) (ts us : List Test) → AreAt n ts → AllByRecursion (IsFrom (suc n)) us → EachOnce us → EachOnce (ts ++ us)
-once_then n [] us h k e = e
-once_then n (t ∷ ts) us h k e =
-    subst (λ xs. EachOnce (t ∷ xs ++ us)) (sym h.2) (λ c. h.1 (All-contains (IsFrom (suc n)) us t (All-from_recursion (IsFrom (suc n)) us k) c), e)
+args_of : (env : Environment) (qs : List Pattern) (i : ℕ) (places : Places) → AllByRecursion (IsBuiltPattern env.terms) qs → AllByRecursion (IsOfArg i) (args_tests env qs i places)
+args_of env [] i places b = tt
+args_of env (q ∷ qs) i places b =
+    let here : i ≤ i = omega arith in
+    let rest = after env q (Arg i) places in
+    all_both (IsOfArg i) (tests env q (Arg i) places) (args_tests env qs (suc i) rest) (all_as (IsOf (Arg i)) (IsOfArg i) (tests env q (Arg i) places) (λ t h. (i, here, h)) (tests_of q env (Arg i) places b.0))
+    (all_as (IsOfArg (suc i)) (IsOfArg i) (args_tests env qs (suc i) rest) (λ t h. let le : i ≤ h.0 = omega arith in (h.0, le, h.2)) (args_of env qs (suc i) rest b.1))
 
-args_once : (env : Environment) (qs : List Pattern) (n : ℕ) (places : Places) → AllByRecursion IsBuiltPattern qs → EachOnce (args_tests env qs n places)
-args_once env [] n places h = tt
-args_once env (q ∷ qs) n places h = once_then n (tests env q (Arg n) places) (args_tests env qs (suc n) (after env q (Arg n) places)) (tests_at env q n places h.0) (args_from env qs (suc n) (after env q (Arg n) places) h.1) (args_once env qs (suc n) (after env q (Arg n) places) h.1)
+met_once : (o : Option Path) (p : Path) → EachOnce (met_tests o p)
+met_once None p = tt
+met_once (Some q) p = (none_contained (Equal q p), tt)
+
+-- what a made term's pattern asks of its path is of no field
+made_alone : (mk : Making) (i : ℕ) (p : Path) → IsMaking mk → IsOf (field_path mk i p) (made_test mk p) → ⊥
+made_alone (MakesVariant ty variant) i p m h = field_apart (MakesVariant ty variant) i p m h
+made_alone (MakesStruct ty) i p m h = field_apart (MakesStruct ty) i p m h
+made_alone MakesNothing i p m h = absurd m
+
+-- no test of a pattern stands twice
+mutual
+  tests_once : (q : Pattern) (env : Environment) (p : Path) (places : Places) → IsBuiltPattern env.terms q → EachOnce (tests env q p places)
+  tests_once (Var ty x) env p places b = met_once (places x.0) p
+  tests_once (ConstBool v) env p places b = (none_contained _, tt)
+  tests_once (ConstInt ty v) env p places b = (none_contained _, tt)
+  tests_once (ConstPrim ty name) env p places b = (none_contained _, tt)
+  tests_once (Wildcard ty) env p places b = tt
+  tests_once (pattern.Term ty term qs) env p places b =
+      let mk = making env term in (
+        λ c. let h = among (IsOfField mk 0 p) (parts_tests env mk qs 0 p places) (made_test mk p) (parts_of qs env mk 0 p places b.0 b.2) c in made_alone mk h.0 p b.0 h.2,
+        parts_once qs env mk 0 p places b.0 b.2,
+      )
+  tests_once (BindPattern ty x q) env p places b = absurd b
+  tests_once (And ty qs) env p places b = absurd b
+
+  parts_once : (qs : Patterns) (env : Environment) (mk : Making) (i : ℕ) (p : Path) (places : Places) → IsMaking mk → AreBuiltPatterns env.terms qs → EachOnce (parts_tests env mk qs i p places)
+  parts_once NoPattern env mk i p places m b = tt
+  parts_once (APattern q qs) env mk i p places m b =
+      let rest = after env q (field_path mk i p) places in
+      append_once (tests env q (field_path mk i p) places) (parts_tests env mk qs (suc i) p rest) (tests_once q env (field_path mk i p) places b.0) (parts_once qs env mk (suc i) p rest m b.1)
+      (λ t c d. let h = among (IsOf (field_path mk i p)) (tests env q (field_path mk i p) places) t (tests_of q env (field_path mk i p) places b.0) c in
+      let k = among (IsOfField mk (suc i) p) (parts_tests env mk qs (suc i) p rest) t (parts_of qs env mk (suc i) p rest m b.1) d in
+      let same = same_field mk i k.0 p t m h k.2 in omega arith)
+
+args_once : (env : Environment) (qs : List Pattern) (i : ℕ) (places : Places) → AllByRecursion (IsBuiltPattern env.terms) qs → EachOnce (args_tests env qs i places)
+args_once env [] i places b = tt
+args_once env (q ∷ qs) i places b =
+    let rest = after env q (Arg i) places in
+    append_once (tests env q (Arg i) places) (args_tests env qs (suc i) rest) (tests_once q env (Arg i) places b.0) (args_once env qs (suc i) rest b.1)
+    (λ t c d. let h = among (IsOf (Arg i)) (tests env q (Arg i) places) t (tests_of q env (Arg i) places b.0) c in
+    let k = among (IsOfArg (suc i)) (args_tests env qs (suc i) rest) t (args_of env qs (suc i) rest b.1) d in
+    let same = same_arg i k.0 t h k.2 in omega arith)
 
 -- no test of a rule stands twice
-pub rule_once : (env : Environment) (r : Rule) → IsBuiltRule r → EachOnce (rule_tests env r)
-rule_once env r b = subst EachOnce (sym (without_iflets env r b.iflets)) (args_once env r.args 0 no_places (recursion_from_All IsBuiltPattern r.args b.args))
+pub rule_once : (env : Environment) (r : Rule) → IsBuiltRule env.terms r → EachOnce (rule_tests env r)
+rule_once env r b = subst EachOnce (sym (without_iflets env r b.iflets)) (args_once env r.args 0 no_places (recursion_from_All (IsBuiltPattern env.terms) r.args b.args))
 
 -- a test that some value passes
 abbrev pub CanHold : Test → Type 0
@@ -93,30 +155,18 @@ CanHold (Is p c) = Unit {0}
 CanHold (Equal p q) = Unit {0}
 CanHold Never = ⊥
 
-met_can : (o : Option Path) (p : Path) → AllByRecursion CanHold (met_tests o p)
-met_can None p = tt
-met_can (Some q) p = (tt, tt)
-
-all_both : (ts us : List Test) → AllByRecursion CanHold ts → AllByRecursion CanHold us → AllByRecursion CanHold (ts ++ us)
-all_both [] us h k = k
-all_both (t ∷ ts) us h k = (h.0, all_both ts us h.1 k)
-
-tests_can : (env : Environment) (q : Pattern) (p : Path) (places : Places) → IsBuiltPattern q → AllByRecursion CanHold (tests env q p places)
-tests_can env (Var ty x) p places h = met_can (places x.0) p
-tests_can env (ConstBool b) p places h = (tt, tt)
-tests_can env (ConstInt ty v) p places h = (tt, tt)
-tests_can env (Wildcard ty) p places h = tt
-tests_can env q p places h = absurd h
-
-args_can : (env : Environment) (qs : List Pattern) (n : ℕ) (places : Places) → AllByRecursion IsBuiltPattern qs → AllByRecursion CanHold (args_tests env qs n places)
-args_can env [] n places h = tt
-args_can env (q ∷ qs) n places h = all_both (tests env q (Arg n) places) (args_tests env qs (suc n) (after env q (Arg n) places)) (tests_can env q (Arg n) places h.0) (args_can env qs (suc n) (after env q (Arg n) places) h.1)
+-- so of each that is of some path
+of_can : (p : Path) (t : Test) → IsOf p t → CanHold t
+of_can p (Is q c) h = tt
+of_can p (Equal r q) h = tt
+of_can p Never h = absurd h
 
 -- each test of a rule of built forms is one
-pub rule_can : (env : Environment) (r : Rule) (t : Test) → IsBuiltRule r → Contains (rule_tests env r) t → CanHold t
+pub rule_can : (env : Environment) (r : Rule) (t : Test) → IsBuiltRule env.terms r → Contains (rule_tests env r) t → CanHold t
 rule_can env r t b c =
     let ts = args_tests env r.args 0 no_places in
-    All-contains CanHold ts t (All-from_recursion CanHold ts (args_can env r.args 0 no_places (recursion_from_All IsBuiltPattern r.args b.args))) (subst (λ us. Contains us t) (without_iflets env r b.iflets) c)
+    let h = among (IsOfArg 0) ts t (args_of env r.args 0 no_places (recursion_from_All (IsBuiltPattern env.terms) r.args b.args)) (subst (λ us. Contains us t) (without_iflets env r b.iflets) c) in
+    of_can (Arg h.0) t h.2
 
 -- ---- constraints, and then equalities
 
@@ -147,11 +197,6 @@ filter_once : {A : Type 0} (p : A → Bool) (xs : List A) → EachOnce xs → Ea
 filter_once p [] h = tt
 filter_once p (y ∷ xs) h = once_at y (filter p xs) (p y) (λ c. h.0 (filter_cases p xs y c).0) (filter_once p xs h.1)
 
-pub append_once : {A : Type 0} (xs ys : List A) → EachOnce xs → EachOnce ys → ((x : A) → Contains xs x → Contains ys x → ⊥) → EachOnce (xs ++ ys)
-append_once [] ys h k apart = k
-append_once (x ∷ xs) ys h k apart =
-    (λ c. ⊎_elim h.0 (apart x (head_contained x xs)) (Contains-append_cases xs ys x c), append_once xs ys h.1 k (λ y c d. apart y (tail_contained x xs y c) d))
-
 -- the tests with the constraints first
 abbrev pub parted : List Test → List Test
 parted ts = filter is_constraint ts ++ filter is_equality ts
@@ -173,81 +218,3 @@ pub parted_once : (ts : List Test) → EachOnce ts → EachOnce (parted ts)
 parted_once ts h =
     append_once (filter is_constraint ts) (filter is_equality ts) (filter_once is_constraint ts h) (filter_once is_equality ts h)
     (λ t c d. one_kind t (filter_cases is_constraint ts t c).1 (filter_cases is_equality ts t d).1)
-
--- ---- the place of a variable
-
-met_keeps : (o : Option Path) (x y : ℕ) (p q : Path) (places : Places) → places x ≡ o → places y ≡ Some q → met_after o x p places y ≡ Some q
-met_keeps (Some r) x y p q places e h = h
-met_keeps None x y p q places e h = pick (eqb x y) refl
-  where
-    pick : (b : Bool) → eqb x y ≡ b → cond b (Some p) (places y) ≡ Some q
-    pick true t = let same : x ≡ y = eqb-true x y t in let bad : None ≡ Some q = sym e ∙ ap places same ∙ h in cc
-    pick false t = h
-
-after_keeps : (env : Environment) (r : Pattern) (p : Path) (places : Places) (y : ℕ) (q : Path) → places y ≡ Some q → after env r p places y ≡ Some q
-after_keeps env (Var ty x) p places y q h = met_keeps (places x.0) x.0 y p q places refl h
-after_keeps env r p places y q h = h
-
--- a place stays behind more patterns
-pub args_keep : (env : Environment) (qs : List Pattern) (n : ℕ) (places : Places) (y : ℕ) (q : Path) → places y ≡ Some q → args_after env qs n places y ≡ Some q
-args_keep env [] n places y q h = h
-args_keep env (r ∷ qs) n places y q h = args_keep env qs (suc n) (after env r (Arg n) places) y q (after_keeps env r (Arg n) places y q h)
-
--- a variable stands at an argument, or stood there before
-record PlacedAt (env : Environment) (qs : List Pattern) (n : ℕ) (places : Places) (x : ℕ) : Type 0 where
-  p : Path
-  is : args_after env qs n places x ≡ Some p
-  among : Contains (arg_paths qs n) p ⊎ (places x ≡ Some p)
-
-var_here : (env : Environment) (o : Option Path) (of : TypeId) (x : VarId) (qs : List Pattern) (n : ℕ) (places : Places) → places x.0 ≡ o → PlacedAt env (Var of x ∷ qs) n places x.0
-var_here env (Some q) of x qs n places e = record { p = q; is = args_keep env (Var of x ∷ qs) n places x.0 q e; among = inr e }
-var_here env None of x qs n places e = record {
-  p = Arg n;
-  is = args_keep env qs (suc n) (after env (Var of x) (Arg n) places) x.0 (Arg n) new;
-  among = inl (head_contained (Arg n) (arg_paths qs (suc n)));
-}
-  where
-    new : after env (Var of x) (Arg n) places x.0 ≡ Some (Arg n)
-    new = ap (λ o. met_after o x.0 (Arg n) places x.0) e ∙ ap (λ b. cond b (Some (Arg n)) (places x.0)) (eq-eqb x.0 x.0 refl)
-
-with_from : (b : Bool) (n : ℕ) (o : Option Path) (p : Path) → cond b (Some (Arg n)) o ≡ Some p → (Arg n ≡ p) ⊎ (o ≡ Some p)
-with_from true n o p e = inl cc
-with_from false n o p e = inr e
-
-met_from : (o : Option Path) (x n y : ℕ) (places : Places) (p : Path) → met_after o x (Arg n) places y ≡ Some p → (Arg n ≡ p) ⊎ (places y ≡ Some p)
-met_from (Some q) x n y places p e = inr e
-met_from None x n y places p e = with_from (eqb x y) n (places y) p e
-
-after_from : (env : Environment) (q : Pattern) (n y : ℕ) (places : Places) (p : Path) → after env q (Arg n) places y ≡ Some p → (Arg n ≡ p) ⊎ (places y ≡ Some p)
-after_from env (Var ty x) n y places p e = met_from (places x.0) x.0 n y places p e
-after_from env q n y places p e = inr e
-
-var_behind : (env : Environment) (q : Pattern) (qs : List Pattern) (n x : ℕ) (places : Places) → PlacedAt env qs (suc n) (after env q (Arg n) places) x → PlacedAt env (q ∷ qs) n places x
-var_behind env q qs n x places h = record {
-  p = h.p;
-  is = h.is;
-  among = ⊎_elim (λ c. inl (tail_contained (Arg n) (arg_paths qs (suc n)) h.p c))
-      (λ e. ⊎_elim (λ (s : Arg n ≡ h.p). inl (subst (Contains (arg_paths (q ∷ qs) n)) s (head_contained (Arg n) (arg_paths qs (suc n))))) (λ k. inr k) (after_from env q n x places h.p e)) h.among;
-}
-
-var_placed : (env : Environment) (qs : List Pattern) (n : ℕ) (places : Places) (of : TypeId) (x : VarId) → Contains qs (Var of x) → PlacedAt env qs n places x.0
-var_placed env [] n places of x c = absurd (none_contained (Var of x) c)
-var_placed env (q ∷ qs) n places of x c =
-    ⊎_elim (λ (s : q ≡ Var of x). subst (λ r. PlacedAt env (r ∷ qs) n places x.0) (sym s) (var_here env (places x.0) of x qs n places refl))
-    (λ d. var_behind env q qs n x.0 places (var_placed env qs (suc n) (after env q (Arg n) places) of x d)) (contained_cases q qs (Var of x) c)
-
-none_there : (p : Path) → None ≡ Some p → ⊥
-none_there p e = cc
-
--- a variable of patterns stands at an argument
-pub stands_at : (env : Environment) (qs : List Pattern) (of : TypeId) (x : VarId) → Contains qs (Var of x) → (p : Path) × (args_after env qs 0 no_places x.0 ≡ Some p) × Contains (arg_paths qs 0) p
-stands_at env qs of x c = let h = var_placed env qs 0 no_places of x c in (h.p, h.is, ⊎_elim (λ d. d) (λ e. absurd (none_there h.p e)) h.among)
-
--- the place of a variable of patterns is an argument
-is_arg : (env : Environment) (qs : List Pattern) (n x : ℕ) (places : Places) (p : Path) → args_after env qs n places x ≡ Some p → ((i : ℕ) × (p ≡ Arg i)) ⊎ (places x ≡ Some p)
-is_arg env [] n x places p e = inr e
-is_arg env (q ∷ qs) n x places p e =
-    ⊎_elim (λ h. inl h) (λ k. ⊎_elim (λ (s : Arg n ≡ p). inl (n, sym s)) (λ l. inr l) (after_from env q n x places p k)) (is_arg env qs (suc n) x (after env q (Arg n) places) p e)
-
-pub place_is_arg : (env : Environment) (qs : List Pattern) (x : ℕ) (p : Path) → args_after env qs 0 no_places x ≡ Some p → (i : ℕ) × (p ≡ Arg i)
-place_is_arg env qs x p e = ⊎_elim (λ h. h) (λ k. absurd (none_there p k)) (is_arg env qs 0 x no_places p e)

@@ -1,3 +1,6 @@
+pub mod Parts
+pub mod Keys
+pub mod Made
 pub mod Numbering
 pub mod PatternTests
 pub mod RightSides

@@ -1,16 +1,17 @@
 -- What a rule tests, as bindings tell it.
-use Rattle.std.specs.Prelude.{◌≡◌, ◌⊎◌, ℕ, List, Bool, true, false, Option, Some, None, map, filter, Contains}
+use Rattle.std.specs.Prelude.{◌≡◌, ℕ, List, ◌∷◌, ◌++◌, Bool, true, false, Option, Some, None, map, filter, slice_get}
 use Rattle.std.specs.Ordering.{nat_cmp}
 use Rattle.std.specs.BTreeMap.{BTreeMap, get}
 use Rattle.isle_core.specs.declared.BindingId.{BindingId}
-use Rattle.isle_core.specs.Pattern.{Pattern}
+use Rattle.isle_core.specs.Making.{Making}
+use Rattle.isle_core.specs.Pattern.{Pattern, Patterns}
 use Rattle.isle_core.specs.Path.{Path, at, paths_of}
-use Rattle.isle_core.specs.RulePaths.{arg_paths}
-use Rattle.isle_core.specs.Tests.{Test, Is, Equal, Never, Places, no_places, args_tests, args_after}
+use Rattle.isle_core.specs.RulePaths.{pattern_paths, parts_paths, args_paths}
+use Rattle.isle_core.specs.Tests.{Test, Is, Equal, Never, Places, no_places, made_test, tests, parts_tests, after, after_parts, args_tests, args_after}
 use Rattle.isle_core.specs.RuleSet.{is_test, equal_test}
 use Rattle.isle_core.specs.Rule.{Environment}
 use Rattle.isle_rulesets.specs.declared.pattern_tests.PatternTests.{PatternTests}
-use Rattle.isle_rulesets.specs.Numbering.{Extends, Numbered}
+use Rattle.isle_rulesets.specs.Numbering.{Extends, Joins, Numbered}
 
 -- a test that is a constraint, and one that is an equality
 abbrev pub is_constraint : Test → Bool
@@ -38,10 +39,33 @@ pub record HasTests (ps : List Path) (places : Places) (ts : List Test) (d : Pat
   pub constraints : map (is_test ps) d.constraints.items ≡ filter is_constraint ts
   pub equals : map (equal_test ps) d.equals.items ≡ filter is_equality ts
 
--- the arguments of the patterns are numbered, nothing else was, and what is gathered has the patterns' tests
+-- where bindings have at least these paths, the second has the tests that the first has and more, and knows the places behind them
+abbrev pub Gathers : List Path → PatternTests → PatternTests → (Places → Places) → (Places → List Test) → Type 0
+Gathers ps d e behind more = (qs : List Path) → Extends ps qs → (places : Places) → (ts : List Test) → HasTests qs places ts d → HasTests qs (behind places) (ts ++ more places) e
+
+-- these paths were numbered and nothing else was, and these tests were gathered
+pub record Reads (old new : Numbered) (d e : PatternTests) (ps : List Path) (behind : Places → Places) (more : Places → List Test) : Type 0 where
+  pub joins : Joins old new ps
+  pub gathers : Gathers (paths_of new.bindings) d e behind more
+
+-- what a pattern takes apart is numbered, and its tests on the path of a number were gathered
+abbrev pub Takes : Environment → Numbered → Numbered → PatternTests → PatternTests → Pattern → BindingId → Type 0
+Takes env old new d e q source = (p : Path) → slice_get (paths_of old.bindings) source.0 ≡ Some p → Reads old new d e (pattern_paths env q p) (after env q p) (tests env q p)
+
+-- so of the parts of what is made, from the i-th on
+abbrev pub TakesParts : Environment → Numbered → Numbered → PatternTests → PatternTests → Making → Patterns → ℕ → Path → Type 0
+TakesParts env old new d e made qs i p = Reads old new d e (parts_paths env made qs i p) (after_parts env made qs i p) (parts_tests env made qs i p)
+
+-- so of what is made, which is tested first
+abbrev pub TakesMade : Environment → Numbered → Numbered → PatternTests → PatternTests → Making → Patterns → BindingId → Type 0
+TakesMade env old new d e made qs source = (p : Path) → slice_get (paths_of old.bindings) source.0 ≡ Some p
+    → Reads old new d e (parts_paths env made qs 0 p) (after_parts env made qs 0 p) (λ places. made_test made p ∷ parts_tests env made qs 0 p places)
+
+-- the arguments of the patterns from the i-th on are numbered with what these take apart, and the patterns' tests were gathered
+abbrev pub TakesArguments : Environment → Numbered → Numbered → PatternTests → PatternTests → List Pattern → ℕ → Type 0
+TakesArguments env old new d e qs i = Reads old new d e (args_paths env qs i) (args_after env qs i) (args_tests env qs i)
+
+-- the arguments of the patterns are numbered, and what is gathered has the patterns' tests
 pub record NumbersPatterns (env : Environment) (old new : Numbered) (patterns : List Pattern) (d : PatternTests) : Type 0 where
-  pub extends : Extends (paths_of old.bindings) (paths_of new.bindings)
-  pub only : (p : Path) → Contains (paths_of new.bindings) p → Contains (paths_of old.bindings) p ⊎ Contains (arg_paths patterns 0) p
-  pub all : (p : Path) → Contains (arg_paths patterns 0) p → Contains (paths_of new.bindings) p
+  pub joins : Joins old new (args_paths env patterns 0)
   pub tests : (ps : List Path) → Extends (paths_of new.bindings) ps → HasTests ps (args_after env patterns 0 no_places) (args_tests env patterns 0 no_places) d
-  pub calls : new.calls ≡ old.calls

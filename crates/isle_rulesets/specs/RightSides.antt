@@ -12,6 +12,7 @@ use Rattle.isle_core.specs.RightSide.{path, paths, answer_path}
 use Rattle.isle_core.specs.RulePaths.{expr_paths, exprs_paths, with_inner}
 use Rattle.isle_core.specs.Tests.{Places}
 use Rattle.isle_core.specs.Rule.{Environment}
+use Rattle.isle_rulesets.specs.Keys.{IsThere}
 use Rattle.isle_rulesets.specs.Numbering.{Numbered, Extends}
 
 -- a variable's number stands for its path
@@ -25,6 +26,10 @@ StandsAt ps (Some b) None = ⊥
 pub record Stand (ps : List Path) (variables : BTreeMap ℕ BindingId) (places : Places) : Type 0 where
   pub by : (x : ℕ) → StandsAt ps (get nat_cmp variables x) (places x)
 
+-- a path stands at the number of each variable
+pub record AreThere (ps : List Path) (variables : BTreeMap ℕ BindingId) : Type 0 where
+  pub by : (x : ℕ) (b : BindingId) → get nat_cmp variables x ≡ Some b → IsThere ps b
+
 -- each variable of an expression of built forms has a number
 abbrev mutual
   pub IsKnown : BTreeMap ℕ BindingId → Expr → Type 0
@@ -32,7 +37,7 @@ abbrev mutual
   IsKnown variables (expr.ConstBool b) = Unit {0}
   IsKnown variables (expr.ConstInt ty n) = Unit {0}
   IsKnown variables (expr.Term ty term es) = AreKnown variables es
-  IsKnown variables (expr.ConstPrim of name) = ⊥
+  IsKnown variables (expr.ConstPrim of name) = Unit {0}
   IsKnown variables (expr.Let of bindings inner) = ⊥
 
   -- so of expressions in order
@@ -48,8 +53,8 @@ pub record Grows (old new : Numbered) (before after : List BindingId) (ps cs : L
   pub ordered : (qs : List Path) → Extends (paths_of new.bindings) qs → map (at qs) after ≡ map (at qs) before ++ cs
   pub calls : new.calls ≡ old.calls + more
 
--- a call of a term on numbers was added, and its value has this number
-pub record NumbersCall (old new : Numbered) (before after : List BindingId) (c : Calling) (p : Path) (b : BindingId) : Type 0 where
+-- what a term makes of numbers, or its call on them, was numbered, and its value has this number
+pub record NumbersTerm (old new : Numbered) (before after : List BindingId) (c : Calling) (p : Path) (b : BindingId) : Type 0 where
   pub grows : Grows old new before after (with_inner c p) (if_ordered c p) (one_more c 0)
   pub found : slice_get (paths_of new.bindings) b.0 ≡ Some (answer_path c p)
 

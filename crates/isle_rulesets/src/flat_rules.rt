@@ -1,6 +1,6 @@
 ghost use Rattle.std.specs.Prelude.{◌≡◌, IfOk, All};
 ghost use Rattle.isle_core.specs.RuleViews.{rule as seen, rules as seen_all};
-ghost use Rattle.isle_core.specs.BuiltRule.{IsBuiltRule, IsImpureRule};
+ghost use Rattle.isle_core.specs.BuiltRule.{IsBuiltRule, CallsBuiltTerms};
 ghost use Rattle.isle_core.specs.Scope.{IsScopedRule};
 ghost use Rattle.isle_core.specs.StandsFor.{StandsFor};
 ghost use Rattle.isle_core.specs.Rule.{Environment};
@@ -19,12 +19,12 @@ fn flat_rule(
     numbering: &mut Numbering,
     rule: &Rule,
 ) -> Result<FlatRule, AllocError>
-    requires built { IsBuiltRule (seen rule.now) }
+    requires built { IsBuiltRule terms.now (seen rule.now) }
     requires bound { IsScopedRule (seen rule.now) }
-    requires impure { IsImpureRule terms.now (seen rule.now) }
+    requires terms { CallsBuiltTerms terms.now (seen rule.now) }
     ensures { IfOk result (λ f. (env : Environment) → env.terms ≡ terms.now → Adds env numbering.old numbering.new (seen rule.now) f) }
 {
-    let pattern_tests = number_arguments(alloc, numbering, rule.args.as_slice())?;
+    let pattern_tests = number_arguments(alloc, terms, numbering, rule.args.as_slice())?;
     let scope = Scope {
         terms,
         variables: &pattern_tests.variables,
@@ -49,9 +49,9 @@ fn flat_rule(
 
 /// Makes the rule set that stands for rules of one term (`isle_core/specs/StandsFor.antt`). The only error is want of memory.
 pub fn rule_set(alloc: Global, terms: &[Term], rules: &[&Rule]) -> Result<RuleSet, AllocError>
-    requires built { All IsBuiltRule (seen_all rules.now) }
+    requires built { All (IsBuiltRule terms.now) (seen_all rules.now) }
     requires bound { All IsScopedRule (seen_all rules.now) }
-    requires impure { All (IsImpureRule terms.now) (seen_all rules.now) }
+    requires terms { All (CallsBuiltTerms terms.now) (seen_all rules.now) }
     ensures { IfOk result (λ s. (env : Environment) → env.terms ≡ terms.now → StandsFor env s (seen_all rules.now)) }
 {
     let mut numbering = Numbering::new(alloc);

@@ -1,7 +1,7 @@
 ghost use Rattle.std.specs.Prelude.{◌≡◌, length, IfOk, All, map, []};
 ghost use Rattle.isle_core.specs.declared.types.TypeEnv.{TypeEnv};
 ghost use Rattle.isle_core.specs.RuleViews.{rule as seen, environment};
-ghost use Rattle.isle_core.specs.BuiltRule.{IsBuiltRule, IsImpureRule};
+ghost use Rattle.isle_core.specs.BuiltRule.{IsBuiltRule, CallsBuiltTerms};
 ghost use Rattle.isle_core.specs.Scope.{IsScopedRule};
 ghost use Rattle.isle_rulesets.specs.Grouping.{AreGroups, AreRuleSets};
 
@@ -40,9 +40,9 @@ fn group<'a>(
 
 /// Makes the rule set of each term with rules, in order of ids (`specs/Grouping.antt`). The only error is want of memory.
 pub fn rule_sets(alloc: Global, terms: &TermEnv) -> Result<Vec<(TermId, RuleSet)>, AllocError>
-    requires built { All IsBuiltRule (map seen terms.now.rules) }
+    requires built { All (IsBuiltRule terms.now.terms) (map seen terms.now.rules) }
     requires bound { All IsScopedRule (map seen terms.now.rules) }
-    requires impure { All (IsImpureRule terms.now.terms) (map seen terms.now.rules) }
+    requires terms { All (CallsBuiltTerms terms.now.terms) (map seen terms.now.rules) }
     ensures { IfOk result (λ sets. (types : TypeEnv) → AreRuleSets (environment types terms.now) sets.items) }
 {
     let callable = terms.terms.as_slice();

@@ -3,7 +3,10 @@
 
 mod flat_rules;
 mod grouping;
+mod keys;
+mod made;
 mod numbering;
+mod parts;
 mod pattern_tests;
 mod right_side;
 

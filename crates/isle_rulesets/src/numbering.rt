@@ -1,33 +1,15 @@
-ghost use Rattle.std.specs.Prelude.{◌≡◌, IfOk, []};
-ghost use Rattle.isle_rulesets.specs.Numbering.{key_binding, key_path, known, is_next, Numbers, Calls, next_call};
+ghost use Rattle.std.specs.Prelude.{◌≡◌, ◌++◌, ◌∷◌, IfOk, OnOk, OnErr, Some, []};
+ghost use Rattle.std.specs.BTreeMap.{Updates, IsUnchanged};
+ghost use Rattle.isle_rulesets.specs.Keys.{key_cmp, key_binding, key_path, HasParts};
+ghost use Rattle.isle_rulesets.specs.Numbering.{known, is_next, Numbers, Calls, next_call};
 ghost use Rattle.isle_core.specs.Path.{paths_of};
 ghost use Rattle.isle_core.specs.StandsFor.{EachOnce};
 
-use isle_core::{Binding, BindingId, List, TermId, TypeId};
+use crate::keys::Key;
+use isle_core::{Binding, BindingId, List, TermId};
 use std::alloc::{AllocError, Global};
 use std::collections::BTreeMap;
 use std::marker::Model;
-
-/// What tells a binding from the others.
-#[derive(Clone, Copy, Debug, PartialEq, Eq, PartialOrd, Ord)]
-pub enum Key {
-    Argument(usize),
-    ConstBool(bool),
-    ConstInt(TypeId, i128),
-}
-
-impl Key {
-    // The binding; `bool` is the first of the types.
-    fn binding(self) -> Binding
-        ensures { result ≡ key_binding self }
-    {
-        match self {
-            Key::Argument(index) => Binding::Argument { index },
-            Key::ConstBool(val) => Binding::ConstBool { val, ty: TypeId(0) },
-            Key::ConstInt(ty, val) => Binding::ConstInt { val, ty },
-        }
-    }
-}
 
 /// The number of a call, and that of its value.
 #[derive(Clone, Copy, Debug)]
@@ -37,25 +19,54 @@ pub struct Call {
 }
 
 // The number of a key: an argument below the count has its index, and any other key what the map has.
-fn known(count: usize, numbers: &BTreeMap<Key, BindingId>, key: Key) -> Option<BindingId>
-    ensures { result ≡ known count numbers.now key }
+fn known(count: usize, numbers: &BTreeMap<Key, BindingId>, key: &Key) -> Option<BindingId>
+    ensures { result ≡ known count numbers.now key.now }
 {
     if let Key::Argument(index) = key {
-        if index < count {
-            return Some(BindingId(index));
+        if *index < count {
+            return Some(BindingId(*index));
         }
     }
-    numbers.get(&key).copied()
+    numbers.get(key).copied()
 }
 
 // Whether the key is the argument of this number, and gets that number.
-fn is_next(count: usize, number: usize, key: Key) -> bool
-    ensures { result ≡ is_next count number key }
+fn is_next(count: usize, number: usize, key: &Key) -> bool
+    ensures { result ≡ is_next count number key.now }
 {
     match key {
-        Key::Argument(index) => index == count && number == count,
-        Key::ConstBool(_) | Key::ConstInt(..) => false,
+        Key::Argument(index) => *index == count && number == count,
+        Key::ConstBool(_)
+        | Key::ConstInt(..)
+        | Key::ConstPrim(_)
+        | Key::MatchVariant { .. }
+        | Key::ExtractStruct { .. }
+        | Key::MakeVariant { .. }
+        | Key::MakeStruct { .. } => false,
     }
+}
+
+// Adds the binding of a key behind the others. The only error is want of memory.
+fn push_binding(alloc: Global, bindings: &mut Vec<Binding>, key: &Key) -> Result<(), AllocError>
+    ensures added { OnOk result (bindings.new.items ≡ bindings.old.items ++ key_binding key.now ∷ []) }
+    ensures kept { OnErr result (bindings.new.items ≡ bindings.old.items) }
+{
+    let binding = key.binding(alloc)?;
+    bindings.push(binding)?;
+    Ok(())
+}
+
+// Gives a key its number. The only error is want of memory.
+fn put(
+    numbers: &mut BTreeMap<Key, BindingId>,
+    key: Key,
+    number: BindingId,
+) -> Result<(), AllocError>
+    ensures updates { OnOk result (Updates key_cmp numbers.old numbers.new key (Some number)) }
+    ensures kept { OnErr result (IsUnchanged numbers.old numbers.new) }
+{
+    numbers.insert(key, number)?;
+    Ok(())
 }
 
 /// Bindings, each once. The first ones may be arguments in order, which are counted; of the others the map has the
@@ -92,23 +103,24 @@ impl Numbering {
     }
 
     /// Returns the number of the key's binding, and adds it where it is not there yet. The only error is want of memory.
-    pub fn intern(&mut self, key: Key) -> Result<BindingId, AllocError>
-        ensures { IfOk result (λ b. Numbers self.old self.new (key_path key) b) }
+    pub fn intern(&mut self, alloc: Global, key: Key) -> Result<BindingId, AllocError>
+        requires { HasParts (paths_of self.old.bindings) key }
+        ensures { IfOk result (λ b. Numbers self.old self.new (key_path (paths_of self.old.bindings) key) b) }
     {
-        if let Some(number) = known(self.arguments, &self.numbers, key) {
+        if let Some(number) = known(self.arguments, &self.numbers, &key) {
             return Ok(number);
         }
         let number = BindingId(self.bindings.len());
-        self.bindings.push(key.binding())?;
-        if is_next(self.arguments, number.index(), key) {
+        push_binding(alloc, &mut self.bindings, &key)?;
+        if is_next(self.arguments, number.index(), &key) {
             self.arguments = self.bindings.len();
             return Ok(number);
         }
-        match self.numbers.insert(key, number) {
-            Ok(_) => Ok(number),
-            Err(_) => {
-                self.bindings.pop();
-                Err(AllocError)
+        match put(&mut self.numbers, key, number) {
+            Ok(()) => Ok(number),
+            Err(error) => {
+                self.bindings.truncate(number.index());
+                Err(error)
             }
         }
     }

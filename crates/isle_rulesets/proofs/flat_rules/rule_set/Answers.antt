@@ -1,17 +1,17 @@
 use Rattle.isle_core.specs.RuleViews.{rules as seen}
-use Rattle.isle_core.specs.BuiltRule.{IsBuiltRule, IsImpureRule}
+use Rattle.isle_core.specs.BuiltRule.{IsBuiltRule, CallsBuiltTerms}
 use Rattle.isle_core.specs.Scope.{IsScopedRule}
 use Rattle.isle_rulesets.proofs.RuleSetLaws.{rule_at, covers_more, covers_all, covers_stands}
 use Rattle.isle_rulesets.proofs.flat_rules.rule_set.Goals as goal
 
 pub flat_rule-requires-clause-built : goal.flat_rule-requires-clause-built
-flat_rule-requires-clause-built c = rule_at IsBuiltRule c.args.rules.now c.loop-rule.rule-index c.rule-item.result c.requires.built c.loop-rule-test.true c.rule-item.is
+flat_rule-requires-clause-built c = rule_at (IsBuiltRule c.args.terms.now) c.args.rules.now c.loop-rule.rule-index c.rule-item.result c.requires.built c.loop-rule-test.true c.rule-item.is
 
 pub flat_rule-requires-clause-bound : goal.flat_rule-requires-clause-bound
 flat_rule-requires-clause-bound c = rule_at IsScopedRule c.args.rules.now c.loop-rule.rule-index c.rule-item.result c.requires.bound c.loop-rule-test.true c.rule-item.is
 
-pub flat_rule-requires-clause-impure : goal.flat_rule-requires-clause-impure
-flat_rule-requires-clause-impure c = rule_at (IsImpureRule c.args.terms.now) c.args.rules.now c.loop-rule.rule-index c.rule-item.result c.requires.impure c.loop-rule-test.true c.rule-item.is
+pub flat_rule-requires-clause-terms : goal.flat_rule-requires-clause-terms
+flat_rule-requires-clause-terms c = rule_at (CallsBuiltTerms c.args.terms.now) c.args.rules.now c.loop-rule.rule-index c.rule-item.result c.requires.terms c.loop-rule-test.true c.rule-item.is
 
 pub loop-rule-preserved : goal.loop-rule-preserved
 loop-rule-preserved c =

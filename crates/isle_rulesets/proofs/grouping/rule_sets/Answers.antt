@@ -1,7 +1,7 @@
 use Rattle.std.proofs.Common.{rules, map, length, refl, sym, subst}
 use Rattle.std.specs.Prelude.{All}
 use Rattle.isle_core.specs.RuleViews.{rule}
-use Rattle.isle_core.specs.BuiltRule.{IsBuiltRule, IsImpureRule}
+use Rattle.isle_core.specs.BuiltRule.{IsBuiltRule, CallsBuiltTerms}
 use Rattle.isle_core.specs.Scope.{IsScopedRule}
 use Rattle.isle_rulesets.proofs.GroupingLaws.{group_seen, group_all, sets_push, sets_skip, sets_over, not_empty, is_none}
 use Rattle.isle_rulesets.proofs.grouping.rule_sets.Goals as goal
@@ -9,9 +9,9 @@ use Rattle.isle_rulesets.proofs.grouping.rule_sets.Goals.{then-not-is_empty+in_o
 
 pub rule_set-requires-clause-built : goal.rule_set-requires-clause-built
 rule_set-requires-clause-built c =
-    group_all IsBuiltRule (map rule c.args.terms.now.rules) c.loop-index.index c.deref.result.now
+    group_all (IsBuiltRule c.as_slice-callable.result.now) (map rule c.args.terms.now.rules) c.loop-index.index c.deref.result.now
     (group_seen c.in_ok-groups.groups.items c.deref-rules-items.result.now _ c.as_slice.result.now c.args.terms.now.rules c.loop-index.index c.rules-item.result c.deref.result.now c.in_ok-groups.ensures (search rules) c.deref-rules-items.ensures.value
-    (search rules) c.rules-item.is c.deref.ensures.value) c.requires.built
+    (search rules) c.rules-item.is c.deref.ensures.value) (subst (λ ts. All (IsBuiltRule ts) (map rule c.args.terms.now.rules)) (sym c.as_slice-callable.ensures) c.requires.built)
 
 pub rule_set-requires-clause-bound : goal.rule_set-requires-clause-bound
 rule_set-requires-clause-bound c =
@@ -19,11 +19,11 @@ rule_set-requires-clause-bound c =
     (group_seen c.in_ok-groups.groups.items c.deref-rules-items.result.now _ c.as_slice.result.now c.args.terms.now.rules c.loop-index.index c.rules-item.result c.deref.result.now c.in_ok-groups.ensures (search rules) c.deref-rules-items.ensures.value
     (search rules) c.rules-item.is c.deref.ensures.value) c.requires.bound
 
-pub rule_set-requires-clause-impure : goal.rule_set-requires-clause-impure
-rule_set-requires-clause-impure c =
-    group_all (IsImpureRule c.as_slice-callable.result.now) (map rule c.args.terms.now.rules) c.loop-index.index c.deref.result.now
+pub rule_set-requires-clause-terms : goal.rule_set-requires-clause-terms
+rule_set-requires-clause-terms c =
+    group_all (CallsBuiltTerms c.as_slice-callable.result.now) (map rule c.args.terms.now.rules) c.loop-index.index c.deref.result.now
     (group_seen c.in_ok-groups.groups.items c.deref-rules-items.result.now _ c.as_slice.result.now c.args.terms.now.rules c.loop-index.index c.rules-item.result c.deref.result.now c.in_ok-groups.ensures (search rules) c.deref-rules-items.ensures.value
-    (search rules) c.rules-item.is c.deref.ensures.value) (subst (λ ts. All (IsImpureRule ts) (map rule c.args.terms.now.rules)) (sym c.as_slice-callable.ensures) c.requires.impure)
+    (search rules) c.rules-item.is c.deref.ensures.value) (subst (λ ts. All (CallsBuiltTerms ts) (map rule c.args.terms.now.rules)) (sym c.as_slice-callable.ensures) c.requires.terms)
 
 pub loop-index-preserved : goal.loop-index-preserved
 loop-index-preserved c = elim c.if-not-is_empty.branch [

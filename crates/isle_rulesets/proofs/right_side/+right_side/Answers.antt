@@ -1,9 +1,9 @@
-use Rattle.std.proofs.Common.{◌≡◌, rules, map, ap, ◌∙◌}
+use Rattle.std.proofs.Common.{◌≡◌, rules, map, take, ap, ◌∙◌}
 use denote.Param.Weighed.{at_most}
 use Rattle.isle_core.specs.Expr as pure_expr
 use Rattle.isle_core.specs.RuleViews.{expr, exprs_of}
-use Rattle.isle_core.proofs.SeesRules.{expr-var, expr-bool, expr-int, expr-term}
-use Rattle.isle_rulesets.proofs.RightSideLaws.{given_var, given_bool, given_int, given_call, given_more, given_over, known_at, impure_at}
+use Rattle.isle_core.proofs.SeesRules.{expr-var, expr-bool, expr-int, expr-prim, expr-term}
+use Rattle.isle_rulesets.proofs.RightSideLaws.{given_var, given_bool, given_int, given_prim, given_call, given_more, given_over, known_at, terms_at, there_behind, numbers_there}
 use Rattle.isle_rulesets.proofs.right_side.+right_side.Goals as goal
 
 pub number_expr-returns-in-Var : goal.number_expr-returns-in-Var
@@ -21,13 +21,22 @@ number_expr-returns-in-ConstInt t c =
     given_int c.intern-in-ConstInt.result c.args.scope.now.terms.now c.args.scope.now.variables.now c.args.numbering.now c.intern-in-ConstInt.new.self c.args.ordered.now.items (expr c.args.expr.now) c.in-ConstInt.ty c.in-ConstInt.val
     (ap expr c.in-ConstInt.is ∙ expr-int c.in-ConstInt.ty c.in-ConstInt.val) (search rules)
 
-pub number_expr-returns-in_ok-parameters-in-Term : goal.number_expr-returns-in_ok-parameters-in-Term
-number_expr-returns-in_ok-parameters-in-Term t c =
+pub number_expr-returns-in-ConstPrim : goal.number_expr-returns-in-ConstPrim
+number_expr-returns-in-ConstPrim t c =
+    given_prim c.intern-in-ConstPrim.result c.args.scope.now.terms.now c.args.scope.now.variables.now c.args.numbering.now c.intern-in-ConstPrim.new.self c.args.ordered.now.items (expr c.args.expr.now) c.in-ConstPrim.field-0 c.in-ConstPrim.val
+    (ap expr c.in-ConstPrim.is ∙ expr-prim c.in-ConstPrim.field-0 c.in-ConstPrim.val) c.intern-in-ConstPrim.ensures
+
+pub number_expr-number_term-requires-clause-there : goal.number_expr-number_term-requires-clause-there
+number_expr-number_term-requires-clause-there t c =
+    numbers_there c.args.scope.now.terms.now c.args.scope.now.variables.now c.args.numbering.now c.number_exprs.new.numbering c.args.ordered.now.items c.number_exprs.new.ordered.items (exprs_of (map expr c.as_slice.result.now)) c.in_ok-arguments-in-Term.arguments.items c.requires.there c.in_ok-arguments-in-Term.ensures
+
+pub number_expr-returns-in_ok-arguments-in-Term : goal.number_expr-returns-in_ok-arguments-in-Term
+number_expr-returns-in_ok-arguments-in-Term t c =
     let same : c.in-Term.args ≡ c.as_slice.result.now = search rules in
-    given_call c.number_call.result c.args.scope.now.terms.now c.args.scope.now.variables.now c.args.numbering.now c.number_exprs.new.numbering c.number_call.new.numbering c.args.ordered.now.items c.number_exprs.new.ordered.items c.number_call.new.ordered.items
-    (expr c.args.expr.now) c.in-Term.field-0 c.in-Term.term (exprs_of (map expr c.as_slice.result.now)) c.in_ok-parameters-in-Term.parameters.items
+    given_call c.number_term.result c.args.scope.now.terms.now c.args.scope.now.variables.now c.args.numbering.now c.number_exprs.new.numbering c.number_term.new.numbering c.args.ordered.now.items c.number_exprs.new.ordered.items c.number_term.new.ordered.items
+    (expr c.args.expr.now) c.in-Term.field-0 c.in-Term.term (exprs_of (map expr c.as_slice.result.now)) c.in_ok-arguments-in-Term.arguments.items
     (ap expr c.in-Term.is ∙ expr-term c.in-Term.field-0 c.in-Term.term c.in-Term.args ∙ ap (λ es. pure_expr.Term c.in-Term.field-0 c.in-Term.term (exprs_of (map expr es))) same)
-    c.in_ok-parameters-in-Term.ensures c.number_call.ensures
+    c.in_ok-arguments-in-Term.ensures c.number_term.ensures
 
 pub number_exprs-loop-expr-preserved : goal.number_exprs-loop-expr-preserved
 number_exprs-loop-expr-preserved t c =
@@ -43,6 +52,9 @@ number_exprs-number_expr-requires t c = (
   search (rules, at_most),
   (
     known_at c.args.scope.now.variables.now c.args.exprs.now c.loop-expr.expr-index c.expr-item.result c.requires.known c.loop-expr-test.true c.expr-item.is,
-    impure_at c.args.scope.now.terms.now c.args.exprs.now c.loop-expr.expr-index c.expr-item.result c.requires.impure c.loop-expr-test.true c.expr-item.is,
+    (
+      terms_at c.args.scope.now.terms.now c.args.exprs.now c.loop-expr.expr-index c.expr-item.result c.requires.terms c.loop-expr-test.true c.expr-item.is,
+      there_behind c.args.scope.now.terms.now c.args.scope.now.variables.now c.args.numbering.now c.loop-expr.numbering c.args.ordered.now.items c.loop-expr.ordered.items (exprs_of (map expr (take c.loop-expr.expr-index c.args.exprs.now))) c.loop-expr.numbers.items c.requires.there c.loop-expr.invariant,
+    ),
   ),
 )

@@ -1,0 +1,72 @@
+use Rattle.std.proofs.Common.{◌≡◌, rules, [], ◌∷◌, map, sym, ap, ◌∙◌, subst, refl}
+use denote.Param.Weighed.{at_most}
+use Rattle.isle_core.specs.Making.{making_in}
+use Rattle.isle_core.specs.Path.{paths_of}
+use Rattle.isle_core.specs.Pattern as pure
+use Rattle.isle_core.specs.Tests.{Is}
+use Rattle.isle_core.specs.RuleViews.{pattern, patterns_of}
+use Rattle.isle_core.proofs.SeesRules.{pattern-var, pattern-bool, pattern-int, pattern-prim, pattern-term}
+use Rattle.isle_rulesets.specs.Keys.{key_path, HasParts}
+use Rattle.isle_rulesets.specs.Made.{seen, making_of}
+use Rattle.isle_rulesets.specs.Numbering.{Numbers}
+use Rattle.isle_rulesets.proofs.PlacedPaths.{there_kept}
+use Rattle.isle_rulesets.proofs.PatternTestLaws.{Steps, TakesMadeIn, takes_var, takes_bool, takes_int, takes_prim, takes_term, made_first, made_next, made_all, field_has_parts, part_built, part_fits}
+use Rattle.isle_rulesets.proofs.pattern_tests.+pattern.Goals as goal
+
+pub number_pattern-returns-in-Var : goal.number_pattern-returns-in-Var
+number_pattern-returns-in-Var t c =
+    takes_var c.bind_or_equate.result c.args.terms.now c.args.numbering.now c.args.pattern_tests.now c.bind_or_equate.new.pattern_tests (pattern c.args.pattern.now) c.args.source c.in-Var.field-0 c.in-Var.var
+    (ap pattern c.in-Var.is ∙ pattern-var c.in-Var.field-0 c.in-Var.var) c.bind_or_equate.ensures
+
+pub number_pattern-returns-in-ConstBool : goal.number_pattern-returns-in-ConstBool
+number_pattern-returns-in-ConstBool t c =
+    takes_bool c.constrain.result c.args.terms.now c.args.numbering.now c.args.pattern_tests.now c.constrain.new.pattern_tests (pattern c.args.pattern.now) c.args.source c.in-ConstBool.val
+    (ap pattern c.in-ConstBool.is ∙ pattern-bool c.in-ConstBool.val) c.constrain.ensures
+
+pub number_pattern-returns-in-ConstInt : goal.number_pattern-returns-in-ConstInt
+number_pattern-returns-in-ConstInt t c =
+    takes_int c.constrain-in-ConstInt.result c.args.terms.now c.args.numbering.now c.args.pattern_tests.now c.constrain-in-ConstInt.new.pattern_tests (pattern c.args.pattern.now) c.args.source c.in-ConstInt.ty c.in-ConstInt.val _
+    (ap pattern c.in-ConstInt.is ∙ pattern-int c.in-ConstInt.ty c.in-ConstInt.val) c.constrain-in-ConstInt.ensures (search rules)
+
+pub number_pattern-returns-in-ConstPrim : goal.number_pattern-returns-in-ConstPrim
+number_pattern-returns-in-ConstPrim t c =
+    takes_prim c.constrain-in-ConstPrim.result c.args.terms.now c.args.numbering.now c.args.pattern_tests.now c.constrain-in-ConstPrim.new.pattern_tests (pattern c.args.pattern.now) c.args.source c.in-ConstPrim.field-0 c.in-ConstPrim.val
+    (ap pattern c.in-ConstPrim.is ∙ pattern-prim c.in-ConstPrim.field-0 c.in-ConstPrim.val) c.constrain-in-ConstPrim.ensures
+
+pub number_pattern-returns-in-Term : goal.number_pattern-returns-in-Term
+number_pattern-returns-in-Term t c =
+    let same = sym c.as_slice.ensures in
+    takes_term c.number_made.result c.args.terms.now c.args.numbering.now c.number_made.new.numbering c.args.pattern_tests.now c.number_made.new.pattern_tests (pattern c.args.pattern.now) c.args.source c.in-Term.field-0 c.in-Term.term (patterns_of (map pattern c.as_slice.result.now))
+    (ap pattern c.in-Term.is ∙ pattern-term c.in-Term.field-0 c.in-Term.term c.in-Term.parts ∙ ap (λ ps. pure.Term c.in-Term.field-0 c.in-Term.term (patterns_of (map pattern ps))) same) c.number_made.ensures
+
+pub number_made-intern-requires : goal.number_made-intern-requires
+number_made-intern-requires t c =
+    let now = paths_of c.loop-index.numbering.bindings in
+    subst (HasParts now) (sym c.field.ensures) (field_has_parts now c.in-Some.made c.args.source _ (there_kept (paths_of c.args.numbering.now.bindings) now c.args.source c.loop-index.invariant.extends c.requires.there))
+
+pub number_made-number_pattern-requires : goal.number_made-number_pattern-requires
+number_made-number_pattern-requires t c = (
+  search (rules, at_most),
+  (part_built c.args.terms.now c.args.parts.now c.loop-index.index c.index-parts-index.result c.requires.built c.loop-index-test.true c.index-parts-index.is, (_, c.in_ok-number.ensures.found)),
+)
+
+pub number_made-loop-index-init : goal.number_made-loop-index-init
+number_made-loop-index-init t c =
+    made_first c.args.terms.now c.args.numbering.now c.args.pattern_tests.now c.constrain.new.pattern_tests c.in-Some.made (patterns_of (map pattern c.args.parts.now)) c.args.source
+    (subst (λ k. Steps c.args.pattern_tests.now c.constrain.new.pattern_tests c.args.source (λ p places. places) (λ p places. Is p k ∷ [])) c.constraint.ensures c.in_ok-constrain.ensures)
+
+pub number_made-loop-index-preserved : goal.number_made-loop-index-preserved
+number_made-loop-index-preserved t c =
+    made_next c.args.terms.now c.args.numbering.now c.loop-index.numbering c.intern.new.self c.number_pattern.new.numbering c.args.pattern_tests.now c.loop-index.pattern_tests c.number_pattern.new.pattern_tests c.in-Some.made (patterns_of (map pattern c.args.parts.now)) c.args.parts.now c.loop-index.index (record { 0 = c.loop-index.index })
+    c.index-parts-index.result c.args.source c.in_ok-number.number c.loop-index-test.true c.index-parts-index.is refl c.loop-index.invariant
+    (subst (λ k. Numbers c.loop-index.numbering c.intern.new.self (key_path (paths_of c.loop-index.numbering.bindings) k) c.in_ok-number.number) c.field.ensures c.in_ok-number.ensures) c.in_ok-number_pattern.ensures
+
+pub number_made-returns : goal.number_made-returns
+number_made-returns t c =
+    let all = patterns_of (map pattern c.args.parts.now) in
+    let making : making_of c.in-Some.made ≡ making_in c.args.terms.now c.args.term = sym (ap seen c.in-Some.is) ∙ c.made_by.ensures in
+    subst (λ mk. TakesMadeIn c.args.terms.now c.args.numbering.now c.loop-index.numbering c.args.pattern_tests.now c.loop-index.pattern_tests mk all c.args.source) making
+    (made_all c.args.terms.now c.args.numbering.now c.loop-index.numbering c.args.pattern_tests.now c.loop-index.pattern_tests c.in-Some.made all c.args.parts.now c.loop-index.index c.args.source c.loop-index-test.false c.loop-index.invariant)
+
+pub number_made-overflow_cast-field : goal.number_made-overflow_cast-field
+number_made-overflow_cast-field t c = let low = part_fits c.args.parts.now c.loop-index.index c.requires.few c.loop-index-test.true in search rules
