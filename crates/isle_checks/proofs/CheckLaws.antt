@@ -58,7 +58,7 @@ module _ (env : Environment) (ps : List Path) (once : EachOnce ps) where
           let t = flat.no_other (equal_test ps x) c in
           absurd (t.1 (none (at ps x.0) (at ps x.1) t.0))
 
-  module _ (q r : Rule) (m n : ℕ) (f g : FlatRule) (one : IsFlat env ps q m f) (other : IsFlat env ps r n g) (built : IsBuiltRule q) (also_built : IsBuiltRule r) where
+  module _ (q r : Rule) (m n : ℕ) (f g : FlatRule) (one : IsFlat env ps q m f) (other : IsFlat env ps r n g) (built : IsBuiltRule env.terms q) (also_built : IsBuiltRule env.terms r) where
     pub rules_overlap : (i j : ℕ) → Overlap i f j g → (i < j) × Overlaps env q r
     rules_overlap i j h = (
       h.earlier,

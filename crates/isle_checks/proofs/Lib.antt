@@ -11,6 +11,7 @@ pub mod CheckLaws
 pub mod ListChecks
 pub mod ErrorLaws
 pub mod TermErrors
+pub mod TestedTypes
 pub mod MetOnce
 pub mod OneHighest
 pub mod ListOnce

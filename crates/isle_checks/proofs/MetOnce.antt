@@ -1,118 +1,152 @@
--- A value meets at most one constraint of the built forms.
-use Rattle.std.proofs.Common.{◌≡◌, ℕ, suc, ◌+◌, ℤ, List, [], ◌∷◌, Bool, true, Option, Some, None, sym, ap, ◌∙◌, subst, arith, ⊎_elim}
-use Rattle.std.specs.Prelude.{Contains, slice_get}
-use Rattle.std.specs.List.{AllByRecursion}
-use Rattle.std.proofs.lemmas.List.Elements.{Contains-append_cases}
+-- A value meets at most one constraint on values of a type.
+use Rattle.std.proofs.Common.{◌≡◌, ℕ, List, Bool, true, false, ◌&&◌, Option, Some, None, refl, sym, ap, ◌∙◌}
+use Rattle.std.specs.Prelude.{Contains, IsSomeAnd, option_and_then, option_map, slice_get}
+use Rattle.std.specs.Str.{bytes_eq}
+use Rattle.std.proofs.lemmas.Slice.Eq.{bytes_eq-Decides}
+use Rattle.isle_core.specs.declared.Sym.{Sym}
 use Rattle.isle_core.specs.declared.TypeId.{TypeId}
+use Rattle.isle_core.specs.declared.VariantId.{VariantId}
 use Rattle.isle_core.specs.declared.rule_sets.Constraint.{Constraint}
 use Rattle.isle_core.specs.declared.rule_sets.Constraint.TheVariants as constraint
-use Rattle.isle_core.specs.declared.types.BuiltinType.TheVariants as builtin
 use Rattle.isle_core.specs.declared.types.TypeDef.{TypeDef}
 use Rattle.isle_core.specs.declared.types.TypeDef.TheVariants as def
-use Rattle.isle_core.specs.Value.{Value, Truth}
-use Rattle.isle_core.specs.Constants.{int_of_def, int_value}
-use Rattle.isle_core.specs.Pattern as pattern
-use Rattle.isle_core.specs.Pattern.{Pattern}
-use Rattle.isle_core.specs.Path.{Path, Arg}
-use Rattle.isle_core.specs.Tests.{Is, Places, tests, after, args_tests}
-use Rattle.isle_core.specs.ValueAt.{Held, One, AValue, is_value, meets}
-use Rattle.isle_core.specs.BuiltRule.{IsBuiltPattern}
+use Rattle.isle_core.specs.Constants.{int_value}
+use Rattle.isle_core.specs.Form.{Form, variant_form, struct_form, form, form_name, is_named, is_of_form, is_made_by}
+use Rattle.isle_core.specs.Having.{const_of}
+use Rattle.isle_core.specs.Lawful.{constant_value}
+use Rattle.isle_core.specs.Making.{MakesVariant, MakesStruct}
+use Rattle.isle_core.specs.Meaning.{Meaning}
+use Rattle.isle_core.specs.OccurringConstants.{Constant, Truth, Number, Named, TypedConstant}
+use Rattle.isle_core.specs.PatternType.{AreVariantsApart}
+use Rattle.isle_core.specs.Terms.{sym_text}
+use Rattle.isle_core.specs.Value as value
+use Rattle.isle_core.specs.Value.{Value}
+use Rattle.isle_core.specs.ValueAt.{Held, One, AValue, is_value, is_const, is_one, meets}
 use Rattle.isle_core.specs.Rule.{Environment}
-use Rattle.isle_core.proofs.Contained.{none_contained}
 use Rattle.isle_core.proofs.SameValueLaws.{same_value_decides}
-use Rattle.isle_checks.specs.OfTypes.{IsOfType, AreOfTypes}
-use Rattle.isle_checks.proofs.FlatTests.{is_path, is_constraint, met_none}
-use Rattle.isle_checks.proofs.PlacedLaws.{only_one}
+use Rattle.isle_checks.specs.PlainConstants.{IsPlainDef, IsPlainType}
+use Rattle.isle_checks.proofs.TestedTypes.{constant_test, IsOn, on_constant, on_variant, on_struct}
 
--- ---- one value, one constraint
-
--- a truth, or a number of the type that is there
-abbrev pub IsOn : Option TypeId → Constraint → Type 0
-IsOn o (constraint.ConstBool val) = Unit {0}
-IsOn o (constraint.ConstInt val ty) = o ≡ Some ty
-IsOn o (constraint.ConstPrim val) = ⊥
-IsOn o (constraint.Variant ty variant) = ⊥
-IsOn o (constraint.Struct ty) = ⊥
-IsOn o constraint.Some = ⊥
+-- ---- constants
 
 one_value : (h : Held) (v w : Value) → is_value v h ≡ true → is_value w h ≡ true → v ≡ w
 one_value (One (AValue u)) v w e k = sym ((same_value_decides u v).0 e) ∙ (same_value_decides u w).0 k
 one_value h v w e k = cc
 
-one_truth : (a b : Bool) → Truth a ≡ Truth b → a ≡ b
-one_truth a b e = cc
+-- a constant that is met has a value
+record IsMet (o : Option Value) (h : Held) : Type 0 where
+  value : Value
+  is : o ≡ Some value
+  met : is_value value h ≡ true
 
--- no number is a truth
-no_truth : (env : Environment) (o : Option TypeDef) (n : ℤ) (b : Bool) → Truth b ≡ int_of_def env o n → ⊥
-no_truth env (Some (def.Builtin (builtin.Int ty))) n b e = cc
-no_truth env (Some (def.Builtin builtin.Bool)) n b e = cc
-no_truth env (Some (def.Primitive name rust pos)) n b e = cc
-no_truth env (Some (def.Enum name is_extern is_nodebug variants pos)) n b e = cc
-no_truth env (Some (def.Struct name is_extern is_nodebug fields pos)) n b e = cc
-no_truth env None n b e = cc
+const_met : (o : Option Value) (h : Held) → is_const o h ≡ true → IsMet o h
+const_met (Some v) h e = record { value = v; is = refl; met = e }
+const_met None h e = cc
 
-one_number : (env : Environment) (o : Option TypeDef) (n k : ℤ) → int_of_def env o n ≡ int_of_def env o k → n ≡ k
-one_number env (Some (def.Builtin (builtin.Int ty))) n k e = cc
-one_number env (Some (def.Builtin builtin.Bool)) n k e = cc
-one_number env (Some (def.Primitive name rust pos)) n k e = cc
-one_number env (Some (def.Enum name is_extern is_nodebug variants pos)) n k e = cc
-one_number env (Some (def.Struct name is_extern is_nodebug fields pos)) n k e = cc
-one_number env None n k e = cc
+constant_met : (env : Environment) (m : Meaning) (ty : TypeId) (c : Constant) (h : Held) → meets env m (constant_test ty c) h ≡ true → IsMet (constant_value env m ty c) h
+constant_met env m ty (Truth b) h e = record { value = value.Truth b; is = refl; met = e }
+constant_met env m ty (Number n) h e = record { value = int_value env ty n; is = refl; met = e }
+constant_met env m ty (Named name) h e = const_met (const_of m (sym_text env name)) h e
 
-some_type : (a b : TypeId) → Some a ≡ Some b → a ≡ b
-some_type a b e = cc
+-- ---- what is made
 
-pub one_constraint : (env : Environment) (o : Option TypeId) (h : Held) (c d : Constraint) → IsOn o c → IsOn o d → meets env c h ≡ true → meets env d h ≡ true → c ≡ d
-one_constraint env o h (constraint.ConstBool a) (constraint.ConstBool b) f g e k = ap constraint.ConstBool (one_truth a b (one_value h (Truth a) (Truth b) e k))
-one_constraint env o h (constraint.ConstBool a) (constraint.ConstInt n ty) f g e k = absurd (no_truth env (slice_get env.types.types ty.0) n a (one_value h (Truth a) (int_value env ty n) e k))
-one_constraint env o h (constraint.ConstInt n ty) (constraint.ConstBool b) f g e k = absurd (no_truth env (slice_get env.types.types ty.0) n b (one_value h (Truth b) (int_value env ty n) k e))
-one_constraint env o h (constraint.ConstInt n ty) (constraint.ConstInt i tz) f g e k =
-    let same : tz ≡ ty = some_type tz ty (sym g ∙ f) in
-    let number : n ≡ i = one_number env (slice_get env.types.types ty.0) n i (one_value h (int_value env ty n) (int_value env tz i) e k ∙ ap (λ t. int_value env t i) same) in
-    ap (λ x. constraint.ConstInt x ty) number ∙ ap (constraint.ConstInt i) (sym same)
-one_constraint env o h (constraint.ConstBool a) (constraint.ConstPrim val) f g e k = absurd g
-one_constraint env o h (constraint.ConstBool a) (constraint.Variant ty variant) f g e k = absurd g
-one_constraint env o h (constraint.ConstBool a) (constraint.Struct ty) f g e k = absurd g
-one_constraint env o h (constraint.ConstBool a) constraint.Some f g e k = absurd g
-one_constraint env o h (constraint.ConstInt n of) (constraint.ConstPrim val) f g e k = absurd g
-one_constraint env o h (constraint.ConstInt n of) (constraint.Variant ty variant) f g e k = absurd g
-one_constraint env o h (constraint.ConstInt n of) (constraint.Struct ty) f g e k = absurd g
-one_constraint env o h (constraint.ConstInt n of) constraint.Some f g e k = absurd g
-one_constraint env o h (constraint.ConstPrim val) d f g e k = absurd f
-one_constraint env o h (constraint.Variant ty variant) d f g e k = absurd f
-one_constraint env o h (constraint.Struct ty) d f g e k = absurd f
-one_constraint env o h constraint.Some d f g e k = absurd f
+-- a form that a value is of
+record IsFormOf (env : Environment) (o : Option Form) (v : Value) : Type 0 where
+  given : Form
+  is : o ≡ Some given
+  named : is_of_form env (Some given) v ≡ true
 
--- ---- what built patterns test
+form_there : (env : Environment) (o : Option Form) (v : Value) → is_of_form env o v ≡ true → IsFormOf env o v
+form_there env (Some f) v e = record { given = f; is = refl; named = e }
+form_there env None v e = cc
 
--- a test of an argument from the n-th on, by a constraint of its type
-pub record IsArgTest (tys : List TypeId) (n : ℕ) (p : Path) (c : Constraint) : Type 0 where
-  pub place : ℕ
-  pub path : p ≡ Arg (n + place)
-  pub on : IsOn (slice_get tys place) c
+both_true : (a b : Bool) → (a && b) ≡ true → (a ≡ true) × (b ≡ true)
+both_true true true e = (refl, refl)
+both_true true false e = cc
+both_true false b e = cc
 
-pattern_on : (env : Environment) (q : Pattern) (ty : TypeId) (tys : List TypeId) (n : ℕ) (places : Places) (p : Path) (c : Constraint) → IsBuiltPattern q → IsOfType ty q → Contains (tests env q (Arg n) places) (Is p c) → IsArgTest (ty ∷ tys) n p c
-pattern_on env (pattern.Var of x) ty tys n places p c b h k = absurd (met_none (places x.0) (Arg n) p c k)
-pattern_on env (pattern.ConstBool v) ty tys n places p c b h k =
-    let e = only_one (Is (Arg n) (constraint.ConstBool v)) (Is p c) k in
-    record { place = 0; path = sym (is_path (Arg n) p _ c e) ∙ ap Arg {y = n + 0} (omega arith); on = subst (IsOn (Some ty)) (is_constraint (Arg n) p (constraint.ConstBool v) c e) tt }
-pattern_on env (pattern.ConstInt of v) ty tys n places p c b h k =
-    let e = only_one (Is (Arg n) (constraint.ConstInt v of)) (Is p c) k in
-    record { place = 0; path = sym (is_path (Arg n) p _ c e) ∙ ap Arg {y = n + 0} (omega arith); on = subst (IsOn (Some ty)) (is_constraint (Arg n) p (constraint.ConstInt v of) c e) (ap Some (sym h)) }
-pattern_on env (pattern.Wildcard of) ty tys n places p c b h k = absurd (none_contained (Is p c) k)
-pattern_on env (pattern.BindPattern of x q) ty tys n places p c b h k = absurd b
-pattern_on env (pattern.ConstPrim of name) ty tys n places p c b h k = absurd b
-pattern_on env (pattern.Term of term ps) ty tys n places p c b h k = absurd b
-pattern_on env (pattern.And of ps) ty tys n places p c b h k = absurd b
+same_text : (a b : List ℕ) → bytes_eq a b ≡ true → a ≡ b
+same_text a b e = (bytes_eq-Decides a b).0 e
 
--- the tests of built patterns are of arguments
-pub args_on : (env : Environment) (qs : List Pattern) (tys : List TypeId) (n : ℕ) (places : Places) (p : Path) (c : Constraint) → AllByRecursion IsBuiltPattern qs → AreOfTypes tys qs → Contains (args_tests env qs n places) (Is p c) → IsArgTest tys n p c
-args_on env [] [] n places p c b h k = absurd (none_contained (Is p c) k)
-args_on env (q ∷ qs) (ty ∷ tys) n places p c b h k =
-    ⊎_elim (λ d. pattern_on env q ty tys n places p c b.0 h.0 d)
-    (λ d.
-    let x = args_on env qs tys (suc n) (after env q (Arg n) places) p c b.1 h.1 d in
-    record { place = suc x.place; path = x.path ∙ ap Arg {y = n + suc x.place} (omega arith); on = x.on })
-    (Contains-append_cases (tests env q (Arg n) places) (args_tests env qs (suc n) (after env q (Arg n) places)) (Is p c) k)
-args_on env [] (ty ∷ tys) n places p c b h k = absurd h
-args_on env (q ∷ qs) [] n places p c b h k = absurd h
+-- the name under which a value is made
+abbrev name_of : Value → Option (List ℕ × Option (List ℕ))
+name_of (value.Variant ty variant fs) = Some (ty, Some variant)
+name_of (value.Struct ty fs) = Some (ty, None)
+name_of (value.Truth b) = None
+name_of (value.Int ty n) = None
+name_of (value.Opaque ty n) = None
+
+value_named : (env : Environment) (ty : Sym) (o : Option Sym) (v : Value) → is_named env ty o v ≡ true → name_of v ≡ Some (sym_text env ty, option_map (sym_text env) o)
+value_named env ty (Some variant) (value.Variant of name fs) e =
+    let both = both_true (bytes_eq of (sym_text env ty)) (bytes_eq name (sym_text env variant)) e in
+    ap (λ x. Some (x, Some name)) (same_text of (sym_text env ty) both.0) ∙ ap (λ x. Some (sym_text env ty, Some x)) (same_text name (sym_text env variant) both.1)
+value_named env ty None (value.Struct of fs) e = ap (λ x. Some (x, None)) (same_text of (sym_text env ty) e)
+value_named env ty (Some variant) (value.Struct of fs) e = cc
+value_named env ty None (value.Variant of name fs) e = cc
+value_named env ty o (value.Truth b) e = cc
+value_named env ty o (value.Int of n) e = cc
+value_named env ty o (value.Opaque of n) e = cc
+
+-- no value is of two variants
+variant_once : (env : Environment) (ty : TypeId) (a b : VariantId) (h : Held) → AreVariantsApart env → is_one (is_made_by env (MakesVariant ty a)) h ≡ true → is_one (is_made_by env (MakesVariant ty b)) h ≡ true → a ≡ b
+variant_once env ty a b (One (AValue v)) apart e k =
+    let f = form_there env (form env (MakesVariant ty a)) v e in
+    let g = form_there env (form env (MakesVariant ty b)) v k in
+    apart ty a b (form_name env f.given) (ap (option_map (form_name env)) f.is) (ap (option_map (form_name env)) g.is ∙ sym (value_named env g.given.ty g.given.variant v g.named) ∙ value_named env f.given.ty f.given.variant v f.named)
+variant_once env ty a b h apart e k = cc
+
+-- nor of a variant and a struct
+not_both : (env : Environment) (variant : VariantId) (o : Option TypeDef) (v : Value) → is_of_form env (option_and_then (variant_form variant) o) v ≡ true → is_of_form env (option_and_then struct_form o) v ≡ true → ⊥
+not_both env variant None v e k = cc
+not_both env variant (Some (def.Builtin of)) v e k = cc
+not_both env variant (Some (def.Primitive name rust pos)) v e k = cc
+not_both env variant (Some (def.Enum name is_extern is_nodebug variants pos)) v e k = cc
+not_both env variant (Some (def.Struct name is_extern is_nodebug fields pos)) v e k = cc
+
+variant_or_struct : (env : Environment) (ty : TypeId) (variant : VariantId) (h : Held) → is_one (is_made_by env (MakesVariant ty variant)) h ≡ true → is_one (is_made_by env (MakesStruct ty)) h ≡ true → ⊥
+variant_or_struct env ty variant (One (AValue v)) e k = not_both env variant (slice_get env.types.types ty.0) v e k
+variant_or_struct env ty variant h e k = cc
+
+-- nothing of a builtin or primitive type is made
+plain_variant : (env : Environment) (variant : VariantId) (o : Option TypeDef) (v : Value) → IsSomeAnd o IsPlainDef → is_of_form env (option_and_then (variant_form variant) o) v ≡ true → ⊥
+plain_variant env variant None v h e = h
+plain_variant env variant (Some (def.Builtin of)) v h e = cc
+plain_variant env variant (Some (def.Primitive name rust pos)) v h e = cc
+plain_variant env variant (Some (def.Enum name is_extern is_nodebug variants pos)) v h e = h
+plain_variant env variant (Some (def.Struct name is_extern is_nodebug fields pos)) v h e = h
+
+plain_struct : (env : Environment) (o : Option TypeDef) (v : Value) → IsSomeAnd o IsPlainDef → is_of_form env (option_and_then struct_form o) v ≡ true → ⊥
+plain_struct env None v h e = h
+plain_struct env (Some (def.Builtin of)) v h e = cc
+plain_struct env (Some (def.Primitive name rust pos)) v h e = cc
+plain_struct env (Some (def.Enum name is_extern is_nodebug variants pos)) v h e = h
+plain_struct env (Some (def.Struct name is_extern is_nodebug fields pos)) v h e = h
+
+no_variant : (env : Environment) (ty : TypeId) (variant : VariantId) (h : Held) → IsPlainType env ty → is_one (is_made_by env (MakesVariant ty variant)) h ≡ true → ⊥
+no_variant env ty variant (One (AValue v)) plain e = plain_variant env variant (slice_get env.types.types ty.0) v plain e
+no_variant env ty variant h plain e = cc
+
+no_struct : (env : Environment) (ty : TypeId) (h : Held) → IsPlainType env ty → is_one (is_made_by env (MakesStruct ty)) h ≡ true → ⊥
+no_struct env ty (One (AValue v)) plain e = plain_struct env (slice_get env.types.types ty.0) v plain e
+no_struct env ty h plain e = cc
+
+-- ---- one value, one constraint
+
+-- known constants of one type that have one value are one
+abbrev pub AreConstantsApart : Environment → Meaning → List TypedConstant → Type 0
+AreConstantsApart env m known = (ty : TypeId) (c d : Constant) → Contains known (ty, c) → Contains known (ty, d) → constant_value env m ty c ≡ constant_value env m ty d → c ≡ d
+
+module _ (env : Environment) (m : Meaning) (known : List TypedConstant) (variants : AreVariantsApart env) (constants : AreConstantsApart env m known) where
+  pub one_constraint : (ty : TypeId) (h : Held) (c d : Constraint) → IsOn env known ty c → IsOn env known ty d → meets env m c h ≡ true → meets env m d h ≡ true → c ≡ d
+  one_constraint ty h c d (on_constant a there plain) (on_constant b also plain') e k =
+      let x = constant_met env m ty a h e in
+      let y = constant_met env m ty b h k in
+      ap (constant_test ty) (constants ty a b there also (x.is ∙ ap Some (one_value h x.value y.value x.met y.met) ∙ sym y.is))
+  one_constraint ty h c d (on_constant a there plain) (on_variant variant) e k = absurd (no_variant env ty variant h plain k)
+  one_constraint ty h c d (on_constant a there plain) on_struct e k = absurd (no_struct env ty h plain k)
+  one_constraint ty h c d (on_variant variant) (on_constant b also plain) e k = absurd (no_variant env ty variant h plain e)
+  one_constraint ty h c d on_struct (on_constant b also plain) e k = absurd (no_struct env ty h plain e)
+  one_constraint ty h c d (on_variant variant) (on_variant other) e k = ap (constraint.Variant ty) (variant_once env ty variant other h variants e k)
+  one_constraint ty h c d (on_variant variant) on_struct e k = absurd (variant_or_struct env ty variant h e k)
+  one_constraint ty h c d on_struct (on_variant other) e k = absurd (variant_or_struct env ty other h k e)
+  one_constraint ty h c d on_struct on_struct e k = refl

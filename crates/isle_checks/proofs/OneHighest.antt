@@ -1,8 +1,8 @@
 -- Where no rule of a term is in error, no two that match have one priority.
-use Rattle.std.proofs.Common.{◌≡◌, ℕ, zero, suc, ◌+◌, ◌<◌, List, [], ◌∷◌, ◌++◌, length, map, Bool, true, false, Option, Some, None, refl, sym, ap, ◌∙◌, subst, arith, ◌⊎◌, ⊎_elim}
-use Rattle.std.specs.Prelude.{Contains, slice_get}
+use Rattle.std.proofs.Common.{◌≡◌, ℕ, zero, suc, ◌<◌, List, [], ◌∷◌, ◌++◌, length, map, Bool, true, false, Option, Some, None, refl, sym, ap, ◌∙◌, subst, arith, ◌⊎◌, ⊎_elim}
+use Rattle.std.specs.Prelude.{All, Contains, slice_get}
 use Rattle.std.specs.List.{AllByRecursion}
-use Rattle.std.proofs.lemmas.List.Elements.{All-contains, All-from_recursion, recursion_from_All}
+use Rattle.std.proofs.lemmas.List.Elements.{All-contains, All-from_recursion, recursion_from_All, Contains-append_left, Contains-append_right}
 use Rattle.std.proofs.lemmas.List.Sums.{AllPass-from_list_all}
 use Rattle.std.proofs.lemmas.Option.{slice_get-get_or}
 use Rattle.isle_core.specs.declared.TermId.{TermId}
@@ -14,22 +14,27 @@ use Rattle.isle_core.specs.Meaning.{Meaning}
 use Rattle.isle_core.specs.Match.{Names}
 use Rattle.isle_core.specs.Outcome.{rule_names}
 use Rattle.isle_core.specs.HighestMatch.{AreApart}
-use Rattle.isle_core.specs.Path.{Path, Arg}
-use Rattle.isle_core.specs.Tests.{Test, Is, Places, no_places, args_after, rule_tests}
+use Rattle.isle_core.specs.Path.{Path}
+use Rattle.isle_core.specs.Tests.{Is, Places, no_places, args_after, rule_tests}
 use Rattle.isle_core.specs.Terms.{with_rules}
 use Rattle.isle_core.specs.ValueAt.{nothing_known, value_at, meets, holds, all_hold}
-use Rattle.isle_core.specs.BuiltRule.{IsBuiltPattern, IsBuiltRule}
+use Rattle.isle_core.specs.BuiltRule.{IsBuiltRule}
+use Rattle.isle_core.specs.HasType.{HaveTypes}
+use Rattle.isle_core.specs.Lawful.{IsLawful}
+use Rattle.isle_core.specs.OccurringConstants.{TypedConstant, rule_constants, rules_constants}
+use Rattle.isle_core.specs.PatternType.{AreVariantsApart, ArePatternsOf, FitsTerm}
 use Rattle.isle_core.specs.Rule.{Environment, Rule, rules_of}
 use Rattle.isle_core.proofs.Contained.{contained_cases, none_contained}
 use Rattle.isle_core.proofs.PatternTests.{Values, Both}
-use Rattle.isle_core.proofs.SetMeans.{rule_both, without_iflets}
+use Rattle.isle_core.proofs.SetMeans.{rule_both}
 use Rattle.isle_checks.specs.Built.{AreBuilt}
 use Rattle.isle_checks.specs.CheckList.{RuleError, overlap_of, shadow_of, positions, is_multi, AreErrorsAt, AreErrorsBelow, AreErrorsOf, AreErrorsOfTerm, AreErrorsOfTerms, IsClean}
 use Rattle.isle_checks.specs.Firsts.{IsFirst}
-use Rattle.isle_checks.specs.OfTypes.{AreOfTypes, FitTerm}
+use Rattle.isle_checks.specs.PlainConstants.{AreConstantsPlain}
 use Rattle.isle_checks.specs.RuleChecks.{Overlaps, OverlapsAt}
 use Rattle.isle_checks.proofs.ListChecks.{of_two}
-use Rattle.isle_checks.proofs.MetOnce.{IsOn, IsArgTest, one_constraint, args_on}
+use Rattle.isle_checks.proofs.TestedTypes.{IsOn, IsTyped, rule_typed}
+use Rattle.isle_checks.proofs.MetOnce.{AreConstantsApart, one_constraint}
 use Rattle.isle_checks.proofs.TermErrors.{all_filter}
 
 -- ---- two rules that match overlap, where they have one priority
@@ -38,37 +43,32 @@ matched_holds : (val : Values) (o : Option Names) (b : Bool) (places : Places) (
 matched_holds val None b places names e h = cc
 matched_holds val (Some found) b places names e h = h.0
 
-arg_place : (i j : ℕ) → Arg i ≡ Arg j → i ≡ j
-arg_place i j e = cc
+some_type : (a b : TypeId) → Some a ≡ Some b → a ≡ b
+some_type a b e = cc
 
-module _ (env : Environment) (m : Meaning) (args : List Value) (tys : List TypeId) (count : length args ≡ length tys) where
-  as_many : (tys : List TypeId) (r : Rule) → AreOfTypes tys r.args → length r.args ≡ length tys
-  as_many tys r h = of tys r.args h
-    where
-      of : (ts : List TypeId) (qs : List _) → AreOfTypes ts qs → length qs ≡ length ts
-      of [] [] h = refl
-      of (t ∷ ts) (q ∷ qs) h = ap suc (of ts qs h.1)
-      of [] (q ∷ qs) h = absurd h
-      of (t ∷ ts) [] h = absurd h
+module _ (env : Environment) (m : Meaning) (args : List Value) (tys : List TypeId) (known : List TypedConstant) (variants : AreVariantsApart env) (plain : AreConstantsPlain env) (constants : AreConstantsApart env m known) (typed : HaveTypes env args tys) where
+  -- a rule of the types, whose constants are known
+  record IsOf (r : Rule) : Type 0 where
+    none : r.iflets ≡ []
+    fits : ArePatternsOf env tys r.args
+    among : (c : TypedConstant) → Contains (rule_constants r) c → Contains known c
 
-  -- a rule that matches tests arguments, by constraints that they meet
-  meets_test : (r : Rule) (names : Names) → IsBuiltRule r → AreOfTypes tys r.args → rule_names env m args r ≡ Some names → (p : Path) (c : Constraint) → Contains (rule_tests env r) (Is p c)
-      → IsArgTest tys 0 p c × (meets env c (value_at env m args nothing_known p) ≡ true)
-  meets_test r names b h e p c k =
+  -- a rule that matches tests paths that have types, by constraints on values of these that what stands there meets
+  meets_test : (r : Rule) (names : Names) → IsOf r → rule_names env m args r ≡ Some names → (p : Path) (c : Constraint) → Contains (rule_tests env r) (Is p c)
+      → IsTyped env plain known tys p c × (meets env m c (value_at env m args nothing_known p) ≡ true)
+  meets_test r names h e p c k =
       let val = value_at env m args nothing_known in
-      let all = matched_holds val (rule_names env m args r) (all_hold env val (rule_tests env r)) (args_after env r.args 0 no_places) names e (rule_both env m args r b (as_many tys r h ∙ sym count)) in (
-        args_on env r.args tys 0 no_places p c (recursion_from_All IsBuiltPattern r.args b.args) h (subst (λ (ts : List Test). Contains ts (Is p c)) (without_iflets env r b.iflets) k),
-        All-contains (λ t. holds env val t ≡ true) (rule_tests env r) (Is p c) (AllPass-from_list_all (holds env val) (rule_tests env r) all) k,
-      )
+      let all = matched_holds val (rule_names env m args r) (all_hold env m val (rule_tests env r)) (args_after env r.args 0 no_places) names e (rule_both env m args tys r variants h.none h.fits typed) in
+      (rule_typed env plain known tys r p c h.none h.fits h.among k, All-contains (λ t. holds env m val t ≡ true) (rule_tests env r) (Is p c) (AllPass-from_list_all (holds env m val) (rule_tests env r) all) k)
 
-  matched_overlap : (q r : Rule) (names others : Names) → IsBuiltRule q → IsBuiltRule r → AreOfTypes tys q.args → AreOfTypes tys r.args → rule_names env m args q ≡ Some names → rule_names env m args r ≡ Some others → q.prio ≡ r.prio → Overlaps env q r
-  matched_overlap q r names others b b' h h' e e' same = record {
+  matched_overlap : (q r : Rule) (names others : Names) → IsOf q → IsOf r → rule_names env m args q ≡ Some names → rule_names env m args r ≡ Some others → q.prio ≡ r.prio → Overlaps env q r
+  matched_overlap q r names others h h' e e' same = record {
     prio = same;
     agree = λ p c d k l differ.
-        let x = meets_test q names b h e p c k in
-        let y = meets_test r others b' h' e' p d l in
-        let place : y.0.place ≡ x.0.place = let same = arg_place (0 + y.0.place) (0 + x.0.place) (sym y.0.path ∙ x.0.path) in omega (arith, same) in
-        differ (one_constraint env (slice_get tys x.0.place) (value_at env m args nothing_known p) c d x.0.on (subst (λ i. IsOn (slice_get tys i) d) place y.0.on) x.1 y.1);
+        let x = meets_test q names h e p c k in
+        let y = meets_test r others h' e' p d l in
+        let of_type : y.0.ty ≡ x.0.ty = some_type y.0.ty x.0.ty (sym y.0.is ∙ x.0.is) in
+        differ (one_constraint env m known variants constants x.0.ty (value_at env m args nothing_known p) c d x.0.on (subst (λ ty. IsOn env known ty d) of_type y.0.on) x.1 y.1);
   }
 
 -- ---- no errors
@@ -118,21 +118,33 @@ two_places i j = grind (arith)
 some_rule : (a b : Rule) → Some a ≡ Some b → a ≡ b
 some_rule a b e = cc
 
--- of a term that answers at most once, whose rules are built and fit its arguments
-pub one_highest : (env : Environment) (id : TermId) (t : Term) → Contains (with_rules env) id → is_multi env id ≡ false → AreBuilt env → FitTerm t (rules_of env id) → IsClean env → (m : Meaning) (args : List Value) → length args ≡ length t.arg_tys → AreApart env m args (rules_of env id)
-one_highest env id t listed single built fit clean m args count q r names others c d e k same =
+constants_among : (rules : List Rule) (r : Rule) (c : TypedConstant) → Contains rules r → Contains (rule_constants r) c → Contains (rules_constants rules) c
+constants_among [] r c k h = absurd (none_contained r k)
+constants_among (x ∷ rules) r c k h = ⊎_elim
+    (λ (e : x ≡ r). Contains-append_left (rule_constants x) (rules_constants rules) c (subst (λ (y : Rule). Contains (rule_constants y) c) (sym e) h))
+    (λ d. Contains-append_right (rule_constants x) (rules_constants rules) c (constants_among rules r c d h))
+    (contained_cases x rules r k)
+
+-- of a term that answers at most once, whose rules are built and fit its arguments, where the meaning is lawful and the values have the arguments' types
+pub one_highest : (env : Environment) (id : TermId) (t : Term) → Contains (with_rules env) id → is_multi env id ≡ false → AreBuilt env → All (FitsTerm env t) (rules_of env id) → IsClean env → AreVariantsApart env → AreConstantsPlain env
+    → (m : Meaning) (args : List Value) → IsLawful env id m → HaveTypes env args t.arg_tys → AreApart env m args (rules_of env id)
+one_highest env id t listed single built fit clean variants plain m args lawful typed q r names others c d e k same =
     let rules = rules_of env id in
+    let known = rules_constants rules in
     let none = term_clean env (with_rules env) id (subst (AreErrorsOfTerms env (with_rules env)) (nil_of_told clean.0 clean.2) clean.1) listed in
     let of_rules : AreErrorsOf env rules [] = rw single at none in
-    let all : AllByRecursion IsBuiltRule rules = all_filter IsBuiltRule _ env.rules (recursion_from_All IsBuiltRule env.rules built) in
-    let is_built = λ (x : Rule) (h : Contains rules x). All-contains IsBuiltRule rules x (All-from_recursion IsBuiltRule rules all) h in
-    let fits = λ (x : Rule) (h : Contains rules x). All-contains (λ (y : Rule). AreOfTypes t.arg_tys y.args) rules x (All-from_recursion (λ (y : Rule). AreOfTypes t.arg_tys y.args) rules fit) h in
+    let all : AllByRecursion (IsBuiltRule env.terms) rules = all_filter (IsBuiltRule env.terms) _ env.rules (recursion_from_All (IsBuiltRule env.terms) env.rules built) in
+    let is_of : (x : Rule) → Contains rules x → IsOf env m args t.arg_tys known variants plain lawful.apart typed x = λ x h. record {
+      none = (All-contains (IsBuiltRule env.terms) rules x (All-from_recursion (IsBuiltRule env.terms) rules all) h).iflets;
+      fits = All-contains (FitsTerm env t) rules x fit h;
+      among = λ y i. constants_among rules x y h i;
+    } in
     let first = place_of rules q c in
     let second = place_of rules r d in
     ⊎_elim
-    (λ (lt : c.0 < d.0). absurd (none_below env rules (length rules) c.0 d.0 of_rules d.1 (lt, of_two (Overlaps env) _ _ q r first second (matched_overlap env m args t.arg_tys count q r names others (is_built q c) (is_built r d) (fits q c) (fits r d) e k same))))
+    (λ (lt : c.0 < d.0). absurd (none_below env rules (length rules) c.0 d.0 of_rules d.1 (lt, of_two (Overlaps env) _ _ q r first second (matched_overlap env m args t.arg_tys known variants plain lawful.apart typed q r names others (is_of q c) (is_of r d) e k same))))
     (λ (h : (d.0 < c.0) ⊎ (c.0 ≡ d.0)). ⊎_elim
-    (λ (lt : d.0 < c.0). absurd (none_below env rules (length rules) d.0 c.0 of_rules c.1 (lt, of_two (Overlaps env) _ _ r q second first (matched_overlap env m args t.arg_tys count r q others names (is_built r d) (is_built q c) (fits r d) (fits q c) k e (sym same)))))
+    (λ (lt : d.0 < c.0). absurd (none_below env rules (length rules) d.0 c.0 of_rules c.1 (lt, of_two (Overlaps env) _ _ r q second first (matched_overlap env m args t.arg_tys known variants plain lawful.apart typed r q others names (is_of r d) (is_of q c) k e (sym same)))))
     (λ (at : c.0 ≡ d.0). some_rule q r (sym first ∙ ap (slice_get rules) at ∙ second))
     h)
     (two_places c.0 d.0)

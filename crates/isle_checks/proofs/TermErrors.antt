@@ -48,7 +48,7 @@ pub term_more : (env : Environment) (ids : List TermId) (id : TermId) (set : Rul
 term_more env ids id set old new single built stands joined h =
     let rules = rules_of env id in
     let ps = paths_of set.bindings in
-    let all : AllByRecursion IsBuiltRule rules = all_filter IsBuiltRule _ env.rules (recursion_from_All IsBuiltRule env.rules built) in
+    let all : AllByRecursion (IsBuiltRule env.terms) rules = all_filter (IsBuiltRule env.terms) _ env.rules (recursion_from_All (IsBuiltRule env.terms) env.rules built) in
     let es = errors_below (places_of set.rules) joined.overlaps joined.shadows (length set.rules) in
     let same : es ≡ errors_below (positions rules) joined.overlaps joined.shadows (length rules) =
     ap (λ xs. errors_below xs joined.overlaps joined.shadows (length set.rules)) (same_positions env ps rules set.rules 0 stands.flat) ∙ ap (errors_below (positions rules) joined.overlaps joined.shadows) (same_length env ps rules set.rules 0 stands.flat) in

@@ -5,4 +5,4 @@ use Rattle.isle_core.specs.Rule.{Environment}
 
 -- each is
 abbrev pub AreBuilt : Environment → Type 0
-AreBuilt env = All IsBuiltRule env.rules
+AreBuilt env = All (IsBuiltRule env.terms) env.rules

@@ -5,7 +5,7 @@ ghost use Rattle.std.specs.Option.{option_map_or};
 ghost use Rattle.isle_core.specs.declared.TermId.{TermId as TheId};
 ghost use Rattle.isle_core.specs.declared.types.Term.{Term as TheTerm};
 ghost use Rattle.isle_core.specs.declared.types.TypeEnv.{TypeEnv as TheTypes};
-ghost use Rattle.isle_core.specs.BuiltRule.{IsBuiltRule, IsImpureRule};
+ghost use Rattle.isle_core.specs.BuiltRule.{IsBuiltRule, CallsBuiltTerms};
 ghost use Rattle.isle_core.specs.Calling.{is_several, kind_of};
 ghost use Rattle.isle_core.specs.Rule.{Environment, rules_of};
 ghost use Rattle.isle_core.specs.RuleViews.{rule as seen, environment};
@@ -98,9 +98,9 @@ fn errors_of(
 /// `Rules` comes exactly where one is, and tells each, rule by rule: the first earlier rule that overlaps it, then the first
 /// that shadows it.
 pub fn check(alloc: Global, termenv: &TermEnv) -> Result<Vec<(TermId, RuleSet)>, CheckError>
-    requires built { All IsBuiltRule (map seen termenv.now.rules) }
+    requires built { All (IsBuiltRule termenv.now.terms) (map seen termenv.now.rules) }
     requires bound { All IsScopedRule (map seen termenv.now.rules) }
-    requires impure { All (IsImpureRule termenv.now.terms) (map seen termenv.now.rules) }
+    requires terms { All (CallsBuiltTerms termenv.now.terms) (map seen termenv.now.rules) }
     ensures ok { IfOk result (λ sets. (types : TheTypes) → AreRuleSets (environment types termenv.now) sets.items) }
     ensures clean { IfOk result (λ sets. (types : TheTypes) → IsCheckList (environment types termenv.now) []) }
     ensures some { (errors : List Error) → result ≡ Err (Rules errors) → errors ≡ [] → ⊥ }

@@ -1,0 +1,169 @@
+-- The types of the paths that a rule tests, and what it may ask of them.
+use Rattle.std.proofs.Common.{◌≡◌, ℕ, ◌+◌, suc, List, [], ◌∷◌, ◌++◌, Option, Some, None, refl, sym, ap, ◌∙◌, subst, arith, ⊎_elim}
+use Rattle.std.specs.Prelude.{Contains, IsSomeAnd, option_and_then, option_map, slice_get}
+use Rattle.std.proofs.lemmas.List.Elements.{All-contains, Contains-append_left, Contains-append_right, Contains-append_cases}
+use Rattle.isle_core.specs.declared.Sym.{Sym}
+use Rattle.isle_core.specs.declared.TypeId.{TypeId}
+use Rattle.isle_core.specs.declared.VariantId.{VariantId}
+use Rattle.isle_core.specs.declared.rule_sets.Constraint.{Constraint}
+use Rattle.isle_core.specs.declared.rule_sets.Constraint.TheVariants as constraint
+use Rattle.isle_core.specs.declared.types.BuiltinType.TheVariants as builtin
+use Rattle.isle_core.specs.declared.types.TypeDef.{TypeDef}
+use Rattle.isle_core.specs.declared.types.TypeDef.TheVariants as def
+use Rattle.isle_core.specs.Form.{form, form_types}
+use Rattle.isle_core.specs.HasType.{IsOfDef}
+use Rattle.isle_core.specs.Making.{Making, MakesVariant, MakesStruct, MakesNothing, making}
+use Rattle.isle_core.specs.OccurringConstants.{Constant, Truth, Number, Named, TypedConstant, pattern_constants, patterns_constants, args_constants, iflets_constants, expr_constants, rule_constants}
+use Rattle.isle_core.specs.Path.{Path, Nowhere, Arg, ConstBool, ConstInt, ConstPrim, Extracted, Called, Chosen, MadeVariant, MadeStruct, VariantField, StructField, Wrapped, Inner, Part}
+use Rattle.isle_core.specs.Pattern as pattern
+use Rattle.isle_core.specs.Pattern.{Pattern, Patterns, NoPattern, APattern}
+use Rattle.isle_core.specs.PatternType.{IsNumericDef, IsOfMaking, IsPatternOf, ArePartsOf, ArePatternsOf}
+use Rattle.isle_core.specs.Tests.{Test, Is, Places, no_places, made_test, field_path, tests, parts_tests, after, args_tests, rule_tests}
+use Rattle.isle_core.specs.Value as value
+use Rattle.isle_core.specs.Rule.{Environment, Rule}
+use Rattle.isle_core.proofs.Contained.{contained_cases, none_contained}
+use Rattle.isle_core.proofs.SetMeans.{without_iflets}
+use Rattle.isle_checks.specs.PlainConstants.{IsPlainDef, IsPlainType, AreConstantsPlain}
+use Rattle.isle_checks.proofs.FlatTests.{is_path, is_constraint, met_none}
+use Rattle.isle_checks.proofs.PlacedLaws.{only_one}
+
+-- ---- types of paths
+
+-- the type of a field of what is made
+abbrev pub field_type : Environment → Making → ℕ → Option TypeId
+field_type env mk i = option_and_then (λ tys. slice_get tys i) (option_map (form_types env) (form env mk))
+
+-- the type of an argument, or of a field within one
+abbrev pub path_type : Environment → List TypeId → Path → Option TypeId
+path_type env tys (Arg i) = slice_get tys i
+path_type env tys (VariantField variant i p) = option_and_then (λ ty. field_type env (MakesVariant ty variant) i) (path_type env tys p)
+path_type env tys (StructField i p) = option_and_then (λ ty. field_type env (MakesStruct ty) i) (path_type env tys p)
+path_type env tys Nowhere = None
+path_type env tys (ConstBool ty b) = None
+path_type env tys (ConstInt ty n) = None
+path_type env tys (ConstPrim name) = None
+path_type env tys (Extracted term p) = None
+path_type env tys (Called term ps instance) = None
+path_type env tys (Chosen p) = None
+path_type env tys (MadeVariant ty variant ps) = None
+path_type env tys (MadeStruct ty ps) = None
+path_type env tys (Wrapped p) = None
+path_type env tys (Inner p) = None
+path_type env tys (Part part p) = None
+
+-- ---- constraints of types
+
+-- what a constant asks of a value of a type
+abbrev pub constant_test : TypeId → Constant → Constraint
+constant_test ty (Truth b) = constraint.ConstBool b
+constant_test ty (Number n) = constraint.ConstInt n ty
+constant_test ty (Named name) = constraint.ConstPrim name
+
+-- a constraint on values of a type: one of these constants, of a builtin or primitive type, or what is made of the type
+pub data IsOn (env : Environment) (known : List TypedConstant) (ty : TypeId) : Constraint → Type 0 where
+  on_constant : (c : Constant) → Contains known (ty, c) → IsPlainType env ty → IsOn env known ty (constant_test ty c)
+  on_variant : (variant : VariantId) → IsOn env known ty (constraint.Variant ty variant)
+  on_struct : IsOn env known ty (constraint.Struct ty)
+
+truths_plain : (env : Environment) (o : Option TypeDef) (b : _) → IsSomeAnd o (λ d. IsOfDef env d (value.Truth b)) → IsSomeAnd o IsPlainDef
+truths_plain env None b h = h
+truths_plain env (Some (def.Builtin builtin.Bool)) b h = tt
+truths_plain env (Some (def.Builtin (builtin.Int ty))) b h = tt
+truths_plain env (Some (def.Primitive name rust pos)) b h = tt
+truths_plain env (Some (def.Enum name is_extern is_nodebug variants pos)) b h = h
+truths_plain env (Some (def.Struct name is_extern is_nodebug fields pos)) b h = h
+
+numbers_plain : (o : Option TypeDef) → IsSomeAnd o IsNumericDef → IsSomeAnd o IsPlainDef
+numbers_plain None h = h
+numbers_plain (Some (def.Builtin builtin.Bool)) h = tt
+numbers_plain (Some (def.Builtin (builtin.Int ty))) h = tt
+numbers_plain (Some (def.Primitive name rust pos)) h = tt
+numbers_plain (Some (def.Enum name is_extern is_nodebug variants pos)) h = h
+numbers_plain (Some (def.Struct name is_extern is_nodebug fields pos)) h = h
+
+-- ---- what a rule tests
+
+from_zero : (j : ℕ) → j + 0 ≡ j
+from_zero j = omega arith
+
+first : (i : ℕ) → 0 + i ≡ i
+first i = omega arith
+
+next : (j i : ℕ) → suc j + i ≡ j + suc i
+next j i = omega arith
+
+module _ (env : Environment) (plain : AreConstantsPlain env) (known : List TypedConstant) (tys : List TypeId) where
+  -- a test of a path that has a type, by a constraint on values of the type
+  pub record IsTyped (p : Path) (c : Constraint) : Type 0 where
+    pub ty : TypeId
+    pub is : path_type env tys p ≡ Some ty
+    pub on : IsOn env known ty c
+
+  -- these are among the known constants
+  abbrev AreKnown : List TypedConstant → Type 0
+  AreKnown cs = (c : TypedConstant) → Contains cs c → Contains known c
+
+  this_typed : (at p : Path) (ty : TypeId) (c d : Constraint) → path_type env tys at ≡ Some ty → IsOn env known ty c → Is at c ≡ Is p d → IsTyped p d
+  this_typed at p ty c d t on e = record { ty = ty; is = subst (λ x. path_type env tys x ≡ Some ty) (is_path at p c d e) t; on = subst (IsOn env known ty) (is_constraint at p c d e) on }
+
+  -- a constant's test
+  constant_typed : (at p : Path) (ty : TypeId) (c : Constant) (d : Constraint) → path_type env tys at ≡ Some ty → AreKnown ((ty, c) ∷ []) → IsPlainType env ty → Contains (Is at (constant_test ty c) ∷ []) (Is p d) → IsTyped p d
+  constant_typed at p ty c d t k is h = this_typed at p ty (constant_test ty c) d t (on_constant c (k (ty, c) (head (ty, c))) is) (only_one _ _ h)
+    where
+      head : (x : TypedConstant) → Contains (x ∷ []) x
+      head x = (0, omega arith, refl)
+
+  made_typed : (mk : Making) (at p : Path) (ty : TypeId) (d : Constraint) → IsOfMaking ty mk → path_type env tys at ≡ Some ty → made_test mk at ≡ Is p d → IsTyped p d
+  made_typed (MakesVariant of variant) at p ty d is t e = this_typed at p of (constraint.Variant of variant) d (t ∙ ap Some (sym is)) (on_variant variant) e
+  made_typed (MakesStruct of) at p ty d is t e = this_typed at p of (constraint.Struct of) d (t ∙ ap Some (sym is)) on_struct e
+  made_typed MakesNothing at p ty d is t e = absurd is
+
+  field_typed : (mk : Making) (at : Path) (ty : TypeId) (j : ℕ) → IsOfMaking ty mk → path_type env tys at ≡ Some ty → path_type env tys (field_path mk j at) ≡ field_type env mk j
+  field_typed (MakesVariant of variant) at ty j is t = ap (option_and_then (λ x. field_type env (MakesVariant x variant) j)) (t ∙ ap Some (sym is))
+  field_typed (MakesStruct of) at ty j is t = ap (option_and_then (λ x. field_type env (MakesStruct x) j)) (t ∙ ap Some (sym is))
+  field_typed MakesNothing at ty j is t = absurd is
+
+  mutual
+    pattern_typed : (q : Pattern) (at : Path) (ty : TypeId) (places : Places) (p : Path) (c : Constraint) → IsPatternOf env ty q → path_type env tys at ≡ Some ty → AreKnown (pattern_constants q) → Contains (tests env q at places) (Is p c) → IsTyped p c
+    pattern_typed (pattern.Var of x) at ty places p c h t k is = absurd (met_none (places x.0) at p c is)
+    pattern_typed (pattern.ConstBool b) at ty places p c h t k is =
+        constant_typed at p ty (Truth b) c t (subst (λ x. AreKnown ((x, Truth b) ∷ [])) h.0 k) (truths_plain env (slice_get env.types.types ty.0) b h.1) is
+    pattern_typed (pattern.ConstInt of n) at ty places p c h t k is =
+        constant_typed at p ty (Number n) c t (subst (λ x. AreKnown ((x, Number n) ∷ [])) h.0 k) (numbers_plain (slice_get env.types.types ty.0) h.2) (subst (λ x. Contains (Is at (constraint.ConstInt n x) ∷ []) (Is p c)) h.0 is)
+    pattern_typed (pattern.ConstPrim of name) at ty places p c h t k is =
+        constant_typed at p ty (Named name) c t (subst (λ x. AreKnown ((x, Named name) ∷ [])) h.0 k) (All-contains (λ (x : Sym × TypeId). IsPlainType env x.1) env.types.consts (name, ty) plain h.1) is
+    pattern_typed (pattern.Wildcard of) at ty places p c h t k is = absurd (none_contained (Is p c) is)
+    pattern_typed (pattern.Term of term qs) at ty places p c h t k is =
+        ⊎_elim (λ e. made_typed (making env term) at p ty c h.1 t e)
+        (λ d. parts_typed qs (option_map (form_types env) (form env (making env term))) (making env term) at 0 places p c h.2 (λ j. ap (λ n. path_type env tys (field_path (making env term) n at)) (from_zero j) ∙ field_typed (making env term) at ty j h.1 t) k d)
+        (contained_cases (made_test (making env term) at) (parts_tests env (making env term) qs 0 at places) (Is p c) is)
+    pattern_typed (pattern.BindPattern of x q) at ty places p c h t k is = absurd h
+    pattern_typed (pattern.And of qs) at ty places p c h t k is = absurd h
+
+    -- parts on the fields from the i-th on
+    parts_typed : (qs : Patterns) (o : Option (List TypeId)) (mk : Making) (at : Path) (i : ℕ) (places : Places) (p : Path) (c : Constraint) → ArePartsOf env o qs → ((j : ℕ) → path_type env tys (field_path mk (j + i) at) ≡ option_and_then (λ ts. slice_get ts j) o) → AreKnown (patterns_constants qs)
+        → Contains (parts_tests env mk qs i at places) (Is p c) → IsTyped p c
+    parts_typed NoPattern o mk at i places p c h t k is = absurd (none_contained (Is p c) is)
+    parts_typed (APattern q qs) (Some (ty ∷ ts)) mk at i places p c h t k is =
+        let f = field_path mk i at in
+        ⊎_elim (λ d. pattern_typed q f ty places p c h.0 (subst (λ n. path_type env tys (field_path mk n at) ≡ Some ty) (first i) (t 0)) (λ x s. k x (Contains-append_left (pattern_constants q) (patterns_constants qs) x s)) d)
+        (λ d. parts_typed qs (Some ts) mk at (suc i) (after env q f places) p c h.1 (λ j. subst (λ n. path_type env tys (field_path mk n at) ≡ slice_get ts j) (next j i) (t (suc j))) (λ x s. k x (Contains-append_right (pattern_constants q) (patterns_constants qs) x s)) d)
+        (Contains-append_cases (tests env q f places) (parts_tests env mk qs (suc i) at (after env q f places)) (Is p c) is)
+    parts_typed (APattern q qs) (Some []) mk at i places p c h t k is = absurd h
+    parts_typed (APattern q qs) None mk at i places p c h t k is = absurd h
+
+  -- patterns on the arguments from the i-th on
+  args_typed : (qs : List Pattern) (ts : List TypeId) (i : ℕ) (places : Places) (p : Path) (c : Constraint) → ArePatternsOf env ts qs → ((j : ℕ) → slice_get tys (j + i) ≡ slice_get ts j) → AreKnown (args_constants qs) → Contains (args_tests env qs i places) (Is p c) → IsTyped p c
+  args_typed [] ts i places p c h t k is = absurd (none_contained (Is p c) is)
+  args_typed (q ∷ qs) (ty ∷ ts) i places p c h t k is =
+      ⊎_elim (λ d. pattern_typed q (Arg i) ty places p c h.0 (subst (λ n. slice_get tys n ≡ Some ty) (first i) (t 0)) (λ x s. k x (Contains-append_left (pattern_constants q) (args_constants qs) x s)) d)
+      (λ d. args_typed qs ts (suc i) (after env q (Arg i) places) p c h.1 (λ j. subst (λ n. slice_get tys n ≡ slice_get ts j) (next j i) (t (suc j))) (λ x s. k x (Contains-append_right (pattern_constants q) (args_constants qs) x s)) d)
+      (Contains-append_cases (tests env q (Arg i) places) (args_tests env qs (suc i) (after env q (Arg i) places)) (Is p c) is)
+  args_typed (q ∷ qs) [] i places p c h t k is = absurd h
+
+  -- a rule that fits the types tests paths that have types, by constraints on values of these
+  pub rule_typed : (r : Rule) (p : Path) (c : Constraint) → r.iflets ≡ [] → ArePatternsOf env tys r.args → AreKnown (rule_constants r) → Contains (rule_tests env r) (Is p c) → IsTyped p c
+  rule_typed r p c none h k is =
+      args_typed r.args tys 0 no_places p c h (λ j. ap (slice_get tys) (from_zero j))
+      (λ x s. k x (Contains-append_left (args_constants r.args ++ iflets_constants r.iflets) (expr_constants r.rhs) x (Contains-append_left (args_constants r.args) (iflets_constants r.iflets) x s)))
+      (subst (λ (ts : List Test). Contains ts (Is p c)) (without_iflets env r none) is)
