@@ -37,20 +37,20 @@ step_run env m args ps s = then_go (bind_all env m args ps s.0 nothing_known [])
 
 -- a step does y where tests hold, and goes on elsewhere
 abbrev DoesWhere : Environment → Meaning → List Value → List Path → SeenStep → List Test → Went → Type 0
-DoesWhere env m args ps s ts y = step_run env m args ps s ≡ cond (all_hold env (value_at env m args nothing_known) ts) y (Goes nothing_known [])
+DoesWhere env m args ps s ts y = step_run env m args ps s ≡ cond (all_hold env m (value_at env m args nothing_known) ts) y (Goes nothing_known [])
 
 matched_does : (cs : List (BindingId × Constraint)) (ts : List Test) (inner : SeenStep) (y : Went) (env : Environment) (m : Meaning) (args : List Value) (ps : List Path)
     → DoesWhere env m args ps inner ts y → DoesWhere env m args ps (all_matched cs inner) (map (is_test ps) cs ++ ts) y
 matched_does [] ts inner y env m args ps h = h
 matched_does (c ∷ cs) ts inner y env m args ps h =
-    if_inside (meets env c.1 (value_at env m args nothing_known (at ps c.0))) (all_hold env (value_at env m args nothing_known) (map (is_test ps) cs ++ ts)) _ _ _
+    if_inside (meets env m c.1 (value_at env m args nothing_known (at ps c.0))) (all_hold env m (value_at env m args nothing_known) (map (is_test ps) cs ++ ts)) _ _ _
     (goes_on (step_run env m args ps (all_matched cs inner)) ∙ matched_does cs ts inner y env m args ps h)
 
 equated_does : (es : List (BindingId × BindingId)) (inner : SeenStep) (env : Environment) (m : Meaning) (args : List Value) (ps : List Path)
     → DoesWhere env m args ps (all_equated es inner) (map (equal_test ps) es) (step_run env m args ps inner)
 equated_does [] inner env m args ps = refl
 equated_does (e ∷ es) inner env m args ps =
-    if_inside (equal_held (value_at env m args nothing_known (at ps e.0)) (value_at env m args nothing_known (at ps e.1))) (all_hold env (value_at env m args nothing_known) (map (equal_test ps) es)) _ _ _
+    if_inside (equal_held (value_at env m args nothing_known (at ps e.0)) (value_at env m args nothing_known (at ps e.1))) (all_hold env m (value_at env m args nothing_known) (map (equal_test ps) es)) _ _ _
     (goes_on (step_run env m args ps (all_equated es inner)) ∙ equated_does es inner env m args ps)
 
 -- ---- rules that are ready
@@ -65,10 +65,10 @@ rule_does env t m args bs inners f found once h =
     let ps = paths_of bs in
     matched_does f.constraints (map (equal_test ps) f.equals) (all_equated f.equals (last_step inners f)) (flat_run env m args ps f) env m args ps
     (equated_does f.equals (last_step inners f) env m args ps
-    ∙ ap (λ w. cond (all_hold env (value_at env m args nothing_known) (map (equal_test ps) f.equals)) w (Goes nothing_known [])) (last_runs env t m args bs inners f found once h))
+    ∙ ap (λ w. cond (all_hold env m (value_at env m args nothing_known) (map (equal_test ps) f.equals)) w (Goes nothing_known [])) (last_runs env t m args bs inners f found once h))
 
 -- a rule without tests holds
-pub untested_holds : (cs : List (BindingId × Constraint)) (es : List (BindingId × BindingId)) (env : Environment) (m : Meaning) (args : List Value) (ps : List Path) → no_tests cs es ≡ true → all_hold env (value_at env m args nothing_known) (map (is_test ps) cs ++ map (equal_test ps) es) ≡ true
+pub untested_holds : (cs : List (BindingId × Constraint)) (es : List (BindingId × BindingId)) (env : Environment) (m : Meaning) (args : List Value) (ps : List Path) → no_tests cs es ≡ true → all_hold env m (value_at env m args nothing_known) (map (is_test ps) cs ++ map (equal_test ps) es) ≡ true
 untested_holds [] [] env m args ps e = refl
 untested_holds [] (x ∷ es) env m args ps e = cc
 untested_holds (x ∷ cs) es env m args ps e = cc

@@ -61,20 +61,20 @@ if_within false c x y e = refl
 
 -- a step returns at y where tests hold, and nowhere else
 abbrev ReturnsWhere : Environment → Meaning → List Value → List Path → SeenStep → List Test → Option Pos → Type 0
-ReturnsWhere env m args ps s ts y = step_position env m args ps s ≡ cond (all_hold env (value_at env m args nothing_known) ts) y None
+ReturnsWhere env m args ps s ts y = step_position env m args ps s ≡ cond (all_hold env m (value_at env m args nothing_known) ts) y None
 
 matched_returns : (cs : List (BindingId × Constraint)) (ts : List Test) (inner : SeenStep) (y : Option Pos) (env : Environment) (m : Meaning) (args : List Value) (ps : List Path)
     → ReturnsWhere env m args ps inner ts y → ReturnsWhere env m args ps (all_matched cs inner) (map (is_test ps) cs ++ ts) y
 matched_returns [] ts inner y env m args ps h = h
 matched_returns (c ∷ cs) ts inner y env m args ps h =
-    if_within (meets env c.1 (value_at env m args nothing_known (at ps c.0))) (all_hold env (value_at env m args nothing_known) (map (is_test ps) cs ++ ts)) _ y
+    if_within (meets env m c.1 (value_at env m args nothing_known (at ps c.0))) (all_hold env m (value_at env m args nothing_known) (map (is_test ps) cs ++ ts)) _ y
     (alone_position env m args ps (all_matched cs inner) ∙ matched_returns cs ts inner y env m args ps h)
 
 equated_returns : (es : List (BindingId × BindingId)) (inner : SeenStep) (env : Environment) (m : Meaning) (args : List Value) (ps : List Path)
     → ReturnsWhere env m args ps (all_equated es inner) (map (equal_test ps) es) (step_position env m args ps inner)
 equated_returns [] inner env m args ps = refl
 equated_returns (e ∷ es) inner env m args ps =
-    if_within (equal_held (value_at env m args nothing_known (at ps e.0)) (value_at env m args nothing_known (at ps e.1))) (all_hold env (value_at env m args nothing_known) (map (equal_test ps) es)) _ _
+    if_within (equal_held (value_at env m args nothing_known (at ps e.0)) (value_at env m args nothing_known (at ps e.1))) (all_hold env m (value_at env m args nothing_known) (map (equal_test ps) es)) _ _
     (alone_position env m args ps (all_equated es inner) ∙ equated_returns es inner env m args ps)
 
 rule_returns : (env : Environment) (t : Term) (m : Meaning) (args : List Value) (bs : List Binding) (inners : ℕ → Option BindingId) (f : FlatRule) → FindsInners bs inners → EachOnce (paths_of bs) → IsSerializableRule env t (paths_of bs) f
@@ -83,7 +83,7 @@ rule_returns env t m args bs inners f found once h =
     let ps = paths_of bs in
     matched_returns f.constraints (map (equal_test ps) f.equals) (all_equated f.equals (last_step inners f)) (rule_position env m args ps (Some f)) env m args ps
     (equated_returns f.equals (last_step inners f) env m args ps
-    ∙ ap (λ w. cond (all_hold env (value_at env m args nothing_known) (map (equal_test ps) f.equals)) (then_position w (λ known made. Some f.pos)) None) (binds_run env t m args bs inners found once f.ordered [] h.calls nothing_known []))
+    ∙ ap (λ w. cond (all_hold env m (value_at env m args nothing_known) (map (equal_test ps) f.equals)) (then_position w (λ known made. Some f.pos)) None) (binds_run env t m args bs inners found once f.ordered [] h.calls nothing_known []))
 
 -- ---- a chain
 

@@ -11,16 +11,21 @@ use Rattle.isle_core.specs.Meaning.{Meaning}
 use Rattle.isle_core.specs.Calling.{Calling, ByTurns, ByCases, NoCall, calling, is_fallible, instance_of, impure, impure_all}
 use Rattle.isle_core.specs.Expr as expr
 use Rattle.isle_core.specs.Expr.{Expr, Exprs, NoExpr, AnExpr}
-use Rattle.isle_core.specs.BuiltRule.{CallsImpure, AllCallImpure, IsImpureRule}
-use Rattle.isle_core.specs.CalledTerms.{CalledTerm, Constructor, unless_made, called_by, called_by_all, extracted_in, called_in_iflets, called_in, called}
+use Rattle.isle_core.specs.declared.types.Term.{Term}
+use Rattle.isle_core.specs.declared.types.TermKind.{TermKind}
+use Rattle.isle_core.specs.declared.types.TermKind.TheVariants as term_kind
+use Rattle.isle_core.specs.Making.{Making, MakesVariant, MakesStruct, MakesNothing, making_kind, making_of, making}
+use Rattle.isle_core.specs.Path as path
+use Rattle.isle_core.proofs.OpenedPaths.{IsOpened, IsOpenedPlace, AreOpened, args_opened, args_open}
+use Rattle.isle_core.specs.CalledTerms.{CalledTerm, Constructor, is_made_kind, is_made_term, unless_made, called_by, called_by_all, extracted_in, called_in_iflets, called_in, called}
 use Rattle.isle_core.specs.Lawful.{AnswersFit, IsLawful}
-use Rattle.isle_core.specs.Path.{Path, Nowhere, Arg, Called, Inner, Paths, paths_of}
+use Rattle.isle_core.specs.Path.{Path, Nowhere, Called, Inner, MadeVariant, MadeStruct, Paths, paths_of}
 use Rattle.isle_core.specs.Pattern.{Pattern}
 use Rattle.isle_core.specs.Rule.{Environment, Rule, rules_of}
 use Rattle.isle_core.specs.RulePaths.{rules_paths}
 use Rattle.isle_core.specs.StandsFor.{StandsFor}
-use Rattle.isle_core.specs.RightSide.{path_or, call_path, paths as all_paths}
-use Rattle.isle_core.specs.RulePaths.{arg_paths, with_inner, expr_paths, exprs_paths, rule_paths}
+use Rattle.isle_core.specs.RightSide.{path_or, term_path, call_path, paths as all_paths}
+use Rattle.isle_core.specs.RulePaths.{args_paths, with_inner, expr_paths, exprs_paths, rule_paths}
 use Rattle.isle_core.specs.Tests.{Places, no_places, rule_places}
 use Rattle.isle_core.proofs.TurnKinds.{called_here}
 use Rattle.isle_core.proofs.Contained.{head_contained, tail_contained, contained_cases, none_contained}
@@ -32,7 +37,6 @@ use Rattle.isle_simulation.proofs.BlockCalls.{IsBoundCall}
 use Rattle.isle_simulation.specs.Emitted.{AnswersBindings}
 use Rattle.isle_simulation.specs.Statements.{callee_of}
 use Rattle.isle_codegen.specs.CalledBy.{GoesTo, IsCalledBy}
-use Rattle.isle_sema.proofs.SerializableRules.{IsArgument, args_argument}
 
 -- ---- the calls among paths
 
@@ -53,9 +57,12 @@ both_of terms xs ys h l term qs k c = ⊎_elim (h term qs k) (l term qs k) (Cont
 wider : (terms more : List CalledTerm) (ps : List Path) → ((t : CalledTerm) → Contains terms t → Contains more t) → AreOf terms ps → AreOf more ps
 wider terms more ps among h term qs k c = among (constructed term) (h term qs k c)
 
-argument_apart : (o : Option Path) → IsArgument o → (term : TermId) (qs : Paths) (k : ℕ) → path_or o ≡ Called term qs k → ⊥
-argument_apart None h term qs k e = cc
-argument_apart (Some p) h term qs k e = let same : Arg h.0 ≡ Called term qs k = sym h.1 ∙ e in cc
+opened_apart : (p : Path) → IsOpened p → (term : TermId) (qs : Paths) (k : ℕ) → p ≡ Called term qs k → ⊥
+opened_apart p h term qs k e = subst IsOpened e h
+
+place_apart : (o : Option Path) → IsOpenedPlace o → (term : TermId) (qs : Paths) (k : ℕ) → path_or o ≡ Called term qs k → ⊥
+place_apart None h term qs k e = cc
+place_apart (Some p) h term qs k e = opened_apart p h term qs k e
 
 same_term : (a b : TermId) (ps qs : Paths) (j k : ℕ) → Called a ps j ≡ Called b qs k → a ≡ b
 same_term a b ps qs j k e = cc
@@ -70,41 +77,60 @@ call_of true terms term ps j here other qs k c =
 call_of false terms term ps j here other qs k c =
     ⊎_elim (λ e. subst (λ x. Contains terms (constructed x)) (same_term term other ps qs j k e) here) (λ d. absurd (none_contained (Called other qs k) d)) (contained_cases (Called term ps j) [] (Called other qs k) c)
 
+-- a made value, and its inner value, are no calls
+made_of : (b : Bool) (terms : List CalledTerm) (p : Path) → ((term : TermId) (qs : Paths) (k : ℕ) → p ≡ Called term qs k → ⊥) → AreOf terms (cond b (p ∷ Inner p ∷ []) (p ∷ []))
+made_of true terms p apart other qs k c = ⊎_elim (λ e. absurd (apart other qs k e)) (λ d. none_of terms (Inner p) (inner_apart p) other qs k d) (contained_cases p (Inner p ∷ []) (Called other qs k) c)
+made_of false terms p apart other qs k c = none_of terms p apart other qs k c
+
+not_made : (o : Option Term) → making_of o ≡ MakesNothing → is_made_term o ≡ false
+not_made None e = refl
+not_made (Some t) e = of_kind t.kind e
+  where
+    of_kind : (k : TermKind) → making_kind k ≡ MakesNothing → is_made_kind k ≡ false
+    of_kind (term_kind.Decl pure multi partial recursive constructor extractor) h = refl
+    of_kind (term_kind.Variant ty variant) h = cc
+    of_kind (term_kind.Struct ty) h = cc
+
+term_of : (env : Environment) (mk : Making) (terms : List CalledTerm) (term : TermId) (ps : Paths) (j : ℕ) → making env term ≡ mk → ((t : CalledTerm) → Contains (unless_made env Constructor term) t → Contains terms t) → AreOf terms (with_inner (calling env term) (term_path mk term ps j))
+term_of env MakesNothing terms term ps j e h = call_of (is_fallible (calling env term)) terms term ps j (h (constructed term) (called_here env term (not_made (slice_get env.terms term.0) e)))
+term_of env (MakesVariant ty variant) terms term ps j e h = made_of (is_fallible (calling env term)) terms (MadeVariant ty variant ps) (λ other qs k d. cc)
+term_of env (MakesStruct ty) terms term ps j e h = made_of (is_fallible (calling env term)) terms (MadeStruct ty ps) (λ other qs k d. cc)
+
 mutual
-  expr_of : (e : Expr) (env : Environment) (places : Places) (n : ℕ) → CallsImpure env.terms e → ((y : ℕ) → IsArgument (places y)) → AreOf (called_by env e) (expr_paths env e places n)
-  expr_of (expr.Var of x) env places n i h = none_of [] (path_or (places x.0)) (argument_apart (places x.0) (h x.0))
-  expr_of (expr.ConstBool b) env places n i h = none_of [] _ (λ term qs k e. cc)
-  expr_of (expr.ConstInt of v) env places n i h = none_of [] _ (λ term qs k e. cc)
-  expr_of (expr.Term of term es) env places n i h =
+  expr_of : (e : Expr) (env : Environment) (places : Places) (n : ℕ) → AreOpened places → AreOf (called_by env e) (expr_paths env e places n)
+  expr_of (expr.Var of x) env places n h = none_of [] (path_or (places x.0)) (place_apart (places x.0) (h x.0))
+  expr_of (expr.ConstBool b) env places n h = none_of [] _ (λ term qs k e. cc)
+  expr_of (expr.ConstInt of v) env places n h = none_of [] _ (λ term qs k e. cc)
+  expr_of (expr.Term of term es) env places n h =
       let own = unless_made env Constructor term in
       both_of (called_by_all env es ++ own) (exprs_paths env es places n) (with_inner (calling env term) (call_path env term (all_paths env es places n) (n + impure_all env es)))
-      (wider (called_by_all env es) (called_by_all env es ++ own) (exprs_paths env es places n) (λ t c. Contains-append_left (called_by_all env es) own t c) (exprs_of es env places n i.1 h))
-      (call_of (is_fallible (calling env term)) (called_by_all env es ++ own) term (all_paths env es places n) (instance_of (calling env term) (n + impure_all env es)) (Contains-append_right (called_by_all env es) own (constructed term) (called_here env term i.0)))
-  expr_of (expr.ConstPrim of name) env places n i h = none_of [] Nowhere (λ term qs k e. cc)
-  expr_of (expr.Let of bindings inner) env places n i h = none_of (called_by env (expr.Let of bindings inner)) Nowhere (λ term qs k e. cc)
+      (wider (called_by_all env es) (called_by_all env es ++ own) (exprs_paths env es places n) (λ t c. Contains-append_left (called_by_all env es) own t c) (exprs_of es env places n h))
+      (term_of env (making env term) (called_by_all env es ++ own) term (all_paths env es places n) (instance_of (calling env term) (n + impure_all env es)) refl (λ t c. Contains-append_right (called_by_all env es) own t c))
+  expr_of (expr.ConstPrim of name) env places n h = none_of [] (path.ConstPrim name) (λ term qs k e. cc)
+  expr_of (expr.Let of bindings inner) env places n h = none_of (called_by env (expr.Let of bindings inner)) Nowhere (λ term qs k e. cc)
 
-  exprs_of : (es : Exprs) (env : Environment) (places : Places) (n : ℕ) → AllCallImpure env.terms es → ((y : ℕ) → IsArgument (places y)) → AreOf (called_by_all env es) (exprs_paths env es places n)
-  exprs_of NoExpr env places n i h term qs k c = absurd (none_contained (Called term qs k) c)
-  exprs_of (AnExpr e es) env places n i h term qs k c =
+  exprs_of : (es : Exprs) (env : Environment) (places : Places) (n : ℕ) → AreOpened places → AreOf (called_by_all env es) (exprs_paths env es places n)
+  exprs_of NoExpr env places n h term qs k c = absurd (none_contained (Called term qs k) c)
+  exprs_of (AnExpr e es) env places n h term qs k c =
       both_of (called_by env e ++ called_by_all env es) (expr_paths env e places n) (exprs_paths env es places (n + impure env e))
-      (wider (called_by env e) (called_by env e ++ called_by_all env es) (expr_paths env e places n) (λ t d. Contains-append_left (called_by env e) (called_by_all env es) t d) (expr_of e env places n i.0 h))
-      (wider (called_by_all env es) (called_by env e ++ called_by_all env es) (exprs_paths env es places (n + impure env e)) (λ t d. Contains-append_right (called_by env e) (called_by_all env es) t d) (exprs_of es env places (n + impure env e) i.1 h)) term qs k c
+      (wider (called_by env e) (called_by env e ++ called_by_all env es) (expr_paths env e places n) (λ t d. Contains-append_left (called_by env e) (called_by_all env es) t d) (expr_of e env places n h))
+      (wider (called_by_all env es) (called_by env e ++ called_by_all env es) (exprs_paths env es places (n + impure env e)) (λ t d. Contains-append_right (called_by env e) (called_by_all env es) t d) (exprs_of es env places (n + impure env e) h)) term qs k c
 
-args_of : (terms : List CalledTerm) (qs : List Pattern) (i : ℕ) → AreOf terms (arg_paths qs i)
-args_of terms [] i term ps k c = absurd (none_contained (Called term ps k) c)
-args_of terms (q ∷ qs) i term ps k c = ⊎_elim (λ e. let bad : Arg i ≡ Called term ps k = e in cc) (args_of terms qs (suc i) term ps k) (contained_cases (Arg i) (arg_paths qs (suc i)) (Called term ps k) c)
+opened_of : (terms : List CalledTerm) (ps : List Path) → AllByRecursion IsOpened ps → AreOf terms ps
+opened_of terms [] h term qs k c = absurd (none_contained (Called term qs k) c)
+opened_of terms (p ∷ ps) h term qs k c = ⊎_elim (λ e. absurd (opened_apart p h.0 term qs k e)) (opened_of terms ps h.1 term qs k) (contained_cases p ps (Called term qs k) c)
 
-rules_of_called : (rules : List Rule) (env : Environment) (n : ℕ) → AllByRecursion (IsImpureRule env.terms) rules → AreOf (called env rules) (rules_paths env rules n)
-rules_of_called [] env n i term qs k c = absurd (none_contained (Called term qs k) c)
-rules_of_called (r ∷ rules) env n i term qs k c =
+rules_of_called : (rules : List Rule) (env : Environment) (n : ℕ) → AreOf (called env rules) (rules_paths env rules n)
+rules_of_called [] env n term qs k c = absurd (none_contained (Called term qs k) c)
+rules_of_called (r ∷ rules) env n term qs k c =
     let all = called env (r ∷ rules) in
     let before = extracted_in env r.args ++ called_in_iflets env r.iflets in
     both_of all (rule_paths env r n) (rules_paths env rules (n + impure env r.rhs))
-    (both_of all (arg_paths r.args 0) (expr_paths env r.rhs (rule_places env r) n) (args_of all r.args 0)
+    (both_of all (args_paths env r.args 0) (expr_paths env r.rhs (rule_places env r) n) (opened_of all (args_paths env r.args 0) (args_open env r.args 0))
     (wider (called_by env r.rhs) all (expr_paths env r.rhs (rule_places env r) n)
     (λ t d. Contains-append_left (called_in env r) (called env rules) t (Contains-append_right before (called_by env r.rhs) t d))
-    (expr_of r.rhs env (rule_places env r) n i.0 (args_argument env r.args 0 no_places (λ z. tt)))))
-    (wider (called env rules) all (rules_paths env rules (n + impure env r.rhs)) (λ t d. Contains-append_right (called_in env r) (called env rules) t d) (rules_of_called rules env (n + impure env r.rhs) i.1)) term qs k c
+    (expr_of r.rhs env (rule_places env r) n (args_opened env r.args 0 no_places (λ z. tt)))))
+    (wider (called env rules) all (rules_paths env rules (n + impure env r.rhs)) (λ t d. Contains-append_right (called_in env r) (called env rules) t d) (rules_of_called rules env (n + impure env r.rhs))) term qs k c
 
 -- ---- bindings
 
@@ -119,10 +145,10 @@ answers_each env m (binding.Constructor term parameters k ∷ bs) h = (h 0 term 
 answers_each env m (b ∷ bs) h = answers_each env m bs (λ i x ps j e. h (suc i) x ps j e)
 
 -- a meaning that is lawful for a term answers the calls of its rule set
-pub bindings_answered : (env : Environment) (id : TermId) (m : Meaning) (s : RuleSet) → StandsFor env s (rules_of env id) → AllByRecursion (IsImpureRule env.terms) (rules_of env id) → IsLawful env id m → AnswersBindings env m s.bindings
-bindings_answered env id m s stands impures lawful = answers_each env m s.bindings (λ i term parameters k e.
+pub bindings_answered : (env : Environment) (id : TermId) (m : Meaning) (s : RuleSet) → StandsFor env s (rules_of env id) → IsLawful env id m → AnswersBindings env m s.bindings
+bindings_answered env id m s stands lawful = answers_each env m s.bindings (λ i term parameters k e.
     let at_i = path_before s.bindings i (binding.Constructor term parameters k) e in
-    lawful.answers (constructed term) (rules_of_called (rules_of env id) env 0 impures term _ k ((stands.paths _).0 (place_contained (paths_of s.bindings) i _ at_i))))
+    lawful.answers (constructed term) (rules_of_called (rules_of env id) env 0 term _ k ((stands.paths _).0 (place_contained (paths_of s.bindings) i _ at_i))))
 
 -- ---- the calls of a function
 
@@ -132,11 +158,11 @@ goes_there kind (ByCases to of) callee is e = absurd is
 goes_there kind NoCall callee is e = absurd is
 
 -- a call among the bindings of a rule set that stands for a term's rules is called by one of them
-pub bound_called : (env : Environment) (id : TermId) (s : RuleSet) (callee : Callee) → StandsFor env s (rules_of env id) → AllByRecursion (IsImpureRule env.terms) (rules_of env id) → IsBoundCall env s.bindings callee → IsCalledBy env id callee
-bound_called env id s callee stands impures b =
+pub bound_called : (env : Environment) (id : TermId) (s : RuleSet) (callee : Callee) → StandsFor env s (rules_of env id) → IsBoundCall env s.bindings callee → IsCalledBy env id callee
+bound_called env id s callee stands b =
     let at_place = path_before s.bindings b.place (binding.Constructor b.term b.parameters b.instance) b.bound in
     record {
       call = constructed b.term;
-      among = rules_of_called (rules_of env id) env 0 impures b.term _ b.instance ((stands.paths _).0 (place_contained (paths_of s.bindings) b.place _ at_place));
+      among = rules_of_called (rules_of env id) env 0 b.term _ b.instance ((stands.paths _).0 (place_contained (paths_of s.bindings) b.place _ at_place));
       goes = goes_there b.kind (calling env b.term) callee b.external b.is;
     }

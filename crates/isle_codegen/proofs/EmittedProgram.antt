@@ -38,10 +38,9 @@ use Rattle.isle_codegen.specs.Headline.{FunctionsMean}
 use Rattle.isle_codegen.proofs.EmittedNames.{emitted_names, distinct_names}
 use Rattle.isle_codegen.proofs.MeanRules.{HasFunction, has_function, means_rules, of_term}
 use Rattle.isle_codegen.proofs.CalledTerms.{bound_called}
-use Rattle.isle_sema.proofs.TypedRules.{typed_impure, typed_of}
+use Rattle.isle_sema.proofs.TypedRules.{typed_of}
 use Rattle.isle_sema.specs.TypedRule.{IsRuleOf}
 use Rattle.isle_codegen.proofs.Answerable.{answerable}
-use Rattle.isle_core.specs.BuiltRule.{IsImpureRule}
 use Rattle.isle_simulation.proofs.GivenFunctions.{emitted_well_formed, has_shape, of_its_term, function_calls}
 
 -- each function is of its term
@@ -67,10 +66,10 @@ arguments_of env (ty ∷ tys) h =
     (v.0 ∷ vs.0, (v.1, vs.1))
 
 -- each function is made from a block
-are_from_blocks : (files : Files) (env : Environment) (sets : List (TermId × RuleSet)) (fs : List Function) → ((id : TermId) → AllByRecursion (IsImpureRule env.terms) (rules_of env id)) → AllByRecursion (λ (s : TermId × RuleSet). StandsFor env s.1 (rules_of env s.0)) sets → AreEmitted files env sets fs
+are_from_blocks : (files : Files) (env : Environment) (sets : List (TermId × RuleSet)) (fs : List Function) → AllByRecursion (λ (s : TermId × RuleSet). StandsFor env s.1 (rules_of env s.0)) sets → AreEmitted files env sets fs
     → AreFromBlocks files env (map (λ (s : TermId × RuleSet). s.0) sets) fs
-are_from_blocks files env [] [] impures stand h = tt
-are_from_blocks files env (s ∷ sets) (f ∷ fs) impures stand h = (
+are_from_blocks files env [] [] stand h = tt
+are_from_blocks files env (s ∷ sets) (f ∷ fs) stand h = (
   record {
     term = h.0.term;
     found = h.0.found;
@@ -81,12 +80,12 @@ are_from_blocks files env (s ∷ sets) (f ∷ fs) impures stand h = (
     means = h.0.means;
     shape = has_shape files env h.0.term s.1.bindings h.0.block f h.0.lawful h.0.single h.0.once h.0.given;
     statements = h.0.given;
-    calls = λ callee c. bound_called env s.0 s.1 callee stand.0 (impures s.0) (function_calls files env h.0.term s.1.bindings h.0.block f h.0.lawful h.0.single h.0.once h.0.given callee c);
+    calls = λ callee c. bound_called env s.0 s.1 callee stand.0 (function_calls files env h.0.term s.1.bindings h.0.block f h.0.lawful h.0.single h.0.once h.0.given callee c);
   },
-  are_from_blocks files env sets fs impures stand.1 h.1,
+  are_from_blocks files env sets fs stand.1 h.1,
 )
-are_from_blocks files env [] (f ∷ fs) impures stand h = absurd h
-are_from_blocks files env (s ∷ sets) [] impures stand h = absurd h
+are_from_blocks files env [] (f ∷ fs) stand h = absurd h
+are_from_blocks files env (s ∷ sets) [] stand h = absurd h
 
 some_same : (a b : Term) → Some a ≡ Some b → a ≡ b
 some_same a b e = cc
@@ -155,7 +154,7 @@ module _ (defs : List Def) (files : Files) (env : Environment) (typed : Typed de
       record {
         names = ap (map (λ (f : Function). f.term)) e ∙ names_of;
         declared = subst (λ (xs : List Function). AreDeclared files env (with_rules env) xs) (sym e) (subst (λ (ids : List TermId). AreDeclared files env ids fs) stand.ids (are_declared files env sets fs emitted));
-        blocks = subst (λ (xs : List Function). AreFromBlocks files env (with_rules env) xs) (sym e) (subst (λ (ids : List TermId). AreFromBlocks files env ids fs) stand.ids (are_from_blocks files env sets fs (λ id. recursion_from_All (IsImpureRule env.terms) (rules_of env id) (of_term (IsImpureRule env.terms) env id (typed_impure defs env typed))) (recursion_from_All (λ (s : TermId × RuleSet). StandsFor env s.1 (rules_of env s.0)) sets stand.stand) emitted));
+        blocks = subst (λ (xs : List Function). AreFromBlocks files env (with_rules env) xs) (sym e) (subst (λ (ids : List TermId). AreFromBlocks files env ids fs) stand.ids (are_from_blocks files env sets fs (recursion_from_All (λ (s : TermId × RuleSet). StandsFor env s.1 (rules_of env s.0)) sets stand.stand) emitted));
         mean = λ id c. means_rules defs files env p id typed clean c (subst (λ (xs : List Function). HasFunction files env xs id) (sym e) (function_for id c));
         meant = λ id c. meant_of names id (function_for id c).emitted.term (function_for id c).emitted.found;
       }

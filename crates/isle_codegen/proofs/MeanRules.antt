@@ -1,6 +1,6 @@
 -- The functions of an environment mean its rules.
-use Rattle.std.proofs.Common.{◌≡◌, ℕ, suc, List, [], ◌∷◌, length, map, Bool, true, false, cond, Option, Some, refl, sym, ap, ◌∙◌, subst, ⊎_elim}
-use Rattle.std.specs.Prelude.{Contains, All, IsSomeAnd, filter, option_map, ◌==◌}
+use Rattle.std.proofs.Common.{◌≡◌, ℕ, suc, List, [], ◌∷◌, length, map, Bool, true, false, cond, Option, Some, None, refl, sym, ap, ◌∙◌, subst, ⊎_elim}
+use Rattle.std.specs.Prelude.{Contains, All, IsSome, IsSomeAnd, filter, option_map, ◌==◌}
 use Rattle.std.proofs.lemmas.List.Elements.{All-from_recursion, recursion_from_All}
 use Rattle.std.proofs.lemmas.Slice.Eq.{bytes_eq-Decides}
 use Rattle.std.specs.List.{AllByRecursion, IsDistinct}
@@ -13,7 +13,9 @@ use Rattle.isle_core.specs.declared.types.ReturnKind.{ReturnKind}
 use Rattle.isle_core.specs.declared.types.Term.{Term}
 use Rattle.isle_core.specs.Value.{Value, End, Ran}
 use Rattle.isle_core.specs.Meaning.{Meaning}
-use Rattle.isle_core.specs.HasType.{HaveTypes}
+use Rattle.isle_core.specs.HasType.{HasType, HaveTypes}
+use Rattle.isle_core.specs.Having.{const_of}
+use Rattle.isle_core.specs.PatternType.{FitsTerm}
 use Rattle.isle_core.specs.Lawful.{IsLawful}
 use Rattle.isle_core.specs.HighestMatch.{outcome_of}
 use Rattle.isle_core.specs.Calling.{kind_of, AnswersOnce}
@@ -21,9 +23,9 @@ use Rattle.isle_core.specs.Outcome.{Prescription, Prescribed}
 use Rattle.isle_core.specs.Path.{paths_of}
 use Rattle.isle_core.specs.BlockRun.{block_outcome}
 use Rattle.isle_core.specs.StandsFor.{StandsFor}
-use Rattle.isle_core.specs.Terms.{term_name, with_rules}
+use Rattle.isle_core.specs.Terms.{sym_text, term_name, with_rules}
 use Rattle.isle_core.specs.Rule.{Environment, Rule, rules_of}
-use Rattle.isle_core.specs.BuiltRule.{IsBuiltRule, IsImpureRule}
+use Rattle.isle_core.specs.BuiltRule.{IsBuiltRule, CallsBuiltTerms}
 use Rattle.isle_core.specs.Scope.{IsScopedRule}
 use Rattle.isle_core.proofs.Contained.{head_contained, tail_contained, contained_cases, none_contained}
 use Rattle.isle_core.proofs.OutcomeOf.{outcome_prescribed, highest_is_one}
@@ -34,7 +36,8 @@ use Rattle.isle_printer.specs.Bytes.{same_bytes}
 use Rattle.isle_printer.proofs.Bytes.{same_bytes_refl, same_bytes_sound}
 use Rattle.isle_ast.specs.Tree.{Def}
 use Rattle.isle_sema.specs.Typing.{Typed}
-use Rattle.isle_sema.proofs.TypedRules.{typed_built, typed_scoped, typed_impure, typed_args}
+use Rattle.isle_sema.proofs.NamesApart.{variants_apart}
+use Rattle.isle_sema.proofs.TypedRules.{typed_built, typed_scoped, typed_terms, typed_patterns}
 use Rattle.isle_checks.specs.CheckList.{IsClean}
 use Rattle.isle_codegen.proofs.RulesApart.{rules_apart}
 use Rattle.isle_tree.specs.Program.{Function, Program}
@@ -108,11 +111,9 @@ has_function files env (s ∷ sets) [] id e st d c = absurd e
 
 -- ---- it gives what the rules prescribe
 
-as_many : (env : Environment) (args : List Value) (tys : List TypeId) → HaveTypes env args tys → length args ≡ length tys
-as_many env [] [] h = refl
-as_many env (v ∷ args) (ty ∷ tys) h = ap suc (as_many env args tys h.1)
-as_many env [] (ty ∷ tys) h = absurd h
-as_many env (v ∷ args) [] h = absurd h
+some_there : {A : Type 0} (o : Option A) (P : A → Type 0) → IsSomeAnd o P → IsSome o
+some_there None P h = absurd h
+some_there (Some x) P h = refl
 
 -- what a run with the outcome gives
 gives_as : (env : Environment) (t : Term) (o : Prescription) → AnswersOnce (kind_of t.kind) → AreImpure env o.calls → IsSomeAnd (ran_of t o) (GivesAs env (kind_of t.kind) o)
@@ -144,22 +145,30 @@ module _ (defs : List Def) (files : Files) (env : Environment) (p : Program) (id
       → block_outcome env m args (paths_of h.set.bindings) h.emitted.block kind ≡ outcome_of env m args (rules_of env id) kind []
   same_outcome args m types lawful =
       h.emitted.means m args kind
-      ∙ set_means env m args (paths_of h.set.bindings) (rules_of env id) h.set.rules kind
-      (of_term IsBuiltRule env id (typed_built defs env typed)) (of_term IsScopedRule env id (typed_scoped defs env typed)) (of_term (IsImpureRule env.terms) env id (typed_impure defs env typed)) lawful.answers
-      (λ k d lt. typed_args defs env id the_term typed h.emitted.found k d lt ∙ sym (as_many env args the_term.arg_tys types)) h.stands.flat
+      ∙ set_means env m args the_term.arg_tys (paths_of h.set.bindings) (rules_of env id) h.set.rules kind (variants_apart defs env typed) types
+      (record {
+        built = all_of (IsBuiltRule env.terms) (typed_built defs env typed);
+        scoped = all_of IsScopedRule (typed_scoped defs env typed);
+        terms = all_of (CallsBuiltTerms env.terms) (typed_terms defs env typed);
+        typed = recursion_from_All (FitsTerm env the_term) (rules_of env id) (typed_patterns defs env id the_term typed h.emitted.found);
+        served = record { answers = lawful.answers; named = λ ty name c. some_there (const_of m (sym_text env name)) (λ v. HasType env v ty) (lawful.named ty name c) };
+      }) h.stands.flat
+    where
+      all_of : (P : Rule → Type 0) → All P env.rules → AllByRecursion P (rules_of env id)
+      all_of P k = recursion_from_All P (rules_of env id) (of_term P env id k)
 
   runs : (args : List Value) (m : Meaning) → HaveTypes env args the_term.arg_tys → IsLawful env id m → run p (term_name env id) args m ≡ ran_of the_term (outcome_of env m args (rules_of env id) kind [])
   runs args m types lawful =
       let named = name_of_term env id the_term h.emitted.found in
       ap (λ (n : List ℕ). run p n args m) named
       ∙ runs_as_block files env the_term h.set.bindings h.emitted.block h.function h.emitted.lawful h.emitted.single h.emitted.once h.emitted.given p args m
-      (ap (λ (n : List ℕ). function_of n p.fns) (sym named) ∙ h.found) types (bindings_answered env id m h.set h.stands (recursion_from_All (IsImpureRule env.terms) (rules_of env id) (of_term (IsImpureRule env.terms) env id (typed_impure defs env typed))) lawful)
+      (ap (λ (n : List ℕ). function_of n p.fns) (sym named) ∙ h.found) types (bindings_answered env id m h.set h.stands lawful)
       ∙ ap (ran_of the_term) (same_outcome args m types lawful)
 
   gives_outcome : (args : List Value) (m : Meaning) → HaveTypes env args the_term.arg_tys → IsLawful env id m → GivesOutcome env p id the_term args m
   gives_outcome args m types lawful =
       let outcome = outcome_of env m args (rules_of env id) kind [] in
-      let apart = rules_apart defs env id the_term typed clean listed h.emitted.found h.emitted.once m args (as_many env args the_term.arg_tys types) in
+      let apart = rules_apart defs env id the_term typed clean listed h.emitted.found h.emitted.once m args lawful types in
       let prescribed : Prescribed env m args (rules_of env id) kind [] outcome = outcome_prescribed env m args (rules_of env id) kind [] (highest_is_one env m args (rules_of env id) apart) in
       record {
         outcome = outcome;

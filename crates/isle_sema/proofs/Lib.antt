@@ -19,6 +19,7 @@ pub mod Judgements
 pub mod TypedExprs
 pub mod RuleLaws
 pub mod TypedRules
+pub mod NamesApart
 pub mod TypedTerms
 pub mod RuleRoots
 pub mod RulePlaces

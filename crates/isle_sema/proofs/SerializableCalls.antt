@@ -29,7 +29,8 @@ use Rattle.isle_core.specs.Rule.{Environment}
 use Rattle.isle_core.specs.StandsFor.{EachOnce}
 use Rattle.isle_core.specs.Terms.{sym_text, impure_callee}
 use Rattle.isle_core.specs.OrderedCalls.{if_ordered, calls, calls_all}
-use Rattle.isle_core.specs.RightSide.{path_or, call_path, answer_path, path, paths as all_paths}
+use Rattle.isle_core.specs.Making.{MakesNothing, making_kind, making_of, making}
+use Rattle.isle_core.specs.RightSide.{path_or, term_path, call_path, answer_path, path, paths as all_paths}
 use Rattle.isle_core.specs.RulePaths.{with_inner, expr_paths, exprs_paths}
 use Rattle.isle_core.specs.Tests.{Places}
 use Rattle.isle_core.proofs.CallOccurrences.{AreRising, occurrence as occurrence_of}
@@ -48,6 +49,16 @@ record TakesTurns (env : Environment) (allowed : Bool) (term : TermId) (t : Term
   is : calling env term ≡ ByTurns (External name) (kind_of t.kind)
   fits : IsTrue (may_be_nothing (kind_of t.kind)) → IsTrue allowed
   once : AnswersOnce (kind_of t.kind)
+  makes : making env term ≡ MakesNothing
+
+makes_nothing : (allowed : Bool) (k : TermKind) → IsExternalKind allowed k → making_kind k ≡ MakesNothing
+makes_nothing allowed (kind.Decl pure multi partial recursive by extractor) h = refl
+makes_nothing allowed (kind.Variant ty variant) h = absurd h
+makes_nothing allowed (kind.Struct ty) h = absurd h
+
+-- the path of what is called
+call_is : (env : Environment) (term : TermId) (ps : Paths) (n : ℕ) → making env term ≡ MakesNothing → call_path env term ps n ≡ Called term ps (instance_of (calling env term) n)
+call_is env term ps n e = ap (λ mk. term_path mk term ps (instance_of (calling env term) n)) e
 
 by_kind : (env : Environment) (allowed : Bool) (t : Term) (k : TermKind) → IsExternalKind allowed k → (name : List ℕ) × (calling_by (kind_of k) (impure_callee env t k) (pure_callee env t k) ≡ ByTurns (External name) (kind_of k)) × (IsTrue (may_be_nothing (kind_of k)) → IsTrue allowed) × AnswersOnce (kind_of k)
 by_kind env allowed t (kind.Decl false false true false (constructor.External func) extractor) h = (sym_text env func, refl, h, tt)
@@ -55,7 +66,7 @@ by_kind env allowed t (kind.Decl false false false false (constructor.External f
 by_kind env allowed t k h = absurd h
 
 turns : (env : Environment) (allowed : Bool) (term : TermId) (t : Term) → slice_get env.terms term.0 ≡ Some t → IsExternalKind allowed t.kind → TakesTurns env allowed term t
-turns env allowed term t there h = let k = by_kind env allowed t t.kind h in record { name = k.0; is = ap (calling_of env) there ∙ k.1; fits = k.2; once = k.3 }
+turns env allowed term t there h = let k = by_kind env allowed t t.kind h in record { name = k.0; is = ap (calling_of env) there ∙ k.1; fits = k.2; once = k.3; makes = ap making_of there ∙ makes_nothing allowed t.kind h }
 
 -- ---- in which places variables stand
 
@@ -83,8 +94,11 @@ module _ (env : Environment) (t : Term) (allowed : Bool) (args : List Pattern) (
     path_typed (expr.Term of term es) n ty h =
         let c = some_of (slice_get env.terms term.0) _ h.1 in
         let k = turns env allowed term c.0 c.1 c.2.0 in
-        subst (λ d. IsPathOf env t (answer_path d (call_path env term (all_paths env es places n) (n + impure_all env es))) ty) (sym k.is)
-        (answer_typed (kind_of c.0.kind) k.once term c.0 k.name (all_paths env es places n) _ ty k.is c.1 c.2.1 (paths_typed es n c.0.arg_tys c.2.2))
+        let qs = all_paths env es places n in
+        let i = n + impure_all env es in
+        subst (λ x. IsPathOf env t (answer_path (calling env term) x) ty) (sym (call_is env term qs i k.makes))
+        (subst (λ d. IsPathOf env t (answer_path d (Called term qs (instance_of d i))) ty) (sym k.is)
+        (answer_typed (kind_of c.0.kind) k.once term c.0 k.name (all_paths env es places n) _ ty k.is c.1 c.2.1 (paths_typed es n c.0.arg_tys c.2.2)))
     path_typed (expr.ConstPrim of name) n ty h = absurd h
     path_typed (expr.Let of bindings inner) n ty h = absurd h
 
@@ -117,7 +131,10 @@ module _ (env : Environment) (t : Term) (allowed : Bool) (args : List Pattern) (
         let k = turns env allowed term c.0 c.1 c.2.0 in
         let q = call_path env term (all_paths env es places n) (n + impure_all env es) in
         let among : Contains (calls_all env es places n ++ if_ordered (calling env term) q) q = Contains-append_right (calls_all env es places n) (if_ordered (calling env term) q) q (subst (λ d. Contains (if_ordered d q) q) (sym k.is) (head_contained q [])) in
-        subst (λ d. StandsOn done (answer_path d q)) (sym k.is) (stands_by (kind_of c.0.kind) (External k.name) done term (all_paths env es places n) _ (a q among))
+        let call = call_is env term (all_paths env es places n) (n + impure_all env es) k.makes in
+        let made = Called term (all_paths env es places n) (instance_of (calling env term) (n + impure_all env es)) in
+        subst (λ x. StandsOn done (answer_path (calling env term) x)) (sym call)
+        (subst (λ d. StandsOn done (answer_path d made)) (sym k.is) (stands_by (kind_of c.0.kind) (External k.name) done term (all_paths env es places n) _ (subst (Contains done) call (a q among))))
     path_stands (expr.ConstPrim of name) n ty done h a = absurd h
     path_stands (expr.Let of bindings inner) n ty done h a = absurd h
 
@@ -175,11 +192,14 @@ module _ (env : Environment) (t : Term) (allowed : Bool) (args : List Pattern) (
         let q = call_path env term qs (n + impure_all env es) in
         serializable_more ps done (calls_all env es places n) (if_ordered (calling env term) q)
         (all_calls_serializable es n c.0.arg_tys ps done c.2.2 same fit (λ p d. a p (Contains-append_left (exprs_paths env es places n) (with_inner (calling env term) q) p d)))
-        (λ later among made. subst (λ d. AreSerializableCalls env t ps later (if_ordered d q)) (sym k.is) (
+        (λ later among made.
+        let call = call_is env term qs (n + impure_all env es) k.makes in
+        let r = Called term qs (instance_of (calling env term) (n + impure_all env es)) in
+        subst (λ x. AreSerializableCalls env t ps later (if_ordered (calling env term) x)) (sym call) (subst (λ d. AreSerializableCalls env t ps later (if_ordered d r)) (sym k.is) (
           one_serializable ps later term c.0 k qs _ c.1 (paths_typed es n c.0.arg_tys c.2.2) (paths_stand es n c.0.arg_tys later c.2.2 made) same fit
-              (λ p d. a p (Contains-append_right (exprs_paths env es places n) (with_inner (calling env term) q) p (subst (λ x. Contains (with_inner x q) p) (sym k.is) d))),
+              (λ p d. a p (Contains-append_right (exprs_paths env es places n) (with_inner (calling env term) q) p (subst (λ x. Contains (with_inner (calling env term) x) p) (sym call) (subst (λ x. Contains (with_inner x r) p) (sym k.is) d)))),
           tt,
-        ))
+        )))
     calls_serializable (expr.ConstPrim of name) n ty ps done h same fit a = absurd h
     calls_serializable (expr.Let of bindings inner) n ty ps done h same fit a = absurd h
 
@@ -213,9 +233,10 @@ module _ (env : Environment) (t : Term) (allowed : Bool) (args : List Pattern) (
     calls_rise (expr.Term of term es) n ty more h r =
         let c = some_of (slice_get env.terms term.0) _ h.1 in
         let k = turns env allowed term c.0 c.1 c.2.0 in
-        subst (λ d. AreRising n ((calls_all env es places n ++ if_ordered d (Called term (all_paths env es places n) (instance_of d (n + impure_all env es)))) ++ more)) (sym k.is)
+        subst (λ x. AreRising n ((calls_all env es places n ++ if_ordered (calling env term) x) ++ more)) (sym (call_is env term (all_paths env es places n) (n + impure_all env es) k.makes))
+        (subst (λ d. AreRising n ((calls_all env es places n ++ if_ordered d (Called term (all_paths env es places n) (instance_of d (n + impure_all env es)))) ++ more)) (sym k.is)
         (call_rises (kind_of c.0.kind) (External k.name) n (impure_all env es) term (all_paths env es places n) (calls_all env es places n) more (λ after s. all_calls_rise es n c.0.arg_tys after c.2.2 s)
-        (subst (λ d. AreRising (n + one_more d (impure_all env es)) more) k.is r))
+        (subst (λ d. AreRising (n + one_more d (impure_all env es)) more) k.is r)))
     calls_rise (expr.ConstPrim of name) n ty more h r = absurd h
     calls_rise (expr.Let of bindings inner) n ty more h r = absurd h
 

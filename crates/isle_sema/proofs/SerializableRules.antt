@@ -15,7 +15,9 @@ use Rattle.isle_core.specs.Calling.{calling, kind_of, may_be_nothing, is_fallibl
 use Rattle.isle_core.specs.Expr as expr
 use Rattle.isle_core.specs.Expr.{Expr, Exprs, NoExpr, AnExpr}
 use Rattle.isle_core.specs.Match.{with}
-use Rattle.isle_core.specs.Path.{Path, Nowhere, Arg, Called, Inner, Paths, at, paths_of}
+use Rattle.isle_core.specs.Making.{Making, MakesVariant, MakesStruct, MakesNothing, making}
+use Rattle.isle_core.specs.Path as path_form
+use Rattle.isle_core.specs.Path.{Path, Nowhere, Arg, Called, Inner, MadeVariant, MadeStruct, Paths, at, paths_of}
 use Rattle.isle_core.specs.Pattern.{Pattern, Var, ConstBool, ConstInt, Wildcard, BindPattern, ConstPrim, And}
 use Rattle.isle_core.specs.Pattern as pattern
 use Rattle.isle_core.specs.Serializable.{StandsOn, AreSerializableCalls, IsSerializableRule, IsSerializable}
@@ -24,12 +26,13 @@ use Rattle.isle_core.specs.RuleSet.{is_test, equal_test}
 use Rattle.isle_core.specs.RulePaths.{rules_paths}
 use Rattle.isle_core.specs.StandsFor.{EachOnce, IsFlat, AreFlat, StandsFor}
 use Rattle.isle_core.specs.OrderedCalls.{rule_calls}
-use Rattle.isle_core.specs.RightSide.{path, paths as all_paths, path_or, call_path}
-use Rattle.isle_core.specs.RulePaths.{arg_paths, with_inner, expr_paths, exprs_paths, rule_paths}
+use Rattle.isle_core.specs.RightSide.{path, paths as all_paths, path_or, term_path, call_path}
+use Rattle.isle_core.specs.RulePaths.{args_paths, with_inner, expr_paths, exprs_paths, rule_paths}
 use Rattle.isle_core.specs.Tests.{Test, Places, no_places, met_tests, met_after, tests, after, args_tests, args_after, rule_tests, rule_places}
 use Rattle.isle_core.proofs.CallOccurrences.{AreRising, rising_firsts}
 use Rattle.isle_core.proofs.Contained.{head_contained, tail_contained, contained_cases, none_contained}
 use Rattle.isle_core.proofs.KeptPlaces.{args_keep}
+use Rattle.isle_core.proofs.OpenedPaths.{IsOpened, IsOpenedPlace, AreOpened, args_opened, args_open}
 use Rattle.isle_core.proofs.SetMeans.{without_iflets}
 use Rattle.isle_ast.specs.Tree.{Def}
 use Rattle.isle_sema.specs.TypedRule.{IsPatternOf, ArePatternsOf, IsRuleOf, numbers}
@@ -65,16 +68,16 @@ unfolding AreNew
 still_new places x p [] other h = tt
 still_new places x p (m ∷ ms) other h = (new_at (x == m) places x m p refl (λ e. other (subst (Contains (m ∷ ms)) (sym e) (head_contained m ms))) h.0, still_new places x p ms (λ c. other (tail_contained m ms x c)) h.1)
 
-new_after : (env : Environment) (q : Pattern) (qs : List Pattern) (p : Path) (places : Places) → EachOnce (numbers (q ∷ qs)) → AreNew places (numbers (q ∷ qs)) → AreNew (after env q p places) (numbers qs)
+new_after : (env : Environment) (ty : TypeId) (q : Pattern) (qs : List Pattern) (p : Path) (places : Places) → IsPatternOf env ty q → EachOnce (numbers (q ∷ qs)) → AreNew places (numbers (q ∷ qs)) → AreNew (after env q p places) (numbers qs)
 unfolding AreNew
-new_after env (Var of x) qs p places once h = subst (λ o. AllByRecursion (λ (m : ℕ). met_after o x.0 p places m ≡ None) (numbers qs)) (sym h.0) (still_new places x.0 p (numbers qs) once.0 h.1)
-new_after env (ConstBool b) qs p places once h = h
-new_after env (ConstInt of n) qs p places once h = h
-new_after env (Wildcard of) qs p places once h = h
-new_after env (BindPattern of x q) qs p places once h = h
-new_after env (ConstPrim of name) qs p places once h = h
-new_after env (pattern.Term of term rs) qs p places once h = h
-new_after env (And of rs) qs p places once h = h
+new_after env ty (Var of x) qs p places t once h = subst (λ o. AllByRecursion (λ (m : ℕ). met_after o x.0 p places m ≡ None) (numbers qs)) (sym h.0) (still_new places x.0 p (numbers qs) once.0 h.1)
+new_after env ty (ConstBool b) qs p places t once h = h
+new_after env ty (ConstInt of n) qs p places t once h = h
+new_after env ty (Wildcard of) qs p places t once h = h
+new_after env ty (BindPattern of x q) qs p places t once h = absurd t
+new_after env ty (ConstPrim of name) qs p places t once h = absurd t
+new_after env ty (pattern.Term of term rs) qs p places t once h = absurd t
+new_after env ty (And of rs) qs p places t once h = absurd t
 
 once_after : (q : Pattern) (qs : List Pattern) → EachOnce (numbers (q ∷ qs)) → EachOnce (numbers qs)
 once_after (Var of x) qs once = once.1
@@ -96,7 +99,7 @@ test_serializable : (env : Environment) (t : Term) (ty : TypeId) (q : Pattern) (
     → AllByRecursion (IsSerializableTest env t) (tests env q (Arg i) places)
 unfolding AreNew
 test_serializable env t ty (Var of x) qs i places here h new = subst (λ o. AllByRecursion (IsSerializableTest env t) (met_tests o (Arg i))) (sym new.0) tt
-test_serializable env t ty (ConstBool b) qs i places here h new = (record { ty = ty; path = here; in_place = tt; constraint = h }, tt)
+test_serializable env t ty (ConstBool b) qs i places here h new = (record { ty = ty; path = here; in_place = tt; constraint = h.1 }, tt)
 test_serializable env t ty (ConstInt of n) qs i places here h new = (record { ty = ty; path = here; in_place = tt; constraint = h }, tt)
 test_serializable env t ty (Wildcard of) qs i places here h new = tt
 test_serializable env t ty (BindPattern of x q) qs i places here h new = absurd h
@@ -111,7 +114,7 @@ tests_serializable env t [] (q ∷ qs) i places from h once new = absurd h
 tests_serializable env t (ty ∷ tys) [] i places from h once new = absurd h
 tests_serializable env t (ty ∷ tys) (q ∷ qs) i places from h once new =
     all_both (IsSerializableTest env t) (tests env q (Arg i) places) (args_tests env qs (suc i) (after env q (Arg i) places)) (test_serializable env t ty q qs i places (at_first t i ty tys from) h.0 new)
-    (tests_serializable env t tys qs (suc i) (after env q (Arg i) places) (at_rest t i ty tys from) h.1 (once_after q qs once) (new_after env q qs (Arg i) places once new))
+    (tests_serializable env t tys qs (suc i) (after env q (Arg i) places) (at_rest t i ty tys from) h.1 (once_after q qs once) (new_after env ty q qs (Arg i) places h.0 once new))
 
 -- ---- the result
 
@@ -135,7 +138,7 @@ placed env t (ty ∷ tys) (q ∷ qs) i places of x from h once new c =
     ⊎_elim
     (λ (s : q ≡ Var of x). subst (λ r. PlacedAs env t (r ∷ qs) i places of x.0) (sym s)
     (placed_here env t ty of x qs i places (at_first t i ty tys from) (subst (IsPatternOf env ty) s h.0) (subst (λ r. AreNew places (numbers (r ∷ qs))) s new)))
-    (λ d. placed env t tys qs (suc i) (after env q (Arg i) places) of x (at_rest t i ty tys from) h.1 (once_after q qs once) (new_after env q qs (Arg i) places once new) d) (contained_cases q qs (Var of x) c)
+    (λ d. placed env t tys qs (suc i) (after env q (Arg i) places) of x (at_rest t i ty tys from) h.1 (once_after q qs once) (new_after env ty q qs (Arg i) places h.0 once new) d) (contained_cases q qs (Var of x) c)
 
 all_new : (ms : List ℕ) → AreNew no_places ms
 unfolding AreNew
@@ -157,36 +160,18 @@ rule_placed env t args h once of x c = placed env t t.arg_tys args 0 no_places o
 abbrev Fallible : Environment → List Path → Type 0
 Fallible env ps = (term : TermId) (qs : Paths) (k : ℕ) → Contains ps (Inner (Called term qs k)) → is_fallible (calling env term) ≡ true
 
--- an argument, or nowhere
-abbrev pub IsArgument : Option Path → Type 0
-IsArgument None = Unit {0}
-IsArgument (Some p) = (k : ℕ) × (p ≡ Arg k)
-
-met_argument : (o : Option Path) (x y k : ℕ) (places : Places) → ((z : ℕ) → IsArgument (places z)) → IsArgument (met_after o x (Arg k) places y)
-met_argument (Some q) x y k places h = h y
-met_argument None x y k places h = one (x == y)
-  where
-    one : (b : Bool) → IsArgument (cond b (Some (Arg k)) (places y))
-    one true = (k, refl)
-    one false = h y
-
-after_argument : (env : Environment) (q : Pattern) (k : ℕ) (places : Places) → ((z : ℕ) → IsArgument (places z)) → (y : ℕ) → IsArgument (after env q (Arg k) places y)
-after_argument env (Var of x) k places h y = met_argument (places x.0) x.0 y k places h
-after_argument env q k places h y = h y
-
-pub args_argument : (env : Environment) (qs : List Pattern) (i : ℕ) (places : Places) → ((z : ℕ) → IsArgument (places z)) → (y : ℕ) → IsArgument (args_after env qs i places y)
-args_argument env [] i places h = h
-args_argument env (q ∷ qs) i places h = args_argument env qs (suc i) (after env q (Arg i) places) (after_argument env q i places h)
-
 one_fallible : (env : Environment) (p : Path) → ((term : TermId) (qs : Paths) (k : ℕ) → p ≡ Inner (Called term qs k) → ⊥) → Fallible env (p ∷ [])
 one_fallible env p apart term qs k c = absurd (⊎_elim (λ e. apart term qs k e) (λ d. none_contained (Inner (Called term qs k)) d) (contained_cases p [] (Inner (Called term qs k)) c))
 
 both_fallible : (env : Environment) (xs ys : List Path) → Fallible env xs → Fallible env ys → Fallible env (xs ++ ys)
 both_fallible env xs ys h k term qs n c = ⊎_elim (h term qs n) (k term qs n) (Contains-append_cases xs ys (Inner (Called term qs n)) c)
 
-argument_apart : (o : Option Path) → IsArgument o → (term : TermId) (qs : Paths) (k : ℕ) → path_or o ≡ Inner (Called term qs k) → ⊥
-argument_apart None h term qs k e = cc
-argument_apart (Some p) h term qs k e = let same : Arg h.0 ≡ Inner (Called term qs k) = sym h.1 ∙ e in cc
+opened_apart : (p : Path) → IsOpened p → (term : TermId) (qs : Paths) (k : ℕ) → p ≡ Inner (Called term qs k) → ⊥
+opened_apart p h term qs k e = subst IsOpened e h
+
+place_apart : (o : Option Path) → IsOpenedPlace o → (term : TermId) (qs : Paths) (k : ℕ) → path_or o ≡ Inner (Called term qs k) → ⊥
+place_apart None h term qs k e = cc
+place_apart (Some p) h term qs k e = opened_apart p h term qs k e
 
 inner_same : (a b : TermId) (ps qs : Paths) (j k : ℕ) → Inner (Called a ps j) ≡ Inner (Called b qs k) → a ≡ b
 inner_same a b ps qs j k e = cc
@@ -201,30 +186,43 @@ call_fallible env term ps j true is other qs k c =
     (contained_cases (Called term ps j) (Inner (Called term ps j) ∷ []) (Inner (Called other qs k)) c)
 call_fallible env term ps j false is other qs k c = one_fallible env (Called term ps j) (λ other qs k e. call_apart term other ps qs j k e) other qs k c
 
+made_fallible : (env : Environment) (b : Bool) (p : Path) → ((term : TermId) (qs : Paths) (k : ℕ) → p ≡ Inner (Called term qs k) → ⊥) → ((term : TermId) (qs : Paths) (k : ℕ) → p ≡ Called term qs k → ⊥) → Fallible env (cond b (p ∷ Inner p ∷ []) (p ∷ []))
+made_fallible env true p apart other term qs k c =
+    absurd (⊎_elim (λ e. apart term qs k e) (λ d. ⊎_elim (λ e. other term qs k (inner_path p (Called term qs k) e)) (λ f. none_contained (Inner (Called term qs k)) f) (contained_cases (Inner p) [] (Inner (Called term qs k)) d)) (contained_cases p (Inner p ∷ []) (Inner (Called term qs k)) c))
+  where
+    inner_path : (a b : Path) → Inner a ≡ Inner b → a ≡ b
+    inner_path a b e = cc
+made_fallible env false p apart other term qs k c = one_fallible env p apart term qs k c
+
+term_fallible : (env : Environment) (mk : Making) (term : TermId) (ps : Paths) (j : ℕ) → Fallible env (with_inner (calling env term) (term_path mk term ps j))
+term_fallible env MakesNothing term ps j = call_fallible env term ps j (is_fallible (calling env term)) refl
+term_fallible env (MakesVariant ty variant) term ps j = made_fallible env (is_fallible (calling env term)) (MadeVariant ty variant ps) (λ other qs k e. cc) (λ other qs k e. cc)
+term_fallible env (MakesStruct ty) term ps j = made_fallible env (is_fallible (calling env term)) (MadeStruct ty ps) (λ other qs k e. cc) (λ other qs k e. cc)
+
 mutual
-  expr_fallible : (e : Expr) (env : Environment) (places : Places) (n : ℕ) → ((y : ℕ) → IsArgument (places y)) → Fallible env (expr_paths env e places n)
-  expr_fallible (expr.Var of x) env places n h = one_fallible env (path_or (places x.0)) (argument_apart (places x.0) (h x.0))
+  expr_fallible : (e : Expr) (env : Environment) (places : Places) (n : ℕ) → AreOpened places → Fallible env (expr_paths env e places n)
+  expr_fallible (expr.Var of x) env places n h = one_fallible env (path_or (places x.0)) (place_apart (places x.0) (h x.0))
   expr_fallible (expr.ConstBool b) env places n h = one_fallible env _ (λ term qs k e. cc)
   expr_fallible (expr.ConstInt of v) env places n h = one_fallible env _ (λ term qs k e. cc)
   expr_fallible (expr.Term of term es) env places n h =
       both_fallible env (exprs_paths env es places n) (with_inner (calling env term) (call_path env term (all_paths env es places n) (n + impure_all env es))) (exprs_fallible es env places n h)
-      (call_fallible env term (all_paths env es places n) (instance_of (calling env term) (n + impure_all env es)) (is_fallible (calling env term)) refl)
-  expr_fallible (expr.ConstPrim of name) env places n h = one_fallible env Nowhere (λ term qs k e. cc)
+      (term_fallible env (making env term) term (all_paths env es places n) (instance_of (calling env term) (n + impure_all env es)))
+  expr_fallible (expr.ConstPrim of name) env places n h = one_fallible env (path_form.ConstPrim name) (λ term qs k e. cc)
   expr_fallible (expr.Let of bindings inner) env places n h = one_fallible env Nowhere (λ term qs k e. cc)
 
-  exprs_fallible : (es : Exprs) (env : Environment) (places : Places) (n : ℕ) → ((y : ℕ) → IsArgument (places y)) → Fallible env (exprs_paths env es places n)
+  exprs_fallible : (es : Exprs) (env : Environment) (places : Places) (n : ℕ) → AreOpened places → Fallible env (exprs_paths env es places n)
   exprs_fallible NoExpr env places n h term qs k c = absurd (none_contained (Inner (Called term qs k)) c)
   exprs_fallible (AnExpr e es) env places n h term qs k c = both_fallible env (expr_paths env e places n) (exprs_paths env es places (n + impure env e)) (expr_fallible e env places n h) (exprs_fallible es env places (n + impure env e) h) term qs k c
 
-args_fallible : (env : Environment) (qs : List Pattern) (i : ℕ) → Fallible env (arg_paths qs i)
-args_fallible env [] i term ps k c = absurd (none_contained (Inner (Called term ps k)) c)
-args_fallible env (q ∷ qs) i term ps k c = ⊎_elim (λ e. let bad : Arg i ≡ Inner (Called term ps k) = e in cc) (args_fallible env qs (suc i) term ps k) (contained_cases (Arg i) (arg_paths qs (suc i)) (Inner (Called term ps k)) c)
+opened_fallible : (env : Environment) (ps : List Path) → AllByRecursion IsOpened ps → Fallible env ps
+opened_fallible env [] h term qs k c = absurd (none_contained (Inner (Called term qs k)) c)
+opened_fallible env (p ∷ ps) h term qs k c = ⊎_elim (λ e. absurd (opened_apart p h.0 term qs k e)) (opened_fallible env ps h.1 term qs k) (contained_cases p ps (Inner (Called term qs k)) c)
 
 rules_fallible : (rules : List Rule) (env : Environment) (n : ℕ) → Fallible env (rules_paths env rules n)
 rules_fallible [] env n term qs k c = absurd (none_contained (Inner (Called term qs k)) c)
 rules_fallible (r ∷ rules) env n term qs k c =
     both_fallible env (rule_paths env r n) (rules_paths env rules (n + impure env r.rhs))
-    (both_fallible env (arg_paths r.args 0) (expr_paths env r.rhs (rule_places env r) n) (args_fallible env r.args 0) (expr_fallible r.rhs env (rule_places env r) n (args_argument env r.args 0 no_places (λ z. tt))))
+    (both_fallible env (args_paths env r.args 0) (expr_paths env r.rhs (rule_places env r) n) (opened_fallible env (args_paths env r.args 0) (args_open env r.args 0)) (expr_fallible r.rhs env (rule_places env r) n (args_opened env r.args 0 no_places (λ z. tt))))
     (rules_fallible rules env (n + impure env r.rhs)) term qs k c
 
 -- ---- rule sets
@@ -246,7 +244,7 @@ module _ (env : Environment) (t : Term) (ps : List Path) (fit : Fallible env ps)
       record {
         constraints = each _ f.constraints (λ c d. let k = ready (is_test ps c) (Contains-append_left (map (is_test ps) f.constraints) (map (equal_test ps) f.equals) (is_test ps c) (contained_map (is_test ps) f.constraints c d)) in record { ty = k.ty; path = k.path; in_place = k.in_place; constraint = k.constraint });
         equals = each _ f.equals (λ e d. let k = ready (equal_test ps e) (Contains-append_right (map (is_test ps) f.constraints) (map (equal_test ps) f.equals) (equal_test ps e) (contained_map (equal_test ps) f.equals e d)) in record { ty = k.ty; left = k.left; left_in_place = k.left_in_place; right = k.right; right_in_place = k.right_in_place });
-        calls = subst (AreSerializableCalls env t ps []) (sym same) (calls_serializable env t (may_be_nothing (kind_of t.kind)) r.args (rule_places env r) at_args r.rhs n t.ret_ty ps [] h.rhs refl fit (λ p c. among p (Contains-append_right (arg_paths r.args 0) (expr_paths env r.rhs (rule_places env r) n) p c)));
+        calls = subst (AreSerializableCalls env t ps []) (sym same) (calls_serializable env t (may_be_nothing (kind_of t.kind)) r.args (rule_places env r) at_args r.rhs n t.ret_ty ps [] h.rhs refl fit (λ p c. among p (Contains-append_right (args_paths env r.args 0) (expr_paths env r.rhs (rule_places env r) n) p c)));
         once = ordered_once env ps f.ordered n (subst (AreRising n) (sym same) rises);
         result = subst (λ p. IsPathOf env t p t.ret_ty) (sym flat.result) (path_typed env t (may_be_nothing (kind_of t.kind)) r.args (rule_places env r) at_args r.rhs n t.ret_ty h.rhs);
         stands = subst (StandsOn (map (at ps) f.ordered)) (sym flat.result) (subst (λ done. StandsOn done (path env r.rhs (rule_places env r) n)) (sym same) (path_stands env t (may_be_nothing (kind_of t.kind)) r.args (rule_places env r) at_args r.rhs n t.ret_ty (rule_calls env r n) h.rhs (λ p c. c)));

@@ -18,7 +18,7 @@ use Rattle.isle_core.specs.Pattern.{Pattern as CorePattern}
 use Rattle.isle_core.specs.Expr as core_expr
 use Rattle.isle_core.specs.Expr.{Expr as CoreExpr, Exprs as CoreExprs}
 use Rattle.isle_core.specs.Rule.{Environment}
-use Rattle.isle_core.specs.BuiltRule.{IsBuiltExpr, AreBuiltExprs, IsImpureKind, CallsImpure, AllCallImpure}
+use Rattle.isle_core.specs.BuiltRule.{IsBuiltExpr, AreBuiltExprs, IsBuiltKind, HasBuiltTerms, AllHaveBuiltTerms}
 use Rattle.isle_core.specs.Scope.{all_variables, IsInScope, AreInScope}
 use Rattle.isle_core.proofs.ScopeLaws.{in_scope}
 use Rattle.isle_ast.specs.Tree as tree
@@ -271,32 +271,32 @@ mutual
   scoped_exprs env allowed args [] (core_expr.AnExpr e es) h = absurd h
   scoped_exprs env allowed args (ty ∷ tys) core_expr.NoExpr h = absurd h
 
-impure_kind : (allowed : Bool) (k : TermKind) → IsExternalKind allowed k → IsImpureKind k
-impure_kind allowed (kind.Decl false false partial false (constructor.External func) by) h = tt
-impure_kind allowed (kind.Decl false false partial false constructor.Internal by) h = absurd h
-impure_kind allowed (kind.Decl false false partial false constructor.Absent by) h = absurd h
-impure_kind allowed (kind.Decl false false partial true of by) h = absurd h
-impure_kind allowed (kind.Decl false true partial recursive of by) h = absurd h
-impure_kind allowed (kind.Decl true multi partial recursive of by) h = absurd h
-impure_kind allowed (kind.Variant ty variant) h = absurd h
-impure_kind allowed (kind.Struct ty) h = absurd h
+built_kind : (allowed : Bool) (k : TermKind) → IsExternalKind allowed k → IsBuiltKind k
+built_kind allowed (kind.Decl false false partial false (constructor.External func) by) h = tt
+built_kind allowed (kind.Decl false false partial false constructor.Internal by) h = absurd h
+built_kind allowed (kind.Decl false false partial false constructor.Absent by) h = absurd h
+built_kind allowed (kind.Decl false false partial true of by) h = absurd h
+built_kind allowed (kind.Decl false true partial recursive of by) h = absurd h
+built_kind allowed (kind.Decl true multi partial recursive of by) h = absurd h
+built_kind allowed (kind.Variant ty variant) h = absurd h
+built_kind allowed (kind.Struct ty) h = absurd h
 
-impure_at : (o : Option Term) (t : Term) → o ≡ Some t → IsImpureKind t.kind → IsSomeAnd o (λ (t : Term). IsImpureKind t.kind)
-impure_at o t is h = subst (λ (u : Option Term). IsSomeAnd u (λ (t : Term). IsImpureKind t.kind)) (sym is) h
+built_at : (o : Option Term) (t : Term) → o ≡ Some t → IsBuiltKind t.kind → IsSomeAnd o (λ (t : Term). IsBuiltKind t.kind)
+built_at o t is h = subst (λ (u : Option Term). IsSomeAnd u (λ (t : Term). IsBuiltKind t.kind)) (sym is) h
 
 mutual
-  pub impure_expr : (env : Environment) (allowed : Bool) (args : List CorePattern) (ty : TypeId) (e : CoreExpr) → IsExprOf env allowed args ty e → CallsImpure env.terms e
-  impure_expr env allowed args ty (core_expr.Var of x) h = tt
-  impure_expr env allowed args ty (core_expr.ConstBool b) h = tt
-  impure_expr env allowed args ty (core_expr.ConstInt of n) h = tt
-  impure_expr env allowed args ty (core_expr.Term of term es) h =
+  pub built_terms : (env : Environment) (allowed : Bool) (args : List CorePattern) (ty : TypeId) (e : CoreExpr) → IsExprOf env allowed args ty e → HasBuiltTerms env.terms e
+  built_terms env allowed args ty (core_expr.Var of x) h = tt
+  built_terms env allowed args ty (core_expr.ConstBool b) h = tt
+  built_terms env allowed args ty (core_expr.ConstInt of n) h = tt
+  built_terms env allowed args ty (core_expr.Term of term es) h =
       let c = called env allowed args ty (slice_get env.terms term.0) es h.1 in
-      (impure_at (slice_get env.terms term.0) c.term c.found (impure_kind allowed c.term.kind c.external), impure_exprs env allowed args c.term.arg_tys es c.takes)
-  impure_expr env allowed args ty (core_expr.ConstPrim of name) h = absurd h
-  impure_expr env allowed args ty (core_expr.Let of bs e) h = absurd h
+      (built_at (slice_get env.terms term.0) c.term c.found (built_kind allowed c.term.kind c.external), built_terms_all env allowed args c.term.arg_tys es c.takes)
+  built_terms env allowed args ty (core_expr.ConstPrim of name) h = absurd h
+  built_terms env allowed args ty (core_expr.Let of bs e) h = absurd h
 
-  impure_exprs : (env : Environment) (allowed : Bool) (args : List CorePattern) (tys : List TypeId) (es : CoreExprs) → AreExprsOf env allowed args tys es → AllCallImpure env.terms es
-  impure_exprs env allowed args [] core_expr.NoExpr h = tt
-  impure_exprs env allowed args (ty ∷ tys) (core_expr.AnExpr e es) h = (impure_expr env allowed args ty e h.0, impure_exprs env allowed args tys es h.1)
-  impure_exprs env allowed args [] (core_expr.AnExpr e es) h = absurd h
-  impure_exprs env allowed args (ty ∷ tys) core_expr.NoExpr h = absurd h
+  built_terms_all : (env : Environment) (allowed : Bool) (args : List CorePattern) (tys : List TypeId) (es : CoreExprs) → AreExprsOf env allowed args tys es → AllHaveBuiltTerms env.terms es
+  built_terms_all env allowed args [] core_expr.NoExpr h = tt
+  built_terms_all env allowed args (ty ∷ tys) (core_expr.AnExpr e es) h = (built_terms env allowed args ty e h.0, built_terms_all env allowed args tys es h.1)
+  built_terms_all env allowed args [] (core_expr.AnExpr e es) h = absurd h
+  built_terms_all env allowed args (ty ∷ tys) core_expr.NoExpr h = absurd h

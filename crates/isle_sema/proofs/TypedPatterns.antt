@@ -74,7 +74,7 @@ pattern_typed defs env ty scope (tree.Int n) q types h placed again =
     subst (IsPatternOf env ty) m.is (integer_typed defs env ty n m.from types m.there)
 pattern_typed defs env ty scope (tree.Truth b) q types h placed again =
     let takes = not-false (takes_truths (types_of defs) (Some ty)) (or_parts (is_misplaced (whole_of defs) (TruthAt (Some ty))) false placed).0 in
-    subst (IsPatternOf env ty) (same_Some (core_pattern.ConstBool b) q h) (truth_typed defs env b ty types takes).1
+    subst (IsPatternOf env ty) (same_Some (core_pattern.ConstBool b) q h) (truth_typed defs env b ty types takes)
 pattern_typed defs env ty scope tree.Wildcard q types h placed again = subst (IsPatternOf env ty) (same_Some (core_pattern.Wildcard ty) q h) refl
 pattern_typed defs env ty scope (tree.Var name) q types h placed again =
     let m = mapped (λ (v : TypeId × VarId). core_pattern.Var v.0 v.1) (variable (met scope name (Some ty)) name) q h in

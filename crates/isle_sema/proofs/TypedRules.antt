@@ -1,6 +1,6 @@
 -- The rules of an environment are built, bound and typed.
-use Rattle.std.proofs.Common.{◌≡◌, ⊎_elim, ℕ, zero, suc, ◌+◌, ◌<◌, Bool, true, false, cond, List, [], ◌∷◌, ◌++◌, length, map, Option, Some, None, refl, sym, ap, ◌∙◌, subst, arith}
-use Rattle.std.specs.Prelude.{◌==◌, ◌&&◌, not, All, option_map, option_and_then, slice_get, filter}
+use Rattle.std.proofs.Common.{◌≡◌, ⊎_elim, ℕ, ℤ, zero, suc, ◌+◌, ◌<◌, Bool, true, false, cond, List, [], ◌∷◌, ◌++◌, length, map, Option, Some, None, refl, sym, ap, ◌∙◌, subst, arith}
+use Rattle.std.specs.Prelude.{◌==◌, ◌&&◌, not, All, IsSomeAnd, option_map, option_and_then, slice_get, filter}
 use Rattle.std.specs.List.{AllByRecursion, list_any}
 use Rattle.std.proofs.lemmas.Bool.{or_parts, eqb-true, not-false}
 use Rattle.std.proofs.lemmas.List.{length-map}
@@ -13,12 +13,20 @@ use Rattle.isle_core.specs.declared.types.ConstructorKind.{ConstructorKind}
 use Rattle.isle_core.specs.declared.types.TermKind.TheVariants as kind
 use Rattle.isle_core.specs.declared.types.ExtractorKind.{ExtractorKind}
 use Rattle.isle_core.specs.declared.types.ExtractorKind.TheVariants as extractor
+use Rattle.isle_core.specs.BuiltinType.{IsBuiltinDef}
+use Rattle.isle_core.specs.Constants.{int_of_def}
+use Rattle.isle_core.specs.HasType.{IsOfDef}
+use Rattle.isle_core.specs.PatternType as core_type
+use Rattle.isle_core.specs.PatternType.{IsNumericDef, FitsTerm}
+use Rattle.isle_core.specs.declared.types.BuiltinType.TheVariants as builtin
+use Rattle.isle_core.specs.declared.types.TypeDef.{TypeDef}
+use Rattle.isle_core.specs.declared.types.TypeDef.TheVariants as def
 use Rattle.isle_core.specs.Calling.{kind_of, may_be_nothing}
 use Rattle.isle_core.specs.Expr.{Expr as CoreExpr}
 use Rattle.isle_core.specs.Pattern as core
 use Rattle.isle_core.specs.Pattern.{Pattern as CorePattern}
 use Rattle.isle_core.specs.Rule.{Rule, IfLet, Environment, rules_of}
-use Rattle.isle_core.specs.BuiltRule.{IsBuiltPattern, IsBuiltRule, IsImpureRule}
+use Rattle.isle_core.specs.BuiltRule.{IsBuiltPattern, IsBuiltRule, CallsBuiltTerms}
 use Rattle.isle_core.specs.Scope.{all_variables, iflets_scope, IsInScope, AreIfLetsInScope, IsScopedRule}
 use Rattle.isle_ast.specs.Tree as tree
 use Rattle.isle_ast.specs.Tree.{Def}
@@ -46,7 +54,7 @@ use Rattle.isle_sema.proofs.Firsts.{any_parts}
 use Rattle.isle_sema.proofs.Judgements.{row_fails}
 use Rattle.isle_sema.proofs.MadeTerms.{first_there, term_made, term_is, types_are}
 use Rattle.isle_sema.proofs.RuleLaws.{is_broken, none_fault, none_is}
-use Rattle.isle_sema.proofs.TypedExprs.{AreKept, IsOver, all_at, place_of, signature_at, expr_typed, built_expr, scoped_expr, impure_expr}
+use Rattle.isle_sema.proofs.TypedExprs.{AreKept, IsOver, all_at, place_of, signature_at, expr_typed, built_expr, scoped_expr, built_terms}
 use Rattle.isle_sema.proofs.TypedParts.{IsTypedIn, typed_in}
 use Rattle.isle_sema.proofs.TypedPatterns.{patterns_typed, numbers_apart, variable_stands}
 
@@ -164,7 +172,7 @@ typed_rules defs env t =
 
 -- ---- what typed rules are
 
-built_pattern : (env : Environment) (ty : TypeId) (p : CorePattern) → IsPatternOf env ty p → IsBuiltPattern p
+built_pattern : (env : Environment) (ty : TypeId) (p : CorePattern) → IsPatternOf env ty p → IsBuiltPattern env.terms p
 built_pattern env ty (core.Var of x) h = tt
 built_pattern env ty (core.ConstBool b) h = tt
 built_pattern env ty (core.ConstInt of n) h = tt
@@ -174,11 +182,37 @@ built_pattern env ty (core.ConstPrim of name) h = absurd h
 built_pattern env ty (core.Term of term ps) h = absurd h
 built_pattern env ty (core.And of ps) h = absurd h
 
-built_patterns : (env : Environment) (tys : List TypeId) (ps : List CorePattern) → ArePatternsOf env tys ps → AllByRecursion IsBuiltPattern ps
+built_patterns : (env : Environment) (tys : List TypeId) (ps : List CorePattern) → ArePatternsOf env tys ps → AllByRecursion (IsBuiltPattern env.terms) ps
 built_patterns env [] [] h = tt
 built_patterns env (ty ∷ tys) (p ∷ ps) h = (built_pattern env ty p h.0, built_patterns env tys ps h.1)
 built_patterns env [] (p ∷ ps) h = absurd h
 built_patterns env (ty ∷ tys) [] h = absurd h
+
+-- a builtin type of a number is numeric
+numeric_def : (env : Environment) (o : Option TypeDef) (n : ℤ) → IsSomeAnd o IsBuiltinDef → IsSomeAnd o (λ d. IsOfDef env d (int_of_def env o n)) → IsSomeAnd o IsNumericDef
+numeric_def env (Some (def.Builtin (builtin.Int ty))) n b h = tt
+numeric_def env (Some (def.Builtin builtin.Bool)) n b h = absurd h
+numeric_def env (Some (def.Primitive name rust pos)) n b h = tt
+numeric_def env (Some (def.Enum name is_extern is_nodebug variants pos)) n b h = absurd b
+numeric_def env (Some (def.Struct name is_extern is_nodebug fields pos)) n b h = absurd b
+numeric_def env None n b h = absurd h
+
+-- such patterns are for values of their types
+core_pattern : (env : Environment) (ty : TypeId) (p : CorePattern) → IsPatternOf env ty p → core_type.IsPatternOf env ty p
+core_pattern env ty (core.Var of x) h = h
+core_pattern env ty (core.ConstBool b) h = h
+core_pattern env ty (core.ConstInt of n) h = (h.0, h.1, numeric_def env (slice_get env.types.types ty.0) n h.2 h.1)
+core_pattern env ty (core.Wildcard of) h = h
+core_pattern env ty (core.BindPattern of x p) h = absurd h
+core_pattern env ty (core.ConstPrim of name) h = absurd h
+core_pattern env ty (core.Term of term ps) h = absurd h
+core_pattern env ty (core.And of ps) h = absurd h
+
+core_patterns : (env : Environment) (tys : List TypeId) (ps : List CorePattern) → ArePatternsOf env tys ps → core_type.ArePatternsOf env tys ps
+core_patterns env [] [] h = tt
+core_patterns env (ty ∷ tys) (p ∷ ps) h = (core_pattern env ty p h.0, core_patterns env tys ps h.1)
+core_patterns env [] (p ∷ ps) h = absurd h
+core_patterns env (ty ∷ tys) [] h = absurd h
 
 as_many : (env : Environment) (tys : List TypeId) (ps : List CorePattern) → ArePatternsOf env tys ps → length ps ≡ length tys
 as_many env [] [] h = refl
@@ -187,10 +221,10 @@ as_many env [] (p ∷ ps) h = absurd h
 as_many env (ty ∷ tys) [] h = absurd h
 
 -- the rules are built
-pub typed_built : (defs : List Def) (env : Environment) → Typed defs env → All IsBuiltRule env.rules
+pub typed_built : (defs : List Def) (env : Environment) → Typed defs env → All (IsBuiltRule env.terms) env.rules
 typed_built defs env h k d lt =
     let t = typed_rules defs env h k d lt in
-    record { args = All-from_recursion IsBuiltPattern _ (built_patterns env t.term.arg_tys _ t.typed.args); iflets = t.typed.iflets; rhs = built_expr env (may_be_nothing (kind_of t.term.kind)) _ t.term.ret_ty _ t.typed.rhs }
+    record { args = All-from_recursion (IsBuiltPattern env.terms) _ (built_patterns env t.term.arg_tys _ t.typed.args); iflets = t.typed.iflets; rhs = built_expr env (may_be_nothing (kind_of t.term.kind)) _ t.term.ret_ty _ t.typed.rhs }
 
 -- a right side in scope of the patterns of a rule without conditions
 without_conditions : (r : Rule) → r.iflets ≡ [] → IsInScope (all_variables r.args) r.rhs → IsScopedRule r
@@ -206,9 +240,9 @@ typed_scoped defs env h k d lt =
     let rhs = scoped_expr env (may_be_nothing (kind_of t.term.kind)) _ t.term.ret_ty _ t.typed.rhs in
     without_conditions _ t.typed.iflets rhs
 
--- each term that a right side calls is impure, and has a constructor
-pub typed_impure : (defs : List Def) (env : Environment) → Typed defs env → All (IsImpureRule env.terms) env.rules
-typed_impure defs env h k d lt = let t = typed_rules defs env h k d lt in impure_expr env (may_be_nothing (kind_of t.term.kind)) _ t.term.ret_ty _ t.typed.rhs
+-- each term of a right side is built
+pub typed_terms : (defs : List Def) (env : Environment) → Typed defs env → All (CallsBuiltTerms env.terms) env.rules
+typed_terms defs env h k d lt = let t = typed_rules defs env h k d lt in built_terms env (may_be_nothing (kind_of t.term.kind)) _ t.term.ret_ty _ t.typed.rhs
 
 -- ---- the rules of a term
 
@@ -233,3 +267,7 @@ typed_of defs env id t h at = All-from_recursion (IsRuleOf env t) (rules_of env 
 -- they have as many patterns as the term has arguments
 pub typed_args : (defs : List Def) (env : Environment) (id : TermId) (t : Term) → Typed defs env → slice_get env.terms id.0 ≡ Some t → All (λ (r : Rule). length r.args ≡ length t.arg_tys) (rules_of env id)
 typed_args defs env id t h at k d lt = as_many env t.arg_tys _ (typed_of defs env id t h at k d lt).args
+
+-- and patterns of its types
+pub typed_patterns : (defs : List Def) (env : Environment) (id : TermId) (t : Term) → Typed defs env → slice_get env.terms id.0 ≡ Some t → All (FitsTerm env t) (rules_of env id)
+typed_patterns defs env id t h at k d lt = core_patterns env t.arg_tys _ (typed_of defs env id t h at k d lt).args

@@ -21,7 +21,7 @@ use Rattle.isle_core.specs.RightSide.{bool_type}
 -- a pattern of the type: a constant is one of its values
 abbrev pub IsPatternOf : Environment → TypeId → Pattern → Type 0
 IsPatternOf env ty (pattern.Var of x) = of ≡ ty
-IsPatternOf env ty (pattern.ConstBool b) = HasType env (Truth b) ty
+IsPatternOf env ty (pattern.ConstBool b) = (bool_type ≡ ty) × HasType env (Truth b) ty
 IsPatternOf env ty (pattern.ConstInt of n) = (of ≡ ty) × HasType env (int_value env ty n) ty × IsBuiltinType env ty
 IsPatternOf env ty (pattern.Wildcard of) = of ≡ ty
 IsPatternOf env ty (pattern.BindPattern of x p) = ⊥

@@ -18,6 +18,7 @@ use Rattle.isle_core.specs.ValueAt.{Known, a_value, held, value_at, meets}
 use Rattle.isle_core.specs.ConstraintType.{IsConstraintOf}
 use Rattle.isle_core.specs.PathType.{IsPathOf}
 use Rattle.isle_core.specs.Readable.{IsInPlace}
+use Rattle.isle_core.specs.Meaning.{Meaning}
 use Rattle.isle_core.specs.Rule.{Environment}
 use Rattle.isle_tree.specs.Run.{Around, Env, value_of}
 use Rattle.isle_simulation.proofs.Written.{written_constant, written_place, written_test}
@@ -31,7 +32,7 @@ pub record Reads (env : Environment) (u : Around) (p : Path) (ty : TypeId) (v : 
 -- the constraint tests for this value of the type
 pub record TestsFor (env : Environment) (c : Constraint) (ty : TypeId) (w : Value) : Type 0 where
   pub place : (u : Around) (locals : Env) → value_of u locals (written_test env c) ≡ a_value w
-  pub met : (v : Value) → meets env c (a_value v) ≡ same_value v w
+  pub met : (m : Meaning) (v : Value) → meets env m c (a_value v) ≡ same_value v w
   pub typed : HasType env w ty
 
 -- an argument of a type is there
@@ -69,6 +70,6 @@ path_reads env u t p ty h k at = absurd at
 
 -- a constraint of a type tests for a value
 pub constraint_tests : (env : Environment) (c : Constraint) (ty : TypeId) → IsConstraintOf env c ty → (w : Value) × TestsFor env c ty w
-constraint_tests env (constraint.ConstBool val) ty h = (Truth val, record { place = λ u locals. refl; met = λ v. refl; typed = h })
-constraint_tests env (constraint.ConstInt val of) ty h = (int_value env of val, record { place = λ u locals. typed_number env of ty val u locals h.0 h.1 h.2; met = λ v. refl; typed = number_typed env of ty val h.0 h.1 })
+constraint_tests env (constraint.ConstBool val) ty h = (Truth val, record { place = λ u locals. refl; met = λ m v. refl; typed = h })
+constraint_tests env (constraint.ConstInt val of) ty h = (int_value env of val, record { place = λ u locals. typed_number env of ty val u locals h.0 h.1 h.2; met = λ m v. refl; typed = number_typed env of ty val h.0 h.1 })
 constraint_tests env c ty h = absurd h

@@ -201,10 +201,10 @@ module _ (env : Environment) (u : Around) (t : Term) (bs : List Binding) (typed 
         let after = after_block env (paths_of bs) made body in
         record {
           runs =
-              rw (v.place, w.1.place u locals, v.held, w.1.met v.v, typed_same env v.v w.0 k.1.0 v.typed w.1.typed)
+              rw (v.place, w.1.place u locals, v.held, w.1.met u.meaning v.v, typed_same env v.v w.0 k.1.0 v.typed w.1.typed)
               (if_back (kind_of t.kind) (same_value v.v w.0) locals (run_body u (block_body env bs (kind_of t.kind) bound body Done) locals (done calls)) (block_run env u.meaning u.args (paths_of bs) body known calls) known calls
               (body_back bound made body locals known calls r));
-          goes = if_goes (meets env c _) (block_run env u.meaning u.args (paths_of bs) body known calls) known calls (made ++ (after ++ [])) (on_left made (after ++ []) known known (same_later known made only))
+          goes = if_goes (meets env u.meaning c _) (block_run env u.meaning u.args (paths_of bs) body known calls) known calls (made ++ (after ++ [])) (on_left made (after ++ []) known known (same_later known made only))
               (on_right made (after ++ []) known (block_run env u.meaning u.args (paths_of bs) body known calls) (on_first after [] known (block_run env u.meaning u.args (paths_of bs) body known calls) r.goes));
         }
     control_runs (block.Match source (block.Arm c places body (block.Arm d others inside arms))) more bound made locals known calls only k o a = absurd o

@@ -1,7 +1,7 @@
 use Rattle.std.proofs.Common.{rules, ◌≡◌, false, inr}
 use Rattle.isle_core.specs.RuleViews.{environment}
 use Rattle.isle_ast.specs.Views.{defs as seen}
-use Rattle.isle_sema.proofs.TypedRules.{typed_built, typed_scoped, typed_impure}
+use Rattle.isle_sema.proofs.TypedRules.{typed_built, typed_scoped, typed_terms}
 use Rattle.isle_codegen.specs.Names.{are_file_names}
 use Rattle.isle_sema.proofs.TypedParts.{typed_types_sound}
 use Rattle.isle_codegen.proofs.Placed.{terms_placed}
@@ -14,8 +14,8 @@ check-requires-clause-built c = typed_built (seen c.args.defs.now) (environment 
 pub check-requires-clause-bound : goal.check-requires-clause-bound
 check-requires-clause-bound c = typed_scoped (seen c.args.defs.now) (environment c.in-Ok.envs.0 c.in-Ok.envs.1) c.in-Ok.ensures.typed.typed
 
-pub check-requires-clause-impure : goal.check-requires-clause-impure
-check-requires-clause-impure c = typed_impure (seen c.args.defs.now) (environment c.in-Ok.envs.0 c.in-Ok.envs.1) c.in-Ok.ensures.typed.typed
+pub check-requires-clause-terms : goal.check-requires-clause-terms
+check-requires-clause-terms c = typed_terms (seen c.args.defs.now) (environment c.in-Ok.envs.0 c.in-Ok.envs.1) c.in-Ok.ensures.typed.typed
 
 pub returns-in-Ok-check-clause-places : goal.returns-in-Ok-check-clause-places
 returns-in-Ok-check-clause-places c = terms_placed c.args.files.now (seen c.args.defs.now) (environment c.in-Ok.envs.0 c.in-Ok.envs.1) c.in-Ok.ensures.typed.typed c.requires
