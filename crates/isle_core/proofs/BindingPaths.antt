@@ -5,11 +5,15 @@ use Rattle.std.proofs.lemmas.List.{get_or-take}
 use Rattle.std.proofs.lemmas.Option.{slice_get-get_or, get_or_from_slice_get}
 use Rattle.isle_base.specs.declared.ids.BindingId.{BindingId}
 use Rattle.isle_base.specs.declared.ids.TermId.{TermId}
+use Rattle.isle_base.specs.declared.ids.TupleIndex.{TupleIndex}
 use Rattle.isle_base.specs.declared.ids.TypeId.{TypeId}
+use Rattle.isle_base.specs.declared.ids.VariantId.{VariantId}
 use Rattle.isle_core.specs.declared.rule_sets.Binding.{Binding}
 use Rattle.isle_core.specs.declared.rule_sets.Binding.TheVariants as binding
 use Rattle.isle_core.specs.declared.types.Term.{Term}
-use Rattle.isle_core.specs.Path.{Path, Nowhere, Arg, ConstBool, ConstInt, Extracted, Called, Chosen, MadeVariant, MadeStruct, VariantField, StructField, Wrapped, Inner, Part, Paths, NoPath, APath, at, at_all, path_over, add_path, paths_of}
+use Rattle.isle_core.specs.Path.{Path, Nowhere, Arg, ConstBool, ConstInt, ConstPrim, Extracted, Called, Chosen, MadeVariant, MadeStruct, VariantField, StructField, Wrapped, Inner, Part, Paths, NoPath, APath, at, at_all, path_over, add_path, paths_of}
+use Rattle.isle_core.specs.Form.{Form, form, form_types}
+use Rattle.isle_core.specs.Making.{MakesVariant, MakesStruct}
 use Rattle.isle_core.specs.StandsFor.{EachOnce}
 use Rattle.isle_core.specs.PathType.{IsPathOf, IsOptionOf, ArePathsOf}
 use Rattle.isle_core.specs.Rule.{Environment}
@@ -184,6 +188,70 @@ inner_at bs b p h e =
         (source, s, t.0, sym t.1 ∙ same)
     pick x s k = cc
 
+-- where a field of a variant stands, its source stands before it
+pub variant_field_at : (bs : List Binding) (b : BindingId) (variant : VariantId) (field : ℕ) (p : Path) → IsThere p → at (paths_of bs) b ≡ VariantField variant field p
+    → (source : BindingId) × (index : TupleIndex) × (slice_get bs b.0 ≡ Some (binding.MatchVariant source variant index)) × (index.0 ≡ field) × (source.0 < b.0) × (at (paths_of bs) source ≡ p)
+variant_field_at bs b variant field p h e =
+    let x = binding_at bs b (subst IsThere (sym e) tt) in
+    pick x.0 x.1 (sym (at_before bs b x.0 x.1) ∙ e)
+  where
+    same_field : (v w : VariantId) (i j : ℕ) (q r : Path) → VariantField v i q ≡ VariantField w j r → (v ≡ w) × (i ≡ j) × (q ≡ r)
+    same_field v w i j q r k = (cc, cc, cc)
+
+    pick : (x : Binding) → slice_get bs b.0 ≡ Some x → path_over (take b.0 (paths_of bs)) x ≡ VariantField variant field p
+        → (source : BindingId) × (index : TupleIndex) × (slice_get bs b.0 ≡ Some (binding.MatchVariant source variant index)) × (index.0 ≡ field) × (source.0 < b.0) × (at (paths_of bs) source ≡ p)
+    pick (binding.MatchVariant source v index) s k =
+        let same = same_field v variant index.0 field (at (take b.0 (paths_of bs)) source) p k in
+        let t = taken (paths_of bs) b.0 source.0 (subst IsThere (sym same.2) h) in
+        (source, index, s ∙ ap (λ y. Some (binding.MatchVariant source y index)) same.0, same.1, t.0, sym t.1 ∙ same.2)
+    pick x s k = cc
+
+-- so of a field of a struct
+pub struct_field_at : (bs : List Binding) (b : BindingId) (field : ℕ) (p : Path) → IsThere p → at (paths_of bs) b ≡ StructField field p
+    → (source : BindingId) × (index : TupleIndex) × (slice_get bs b.0 ≡ Some (binding.ExtractStruct source index)) × (index.0 ≡ field) × (source.0 < b.0) × (at (paths_of bs) source ≡ p)
+struct_field_at bs b field p h e =
+    let x = binding_at bs b (subst IsThere (sym e) tt) in
+    pick x.0 x.1 (sym (at_before bs b x.0 x.1) ∙ e)
+  where
+    same_field : (i j : ℕ) (q r : Path) → StructField i q ≡ StructField j r → (i ≡ j) × (q ≡ r)
+    same_field i j q r k = (cc, cc)
+
+    pick : (x : Binding) → slice_get bs b.0 ≡ Some x → path_over (take b.0 (paths_of bs)) x ≡ StructField field p
+        → (source : BindingId) × (index : TupleIndex) × (slice_get bs b.0 ≡ Some (binding.ExtractStruct source index)) × (index.0 ≡ field) × (source.0 < b.0) × (at (paths_of bs) source ≡ p)
+    pick (binding.ExtractStruct source index) s k =
+        let same = same_field index.0 field (at (take b.0 (paths_of bs)) source) p k in
+        let t = taken (paths_of bs) b.0 source.0 (subst IsThere (sym same.1) h) in
+        (source, index, s, same.0, t.0, sym t.1 ∙ same.1)
+    pick x s k = cc
+
+-- where a made value on paths stands, the binding makes it
+pub variant_at : (bs : List Binding) (b : BindingId) (ty : TypeId) (variant : VariantId) (ps : Paths) → AreThere ps → at (paths_of bs) b ≡ MadeVariant ty variant ps
+    → (fields : List BindingId) × (slice_get bs b.0 ≡ Some (binding.MakeVariant ty variant fields)) × (ps ≡ at_all (paths_of bs) fields)
+variant_at bs b ty variant ps h e =
+    let x = binding_at bs b (subst IsThere (sym e) tt) in
+    pick x.0 x.1 (sym (path_at bs b x.0 x.1 (subst HasParts (sym e) h)) ∙ e)
+  where
+    pick : (x : Binding) → slice_get bs b.0 ≡ Some x → path_over (paths_of bs) x ≡ MadeVariant ty variant ps
+        → (fields : List BindingId) × (slice_get bs b.0 ≡ Some (binding.MakeVariant ty variant fields)) × (ps ≡ at_all (paths_of bs) fields)
+    pick (binding.MakeVariant of v fields) s k =
+        let same : binding.MakeVariant of v fields ≡ binding.MakeVariant ty variant fields = cc in
+        (fields, s ∙ ap Some same, cc)
+    pick x s k = cc
+
+-- so of a struct
+pub struct_at : (bs : List Binding) (b : BindingId) (ty : TypeId) (ps : Paths) → AreThere ps → at (paths_of bs) b ≡ MadeStruct ty ps
+    → (fields : List BindingId) × (slice_get bs b.0 ≡ Some (binding.MakeStruct ty fields)) × (ps ≡ at_all (paths_of bs) fields)
+struct_at bs b ty ps h e =
+    let x = binding_at bs b (subst IsThere (sym e) tt) in
+    pick x.0 x.1 (sym (path_at bs b x.0 x.1 (subst HasParts (sym e) h)) ∙ e)
+  where
+    pick : (x : Binding) → slice_get bs b.0 ≡ Some x → path_over (paths_of bs) x ≡ MadeStruct ty ps
+        → (fields : List BindingId) × (slice_get bs b.0 ≡ Some (binding.MakeStruct ty fields)) × (ps ≡ at_all (paths_of bs) fields)
+    pick (binding.MakeStruct of fields) s k =
+        let same : binding.MakeStruct of fields ≡ binding.MakeStruct ty fields = cc in
+        (fields, s ∙ ap Some same, cc)
+    pick x s k = cc
+
 -- where a call on paths stands, the binding is that call
 pub call_at : (bs : List Binding) (b : BindingId) (term : TermId) (ps : Paths) (instance : ℕ) → AreThere ps → at (paths_of bs) b ≡ Called term ps instance
     → (parameters : List BindingId) × (slice_get bs b.0 ≡ Some (binding.Constructor term parameters instance)) × (ps ≡ at_all (paths_of bs) parameters)
@@ -218,13 +286,23 @@ called_parts : (env : Environment) (t : Term) (o : Option Term) (ps : Paths) (ty
 called_parts env t None ps ty h = absurd h
 called_parts env t (Some c) ps ty h = paths_there env t ps c.arg_tys h.1
 
+-- what a made value is made of
+made_of_parts : (env : Environment) (t : Term) (o : Option Form) (ps : Paths) → IsSomeAnd o (λ f. ArePathsOf env t ps (form_types env f)) → AreThere ps
+made_of_parts env t None ps h = absurd h
+made_of_parts env t (Some f) ps h = paths_there env t ps (form_types env f) h
+
 -- a typed path is made over paths that are somewhere
 pub typed_parts : (env : Environment) (t : Term) (p : Path) (ty : TypeId) → IsPathOf env t p ty → HasParts p
 typed_parts env t (Arg i) ty h = tt
 typed_parts env t (ConstBool of b) ty h = tt
 typed_parts env t (ConstInt of n) ty h = tt
+typed_parts env t (ConstPrim name) ty h = tt
 typed_parts env t (Called term ps instance) ty h = called_parts env t (slice_get env.terms term.0) ps ty h.1
 typed_parts env t (Inner p) ty h = option_there env t p ty h
+typed_parts env t (MadeVariant of variant ps) ty h = made_of_parts env t (form env (MakesVariant of variant)) ps h.1
+typed_parts env t (MadeStruct of ps) ty h = made_of_parts env t (form env (MakesStruct of)) ps h.1
+typed_parts env t (VariantField variant field q) ty h = path_there env t q h.0 h.1
+typed_parts env t (StructField field q) ty h = path_there env t q h.0 h.1
 typed_parts env t p ty h = absurd h
 
 -- and so is that of an option

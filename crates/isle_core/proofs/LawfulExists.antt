@@ -301,7 +301,7 @@ lawful_with env term h can none history = (
     answers = called_term_fits env (called env (rules_of env term)) h can history;
     named = λ ty name c. absurd (none ty name c);
     apart = written_apart env (built env (called env (rules_of env term)) h can history) (rules_constants (rules_of env term)) none;
-    declared = λ c k. absurd (none_contained c k);
+    declared = λ name v e. cc;
   },
   answers_so env (called env (rules_of env term)) h can history h [] refl (λ c k. k),
 )

@@ -31,3 +31,4 @@ pub mod ReadablePaths
 pub mod Lines
 pub mod LineFeeds
 pub mod Columns
+pub mod TupleFields

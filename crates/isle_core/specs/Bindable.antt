@@ -11,7 +11,7 @@ use Rattle.isle_core.specs.Calling.{calling, kind_of, may_be_nothing}
 use Rattle.isle_core.specs.ExternalCall.{IsCall}
 use Rattle.isle_core.specs.Path.{Path, Called, Inner, at, at_all}
 use Rattle.isle_core.specs.PathType.{IsPathOf, IsOptionOf}
-use Rattle.isle_core.specs.Readable.{IsInPlace, AreReadAs}
+use Rattle.isle_core.specs.Readable.{IsInPlace, AreReadable, AreReadAs}
 use Rattle.isle_core.specs.Rule.{Environment}
 use Rattle.isle_core.specs.Setting.{Setting, paths_in}
 
@@ -32,23 +32,29 @@ pub record IsInnerBound (s : Setting) (bound : List ℕ) (p : Path) (source : Bi
   pub bound' : Contains bound source.0
   pub fits : may_be_nothing (kind_of s.term.kind) ≡ true
 
+-- a made value of some type, whose parts may be read
+pub record IsMadeBound (s : Setting) (bound : List ℕ) (p : Path) (fields : List BindingId) : Type 0 where
+  pub ty : TypeId
+  pub path : IsPathOf s.env s.term p ty
+  pub parts : AreReadable s bound fields
+
 -- an argument or a constant of some type
 abbrev pub IsPlain : Environment → Term → Path → Type 0
 IsPlain env t p = IsInPlace p × ((ty : TypeId) × IsPathOf env t p ty)
 
--- a binding that may stand in a bind order, where these are bound: a call, an inner value, an argument or a constant
+-- a binding that may stand in a bind order, where these are bound: a call, an inner value, an argument, a constant or a made value
 abbrev pub IsBindable : Setting → List ℕ → Path → Option Binding → Type 0
 IsBindable s bound p (Some (binding.Constructor term parameters instance)) = IsCallBound s bound p term parameters instance
 IsBindable s bound p (Some (binding.MatchSome source)) = IsInnerBound s bound p source
 IsBindable s bound p (Some (binding.Argument index)) = IsPlain s.env s.term p
 IsBindable s bound p (Some (binding.ConstBool val ty)) = IsPlain s.env s.term p
 IsBindable s bound p (Some (binding.ConstInt val ty)) = IsPlain s.env s.term p
+IsBindable s bound p (Some (binding.ConstPrim val)) = IsPlain s.env s.term p
+IsBindable s bound p (Some (binding.MakeVariant ty variant fields)) = IsMadeBound s bound p fields
+IsBindable s bound p (Some (binding.MakeStruct ty fields)) = IsMadeBound s bound p fields
 IsBindable s bound p None = ⊥
-IsBindable s bound p (Some (binding.ConstPrim val)) = ⊥
 IsBindable s bound p (Some (binding.Extractor term parameter)) = ⊥
 IsBindable s bound p (Some (binding.Iterator source)) = ⊥
-IsBindable s bound p (Some (binding.MakeVariant ty variant fields)) = ⊥
-IsBindable s bound p (Some (binding.MakeStruct ty fields)) = ⊥
 IsBindable s bound p (Some (binding.MatchVariant source variant field)) = ⊥
 IsBindable s bound p (Some (binding.ExtractStruct source field)) = ⊥
 IsBindable s bound p (Some (binding.MakeSome inner)) = ⊥

@@ -1,5 +1,6 @@
--- The values of written constants.
-use Rattle.std.specs.Prelude.{ℤ, [], Option, Some, None, slice_get}
+-- The values of written constants, and the types of named ones.
+use Rattle.std.specs.Prelude.{ℤ, [], ◌==◌, Option, Some, None, find, option_map, slice_get}
+use Rattle.isle_base.specs.declared.ids.Sym.{Sym}
 use Rattle.isle_base.specs.declared.ids.TypeId.{TypeId}
 use Rattle.isle_core.specs.declared.types.BuiltinType.TheVariants as builtin
 use Rattle.isle_core.specs.declared.types.TypeDef.{TypeDef}
@@ -17,6 +18,10 @@ int_of_def env (Some (def.Builtin builtin.Bool)) n = Opaque [] n
 int_of_def env (Some (def.Enum name is_extern is_nodebug variants pos)) n = Opaque [] n
 int_of_def env (Some (def.Struct name is_extern is_nodebug fields pos)) n = Opaque [] n
 int_of_def env None n = Opaque [] n
+
+-- the type of a named constant, where it is declared
+abbrev pub const_type : Environment → Sym → Option TypeId
+const_type env name = option_map (λ (c : Sym × TypeId). c.1) (find (λ (c : Sym × TypeId). c.0.0 == name.0) env.types.consts)
 
 -- a number as a value of a type
 abbrev pub int_value : Environment → TypeId → ℤ → Value

@@ -1,5 +1,5 @@
 -- When a meaning is lawful for a term.
-use Rattle.std.specs.Prelude.{◌≡◌, ℕ, List, [], ◌∷◌, All, Contains, Option, Some, None, IsSomeAnd, map, slice_get}
+use Rattle.std.specs.Prelude.{◌≡◌, List, [], ◌∷◌, All, Contains, Option, Some, None, IsSomeAnd, map, slice_get}
 use Rattle.isle_base.specs.declared.ids.Sym.{Sym}
 use Rattle.isle_base.specs.declared.ids.TermId.{TermId}
 use Rattle.isle_base.specs.declared.ids.TypeId.{TypeId}
@@ -13,6 +13,7 @@ use Rattle.isle_core.specs.Meaning.{PureAnswers, TurnAnswers, Meaning, turns_of,
 use Rattle.isle_core.specs.Having.{const_of}
 use Rattle.isle_core.specs.Calling.{Calling, ByTurns, ByCases, NoCall, calling, extracting}
 use Rattle.isle_core.specs.HasType.{HasType, HaveTypes}
+use Rattle.isle_core.specs.NamesApart.{ValuesConstants}
 use Rattle.isle_core.specs.CalledTerms.{Role, Extractor, Constructor, CalledTerm, called}
 use Rattle.isle_core.specs.OccurringConstants.{Constant, Truth, Number, Named, rules_constants}
 use Rattle.isle_core.specs.Terms.{sym_text}
@@ -79,16 +80,13 @@ constant_value env m ty (Truth b) = Some (value.Truth b)
 constant_value env m ty (Number n) = Some (int_value env ty n)
 constant_value env m ty (Named name) = const_of m (sym_text env name)
 
--- the name of a declared constant
-abbrev pub IsConstant : Environment → List ℕ → Type 0
-IsConstant env name = (ty : TypeId) × (s : Sym) × Contains {X = Sym × TypeId} env.types.consts (s, ty) × (sym_text env s ≡ name)
-
 -- ---- the rules of a term
 
 -- the meaning answers each term that the term's rules call; each named constant in them has a value of its type, and
--- constants of one type that have one value are one; no name but those of declared constants has a value
+-- constants of one type that have one value are one; no name but those of declared constants has a value, and that is of its
+-- constant's type
 pub record IsLawful (env : Environment) (term : TermId) (m : Meaning) : Type 0 where
   pub answers : (o : CalledTerm) → Contains (called env (rules_of env term)) o → CalledTermFits env m o
   pub named : (ty : TypeId) (name : Sym) → Contains (rules_constants (rules_of env term)) (ty, Named name) → IsSomeAnd (const_of m (sym_text env name)) (λ v. HasType env v ty)
   pub apart : (ty : TypeId) (c d : Constant) → Contains (rules_constants (rules_of env term)) (ty, c) → Contains (rules_constants (rules_of env term)) (ty, d) → constant_value env m ty c ≡ constant_value env m ty d → c ≡ d
-  pub declared : (c : List ℕ × Value) → Contains m.consts c → IsConstant env c.0
+  pub declared : ValuesConstants env m

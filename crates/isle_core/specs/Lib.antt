@@ -19,6 +19,7 @@ pub mod Answered
 pub mod Having
 pub mod Match
 pub mod Eval
+pub mod Nameless
 pub mod Outcome
 pub mod HighestMatch
 pub mod BuiltRule
@@ -29,6 +30,7 @@ pub mod RightSide
 pub mod OrderedCalls
 pub mod RulePaths
 pub mod PatternType
+pub mod NamesApart
 pub mod ValueAt
 pub mod CallRun
 pub mod RuleSet
@@ -58,3 +60,4 @@ pub mod ErrorLines
 pub mod Inputs
 pub mod Places
 pub mod Terms
+pub mod TypedParts

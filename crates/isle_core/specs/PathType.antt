@@ -3,31 +3,33 @@ use Rattle.std.specs.Prelude.{◌≡◌, List, [], ◌∷◌, Some, IsSomeAnd, s
 use Rattle.isle_base.specs.declared.ids.TypeId.{TypeId}
 use Rattle.isle_core.specs.declared.types.ReturnKind.TheVariants as return_kind
 use Rattle.isle_core.specs.declared.types.Term.{Term}
-use Rattle.isle_core.specs.BuiltinType.{IsBuiltinType}
+use Rattle.isle_core.specs.Form.{form, form_types}
+use Rattle.isle_core.specs.Making.{MakesVariant, MakesStruct}
+use Rattle.isle_core.specs.PatternType.{IsNumeric}
 use Rattle.isle_core.specs.HasType.{HasType}
 use Rattle.isle_core.specs.Value.{Truth}
-use Rattle.isle_core.specs.Constants.{int_value}
+use Rattle.isle_core.specs.Constants.{int_value, const_type}
 use Rattle.isle_core.specs.Calling.{calling}
 use Rattle.isle_core.specs.ExternalCall.{IsCall}
 use Rattle.isle_core.specs.Path.{Path, Nowhere, Arg, ConstBool, ConstInt, ConstPrim, Extracted, Called, Chosen, MadeVariant, MadeStruct, VariantField, StructField, Wrapped, Inner, Part, Paths, NoPath, APath}
 use Rattle.isle_core.specs.Rule.{Environment}
 
--- a path of which a value of the type stands where the binding of the path is bound or may be read; only arguments, truths, numbers of integer types, calls and inner values are built
+-- a path of which a value of the type stands where the binding of the path is bound or may be read; extractors, chosen items, options that are made and parts of answers are not built
 abbrev mutual
   pub IsPathOf : Environment → Term → Path → TypeId → Type 0
   IsPathOf env t (Arg i) ty = slice_get t.arg_tys i ≡ Some ty
   IsPathOf env t (ConstBool of b) ty = (of ≡ ty) × HasType env (Truth b) ty
-  IsPathOf env t (ConstInt of n) ty = (of ≡ ty) × HasType env (int_value env ty n) ty × IsBuiltinType env ty
+  IsPathOf env t (ConstInt of n) ty = (of ≡ ty) × HasType env (int_value env ty n) ty × IsNumeric env ty
+  IsPathOf env t (ConstPrim name) ty = const_type env name ≡ Some ty
   IsPathOf env t (Called term ps instance) ty = IsCall return_kind.Plain (calling env term) × IsSomeAnd (slice_get env.terms term.0) (λ (c : Term). (c.ret_ty ≡ ty) × ArePathsOf env t ps c.arg_tys)
   IsPathOf env t (Inner p) ty = IsOptionOf env t p ty
   IsPathOf env t Nowhere ty = ⊥
-  IsPathOf env t (ConstPrim name) ty = ⊥
   IsPathOf env t (Extracted term q) ty = ⊥
   IsPathOf env t (Chosen q) ty = ⊥
-  IsPathOf env t (MadeVariant of variant ps) ty = ⊥
-  IsPathOf env t (MadeStruct of ps) ty = ⊥
-  IsPathOf env t (VariantField variant field q) ty = ⊥
-  IsPathOf env t (StructField field q) ty = ⊥
+  IsPathOf env t (MadeVariant of variant ps) ty = (of ≡ ty) × IsSomeAnd (form env (MakesVariant of variant)) (λ f. ArePathsOf env t ps (form_types env f))
+  IsPathOf env t (MadeStruct of ps) ty = (of ≡ ty) × IsSomeAnd (form env (MakesStruct of)) (λ f. ArePathsOf env t ps (form_types env f))
+  IsPathOf env t (VariantField variant field q) ty = (of : TypeId) × IsPathOf env t q of × IsSomeAnd (form env (MakesVariant of variant)) (λ f. slice_get (form_types env f) field ≡ Some ty)
+  IsPathOf env t (StructField field q) ty = (of : TypeId) × IsPathOf env t q of × IsSomeAnd (form env (MakesStruct of)) (λ f. slice_get (form_types env f) field ≡ Some ty)
   IsPathOf env t (Wrapped q) ty = ⊥
   IsPathOf env t (Part part q) ty = ⊥
 

@@ -1,13 +1,12 @@
 -- Patterns for values of a type.
-use Rattle.std.specs.Prelude.{◌≡◌, List, [], ◌∷◌, Option, Some, None, Contains, IsSomeAnd, option_map, slice_get}
-use Rattle.isle_base.specs.declared.ids.Sym.{Sym}
+use Rattle.std.specs.Prelude.{◌≡◌, List, [], ◌∷◌, Option, Some, None, IsSomeAnd, option_map, slice_get}
 use Rattle.isle_base.specs.declared.ids.TypeId.{TypeId}
 use Rattle.isle_base.specs.declared.ids.VariantId.{VariantId}
 use Rattle.isle_core.specs.declared.types.BuiltinType.TheVariants as builtin
 use Rattle.isle_core.specs.declared.types.Term.{Term}
 use Rattle.isle_core.specs.declared.types.TypeDef.{TypeDef}
 use Rattle.isle_core.specs.declared.types.TypeDef.TheVariants as def
-use Rattle.isle_core.specs.Constants.{int_value}
+use Rattle.isle_core.specs.Constants.{int_value, const_type}
 use Rattle.isle_core.specs.Form.{form, form_types, form_name}
 use Rattle.isle_core.specs.HasType.{HasType}
 use Rattle.isle_core.specs.Making.{Making, MakesVariant, MakesStruct, MakesNothing, making}
@@ -49,7 +48,7 @@ abbrev mutual
   IsPatternOf env ty (pattern.Var of x) = of ≡ ty
   IsPatternOf env ty (pattern.ConstBool b) = (bool_type ≡ ty) × HasType env (Truth b) ty
   IsPatternOf env ty (pattern.ConstInt of n) = (of ≡ ty) × HasType env (int_value env ty n) ty × IsNumeric env ty
-  IsPatternOf env ty (pattern.ConstPrim of name) = (of ≡ ty) × Contains {X = Sym × TypeId} env.types.consts (name, ty)
+  IsPatternOf env ty (pattern.ConstPrim of name) = (of ≡ ty) × (const_type env name ≡ Some ty)
   IsPatternOf env ty (pattern.Wildcard of) = of ≡ ty
   IsPatternOf env ty (pattern.Term of term ps) = (of ≡ ty) × IsOfMaking ty (making env term) × ArePartsOf env (option_map (form_types env) (form env (making env term))) ps
   IsPatternOf env ty (pattern.BindPattern of x p) = ⊥

@@ -16,54 +16,65 @@ use Rattle.isle_core.specs.ConstraintType.{IsConstraintOf}
 use Rattle.isle_core.specs.ExternalCall.{IsCall}
 use Rattle.isle_core.specs.Occurrences.{occurrences}
 use Rattle.isle_core.specs.PathType.{IsPathOf, ArePathsOf}
-use Rattle.isle_core.specs.Readable.{IsInPlace}
+use Rattle.isle_core.specs.RuleSet.{is_test}
+use Rattle.isle_core.specs.Tests.{Test, Is}
+use Rattle.isle_core.specs.declared.rule_sets.Constraint.TheVariants as constraint
 use Rattle.isle_core.specs.Rule.{Environment}
+
+-- ---- what may be read
+
+-- a path may be read behind these tests and these calls: a field behind the test that shows it, a call or its inner value
+-- behind the call, and a made value where its parts may be
+abbrev mutual
+  pub StandsOn : (tests : List Test) → (done : List Path) → Path → Type 0
+  StandsOn tests done (Called term ps instance) = Contains done (Called term ps instance)
+  StandsOn tests done (Inner p) = StandsOn tests done p
+  StandsOn tests done (VariantField variant field q) = (ty : TypeId) × Contains tests (Is q (constraint.Variant ty variant))
+  StandsOn tests done (StructField field q) = (ty : TypeId) × Contains tests (Is q (constraint.Struct ty))
+  StandsOn tests done (MadeVariant of variant ps) = AllStandOn tests done ps
+  StandsOn tests done (MadeStruct of ps) = AllStandOn tests done ps
+  StandsOn tests done Nowhere = Unit {0}
+  StandsOn tests done (Arg i) = Unit {0}
+  StandsOn tests done (ConstBool of b) = Unit {0}
+  StandsOn tests done (ConstInt of n) = Unit {0}
+  StandsOn tests done (ConstPrim name) = Unit {0}
+  StandsOn tests done (Extracted term q) = Unit {0}
+  StandsOn tests done (Chosen q) = Unit {0}
+  StandsOn tests done (Wrapped q) = Unit {0}
+  StandsOn tests done (Part part q) = Unit {0}
+
+  -- so of each
+  pub AllStandOn : (tests : List Test) → (done : List Path) → Paths → Type 0
+  AllStandOn tests done NoPath = Unit {0}
+  AllStandOn tests done (APath p ps) = StandsOn tests done p × AllStandOn tests done ps
 
 -- ---- tests
 
--- a constraint of the type of its binding's path, which may be read in place
-pub record IsTestable (env : Environment) (t : Term) (ps : List Path) (c : BindingId × Constraint) : Type 0 where
+-- a constraint of the type of its binding's path, which may be read behind the tests before
+pub record IsTestable (env : Environment) (t : Term) (ps : List Path) (before : List Test) (c : BindingId × Constraint) : Type 0 where
   pub ty : TypeId
   pub path : IsPathOf env t (at ps c.0) ty
-  pub in_place : IsInPlace (at ps c.0)
+  pub stands : StandsOn before [] (at ps c.0)
   pub constraint : IsConstraintOf env c.1 ty
 
--- two bindings whose paths are of one type and may be read in place
-pub record AreComparable (env : Environment) (t : Term) (ps : List Path) (e : BindingId × BindingId) : Type 0 where
+-- constraints in order, behind these tests
+abbrev pub AreTestable : Environment → Term → List Path → (before : List Test) → List (BindingId × Constraint) → Type 0
+AreTestable env t ps before [] = Unit {0}
+AreTestable env t ps before (c ∷ cs) = IsTestable env t ps before c × AreTestable env t ps (is_test ps c ∷ before) cs
+
+-- two bindings whose paths are of one type and may be read behind these tests
+pub record AreComparable (env : Environment) (t : Term) (ps : List Path) (tests : List Test) (e : BindingId × BindingId) : Type 0 where
   pub ty : TypeId
   pub left : IsPathOf env t (at ps e.0) ty
-  pub left_in_place : IsInPlace (at ps e.0)
+  pub left_stands : StandsOn tests [] (at ps e.0)
   pub right : IsPathOf env t (at ps e.1) ty
-  pub right_in_place : IsInPlace (at ps e.1)
+  pub right_stands : StandsOn tests [] (at ps e.1)
 
 -- ---- calls
 
--- a path is a call among these, or its inner value, or no call
-abbrev pub StandsOn : List Path → Path → Type 0
-StandsOn done (Called term ps instance) = Contains done (Called term ps instance)
-StandsOn done (Inner p) = StandsOn done p
-StandsOn done Nowhere = Unit {0}
-StandsOn done (Arg i) = Unit {0}
-StandsOn done (ConstBool of b) = Unit {0}
-StandsOn done (ConstInt of n) = Unit {0}
-StandsOn done (ConstPrim name) = Unit {0}
-StandsOn done (Extracted term q) = Unit {0}
-StandsOn done (Chosen q) = Unit {0}
-StandsOn done (MadeVariant of variant ps) = Unit {0}
-StandsOn done (MadeStruct of ps) = Unit {0}
-StandsOn done (VariantField variant field q) = Unit {0}
-StandsOn done (StructField field q) = Unit {0}
-StandsOn done (Wrapped q) = Unit {0}
-StandsOn done (Part part q) = Unit {0}
-
--- so of each
-abbrev pub AllStandOn : List Path → Paths → Type 0
-AllStandOn done NoPath = Unit {0}
-AllStandOn done (APath p ps) = StandsOn done p × AllStandOn done ps
-
 -- a call of an external term on values of its types, which stand on earlier calls; it has an inner value exactly where it
 -- may be nothing, which is only so in a term that may answer nothing
-pub record IsSerializableCall (env : Environment) (t : Term) (ps done : List Path) (p : Path) : Type 0 where
+pub record IsSerializableCall (env : Environment) (t : Term) (tests : List Test) (ps done : List Path) (p : Path) : Type 0 where
   pub term : TermId
   pub parameters : Paths
   pub instance : ℕ
@@ -71,30 +82,53 @@ pub record IsSerializableCall (env : Environment) (t : Term) (ps done : List Pat
   pub called : Term
   pub found : slice_get env.terms term.0 ≡ Some called
   pub args : ArePathsOf env t parameters called.arg_tys
-  pub stand : AllStandOn done parameters
+  pub stand : AllStandOn tests done parameters
   pub kind : ReturnKind
   pub external : IsCall kind (calling env term)
   pub inner : IsTrue (may_be_nothing kind) ↔ Contains ps (Inner p)
   pub fits : IsTrue (may_be_nothing kind) → may_be_nothing (kind_of t.kind) ≡ true
 
 -- calls in order, behind those that were made
-abbrev pub AreSerializableCalls : Environment → Term → (ps done : List Path) → List Path → Type 0
-AreSerializableCalls env t ps done [] = Unit {0}
-AreSerializableCalls env t ps done (p ∷ more) = IsSerializableCall env t ps done p × AreSerializableCalls env t ps (p ∷ done) more
+abbrev pub AreSerializableCalls : Environment → Term → (tests : List Test) → (ps done : List Path) → List Path → Type 0
+AreSerializableCalls env t tests ps done [] = Unit {0}
+AreSerializableCalls env t tests ps done (p ∷ more) = IsSerializableCall env t tests ps done p × AreSerializableCalls env t tests ps (p ∷ done) more
 
 -- ---- rules
 
--- the tests of a rule fit the types of what they test, its calls are ready, each with its own occurrence, and its result
--- is of the term's type and stands on them
+-- the tests of a rule that are constraints
+abbrev pub constraint_tests : List Path → FlatRule → List Test
+constraint_tests ps f = map (is_test ps) f.constraints
+
+-- the tests of a rule fit the types of what they test, which may be read where they stand; its calls are ready, each with its own
+-- occurrence, and its result is of the term's type and stands on them
 pub record IsSerializableRule (env : Environment) (t : Term) (ps : List Path) (f : FlatRule) : Type 0 where
-  pub constraints : AllByRecursion (IsTestable env t ps) f.constraints
-  pub equals : AllByRecursion (AreComparable env t ps) f.equals
-  pub calls : AreSerializableCalls env t ps [] (map (at ps) f.ordered)
+  pub constraints : AreTestable env t ps [] f.constraints
+  pub equals : AllByRecursion (AreComparable env t ps (constraint_tests ps f)) f.equals
+  pub calls : AreSerializableCalls env t (constraint_tests ps f) ps [] (map (at ps) f.ordered)
   pub once : EachOnce (occurrences env ps f.ordered)
   pub result : IsPathOf env t (at ps f.result) t.ret_ty
-  pub stands : StandsOn (map (at ps) f.ordered) (at ps f.result)
+  pub stands : StandsOn (constraint_tests ps f) (map (at ps) f.ordered) (at ps f.result)
 
--- no path stands twice, and each rule of the set is ready
+-- a field of a path
+abbrev pub IsFieldPath : Path → Type 0
+IsFieldPath (VariantField variant field q) = Unit {0}
+IsFieldPath (StructField field q) = Unit {0}
+IsFieldPath Nowhere = ⊥
+IsFieldPath (Arg i) = ⊥
+IsFieldPath (ConstBool of b) = ⊥
+IsFieldPath (ConstInt of n) = ⊥
+IsFieldPath (ConstPrim name) = ⊥
+IsFieldPath (Extracted term q) = ⊥
+IsFieldPath (Called term ps instance) = ⊥
+IsFieldPath (Chosen q) = ⊥
+IsFieldPath (MadeVariant of variant ps) = ⊥
+IsFieldPath (MadeStruct of ps) = ⊥
+IsFieldPath (Wrapped q) = ⊥
+IsFieldPath (Inner q) = ⊥
+IsFieldPath (Part part q) = ⊥
+
+-- no path stands twice, each field has a type, and each rule of the set is ready
 pub record IsSerializable (env : Environment) (t : Term) (s : RuleSet) : Type 0 where
   pub once : EachOnce (paths_of s.bindings)
+  pub fields : (p : Path) → Contains (paths_of s.bindings) p → IsFieldPath p → (ty : TypeId) × IsPathOf env t p ty
   pub rules : AllByRecursion (IsSerializableRule env t (paths_of s.bindings)) s.rules

@@ -1,15 +1,15 @@
 -- When a rule set stands for rules.
-use Rattle.std.specs.Prelude.{◌≡◌, ◌↔◌, ◌⊎◌, ℕ, ◌+◌, List, [], ◌∷◌, Contains, map}
+use Rattle.std.specs.Prelude.{◌≡◌, ◌↔◌, ◌⊎◌, ℕ, ◌+◌, List, [], ◌∷◌, Contains, map, filter}
 use Rattle.isle_core.specs.declared.rule_sets.FlatRule.{FlatRule}
 use Rattle.isle_core.specs.declared.rule_sets.RuleSet.{RuleSet}
 use Rattle.isle_core.specs.Path.{Path, at, paths_of}
 use Rattle.isle_core.specs.Iterators.{rule_iterators}
 use Rattle.isle_core.specs.OrderedCalls.{rule_calls}
 use Rattle.isle_core.specs.RightSide.{rule_result}
-use Rattle.isle_core.specs.Tests.{Test, Is, Equal, Never, rule_tests}
+use Rattle.isle_core.specs.Tests.{Test, Is, Equal, Never, is_constraint, rule_tests}
 use Rattle.isle_core.specs.Calling.{impure}
 use Rattle.isle_core.specs.RulePaths.{rules_paths}
-use Rattle.isle_core.specs.RuleSet.{flat_tests}
+use Rattle.isle_core.specs.RuleSet.{is_test, flat_tests}
 use Rattle.isle_core.specs.Rule.{Environment, Rule}
 
 -- no item stands twice
@@ -29,12 +29,14 @@ pub data AreFirsts {A : Type 0} : List A → List A → List A → Type 0 where
   again : (seen : List A) (x : A) (xs ys : List A) → Contains seen x → AreFirsts seen xs ys → AreFirsts seen (x ∷ xs) ys
   first : (seen : List A) (x : A) (xs ys : List A) → (Contains seen x → ⊥) → AreFirsts (x ∷ seen) xs ys → AreFirsts seen (x ∷ xs) (x ∷ ys)
 
--- a flat rule has the rule's tests but the trivial ones, each once, its priority, its position, its calls of terms that
--- answer several times, its calls in order, each once, and its result, after n impure calls of the rules before
+-- a flat rule has the rule's tests but the trivial ones, each once, its constraints in order, its priority, its position, its
+-- calls of terms that answer several times, its calls in order, each once, and its result, after n impure calls of the rules
+-- before
 pub record IsFlat (env : Environment) (ps : List Path) (r : Rule) (n : ℕ) (f : FlatRule) : Type 0 where
   pub tested : (t : Test) → Contains (rule_tests env r) t → Contains (flat_tests ps f) t ⊎ IsTrivial t
   pub no_other : (t : Test) → Contains (flat_tests ps f) t → Contains (rule_tests env r) t × (IsTrivial t → ⊥)
   pub once : EachOnce (flat_tests ps f)
+  pub constraints : map (is_test ps) f.constraints ≡ filter is_constraint (rule_tests env r)
   pub prio : f.prio ≡ r.prio
   pub pos : f.pos ≡ r.pos
   pub iterators : AreFirsts [] (rule_iterators env r n) (map (at ps) f.iterators)

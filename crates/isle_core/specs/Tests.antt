@@ -1,5 +1,5 @@
 -- What a rule tests of paths, and where its variables stand.
-use Rattle.std.specs.Prelude.{ℕ, suc, List, [], ◌∷◌, ◌++◌, Option, Some, None}
+use Rattle.std.specs.Prelude.{ℕ, suc, List, [], ◌∷◌, ◌++◌, Bool, true, false, Option, Some, None}
 use Rattle.isle_core.specs.declared.rule_sets.Constraint.{Constraint}
 use Rattle.isle_core.specs.declared.rule_sets.Constraint.TheVariants as constraint
 use Rattle.isle_core.specs.Pattern as pattern
@@ -15,6 +15,12 @@ pub data Test : Type 0 where
   Is : Path → Constraint → Test
   Equal : Path → Path → Test
   Never : Test
+
+-- whether a test is a constraint
+abbrev pub is_constraint : Test → Bool
+is_constraint (Is p c) = true
+is_constraint (Equal p q) = false
+is_constraint Never = false
 
 -- the path of each variable, by its number
 abbrev pub Places : Type 0

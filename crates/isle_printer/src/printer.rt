@@ -1,6 +1,6 @@
 //! The printer. Its value is the list of the tokens printed so far: blanks, lines and comments are its own affair.
 
-ghost use Rattle.std.specs.Prelude.{◌≡◌, ◌<◌, ◌≤◌, ◌-◌, ◌++◌, [], ◌∷◌, OnOk, IsTrue, length, slice_index, string_bytes};
+ghost use Rattle.std.specs.Prelude.{◌≡◌, ◌<◌, ◌≤◌, ◌-◌, ◌++◌, [], ◌∷◌, OnOk, IsTrue, length, slice_index, string_bytes, codes};
 ghost use Rattle.std.specs.List.{list_all};
 ghost use Rattle.isle_printer.specs.Token.{Word, Mark, Quoted, is_word, is_word_byte, is_blank, is_mark, goes_on, left_open, tokens_of, scan, Between, InWord};
 ghost use Rattle.isle_printer.specs.Glue.{Settles, Ends, EndsAtWord, meets, is_open, noted};
@@ -261,6 +261,16 @@ impl Printer {
         self.parts.clear();
         self.parts.push_str(prefix)?;
         push_numeral(&mut self.parts, n as u128, 10)?;
+        push_word(&mut self.text, &mut self.last, &self.parts)
+    }
+
+    /// Prints one word: a number's hexadecimal digits behind `0x`. What is printed after an error is left open.
+    pub fn hexadecimal(&mut self, n: u128) -> Result<(), AllocError>
+        ensures { OnOk result (self.new ≡ self.old ++ Word (codes "0x" ++ numeral 16 n) ∷ []) }
+    {
+        self.parts.clear();
+        self.parts.push_str("0x")?;
+        push_numeral(&mut self.parts, n, 16)?;
         push_word(&mut self.text, &mut self.last, &self.parts)
     }
 
