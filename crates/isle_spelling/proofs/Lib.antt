@@ -1,3 +1,4 @@
 pub mod Wraps
 pub mod Literals
 pub mod Prints
+pub mod Raws

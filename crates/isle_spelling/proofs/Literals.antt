@@ -17,7 +17,7 @@ use Rattle.isle_printer.proofs.Numerals.{below_sixteen, list_all-numeral, list_a
 use Rattle.isle_printer.proofs.Readback.{numeral_again}
 use Rattle.isle_spelling.specs.Literal.{literal_word, literal_text, literal_tokens, digits_word, parted, literal_of}
 
-glyph_no_bar : (d : ℕ) → d < 16 → glyph d ≡ 95 → ⊥
+pub glyph_no_bar : (d : ℕ) → d < 16 → glyph d ≡ 95 → ⊥
 glyph_no_bar d h = grind (arith, nat_tests)
 
 parted-glyphs : (ds w : List ℕ) → AllBelowBase 16 ds → parted (map glyph ds ++ 95 ∷ w) ≡ (map glyph ds, w)

@@ -1,8 +1,9 @@
-pub mod Functions
-pub mod Ending
-pub mod TypeNames
+pub mod Names
 pub mod Prints
 pub mod Words
+pub mod ReadsAgain
+pub mod ExprsAgain
+pub mod PatternsAgain
 pub mod NoComments
 pub mod Phrases
 pub mod TypesAgain

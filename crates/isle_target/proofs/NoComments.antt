@@ -2,7 +2,7 @@
 use Rattle.std.proofs.Common.{◌≡◌, ℕ, zero, suc, List, [], ◌∷◌, ◌++◌, Bool, true, false, Option, Some, None, refl}
 use Rattle.std.specs.Prelude.{codes, ℤ, pos, negsuc, ◌+◌}
 use Rattle.std.specs.List.{list_all}
-use Rattle.isle_printer.specs.Token.{Token, Mark, is_read, step, begun}
+use Rattle.isle_printer.specs.Token.{Token, Word, Mark, is_read, step, begun}
 use Rattle.isle_printer.proofs.Comments.{both_read}
 use Rattle.isle_core.specs.Int.{wrapped}
 use Rattle.isle_core.specs.declared.types.IntType.{IntType}
@@ -26,8 +26,11 @@ use Rattle.isle_tree.specs.declared.tree.Read.{Read}
 use Rattle.isle_tree.specs.declared.tree.Read.TheVariants as read
 use Rattle.isle_tree.specs.declared.tree.TExpr.{TExpr}
 use Rattle.isle_tree.specs.declared.tree.TExpr.TheVariants as expr
+use Rattle.isle_tree.specs.declared.tree.TBind.{TBind}
+use Rattle.isle_tree.specs.declared.tree.TPat.{TPat}
+use Rattle.isle_tree.specs.declared.tree.TPat.TheVariants as pattern
 use Rattle.isle_tree.specs.Program.{Stmt, Let, LetList, IfEq, IfLet, Match, Loop, Return, Extend, Overflow, Log, Split, Tail, Body, Done, Then, Function, Program}
-use Rattle.isle_target.specs.Spelling.{truth_token, operand_tokens, read_tokens, args_tokens, call_tokens, expr_tokens, close, if_eq_head, tail_tokens, stmt_tokens, body_tokens, params_tokens, result_tokens, result_part, function_tokens, functions_tokens, allow_part, comma, typed_tokens, joined_tokens, results_tokens, trait_result, trait_fn_tokens, trait_fns_tokens, trait_tokens, named_tokens, places_tokens, visible, fields_tokens, variant_tokens, variants_tokens, struct_end, type_body_tokens, derive_tokens, type_tokens, types_tokens, program_tokens}
+use Rattle.isle_target.specs.Spelling.{local_token, truth_token, operand_tokens, clone_part, read_tokens, borrow_part, args_tokens, call_tokens, field_read_tokens, field_reads_tokens, made_tokens, as_ref_part, expr_tokens, ref_part, bind_tokens, binds_tokens, braced_tokens, pattern_tokens, close, if_eq_head, if_let_head, param_tokens, tail_tokens, stmt_tokens, body_tokens, params_tokens, result_tokens, result_part, function_tokens, functions_tokens, allow_part, comma, typed_tokens, joined_tokens, results_tokens, trait_result, trait_fn_tokens, trait_fns_tokens, trait_tokens, named_tokens, places_tokens, visible, fields_tokens, variant_tokens, variants_tokens, struct_end, type_body_tokens, derive_tokens, type_tokens, types_tokens, program_tokens}
 
 -- none of the tokens is a comment
 abbrev AreRead : List Token → Type 0
@@ -51,8 +54,8 @@ operand_read (operand.Name name) = refl
 
 read_read : (r : Read) → AreRead (read_tokens r)
 read_read (read.Plain o) = operand_read o
-read_read (read.Borrow o) = refl
-read_read (read.Clone o) = refl
+read_read (read.Borrow o) = operand_read o
+read_read (read.Clone o) = both_read (operand_tokens o) clone_part (operand_read o) refl
 
 args_read : (rs : List Read) → AreRead (args_tokens rs)
 args_read [] = refl
@@ -62,19 +65,61 @@ call_read : (c : Callee) (rs : List Read) → AreRead (call_tokens c rs)
 call_read (callee.External name) rs = args_read rs
 call_read (callee.Internal term) rs = refl
 
+borrow_read : (borrow : Bool) → AreRead (borrow_part borrow)
+borrow_read true = refl
+borrow_read false = refl
+
+field_reads_read : (fs : List (List ℕ × Read)) → AreRead (field_reads_tokens fs)
+field_reads_read [] = refl
+field_reads_read (f ∷ fs) =
+    both_read (field_read_tokens f) (field_reads_tokens fs) (both_read (read_tokens f.1) (Mark (codes ",") ∷ []) (read_read f.1) refl) (field_reads_read fs)
+
+made_read : (fs : List (List ℕ × Read)) → AreRead (made_tokens fs)
+made_read [] = refl
+made_read (f ∷ fs) = field_reads_read (f ∷ fs)
+
+as_ref_read : (as_ref : Bool) → AreRead (as_ref_part as_ref ++ Mark (codes "?") ∷ [])
+as_ref_read true = refl
+as_ref_read false = refl
+
 expr_read : (e : TExpr) → AreRead (expr_tokens e)
 expr_read (expr.Read r) = read_read r
-expr_read (expr.Call false call) = call_read call.callee call.args
-expr_read (expr.Call true call) = refl
-expr_read (expr.Variant ty variant fields) = refl
-expr_read (expr.Struct ty fields) = refl
+expr_read (expr.Call borrow call) = both_read (borrow_part borrow) (call_tokens call.callee call.args) (borrow_read borrow) (call_read call.callee call.args)
+expr_read (expr.Variant ty variant fields) = made_read fields
+expr_read (expr.Struct ty fields) = made_read fields
 expr_read (expr.Some r) = both_read (read_tokens r) (Mark (codes ")") ∷ []) (read_read r) refl
-expr_read (expr.Try source false) = both_read (operand_tokens source) (Mark (codes "?") ∷ []) (operand_read source) refl
-expr_read (expr.Try source true) = refl
+expr_read (expr.Try source as_ref) = both_read (operand_tokens source) (as_ref_part as_ref ++ Mark (codes "?") ∷ []) (operand_read source) (as_ref_read as_ref)
 expr_read (expr.Tuple o n) = refl
 
 head_read : (a b : Operand) → AreRead (if_eq_head a b)
 head_read a b = both_read (operand_tokens a) _ (operand_read a) (both_read (operand_tokens b) (Mark (codes "{") ∷ []) (operand_read b) refl)
+
+bind_read : (b : TBind) → AreRead (bind_tokens b)
+bind_read b = both_read (ref_part b.by_ref) (local_token b.local ∷ Mark (codes ",") ∷ []) (ref_read b.by_ref) refl
+  where
+    ref_read : (by_ref : Bool) → AreRead (ref_part by_ref)
+    ref_read true = refl
+    ref_read false = refl
+
+binds_read : (bs : List TBind) (more : Bool) → AreRead (binds_tokens bs more)
+binds_read [] true = refl
+binds_read [] false = refl
+binds_read (b ∷ bs) more = both_read (bind_tokens b) (binds_tokens bs more) (bind_read b) (binds_read bs more)
+
+braced_read : (bs : List TBind) (more : Bool) → AreRead (braced_tokens bs more)
+braced_read [] false = refl
+braced_read [] true = refl
+braced_read (b ∷ bs) more = binds_read (b ∷ bs) more
+
+pattern_read : (p : TPat) → AreRead (pattern_tokens p)
+pattern_read (pattern.Const o) = operand_read o
+pattern_read (pattern.Variant ty variant bs more) = braced_read bs more
+pattern_read (pattern.Struct ty bs more) = braced_read bs more
+pattern_read (pattern.Some None) = refl
+pattern_read (pattern.Some (Some n)) = refl
+
+let_head_read : (p : TPat) (r : Read) → AreRead (if_let_head p r)
+let_head_read p r = both_read (pattern_tokens p) _ (pattern_read p) (both_read (read_tokens r) (Mark (codes "{") ∷ []) (read_read r) refl)
 
 tail_read : (texts : Option (List ℕ × List ℕ)) → AreRead (tail_tokens texts)
 tail_read None = refl
@@ -85,7 +130,7 @@ mutual
   stmt_read (Let n e) = both_read (expr_tokens e) (Mark (codes ";") ∷ []) (expr_read e) refl
   stmt_read (LetList n call) = refl
   stmt_read (IfEq a b inside) = both_read (if_eq_head a b) (body_tokens inside ++ close) (head_read a b) (both_read (body_tokens inside) close (body_read inside) refl)
-  stmt_read (IfLet p r inside) = refl
+  stmt_read (IfLet p r inside) = both_read (if_let_head p r) (body_tokens inside ++ close) (let_head_read p r) (both_read (body_tokens inside) close (body_read inside) refl)
   stmt_read (Match r arms) = refl
   stmt_read (Loop l i inside) = refl
   stmt_read (Return e) = both_read (expr_tokens e) (Mark (codes ";") ∷ []) (expr_read e) refl
@@ -99,9 +144,13 @@ mutual
   body_read Done = refl
   body_read (Then s ss) = both_read (stmt_tokens s) (body_tokens ss) (stmt_read s) (body_read ss)
 
+typed_read : (n : ℕ) (ty : Ty) → AreRead (typed_tokens n ty)
+typed_read n ty = both_read (borrow_part ty.by_ref) (Word ty.name ∷ []) (borrow_read ty.by_ref) refl
+
 params_read : (n : ℕ) (tys : List Ty) → AreRead (params_tokens n tys)
 params_read n [] = refl
-params_read n (ty ∷ tys) = params_read (n + 1) tys
+params_read n (ty ∷ tys) =
+    both_read (param_tokens n ty) (params_tokens (n + 1) tys) (both_read (typed_tokens n ty) (Mark (codes ",") ∷ []) (typed_read n ty) refl) (params_read (n + 1) tys)
 
 result_read : (how : ReturnKind) (ty : List ℕ) → AreRead (result_tokens how ty)
 result_read kind.Plain ty = refl
@@ -125,7 +174,8 @@ comma_read (suc n) = refl
 
 joined_read : (n : ℕ) (tys : List Ty) → AreRead (joined_tokens n tys)
 joined_read n [] = refl
-joined_read n (ty ∷ tys) = both_read (comma n) (typed_tokens n ty ++ joined_tokens (n + 1) tys) (comma_read n) (joined_read (n + 1) tys)
+joined_read n (ty ∷ tys) =
+    both_read (comma n) (typed_tokens n ty ++ joined_tokens (n + 1) tys) (comma_read n) (both_read (typed_tokens n ty) (joined_tokens (n + 1) tys) (typed_read n ty) (joined_read (n + 1) tys))
 
 results_read : (how : ReturnKind) (tys : List (List ℕ)) → AreRead (results_tokens how tys)
 results_read how [] = refl

@@ -1,7 +1,7 @@
 -- Declared types are read as what they were spelled from.
 use Rattle.std.proofs.Common.{◌≡◌, ℕ, zero, suc, ◌+◌, ◌<◌, ◌≤◌, List, [], ◌∷◌, ◌++◌, length, length-append, Bool, true, false, Some, refl, append_assoc, arith}
 use Rattle.std.specs.Prelude.{codes}
-use Rattle.isle_printer.specs.Token.{Token, Word, Mark}
+use Rattle.isle_printer.specs.Token.{Token, Mark}
 use Rattle.isle_tree.specs.declared.tree.TFields.{TFields}
 use Rattle.isle_tree.specs.declared.tree.TFields.TheVariants as shape
 use Rattle.isle_tree.specs.declared.tree.TypeBody.{TypeBody}
@@ -9,7 +9,7 @@ use Rattle.isle_tree.specs.declared.tree.TypeBody.TheVariants as type_body
 use Rattle.isle_tree.specs.declared.tree.TypeItem.{TypeItem}
 use Rattle.isle_tree.specs.Plain.{is_plain}
 use Rattle.isle_target.specs.Tokens.{at}
-use Rattle.isle_target.specs.Spelling.{field_tokens, named_tokens, places_tokens, fields_tokens, variant_tokens, variants_tokens, struct_end, type_body_tokens, derive_tokens, type_tokens, types_tokens}
+use Rattle.isle_target.specs.Spelling.{named_tokens, places_tokens, fields_tokens, variant_tokens, variants_tokens, type_body_tokens, derive_tokens, type_tokens, types_tokens}
 use Rattle.isle_target.specs.TypeReading.{read_derive, read_named, read_places, read_fields, read_variants, read_type_body, fits_derive, read_type, read_types}
 
 -- a derive is read again

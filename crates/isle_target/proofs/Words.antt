@@ -1,10 +1,13 @@
 -- A word is read as what it was spelled from.
-use Rattle.std.proofs.Common.{◌≡◌, ℕ, zero, suc, ◌<◌, List, [], ◌∷◌, ◌++◌, map, get_or, true, false, Some, refl, sym, arith}
-use Rattle.std.specs.Prelude.{ℤ, pos, negsuc, nat_le, ◌&&◌}
+use Rattle.std.proofs.Common.{◌≡◌, ℕ, zero, suc, ◌<◌, List, [], ◌∷◌, ◌++◌, length, map, get_or, Bool, true, false, Some, None, refl, sym, ap, ◌∙◌, arith}
+use Rattle.std.specs.Prelude.{ℤ, pos, negsuc, nat_le, ◌&&◌, not, codes}
+use Rattle.std.specs.List.{list_all, list_any}
+use Rattle.std.specs.Str.{bytes_eq}
 use Rattle.std.specs.Int.{w128}
 use Rattle.std.specs.Int.RustNames.{FitsSigned}
 use Rattle.std.specs.Int.Digits.{digits_of, AllBelowBase}
 use Rattle.std.proofs.lemmas.Int.Digits.{all_below_base_digits_of, first_digits_of}
+use Rattle.std.proofs.lemmas.Bool.{and_from}
 use Rattle.std.proofs.lemmas.Bool.Decides.{nat_tests, Decides-int_eq}
 use borrow.Author.Differences.{same_in, same_out, sum_is_lem, product_is, neg_is}
 use lib.IntN.{neg_ℤ}
@@ -12,16 +15,23 @@ use Rattle.isle_core.specs.declared.types.IntType.{IntType}
 use Rattle.isle_core.specs.declared.types.IntType.TheVariants.{U8, U16, U32, U64, U128, USize, I8, I16, I32, I64, I128, ISize}
 use Rattle.isle_core.specs.Int.{IsOf, wrapped}
 use Rattle.isle_core.specs.HasType.{IsReduced}
-use Rattle.isle_printer.specs.Token.{Token}
+use Rattle.isle_printer.specs.Token.{Token, Word, Mark}
+use Rattle.isle_printer.specs.Bytes.{same_bytes}
+use Rattle.isle_printer.proofs.Bytes.{same_bytes_sound}
+use Rattle.isle_printer.proofs.Numerals.{numeral_not_empty}
 use Rattle.isle_printer.specs.Number.{numeral, glyph}
 use Rattle.isle_printer.proofs.Readback.{numeral_again}
 use Rattle.isle_tree.specs.declared.tree.Operand.{Operand}
 use Rattle.isle_tree.specs.declared.tree.Operand.TheVariants as operand
+use Rattle.isle_spelling.specs.Identifier.{used_words, is_begin, IsIdentifier}
 use Rattle.isle_spelling.specs.Literal.{literal_word, literal_tokens, signed_bits}
+use Rattle.isle_spelling.specs.Names.{is_digit, are_digits}
 use Rattle.isle_target.specs.Spelling.{operand_tokens}
 use Rattle.isle_tree.specs.WellFormed.{IsOperand}
-use Rattle.isle_target.specs.Reading.{is_number, number_at, read_operand}
+use Rattle.isle_target.specs.Tokens.{at, rest}
+use Rattle.isle_target.specs.OperandReading.{truth_of, is_number, number_at, read_operand}
 use Rattle.isle_spelling.proofs.Literals.{literal_again}
+use Rattle.isle_spelling.proofs.Raws.{raw_again, raw_no_literal}
 use Rattle.isle_spelling.proofs.Wraps.{wraps, wraps_only}
 
 -- ---- a word that is a literal begins with a digit
@@ -88,13 +98,104 @@ unfolding read_operand
 int_again ty (pos n) z ts e f = rw (literal_number ty n, literal_again ty n, number_again ty (pos n) z e f) refl
 int_again ty (negsuc n) z ts e f = rw (literal_again ty (suc n), number_again ty (negsuc n) z e f) refl
 
+-- ---- locals, and words that are none
+
+glyphs_digits : (ds : List ℕ) → AllBelowBase 10 ds → list_all is_digit (map glyph ds) ≡ true
+glyphs_digits [] h = refl
+glyphs_digits (d ∷ ds) h = and_from _ _ (glyph_is_digit d h.0) (glyphs_digits ds h.1)
+
+numeral_digits : (n : ℕ) → list_all is_digit (numeral 10 n) ≡ true
+unfolding numeral
+numeral_digits zero = refl
+numeral_digits (suc n) = glyphs_digits (digits_of 10 (suc n)) (all_below_base_digits_of 10 (suc n) (omega arith))
+
+some_digits : (w : List ℕ) → 0 < length w → list_all is_digit w ≡ true → are_digits w ≡ true
+some_digits [] some h = absurd (omega arith)
+some_digits (b ∷ bs) some h = h
+
+-- a number's digits are digits, and there are some
+numeral_is_digits : (n : ℕ) → are_digits (numeral 10 n) ≡ true
+numeral_is_digits n = some_digits (numeral 10 n) (numeral_not_empty 10 n (omega arith)) (numeral_digits n)
+
+-- two words are apart where one passes a test and the other doesn't
+pub apart_by : (p : List ℕ → Bool) (v w : List ℕ) → p v ≡ false → p w ≡ true → same_bytes v w ≡ false
+apart_by p v w e f = one (same_bytes v w) refl
+  where
+    one : (b : Bool) → same_bytes v w ≡ b → same_bytes v w ≡ false
+    one true h = let other : p v ≡ true = ap p (same_bytes_sound v w h) ∙ f in cc
+    one false h = h
+
+-- whether Rust doesn't use the word
+abbrev is_unused : List ℕ → Bool
+is_unused w = not (list_any (bytes_eq w) used_words)
+
+-- a name is no word that Rust uses
+pub used_apart : (v w : List ℕ) → is_unused v ≡ false → IsIdentifier w → same_bytes v w ≡ false
+used_apart v w e h = apart_by is_unused v w e (ap not h.unused)
+
+begin_no_digit : (b : ℕ) → is_begin b ≡ true → (nat_le 48 b && nat_le b 57) ≡ false
+begin_no_digit b h = grind (arith, nat_tests)
+
+identifier_no_number : (w : List ℕ) → IsIdentifier w → is_number w ≡ false
+identifier_no_number [] h = refl
+identifier_no_number (b ∷ bs) h = begin_no_digit b h.begins
+
+no_truth : (w : List ℕ) → IsIdentifier w → truth_of w ≡ None
+no_truth w h = rw (used_apart (codes "true") w refl h, used_apart (codes "false") w refl h) refl
+
+-- ---- operands
+
 -- an operand is read again
 pub operand_again : (o : Operand) (ts : List Token) → IsOperand o → read_operand (operand_tokens o ++ ts) ≡ Some (o, ts)
 unfolding read_operand
-operand_again (operand.Local n) ts h = rw (numeral_again 10 n (omega arith) (omega arith)) refl
-operand_again (operand.Arg n) ts h = rw (numeral_again 10 n (omega arith) (omega arith)) refl
+operand_again (operand.Local n) ts h = rw (numeral_is_digits n, numeral_again 10 n (omega arith) (omega arith)) refl
+operand_again (operand.Arg n) ts h = rw (numeral_is_digits n, numeral_again 10 n (omega arith) (omega arith)) refl
 operand_again (operand.Bool true) ts h = refl
 operand_again (operand.Bool false) ts h = refl
 operand_again (operand.Int ty z) ts h = int_again ty (wrapped ty z) z ts (signed_bits_again ty z h) refl
-operand_again (operand.Raw z) ts h = absurd h
-operand_again (operand.Name w) ts h = absurd h
+operand_again (operand.Raw z) ts h = rw (raw_no_literal z, raw_again z h) refl
+operand_again (operand.Name w) ts h = rw (identifier_no_number w h.identifier, h.no_local, h.no_arg, no_truth w h.identifier) refl
+
+-- ---- what an operand doesn't begin with
+
+literal_no_mark : (m : List ℕ) (ty : IntType) (n : ℤ) (ts : List Token) → same_bytes m (codes "-") ≡ false → at (Mark m) (literal_tokens ty n ++ ts) ≡ false
+literal_no_mark m ty (pos n) ts e = refl
+literal_no_mark m ty (negsuc n) ts e = e
+
+-- a mark that is no minus stands before no operand
+pub operand_no_mark : (m : List ℕ) (o : Operand) (ts : List Token) → same_bytes m (codes "-") ≡ false → at (Mark m) (operand_tokens o ++ ts) ≡ false
+operand_no_mark m (operand.Local n) ts e = refl
+operand_no_mark m (operand.Arg n) ts e = refl
+operand_no_mark m (operand.Bool true) ts e = refl
+operand_no_mark m (operand.Bool false) ts e = refl
+operand_no_mark m (operand.Int ty z) ts e = literal_no_mark m ty (wrapped ty z) ts e
+operand_no_mark m (operand.Raw z) ts e = refl
+operand_no_mark m (operand.Name w) ts e = refl
+
+literal_second : (m : List ℕ) (ty : IntType) (n : ℤ) (ts : List Token) → at (Mark m) ts ≡ false → at (Mark m) (rest (literal_tokens ty n ++ ts)) ≡ false
+literal_second m ty (pos n) ts e = e
+literal_second m ty (negsuc n) ts e = refl
+
+-- a mark that isn't behind an operand isn't its second token either
+pub operand_second : (m : List ℕ) (o : Operand) (ts : List Token) → at (Mark m) ts ≡ false → at (Mark m) (rest (operand_tokens o ++ ts)) ≡ false
+operand_second m (operand.Local n) ts e = e
+operand_second m (operand.Arg n) ts e = e
+operand_second m (operand.Bool true) ts e = e
+operand_second m (operand.Bool false) ts e = e
+operand_second m (operand.Int ty z) ts e = literal_second m ty (wrapped ty z) ts e
+operand_second m (operand.Raw z) ts e = e
+operand_second m (operand.Name w) ts e = e
+
+literal_no_let : (ty : IntType) (n : ℤ) (ts : List Token) → at (Word (codes "let")) (literal_tokens ty n ++ ts) ≡ false
+literal_no_let ty (pos n) ts = apart_by is_number (codes "let") (literal_word ty n) refl (literal_number ty n)
+literal_no_let ty (negsuc n) ts = refl
+
+-- no operand begins with let
+pub operand_no_let : (o : Operand) (ts : List Token) → IsOperand o → at (Word (codes "let")) (operand_tokens o ++ ts) ≡ false
+operand_no_let (operand.Local n) ts h = refl
+operand_no_let (operand.Arg n) ts h = refl
+operand_no_let (operand.Bool true) ts h = refl
+operand_no_let (operand.Bool false) ts h = refl
+operand_no_let (operand.Int ty z) ts h = literal_no_let ty (wrapped ty z) ts
+operand_no_let (operand.Raw z) ts h = refl
+operand_no_let (operand.Name w) ts h = used_apart (codes "let") w refl h.identifier

@@ -1,133 +1,25 @@
 -- Reading a text as a program: its tokens from left to right, each form told by the next few.
-use Rattle.std.specs.Prelude.{◌≡◌, ℕ, zero, suc, ◌+◌, ℤ, pos, negsuc, List, [], ◌∷◌, ◌++◌, length, Bool, true, false, ◌==◌, ◌&&◌, ◌||◌, nat_le, Option, Some, None, codes, if◌then◌else◌}
+use Rattle.std.specs.Prelude.{◌≡◌, ℕ, zero, suc, ◌+◌, List, [], ◌∷◌, ◌++◌, length, Bool, true, false, Option, Some, None, codes, if◌then◌else◌}
 use Rattle.std.specs.List.{list_any}
-use Rattle.std.specs.Ordering.{int_eq}
-use Rattle.isle_core.specs.Int.{wrapped}
-use Rattle.isle_core.specs.declared.types.IntType.{IntType}
 use Rattle.isle_core.specs.declared.values.Callee.TheVariants as callee
 use Rattle.isle_core.specs.declared.types.ReturnKind.{ReturnKind}
 use Rattle.isle_core.specs.declared.types.ReturnKind.TheVariants as kind
 use Rattle.isle_printer.specs.Token.{Token, Word, Mark, Quoted, tokens_of, without_comments}
-use Rattle.isle_printer.specs.Bytes.{same_bytes}
-use Rattle.isle_printer.specs.Number.{numeral_of}
 use Rattle.isle_tree.specs.declared.tree.Ty.{Ty}
 use Rattle.isle_tree.specs.declared.tree.TraitFn.{TraitFn}
-use Rattle.isle_tree.specs.declared.tree.Operand.{Operand}
-use Rattle.isle_tree.specs.declared.tree.Operand.TheVariants as operand
 use Rattle.isle_tree.specs.declared.tree.Read.{Read}
-use Rattle.isle_tree.specs.declared.tree.Read.TheVariants as read
 use Rattle.isle_tree.specs.declared.tree.TExpr.{TExpr}
 use Rattle.isle_tree.specs.declared.tree.TExpr.TheVariants as expr
 use Rattle.isle_spelling.specs.Fixed.{allow_tokens, uses_tokens, fixed_tokens}
-use Rattle.isle_spelling.specs.Literal.{literal_of, signed_bits}
 use Rattle.isle_target.specs.Spelling.{param_token, generics, context_param, self_param, comma, trait_head, close, no_rule, unreachable_head}
 use Rattle.isle_target.specs.Tokens.{◌>>=◌, Reads, phrase, at, rest, after, any_word, any_quoted}
+use Rattle.isle_target.specs.OperandReading.{after_prefix, numbered, read_operand, read_suffixed, read_borrowed, read_read}
+use Rattle.isle_target.specs.PatternReading.{read_pattern}
 use Rattle.isle_target.specs.TypeReading.{read_types}
-use Rattle.isle_tree.specs.Program.{Stmt, Let, IfEq, Return, Tail, Body, Done, Then, Function, Program}
+use Rattle.isle_tree.specs.Program.{Stmt, Let, IfEq, IfLet, Return, Tail, Body, Done, Then, Function, Program}
 use Rattle.isle_tree.specs.WellFormed.{IsWellFormed}
 
--- ---- words
-
--- what stands behind the prefix
-abbrev pub after_prefix : List ℕ → List ℕ → Option (List ℕ)
-after_prefix [] w = Some w
-after_prefix (p ∷ ps) [] = None
-after_prefix (p ∷ ps) (b ∷ bs) = if p == b then after_prefix ps bs else None
-
--- the number behind a prefix
-abbrev pub numbered : List ℕ → List ℕ → Option ℕ
-numbered prefix w = after_prefix prefix w >>= numeral_of 10
-
--- the first that is there
-abbrev pub or_else : {A : Type 0} → Option A → Option A → Option A
-or_else None o = o
-or_else (Some x) o = Some x
-
--- a truth
-abbrev pub truth_of : List ℕ → Option Bool
-truth_of w = if same_bytes (codes "true") w then Some true else (if same_bytes (codes "false") w then Some false else None)
-
--- an operand by one of its readings
-abbrev pub made : {A : Type 0} → (A → Operand) → Option A → Option Operand
-made make o = o >>= (λ x. Some (make x))
-
--- a local, a parameter, or a truth
-abbrev pub named : List ℕ → Option Operand
-named w =
-    or_else (made operand.Local (numbered (codes "v") w))
-    (or_else (made operand.Arg (numbered (codes "arg") w)) (made operand.Bool (truth_of w)))
-
--- whether a word begins as a number does
-abbrev pub is_number : List ℕ → Bool
-is_number [] = false
-is_number (b ∷ bs) = nat_le 48 b && nat_le b 57
-
--- the integer, where the type has this number
-abbrev pub number_at : IntType → ℤ → Option Operand
-number_at ty n = let z = signed_bits ty n in if int_eq (wrapped ty z) n then Some (operand.Int ty z) else None
-
--- the integer of this type and magnitude
-abbrev pub positive : IntType × ℕ → Option Operand
-positive l = number_at l.0 (pos l.1)
-
--- the integer of this type and magnitude behind a minus, which 0 has not
-abbrev pub negative : IntType × ℕ → Option Operand
-negative (ty, zero) = None
-negative (ty, suc n) = number_at ty (negsuc n)
-
--- ---- what stands for a value
-
--- an operand of one word
-abbrev pub read_word : List Token → Reads Operand
-read_word ts = do
-  w ← any_word ts
-  o ← if is_number w.0 then literal_of w.0 >>= positive else named w.0
-  Some (o, w.1)
-
--- an integer, from behind its minus on
-abbrev pub read_negative : List Token → Reads Operand
-read_negative ts = do
-  w ← any_word ts
-  l ← literal_of w.0
-  o ← negative l
-  Some (o, w.1)
-
--- an operand
-unfoldable pub read_operand : List Token → Reads Operand
-read_operand ts = if at (Mark (codes "-")) ts then read_negative (rest ts) else read_word ts
-
--- whether what stands behind an operand goes on it
-abbrev pub goes_on : List Token → Bool
-goes_on ts = at (Mark (codes "?")) ts || at (Mark (codes ".")) ts
-
--- an operand with what goes on it: ?, or nothing; .clone(), .as_ref()?, a part's number, and a & in front are not built
-abbrev pub suffixed : Operand → List Token → Reads TExpr
-suffixed o ts =
-    if at (Mark (codes "?")) ts then Some (expr.Try o false, rest ts)
-    else (if goes_on ts then None else Some (expr.Read (read.Plain o), ts))
-
--- an operand, and what goes on it
-unfoldable pub read_suffixed : List Token → Reads TExpr
-read_suffixed ts = do
-  o ← read_operand ts
-  suffixed o.0 o.1
-
--- an operand as it is read, and nothing else
-abbrev pub only_read : TExpr → Option Read
-only_read (expr.Read r) = Some r
-only_read (expr.Call borrow call) = None
-only_read (expr.Variant ty variant fields) = None
-only_read (expr.Struct ty fields) = None
-only_read (expr.Some r) = None
-only_read (expr.Try source as_ref) = None
-only_read (expr.Tuple o n) = None
-
--- an operand as it is read
-unfoldable pub read_read : List Token → Reads Read
-read_read ts = do
-  e ← read_suffixed ts
-  r ← only_read e.0
-  Some (r, e.1)
+-- ---- what is computed
 
 -- an option of what is read, from behind its ( on
 abbrev pub read_some : List Token → Reads TExpr
@@ -149,25 +41,80 @@ unfoldable pub read_args : ℕ → List Token → Reads (List Read)
 read_args zero ts = None
 read_args (suc n) ts = if at (Mark (codes ")")) ts then Some ([], rest ts) else read_arg (read_args n) ts
 
+-- a name with a ( behind it
+abbrev pub called_name : List Token → Reads (List ℕ)
+called_name ts = do
+  name ← any_word ts
+  ts1 ← after (Mark (codes "(")) name.1
+  Some (name.0, ts1)
+
 -- the function of the trait that is called here, up to the ( behind its name
 abbrev pub called : List Token → Reads (List ℕ)
-called ts = do
-  ts1 ← phrase (Word (codes "C") ∷ Mark (codes "::") ∷ []) ts
-  name ← any_word ts1
-  ts2 ← after (Mark (codes "(")) name.1
-  Some (name.0, ts2)
+called ts = phrase (Word (codes "C") ∷ Mark (codes "::") ∷ []) ts >>= called_name
 
--- a call of this function, from behind its ( on
-abbrev pub read_call : List ℕ → List Token → Reads TExpr
-read_call name ts = do
+-- a call of this function, behind a & or not, from behind its ( on
+abbrev pub read_call : Bool → List ℕ → List Token → Reads TExpr
+read_call borrow name ts = do
   ts1 ← after (Word (codes "ctx")) ts
   args ← read_args (length ts1) ts1
-  Some (expr.Call false (record { callee = callee.External name; args = args.0 }), args.1)
+  Some (expr.Call borrow (record { callee = callee.External name; args = args.0 }), args.1)
 
--- a call where one begins, and else an operand with what goes on it
+-- one field of a made value more, given how to read those behind it
+abbrev pub read_field_read : (List Token → Reads (List (List ℕ × Read))) → List Token → Reads (List (List ℕ × Read))
+read_field_read fields ts = do
+  name ← any_word ts
+  ts1 ← after (Mark (codes ":")) name.1
+  r ← read_read ts1
+  ts2 ← after (Mark (codes ",")) r.1
+  more ← fields ts2
+  Some ((name.0, r.0) ∷ more.0, more.1)
+
+-- the fields of a made value, and the } behind them, at most so many
+unfoldable pub read_field_reads : ℕ → List Token → Reads (List (List ℕ × Read))
+read_field_reads zero ts = None
+read_field_reads (suc k) ts = if at (Mark (codes "}")) ts then Some ([], rest ts) else read_field_read (read_field_reads k) ts
+
+-- fields between braces, from behind the { on: there is one
+abbrev pub read_some_fields : List Token → Reads (List (List ℕ × Read))
+read_some_fields ts = if at (Mark (codes "}")) ts then None else read_field_reads (length ts) ts
+
+-- fields between braces, where these are there
+unfoldable pub read_made_fields : List Token → Reads (List (List ℕ × Read))
+read_made_fields ts = if at (Mark (codes "{")) ts then read_some_fields (rest ts) else Some ([], ts)
+
+-- a value that a variant makes
+abbrev pub read_variant_made : List Token → Reads TExpr
+read_variant_made ts = do
+  ty ← any_word ts
+  ts1 ← after (Mark (codes "::")) ty.1
+  variant ← any_word ts1
+  fields ← read_made_fields variant.1
+  Some (expr.Variant ty.0 variant.0 fields.0, fields.1)
+
+-- one that a struct makes
+abbrev pub read_struct_made : List Token → Reads TExpr
+read_struct_made ts = do
+  ty ← any_word ts
+  fields ← read_made_fields ty.1
+  Some (expr.Struct ty.0 fields.0, fields.1)
+
+-- a made value where :: or { stands behind the first word, and else an operand with what goes on it
+abbrev pub read_made : List Token → Reads TExpr
+read_made ts =
+    if at (Mark (codes "::")) (rest ts) then read_variant_made ts
+    else (if at (Mark (codes "{")) (rest ts) then read_struct_made ts else read_suffixed ts)
+
+-- a call where one begins, and else a made value or an operand
 abbrev pub read_called : Reads (List ℕ) → List Token → Reads TExpr
-read_called None ts = read_suffixed ts
-read_called (Some call) ts = read_call call.0 call.1
+read_called None ts = read_made ts
+read_called (Some call) ts = read_call false call.0 call.1
+
+-- a call where one begins behind a &, and else an operand
+abbrev pub read_reference : Reads (List ℕ) → List Token → Reads TExpr
+read_reference None ts = do
+  r ← read_borrowed ts
+  Some (expr.Read r.0, r.1)
+read_reference (Some call) ts = read_call true call.0 call.1
 
 -- an option where one begins, and else what is computed without one
 abbrev pub read_option : Option (List Token) → List Token → Reads TExpr
@@ -176,7 +123,9 @@ read_option (Some inner) ts = read_some inner
 
 -- what a let or a return computes
 unfoldable pub read_expr : List Token → Reads TExpr
-read_expr ts = read_option (phrase (Word (codes "Some") ∷ Mark (codes "(") ∷ []) ts) ts
+read_expr ts =
+    if at (Mark (codes "&")) ts then read_reference (called (rest ts)) (rest ts)
+    else read_option (phrase (Word (codes "Some") ∷ Mark (codes "(") ∷ []) ts) ts
 
 -- ---- statements, from behind their first word on, given how to read a body
 
@@ -204,7 +153,7 @@ read_inside body make ts = do
   ts1 ← after (Mark (codes "}")) inside.1
   Some (make inside.0, ts1)
 
--- if
+-- if with a test
 abbrev pub read_if_eq : (List Token → Reads Body) → List Token → Reads Stmt
 read_if_eq body ts = do
   a ← read_operand ts
@@ -212,6 +161,19 @@ read_if_eq body ts = do
   b ← read_operand ts1
   ts2 ← after (Mark (codes "{")) b.1
   read_inside body (IfEq a.0 b.0) ts2
+
+-- if let, from behind the let on
+abbrev pub read_if_let : (List Token → Reads Body) → List Token → Reads Stmt
+read_if_let body ts = do
+  pat ← read_pattern ts
+  ts1 ← after (Mark (codes "=")) pat.1
+  r ← read_read ts1
+  ts2 ← after (Mark (codes "{")) r.1
+  read_inside body (IfLet pat.0 r.0) ts2
+
+-- either of them
+abbrev pub read_if : (List Token → Reads Body) → List Token → Reads Stmt
+read_if body ts = if at (Word (codes "let")) ts then read_if_let body (rest ts) else read_if_eq body ts
 
 -- unreachable
 abbrev pub read_unreachable : List Token → Reads Stmt
@@ -227,7 +189,7 @@ read_unreachable ts = do
 abbrev pub read_stmt : (List Token → Reads Body) → List Token → Reads Stmt
 read_stmt body ts =
     if at (Word (codes "let")) ts then read_let (rest ts)
-    else (if at (Word (codes "if")) ts then read_if_eq body (rest ts)
+    else (if at (Word (codes "if")) ts then read_if body (rest ts)
     else (if at (Word (codes "return")) ts then read_return (rest ts)
     else (if at (Word (codes "None")) ts then Some (Tail None, rest ts)
     else (if at (Word (codes "unreachable")) ts then read_unreachable (rest ts)
@@ -255,13 +217,22 @@ read_body (suc n) ts = if begins ts then read_then (read_body n) ts else Some (D
 
 -- ---- items
 
+-- a type's name, behind a & or not
+abbrev pub read_type_name : Bool → List Token → Reads Ty
+read_type_name by_ref ts = do
+  w ← any_word ts
+  Some (record { by_ref = by_ref; name = w.0 }, w.1)
+
+-- a type
+unfoldable pub read_ty : List Token → Reads Ty
+read_ty ts = if at (Mark (codes "&")) ts then read_type_name true (rest ts) else read_type_name false ts
+
 -- the n-th parameter, with its type
 abbrev pub read_typed : ℕ → List Token → Reads Ty
 read_typed n ts = do
   ts1 ← after (param_token n) ts
   ts2 ← after (Mark (codes ":")) ts1
-  ty ← any_word ts2
-  Some (record { by_ref = false; name = ty.0 }, ty.1)
+  read_ty ts2
 
 -- one parameter more, the n-th, given how to read those behind it
 abbrev pub read_param : ℕ → (List Token → Reads (List Ty)) → List Token → Reads (List Ty)

@@ -20,8 +20,12 @@ use Rattle.isle_tree.specs.declared.tree.Read.{Read}
 use Rattle.isle_tree.specs.declared.tree.Read.TheVariants as read
 use Rattle.isle_tree.specs.declared.tree.TExpr.{TExpr}
 use Rattle.isle_tree.specs.declared.tree.TExpr.TheVariants as expr
+use Rattle.isle_tree.specs.declared.tree.TBind.{TBind}
+use Rattle.isle_tree.specs.declared.tree.TPat.{TPat}
+use Rattle.isle_tree.specs.declared.tree.TPat.TheVariants as pattern
 use Rattle.isle_spelling.specs.Fixed.{allow_tokens, uses_tokens, fixed_tokens}
 use Rattle.isle_spelling.specs.Literal.{literal_tokens}
+use Rattle.isle_spelling.specs.Raw.{raw_word}
 use Rattle.isle_tree.specs.Plain.{is_plain}
 use Rattle.isle_tree.specs.Program.{Stmt, Let, LetList, IfEq, IfLet, Match, Loop, Return, Extend, Overflow, Log, Split, Tail, Body, Done, Then, Function, Program}
 
@@ -50,14 +54,23 @@ operand_tokens (operand.Local n) = local_token n ∷ []
 operand_tokens (operand.Arg n) = param_token n ∷ []
 operand_tokens (operand.Bool b) = truth_token b ∷ []
 operand_tokens (operand.Int ty z) = literal_tokens ty (wrapped ty z)
-operand_tokens (operand.Raw z) = not_built
-operand_tokens (operand.Name name) = not_built
+operand_tokens (operand.Raw z) = Word (raw_word z) ∷ []
+operand_tokens (operand.Name name) = Word name ∷ []
+
+-- .clone()
+abbrev pub clone_part : List Token
+clone_part = Mark (codes ".") ∷ Word (codes "clone") ∷ Mark (codes "(") ∷ Mark (codes ")") ∷ []
 
 -- an operand as it is read
 abbrev pub read_tokens : Read → List Token
 read_tokens (read.Plain o) = operand_tokens o
-read_tokens (read.Borrow o) = not_built
-read_tokens (read.Clone o) = not_built
+read_tokens (read.Borrow o) = Mark (codes "&") ∷ operand_tokens o
+read_tokens (read.Clone o) = operand_tokens o ++ clone_part
+
+-- a &, where something is behind one
+abbrev pub borrow_part : Bool → List Token
+borrow_part true = Mark (codes "&") ∷ []
+borrow_part false = []
 
 -- C::F(ctx
 abbrev pub call_head : List ℕ → List Token
@@ -73,17 +86,73 @@ abbrev pub call_tokens : Callee → List Read → List Token
 call_tokens (callee.External name) args = call_head name ++ args_tokens args
 call_tokens (callee.Internal term) args = not_built
 
+-- f: READ,
+abbrev pub field_read_tokens : List ℕ × Read → List Token
+field_read_tokens f = Word f.0 ∷ Mark (codes ":") ∷ (read_tokens f.1 ++ Mark (codes ",") ∷ [])
+
+-- the fields of a made value, and what closes them
+abbrev pub field_reads_tokens : List (List ℕ × Read) → List Token
+field_reads_tokens [] = Mark (codes "}") ∷ []
+field_reads_tokens (f ∷ fs) = field_read_tokens f ++ field_reads_tokens fs
+
+-- its fields between braces, where it has some
+abbrev pub made_tokens : List (List ℕ × Read) → List Token
+made_tokens [] = []
+made_tokens (f ∷ fs) = Mark (codes "{") ∷ field_reads_tokens (f ∷ fs)
+
+-- .as_ref(), where it stands
+abbrev pub as_ref_part : Bool → List Token
+as_ref_part true = Mark (codes ".") ∷ Word (codes "as_ref") ∷ Mark (codes "(") ∷ Mark (codes ")") ∷ []
+as_ref_part false = []
+
 -- what a let or a return computes
 abbrev pub expr_tokens : TExpr → List Token
 expr_tokens (expr.Read r) = read_tokens r
-expr_tokens (expr.Call false call) = call_tokens call.callee call.args
-expr_tokens (expr.Call true call) = not_built
-expr_tokens (expr.Variant ty variant fields) = not_built
-expr_tokens (expr.Struct ty fields) = not_built
+expr_tokens (expr.Call borrow call) = borrow_part borrow ++ call_tokens call.callee call.args
+expr_tokens (expr.Variant ty variant fields) = Word ty ∷ Mark (codes "::") ∷ Word variant ∷ made_tokens fields
+expr_tokens (expr.Struct ty fields) = Word ty ∷ made_tokens fields
 expr_tokens (expr.Some r) = Word (codes "Some") ∷ Mark (codes "(") ∷ (read_tokens r ++ Mark (codes ")") ∷ [])
-expr_tokens (expr.Try source false) = operand_tokens source ++ Mark (codes "?") ∷ []
-expr_tokens (expr.Try source true) = not_built
+expr_tokens (expr.Try source as_ref) = operand_tokens source ++ (as_ref_part as_ref ++ Mark (codes "?") ∷ [])
 expr_tokens (expr.Tuple source part) = not_built
+
+-- ---- patterns
+
+-- ref, where a field is bound by it
+abbrev pub ref_part : Bool → List Token
+ref_part true = Word (codes "ref") ∷ []
+ref_part false = []
+
+-- f: ref v0,
+abbrev pub bind_tokens : TBind → List Token
+bind_tokens b = Word b.field ∷ Mark (codes ":") ∷ (ref_part b.by_ref ++ local_token b.local ∷ Mark (codes ",") ∷ [])
+
+-- .., where fields are left out
+abbrev pub more_part : Bool → List Token
+more_part true = Mark (codes "..") ∷ []
+more_part false = []
+
+-- the fields that are bound, those left out, and what closes them
+abbrev pub binds_tokens : List TBind → Bool → List Token
+binds_tokens [] more = more_part more ++ Mark (codes "}") ∷ []
+binds_tokens (b ∷ bs) more = bind_tokens b ++ binds_tokens bs more
+
+-- these between braces, where there are any
+abbrev pub braced_tokens : List TBind → Bool → List Token
+braced_tokens [] false = []
+braced_tokens [] true = Mark (codes "{") ∷ binds_tokens [] true
+braced_tokens (b ∷ bs) more = Mark (codes "{") ∷ binds_tokens (b ∷ bs) more
+
+-- the local within Some(..), or _
+abbrev pub inner_token : Option ℕ → Token
+inner_token None = Word (codes "_")
+inner_token (Some n) = local_token n
+
+-- a pattern
+abbrev pub pattern_tokens : TPat → List Token
+pattern_tokens (pattern.Const o) = operand_tokens o
+pattern_tokens (pattern.Variant ty variant binds more) = Mark (codes "&") ∷ Word ty ∷ Mark (codes "::") ∷ Word variant ∷ braced_tokens binds more
+pattern_tokens (pattern.Struct ty binds more) = Mark (codes "&") ∷ Word ty ∷ braced_tokens binds more
+pattern_tokens (pattern.Some local) = Word (codes "Some") ∷ Mark (codes "(") ∷ inner_token local ∷ Mark (codes ")") ∷ []
 
 -- ---- statements
 
@@ -102,6 +171,10 @@ return_tokens e = Word (codes "return") ∷ (expr_tokens e ++ Mark (codes ";") �
 -- if OP == OP {
 abbrev pub if_eq_head : Operand → Operand → List Token
 if_eq_head a b = Word (codes "if") ∷ (operand_tokens a ++ Mark (codes "==") ∷ (operand_tokens b ++ Mark (codes "{") ∷ []))
+
+-- if let PAT = READ {
+abbrev pub if_let_head : TPat → Read → List Token
+if_let_head pat r = Word (codes "if") ∷ Word (codes "let") ∷ (pattern_tokens pat ++ Mark (codes "=") ∷ (read_tokens r ++ Mark (codes "{") ∷ []))
 
 -- what is said where no rule of a term that must answer matches
 unfoldable pub no_rule : List ℕ
@@ -126,7 +199,7 @@ abbrev mutual
   stmt_tokens (Let n e) = let_tokens n e
   stmt_tokens (LetList n call) = not_built
   stmt_tokens (IfEq a b inside) = if_eq_head a b ++ (body_tokens inside ++ close)
-  stmt_tokens (IfLet pat read inside) = not_built
+  stmt_tokens (IfLet pat r inside) = if_let_head pat r ++ (body_tokens inside ++ close)
   stmt_tokens (Match read arms) = not_built
   stmt_tokens (Loop list item inside) = not_built
   stmt_tokens (Return e) = return_tokens e
@@ -159,9 +232,9 @@ context_param =
 abbrev pub function_head : List ℕ → List Token
 function_head term = Word (codes "pub") ∷ Word (codes "fn") ∷ Word (constructor_word term) ∷ (generics ++ context_param)
 
--- argN: TYPE
+-- argN: &TYPE
 abbrev pub typed_tokens : ℕ → Ty → List Token
-typed_tokens n ty = param_token n ∷ Mark (codes ":") ∷ Word ty.name ∷ []
+typed_tokens n ty = param_token n ∷ Mark (codes ":") ∷ (borrow_part ty.by_ref ++ Word ty.name ∷ [])
 
 -- the n-th parameter with its type
 abbrev pub param_tokens : ℕ → Ty → List Token

@@ -1,5 +1,5 @@
 -- Reading tokens from left to right.
-use Rattle.std.specs.Prelude.{ℕ, List, [], ◌∷◌, Bool, true, false, Option, Some, None, if◌then◌else◌}
+use Rattle.std.specs.Prelude.{ℕ, List, [], ◌∷◌, Bool, false, Option, Some, None, if◌then◌else◌}
 use Rattle.isle_printer.specs.Token.{Token, Word, Mark, Quoted, Stray, Comment}
 use Rattle.isle_printer.specs.Bytes.{same_bytes}
 

@@ -1,9 +1,10 @@
 //! The text of calls. A form that isn't built has none.
 
 ghost use Rattle.std.specs.Prelude.{◌≡◌, ◌++◌, OnOk};
+ghost use Rattle.std.specs.List.{AllByRecursion};
 ghost use Rattle.isle_spelling.specs.Identifier.{IsIdentifier};
 ghost use Rattle.isle_target.specs.Spelling.{call_head, args_tokens, call_tokens};
-ghost use Rattle.isle_tree.specs.WellFormed.{IsCall};
+ghost use Rattle.isle_tree.specs.WellFormed.{IsRead, IsCall};
 
 use crate::operand::print_read;
 use isle_core::Callee;
@@ -12,7 +13,7 @@ use isle_tree::{Read, TCall};
 use std::alloc::AllocError;
 
 // Prints `C::F(ctx`.
-#[tactic(auto, using(crate::proofs::TypeNames::identifier_is_word))]
+#[tactic(auto, using(crate::proofs::Names::identifier_is_word))]
 fn print_head(out: &mut Printer, name: &str) -> Result<(), AllocError>
     requires { IsIdentifier name.now }
     ensures { OnOk result (out.new ≡ out.old ++ call_head name.now) }
@@ -26,6 +27,7 @@ fn print_head(out: &mut Printer, name: &str) -> Result<(), AllocError>
 
 // Prints the arguments, each behind a comma, and what closes them.
 fn print_args(out: &mut Printer, args: &[Read]) -> Result<(), AllocError>
+    requires { AllByRecursion IsRead args.now }
     ensures { OnOk result (out.new ≡ out.old ++ args_tokens args.now) }
 {
     for read in args {

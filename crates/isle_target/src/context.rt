@@ -21,7 +21,7 @@ fn print_self(out: &mut Printer) -> Result<(), AllocError>
 }
 
 // Prints what a function begins with.
-#[tactic(auto, using(crate::proofs::TypeNames::identifier_is_word))]
+#[tactic(auto, using(crate::proofs::Names::identifier_is_word))]
 fn print_name(out: &mut Printer, name: &str) -> Result<(), AllocError>
     requires { IsIdentifier name.now }
     ensures { OnOk result (out.new ≡ out.old ++ trait_fn_head name.now) }

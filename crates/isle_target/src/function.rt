@@ -4,9 +4,11 @@ ghost use Rattle.std.specs.Prelude.{◌≡◌, ◌++◌, [], ◌∷◌, OnOk, co
 ghost use Rattle.std.specs.List.{AllByRecursion};
 ghost use Rattle.isle_printer.specs.Token.{Word, Mark};
 ghost use Rattle.isle_tree.specs.Views.{function, body};
-ghost use Rattle.isle_tree.specs.WellFormed.{IsTermName, IsBuiltin, IsTy, IsBody, HasNames};
+ghost use Rattle.isle_spelling.specs.Identifier.{IsIdentifier};
+ghost use Rattle.isle_tree.specs.WellFormed.{IsTermName, IsTy, IsBody, HasNames};
 ghost use Rattle.isle_target.specs.Spelling.{constructor_word, generics, context_param, function_head, typed_tokens, param_tokens, params_tokens, result_tokens, result_part, function_tokens};
 
+use crate::operand::print_borrow;
 use crate::statement::print_body;
 use isle_core::ReturnKind;
 use isle_printer::Printer;
@@ -57,13 +59,14 @@ pub fn print_colon(out: &mut Printer) -> Result<(), AllocError>
 }
 
 /// Prints the parameter of this number with its type. What is printed after an error is left open.
-#[tactic(auto, using(crate::proofs::TypeNames::builtin_is_word))]
+#[tactic(auto, using(crate::proofs::Names::identifier_is_word))]
 pub fn print_typed(out: &mut Printer, i: usize, ty: &Ty) -> Result<(), AllocError>
     requires { IsTy ty.now }
     ensures { OnOk result (out.new ≡ out.old ++ typed_tokens i ty.now) }
 {
     out.numbered("arg", i)?;
     print_colon(out)?;
+    print_borrow(out, ty.by_ref)?;
     out.word(ty.name.as_str())
 }
 
@@ -89,9 +92,9 @@ fn print_params(out: &mut Printer, params: &[Ty]) -> Result<(), AllocError>
 }
 
 /// Prints what a function gives. What is printed after an error is left open.
-#[tactic(auto, using(crate::proofs::TypeNames::builtin_is_word))]
+#[tactic(auto, using(crate::proofs::Names::identifier_is_word))]
 pub fn print_result(out: &mut Printer, kind: ReturnKind, ty: &str) -> Result<(), AllocError>
-    requires { IsBuiltin ty.now }
+    requires { IsIdentifier ty.now }
     ensures { OnOk result (out.new ≡ out.old ++ result_tokens kind ty.now) }
 {
     match kind {
@@ -116,7 +119,7 @@ pub fn print_gives(out: &mut Printer) -> Result<(), AllocError>
 
 // Prints `-> RESULT {`.
 fn print_arrow(out: &mut Printer, kind: ReturnKind, ty: &str) -> Result<(), AllocError>
-    requires { IsBuiltin ty.now }
+    requires { IsIdentifier ty.now }
     ensures { OnOk result (out.new ≡ out.old ++ result_part kind ty.now) }
 {
     print_gives(out)?;

@@ -1,17 +1,19 @@
-//! The text of operands, and of what is computed from them. A form that isn't built has none.
+//! The text of operands.
 
-ghost use Rattle.std.specs.Prelude.{◌≡◌, ◌++◌, false, OnOk};
-ghost use Rattle.isle_target.specs.Spelling.{operand_tokens, read_tokens, expr_tokens};
-ghost use Rattle.isle_tree.specs.WellFormed.{IsExpr};
+ghost use Rattle.std.specs.Prelude.{◌≡◌, ◌++◌, [], ◌∷◌, OnOk, codes};
+ghost use Rattle.isle_printer.specs.Token.{Mark};
+ghost use Rattle.isle_target.specs.Spelling.{operand_tokens, clone_part, read_tokens, borrow_part};
+ghost use Rattle.isle_tree.specs.WellFormed.{IsOperand, IsRead};
 
-use crate::call::print_call;
 use isle_printer::Printer;
-use isle_spelling::print_literal;
-use isle_tree::{Operand, Read, TExpr};
+use isle_spelling::{print_literal, print_raw};
+use isle_tree::{Operand, Read};
 use std::alloc::AllocError;
 
 /// Prints an operand. What is printed after an error is left open.
+#[tactic(auto, using(crate::proofs::Names::name_is_word))]
 pub fn print_operand(out: &mut Printer, o: &Operand) -> Result<(), AllocError>
+    requires { IsOperand o.now }
     ensures { OnOk result (out.new ≡ out.old ++ operand_tokens o.now) }
 {
     match o {
@@ -20,58 +22,40 @@ pub fn print_operand(out: &mut Printer, o: &Operand) -> Result<(), AllocError>
         Operand::Bool(true) => out.word("true"),
         Operand::Bool(false) => out.word("false"),
         Operand::Int(ty, val) => print_literal(out, *ty, *val),
-        Operand::Raw(_) | Operand::Name(_) => Ok(()),
+        Operand::Raw(val) => print_raw(out, *val),
+        Operand::Name(name) => out.word(name.as_str()),
     }
+}
+
+// Prints `.clone()`.
+#[tactic(auto, unfolding(isle_printer::specs::Token::step, isle_printer::specs::Token::begun))]
+fn print_clone(out: &mut Printer) -> Result<(), AllocError>
+    ensures { OnOk result (out.new ≡ out.old ++ clone_part) }
+{
+    out.piece(".clone()")
+}
+
+/// Prints a `&`, where something is behind one. What is printed after an error is left open.
+pub fn print_borrow(out: &mut Printer, borrow: bool) -> Result<(), AllocError>
+    ensures { OnOk result (out.new ≡ out.old ++ borrow_part borrow) }
+{
+    if borrow { out.mark("&") } else { Ok(()) }
 }
 
 /// Prints an operand as it is read. What is printed after an error is left open.
 pub fn print_read(out: &mut Printer, read: &Read) -> Result<(), AllocError>
+    requires { IsRead read.now }
     ensures { OnOk result (out.new ≡ out.old ++ read_tokens read.now) }
 {
     match read {
         Read::Plain(o) => print_operand(out, o),
-        Read::Borrow(_) | Read::Clone(_) => Ok(()),
-    }
-}
-
-// Prints an option of what is read.
-fn print_some(out: &mut Printer, read: &Read) -> Result<(), AllocError>
-    ensures { OnOk result (out.new ≡ out.old ++ expr_tokens (TExpr.Some read.now)) }
-{
-    out.word("Some")?;
-    out.mark("(")?;
-    print_read(out, read)?;
-    out.mark(")")
-}
-
-// Prints what stands within an operand's option.
-fn print_try(out: &mut Printer, o: &Operand) -> Result<(), AllocError>
-    ensures { OnOk result (out.new ≡ out.old ++ expr_tokens (TExpr.Try o.now false)) }
-{
-    print_operand(out, o)?;
-    out.mark("?")
-}
-
-/// Prints what a `let` or a `return` computes. What is printed after an error is left open.
-pub fn print_expr(out: &mut Printer, e: &TExpr) -> Result<(), AllocError>
-    requires { IsExpr e.now }
-    ensures { OnOk result (out.new ≡ out.old ++ expr_tokens e.now) }
-{
-    match e {
-        TExpr::Read(read) => print_read(out, read),
-        TExpr::Some(read) => print_some(out, read),
-        TExpr::Call {
-            borrow: false,
-            call,
-        } => print_call(out, call),
-        TExpr::Try {
-            source,
-            as_ref: false,
-        } => print_try(out, source),
-        TExpr::Call { .. }
-        | TExpr::Try { .. }
-        | TExpr::Variant { .. }
-        | TExpr::Struct { .. }
-        | TExpr::Tuple(..) => Ok(()),
+        Read::Borrow(o) => {
+            out.mark("&")?;
+            print_operand(out, o)
+        }
+        Read::Clone(o) => {
+            print_operand(out, o)?;
+            print_clone(out)
+        }
     }
 }

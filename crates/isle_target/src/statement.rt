@@ -3,13 +3,15 @@
 ghost use Rattle.std.specs.Prelude.{◌≡◌, ◌++◌, [], ◌∷◌, OnOk, codes};
 ghost use Rattle.isle_printer.specs.Token.{Mark, Quoted};
 ghost use Rattle.isle_tree.specs.Views.{stmt, body};
-ghost use Rattle.isle_tree.specs.WellFormed.{IsExpr, IsStmt, IsBody};
-ghost use Rattle.isle_target.specs.Spelling.{let_tokens, return_tokens, if_eq_head, no_rule, unreachable_head, tail_tokens, stmt_tokens, body_tokens};
+ghost use Rattle.isle_tree.specs.WellFormed.{IsOperand, IsRead, IsExpr, IsPattern, IsStmt, IsBody};
+ghost use Rattle.isle_target.specs.Spelling.{let_tokens, return_tokens, if_eq_head, if_let_head, no_rule, unreachable_head, tail_tokens, stmt_tokens, body_tokens};
 
-use crate::operand::{print_expr, print_operand};
+use crate::expr::print_expr;
+use crate::operand::{print_operand, print_read};
+use crate::pattern::print_pattern;
 use isle_core::Text;
 use isle_printer::Printer;
-use isle_tree::{Operand, Stmt, TExpr};
+use isle_tree::{Operand, Read, Stmt, TExpr, TPat};
 use std::alloc::AllocError;
 
 /// What a run says that no rule matched in.
@@ -42,12 +44,28 @@ fn print_return(out: &mut Printer, e: &TExpr) -> Result<(), AllocError>
 // Prints `if OP == OP {`.
 #[tactic(auto, unfolding(isle_printer::specs::Token::step, isle_printer::specs::Token::begun))]
 fn print_if_eq(out: &mut Printer, a: &Operand, b: &Operand) -> Result<(), AllocError>
+    requires a { IsOperand a.now }
+    requires b { IsOperand b.now }
     ensures { OnOk result (out.new ≡ out.old ++ if_eq_head a.now b.now) }
 {
     out.piece("if ")?;
     print_operand(out, a)?;
     out.piece(" == ")?;
     print_operand(out, b)?;
+    out.piece(" {")
+}
+
+// Prints `if let PAT = READ {`.
+#[tactic(auto, unfolding(isle_printer::specs::Token::step, isle_printer::specs::Token::begun))]
+fn print_if_let(out: &mut Printer, pat: &TPat, read: &Read) -> Result<(), AllocError>
+    requires pat { IsPattern pat.now }
+    requires read { IsRead read.now }
+    ensures { OnOk result (out.new ≡ out.old ++ if_let_head pat.now read.now) }
+{
+    out.piece("if let ")?;
+    print_pattern(out, pat)?;
+    out.piece(" = ")?;
+    print_read(out, read)?;
     out.piece(" {")
 }
 
@@ -104,10 +122,14 @@ fn print_stmt(out: &mut Printer, s: &Stmt) -> Result<(), AllocError>
             print_body(out, inside.as_slice())?;
             out.mark("}")
         }
+        Stmt::IfLet(pat, read, inside) => {
+            print_if_let(out, pat, read)?;
+            print_body(out, inside.as_slice())?;
+            out.mark("}")
+        }
         Stmt::Return(e) => print_return(out, e),
         Stmt::Tail(texts) => print_tail(out, texts),
         Stmt::LetList { .. }
-        | Stmt::IfLet(..)
         | Stmt::Match(..)
         | Stmt::Loop { .. }
         | Stmt::Extend(_)

@@ -35,7 +35,7 @@ fn print_visible(out: &mut Printer, public: bool) -> Result<(), AllocError>
 }
 
 // Prints a field with its name and type, on a line of its own.
-#[tactic(auto, using(crate::proofs::TypeNames::identifier_is_word))]
+#[tactic(auto, using(crate::proofs::Names::identifier_is_word))]
 fn print_field(out: &mut Printer, public: bool, field: &(Text, Text)) -> Result<(), AllocError>
     requires { IsField field.now }
     ensures { OnOk result (out.new ≡ out.old ++ field_tokens public field.now) }
@@ -63,7 +63,7 @@ fn print_named(out: &mut Printer, public: bool, fields: &[(Text, Text)]) -> Resu
 }
 
 // Prints fields without names, and what closes them.
-#[tactic(auto, using(crate::proofs::TypeNames::identifier_is_word))]
+#[tactic(auto, using(crate::proofs::Names::identifier_is_word))]
 fn print_places(out: &mut Printer, public: bool, tys: &[Text]) -> Result<(), AllocError>
     requires { AllByRecursion IsIdentifier tys.now }
     ensures { OnOk result (out.new ≡ out.old ++ places_tokens public 0 tys.now) }
@@ -96,7 +96,7 @@ fn print_fields(out: &mut Printer, public: bool, fields: &TFields) -> Result<(),
 }
 
 // Prints a variant on a line of its own.
-#[tactic(auto, using(crate::proofs::TypeNames::identifier_is_word))]
+#[tactic(auto, using(crate::proofs::Names::identifier_is_word))]
 fn print_variant(out: &mut Printer, variant: &(Text, TFields)) -> Result<(), AllocError>
     requires { IsVariant variant.now }
     ensures { OnOk result (out.new ≡ out.old ++ variant_tokens variant.now) }
@@ -135,7 +135,7 @@ fn print_end(out: &mut Printer, fields: &TFields) -> Result<(), AllocError>
 }
 
 // Prints an enum.
-#[tactic(auto, using(crate::proofs::TypeNames::identifier_is_word), unfolding(isle_printer::specs::Token::step, isle_printer::specs::Token::begun))]
+#[tactic(auto, using(crate::proofs::Names::identifier_is_word), unfolding(isle_printer::specs::Token::step, isle_printer::specs::Token::begun))]
 fn print_enum(out: &mut Printer, name: &str, variants: &[(Text, TFields)]) -> Result<(), AllocError>
     requires name { IsIdentifier name.now }
     requires variants { AllByRecursion IsVariant variants.now }
@@ -148,7 +148,7 @@ fn print_enum(out: &mut Printer, name: &str, variants: &[(Text, TFields)]) -> Re
 }
 
 // Prints a struct.
-#[tactic(auto, using(crate::proofs::TypeNames::identifier_is_word), unfolding(isle_printer::specs::Token::step, isle_printer::specs::Token::begun))]
+#[tactic(auto, using(crate::proofs::Names::identifier_is_word), unfolding(isle_printer::specs::Token::step, isle_printer::specs::Token::begun))]
 fn print_struct(out: &mut Printer, name: &str, fields: &TFields) -> Result<(), AllocError>
     requires name { IsIdentifier name.now }
     requires fields { AreFields fields.now }

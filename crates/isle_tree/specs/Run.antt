@@ -1,8 +1,9 @@
 -- What the function of a term does, by cases on the forms of statements.
-use Rattle.std.specs.Prelude.{ℕ, List, [], ◌∷◌, ◌++◌, ◌==◌, Bool, false, Option, Some, None, slice_get, fold, if◌then◌else◌}
-use Rattle.isle_core.specs.Value.{Value, Truth, Int, Made, End, Gives, GivesSome, GivesNone, IsUnreachable, Ran}
+use Rattle.std.specs.Prelude.{ℕ, List, [], ◌∷◌, ◌++◌, ◌==◌, ◌&&◌, Bool, false, Option, Some, None, slice_get, fold, if◌then◌else◌}
+use Rattle.isle_core.specs.Value.{Value, Truth, Int, Opaque, Variant, Struct, FieldValues, NoField, Field, Made, End, Gives, GivesSome, GivesNone, IsUnreachable, Ran}
 use Rattle.isle_core.specs.SameInRun.{same_in_run}
 use Rattle.isle_core.specs.Meaning.{Meaning}
+use Rattle.isle_core.specs.Having.{const_of}
 use Rattle.isle_core.specs.Answered.{AValue, ATuple, Held, Absent, One, Optional, Listed, a_value, an_option, answer_held, answer}
 use Rattle.isle_core.specs.ValueAt.{held, value_before}
 use Rattle.isle_core.specs.declared.values.Callee.{Callee}
@@ -12,6 +13,7 @@ use Rattle.isle_tree.specs.declared.tree.Operand.TheVariants as operand
 use Rattle.isle_tree.specs.declared.tree.Read.{Read}
 use Rattle.isle_tree.specs.declared.tree.Read.TheVariants as read
 use Rattle.isle_tree.specs.declared.tree.TExpr.{TExpr}
+use Rattle.isle_tree.specs.declared.tree.TBind.{TBind}
 use Rattle.isle_tree.specs.declared.tree.TPat.{TPat}
 use Rattle.isle_tree.specs.declared.tree.TPat.TheVariants as pattern
 use Rattle.isle_tree.specs.declared.tree.TExpr.TheVariants as expr
@@ -65,25 +67,44 @@ look env n = fold (newer n) Absent env
 abbrev pub bind : Env → ℕ → Held → Env
 bind env n h = env ++ (n, h) ∷ []
 
--- what an operand holds; numbers of primitive types and names are not built
+-- the value of a constant, or else the unit struct of the name
+abbrev pub name_value : Option Value → List ℕ → Value
+name_value (Some v) name = v
+name_value None name = Struct name NoField
+
+-- what an operand holds; a number of a primitive type has no type's name in a run
 abbrev pub value_of : Around → Env → Operand → Held
 value_of w env (operand.Local n) = look env n
 value_of w env (operand.Arg n) = held (slice_get w.args n)
 value_of w env (operand.Bool b) = a_value (Truth b)
 value_of w env (operand.Int ty z) = a_value (Int ty z)
-value_of w env (operand.Raw z) = Absent
-value_of w env (operand.Name name) = Absent
+value_of w env (operand.Raw z) = a_value (Opaque [] z)
+value_of w env (operand.Name name) = a_value (name_value (const_of w.meaning name) name)
 
--- what is read; `&` and `.clone()` are not built
+-- what is read; `&` and `.clone()` mean the value
 abbrev pub read_value : Around → Env → Read → Held
 read_value w env (read.Plain o) = value_of w env o
-read_value w env (read.Borrow o) = Absent
-read_value w env (read.Clone o) = Absent
+read_value w env (read.Borrow o) = value_of w env o
+read_value w env (read.Clone o) = value_of w env o
 
 -- the values that are read, where all are
 abbrev pub read_values : Around → Env → List Read → Option (List Value)
 read_values w env [] = Some []
 read_values w env (r ∷ rs) = value_before (read_value w env r) (read_values w env rs)
+
+-- a field of this name before others, where it holds a value and so do they
+abbrev pub field_before : List ℕ → Held → Option FieldValues → Option FieldValues
+field_before name (One (AValue v)) (Some fs) = Some (Field name v fs)
+field_before name (One (AValue v)) None = None
+field_before name (One (ATuple vs)) o = None
+field_before name Absent o = None
+field_before name (Optional i) o = None
+field_before name (Listed is) o = None
+
+-- the values that are read as fields, under their names, where all are
+abbrev pub read_fields : Around → Env → List (List ℕ × Read) → Option FieldValues
+read_fields w env [] = Some NoField
+read_fields w env (f ∷ fs) = field_before f.0 (read_value w env f.1) (read_fields w env fs)
 
 -- what follows a value
 abbrev pub on_value : Held → (Value → Flow) → Flow
@@ -110,15 +131,14 @@ value_in Absent = None
 value_in (Optional o) = None
 value_in (Listed is) = None
 
--- the value that a constant of a pattern stands for; locals and arguments are no constants, and numbers of primitive types and
--- names are not built
-abbrev pub constant : Operand → Option Value
-constant (operand.Bool b) = Some (Truth b)
-constant (operand.Int ty z) = Some (Int ty z)
-constant (operand.Raw z) = None
-constant (operand.Name name) = None
-constant (operand.Local n) = None
-constant (operand.Arg n) = None
+-- the value that a constant of a pattern stands for; locals and arguments are no constants
+abbrev pub constant : Meaning → Operand → Option Value
+constant m (operand.Bool b) = Some (Truth b)
+constant m (operand.Int ty z) = Some (Int ty z)
+constant m (operand.Raw z) = Some (Opaque [] z)
+constant m (operand.Name name) = Some (name_value (const_of m name) name)
+constant m (operand.Local n) = None
+constant m (operand.Arg n) = None
 
 -- whether both values are there and are equal in a run
 abbrev pub are_same : Option Value → Option Value → Bool
@@ -135,12 +155,46 @@ fit_some local Absent = None
 fit_some local (One i) = None
 fit_some local (Listed is) = None
 
--- what a pattern binds, where it fits what is read; those of variants and structs are not built: they fit nothing
+-- the value of the first field of this name
+abbrev pub field_of : List ℕ → FieldValues → Option Value
+field_of name NoField = None
+field_of name (Field other v fs) = if same_bytes name other then Some v else field_of name fs
+
+-- a local bound to a field's value before others, where all are there
+abbrev pub local_before : ℕ → Option Value → Option Env → Option Env
+local_before n (Some v) (Some env) = Some ((n, a_value v) ∷ env)
+local_before n (Some v) None = None
+local_before n None o = None
+
+-- the locals that the fields are bound to, in order, where each field is there
+abbrev pub fit_fields : List TBind → FieldValues → Option Env
+fit_fields [] fs = Some []
+fit_fields (b ∷ bs) fs = local_before b.local (field_of b.field fs) (fit_fields bs fs)
+
+-- a variant's pattern fits what that variant makes; an opaque number is none
+abbrev pub fit_variant : (ty variant : List ℕ) → List TBind → Option Value → Option Env
+fit_variant ty variant binds (Some (Variant of name fs)) = if same_bytes ty of && same_bytes variant name then fit_fields binds fs else None
+fit_variant ty variant binds (Some (Truth b)) = None
+fit_variant ty variant binds (Some (Int of z)) = None
+fit_variant ty variant binds (Some (Opaque of z)) = None
+fit_variant ty variant binds (Some (Struct of fs)) = None
+fit_variant ty variant binds None = None
+
+-- a struct's pattern fits what that struct makes
+abbrev pub fit_struct : List ℕ → List TBind → Option Value → Option Env
+fit_struct ty binds (Some (Struct of fs)) = if same_bytes ty of then fit_fields binds fs else None
+fit_struct ty binds (Some (Truth b)) = None
+fit_struct ty binds (Some (Int of z)) = None
+fit_struct ty binds (Some (Opaque of z)) = None
+fit_struct ty binds (Some (Variant of name fs)) = None
+fit_struct ty binds None = None
+
+-- what a pattern binds, where it fits what is read; `ref` and `..` mean nothing
 abbrev pub fit : Around → TPat → Held → Option Env
-fit w (pattern.Const o) h = if are_same (value_in h) (constant o) then Some [] else None
+fit w (pattern.Const o) h = if are_same (value_in h) (constant w.meaning o) then Some [] else None
 fit w (pattern.Some local) h = fit_some local h
-fit w (pattern.Variant ty variant binds more) h = None
-fit w (pattern.Struct ty binds more) h = None
+fit w (pattern.Variant ty variant binds more) h = fit_variant ty variant binds (value_in h)
+fit w (pattern.Struct ty binds more) h = fit_struct ty binds (value_in h)
 
 -- what follows where a pattern fits, or where it doesn't
 abbrev pub fitted : Option Env → (Env → Flow) → Flow → Flow
@@ -180,14 +234,24 @@ run_try n (One i) env s = Stuck
 run_try n (Listed is) env s = Stuck
 run_try n Absent env s = Stuck
 
--- a let binds what is computed; a & means the value. Made values and parts of tuples are not built
+-- a local bound to what a variant makes of its fields
+abbrev pub run_variant : ℕ → (ty variant : List ℕ) → Option FieldValues → Env → State → Flow
+run_variant n ty variant None env s = Stuck
+run_variant n ty variant (Some fs) env s = Goes (bind env n (a_value (Variant ty variant fs))) s
+
+-- a local bound to what a struct makes of its fields
+abbrev pub run_struct : ℕ → List ℕ → Option FieldValues → Env → State → Flow
+run_struct n ty None env s = Stuck
+run_struct n ty (Some fs) env s = Goes (bind env n (a_value (Struct ty fs))) s
+
+-- a let binds what is computed; a & means the value. Parts of tuples are not built
 abbrev pub run_let : Around → ℕ → TExpr → Env → State → Flow
 run_let w n (expr.Read r) env s = run_bind n (read_value w env r) env s
 run_let w n (expr.Some r) env s = on_value (read_value w env r) (λ v. Goes (bind env n (an_option (Some v))) s)
 run_let w n (expr.Call borrow call) env s = run_call w n call.callee (read_values w env call.args) env s
 run_let w n (expr.Try source as_ref) env s = run_try n (value_of w env source) env s
-run_let w n (expr.Variant ty variant fields) env s = Stuck
-run_let w n (expr.Struct ty fields) env s = Stuck
+run_let w n (expr.Variant ty variant fields) env s = run_variant n ty variant (read_fields w env fields) env s
+run_let w n (expr.Struct ty fields) env s = run_struct n ty (read_fields w env fields) env s
 run_let w n (expr.Tuple source part) env s = Stuck
 
 -- the function ends with the value or the option of one that a place holds

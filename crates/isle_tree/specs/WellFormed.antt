@@ -1,5 +1,7 @@
 -- What a program keeps to that has a spelling. What is not built is not well formed.
-use Rattle.std.specs.Prelude.{◌≡◌, ℕ, ◌<◌, ◌==◌, nat_lt, List, [], ◌∷◌, ◌++◌, length, map, fold, find, Bool, true, false, is_some, ◌||◌, if◌then◌else◌, IsTrue, IsSome, Option, Some, None, codes}
+use Rattle.std.specs.Prelude.{◌≡◌, ℕ, ◌<◌, ◌==◌, nat_lt, List, [], ◌∷◌, ◌++◌, length, map, fold, find, Bool, true, false, if◌then◌else◌, IsTrue, IsSome, Option, Some, None}
+use Rattle.std.specs.Int.{w128}
+use Rattle.std.specs.Int.RustNames.{FitsSigned}
 use Rattle.std.specs.List.{AllByRecursion, IsDistinct, list_all}
 use Rattle.std.specs.Str.{bytes_eq}
 use Rattle.isle_core.specs.HasType.{IsReduced}
@@ -8,7 +10,6 @@ use Rattle.isle_core.specs.declared.values.Callee.TheVariants as callee
 use Rattle.isle_core.specs.declared.types.ReturnKind.{ReturnKind}
 use Rattle.isle_core.specs.declared.types.ReturnKind.TheVariants as kind
 use Rattle.isle_printer.specs.Token.{is_word_byte}
-use Rattle.isle_printer.specs.Bytes.{same_bytes}
 use Rattle.isle_tree.specs.declared.holds.Holds.{Holds}
 use Rattle.isle_tree.specs.declared.holds.Holds.TheVariants as holds
 use Rattle.isle_tree.specs.declared.holds.Item.TheVariants as item
@@ -26,26 +27,29 @@ use Rattle.isle_tree.specs.declared.tree.Read.{Read}
 use Rattle.isle_tree.specs.declared.tree.Read.TheVariants as read
 use Rattle.isle_tree.specs.declared.tree.TExpr.{TExpr}
 use Rattle.isle_tree.specs.declared.tree.TExpr.TheVariants as expr
+use Rattle.isle_tree.specs.declared.tree.TBind.{TBind}
+use Rattle.isle_tree.specs.declared.tree.TPat.{TPat}
+use Rattle.isle_tree.specs.declared.tree.TPat.TheVariants as pattern
 use Rattle.isle_spelling.specs.Identifier.{IsIdentifier}
-use Rattle.isle_spelling.specs.Literal.{type_named}
+use Rattle.isle_spelling.specs.Names.{IsName, IsFieldName}
 use Rattle.isle_tree.specs.Program.{Stmt, Let, LetList, IfEq, IfLet, Match, Loop, Return, Extend, Overflow, Log, Split, Tail, Body, Done, Then, Function, Program}
 
 -- ---- the forms that are built, and that integers lie in their type
 
--- an operand; numbers of primitive types, constants and unit structs are not built
+-- an operand: its integer lies in its type, or its name is one of a constant or a unit struct
 abbrev pub IsOperand : Operand → Type 0
 IsOperand (operand.Local n) = Unit {0}
 IsOperand (operand.Arg n) = Unit {0}
 IsOperand (operand.Bool b) = Unit {0}
 IsOperand (operand.Int ty z) = IsReduced ty z
-IsOperand (operand.Raw z) = ⊥
-IsOperand (operand.Name name) = ⊥
+IsOperand (operand.Raw z) = FitsSigned w128 z
+IsOperand (operand.Name name) = IsName name
 
--- a read: the plain operand; & and .clone() are not built
+-- a read: of an operand
 abbrev pub IsRead : Read → Type 0
 IsRead (read.Plain o) = IsOperand o
-IsRead (read.Borrow o) = ⊥
-IsRead (read.Clone o) = ⊥
+IsRead (read.Borrow o) = IsOperand o
+IsRead (read.Clone o) = IsOperand o
 
 -- a function of the trait, whose name is a name; calls of functions of the text are not built
 abbrev pub IsCallee : Callee → Type 0
@@ -57,25 +61,50 @@ pub record IsCall (call : TCall) : Type 0 where
   pub callee : IsCallee call.callee
   pub args : AllByRecursion IsRead call.args
 
--- what is computed: a read, a call without &, an option, or the inner value of one; made values and parts of tuples are not built
+-- a field of a made value: its name, and what is read
+abbrev pub IsFieldRead : List ℕ × Read → Type 0
+IsFieldRead f = IsFieldName f.0 × IsRead f.1
+
+-- what is computed: a read, a call, a made value, an option, or the inner value of one; a struct without fields is a name, and parts
+-- of tuples are not built
 abbrev pub IsExpr : TExpr → Type 0
 IsExpr (expr.Read r) = IsRead r
-IsExpr (expr.Call borrow call) = (borrow ≡ false) × IsCall call
+IsExpr (expr.Call borrow call) = IsCall call
 IsExpr (expr.Some r) = IsRead r
-IsExpr (expr.Try source as_ref) = (as_ref ≡ false) × IsOperand source
-IsExpr (expr.Variant ty variant fields) = ⊥
-IsExpr (expr.Struct ty fields) = ⊥
+IsExpr (expr.Try source as_ref) = IsOperand source
+IsExpr (expr.Variant ty variant fields) = IsIdentifier ty × IsIdentifier variant × AllByRecursion IsFieldRead fields
+IsExpr (expr.Struct ty fields) = IsIdentifier ty × (0 < length fields) × AllByRecursion IsFieldRead fields
 IsExpr (expr.Tuple o n) = ⊥
 
--- a statement, and statements in order; lists of answers, patterns, loops, logging and closures are not built
+-- a constant of a pattern: an operand that is no local and no argument
+abbrev pub IsConstant : Operand → Type 0
+IsConstant (operand.Local n) = ⊥
+IsConstant (operand.Arg n) = ⊥
+IsConstant (operand.Bool b) = Unit {0}
+IsConstant (operand.Int ty z) = IsReduced ty z
+IsConstant (operand.Raw z) = FitsSigned w128 z
+IsConstant (operand.Name name) = IsName name
+
+-- a field that a pattern binds
+abbrev pub IsBind : TBind → Type 0
+IsBind b = IsFieldName b.field
+
+-- a pattern: its constant, or the names in it
+abbrev pub IsPattern : TPat → Type 0
+IsPattern (pattern.Const o) = IsConstant o
+IsPattern (pattern.Variant ty variant binds more) = IsIdentifier ty × IsIdentifier variant × AllByRecursion IsBind binds
+IsPattern (pattern.Struct ty binds more) = IsIdentifier ty × AllByRecursion IsBind binds
+IsPattern (pattern.Some local) = Unit {0}
+
+-- a statement, and statements in order; lists of answers, several patterns, loops, logging and closures are not built
 abbrev mutual
   pub IsStmt : Stmt → Type 0
   IsStmt (Let n e) = IsExpr e
   IsStmt (IfEq a b inside) = IsOperand a × IsOperand b × IsBody inside
+  IsStmt (IfLet pat read inside) = IsPattern pat × IsRead read × IsBody inside
   IsStmt (Return e) = IsExpr e
   IsStmt (Tail texts) = Unit {0}
   IsStmt (LetList n call) = ⊥
-  IsStmt (IfLet pat read inside) = ⊥
   IsStmt (Match read arms) = ⊥
   IsStmt (Loop list each inside) = ⊥
   IsStmt (Extend read) = ⊥
@@ -155,14 +184,22 @@ inner_holds (Some (holds.One x)) = None
 inner_holds (Some (holds.Optional x)) = Some (holds.One x)
 inner_holds (Some (holds.Several x)) = None
 
--- what is computed holds, where each operand holds what is asked of it; made values and parts of tuples are not built
+-- each field is of a value
+abbrev pub are_field_values : ℕ → Locals → List (List ℕ × Read) → Bool
+are_field_values params bound fs = list_all (λ (f : List ℕ × Read). is_value (read_holds params bound f.1)) fs
+
+-- a made value, where its fields are of values
+abbrev pub made_holds : Bool → Option Holds
+made_holds good = if good then Some (holds.One item.Value) else None
+
+-- what is computed holds, where each operand holds what is asked of it; parts of tuples are not built
 abbrev pub expr_holds : List TraitFn → ℕ → Locals → TExpr → Option Holds
 expr_holds fns params bound (expr.Read r) = read_holds params bound r
 expr_holds fns params bound (expr.Call borrow call) = if are_values params bound call.args then callee_holds fns call.callee (length call.args) else None
 expr_holds fns params bound (expr.Some r) = if is_value (read_holds params bound r) then Some (holds.Optional item.Value) else None
 expr_holds fns params bound (expr.Try source as_ref) = inner_holds (operand_holds params bound source)
-expr_holds fns params bound (expr.Variant ty variant fields) = None
-expr_holds fns params bound (expr.Struct ty fields) = None
+expr_holds fns params bound (expr.Variant ty variant fields) = made_holds (are_field_values params bound fields)
+expr_holds fns params bound (expr.Struct ty fields) = made_holds (are_field_values params bound fields)
 expr_holds fns params bound (expr.Tuple o n) = None
 
 -- ---- each operand of a statement is in scope
@@ -189,6 +226,30 @@ abbrev pub after_let : Option Holds → ℕ → Locals → Locals
 after_let None n bound = bound
 after_let (Some h) n bound = bound ++ (n, h) ∷ []
 
+-- what a pattern may be read over: a constant, a variant or a struct over a value, and Some(..) over an option
+abbrev pub ReadsPattern : TPat → Option Holds → Type 0
+ReadsPattern (pattern.Const o) h = IsTrue (is_value h)
+ReadsPattern (pattern.Variant ty variant binds more) h = IsTrue (is_value h)
+ReadsPattern (pattern.Struct ty binds more) h = IsTrue (is_value h)
+ReadsPattern (pattern.Some local) h = IsSome (inner_holds h)
+
+-- the locals that fields are bound to: each holds a value
+abbrev pub field_locals : List TBind → Locals
+field_locals bs = map (λ (b : TBind). (b.local, holds.One item.Value)) bs
+
+-- the local that what is within an option is bound to
+abbrev pub inner_locals : Option ℕ → Option Holds → Locals
+inner_locals None h = []
+inner_locals (Some n) None = []
+inner_locals (Some n) (Some h) = (n, h) ∷ []
+
+-- the locals that a pattern binds
+abbrev pub pattern_locals : TPat → Option Holds → Locals
+pattern_locals (pattern.Const o) h = []
+pattern_locals (pattern.Variant ty variant binds more) h = field_locals binds
+pattern_locals (pattern.Struct ty binds more) h = field_locals binds
+pattern_locals (pattern.Some local) h = inner_locals local (inner_holds h)
+
 -- the locals that are bound behind a statement: none of those inside it; those of a list of answers are not built
 abbrev pub bound_after : List TraitFn → ℕ → Stmt → Locals → Locals
 bound_after fns params (Let n e) bound = after_let (expr_holds fns params bound e) n bound
@@ -205,16 +266,17 @@ bound_after fns params (Split inside within) bound = bound
 bound_after fns params (Tail texts) bound = bound
 
 -- each operand of a statement, and of statements in order, is in scope and holds what is asked of it, in a function of the kind with this
--- number of parameters; lists of answers, patterns, loops, logging and closures are not built
+-- number of parameters; lists of answers, several patterns, loops, logging and closures are not built
 abbrev mutual
   pub IsStmtScoped : List TraitFn → ReturnKind → ℕ → Locals → Stmt → Type 0
   IsStmtScoped fns kind params bound (Let n e) = IsSome (expr_holds fns params bound e)
   IsStmtScoped fns kind params bound (IfEq a b inside) =
       IsTrue (is_value (operand_holds params bound a)) × IsTrue (is_value (operand_holds params bound b)) × IsBodyScoped fns kind params bound inside
+  IsStmtScoped fns kind params bound (IfLet pat read inside) =
+      ReadsPattern pat (read_holds params bound read) × IsBodyScoped fns kind params (bound ++ pattern_locals pat (read_holds params bound read)) inside
   IsStmtScoped fns kind params bound (Return e) = GivesKind kind (expr_holds fns params bound e)
   IsStmtScoped fns kind params bound (Tail texts) = Unit {0}
   IsStmtScoped fns kind params bound (LetList n call) = ⊥
-  IsStmtScoped fns kind params bound (IfLet pat read inside) = ⊥
   IsStmtScoped fns kind params bound (Match read arms) = ⊥
   IsStmtScoped fns kind params bound (Loop list each inside) = ⊥
   IsStmtScoped fns kind params bound (Extend read) = ⊥
@@ -248,16 +310,16 @@ IsReturned (expr.Some r) = Unit {0}
 IsReturned (expr.Try source as_ref) = ⊥
 IsReturned (expr.Tuple o n) = ⊥
 
--- a statement inside a function, or inside a closure of one, and statements in order: no tail is among them; lists of answers, patterns,
--- loops and logging are not built
+-- a statement inside a function, or inside a closure of one, and statements in order: no tail is among them; lists of answers, several
+-- patterns, loops and logging are not built
 abbrev mutual
   pub FitsStmt : ReturnKind → (closed : Bool) → Stmt → Type 0
   FitsStmt kind closed (Let n e) = FitsLet kind e
   FitsStmt kind closed (IfEq a b inside) = FitsBody kind closed inside
+  FitsStmt kind closed (IfLet pat read inside) = FitsBody kind closed inside
   FitsStmt kind closed (Return e) = IsReturned e
   FitsStmt kind closed (Tail texts) = ⊥
   FitsStmt kind closed (LetList n call) = ⊥
-  FitsStmt kind closed (IfLet pat read inside) = ⊥
   FitsStmt kind closed (Match read arms) = ⊥
   FitsStmt kind closed (Loop list each inside) = ⊥
   FitsStmt kind closed (Extend read) = ⊥
@@ -307,13 +369,9 @@ FitsFunction kind (Then s (Then t ss)) = FitsStmt kind false s × FitsFunction k
 abbrev pub IsTermName : List ℕ → Type 0
 IsTermName term = IsTrue (list_all is_word_byte term)
 
--- the name of bool or of an integer type
-abbrev pub IsBuiltin : List ℕ → Type 0
-IsBuiltin name = IsTrue (same_bytes (codes "bool") name || is_some (type_named name))
-
--- the type of a parameter
+-- the type of a parameter, behind a & or not
 abbrev pub IsTy : Ty → Type 0
-IsTy ty = (ty.by_ref ≡ false) × IsBuiltin ty.name
+IsTy ty = IsIdentifier ty.name
 
 -- how often a function answers
 abbrev pub IsKind : ReturnKind → Type 0
@@ -324,7 +382,7 @@ IsKind kind.Iterator = ⊥
 -- the results of a function of the trait: one
 abbrev pub AreResults : List (List ℕ) → Type 0
 AreResults [] = ⊥
-AreResults (name ∷ []) = IsBuiltin name
+AreResults (name ∷ []) = IsIdentifier name
 AreResults (name ∷ more ∷ names) = ⊥
 
 -- a function of the trait
@@ -362,7 +420,7 @@ pub record IsTypeItem (t : TypeItem) : Type 0 where
 pub record HasNames (f : Function) : Type 0 where
   pub term : IsTermName f.term
   pub params : AllByRecursion IsTy f.params
-  pub result : IsBuiltin f.result
+  pub result : IsIdentifier f.result
 
 -- a function in its program
 pub record IsFunction (p : Program) (f : Function) : Type 0 where

@@ -1,0 +1,52 @@
+//! The types and the kind in the heads of functions.
+
+ghost use Rattle.std.specs.Prelude.{◌↔◌, IsTrue};
+ghost use Rattle.std.specs.List.{AllByRecursion};
+ghost use Rattle.isle_tree.specs.Views.{function};
+ghost use Rattle.isle_tree.specs.WellFormed.{IsTy, IsKind, HasNames};
+
+use isle_core::ReturnKind;
+use isle_spelling::{are_word_bytes, is_identifier};
+use isle_tree::{Function, Ty};
+
+/// Tells whether a function may answer so often.
+pub fn is_kind(kind: ReturnKind) -> bool
+    ensures { IsTrue result ↔ IsKind kind }
+{
+    match kind {
+        ReturnKind::Plain | ReturnKind::Option => true,
+        ReturnKind::Iterator => false,
+    }
+}
+
+// Whether a parameter may have the type.
+fn is_ty(ty: &Ty) -> bool
+    ensures { IsTrue result ↔ IsTy ty.now }
+{
+    is_identifier(ty.name.as_str())
+}
+
+/// Tells whether parameters may have the types.
+pub fn are_tys(tys: &[Ty]) -> bool
+    ensures { IsTrue result ↔ AllByRecursion IsTy tys.now }
+{
+    for ty in tys {
+        if !is_ty(ty) {
+            return false;
+        }
+    }
+    true
+}
+
+/// Tells whether the names in a function's head may stand there.
+pub fn has_names(f: &Function) -> bool
+    ensures { IsTrue result ↔ HasNames (function f.now) }
+{
+    if !are_word_bytes(f.term.as_str().as_bytes()) {
+        return false;
+    }
+    if !are_tys(f.params.as_slice()) {
+        return false;
+    }
+    is_identifier(f.result.as_str())
+}

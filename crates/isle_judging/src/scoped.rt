@@ -1,0 +1,104 @@
+//! Whether each operand of statements is in scope and holds what is asked of it.
+
+ghost use Rattle.std.specs.Prelude.{◌≡◌, ◌↔◌, IsTrue, IsSome, IfOk, OnOk};
+ghost use Rattle.isle_tree.specs.Views.{stmt, body};
+ghost use Rattle.isle_tree.specs.WellFormed.{expr_holds, GivesKind, after_let, IsStmtScoped, IsBodyScoped, bound_after};
+
+use crate::binding::enter;
+use crate::holding::{are_both_values, expr_holds};
+use isle_core::ReturnKind;
+use isle_scope::Table;
+use isle_tree::{Callees, Holds, Item, Stmt};
+use std::alloc::AllocError;
+
+// Whether a return in a function of the kind may give it.
+fn gives_kind(kind: ReturnKind, holds: Option<Holds>) -> bool
+    ensures { IsTrue result ↔ GivesKind kind holds }
+{
+    match (kind, holds) {
+        (ReturnKind::Plain, Some(Holds::One(Item::Value))) => true,
+        (ReturnKind::Option, Some(Holds::Optional(Item::Value))) => true,
+        _ => false,
+    }
+}
+
+// Binds a local to what is computed, where something is.
+fn bind(bound: &mut Table<Holds>, local: usize, holds: Option<Holds>) -> Result<bool, AllocError>
+    ensures holds { IfOk result (λ b. IsTrue b ↔ IsSome holds) }
+    ensures bound { OnOk result (bound.new ≡ after_let holds local bound.old) }
+{
+    match holds {
+        None => Ok(false),
+        Some(holds) => {
+            bound.bind(local, holds)?;
+            Ok(true)
+        }
+    }
+}
+
+// Whether each operand of a statement is in scope; its own local is bound after it.
+#[cycle(scoped)]
+#[tactic(auto, using(isle_tree::proofs::Sees::sees))]
+fn is_stmt_scoped(
+    callees: &Callees,
+    kind: ReturnKind,
+    params: usize,
+    bound: &mut Table<Holds>,
+    s: &Stmt,
+) -> Result<bool, AllocError>
+    ensures scoped { IfOk result (λ b. IsTrue b ↔ IsStmtScoped callees.now kind params bound.old (stmt s.now)) }
+    ensures bound { OnOk result (bound.new ≡ bound_after callees.now params (stmt s.now) bound.old) }
+{
+    match s {
+        Stmt::Let(n, e) => {
+            let holds = expr_holds(callees, bound, params, e);
+            bind(bound, *n, holds)
+        }
+        Stmt::IfEq(a, b, inside) => {
+            if !are_both_values(bound, params, a, b) {
+                return Ok(false);
+            }
+            is_body_scoped(callees, kind, params, bound, inside.as_slice())
+        }
+        Stmt::IfLet(pat, read, inside) => {
+            let len = bound.len();
+            let reads = enter(bound, params, pat, read)?;
+            let scoped = is_body_scoped(callees, kind, params, bound, inside.as_slice())?;
+            bound.truncate(len);
+            Ok(reads && scoped)
+        }
+        Stmt::Return(e) => Ok(gives_kind(kind, expr_holds(callees, bound, params, e))),
+        Stmt::Tail(_) => Ok(true),
+        Stmt::LetList { .. }
+        | Stmt::Match(..)
+        | Stmt::Loop { .. }
+        | Stmt::Extend(_)
+        | Stmt::Overflow { .. }
+        | Stmt::Log { .. }
+        | Stmt::Split { .. } => Ok(false),
+    }
+}
+
+/// Tells whether each operand of the statements is in scope and holds what is asked of it. What is bound is the same after
+/// them. The only error is want of memory.
+#[cycle(scoped)]
+pub fn is_body_scoped(
+    callees: &Callees,
+    kind: ReturnKind,
+    params: usize,
+    bound: &mut Table<Holds>,
+    stmts: &[Stmt],
+) -> Result<bool, AllocError>
+    ensures scoped { IfOk result (λ b. IsTrue b ↔ IsBodyScoped callees.now kind params bound.old (body stmts.now)) }
+    ensures bound { OnOk result (bound.new ≡ bound.old) }
+{
+    let len = bound.len();
+    for s in stmts {
+        if !is_stmt_scoped(callees, kind, params, bound, s)? {
+            bound.truncate(len);
+            return Ok(false);
+        }
+    }
+    bound.truncate(len);
+    Ok(true)
+}

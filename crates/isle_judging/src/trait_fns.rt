@@ -1,0 +1,48 @@
+//! Which functions the trait may have.
+
+ghost use Rattle.std.specs.Prelude.{◌↔◌, IsTrue};
+ghost use Rattle.std.specs.List.{AllByRecursion};
+ghost use Rattle.isle_tree.specs.WellFormed.{AreResults, IsTraitFn};
+
+use crate::names::{are_tys, is_kind};
+use isle_core::Text;
+use isle_spelling::is_identifier;
+use isle_tree::TraitFn;
+
+// Whether there is one result, whose type has a name of Rust.
+fn are_results(names: &[Text]) -> bool
+    ensures { IsTrue result ↔ AreResults names.now }
+{
+    if names.len() != 1 {
+        return false;
+    }
+    is_identifier(names[0].as_str())
+}
+
+// Whether the trait may have the function.
+fn is_trait_fn(f: &TraitFn) -> bool
+    ensures { IsTrue result ↔ IsTraitFn f.now }
+{
+    if !is_identifier(f.name.as_str()) {
+        return false;
+    }
+    if !are_tys(f.params.as_slice()) {
+        return false;
+    }
+    if !are_results(f.results.as_slice()) {
+        return false;
+    }
+    is_kind(f.kind)
+}
+
+/// Tells whether the trait may have all of them.
+pub fn are_trait_fns(fns: &[TraitFn]) -> bool
+    ensures { IsTrue result ↔ AllByRecursion IsTraitFn fns.now }
+{
+    for f in fns {
+        if !is_trait_fn(f) {
+            return false;
+        }
+    }
+    true
+}

@@ -1,0 +1,148 @@
+-- What is computed is read as what it was spelled from.
+use Rattle.std.proofs.Common.{◌≡◌, ℕ, zero, suc, ◌<◌, ◌≤◌, List, [], ◌∷◌, ◌++◌, length, length-append, Bool, true, false, Some, None, refl, append_assoc, arith}
+use Rattle.std.specs.Prelude.{codes, if◌then◌else◌}
+use Rattle.std.specs.List.{AllByRecursion}
+use Rattle.isle_printer.specs.Token.{Token, Word, Mark}
+use Rattle.isle_core.specs.declared.values.Callee.{Callee}
+use Rattle.isle_core.specs.declared.values.Callee.TheVariants as callee
+use Rattle.isle_tree.specs.declared.tree.Operand.{Operand}
+use Rattle.isle_tree.specs.declared.tree.Read.{Read}
+use Rattle.isle_tree.specs.declared.tree.Read.TheVariants as read
+use Rattle.isle_tree.specs.declared.tree.TExpr.{TExpr}
+use Rattle.isle_tree.specs.declared.tree.TExpr.TheVariants as expr
+use Rattle.isle_tree.specs.WellFormed.{IsOperand, IsRead, IsFieldRead, IsCallee, IsExpr}
+use Rattle.isle_target.specs.Spelling.{operand_tokens, clone_part, read_tokens, borrow_part, args_tokens, call_tokens, field_read_tokens, field_reads_tokens, made_tokens, as_ref_part, expr_tokens}
+use Rattle.isle_target.specs.Tokens.{◌>>=◌, at}
+use Rattle.isle_target.specs.OperandReading.{goes_on, read_suffixed}
+use Rattle.isle_target.specs.Reading.{read_args, called_name, called, read_field_reads, read_made_fields, read_expr}
+use Rattle.isle_target.proofs.Words.{operand_again, operand_no_mark, operand_second}
+use Rattle.isle_target.proofs.ReadsAgain.{second_apart, operand_apart, bare_again, tried_again, cloned_again, read_again}
+
+-- ---- calls
+
+-- nothing goes on an argument
+args_stop : (rs : List Read) (ts : List Token) → goes_on (args_tokens rs ++ ts) ≡ false
+args_stop [] ts = refl
+args_stop (r ∷ rs) ts = refl
+
+-- the arguments of a call are read again
+args_again : (n : ℕ) (rs : List Read) (ts : List Token) → AllByRecursion IsRead rs → length (args_tokens rs) ≤ n → read_args n (args_tokens rs ++ ts) ≡ Some (rs, ts)
+unfolding read_args
+args_again zero [] ts h le = absurd (omega (arith, le))
+args_again zero (r ∷ rs) ts h le = absurd (omega (arith, le))
+args_again (suc n) [] ts h le = refl
+args_again (suc n) (r ∷ rs) ts h le =
+    let l = length-append (read_tokens r) (args_tokens rs) in
+    rw (append_assoc (read_tokens r) (args_tokens rs) ts, read_again r (args_tokens rs ++ ts) h.0 (args_stop rs ts), args_again n rs ts h.1 (omega (arith, l, le))) refl
+
+-- a call is read again, behind a & or not
+call_again : (borrow : Bool) (to : Callee) (rs : List Read) (ts : List Token) → IsCallee to → AllByRecursion IsRead rs
+    → read_expr (borrow_part borrow ++ (call_tokens to rs ++ ts)) ≡ Some (expr.Call borrow (record { callee = to; args = rs }), ts)
+unfolding read_expr
+call_again true (callee.External name) rs ts k h =
+    let long : length (args_tokens rs) ≤ length (args_tokens rs ++ ts) = omega (arith, length-append (args_tokens rs) ts) in
+    rw (args_again (length (args_tokens rs ++ ts)) rs ts h long) refl
+call_again false (callee.External name) rs ts k h =
+    let long : length (args_tokens rs) ≤ length (args_tokens rs ++ ts) = omega (arith, length-append (args_tokens rs) ts) in
+    rw (args_again (length (args_tokens rs ++ ts)) rs ts h long) refl
+call_again borrow (callee.Internal term) rs ts k h = absurd k
+
+-- ---- made values
+
+-- fields are read again
+fields_again : (k : ℕ) (fs : List (List ℕ × Read)) (ts : List Token) → AllByRecursion IsFieldRead fs → length fs < k → read_field_reads k (field_reads_tokens fs ++ ts) ≡ Some (fs, ts)
+unfolding read_field_reads
+fields_again zero fs ts h lt = absurd (omega arith)
+fields_again (suc k) [] ts h lt = refl
+fields_again (suc k) (f ∷ fs) ts h lt =
+    let more = field_reads_tokens fs ++ ts in
+    let flat : ((read_tokens f.1 ++ Mark (codes ",") ∷ []) ++ field_reads_tokens fs) ++ ts ≡ read_tokens f.1 ++ Mark (codes ",") ∷ more = simp append_assoc in
+    rw (flat, read_again f.1 (Mark (codes ",") ∷ more) h.0.1 refl, fields_again k fs ts h.1 (omega arith)) refl
+
+length-fields : (fs : List (List ℕ × Read)) → length fs < length (field_reads_tokens fs)
+length-fields [] = omega arith
+length-fields (f ∷ fs) = omega (arith, length-append (field_read_tokens f) (field_reads_tokens fs), length-fields fs)
+
+-- the braces of a made value, where no { stands behind it
+made_again : (fs : List (List ℕ × Read)) (ts : List Token) → AllByRecursion IsFieldRead fs → at (Mark (codes "{")) ts ≡ false → read_made_fields (made_tokens fs ++ ts) ≡ Some (fs, ts)
+unfolding read_made_fields
+made_again [] ts h e = rw e refl
+made_again (f ∷ fs) ts h e =
+    let inside = field_reads_tokens (f ∷ fs) ++ ts in
+    let fuel : length (f ∷ fs) < length inside = omega (arith, length-append (field_reads_tokens (f ∷ fs)) ts, length-fields (f ∷ fs)) in
+    rw (fields_again (length inside) (f ∷ fs) ts h fuel) refl
+
+-- a variant is no call, where no ( stands behind it
+variant_no_call : (ty variant : List ℕ) (ts : List Token) → at (Mark (codes "(")) ts ≡ false → called (Word ty ∷ Mark (codes "::") ∷ Word variant ∷ ts) ≡ None
+variant_no_call ty variant ts e = one _
+  where
+    one : (b : Bool) → ((if b then Some (Word variant ∷ ts) else None) >>= called_name) ≡ None
+    one true = rw e refl
+    one false = refl
+
+-- no ( stands behind a made value
+made_stop : (fs : List (List ℕ × Read)) (ts : List Token) → at (Mark (codes "(")) ts ≡ false → at (Mark (codes "(")) (made_tokens fs ++ ts) ≡ false
+made_stop [] ts e = e
+made_stop (f ∷ fs) ts e = refl
+
+-- ---- what is computed
+
+-- an operand with a suffix is read as that
+suffixed_again : (o : Operand) (ts : List Token) → at (Mark (codes "(")) ts ≡ false → at (Mark (codes "::")) ts ≡ false → at (Mark (codes "{")) ts ≡ false
+    → read_expr (operand_tokens o ++ ts) ≡ read_suffixed (operand_tokens o ++ ts)
+unfolding read_expr
+suffixed_again o ts e f g =
+    rw (operand_no_mark (codes "&") o ts refl, operand_apart (codes "Some") (codes "(") o ts e, operand_apart (codes "C") (codes "::") o ts f, operand_second (codes "::") o ts f, operand_second (codes "{") o ts g) refl
+
+-- an operand behind a &
+borrowed_again : (o : Operand) (ts : List Token) → IsOperand o → at (Mark (codes "::")) ts ≡ false → read_expr (Mark (codes "&") ∷ (operand_tokens o ++ ts)) ≡ Some (expr.Read (read.Borrow o), ts)
+unfolding read_expr
+borrowed_again o ts h e = rw (operand_apart (codes "C") (codes "::") o ts e, operand_again o ts h) refl
+
+-- a value that a variant makes
+variant_again : (ty variant : List ℕ) (fs : List (List ℕ × Read)) (ts : List Token) → AllByRecursion IsFieldRead fs
+    → read_expr (Word ty ∷ Mark (codes "::") ∷ Word variant ∷ (made_tokens fs ++ Mark (codes ";") ∷ ts)) ≡ Some (expr.Variant ty variant fs, Mark (codes ";") ∷ ts)
+unfolding read_expr
+variant_again ty variant fs ts h =
+    let behind = made_tokens fs ++ Mark (codes ";") ∷ ts in
+    rw (second_apart (Word (codes "Some")) (Mark (codes "(")) (Word ty) (Mark (codes "::") ∷ Word variant ∷ behind) refl, variant_no_call ty variant behind (made_stop fs (Mark (codes ";") ∷ ts) refl), made_again fs (Mark (codes ";") ∷ ts) h refl) refl
+
+-- one that a struct makes
+struct_again : (ty : List ℕ) (f : List ℕ × Read) (fs : List (List ℕ × Read)) (ts : List Token) → AllByRecursion IsFieldRead (f ∷ fs)
+    → read_expr (Word ty ∷ (made_tokens (f ∷ fs) ++ Mark (codes ";") ∷ ts)) ≡ Some (expr.Struct ty (f ∷ fs), Mark (codes ";") ∷ ts)
+unfolding read_expr
+struct_again ty f fs ts h =
+    let behind = made_tokens (f ∷ fs) ++ Mark (codes ";") ∷ ts in
+    rw (second_apart (Word (codes "Some")) (Mark (codes "(")) (Word ty) behind refl, second_apart (Word (codes "C")) (Mark (codes "::")) (Word ty) behind refl, made_again (f ∷ fs) (Mark (codes ";") ∷ ts) h refl) refl
+
+-- an option of what is read
+some_again : (r : Read) (ts : List Token) → IsRead r → read_expr (expr_tokens (expr.Some r) ++ ts) ≡ Some (expr.Some r, ts)
+unfolding read_expr
+some_again r ts h = rw (append_assoc (read_tokens r) (Mark (codes ")") ∷ []) ts, read_again r (Mark (codes ")") ∷ ts) h refl) refl
+
+-- what stands within an option
+within_again : (o : Operand) (as_ref : Bool) (ts : List Token) → IsOperand o → read_expr (operand_tokens o ++ (as_ref_part as_ref ++ Mark (codes "?") ∷ ts)) ≡ Some (expr.Try o as_ref, ts)
+within_again o true ts h = rw (suffixed_again o (as_ref_part true ++ Mark (codes "?") ∷ ts) refl refl refl) (tried_again o true ts h)
+within_again o false ts h = rw (suffixed_again o (Mark (codes "?") ∷ ts) refl refl refl) (tried_again o false ts h)
+
+-- what is computed is read again, up to the ; behind it
+pub expr_again : (e : TExpr) (ts : List Token) → IsExpr e → read_expr (expr_tokens e ++ Mark (codes ";") ∷ ts) ≡ Some (e, Mark (codes ";") ∷ ts)
+expr_again (expr.Read (read.Plain o)) ts h =
+    let after = Mark (codes ";") ∷ ts in
+    rw (suffixed_again o after refl refl refl) (bare_again o after h refl)
+expr_again (expr.Read (read.Borrow o)) ts h = borrowed_again o (Mark (codes ";") ∷ ts) h refl
+expr_again (expr.Read (read.Clone o)) ts h =
+    let after = Mark (codes ";") ∷ ts in
+    rw (append_assoc (operand_tokens o) clone_part after, suffixed_again o (clone_part ++ after) refl refl refl) (cloned_again o after h)
+expr_again (expr.Call borrow call) ts h =
+    let after = Mark (codes ";") ∷ ts in
+    rw (append_assoc (borrow_part borrow) (call_tokens call.callee call.args) after) (call_again borrow call.callee call.args after h.callee h.args)
+expr_again (expr.Some r) ts h = some_again r (Mark (codes ";") ∷ ts) h
+expr_again (expr.Try o as_ref) ts h =
+    let after = Mark (codes ";") ∷ ts in
+    let flat : (operand_tokens o ++ (as_ref_part as_ref ++ Mark (codes "?") ∷ [])) ++ after ≡ operand_tokens o ++ (as_ref_part as_ref ++ Mark (codes "?") ∷ after) = simp append_assoc in
+    rw flat (within_again o as_ref after h)
+expr_again (expr.Variant ty variant fs) ts h = variant_again ty variant fs ts h.2
+expr_again (expr.Struct ty []) ts h = absurd (omega (arith, h.1))
+expr_again (expr.Struct ty (f ∷ fs)) ts h = struct_again ty f fs ts h.2
+expr_again (expr.Tuple o n) ts h = absurd h

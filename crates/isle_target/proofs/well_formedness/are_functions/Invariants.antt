@@ -1,5 +1,0 @@
-use Rattle.isle_target.proofs.Functions.{Left}
-use Rattle.isle_target.proofs.well_formedness.are_functions.Given as goal
-
-abbrev pub invariant-loop-f : goal.invariant-loop-f
-invariant-loop-f l = Left l.callees l.fns l.f-index
