@@ -1,23 +1,33 @@
 -- A meaning that has the answers of another one runs a function whose calls those answer in the same way.
 use Rattle.std.proofs.Common.{◌≡◌, ℕ, zero, List, [], ◌∷◌, ◌++◌, map, Bool, true, false, Option, Some, None, refl, sym, ap, ◌∙◌, subst, arith}
-use Rattle.std.specs.Prelude.{find, cond, Contains, if◌then◌else◌}
+use Rattle.std.specs.Prelude.{find, cond, option_map, Contains, if◌then◌else◌}
 use Rattle.std.specs.List.{AllByRecursion}
+use Rattle.std.specs.Str.{bytes_eq}
+use Rattle.std.proofs.lemmas.Slice.Eq.{bytes_eq-Decides}
 use Rattle.std.proofs.lemmas.List.Elements.{recursion_from_All, Contains-append_left, Contains-append_right}
 use Rattle.isle_core.specs.declared.values.Callee.{Callee}
-use Rattle.isle_core.specs.Value.{Value, Made}
+use Rattle.isle_core.specs.Value.{Value, Made, GivesSome}
 use Rattle.isle_core.specs.SameInRun.{same_in_run}
 use Rattle.isle_core.specs.Meaning.{PureAnswers, TurnAnswers, Meaning, turns_of, cases_of}
-use Rattle.isle_core.specs.Answered.{answer_held, answer}
-use Rattle.isle_core.specs.Having.{HasCases, HasTurns, HasAnswers}
+use Rattle.isle_core.specs.Answered.{Held, a_value, an_option, answer_held, answer}
+use Rattle.isle_core.specs.Having.{const_of, HasConst, HasCases, HasTurns, HasAnswers}
 use Rattle.isle_core.specs.Terms.{goes_to}
+use Rattle.isle_core.specs.ValueAt.{value_before}
+use Rattle.isle_tree.specs.declared.tree.Operand.{Operand}
+use Rattle.isle_tree.specs.declared.tree.Operand.TheVariants as operand
+use Rattle.isle_tree.specs.declared.tree.Read.{Read}
+use Rattle.isle_tree.specs.declared.tree.Read.TheVariants as read
+use Rattle.isle_tree.specs.declared.tree.TPat.{TPat}
+use Rattle.isle_tree.specs.declared.tree.TPat.TheVariants as pattern
 use Rattle.isle_tree.specs.declared.tree.TExpr.{TExpr}
 use Rattle.isle_tree.specs.declared.tree.TExpr.TheVariants as expr
 use Rattle.isle_tree.specs.Program.{Program, Stmt, Let, LetList, IfEq, IfLet, Match, Loop, Return, Extend, Overflow, Log, Split, Tail, Body, Done, Then, Function}
-use Rattle.isle_tree.specs.Run.{Around, State, nothing_done, one_made, Env, Flow, Goes, Ends, Leaves, Stuck, value_of, read_value, read_values, on_value, fit, fitted, then_run, after_scope, run_bind, run_call, run_let, run_stmt, run_body, ended, function_run}
-use Rattle.isle_interpreter.specs.Entries.{Constant, Cases, Turns, entries, IsUnanswered}
+use Rattle.isle_tree.specs.Run.{Around, State, nothing_done, one_made, Env, Flow, Goes, Ends, Leaves, Stuck, value_of, name_value, bind, read_value, read_values, field_before, read_fields, on_value, value_in, constant, are_same, fit, fitted, then_run, after_scope, run_bind, run_call, run_try, run_variant, run_struct, run_let, ends_with, run_return, run_stmt, run_body, ended, function_run}
+use Rattle.isle_interpreter.specs.Entries.{Constant, Cases, Turns, entries, IsUnanswered, IsUngiven}
 use Rattle.isle_tree.specs.Calls.{expr_calls, stmt_calls, body_calls}
+use Rattle.isle_interpreter.specs.Names.{operand_names, read_names, reads_names, fields_names, expr_names, pattern_names, stmt_names, body_names}
 use Rattle.isle_interpreter.specs.Refusals.{AreAnswered}
-use Rattle.isle_interpreter.proofs.AnswersHold.{goes_same, both_unanswered, no_constants, no_turns, no_cases}
+use Rattle.isle_interpreter.proofs.AnswersHold.{goes_same, both_unanswered, no_constants, no_turns, no_cases, both_ungiven, no_consts, cases_give_none, turns_give_none}
 use Rattle.isle_interpreter.proofs.Answering.{by_turns, by_cases}
 
 -- what is found passes the test, and is as all are
@@ -59,7 +69,45 @@ module _ (m given : Meaning) (has : HasAnswers m given) where
       turns None e = cases e (cases_of given callee) refl
       turns (Some t) e = by_turns m callee vs made t (has_turns callee t e) ∙ sym (by_turns given callee vs made t e)
 
+  has_const : (name : List ℕ) (v : Value) → const_of given name ≡ Some v → const_of m name ≡ Some v
+  has_const name v e = by (find (λ (c : List ℕ × Value). bytes_eq name c.0) given.consts) refl e
+    where
+      by : (o : Option (List ℕ × Value)) → find (λ (c : List ℕ × Value). bytes_eq name c.0) given.consts ≡ o → option_map (λ (c : List ℕ × Value). c.1) o ≡ Some v → const_of m name ≡ Some v
+      by None f g = absurd cc
+      by (Some c) f g =
+          let there = found (HasConst m) (λ (c : List ℕ × Value). bytes_eq name c.0) given.consts c (recursion_from_All (HasConst m) given.consts has.consts) f in
+          subst (λ n. const_of m n ≡ Some v) (sym ((bytes_eq-Decides name c.0).0 there.1)) (there.0 ∙ g)
+
+  -- a name with an entry stands for the same
+  same_name : (name : List ℕ) → (const_of given name ≡ None → const_of m name ≡ None) → const_of m name ≡ const_of given name
+  same_name name none = by (const_of given name) refl
+    where
+      by : (o : Option Value) → const_of given name ≡ o → const_of m name ≡ const_of given name
+      by None e = none e ∙ sym e
+      by (Some v) e = has_const name v e ∙ sym e
+
   -- ---- statements
+
+  -- these names stand for the same
+  abbrev Same : List (List ℕ) → Type 0
+  Same names = (name : List ℕ) → Contains names name → const_of m name ≡ const_of given name
+
+  front_same : (xs ys : List (List ℕ)) → Same (xs ++ ys) → Same xs
+  front_same xs ys same name there = same name (Contains-append_left xs ys name there)
+
+  back_same : (xs ys : List (List ℕ)) → Same (xs ++ ys) → Same ys
+  back_same xs ys same name there = same name (Contains-append_right xs ys name there)
+
+  first_same : (name : List ℕ) → Same (name ∷ []) → const_of m name ≡ const_of given name
+  first_same name same = same name (zero, omega arith, refl)
+
+  same_constant : (o : Operand) → Same (operand_names o) → constant m o ≡ constant given o
+  same_constant (operand.Name name) same = ap (λ o. Some (name_value o name)) (first_same name same)
+  same_constant (operand.Local n) same = refl
+  same_constant (operand.Arg n) same = refl
+  same_constant (operand.Bool b) same = refl
+  same_constant (operand.Int ty z) same = refl
+  same_constant (operand.Raw z) same = refl
 
   -- these callees are answered alike
   abbrev Alike : List Callee → Type 0
@@ -78,19 +126,60 @@ module _ (m given : Meaning) (has : HasAnswers m given) where
     abbrev other : Around
     other = record { meaning = given; program = p; function = f; args = args; limit = None }
 
+    same_operand : (env : Env) (o : Operand) → Same (operand_names o) → value_of one env o ≡ value_of other env o
+    same_operand env (operand.Name name) same = ap (λ o. a_value (name_value o name)) (first_same name same)
+    same_operand env (operand.Local n) same = refl
+    same_operand env (operand.Arg n) same = refl
+    same_operand env (operand.Bool b) same = refl
+    same_operand env (operand.Int ty z) same = refl
+    same_operand env (operand.Raw z) same = refl
+
+    same_read : (env : Env) (r : Read) → Same (read_names r) → read_value one env r ≡ read_value other env r
+    same_read env (read.Plain o) same = same_operand env o same
+    same_read env (read.Borrow o) same = same_operand env o same
+    same_read env (read.Clone o) same = same_operand env o same
+
+    same_reads : (env : Env) (rs : List Read) → Same (reads_names rs) → read_values one env rs ≡ read_values other env rs
+    same_reads env [] same = refl
+    same_reads env (r ∷ rs) same =
+        ap (λ h. value_before h (read_values one env rs)) (same_read env r (front_same (read_names r) (reads_names rs) same))
+        ∙ ap (value_before (read_value other env r)) (same_reads env rs (back_same (read_names r) (reads_names rs) same))
+
+    same_fields : (env : Env) (fs : List (List ℕ × Read)) → Same (fields_names fs) → read_fields one env fs ≡ read_fields other env fs
+    same_fields env [] same = refl
+    same_fields env (f ∷ fs) same =
+        ap (λ h. field_before f.0 h (read_fields one env fs)) (same_read env f.1 (front_same (read_names f.1) (fields_names fs) same))
+        ∙ ap (field_before f.0 (read_value other env f.1)) (same_fields env fs (back_same (read_names f.1) (fields_names fs) same))
+
     same_call : (n : ℕ) (callee : Callee) (o : Option (List Value)) (env : Env) (s : State) → Alike (callee ∷ []) → run_call one n callee o env s ≡ run_call other n callee o env s
     same_call n callee None env s alike = refl
     same_call n callee (Some vs) env s alike =
         ap (λ a. run_bind n (answer_held a) env (one_made s (record { callee = callee; args = vs }))) (alike callee (zero, omega arith, refl) vs s.made)
 
-    same_let : (n : ℕ) (e : TExpr) (env : Env) (s : State) → Alike (expr_calls e) → run_let one n e env s ≡ run_let other n e env s
-    same_let n (expr.Call borrow call) env s alike = same_call n call.callee (read_values one env call.args) env s alike
-    same_let n (expr.Read r) env s alike = refl
-    same_let n (expr.Some r) env s alike = refl
-    same_let n (expr.Try source as_ref) env s alike = refl
-    same_let n (expr.Variant ty variant fields) env s alike = refl
-    same_let n (expr.Struct ty fields) env s alike = refl
-    same_let n (expr.Tuple o k) env s alike = refl
+    same_let : (n : ℕ) (e : TExpr) (env : Env) (s : State) → Alike (expr_calls e) → Same (expr_names e) → run_let one n e env s ≡ run_let other n e env s
+    same_let n (expr.Call borrow call) env s alike same =
+        same_call n call.callee (read_values one env call.args) env s alike ∙ ap (λ o. run_call other n call.callee o env s) (same_reads env call.args same)
+    same_let n (expr.Read r) env s alike same = ap (λ h. run_bind n h env s) (same_read env r same)
+    same_let n (expr.Some r) env s alike same = ap (λ h. on_value h (λ v. Goes (bind env n (an_option (Some v))) s)) (same_read env r same)
+    same_let n (expr.Try source as_ref) env s alike same = ap (λ h. run_try n h env s) (same_operand env source same)
+    same_let n (expr.Variant ty variant fields) env s alike same = ap (λ o. run_variant n ty variant o env s) (same_fields env fields same)
+    same_let n (expr.Struct ty fields) env s alike same = ap (λ o. run_struct n ty o env s) (same_fields env fields same)
+    same_let n (expr.Tuple o k) env s alike same = refl
+
+    same_return : (e : TExpr) (env : Env) (s : State) → Same (expr_names e) → run_return one e env s ≡ run_return other e env s
+    same_return (expr.Read r) env s same = ap (λ h. ends_with h s) (same_read env r same)
+    same_return (expr.Some r) env s same = ap (λ h. on_value h (λ v. Ends (GivesSome v) s)) (same_read env r same)
+    same_return (expr.Call borrow call) env s same = refl
+    same_return (expr.Try source as_ref) env s same = refl
+    same_return (expr.Variant ty variant fields) env s same = refl
+    same_return (expr.Struct ty fields) env s same = refl
+    same_return (expr.Tuple o k) env s same = refl
+
+    same_fit : (pat : TPat) (h : Held) → Same (pattern_names pat) → fit one pat h ≡ fit other pat h
+    same_fit (pattern.Const o) h same = ap (λ c. if are_same (value_in h) c then Some [] else None) (same_constant o same)
+    same_fit (pattern.Variant ty variant binds more) h same = refl
+    same_fit (pattern.Struct ty binds more) h same = refl
+    same_fit (pattern.Some local) h same = refl
 
     then_same : (flow after : Flow) (go next : Env → State → Flow) → flow ≡ after → ((env : Env) (s : State) → go env s ≡ next env s) → then_run flow go ≡ then_run after next
     then_same flow after go next e same = by flow ∙ ap (λ f. then_run f next) e
@@ -105,28 +194,57 @@ module _ (m given : Meaning) (has : HasAnswers m given) where
     same_fitted None env otherwise go next same = refl
     same_fitted (Some bound) env otherwise go next same = ap (after_scope env) (same bound)
 
+    same_test : (a b : Operand) (env : Env) (met missed : Flow) → Same (operand_names a) → Same (operand_names b)
+        → on_value (value_of one env a) (λ v. on_value (value_of one env b) (λ u. if same_in_run v u then met else missed)) ≡ on_value (value_of other env a) (λ v. on_value (value_of other env b) (λ u. if same_in_run v u then met else missed))
+    same_test a b env met missed left right =
+        ap (λ h. on_value h (λ v. on_value (value_of one env b) (λ u. if same_in_run v u then met else missed))) (same_operand env a left)
+        ∙ ap (λ h. on_value (value_of other env a) (λ v. on_value h (λ u. if same_in_run v u then met else missed))) (same_operand env b right)
+
+    same_pattern : (pat : TPat) (r : Read) (env : Env) (met : Env → Flow) (missed : Flow) → Same (pattern_names pat) → Same (read_names r) → fitted (fit one pat (read_value one env r)) met missed ≡ fitted (fit other pat (read_value other env r)) met missed
+    same_pattern pat r env met missed left right =
+        ap (λ o. fitted o met missed) (same_fit pat (read_value one env r) left ∙ ap (fit other pat) (same_read env r right))
+
     mutual
-      same_stmt : (t : Stmt) (env : Env) (s : State) → Alike (stmt_calls t) → run_stmt one t env s ≡ run_stmt other t env s
-      same_stmt (Let n e) env s alike = same_let n e env s alike
-      same_stmt (IfEq a b inside) env s alike =
-          ap (λ flow. on_value (value_of one env a) (λ v. on_value (value_of one env b) (λ u. if same_in_run v u then after_scope env flow else Goes env s))) (same_body inside env s alike)
-      same_stmt (Return e) env s alike = refl
-      same_stmt (Tail texts) env s alike = refl
-      same_stmt (LetList n call) env s alike = refl
-      same_stmt (IfLet pat r inside) env s alike = same_fitted (fit one pat (read_value one env r)) env (Goes env s) (λ bound. run_body one inside (env ++ bound) s) (λ bound. run_body other inside (env ++ bound) s) (λ bound. same_body inside (env ++ bound) s alike)
-      same_stmt (Match r arms) env s alike = refl
-      same_stmt (Loop list item inside) env s alike = refl
-      same_stmt (Extend r) env s alike = refl
-      same_stmt (Overflow inside) env s alike = refl
-      same_stmt (Log term place) env s alike = refl
-      same_stmt (Split inside within) env s alike = refl
+      same_stmt : (t : Stmt) (env : Env) (s : State) → Alike (stmt_calls t) → Same (stmt_names t) → run_stmt one t env s ≡ run_stmt other t env s
+      same_stmt (Let n e) env s alike same = same_let n e env s alike same
+      same_stmt (IfEq a b inside) env s alike same =
+          let own = front_same (operand_names a ++ operand_names b) (body_names inside) same in
+          ap (λ flow. on_value (value_of one env a) (λ v. on_value (value_of one env b) (λ u. if same_in_run v u then after_scope env flow else Goes env s)))
+          (same_body inside env s alike (back_same (operand_names a ++ operand_names b) (body_names inside) same))
+          ∙ same_test a b env (after_scope env (run_body other inside env s)) (Goes env s) (front_same (operand_names a) (operand_names b) own) (back_same (operand_names a) (operand_names b) own)
+      same_stmt (Return e) env s alike same = same_return e env s same
+      same_stmt (Tail texts) env s alike same = refl
+      same_stmt (LetList n call) env s alike same = refl
+      same_stmt (IfLet pat r inside) env s alike same =
+          let own = front_same (pattern_names pat ++ read_names r) (body_names inside) same in
+          same_fitted (fit one pat (read_value one env r)) env (Goes env s) (λ bound. run_body one inside (env ++ bound) s) (λ bound. run_body other inside (env ++ bound) s)
+          (λ bound. same_body inside (env ++ bound) s alike (back_same (pattern_names pat ++ read_names r) (body_names inside) same))
+          ∙ same_pattern pat r env (λ bound. after_scope env (run_body other inside (env ++ bound) s)) (Goes env s) (front_same (pattern_names pat) (read_names r) own) (back_same (pattern_names pat) (read_names r) own)
+      same_stmt (Match r arms) env s alike same = refl
+      same_stmt (Loop list item inside) env s alike same = refl
+      same_stmt (Extend r) env s alike same = refl
+      same_stmt (Overflow inside) env s alike same = refl
+      same_stmt (Log term place) env s alike same = refl
+      same_stmt (Split inside within) env s alike same = refl
 
-      same_body : (b : Body) (env : Env) (s : State) → Alike (body_calls b) → run_body one b env s ≡ run_body other b env s
-      same_body Done env s alike = refl
-      same_body (Then t ss) env s alike =
-          then_same (run_stmt one t env s) (run_stmt other t env s) (run_body one ss) (run_body other ss) (same_stmt t env s (front (stmt_calls t) (body_calls ss) alike))
-          (λ inner calls. same_body ss inner calls (back (stmt_calls t) (body_calls ss) alike))
+      same_body : (b : Body) (env : Env) (s : State) → Alike (body_calls b) → Same (body_names b) → run_body one b env s ≡ run_body other b env s
+      same_body Done env s alike same = refl
+      same_body (Then t ss) env s alike same =
+          then_same (run_stmt one t env s) (run_stmt other t env s) (run_body one ss) (run_body other ss)
+          (same_stmt t env s (front (stmt_calls t) (body_calls ss) alike) (front_same (stmt_names t) (body_names ss) same))
+          (λ inner calls. same_body ss inner calls (back (stmt_calls t) (body_calls ss) alike) (back_same (stmt_names t) (body_names ss) same))
 
-    -- the two runs are one
-    pub same_run : AreAnswered f (entries given) → function_run p m args (Some f) ≡ function_run p given args (Some f)
-    same_run some = ap ended (same_body f.body [] nothing_done (λ callee there. same_answer callee (some callee there)))
+    -- the two runs are one, where names without an entry have no value under the one either
+    pub same_run : AreAnswered f (entries given) → ((name : List ℕ) → Contains (body_names f.body) name → const_of given name ≡ None → const_of m name ≡ None)
+        → function_run p m args (Some f) ≡ function_run p given args (Some f)
+    same_run some none = ap ended (same_body f.body [] nothing_done (λ callee there. same_answer callee (some callee there)) (λ name there. same_name name (none name there)))
+
+-- a constant without a value has no entry
+pub no_value_given : (m : Meaning) (name : List ℕ) → const_of m name ≡ None → IsUngiven name (entries m)
+no_value_given m name e = by (find (λ (c : List ℕ × Value). bytes_eq name c.0) m.consts) refl e
+  where
+    by : (o : Option (List ℕ × Value)) → find (λ (c : List ℕ × Value). bytes_eq name c.0) m.consts ≡ o → option_map (λ (c : List ℕ × Value). c.1) o ≡ None → IsUngiven name (entries m)
+    by None f g =
+        both_ungiven name (map (λ c. Constant c.0 c.1) m.consts) (map Cases m.pure ++ map Turns m.turns) (no_consts name m.consts f)
+        (both_ungiven name (map Cases m.pure) (map Turns m.turns) (cases_give_none name m.pure) (turns_give_none name m.turns))
+    by (Some c) f g = absurd cc

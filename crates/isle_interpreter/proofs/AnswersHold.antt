@@ -2,6 +2,7 @@
 use Rattle.std.proofs.Common.{◌≡◌, ℕ, List, [], ◌∷◌, ◌++◌, length, map, Bool, true, false, Option, Some, None, refl, sym, ap, subst, append_assoc, append-nil}
 use Rattle.std.specs.Prelude.{zero, suc, find, cond, IsSomeAnd, slice_index_or}
 use Rattle.std.specs.List.{AllByRecursion}
+use Rattle.std.specs.Str.{bytes_eq}
 use Rattle.std.proofs.lemmas.Slice.Eq.{bytes_eq-Decides}
 use Rattle.isle_core.specs.declared.values.Callee.{Callee}
 use Rattle.isle_core.specs.declared.values.Callee.TheVariants.{External, Internal}
@@ -13,10 +14,11 @@ use Rattle.isle_tree.specs.declared.holds.Holds.{Holds}
 use Rattle.isle_tree.specs.declared.holds.Holds.TheVariants as holds
 use Rattle.isle_tree.specs.declared.holds.Item.{Item as ItemHeld}
 use Rattle.isle_tree.specs.declared.holds.Item.TheVariants as item
+use Rattle.isle_tree.specs.declared.tree.TypeItem.{TypeItem}
 use Rattle.isle_tree.specs.Program.{Program}
 use Rattle.isle_tree.specs.WellFormed.{kind_holds, AreResults}
 use Rattle.isle_interpreter.specs.Signatures.{Signature, signature_of, AreNamed, AnswerFits}
-use Rattle.isle_interpreter.specs.Entries.{Entry, Constant, Cases, Turns, entries, IsUnanswered, CaseFits, EntryFits, AreRight}
+use Rattle.isle_interpreter.specs.Entries.{Entry, Constant, Cases, Turns, entries, IsUnanswered, IsUngiven, CaseFits, EntryFits, AreRight}
 
 -- an item is what is said of it
 abbrev pub IsItem : ItemHeld → Item → Type 0
@@ -59,28 +61,28 @@ right_rest : (p : Program) (e xs ys : List Entry) → AreRight p e (xs ++ ys) �
 right_rest p e [] ys h = subst (λ fs. AreRight p fs ys) (sym (append-nil e)) h
 right_rest p e (x ∷ xs) ys h = subst (λ fs. AreRight p fs ys) (append_assoc e (x ∷ []) xs) (right_rest p (e ++ x ∷ []) xs ys h.1)
 
-turns_by : (p : Program) (callee : Callee) (t a : TurnAnswers) (tail : Option TurnAnswers) (b : Bool) → goes_to callee (Some t.callee) ≡ b → IsSomeAnd (signature_of p t.callee) (EntryFits (Turns t))
-    → (tail ≡ Some a → IsSomeAnd (signature_of p callee) (EntryFits (Turns a))) → cond b (Some t) tail ≡ Some a → IsSomeAnd (signature_of p callee) (EntryFits (Turns a))
+turns_by : (p : Program) (callee : Callee) (t a : TurnAnswers) (tail : Option TurnAnswers) (b : Bool) → goes_to callee (Some t.callee) ≡ b → IsSomeAnd (signature_of p t.callee) (EntryFits p.types (Turns t))
+    → (tail ≡ Some a → IsSomeAnd (signature_of p callee) (EntryFits p.types (Turns a))) → cond b (Some t) tail ≡ Some a → IsSomeAnd (signature_of p callee) (EntryFits p.types (Turns a))
 turns_by p callee t a tail true g h go e =
     let same : t ≡ a = cc in
-    subst (λ (x : TurnAnswers). IsSomeAnd (signature_of p callee) (EntryFits (Turns x))) same (subst (λ c. IsSomeAnd (signature_of p c) (EntryFits (Turns t))) (goes_same callee t.callee g) h)
+    subst (λ (x : TurnAnswers). IsSomeAnd (signature_of p callee) (EntryFits p.types (Turns x))) same (subst (λ c. IsSomeAnd (signature_of p c) (EntryFits p.types (Turns t))) (goes_same callee t.callee g) h)
 turns_by p callee t a tail false g h go e = go e
 
 found_turns : (p : Program) (e : List Entry) (ts : List TurnAnswers) (callee : Callee) (a : TurnAnswers) → AreRight p e (map Turns ts) → find (λ (b : TurnAnswers). goes_to callee (Some b.callee)) ts ≡ Some a
-    → IsSomeAnd (signature_of p callee) (EntryFits (Turns a))
+    → IsSomeAnd (signature_of p callee) (EntryFits p.types (Turns a))
 found_turns p e [] callee a h f = absurd cc
 found_turns p e (t ∷ ts) callee a h f =
     turns_by p callee t a (find (λ (b : TurnAnswers). goes_to callee (Some b.callee)) ts) (goes_to callee (Some t.callee)) refl h.0.1 (found_turns p (e ++ Turns t ∷ []) ts callee a h.1) f
 
-cases_by : (p : Program) (callee : Callee) (t a : PureAnswers) (tail : Option PureAnswers) (b : Bool) → goes_to callee (Some t.callee) ≡ b → IsSomeAnd (signature_of p t.callee) (EntryFits (Cases t))
-    → (tail ≡ Some a → IsSomeAnd (signature_of p callee) (EntryFits (Cases a))) → cond b (Some t) tail ≡ Some a → IsSomeAnd (signature_of p callee) (EntryFits (Cases a))
+cases_by : (p : Program) (callee : Callee) (t a : PureAnswers) (tail : Option PureAnswers) (b : Bool) → goes_to callee (Some t.callee) ≡ b → IsSomeAnd (signature_of p t.callee) (EntryFits p.types (Cases t))
+    → (tail ≡ Some a → IsSomeAnd (signature_of p callee) (EntryFits p.types (Cases a))) → cond b (Some t) tail ≡ Some a → IsSomeAnd (signature_of p callee) (EntryFits p.types (Cases a))
 cases_by p callee t a tail true g h go e =
     let same : t ≡ a = cc in
-    subst (λ (x : PureAnswers). IsSomeAnd (signature_of p callee) (EntryFits (Cases x))) same (subst (λ c. IsSomeAnd (signature_of p c) (EntryFits (Cases t))) (goes_same callee t.callee g) h)
+    subst (λ (x : PureAnswers). IsSomeAnd (signature_of p callee) (EntryFits p.types (Cases x))) same (subst (λ c. IsSomeAnd (signature_of p c) (EntryFits p.types (Cases t))) (goes_same callee t.callee g) h)
 cases_by p callee t a tail false g h go e = go e
 
 found_cases : (p : Program) (e : List Entry) (ts : List PureAnswers) (callee : Callee) (a : PureAnswers) → AreRight p e (map Cases ts) → find (λ (b : PureAnswers). goes_to callee (Some b.callee)) ts ≡ Some a
-    → IsSomeAnd (signature_of p callee) (EntryFits (Cases a))
+    → IsSomeAnd (signature_of p callee) (EntryFits p.types (Cases a))
 found_cases p e [] callee a h f = absurd cc
 found_cases p e (t ∷ ts) callee a h f =
     cases_by p callee t a (find (λ (b : PureAnswers). goes_to callee (Some b.callee)) ts) (goes_to callee (Some t.callee)) refl h.0.1 (found_cases p (e ++ Cases t ∷ []) ts callee a h.1) f
@@ -111,6 +113,24 @@ pub no_cases : (callee : Callee) (ts : List PureAnswers) → find (λ (b : PureA
 no_cases callee [] e = tt
 no_cases callee (t ∷ ts) e = let f = cond_none (goes_to callee (Some t.callee)) t (find (λ (b : PureAnswers). goes_to callee (Some b.callee)) ts) e in (f.0, no_cases callee ts f.1)
 
+-- ---- a constant without a value isn't given
+
+pub both_ungiven : (name : List ℕ) (xs ys : List Entry) → IsUngiven name xs → IsUngiven name ys → IsUngiven name (xs ++ ys)
+both_ungiven name [] ys h k = k
+both_ungiven name (x ∷ xs) ys h k = (h.0, both_ungiven name xs ys h.1 k)
+
+pub cases_give_none : (name : List ℕ) (ts : List PureAnswers) → IsUngiven name (map Cases ts)
+cases_give_none name [] = tt
+cases_give_none name (t ∷ ts) = (refl, cases_give_none name ts)
+
+pub turns_give_none : (name : List ℕ) (ts : List TurnAnswers) → IsUngiven name (map Turns ts)
+turns_give_none name [] = tt
+turns_give_none name (t ∷ ts) = (refl, turns_give_none name ts)
+
+pub no_consts : (name : List ℕ) (cs : List (List ℕ × Value)) → find (λ (c : List ℕ × Value). bytes_eq name c.0) cs ≡ None → IsUngiven name (map (λ c. Constant c.0 c.1) cs)
+no_consts name [] e = tt
+no_consts name (c ∷ cs) e = let f = cond_none (bytes_eq name c.0) c (find (λ (c : List ℕ × Value). bytes_eq name c.0) cs) e in (f.0, no_consts name cs f.1)
+
 -- ---- answers fit
 
 index_fits : {A : Type 0} (P : A → Type 0) (xs : List A) (n : ℕ) (d : A) → AllByRecursion P xs → P d → P (slice_index_or xs n d)
@@ -118,17 +138,17 @@ index_fits P [] n d h k = k
 index_fits P (x ∷ xs) zero d h k = h.0
 index_fits P (x ∷ xs) (suc n) d h k = index_fits P xs n d h.1 k
 
-case_fits : (s : Signature) (rest : Answer) (test : List Value × Answer → Bool) (cs : List (List Value × Answer)) → AllByRecursion (CaseFits s) cs → AnswerFits s rest → AnswerFits s (case_or rest (find test cs))
-case_fits s rest test [] h k = k
-case_fits s rest test (c ∷ cs) h k = by (test c) (case_fits s rest test cs h.1 k)
+case_fits : (types : List TypeItem) (s : Signature) (rest : Answer) (test : List Value × Answer → Bool) (cs : List (List Value × Answer)) → AllByRecursion (CaseFits types s) cs → AnswerFits types s rest → AnswerFits types s (case_or rest (find test cs))
+case_fits types s rest test [] h k = k
+case_fits types s rest test (c ∷ cs) h k = by (test c) (case_fits types s rest test cs h.1 k)
   where
-    by : (b : Bool) → AnswerFits s (case_or rest (find test cs)) → AnswerFits s (case_or rest (cond b (Some c) (find test cs)))
+    by : (b : Bool) → AnswerFits types s (case_or rest (find test cs)) → AnswerFits types s (case_or rest (cond b (Some c) (find test cs)))
     by true go = h.0.1
     by false go = go
 
 -- an answer fits the signature of its callee
 pub answer_fits : (p : Program) (m : Meaning) (callee : Callee) (s : Signature) → AreRight p [] (entries m) → (IsUnanswered callee (entries m) → ⊥) → signature_of p callee ≡ Some s
-    → (vs : List Value) (made : List Made) → AnswerFits s (answer m callee vs made)
+    → (vs : List Value) (made : List Made) → AnswerFits p.types s (answer m callee vs made)
 answer_fits p m callee s right some is vs made = by_turns (turns_of m callee) refl
   where
     consts : List Entry
@@ -137,42 +157,42 @@ answer_fits p m callee s right some is vs made = by_turns (turns_of m callee) re
     later : AreRight p consts (map Cases m.pure ++ map Turns m.turns)
     later = right_rest p [] consts (map Cases m.pure ++ map Turns m.turns) right
 
-    by_cases : turns_of m callee ≡ None → (o : Option PureAnswers) → cases_of m callee ≡ o → AnswerFits s (case_at o vs)
+    by_cases : turns_of m callee ≡ None → (o : Option PureAnswers) → cases_of m callee ≡ o → AnswerFits p.types s (case_at o vs)
     by_cases t None e = absurd (some (both_unanswered callee consts (map Cases m.pure ++ map Turns m.turns) (no_constants callee m.consts) (both_unanswered callee (map Cases m.pure) (map Turns m.turns) (no_cases callee m.pure e) (no_turns callee m.turns t))))
     by_cases t (Some a) e =
-        let fit : EntryFits (Cases a) s = subst (λ o. IsSomeAnd o (EntryFits (Cases a))) is (found_cases p consts m.pure callee a (right_front p consts (map Cases m.pure) (map Turns m.turns) later) e) in
-        case_fits s a.rest (λ (c : List Value × Answer). same_values c.0 vs) a.cases fit.0 fit.1
+        let fit : EntryFits p.types (Cases a) s = subst (λ o. IsSomeAnd o (EntryFits p.types (Cases a))) is (found_cases p consts m.pure callee a (right_front p consts (map Cases m.pure) (map Turns m.turns) later) e) in
+        case_fits p.types s a.rest (λ (c : List Value × Answer). same_values c.0 vs) a.cases fit.0 fit.1
 
-    by_turns : (o : Option TurnAnswers) → turns_of m callee ≡ o → AnswerFits s (answer_by o m callee vs made)
+    by_turns : (o : Option TurnAnswers) → turns_of m callee ≡ o → AnswerFits p.types s (answer_by o m callee vs made)
     by_turns None e = by_cases e (cases_of m callee) refl
     by_turns (Some a) e =
-        let fit : EntryFits (Turns a) s = subst (λ o. IsSomeAnd o (EntryFits (Turns a))) is (found_turns p (consts ++ map Cases m.pure) m.turns callee a (right_rest p consts (map Cases m.pure) (map Turns m.turns) later) e) in
-        index_fits (AnswerFits s) a.turns (times callee made) a.rest fit.0 fit.1
+        let fit : EntryFits p.types (Turns a) s = subst (λ o. IsSomeAnd o (EntryFits p.types (Turns a))) is (found_turns p (consts ++ map Cases m.pure) m.turns callee a (right_rest p consts (map Cases m.pure) (map Turns m.turns) later) e) in
+        index_fits (AnswerFits p.types s) a.turns (times callee made) a.rest fit.0 fit.1
 
 -- ---- and hold what their kind says
 
-plain_holds : (names : List (List ℕ)) (vs : List Value) → AreResults names → AreNamed names vs → HoldsIn (holds.One item.Value) (answer_held (Plain vs))
-plain_holds [] vs h k = absurd h
-plain_holds (n ∷ []) [] h k = absurd k
-plain_holds (n ∷ []) (v ∷ []) h k = tt
-plain_holds (n ∷ []) (v ∷ w ∷ vs) h k = absurd k.1
-plain_holds (n ∷ m ∷ ns) vs h k = absurd h
+plain_holds : (types : List TypeItem) (names : List (List ℕ)) (vs : List Value) → AreResults names → AreNamed types names vs → HoldsIn (holds.One item.Value) (answer_held (Plain vs))
+plain_holds types [] vs h k = absurd h
+plain_holds types (n ∷ []) [] h k = absurd k
+plain_holds types (n ∷ []) (v ∷ []) h k = tt
+plain_holds types (n ∷ []) (v ∷ w ∷ vs) h k = absurd k.1
+plain_holds types (n ∷ m ∷ ns) vs h k = absurd h
 
-found_holds : (names : List (List ℕ)) (vs : List Value) → AreResults names → AreNamed names vs → HoldsIn (holds.Optional item.Value) (answer_held (Found vs))
-found_holds [] vs h k = absurd h
-found_holds (n ∷ []) [] h k = absurd k
-found_holds (n ∷ []) (v ∷ []) h k = tt
-found_holds (n ∷ []) (v ∷ w ∷ vs) h k = absurd k.1
-found_holds (n ∷ m ∷ ns) vs h k = absurd h
+found_holds : (types : List TypeItem) (names : List (List ℕ)) (vs : List Value) → AreResults names → AreNamed types names vs → HoldsIn (holds.Optional item.Value) (answer_held (Found vs))
+found_holds types [] vs h k = absurd h
+found_holds types (n ∷ []) [] h k = absurd k
+found_holds types (n ∷ []) (v ∷ []) h k = tt
+found_holds types (n ∷ []) (v ∷ w ∷ vs) h k = absurd k.1
+found_holds types (n ∷ m ∷ ns) vs h k = absurd h
 
-pub answer_holds : (s : Signature) (h : Holds) (a : Answer) → AreResults s.results → kind_holds s.kind ≡ Some h → AnswerFits s a → HoldsIn h (answer_held a)
-answer_holds s h (Plain vs) one e fit =
+pub answer_holds : (types : List TypeItem) (s : Signature) (h : Holds) (a : Answer) → AreResults s.results → kind_holds s.kind ≡ Some h → AnswerFits types s a → HoldsIn h (answer_held a)
+answer_holds types s h (Plain vs) one e fit =
     let is : h ≡ holds.One item.Value = cc in
-    subst (λ x. HoldsIn x (answer_held (Plain vs))) (sym is) (plain_holds s.results vs one fit.1)
-answer_holds s h (Found vs) one e fit =
+    subst (λ x. HoldsIn x (answer_held (Plain vs))) (sym is) (plain_holds types s.results vs one fit.1)
+answer_holds types s h (Found vs) one e fit =
     let is : h ≡ holds.Optional item.Value = cc in
-    subst (λ x. HoldsIn x (answer_held (Found vs))) (sym is) (found_holds s.results vs one fit.1)
-answer_holds s h Nothing one e fit =
+    subst (λ x. HoldsIn x (answer_held (Found vs))) (sym is) (found_holds types s.results vs one fit.1)
+answer_holds types s h Nothing one e fit =
     let is : h ≡ holds.Optional item.Value = cc in
     subst (λ x. HoldsIn x (answer_held Nothing)) (sym is) tt
-answer_holds s h (Several vss) one e fit = absurd fit
+answer_holds types s h (Several vss) one e fit = absurd fit

@@ -1,19 +1,19 @@
 -- There is one refusal at most, and none where the function may run.
 use Rattle.std.proofs.Common.{◌≡◌, ℕ, zero, suc, ◌<◌, List, [], ◌∷◌, ◌++◌, length, take, Bool, true, false, Some, None, refl, sym, ap, ◌∙◌, subst, arith, append_assoc, append-nil}
-use Rattle.std.specs.Prelude.{nat_lt, slice_get, Contains}
+use Rattle.std.specs.Prelude.{nat_lt, slice_get}
 use Rattle.std.proofs.lemmas.Bool.Decides.{nat_tests}
 use Rattle.std.proofs.lemmas.List.{length-map}
 use Rattle.isle_core.specs.Value.{Value}
 use Rattle.isle_core.specs.Meaning.{Meaning}
 use Rattle.isle_tree.specs.declared.tree.Ty.{Ty}
+use Rattle.isle_tree.specs.declared.tree.TypeItem.{TypeItem}
 use Rattle.isle_tree.specs.Program.{Function, Program}
 use Rattle.isle_tree.specs.Run.{function_of}
 use Rattle.isle_interpreter.specs.declared.run_error.RunError.{RunError}
 use Rattle.isle_interpreter.specs.declared.run_error.RunError.TheVariants as error
 use Rattle.isle_interpreter.specs.Signatures.{type_names, AreNamed}
 use Rattle.isle_interpreter.specs.Entries.{Entry, entries, IsRight, AreRight}
-use Rattle.isle_tree.specs.Calls.{body_calls}
-use Rattle.isle_interpreter.specs.Refusals.{IsWrongArg, IsWrongEntry, MayRun, IsRefused, no_term, arg_count, arg_type, wrong_entry, missing}
+use Rattle.isle_interpreter.specs.Refusals.{IsWrongArg, IsWrongEntry, IsMissing, no_answers, no_value, MayRun, IsRefused, no_term, arg_count, arg_type, wrong_entry, missing}
 use Rattle.isle_interpreter.proofs.WrongNamed.{named_at, not_named}
 
 -- two numbers that neither lies below the other are one
@@ -46,20 +46,20 @@ taken_twice (suc i) (suc j) (x ∷ xs) lt = ap (λ ys. x ∷ ys) (taken_twice i 
 
 -- ---- arguments
 
-earlier_arg : (names : List (List ℕ)) (args : List Value) (i j : ℕ) → IsWrongArg names args i → IsWrongArg names args j → i < j → ⊥
-earlier_arg names args i j v w lt = v.wrong (named_at i (take j names) (take j args) v.name v.arg w.before (get_taken i j names lt ∙ v.named) (get_taken i j args lt ∙ v.given))
+earlier_arg : (types : List TypeItem) (names : List (List ℕ)) (args : List Value) (i j : ℕ) → IsWrongArg types names args i → IsWrongArg types names args j → i < j → ⊥
+earlier_arg types names args i j v w lt = v.wrong (named_at types i (take j names) (take j args) v.name v.arg w.before (get_taken i j names lt ∙ v.named) (get_taken i j args lt ∙ v.given))
 
-one_arg : (names : List (List ℕ)) (args : List Value) (i j : ℕ) → IsWrongArg names args i → IsWrongArg names args j → i ≡ j
-one_arg names args i j v w = same_number i j (earlier_arg names args i j v w) (earlier_arg names args j i w v)
+one_arg : (types : List TypeItem) (names : List (List ℕ)) (args : List Value) (i j : ℕ) → IsWrongArg types names args i → IsWrongArg types names args j → i ≡ j
+one_arg types names args i j v w = same_number i j (earlier_arg types names args i j v w) (earlier_arg types names args j i w v)
 
-named_count : (names : List (List ℕ)) (args : List Value) → AreNamed names args → length args ≡ length names
-named_count [] [] h = refl
-named_count (n ∷ names) (v ∷ args) h = ap suc (named_count names args h.1)
-named_count [] (v ∷ args) h = absurd h
-named_count (n ∷ names) [] h = absurd h
+named_count : (types : List TypeItem) (names : List (List ℕ)) (args : List Value) → AreNamed types names args → length args ≡ length names
+named_count types [] [] h = refl
+named_count types (n ∷ names) (v ∷ args) h = ap suc (named_count types names args h.1)
+named_count types [] (v ∷ args) h = absurd h
+named_count types (n ∷ names) [] h = absurd h
 
-typed_count : (f : Function) (args : List Value) → AreNamed (type_names f.params) args → length args ≡ length f.params
-typed_count f args typed = named_count (type_names f.params) args typed ∙ length-map f.params (λ (ty : Ty). ty.name)
+typed_count : (types : List TypeItem) (f : Function) (args : List Value) → AreNamed types (type_names f.params) args → length args ≡ length f.params
+typed_count types f args typed = named_count types (type_names f.params) args typed ∙ length-map f.params (λ (ty : Ty). ty.name)
 
 -- ---- entries
 
@@ -86,19 +86,19 @@ module _ (p : Program) (term : List ℕ) (args : List Value) (m : Meaning) where
   same : (f g : Function) → function_of term p.fns ≡ Some f → function_of term p.fns ≡ Some g → f ≡ g
   same f g e h = cc
 
-  typed_as : (f g : Function) → function_of term p.fns ≡ Some f → function_of term p.fns ≡ Some g → AreNamed (type_names f.params) args → AreNamed (type_names g.params) args
-  typed_as f g e h typed = subst (λ (k : Function). AreNamed (type_names k.params) args) (same f g e h) typed
+  typed_as : (f g : Function) → function_of term p.fns ≡ Some f → function_of term p.fns ≡ Some g → AreNamed p.types (type_names f.params) args → AreNamed p.types (type_names g.params) args
+  typed_as f g e h typed = subst (λ (k : Function). AreNamed p.types (type_names k.params) args) (same f g e h) typed
 
   counted_as : (f g : Function) → function_of term p.fns ≡ Some f → function_of term p.fns ≡ Some g → length args ≡ length f.params → length args ≡ length g.params
   counted_as f g e h count = subst (λ (k : Function). length args ≡ length k.params) (same f g e h) count
 
   -- a wrong argument and arguments that are taken
-  not_typed : (f g : Function) (i : ℕ) → function_of term p.fns ≡ Some f → function_of term p.fns ≡ Some g → IsWrongArg (type_names f.params) args i → AreNamed (type_names g.params) args → ⊥
-  not_typed f g i e h w typed = not_named (type_names f.params) args i w (typed_as g f h e typed)
+  not_typed : (f g : Function) (i : ℕ) → function_of term p.fns ≡ Some f → function_of term p.fns ≡ Some g → IsWrongArg p.types (type_names f.params) args i → AreNamed p.types (type_names g.params) args → ⊥
+  not_typed f g i e h w typed = not_named p.types (type_names f.params) args i w (typed_as g f h e typed)
 
   -- another number of arguments and arguments that are taken
-  not_counted : (f g : Function) → function_of term p.fns ≡ Some f → function_of term p.fns ≡ Some g → (length args ≡ length f.params → ⊥) → AreNamed (type_names g.params) args → ⊥
-  not_counted f g e h n typed = n (counted_as g f h e (typed_count g args typed))
+  not_counted : (f g : Function) → function_of term p.fns ≡ Some f → function_of term p.fns ≡ Some g → (length args ≡ length f.params → ⊥) → AreNamed p.types (type_names g.params) args → ⊥
+  not_counted f g e h n typed = n (counted_as g f h e (typed_count p.types g args typed))
 
   -- two refusals are one
   pub one_refusal : (d e : RunError) → IsRefused p term args m d → IsRefused p term args m e → d ≡ e
@@ -114,7 +114,7 @@ module _ (p : Program) (term : List ℕ) (args : List Value) (m : Meaning) where
   one_refusal _ _ (arg_count f e n) (missing g h t r l) = absurd (not_counted f g e h n t)
   one_refusal _ _ (arg_type f i e n v) (no_term b) = absurd cc
   one_refusal _ _ (arg_type f i e n v) (arg_count g h k) = absurd (k (counted_as f g e h n))
-  one_refusal _ _ (arg_type f i e n v) (arg_type g j h k w) = ap error.ArgType (one_arg (type_names f.params) args i j v (subst (λ (x : Function). IsWrongArg (type_names x.params) args j) (same g f h e) w))
+  one_refusal _ _ (arg_type f i e n v) (arg_type g j h k w) = ap error.ArgType (one_arg p.types (type_names f.params) args i j v (subst (λ (x : Function). IsWrongArg p.types (type_names x.params) args j) (same g f h e) w))
   one_refusal _ _ (arg_type f i e n v) (wrong_entry g j h t w) = absurd (not_typed f g i e h v t)
   one_refusal _ _ (arg_type f i e n v) (missing g h t r l) = absurd (not_typed f g i e h v t)
   one_refusal _ _ (wrong_entry f i e s v) (no_term b) = absurd cc
@@ -128,10 +128,15 @@ module _ (p : Program) (term : List ℕ) (args : List Value) (m : Meaning) where
   one_refusal _ _ (missing f e s r l) (wrong_entry g j h t w) = absurd (not_right p (entries m) j w r)
   one_refusal _ _ (missing f e s r l) (missing g h t q k) = refl
 
+  -- where the function may run nothing is missing
+  not_missing : (f : Function) → MayRun p term args m f → IsMissing p.types f (entries m) → ⊥
+  not_missing f may (no_answers callee there none) = may.answered callee there none
+  not_missing f may (no_value name there free none) = may.given name there free none
+
   -- where the function may run there is none
   pub not_refused : (f : Function) (d : RunError) → MayRun p term args m f → IsRefused p term args m d → ⊥
   not_refused f _ may (no_term b) = let none : None ≡ Some f = sym b ∙ may.found in cc
   not_refused f _ may (arg_count g h k) = not_counted g f h may.found k may.typed
   not_refused f _ may (arg_type g j h k w) = not_typed g f j h may.found w may.typed
   not_refused f _ may (wrong_entry g j h t w) = not_right p (entries m) j w may.right
-  not_refused f _ may (missing g h t r l) = may.answered l.callee (subst (λ (x : Function). Contains (body_calls x.body) l.callee) (same g f h may.found) l.called) l.none
+  not_refused f _ may (missing g h t r l) = not_missing f may (subst (λ (x : Function). IsMissing p.types x (entries m)) (same g f h may.found) l)

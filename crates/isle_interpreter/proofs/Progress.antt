@@ -7,11 +7,12 @@ use Rattle.std.proofs.lemmas.List.Elements.{Contains-append_left, Contains-appen
 use Rattle.isle_core.specs.declared.types.ReturnKind.{ReturnKind}
 use Rattle.isle_core.specs.declared.types.ReturnKind.TheVariants as kind
 use Rattle.isle_core.specs.declared.values.Callee.{Callee}
-use Rattle.isle_core.specs.Value.{Value, Made, End, GivesSome}
+use Rattle.isle_core.specs.Value.{Value, Truth, Int, Opaque, Variant, Struct, FieldValues, NoField, Field, Made, End, GivesSome}
 use Rattle.isle_core.specs.SameInRun.{same_in_run}
 use Rattle.isle_core.specs.Meaning.{Meaning}
 use Rattle.isle_core.specs.Answered.{AValue, ATuple, Held, Absent, One, Optional, Listed, a_value, an_option, answer_held, answer}
 use Rattle.isle_core.specs.ValueAt.{held, value_before}
+use Rattle.isle_printer.specs.Bytes.{same_bytes}
 use Rattle.isle_tree.specs.declared.holds.Holds.{Holds}
 use Rattle.isle_tree.specs.declared.holds.Holds.TheVariants as holds
 use Rattle.isle_tree.specs.declared.holds.Item.TheVariants as item
@@ -22,11 +23,14 @@ use Rattle.isle_tree.specs.declared.tree.Read.TheVariants as read
 use Rattle.isle_tree.specs.declared.tree.TCall.{TCall}
 use Rattle.isle_tree.specs.declared.tree.TExpr.{TExpr}
 use Rattle.isle_tree.specs.declared.tree.TExpr.TheVariants as expr
+use Rattle.isle_tree.specs.declared.tree.TBind.{TBind}
+use Rattle.isle_tree.specs.declared.tree.TPat.{TPat}
+use Rattle.isle_tree.specs.declared.tree.TPat.TheVariants as pattern
 use Rattle.isle_tree.specs.declared.tree.TraitFn.{TraitFn}
 use Rattle.isle_tree.specs.Program.{Stmt, Let, LetList, IfEq, IfLet, Match, Loop, Return, Extend, Overflow, Log, Split, Tail, Body, Done, Then}
 use Rattle.isle_tree.specs.WellFormed as well
-use Rattle.isle_tree.specs.WellFormed.{Locals, IsOperand, IsRead, IsCallee, IsExpr, IsStmt, IsBody, local_holds, operand_holds, read_holds, is_value, are_values, callee_holds, inner_holds, expr_holds, GivesKind, after_let, bound_after, IsStmtScoped, IsBodyScoped, IsReturned, FitsStmt, FitsBody, FitsLast, FitsFunction}
-use Rattle.isle_tree.specs.Run.{Around, State, one_made, Env, Flow, Goes, Ends, Leaves, Stuck, newer, look, bind, value_of, read_value, read_values, on_value, then_run, after_scope, run_bind, run_call, run_try, run_let, ends_with, run_return, run_stmt, run_body}
+use Rattle.isle_tree.specs.WellFormed.{Locals, IsOperand, IsRead, IsCallee, IsFieldRead, IsExpr, IsStmt, IsBody, local_holds, operand_holds, read_holds, is_value, are_values, are_field_values, made_holds, ReadsPattern, field_locals, inner_locals, pattern_locals, callee_holds, inner_holds, expr_holds, GivesKind, after_let, bound_after, IsStmtScoped, IsBodyScoped, IsReturned, FitsStmt, FitsBody, FitsLast, FitsFunction}
+use Rattle.isle_tree.specs.Run.{Around, State, one_made, Env, Flow, Goes, Ends, Leaves, Stuck, newer, look, bind, value_of, read_value, read_values, field_before, read_fields, value_in, constant, are_same, field_of, local_before, fit_some, fit_fields, fit_variant, fit_struct, fit, fitted, run_variant, run_struct, on_value, then_run, after_scope, run_bind, run_call, run_try, run_let, ends_with, run_return, run_stmt, run_body}
 use Rattle.isle_tree.specs.Calls.{expr_calls, stmt_calls, body_calls}
 use Rattle.isle_interpreter.proofs.AnswersHold.{HoldsIn}
 
@@ -90,13 +94,13 @@ known_operand w bound env (operand.Local n) is a = known_local n bound env a
 known_operand w bound env (operand.Arg n) is a = known_arg w.args n
 known_operand w bound env (operand.Bool b) is a = tt
 known_operand w bound env (operand.Int ty z) is a = tt
-known_operand w bound env (operand.Raw z) is a = absurd is
-known_operand w bound env (operand.Name name) is a = absurd is
+known_operand w bound env (operand.Raw z) is a = tt
+known_operand w bound env (operand.Name name) is a = tt
 
 known_read : (w : Around) (bound : Locals) (env : Env) (r : Read) → IsRead r → Agree bound env → HoldsIfKnown (read_holds (length w.args) bound r) (read_value w env r)
 known_read w bound env (read.Plain o) is a = known_operand w bound env o is a
-known_read w bound env (read.Borrow o) is a = absurd is
-known_read w bound env (read.Clone o) is a = absurd is
+known_read w bound env (read.Borrow o) is a = known_operand w bound env o is a
+known_read w bound env (read.Clone o) is a = known_operand w bound env o is a
 
 -- a value stands there
 record HasValue (g : Held) : Type 0 where
@@ -130,6 +134,81 @@ told_values w bound env (r ∷ rs) is a e = by (is_value (read_holds (length w.a
     by true f g go = both_there (read_value w env r) (read_values w env rs) (known_value (read_holds (length w.args) bound r) (read_value w env r) (known_read w bound env r is.0 a) f) (go g)
     by false f g go = absurd cc
 
+-- the fields that are read are there
+record HaveFields (o : Option FieldValues) : Type 0 where
+  fs : FieldValues
+  are : o ≡ Some fs
+
+field_there : (name : List ℕ) (g : Held) (o : Option FieldValues) → HasValue g → HaveFields o → HaveFields (field_before name g o)
+field_there name g o one others = record { fs = Field name one.v others.fs; are = ap (λ x. field_before name x o) one.is ∙ ap (field_before name (a_value one.v)) others.are }
+
+told_fields : (w : Around) (bound : Locals) (env : Env) (fs : List (List ℕ × Read)) → AllByRecursion IsFieldRead fs → Agree bound env → are_field_values (length w.args) bound fs ≡ true → HaveFields (read_fields w env fs)
+told_fields w bound env [] is a e = record { fs = NoField; are = refl }
+told_fields w bound env (f ∷ fs) is a e = by (is_value (read_holds (length w.args) bound f.1)) refl e (told_fields w bound env fs is.1 a)
+  where
+    by : (b : Bool) → is_value (read_holds (length w.args) bound f.1) ≡ b → (b && are_field_values (length w.args) bound fs) ≡ true → (are_field_values (length w.args) bound fs ≡ true → HaveFields (read_fields w env fs)) → HaveFields (read_fields w env (f ∷ fs))
+    by true t g go = field_there f.0 (read_value w env f.1) (read_fields w env fs) (known_value (read_holds (length w.args) bound f.1) (read_value w env f.1) (known_read w bound env f.1 is.0.1 a) t) (go g)
+    by false t g go = absurd cc
+
+-- ---- patterns bind what is said of them
+
+-- where a pattern fits, what it binds holds that
+abbrev Bound : Locals → Option Env → Type 0
+Bound ls None = Unit {0}
+Bound ls (Some more) = Agree ls more
+
+both_agree : (bound ls : Locals) (env more : Env) → Agree bound env → Agree ls more → Agree (bound ++ ls) (env ++ more)
+both_agree [] ls [] more a k = k
+both_agree (b ∷ bound) ls (e ∷ env) more a k = (a.0, a.1, both_agree bound ls env more a.2 k)
+both_agree [] ls (e ∷ env) more a k = absurd a
+both_agree (b ∷ bound) ls [] more a k = absurd a
+
+bound_fields : (bs : List TBind) (fs : FieldValues) → Bound (field_locals bs) (fit_fields bs fs)
+bound_fields [] fs = tt
+bound_fields (b ∷ bs) fs = by (field_of b.field fs) (fit_fields bs fs) (bound_fields bs fs)
+  where
+    by : (o : Option Value) (rest : Option Env) → Bound (field_locals bs) rest → Bound (field_locals (b ∷ bs)) (local_before b.local o rest)
+    by (Some v) (Some env) k = (refl, tt, k)
+    by (Some v) None k = tt
+    by None rest k = tt
+
+bound_if : (ls : Locals) (b : Bool) (o : Option Env) → Bound ls o → Bound ls (if b then o else None)
+bound_if ls true o k = k
+bound_if ls false o k = tt
+
+bound_variant : (ty variant : List ℕ) (bs : List TBind) (o : Option Value) → Bound (field_locals bs) (fit_variant ty variant bs o)
+bound_variant ty variant bs (Some (Variant of name fs)) = bound_if (field_locals bs) (same_bytes ty of && same_bytes variant name) (fit_fields bs fs) (bound_fields bs fs)
+bound_variant ty variant bs (Some (Truth b)) = tt
+bound_variant ty variant bs (Some (Int of z)) = tt
+bound_variant ty variant bs (Some (Opaque of z)) = tt
+bound_variant ty variant bs (Some (Struct of fs)) = tt
+bound_variant ty variant bs None = tt
+
+bound_struct : (ty : List ℕ) (bs : List TBind) (o : Option Value) → Bound (field_locals bs) (fit_struct ty bs o)
+bound_struct ty bs (Some (Struct of fs)) = bound_if (field_locals bs) (same_bytes ty of) (fit_fields bs fs) (bound_fields bs fs)
+bound_struct ty bs (Some (Truth b)) = tt
+bound_struct ty bs (Some (Int of z)) = tt
+bound_struct ty bs (Some (Opaque of z)) = tt
+bound_struct ty bs (Some (Variant of name fs)) = tt
+bound_struct ty bs None = tt
+
+bound_some : (local : Option ℕ) (o : Option Holds) (g : Held) → IsSome (inner_holds o) → HoldsIfKnown o g → Bound (inner_locals local (inner_holds o)) (fit_some local g)
+bound_some local None g e t = absurd cc
+bound_some local (Some (holds.One x)) g e t = absurd cc
+bound_some local (Some (holds.Several x)) g e t = absurd cc
+bound_some None (Some (holds.Optional x)) (Optional (Some i)) e t = tt
+bound_some (Some n) (Some (holds.Optional x)) (Optional (Some i)) e t = (refl, t, tt)
+bound_some local (Some (holds.Optional x)) (Optional None) e t = tt
+bound_some local (Some (holds.Optional x)) (One i) e t = absurd t
+bound_some local (Some (holds.Optional x)) (Listed is) e t = absurd t
+bound_some local (Some (holds.Optional x)) Absent e t = absurd t
+
+bound_pattern : (w : Around) (pat : TPat) (o : Option Holds) (g : Held) → ReadsPattern pat o → HoldsIfKnown o g → Bound (pattern_locals pat o) (fit w pat g)
+bound_pattern w (pattern.Const c) o g e t = bound_if [] (are_same (value_in g) (constant w.meaning c)) (Some []) tt
+bound_pattern w (pattern.Variant ty variant binds more) o g e t = bound_variant ty variant binds (value_in g)
+bound_pattern w (pattern.Struct ty binds more) o g e t = bound_struct ty binds (value_in g)
+bound_pattern w (pattern.Some local) o g e t = bound_some local o g e t
+
 -- ---- statements go on or end
 
 -- a flow that goes on with these locals, or ends
@@ -151,6 +230,11 @@ well_left bound env (Goes inner st) a h = a
 well_left bound env (Ends end st) a h = tt
 well_left bound env (Leaves st) a h = h
 well_left bound env Stuck a h = h
+
+well_fitted : (bound ls : Locals) (env : Env) (st : State) (o : Option Env) (go : Env → Flow) → Agree bound env → Bound ls o → ((inner : Env) → Agree (bound ++ ls) inner → NotStuck (go inner))
+    → Well bound (fitted o (λ more. after_scope env (go (env ++ more))) (Goes env st))
+well_fitted bound ls env st None go a k next = a
+well_fitted bound ls env st (Some more) go a k next = well_left bound env (go (env ++ more)) a (next (env ++ more) (both_agree bound ls env more a k))
 
 well_bind : (n : ℕ) (h : Holds) (g : Held) (bound : Locals) (env : Env) (st : State) → Agree bound env → HoldsIn h g → Well (bound ++ (n, h) ∷ []) (run_bind n g env st)
 well_bind n h (One i) bound env st a k = one_more bound env n h (One i) a k
@@ -208,7 +292,7 @@ module _ (fns : List TraitFn) (w : Around) where
   well_let : (n : ℕ) (e : TExpr) (bound : Locals) (env : Env) (st : State) → IsExpr e → IsSome (expr_holds fns (length w.args) bound e) → Answering fns w.meaning (expr_calls e) → Agree bound env
       → Well (after_let (expr_holds fns (length w.args) bound e) n bound) (run_let w n e env st)
   well_let n (expr.Read r) bound env st is some answering a = well_known n (read_holds (length w.args) bound r) (read_value w env r) bound env st a some (known_read w bound env r is a)
-  well_let n (expr.Call borrow call) bound env st is some answering a = well_call fns w n call bound env st is.1.args a answering (expr_holds fns (length w.args) bound (expr.Call borrow call)) refl some
+  well_let n (expr.Call borrow call) bound env st is some answering a = well_call fns w n call bound env st is.args a answering (expr_holds fns (length w.args) bound (expr.Call borrow call)) refl some
   well_let n (expr.Some r) bound env st is some answering a = by (is_value (read_holds (length w.args) bound r)) refl some
     where
       by : (b : Bool) → is_value (read_holds (length w.args) bound r) ≡ b → IsSome (if b then Some (holds.Optional item.Value) else None) → Well (after_let (if b then Some (holds.Optional item.Value) else None) n bound) (on_value (read_value w env r) (λ v. Goes (bind env n (an_option (Some v))) st))
@@ -216,9 +300,21 @@ module _ (fns : List TraitFn) (w : Around) where
           let one = known_value (read_holds (length w.args) bound r) (read_value w env r) (known_read w bound env r is a) f in
           subst (λ x. Well (bound ++ (n, holds.Optional item.Value) ∷ []) (on_value x (λ v. Goes (bind env n (an_option (Some v))) st))) (sym one.is) (one_more bound env n (holds.Optional item.Value) (an_option (Some one.v)) a tt)
       by false f g = absurd cc
-  well_let n (expr.Try source as_ref) bound env st is some answering a = well_try n (operand_holds (length w.args) bound source) (value_of w env source) bound env st a some (known_operand w bound env source is.1 a)
-  well_let n (expr.Variant ty variant fields) bound env st is some answering a = absurd is
-  well_let n (expr.Struct ty fields) bound env st is some answering a = absurd is
+  well_let n (expr.Try source as_ref) bound env st is some answering a = well_try n (operand_holds (length w.args) bound source) (value_of w env source) bound env st a some (known_operand w bound env source is a)
+  well_let n (expr.Variant ty variant fields) bound env st is some answering a = by (are_field_values (length w.args) bound fields) refl some
+    where
+      by : (b : Bool) → are_field_values (length w.args) bound fields ≡ b → IsSome (made_holds b) → Well (after_let (made_holds b) n bound) (run_variant n ty variant (read_fields w env fields) env st)
+      by true f g =
+          let have = told_fields w bound env fields is.2 a f in
+          subst (λ o. Well (bound ++ (n, holds.One item.Value) ∷ []) (run_variant n ty variant o env st)) (sym have.are) (one_more bound env n (holds.One item.Value) (a_value (Variant ty variant have.fs)) a tt)
+      by false f g = absurd cc
+  well_let n (expr.Struct ty fields) bound env st is some answering a = by (are_field_values (length w.args) bound fields) refl some
+    where
+      by : (b : Bool) → are_field_values (length w.args) bound fields ≡ b → IsSome (made_holds b) → Well (after_let (made_holds b) n bound) (run_struct n ty (read_fields w env fields) env st)
+      by true f g =
+          let have = told_fields w bound env fields is.2 a f in
+          subst (λ o. Well (bound ++ (n, holds.One item.Value) ∷ []) (run_struct n ty o env st)) (sym have.are) (one_more bound env n (holds.One item.Value) (a_value (Struct ty have.fs)) a tt)
+      by false f g = absurd cc
   well_let n (expr.Tuple o i) bound env st is some answering a = absurd is
 
   -- a return ends the function
@@ -312,7 +408,11 @@ module _ (fns : List TraitFn) (w : Around) where
     well_stmt kind closed (Return e) bound env st is there fits answering a = well_end bound (run_return w e env st) (well_return kind e bound env st is there fits a)
     well_stmt kind closed (Tail texts) bound env st is there fits answering a = absurd fits
     well_stmt kind closed (LetList n call) bound env st is there fits answering a = absurd is
-    well_stmt kind closed (IfLet pat r inside) bound env st is there fits answering a = absurd is
+    well_stmt kind closed (IfLet pat r inside) bound env st is there fits answering a =
+        let ls = pattern_locals pat (read_holds (length w.args) bound r) in
+        well_fitted bound ls env st (fit w pat (read_value w env r)) (λ inner. run_body w inside inner st) a
+        (bound_pattern w pat (read_holds (length w.args) bound r) (read_value w env r) there.0 (known_read w bound env r is.1 a))
+        (λ inner k. well_body kind closed inside (bound ++ ls) inner st is.2 there.1 fits answering k)
     well_stmt kind closed (Match r arms) bound env st is there fits answering a = absurd is
     well_stmt kind closed (Loop list item inside) bound env st is there fits answering a = absurd is
     well_stmt kind closed (Extend r) bound env st is there fits answering a = absurd is
@@ -336,7 +436,7 @@ module _ (fns : List TraitFn) (w : Around) where
   last_ends kind (Let n e) bound env st is there fits a = absurd fits
   last_ends kind (IfEq l r inside) bound env st is there fits a = absurd fits
   last_ends kind (LetList n call) bound env st is there fits a = absurd is
-  last_ends kind (IfLet pat r inside) bound env st is there fits a = absurd is
+  last_ends kind (IfLet pat r inside) bound env st is there fits a = absurd fits
   last_ends kind (Match r arms) bound env st is there fits a = absurd is
   last_ends kind (Loop list item inside) bound env st is there fits a = absurd is
   last_ends kind (Extend r) bound env st is there fits a = absurd is

@@ -11,11 +11,11 @@ use Rattle.isle_interpreter.specs.declared.run_error.RunError.{RunError}
 use Rattle.isle_interpreter.specs.declared.run_error.RunError.TheVariants as error
 use Rattle.isle_interpreter.specs.Signatures.{type_names, AreNamed}
 use Rattle.isle_interpreter.specs.Entries.{entries}
-use Rattle.isle_interpreter.specs.Judged.{AreBad}
+use Rattle.isle_interpreter.specs.Judged.{IsEarly, AreBad}
 use Rattle.isle_interpreter.specs.Refusals.{IsRefused, wrong_entry, missing}
 use Rattle.isle_interpreter.proofs.OneRefusal.{one_refusal}
 
-pub bad_refused : (p : Program) (term : List ℕ) (args : List Value) (m : Meaning) (f : Function) (e : RunError) → function_of term p.fns ≡ Some f → AreNamed (type_names f.params) args → AreBad p f (entries m) e
+pub bad_refused : (p : Program) (term : List ℕ) (args : List Value) (m : Meaning) (f : Function) (e : RunError) → function_of term p.fns ≡ Some f → AreNamed p.types (type_names f.params) args → AreBad p f (entries m) e
     → (e ≡ error.Memory) ⊎ IsRefused p term args m e
 bad_refused p term args m f error.Memory there typed bad = inl refl
 bad_refused p term args m f (error.BadAnswers i) there typed bad = inr (⊎_elim
@@ -25,6 +25,10 @@ bad_refused p term args m f (error.BadAnswers i) there typed bad = inr (⊎_elim
 bad_refused p term args m f error.NoTerm there typed bad = absurd bad
 bad_refused p term args m f error.ArgCount there typed bad = absurd bad
 bad_refused p term args m f (error.ArgType i) there typed bad = absurd bad
+
+-- one of the first three refusals, or want of memory
+pub early_refused : (p : Program) (term : List ℕ) (args : List Value) (m : Meaning) (e : RunError) → (e ≡ error.Memory) ⊎ (IsEarly e × ((m : Meaning) → IsRefused p term args m e)) → (e ≡ error.Memory) ⊎ IsRefused p term args m e
+early_refused p term args m e h = ⊎_elim (λ memory. inl memory) (λ early. inr (early.1 m)) h
 
 -- a refusal is the only one
 pub only_one : (p : Program) (term : List ℕ) (args : List Value) (m : Meaning) (e : RunError) → (e ≡ error.Memory) ⊎ IsRefused p term args m e → (d : RunError) → IsRefused p term args m d → (e ≡ error.Memory) ⊎ (d ≡ e)

@@ -13,6 +13,7 @@ use Rattle.isle_printer.specs.Bytes.{same_bytes}
 use Rattle.isle_tree.specs.declared.holds.Holds.{Holds}
 use Rattle.isle_tree.specs.declared.tree.Ty.{Ty}
 use Rattle.isle_tree.specs.declared.tree.TraitFn.{TraitFn}
+use Rattle.isle_tree.specs.declared.tree.TypeItem.{TypeItem}
 use Rattle.isle_tree.specs.Program.{Function, Program}
 use Rattle.isle_tree.specs.WellFormed.{IsTraitFn, IsFunction, IsWellFormed, IsBodyScoped, trait_fn, call_holds, kind_holds}
 use Rattle.isle_tree.specs.Run.{Around, nothing_done, ended, function_of, function_run, run}
@@ -28,11 +29,11 @@ pub record HasRun (p : Program) (term : List ℕ) (args : List Value) (m : Meani
   pub ran : Ran
   pub is : run p term args m ≡ Some ran
 
-named_length : (names : List (List ℕ)) (vs : List Value) → AreNamed names vs → length vs ≡ length names
-named_length [] [] h = refl
-named_length (n ∷ names) (v ∷ vs) h = ap suc (named_length names vs h.1)
-named_length [] (v ∷ vs) h = absurd h
-named_length (n ∷ names) [] h = absurd h
+named_length : (types : List TypeItem) (names : List (List ℕ)) (vs : List Value) → AreNamed types names vs → length vs ≡ length names
+named_length types [] [] h = refl
+named_length types (n ∷ names) (v ∷ vs) h = ap suc (named_length types names vs h.1)
+named_length types [] (v ∷ vs) h = absurd h
+named_length types (n ∷ names) [] h = absurd h
 
 -- what is found is among all
 found_fn : (name : List ℕ) (fs : List TraitFn) (f : TraitFn) → AllByRecursion IsTraitFn fs → trait_fn fs name ≡ Some f → IsTraitFn f
@@ -61,7 +62,7 @@ fn_answers p m name (Some g) e all right some count h f vs made = by (length g.p
     is = ap (λ (o : Option TraitFn). option_map trait_signature o) e
 
     by : (b : Bool) → (if b then kind_holds g.kind else None) ≡ Some h → HoldsIn h (answer_held (answer m (callee.External name) vs made))
-    by true k = answer_holds (trait_signature g) h (answer m (callee.External name) vs made) (found_fn name p.trait_fns g all e).results k (answer_fits p m (callee.External name) (trait_signature g) right some is vs made)
+    by true k = answer_holds p.types (trait_signature g) h (answer m (callee.External name) vs made) (found_fn name p.trait_fns g all e).results k (answer_fits p m (callee.External name) (trait_signature g) right some is vs made)
     by false k = absurd cc
 
 answering : (p : Program) (m : Meaning) (f : Function) → AllByRecursion IsTraitFn p.trait_fns → AreRight p [] (entries m) → ((c : Callee) → Contains (body_calls f.body) c → IsUnanswered c (entries m) → ⊥)
@@ -73,7 +74,7 @@ answering p m f all right some (callee.Internal term) k count h e vs made = absu
 pub runs : (p : Program) (term : List ℕ) (args : List Value) (m : Meaning) (f : Function) → IsWellFormed p → MayRun p term args m f → HasRun p term args m
 runs p term args m f well may =
     let is : IsFunction p f = found_function p term p.fns f well.fns may.found in
-    let count : length args ≡ length f.params = named_length (type_names f.params) args may.typed ∙ length-map f.params (λ (ty : Ty). ty.name) in
+    let count : length args ≡ length f.params = named_length p.types (type_names f.params) args may.typed ∙ length-map f.params (λ (ty : Ty). ty.name) in
     let scoped : IsBodyScoped p.trait_fns f.kind (length args) [] f.body = subst (λ n. IsBodyScoped p.trait_fns f.kind n [] f.body) (sym count) is.scoped in
     let around : Around = record { meaning = m; program = p; function = f; args = args; limit = None } in
     let ends = function_ends p.trait_fns around f.kind f.body [] [] nothing_done is.forms scoped is.fits (answering p m f well.trait_fns may.right may.answered) tt in

@@ -1,11 +1,16 @@
 -- Answers as entries, which are counted, and when one is wrong.
-use Rattle.std.specs.Prelude.{◌≡◌, ℕ, List, [], ◌∷◌, ◌++◌, map, false, Option, Some, None, IsSomeAnd}
+use Rattle.std.specs.Prelude.{◌≡◌, ℕ, List, [], ◌∷◌, ◌++◌, map, Bool, true, false, ◌&&◌, not, IsTrue, Option, Some, None, IsSomeAnd}
 use Rattle.std.specs.List.{AllByRecursion}
+use Rattle.std.specs.Str.{bytes_eq}
 use Rattle.isle_core.specs.declared.values.Callee.{Callee}
-use Rattle.isle_core.specs.Value.{Value, Answer}
+use Rattle.isle_core.specs.Value.{Value, Truth, Int, Opaque, Variant, Struct, Answer}
 use Rattle.isle_core.specs.Meaning.{PureAnswers, TurnAnswers, Meaning}
 use Rattle.isle_core.specs.Terms.{goes_to}
+use Rattle.isle_printer.specs.Bytes.{same_bytes}
+use Rattle.isle_tree.specs.declared.tree.TypeItem.{TypeItem}
 use Rattle.isle_tree.specs.Program.{Program}
+use Rattle.isle_interpreter.specs.DeclaredTypes.{is_declared}
+use Rattle.isle_interpreter.specs.Names.{function_names, is_among}
 use Rattle.isle_interpreter.specs.Signatures.{Signature, signature_of, AreNamed, AnswerFits}
 
 -- a constant's value, the cases of a callee, or its turns
@@ -28,20 +33,48 @@ answers_for (Turns a) = Some a.callee
 abbrev pub IsUnanswered : Callee → List Entry → Type 0
 IsUnanswered callee = AllByRecursion (λ f. goes_to callee (answers_for f) ≡ false)
 
+-- whether an entry gives the constant of this name a value
+abbrev pub gives : List ℕ → Entry → Bool
+gives name (Constant other v) = bytes_eq name other
+gives name (Cases a) = false
+gives name (Turns a) = false
+
+-- no entry gives it one
+abbrev pub IsUngiven : List ℕ → List Entry → Type 0
+IsUngiven name = AllByRecursion (λ f. gives name f ≡ false)
+
+-- whether a value is of some type: an opaque number under no name is of none
+abbrev pub is_typed : Value → Bool
+is_typed (Opaque ty n) = not (same_bytes [] ty)
+is_typed (Truth b) = true
+is_typed (Int ty n) = true
+is_typed (Variant ty variant fs) = true
+is_typed (Struct ty fs) = true
+
+-- whether the program has a constant of this name: it stands in a function, and no type that is declared has it
+abbrev pub has_constant : Program → List ℕ → Bool
+has_constant p name = is_among name (function_names p.fns) && not (is_declared p.types name)
+
 -- a case takes what the function takes
-abbrev pub CaseFits : Signature → List Value × Answer → Type 0
-CaseFits s c = AreNamed s.params c.0 × AnswerFits s c.1
+abbrev pub CaseFits : List TypeItem → Signature → List Value × Answer → Type 0
+CaseFits types s c = AreNamed types s.params c.0 × AnswerFits types s c.1
 
 -- the answers of an entry fit the function that it answers for
-abbrev pub EntryFits : Entry → Signature → Type 0
-EntryFits (Constant name v) s = ⊥
-EntryFits (Cases a) s = AllByRecursion (CaseFits s) a.cases × AnswerFits s a.rest
-EntryFits (Turns a) s = AllByRecursion (AnswerFits s) a.turns × AnswerFits s a.rest
+abbrev pub EntryFits : List TypeItem → Entry → Signature → Type 0
+EntryFits types (Constant name v) s = ⊥
+EntryFits types (Cases a) s = AllByRecursion (CaseFits types s) a.cases × AnswerFits types s a.rest
+EntryFits types (Turns a) s = AllByRecursion (AnswerFits types s) a.turns × AnswerFits types s a.rest
 
--- an entry behind these is right: the program has its callee, for which none of them answers, and its answers fit;
--- no constant is built, so an entry that gives one is wrong
+-- no entry answers for the callee, the program has it, and the answers fit it
+abbrev pub IsRightFor : Program → List Entry → Entry → Callee → Type 0
+IsRightFor p earlier f callee = IsUnanswered callee earlier × IsSomeAnd (signature_of p callee) (EntryFits p.types f)
+
+-- an entry behind these is right: the program has its constant or its callee, none of them gives the same, and its value is one, or
+-- its answers fit
 abbrev pub IsRight : Program → List Entry → Entry → Type 0
-IsRight p earlier f = IsSomeAnd (answers_for f) (λ callee. IsUnanswered callee earlier × IsSomeAnd (signature_of p callee) (EntryFits f))
+IsRight p earlier (Constant name v) = IsUngiven name earlier × IsTrue (has_constant p name) × IsTrue (is_typed v)
+IsRight p earlier (Cases a) = IsRightFor p earlier (Cases a) a.callee
+IsRight p earlier (Turns a) = IsRightFor p earlier (Turns a) a.callee
 
 -- each entry behind these is right
 abbrev pub AreRight : Program → (earlier later : List Entry) → Type 0

@@ -31,14 +31,14 @@ abbrev pub AreBad : Program → Function → List Entry → RunError → Type 0
 AreBad p f fs error.NoTerm = ⊥
 AreBad p f fs error.ArgCount = ⊥
 AreBad p f fs (error.ArgType i) = ⊥
-AreBad p f fs (error.BadAnswers i) = IsWrongEntry p fs i ⊎ (AreRight p [] fs × IsMissing f fs × (i ≡ length fs))
+AreBad p f fs (error.BadAnswers i) = IsWrongEntry p fs i ⊎ (AreRight p [] fs × IsMissing p.types f fs × (i ≡ length fs))
 AreBad p f fs error.Memory = Unit {0}
 
 -- the function of the term takes the arguments
 pub record Takes (p : Program) (term : List ℕ) (args : List Value) : Type 0 where
   pub function : Function
   pub found : function_of term p.fns ≡ Some function
-  pub typed : AreNamed (type_names function.params) args
+  pub typed : AreNamed p.types (type_names function.params) args
 
 -- the term, the arguments and the answers fit the function of the term
 pub record Runs (p : Program) (term : List ℕ) (args : List Value) (m : Meaning) : Type 0 where

@@ -1,24 +1,27 @@
 -- Why a function has no run, and what is asked where it has one.
-use Rattle.std.specs.Prelude.{◌≡◌, ◌≢◌, ℕ, List, [], length, take, Contains, Some, None, slice_get}
+use Rattle.std.specs.Prelude.{◌≡◌, ◌≢◌, ℕ, List, [], length, take, Contains, false, Some, None, slice_get}
 use Rattle.isle_core.specs.declared.values.Callee.{Callee}
 use Rattle.isle_core.specs.Value.{Value}
 use Rattle.isle_core.specs.Meaning.{Meaning}
+use Rattle.isle_tree.specs.declared.tree.TypeItem.{TypeItem}
 use Rattle.isle_tree.specs.Program.{Function, Program}
 use Rattle.isle_tree.specs.Run.{function_of}
 use Rattle.isle_interpreter.specs.declared.run_error.RunError.{RunError}
 use Rattle.isle_interpreter.specs.declared.run_error.RunError.TheVariants as error
 use Rattle.isle_interpreter.specs.Signatures.{type_names, IsNamed, AreNamed}
-use Rattle.isle_interpreter.specs.Entries.{Entry, entries, IsUnanswered, IsRight, AreRight}
+use Rattle.isle_interpreter.specs.Entries.{Entry, entries, IsUnanswered, IsUngiven, IsRight, AreRight}
+use Rattle.isle_interpreter.specs.DeclaredTypes.{is_declared}
+use Rattle.isle_interpreter.specs.Names.{body_names}
 use Rattle.isle_tree.specs.Calls.{body_calls}
 
 -- the argument of this number is the first that is no value of its parameter's type
-pub record IsWrongArg (names : List (List ℕ)) (args : List Value) (i : ℕ) : Type 0 where
+pub record IsWrongArg (types : List TypeItem) (names : List (List ℕ)) (args : List Value) (i : ℕ) : Type 0 where
   pub name : List ℕ
   pub arg : Value
   pub named : slice_get names i ≡ Some name
   pub given : slice_get args i ≡ Some arg
-  pub before : AreNamed (take i names) (take i args)
-  pub wrong : IsNamed name arg → ⊥
+  pub before : AreNamed types (take i names) (take i args)
+  pub wrong : IsNamed types name arg → ⊥
 
 -- the entry of this number is the first wrong one
 pub record IsWrongEntry (p : Program) (fs : List Entry) (i : ℕ) : Type 0 where
@@ -27,30 +30,34 @@ pub record IsWrongEntry (p : Program) (fs : List Entry) (i : ℕ) : Type 0 where
   pub before : AreRight p [] (take i fs)
   pub wrong : IsRight p (take i fs) entry → ⊥
 
--- something that the function calls has no entry
-pub record IsMissing (f : Function) (fs : List Entry) : Type 0 where
-  pub callee : Callee
-  pub called : Contains (body_calls f.body) callee
-  pub none : IsUnanswered callee fs
+-- something that the function calls, or a constant that stands in it, has no entry
+pub data IsMissing (types : List TypeItem) (f : Function) (fs : List Entry) : Type 0 where
+  no_answers : (callee : Callee) → Contains (body_calls f.body) callee → IsUnanswered callee fs → IsMissing types f fs
+  no_value : (name : List ℕ) → Contains (body_names f.body) name → is_declared types name ≡ false → IsUngiven name fs → IsMissing types f fs
 
 -- each callee of the function has an entry
 abbrev pub AreAnswered : Function → List Entry → Type 0
 AreAnswered f fs = (callee : Callee) → Contains (body_calls f.body) callee → IsUnanswered callee fs → ⊥
 
+-- each constant that stands in the function has an entry: each name that no declared type has
+abbrev pub AreGiven : List TypeItem → Function → List Entry → Type 0
+AreGiven types f fs = (name : List ℕ) → Contains (body_names f.body) name → is_declared types name ≡ false → IsUngiven name fs → ⊥
+
 -- the term, the arguments and the answers fit the function
 pub record MayRun (p : Program) (term : List ℕ) (args : List Value) (m : Meaning) (f : Function) : Type 0 where
   pub found : function_of term p.fns ≡ Some f
-  pub typed : AreNamed (type_names f.params) args
+  pub typed : AreNamed p.types (type_names f.params) args
   pub right : AreRight p [] (entries m)
   pub answered : AreAnswered f (entries m)
+  pub given : AreGiven p.types f (entries m)
 
 -- why they don't, in the order in which it is asked
 pub data IsRefused (p : Program) (term : List ℕ) (args : List Value) (m : Meaning) : RunError → Type 0 where
   no_term : function_of term p.fns ≡ None → IsRefused p term args m error.NoTerm
   arg_count : (f : Function) → function_of term p.fns ≡ Some f → length args ≢ length f.params → IsRefused p term args m error.ArgCount
-  arg_type : (f : Function) (i : ℕ) → function_of term p.fns ≡ Some f → length args ≡ length f.params → IsWrongArg (type_names f.params) args i
+  arg_type : (f : Function) (i : ℕ) → function_of term p.fns ≡ Some f → length args ≡ length f.params → IsWrongArg p.types (type_names f.params) args i
       → IsRefused p term args m (error.ArgType i)
-  wrong_entry : (f : Function) (i : ℕ) → function_of term p.fns ≡ Some f → AreNamed (type_names f.params) args → IsWrongEntry p (entries m) i
+  wrong_entry : (f : Function) (i : ℕ) → function_of term p.fns ≡ Some f → AreNamed p.types (type_names f.params) args → IsWrongEntry p (entries m) i
       → IsRefused p term args m (error.BadAnswers i)
-  missing : (f : Function) → function_of term p.fns ≡ Some f → AreNamed (type_names f.params) args → AreRight p [] (entries m) → IsMissing f (entries m)
+  missing : (f : Function) → function_of term p.fns ≡ Some f → AreNamed p.types (type_names f.params) args → AreRight p [] (entries m) → IsMissing p.types f (entries m)
       → IsRefused p term args m (error.BadAnswers (length (entries m)))

@@ -1,4 +1,4 @@
--- The callees that entries answer for, as the code keeps them.
+-- The callees that entries answer for, and the constants that they give, as the code keeps them.
 use Rattle.std.specs.Prelude.{◌≡◌, ℕ, List, Bool}
 use Rattle.std.specs.List.{list_any}
 use Rattle.std.specs.BTreeSet.{BTreeSet, contains_by}
@@ -9,7 +9,7 @@ use Rattle.isle_core.specs.declared.values.Callee.{Callee}
 use Rattle.isle_core.specs.declared.values.Callee.TheVariants.{External, Internal}
 use Rattle.isle_core.specs.Terms.{goes_to}
 use Rattle.isle_interpreter.specs.declared.served.Served.{Served}
-use Rattle.isle_interpreter.specs.Entries.{Entry, answers_for}
+use Rattle.isle_interpreter.specs.Entries.{Entry, answers_for, gives}
 
 -- whether the set has the name
 abbrev pub has_name : BTreeSet (Bor (List ℕ)) → List ℕ → Bool
@@ -24,6 +24,11 @@ has s (Internal term) = has_name s.internals term
 abbrev pub is_answered : List Entry → Callee → Bool
 is_answered fs callee = list_any (λ f. goes_to callee (answers_for f)) fs
 
--- the sets have the callees that the entries answer for
+-- whether an entry gives the constant of this name a value
+abbrev pub is_given : List Entry → List ℕ → Bool
+is_given fs name = list_any (gives name) fs
+
+-- the sets have the callees that the entries answer for, and the constants that they give
 pub record Serves (fs : List Entry) (s : Served) : Type 0 where
   pub serves : (callee : Callee) → has s callee ≡ is_answered fs callee
+  pub given : (name : List ℕ) → has_name s.constants name ≡ is_given fs name

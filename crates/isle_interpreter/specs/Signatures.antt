@@ -1,18 +1,22 @@
 -- What a program's functions take and answer, and values and answers that fit.
 use Rattle.std.specs.Prelude.{◌≡◌, ℕ, List, [], ◌∷◌, map, codes, IsTrue, Option, Some, option_map}
+use Rattle.std.specs.Int.{w128}
+use Rattle.std.specs.Int.RustNames.{FitsSigned}
 use Rattle.isle_core.specs.declared.types.ReturnKind.{ReturnKind}
 use Rattle.isle_core.specs.declared.types.ReturnKind.TheVariants as kind
 use Rattle.isle_core.specs.declared.values.Callee.{Callee}
 use Rattle.isle_core.specs.declared.values.Callee.TheVariants as callee
-use Rattle.isle_core.specs.Value.{Value, Truth, Int, Opaque, Variant, Struct, Answer, Plain, Found, Nothing, Several}
+use Rattle.isle_core.specs.Value.{Value, Truth, Int, Opaque, Variant, Struct, FieldValues, NoField, Field, Answer, Plain, Found, Nothing, Several}
 use Rattle.isle_core.specs.HasType.{IsReduced}
 use Rattle.isle_printer.specs.Bytes.{same_bytes}
 use Rattle.isle_tree.specs.declared.tree.Ty.{Ty}
 use Rattle.isle_tree.specs.declared.tree.TraitFn.{TraitFn}
+use Rattle.isle_tree.specs.declared.tree.TypeItem.{TypeItem}
 use Rattle.isle_spelling.specs.Literal.{type_named}
 use Rattle.isle_tree.specs.Program.{Function, Program}
 use Rattle.isle_tree.specs.WellFormed.{trait_fn}
 use Rattle.isle_tree.specs.Run.{function_of}
+use Rattle.isle_interpreter.specs.DeclaredTypes.{Asked, These, Anything, Nowhere, takes_opaque, variant_asked, struct_asked}
 
 -- what a function takes, what its answers hold, and how it answers
 pub record Signature : Type 0 where
@@ -37,24 +41,34 @@ abbrev pub signature_of : Program → Callee → Option Signature
 signature_of p (callee.External name) = option_map trait_signature (trait_fn p.trait_fns name)
 signature_of p (callee.Internal term) = option_map term_signature (function_of term p.fns)
 
--- a value of the type of this name; only bool and the integer types are built
-abbrev pub IsNamed : List ℕ → Value → Type 0
-IsNamed name (Truth b) = IsTrue (same_bytes (codes "bool") name)
-IsNamed name (Int ty n) = (type_named name ≡ Some ty) × IsReduced ty n
-IsNamed name (Opaque ty n) = ⊥
-IsNamed name (Variant ty variant fields) = ⊥
-IsNamed name (Struct ty fields) = ⊥
+-- a value of the type of this name, and fields as a type asks for them: bool and the integer types take their own values, a type that
+-- is declared its variants or its struct, another one any opaque number, variant or struct of its name
+abbrev mutual
+  pub IsNamed : List TypeItem → List ℕ → Value → Type 0
+  IsNamed types name (Truth b) = IsTrue (same_bytes (codes "bool") name)
+  IsNamed types name (Int ty n) = (type_named name ≡ Some ty) × IsReduced ty n
+  IsNamed types name (Opaque ty n) = IsTrue (takes_opaque types name ty) × FitsSigned w128 n
+  IsNamed types name (Variant ty variant fs) = AreAsked types (variant_asked types name ty variant) fs
+  IsNamed types name (Struct ty fs) = AreAsked types (struct_asked types name ty) fs
+
+  pub AreAsked : List TypeItem → Asked → FieldValues → Type 0
+  AreAsked types Nowhere fs = ⊥
+  AreAsked types Anything fs = Unit {0}
+  AreAsked types (These []) NoField = Unit {0}
+  AreAsked types (These (f ∷ more)) (Field name v fs) = IsTrue (same_bytes name f.0) × IsNamed types f.1 v × AreAsked types (These more) fs
+  AreAsked types (These []) (Field name v fs) = ⊥
+  AreAsked types (These (f ∷ more)) NoField = ⊥
 
 -- as many values as names, each of its type
-abbrev pub AreNamed : List (List ℕ) → List Value → Type 0
-AreNamed [] [] = Unit {0}
-AreNamed (name ∷ names) (v ∷ vs) = IsNamed name v × AreNamed names vs
-AreNamed [] (v ∷ vs) = ⊥
-AreNamed (name ∷ names) [] = ⊥
+abbrev pub AreNamed : List TypeItem → List (List ℕ) → List Value → Type 0
+AreNamed types [] [] = Unit {0}
+AreNamed types (name ∷ names) (v ∷ vs) = IsNamed types name v × AreNamed types names vs
+AreNamed types [] (v ∷ vs) = ⊥
+AreNamed types (name ∷ names) [] = ⊥
 
 -- an answer of the function's kind, with values of its types; lists of answers are not built
-abbrev pub AnswerFits : Signature → Answer → Type 0
-AnswerFits s (Plain vs) = (s.kind ≡ kind.Plain) × AreNamed s.results vs
-AnswerFits s (Found vs) = (s.kind ≡ kind.Option) × AreNamed s.results vs
-AnswerFits s Nothing = s.kind ≡ kind.Option
-AnswerFits s (Several answers) = ⊥
+abbrev pub AnswerFits : List TypeItem → Signature → Answer → Type 0
+AnswerFits types s (Plain vs) = (s.kind ≡ kind.Plain) × AreNamed types s.results vs
+AnswerFits types s (Found vs) = (s.kind ≡ kind.Option) × AreNamed types s.results vs
+AnswerFits types s Nothing = s.kind ≡ kind.Option
+AnswerFits types s (Several answers) = ⊥

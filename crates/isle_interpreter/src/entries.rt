@@ -1,20 +1,22 @@
 //! Whether answers are right.
 
-ghost use Rattle.std.specs.Prelude.{◌≡◌, ◌+◌, ◌^◌, ◌<◌, ◌↔◌, List, [], ◌∷◌, ◌++◌, length, IfOk, IfErr, OnOk, IsTrue};
+ghost use Rattle.std.specs.Prelude.{◌≡◌, ◌+◌, ◌^◌, ◌<◌, ◌↔◌, List, [], ◌∷◌, ◌++◌, length, IfOk, IfErr, OnOk, IsTrue, Some};
 ghost use Rattle.isle_core.specs.ValueViews.{meaning};
 ghost use Rattle.isle_tree.specs.Views.{function, program};
-ghost use Rattle.isle_interpreter.specs.Entries.{Entry as EntryOf, entries, IsRight, AreRight};
-ghost use Rattle.isle_interpreter.specs.EntryViews.{entry};
+ghost use Rattle.isle_interpreter.specs.Entries.{Entry as EntryOf, entries, answers_for, IsRight, AreRight};
+ghost use Rattle.isle_interpreter.specs.EntryViews.{entry, constant_entry};
 ghost use Rattle.isle_interpreter.specs.Judged.{AreWrong, AreBad};
-ghost use Rattle.isle_interpreter.specs.Refusals.{AreAnswered};
+ghost use Rattle.isle_interpreter.specs.Refusals.{AreAnswered, AreGiven};
 ghost use Rattle.isle_interpreter.specs.Served.{Serves};
 
 use crate::entry::{Entry, entry_at};
 use crate::run_error::RunError;
 use crate::served::Served;
 use crate::signatures::Signatures;
+use crate::standing::are_known;
+use crate::whole::is_typed;
 use crate::within::are_within;
-use isle_core::Answers;
+use isle_core::{Answers, Callee, Text, Value};
 use isle_tree::{Function, Program};
 use std::alloc::{AllocError, Global};
 
@@ -29,8 +31,52 @@ fn count(answers: &Answers) -> usize
     consts + pure + answers.turns.as_slice().len()
 }
 
-// Whether an entry is right behind earlier ones, which the callees stand for. Its callee joins them.
+// Whether the entry of a constant is right behind earlier ones. The constant joins theirs.
+fn is_right_constant<'a>(
+    signatures: &Signatures<'_>,
+    served: &mut Served<'a>,
+    given: &'a (Text, Value),
+) -> Result<bool, AllocError>
+    ensures right { IfOk result (λ right. (earlier : List EntryOf) → Serves earlier served.old
+        → IsTrue right ↔ IsRight (program signatures.now) earlier (constant_entry given.now)) }
+    ensures serves { IfOk result (λ right. (earlier : List EntryOf) → Serves earlier served.old
+        → IsTrue right → Serves (earlier ++ constant_entry given.now ∷ []) served.new) }
+{
+    if !served.give(given.0.as_str())? {
+        return Ok(false);
+    }
+    if !signatures.has_constant(given.0.as_str()) {
+        return Ok(false);
+    }
+    Ok(is_typed(&given.1))
+}
+
+// Whether the entry of a callee is right behind earlier ones. The callee joins theirs.
+fn is_right_callee<'a>(
+    alloc: Global,
+    signatures: &Signatures<'_>,
+    served: &mut Served<'a>,
+    callee: &'a Callee,
+    given: &Entry<'a>,
+) -> Result<bool, AllocError>
+    requires { answers_for (entry given.now) ≡ Some callee.now }
+    ensures right { IfOk result (λ right. (earlier : List EntryOf) → Serves earlier served.old
+        → IsTrue right ↔ IsRight (program signatures.now) earlier (entry given.now)) }
+    ensures serves { IfOk result (λ right. (earlier : List EntryOf) → Serves earlier served.old
+        → IsTrue right → Serves (earlier ++ entry given.now ∷ []) served.new) }
+{
+    if !served.add(callee)? {
+        return Ok(false);
+    }
+    match signatures.of(callee) {
+        Some(signature) => given.fits(alloc, signatures.types(), &signature),
+        None => Ok(false),
+    }
+}
+
+// Whether an entry is right behind earlier ones. What it answers for joins theirs.
 fn is_right<'a>(
+    alloc: Global,
     signatures: &Signatures<'_>,
     served: &mut Served<'a>,
     given: &Entry<'a>,
@@ -40,20 +86,14 @@ fn is_right<'a>(
     ensures serves { IfOk result (λ right. (earlier : List EntryOf) → Serves earlier served.old
         → IsTrue right → Serves (earlier ++ entry given.now ∷ []) served.new) }
 {
-    let callee = match given.callee() {
-        Some(callee) => callee,
-        None => return Ok(false),
-    };
-    if !served.add(callee)? {
-        return Ok(false);
-    }
-    match signatures.of(callee) {
-        Some(signature) => Ok(given.fits(&signature)),
-        None => Ok(false),
+    match given {
+        Entry::Constant(constant) => is_right_constant(signatures, served, constant),
+        Entry::Cases(cases) => is_right_callee(alloc, signatures, served, &cases.callee, given),
+        Entry::Turns(turns) => is_right_callee(alloc, signatures, served, &turns.callee, given),
     }
 }
 
-// The callees that the entries answer for, where each entry is right.
+// What the entries answer for, where each entry is right.
 fn all_right<'a>(
     alloc: Global,
     signatures: &Signatures<'_>,
@@ -67,14 +107,14 @@ fn all_right<'a>(
     let mut served = Served::new(alloc);
     for index in 0..count(answers) {
         let given = entry_at(answers, index);
-        if !is_right(signatures, &mut served, &given)? {
+        if !is_right(alloc, signatures, &mut served, &given)? {
             return Err(RunError::BadAnswers(index));
         }
     }
     Ok(served)
 }
 
-/// Tells which entry is wrong first, or that something which the function calls has none; else all do.
+/// Tells which entry is wrong first, or that something which the function calls, or a constant in it, has none; else all do.
 pub fn try_entries(
     alloc: Global,
     p: &Program,
@@ -84,6 +124,7 @@ pub fn try_entries(
     requires { length answers.now.consts + length answers.now.pure + length answers.now.turns < 2 ^ 64 }
     ensures right { OnOk result (AreRight (program p.now) [] (entries (meaning answers.now))) }
     ensures answered { OnOk result (AreAnswered (function f.now) (entries (meaning answers.now))) }
+    ensures given { OnOk result (AreGiven p.now.types (function f.now) (entries (meaning answers.now))) }
     ensures bad { IfErr result (AreBad (program p.now) (function f.now) (entries (meaning answers.now))) }
 {
     let signatures = Signatures::new(alloc, p)?;
@@ -91,9 +132,11 @@ pub fn try_entries(
         Ok(served) => served,
         Err(e) => return Err(e),
     };
-    if are_within(&served, f.body.as_slice()) {
-        Ok(())
-    } else {
-        Err(RunError::BadAnswers(count(answers)))
+    if !are_within(&served, f.body.as_slice()) {
+        return Err(RunError::BadAnswers(count(answers)));
     }
+    if !are_known(alloc, &served, signatures.types(), f.body.as_slice())? {
+        return Err(RunError::BadAnswers(count(answers)));
+    }
+    Ok(())
 }

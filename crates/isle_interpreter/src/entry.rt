@@ -1,13 +1,15 @@
 //! Answers as entries.
 
-ghost use Rattle.std.specs.Prelude.{◌≡◌, ◌+◌, ◌<◌, ◌↔◌, length, IsTrue, Some, option_map, slice_get};
+ghost use Rattle.std.specs.Prelude.{◌≡◌, ◌+◌, ◌<◌, ◌↔◌, length, IsTrue, IfOk, Some, slice_get};
 ghost use Rattle.isle_core.specs.ValueViews.{pure_answers, turn_answers, meaning};
-ghost use Rattle.isle_interpreter.specs.Entries.{Cases, Turns, entries, answers_for, EntryFits};
+ghost use Rattle.isle_interpreter.specs.Entries.{Cases, Turns, entries, EntryFits};
 ghost use Rattle.isle_interpreter.specs.EntryViews.{entry};
 ghost use Rattle.isle_interpreter.specs.SignatureViews.{signature};
 
 use crate::signatures::Signature;
-use isle_core::{Answers, Callee, PureAnswers, Text, TurnAnswers, Value};
+use crate::types::Types;
+use isle_core::{Answers, PureAnswers, Text, TurnAnswers, Value};
+use std::alloc::{AllocError, Global};
 
 /// A constant's value, the cases of a callee, or its turns.
 #[derive(Clone, Copy)]
@@ -35,52 +37,56 @@ pub fn entry_at(answers: &Answers, index: usize) -> Entry<'_>
 }
 
 // Whether the cases of a callee fit its signature.
-fn cases_fit(given: &PureAnswers, of: &Signature<'_>) -> bool
-    ensures { IsTrue result ↔ EntryFits (Cases (pure_answers given.now)) (signature of.now) }
+fn cases_fit(
+    alloc: Global,
+    types: &Types<'_>,
+    given: &PureAnswers,
+    of: &Signature<'_>,
+) -> Result<bool, AllocError>
+    ensures { IfOk result (λ fit. IsTrue fit ↔ EntryFits types.now (Cases (pure_answers given.now)) (signature of.now)) }
 {
     for case in given.cases.as_slice() {
-        if !of.takes(case.0.as_slice()) {
-            return false;
+        if !of.takes(alloc, types, case.0.as_slice())? {
+            return Ok(false);
         }
-        if !of.gives(&case.1) {
-            return false;
+        if !of.gives(alloc, types, &case.1)? {
+            return Ok(false);
         }
     }
-    of.gives(&given.rest)
+    of.gives(alloc, types, &given.rest)
 }
 
 // Whether the turns of a callee fit its signature.
-fn turns_fit(given: &TurnAnswers, of: &Signature<'_>) -> bool
-    ensures { IsTrue result ↔ EntryFits (Turns (turn_answers given.now)) (signature of.now) }
+fn turns_fit(
+    alloc: Global,
+    types: &Types<'_>,
+    given: &TurnAnswers,
+    of: &Signature<'_>,
+) -> Result<bool, AllocError>
+    ensures { IfOk result (λ fit. IsTrue fit ↔ EntryFits types.now (Turns (turn_answers given.now)) (signature of.now)) }
 {
     for turn in given.turns.as_slice() {
-        if !of.gives(turn) {
-            return false;
+        if !of.gives(alloc, types, turn)? {
+            return Ok(false);
         }
     }
-    of.gives(&given.rest)
+    of.gives(alloc, types, &given.rest)
 }
 
 impl<'a> Entry<'a> {
-    /// Returns what the entry answers for: a constant's value for no callee.
-    pub fn callee(&self) -> Option<&'a Callee>
-        ensures { option_map (λ callee. callee.now) result ≡ answers_for (entry self.now) }
+    /// Tells whether the answers of the entry fit the signature of what it answers for. The only error is want of memory.
+    pub fn fits(
+        &self,
+        alloc: Global,
+        types: &Types<'_>,
+        of: &Signature<'_>,
+    ) -> Result<bool, AllocError>
+        ensures { IfOk result (λ fit. IsTrue fit ↔ EntryFits types.now (entry self.now) (signature of.now)) }
     {
         match self {
-            Entry::Constant(_) => None,
-            Entry::Cases(given) => Some(&given.callee),
-            Entry::Turns(given) => Some(&given.callee),
-        }
-    }
-
-    /// Tells whether the answers of the entry fit the signature of what it answers for.
-    pub fn fits(&self, of: &Signature<'_>) -> bool
-        ensures { IsTrue result ↔ EntryFits (entry self.now) (signature of.now) }
-    {
-        match self {
-            Entry::Constant(_) => false,
-            Entry::Cases(given) => cases_fit(given, of),
-            Entry::Turns(given) => turns_fit(given, of),
+            Entry::Constant(_) => Ok(false),
+            Entry::Cases(given) => cases_fit(alloc, types, given, of),
+            Entry::Turns(given) => turns_fit(alloc, types, given, of),
         }
     }
 }

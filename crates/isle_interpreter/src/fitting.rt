@@ -8,9 +8,9 @@ ghost use Rattle.isle_tree.specs.WellFormed.{IsWellFormed};
 ghost use Rattle.isle_interpreter.specs.Refusals.{MayRun};
 ghost use Rattle.isle_interpreter.specs.declared.run_error.RunError.TheVariants.{Memory};
 
-use crate::functions::run_function;
 use crate::run_error::RunError;
 use isle_core::{Answers, Outcome, Value};
+use isle_running::run_function;
 use isle_tree::{Function, Program};
 use std::alloc::Global;
 

@@ -1,28 +1,24 @@
 //! Runs of target programs under given answers.
 #![tactic(auto)]
 
-mod around;
-mod called;
-mod calls;
+mod asked;
 mod entries;
 mod entry;
-mod fit;
 mod fitting;
-mod flow;
-mod frame;
 mod functions;
-mod holding;
-mod reading;
-mod run;
+mod names;
+mod numbered;
 mod run_error;
 mod served;
 mod signatures;
-mod source;
-mod sources;
+mod standing;
 mod taking;
 mod term;
 mod terms;
 mod typed;
+mod types;
+mod values;
+mod whole;
 mod within;
 
 pub use run_error::RunError;

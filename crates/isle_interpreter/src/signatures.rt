@@ -3,14 +3,18 @@
 ghost use Rattle.std.specs.Prelude.{◌≡◌, ◌↔◌, IfOk, IsTrue, option_map};
 ghost use Rattle.isle_core.specs.ValueViews.{values, answer};
 ghost use Rattle.isle_tree.specs.Views.{function, program};
+ghost use Rattle.isle_interpreter.specs.Entries.{has_constant};
 ghost use Rattle.isle_interpreter.specs.Signatures.{AreNamed, AnswerFits, trait_signature, term_signature, signature_of};
 ghost use Rattle.isle_interpreter.specs.SignatureViews.{signature};
 
+use crate::standing::standing;
 use crate::terms::Terms;
-use crate::typed::{answer_fits, first_wrong};
+use crate::types::Types;
+use crate::values::{answer_fits, first_wrong};
 use isle_core::{Answer, Callee, ReturnKind, Text, Value};
 use isle_tree::{Callees, Function, Program, TraitFn, Ty};
 use std::alloc::{AllocError, Global};
+use std::collections::BTreeSet;
 use std::marker::Model;
 use std::slice;
 
@@ -45,34 +49,53 @@ impl<'p> Signature<'p> {
         }
     }
 
-    /// Tells whether these are as many values as the function takes, each of its parameter's type.
-    pub fn takes(&self, args: &[Value]) -> bool
-        ensures { IsTrue result ↔ AreNamed (signature self.now).params (values args.now) }
+    /// Tells whether these are as many values as the function takes, each of its parameter's type. The only error is want
+    /// of memory.
+    pub fn takes(
+        &self,
+        alloc: Global,
+        types: &Types<'_>,
+        args: &[Value],
+    ) -> Result<bool, AllocError>
+        ensures { IfOk result (λ takes. IsTrue takes ↔ AreNamed types.now (signature self.now).params (values args.now)) }
     {
-        args.len() == self.params.len() && first_wrong(self.params, args).is_none()
+        if args.len() != self.params.len() {
+            return Ok(false);
+        }
+        Ok(first_wrong(alloc, types, self.params, args)?.is_none())
     }
 
-    /// Tells whether the function can answer so.
-    pub fn gives(&self, given: &Answer) -> bool
-        ensures { IsTrue result ↔ AnswerFits (signature self.now) (answer given.now) }
+    /// Tells whether the function can answer so. The only error is want of memory.
+    pub fn gives(
+        &self,
+        alloc: Global,
+        types: &Types<'_>,
+        given: &Answer,
+    ) -> Result<bool, AllocError>
+        ensures { IfOk result (λ gives. IsTrue gives ↔ AnswerFits types.now (signature self.now) (answer given.now)) }
     {
-        answer_fits(self.results, self.kind, given)
+        answer_fits(alloc, types, self.results, self.kind, given)
     }
 }
 
-/// The functions of a program, each found by what a call goes to.
+/// The functions of a program, each found by what a call goes to, its types, and the names in its functions.
 #[derive(Drop)]
 pub struct Signatures<'p> {
     program: &'p Program,
     callees: Callees<'p>,
     terms: Terms<'p>,
+    types: Types<'p>,
+    names: BTreeSet<&'p str>,
 }
 
 impl<'p> Model for Signatures<'p> {
-    ghost use Rattle.std.specs.Prelude.{◌≡◌};
+    ghost use Rattle.std.specs.Prelude.{◌≡◌, ℕ, List, map};
     ghost use Rattle.std.specs.Coded.{codes};
     ghost use Rattle.isle_tree.specs.contracts.tree.Stmt as e;
     ghost use Rattle.isle_tree.specs.declared.tree.Program.{Program};
+    ghost use Rattle.isle_tree.specs.Views.{function};
+    ghost use Rattle.isle_interpreter.specs.Names.{function_names, is_among};
+    ghost use Rattle.isle_interpreter.specs.Served.{has_name};
 
     ghost Value = { Program };
 
@@ -80,7 +103,8 @@ impl<'p> Model for Signatures<'p> {
 
     ghost view = { λ s. s.program.now };
 
-    ghost invariant = { λ s. (s.callees ≡ s.program.now.trait_fns) × (s.terms ≡ s.program.now.fns) };
+    ghost invariant = { λ s. (s.callees ≡ s.program.now.trait_fns) × (s.terms ≡ s.program.now.fns) × (s.types ≡ s.program.now.types)
+        × ((name : List ℕ) → has_name s.names name ≡ is_among name (function_names (map function s.program.now.fns))) };
 }
 
 impl<'p> Signatures<'p> {
@@ -90,11 +114,29 @@ impl<'p> Signatures<'p> {
     {
         let callees = Callees::new(alloc, p.trait_fns.as_slice())?;
         let terms = Terms::new(alloc, p.fns.as_slice())?;
+        let types = Types::new(alloc, p.types.as_slice())?;
+        let names = standing(alloc, p.fns.as_slice())?;
         Ok(Signatures {
             program: p,
             callees,
             terms,
+            types,
+            names,
         })
+    }
+
+    /// Returns the types of the program.
+    pub fn types(&self) -> &Types<'p>
+        ensures { result.now ≡ self.now.types }
+    {
+        &self.types
+    }
+
+    /// Tells whether the program has a constant of this name.
+    pub fn has_constant(&self, name: &str) -> bool
+        ensures { result ≡ has_constant (program self.now) name.now }
+    {
+        self.names.contains(name) && !self.types.has(name)
     }
 
     /// Returns the signature of what is called, where the program has it.

@@ -19,13 +19,13 @@ use isle_core::{Answers, Outcome, Value};
 use isle_tree::Program;
 use std::alloc::Global;
 
-/// Tells which of the first three refusals it is, where the function of a term doesn't take the arguments.
-pub fn takes(p: &Program, term: &str, args: &[Value]) -> Result<(), RunError>
+/// Tells which of the first three refusals it is, where the function of a term doesn't take the arguments. Beside these, want
+/// of memory.
+pub fn takes(alloc: Global, p: &Program, term: &str, args: &[Value]) -> Result<(), RunError>
     ensures takes { OnOk result (Takes (program p.now) term.now (values args.now)) }
-    ensures early { IfErr result IsEarly }
-    ensures refused { IfErr result (λ e. (m : Meaning) → IsRefused (program p.now) term.now (values args.now) m e) }
+    ensures refused { IfErr result (λ e. (e ≡ Memory) ⊎ (IsEarly e × ((m : Meaning) → IsRefused (program p.now) term.now (values args.now) m e))) }
 {
-    match taking(p.fns.as_slice(), term, args) {
+    match taking(alloc, p, term, args) {
         Ok(_) => Ok(()),
         Err(e) => Err(e),
     }
@@ -35,7 +35,7 @@ pub fn takes(p: &Program, term: &str, args: &[Value]) -> Result<(), RunError>
 ///
 /// The errors in the order in which they are asked: the program has no function of the term; it takes another number of
 /// arguments; the first argument that is no value of its parameter's type; the first entry of the answers that is wrong, or
-/// the number of all entries where something that the function calls has none. Beside these, want of memory.
+/// the number of all entries where something that the function calls, or a constant that stands in it, has none. Beside these, want of memory.
 pub fn run_term(
     alloc: Global,
     p: &Program,
@@ -52,7 +52,7 @@ pub fn run_term(
     ensures only { IfErr result (λ e. (d : RunError) → IsRefused (program p.now) name.now (values args.now) (meaning answers.now) d
         → (e ≡ Memory) ⊎ (d ≡ e)) }
 {
-    let f = match taking(p.fns.as_slice(), name, args) {
+    let f = match taking(alloc, p, name, args) {
         Ok(f) => f,
         Err(e) => return Err(e),
     };

@@ -7,4 +7,4 @@ use Rattle.isle_interpreter.specs.SignatureViews.{signature}
 use Rattle.isle_interpreter.proofs.entry.cases_fit.Given as goal
 
 abbrev pub invariant-loop-case : goal.invariant-loop-case
-invariant-loop-case l = AllByRecursion (CaseFits (signature l.of)) (map case (drop l.case-index l.case-items)) ↔ AllByRecursion (CaseFits (signature l.of)) (map case l.case-items)
+invariant-loop-case l = AllByRecursion (CaseFits l.types (signature l.of)) (map case (drop l.case-index l.case-items)) ↔ AllByRecursion (CaseFits l.types (signature l.of)) (map case l.case-items)

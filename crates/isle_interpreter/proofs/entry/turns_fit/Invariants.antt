@@ -7,4 +7,4 @@ use Rattle.isle_interpreter.specs.SignatureViews.{signature}
 use Rattle.isle_interpreter.proofs.entry.turns_fit.Given as goal
 
 abbrev pub invariant-loop-turn : goal.invariant-loop-turn
-invariant-loop-turn l = AllByRecursion (AnswerFits (signature l.of)) (map answer (drop l.turn-index l.turn-items)) ↔ AllByRecursion (AnswerFits (signature l.of)) (map answer l.turn-items)
+invariant-loop-turn l = AllByRecursion (AnswerFits l.types (signature l.of)) (map answer (drop l.turn-index l.turn-items)) ↔ AllByRecursion (AnswerFits l.types (signature l.of)) (map answer l.turn-items)

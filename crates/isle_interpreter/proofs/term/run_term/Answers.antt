@@ -6,13 +6,13 @@ use Rattle.isle_interpreter.specs.Judged.{Runs}
 use Rattle.isle_interpreter.specs.Refusals.{MayRun, IsRefused}
 use Rattle.isle_interpreter.specs.declared.run_error.RunError.{RunError}
 use Rattle.isle_interpreter.proofs.OneRefusal.{not_refused}
-use Rattle.isle_interpreter.proofs.Refusing.{bad_refused, only_one, on_ok}
+use Rattle.isle_interpreter.proofs.Refusing.{early_refused, bad_refused, only_one, on_ok}
 use Rattle.isle_interpreter.proofs.term.run_term.Goals as goal
 
 fits : (c : goal.After-run_fitting) → MayRun (program c.args.p.now) c.args.name.now (values c.args.args.now) (meaning c.args.answers.now) (function c.in-Ok.f.now)
 fits c =
     let there : function_of c.args.name.now (program c.args.p.now).fns ≡ Some (function c.in-Ok.f.now) = search rules in
-    record { found = there; typed = c.in-Ok.ensures.typed; right = c.in-Ok-try_entries.ensures.right; answered = c.in-Ok-try_entries.ensures.answered }
+    record { found = there; typed = c.in-Ok.ensures.typed; right = c.in-Ok-try_entries.ensures.right; answered = c.in-Ok-try_entries.ensures.answered; given = c.in-Ok-try_entries.ensures.given }
 
 pub returns-in-Ok-try_entries-clause-may : goal.returns-in-Ok-try_entries-clause-may
 returns-in-Ok-try_entries-clause-may c =
@@ -25,13 +25,15 @@ returns-in-Ok-try_entries-clause-never c =
     let m = meaning c.args.answers.now in
     on_ok c.run_fitting.result ((d : RunError) → IsRefused p c.args.name.now args m d → ⊥) (λ d. not_refused p c.args.name.now args m (function c.in-Ok.f.now) d (fits c))
 
+pub returns-in-Err-clause-refused : goal.returns-in-Err-clause-refused
+returns-in-Err-clause-refused c = early_refused (program c.args.p.now) c.args.name.now (values c.args.args.now) (meaning c.args.answers.now) c.in-Err.e c.in-Err.ensures.refused
+
 pub returns-in-Err-clause-only : goal.returns-in-Err-clause-only
 returns-in-Err-clause-only c =
     let p = program c.args.p.now in
     let args = values c.args.args.now in
     let m = meaning c.args.answers.now in
-    let refused : IsRefused p c.args.name.now args m c.in-Err.e = search rules in
-    only_one p c.args.name.now args m c.in-Err.e (inr refused)
+    only_one p c.args.name.now args m c.in-Err.e (early_refused p c.args.name.now args m c.in-Err.e c.in-Err.ensures.refused)
 
 pub returns-in-Err-try_entries-clause-refused : goal.returns-in-Err-try_entries-clause-refused
 returns-in-Err-try_entries-clause-refused c =

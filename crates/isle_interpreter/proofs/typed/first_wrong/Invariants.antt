@@ -1,7 +1,0 @@
-use Rattle.std.proofs.Common.{◌≡◌, length, take}
-use Rattle.isle_core.specs.ValueViews.{values}
-use Rattle.isle_interpreter.specs.Signatures.{type_names, AreNamed}
-use Rattle.isle_interpreter.proofs.typed.first_wrong.Given as goal
-
-abbrev pub invariant-loop-index : goal.invariant-loop-index
-invariant-loop-index l = AreNamed (take l.index (type_names l.params)) (take l.index (values l.args)) × (length l.args ≡ length l.params)

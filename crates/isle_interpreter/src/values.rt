@@ -1,0 +1,77 @@
+//! Arguments and answers of types.
+
+ghost use Rattle.std.specs.Prelude.{◌≡◌, ◌↔◌, ℕ, List, length, IsTrue, IfOk};
+ghost use Rattle.isle_core.specs.ValueViews.{values, answer};
+ghost use Rattle.isle_interpreter.specs.Signatures.{type_names, AreNamed, AnswerFits};
+ghost use Rattle.isle_interpreter.specs.FirstWrong.{IsFirstWrong};
+
+use crate::typed::is_named;
+use crate::types::Types;
+use isle_core::{Answer, ReturnKind, Text, Value};
+use isle_tree::Ty;
+use std::alloc::{AllocError, Global};
+
+// Whether there are as many values as names, each of its type.
+#[tactic(auto, using(crate::proofs::NamedApart::named_apart))]
+fn are_named(
+    alloc: Global,
+    types: &Types<'_>,
+    names: &[Text],
+    given: &[Value],
+) -> Result<bool, AllocError>
+    ensures { IfOk result (λ are. IsTrue are ↔ AreNamed types.now names.now (values given.now)) }
+{
+    if names.len() != given.len() {
+        return Ok(false);
+    }
+    for index in 0..names.len() {
+        if !is_named(alloc, types, names[index].as_str(), &given[index])? {
+            return Ok(false);
+        }
+    }
+    Ok(true)
+}
+
+/// Tells whether an answer is of the kind, with values of the types of these names. The only error is want of memory.
+#[tactic(auto, using(isle_outcomes::proofs::SeesValues::sees_values))]
+pub fn answer_fits(
+    alloc: Global,
+    types: &Types<'_>,
+    results: &[Text],
+    kind: ReturnKind,
+    given: &Answer,
+) -> Result<bool, AllocError>
+    ensures { (params : List (List ℕ)) → IfOk result (λ fits. IsTrue fits
+        ↔ AnswerFits types.now (record { params = params; results = results.now; kind = kind }) (answer given.now)) }
+{
+    match given {
+        Answer::Plain(found) => {
+            let named = are_named(alloc, types, results, found.as_slice())?;
+            Ok(kind == ReturnKind::Plain && named)
+        }
+        Answer::Some(found) => {
+            let named = are_named(alloc, types, results, found.as_slice())?;
+            Ok(kind == ReturnKind::Option && named)
+        }
+        Answer::Nothing => Ok(kind == ReturnKind::Option),
+        Answer::List(_) => Ok(false),
+    }
+}
+
+/// Returns the number of the first argument that is no value of its parameter's type. The only error is want of memory.
+pub fn first_wrong(
+    alloc: Global,
+    types: &Types<'_>,
+    params: &[Ty],
+    args: &[Value],
+) -> Result<Option<usize>, AllocError>
+    requires { length args.now ≡ length params.now }
+    ensures { IfOk result (λ wrong. IsFirstWrong types.now (type_names params.now) (values args.now) wrong) }
+{
+    for index in 0..params.len() {
+        if !is_named(alloc, types, params[index].name.as_str(), &args[index])? {
+            return Ok(Some(index));
+        }
+    }
+    Ok(None)
+}

@@ -1,0 +1,10 @@
+pub mod BoundFields
+pub mod FindNamed
+pub mod Fits
+pub mod LastBound
+pub mod MadeFields
+pub mod Makes
+pub mod NamedValues
+pub mod SourceLaws
+pub mod Tests
+pub mod ValuesApart

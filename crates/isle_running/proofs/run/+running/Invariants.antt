@@ -1,0 +1,24 @@
+use Rattle.std.proofs.Common.{◌≡◌, ◌+◌, ◌*◌, drop}
+use Rattle.isle_tree.specs.Views.{body}
+use Rattle.isle_tree.specs.Run as run
+use Rattle.isle_running.specs.RunViews.{locals, within, state}
+use Rattle.isle_running.specs.Frames.{Follows}
+use Rattle.isle_running.proofs.run.+running.Given as goal
+
+abbrev pub invariant-run_body-loop-statement : goal.invariant-run_body-loop-statement
+invariant-run_body-loop-statement l =
+    (run.run_body (within l.around l.frame) (body (drop l.statement-index l.statements)) (locals l.frame.locals) (state l.frame)
+    ≡ run.run_body (within l.around l.fn.frame) (body l.statements) (locals l.fn.frame.locals) (state l.fn.frame))
+    × Follows l.fn.frame l.frame
+
+abbrev pub decreases-run_stmt : goal.decreases-run_stmt
+decreases-run_stmt l = 3 * goal.size-run_stmt l
+
+abbrev pub decreases-run_body : goal.decreases-run_body
+decreases-run_body l = 3 * goal.size-run_body l + 1
+
+abbrev pub decreases-run_inside : goal.decreases-run_inside
+decreases-run_inside l = 3 * goal.size-run_inside l + 2
+
+abbrev pub decreases-run_where : goal.decreases-run_where
+decreases-run_where l = 3 * goal.size-run_where l + 2

@@ -1,0 +1,49 @@
+-- Steps of the code's run as those of the definition.
+use Rattle.std.specs.Prelude.{◌≡◌, ℕ, List, [], ◌∷◌, ◌++◌, Bool, true, false, Option, Some, None, if◌then◌else◌}
+use Rattle.isle_core.specs.Answered.{Held, Absent, a_value}
+use Rattle.isle_core.specs.Value.{Value, Variant, Struct, FieldValues}
+use Rattle.isle_tree.specs.Program.{Body}
+use Rattle.isle_tree.specs.declared.tree.Operand.{Operand}
+use Rattle.isle_tree.specs.declared.tree.TPat.{TPat}
+use Rattle.isle_tree.specs.Run.{Around, State, Env, Flow, Goes, after_scope, fit, fitted, run_body, value_in, value_of}
+use Rattle.isle_running.specs.Frames.{Follows}
+use Rattle.isle_running.specs.RunViews.{locals, within, state, flow, tested}
+use Rattle.isle_running.specs.declared.around.Around.{Around as CodeAround}
+use Rattle.isle_running.specs.declared.flow.Flow.{Flow as CodeFlow}
+use Rattle.isle_running.specs.declared.frame.Frame.{Frame}
+
+-- from a frame to another the code goes as this does
+abbrev pub RunsSo : (Around → Env → State → Flow) → CodeAround → (old new : Frame) → CodeFlow → Type 0
+RunsSo go w old new end = go (within w old) (locals old.locals) (state old) ≡ flow end new
+
+-- where a pattern may fit, what follows goes on from the locals behind it
+abbrev pub FitsSo : Option Env → (old new : Frame) → Bool → Type 0
+FitsSo o old new fits =
+    (go : Env → Flow) (other : Flow) → fitted o (λ bound. go (locals old.locals ++ bound)) other ≡ (if fits then go (locals new.locals) else other)
+
+-- a local bound to the value that is there, or nothing bound
+abbrev pub BindsSo : ℕ → Option Value → (old new : Frame) → Bool → Type 0
+BindsSo n (Some v) old new there = (there ≡ true) × (locals new.locals ≡ locals old.locals ++ (n, a_value v) ∷ []) × Follows old new
+BindsSo n None old new there = (there ≡ false) × (new.locals ≡ old.locals)
+
+-- a place that holds what a variant makes of fields, where they are there
+abbrev pub variant_held : (ty variant : List ℕ) → Option FieldValues → Held
+variant_held ty variant None = Absent
+variant_held ty variant (Some fs) = a_value (Variant ty variant fs)
+
+-- so of a struct
+abbrev pub struct_held : List ℕ → Option FieldValues → Held
+struct_held ty None = Absent
+struct_held ty (Some fs) = a_value (Struct ty fs)
+
+-- statements, whose bindings are left
+abbrev pub run_inside : Body → Around → Env → State → Flow
+run_inside inside w env s = after_scope env (run_body w inside env s)
+
+-- statements where a pattern fits, whose bindings are left, and its own
+abbrev pub run_where : TPat → Held → Body → Around → Env → State → Flow
+run_where pat held inside w env s = fitted (fit w pat held) (λ bound. after_scope env (run_body w inside (env ++ bound) s)) (Goes env s)
+
+-- how the test of two operands goes
+abbrev pub test : Around → Env → (a b : Operand) → Option Bool
+test w env a b = tested (value_in (value_of w env a)) (value_in (value_of w env b))

@@ -1,0 +1,21 @@
+//! Functions of target programs run under given answers.
+#![tactic(auto)]
+
+mod around;
+mod called;
+mod calls;
+mod constants;
+mod fields;
+mod fit;
+mod flow;
+mod frame;
+mod functions;
+mod holding;
+mod making;
+mod named;
+mod reading;
+mod run;
+mod source;
+mod sources;
+
+pub use functions::run_function;
