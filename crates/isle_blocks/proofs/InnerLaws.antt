@@ -1,5 +1,5 @@
 -- Which inner values are found.
-use Rattle.std.proofs.Common.{◌≡◌, ◌↔◌, ◌⊎◌, inl, inr, ⊎_elim, ℕ, zero, suc, ◌+◌, ◌<◌, ltb, List, [], ◌∷◌, ◌++◌, length, get_or, take, Bool, true, false, cond, IsTrue, Option, Some, None, Ordering, Less, Equal, Greater, refl, sym, ap, ◌∙◌, subst, arith}
+use Rattle.std.proofs.Common.{◌≡◌, ◌↔◌, ⊎_elim, ℕ, ◌+◌, ◌<◌, ltb, List, [], ◌∷◌, ◌++◌, length, get_or, take, Bool, true, false, cond, IsTrue, Option, Some, None, Ordering, Less, Equal, Greater, refl, sym, ap, ◌∙◌, subst, arith}
 use Rattle.std.specs.Prelude.{slice_get, Contains}
 use Rattle.std.specs.Ordering.{nat_cmp, is_eq}
 use Rattle.std.specs.BTreeMap.{BTreeMap, get, Updates}
@@ -13,30 +13,14 @@ use Rattle.isle_core.specs.declared.rule_sets.Binding.TheVariants as binding
 use Rattle.isle_core.specs.declared.types.Term.{Term}
 use Rattle.isle_core.specs.Path.{Path, Inner, at, paths_of}
 use Rattle.isle_core.specs.StandsFor.{EachOnce}
+use Rattle.isle_core.specs.Tests.{Test}
 use Rattle.isle_core.specs.Serializable.{IsSerializableCall}
 use Rattle.isle_core.specs.Rule.{Environment}
 use Rattle.isle_blocks.specs.Inners.{source_at, FindsInners}
 use Rattle.isle_core.proofs.BindingPaths.{IsThere, contains_at, placed, place_once, inner_path, inner_at}
+use Rattle.isle_blocks.proofs.PushedLists.{get_push, get_last, get_either, some_same}
 
 -- ---- one binding more
-
-get_push : {A : Type 0} (xs : List A) (y : A) (b : ℕ) (x : A) → slice_get xs b ≡ Some x → slice_get (xs ++ y ∷ []) b ≡ Some x
-get_push [] y b x e = cc
-get_push (z ∷ xs) y zero x e = e
-get_push (z ∷ xs) y (suc b) x e = get_push xs y b x e
-
-get_last : {A : Type 0} (xs : List A) (y : A) → slice_get (xs ++ y ∷ []) (length xs) ≡ Some y
-get_last [] y = refl
-get_last (z ∷ xs) y = get_last xs y
-
-get_either : {A : Type 0} (xs : List A) (y : A) (b : ℕ) (x : A) → slice_get (xs ++ y ∷ []) b ≡ Some x → (slice_get xs b ≡ Some x) ⊎ ((b ≡ length xs) × (y ≡ x))
-get_either [] y zero x e = inr (refl, cc)
-get_either [] y (suc b) x e = cc
-get_either (z ∷ xs) y zero x e = inl e
-get_either (z ∷ xs) y (suc b) x e = ⊎_elim (λ h. inl h) (λ h. inr (ap suc h.0, h.1)) (get_either xs y b x e)
-
-some_same : {A : Type 0} (x y : A) → Some x ≡ Some y → x ≡ y
-some_same x y e = cc
 
 eq_is : (a b : ℕ) → is_eq (nat_cmp a b) ≡ true → a ≡ b
 eq_is a b e = exact_unsigned a b (pick (nat_cmp a b) e)
@@ -116,9 +100,9 @@ pub data HasInner (bs : List Binding) (inners : ℕ → Option BindingId) (c : B
   has_none : inners c.0 ≡ None → (Contains (paths_of bs) (Inner (at (paths_of bs) c)) → ⊥) → HasInner bs inners c false
   has_one : (b : BindingId) → inners c.0 ≡ Some b → slice_get bs b.0 ≡ Some (binding.MatchSome c) → at (paths_of bs) b ≡ Inner (at (paths_of bs) c) → HasInner bs inners c true
 
-pub has_inner : (env : Environment) (t : Term) (bs : List Binding) (inners : ℕ → Option BindingId) (done : List Path) (c : BindingId) → FindsInners bs inners → EachOnce (paths_of bs)
-    → (h : IsSerializableCall env t (paths_of bs) done (at (paths_of bs) c)) → HasInner bs inners c (may_be_nothing h.kind)
-has_inner env t bs inners done c f once h = pick (inners c.0) refl (may_be_nothing h.kind) h.inner
+pub has_inner : (env : Environment) (t : Term) (tests : List Test) (bs : List Binding) (inners : ℕ → Option BindingId) (done : List Path) (c : BindingId) → FindsInners bs inners → EachOnce (paths_of bs)
+    → (h : IsSerializableCall env t tests (paths_of bs) done (at (paths_of bs) c)) → HasInner bs inners c (may_be_nothing h.kind)
+has_inner env t tests bs inners done c f once h = pick (inners c.0) refl (may_be_nothing h.kind) h.inner
   where
     ps : List Path
     ps = paths_of bs

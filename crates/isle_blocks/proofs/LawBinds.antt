@@ -15,6 +15,7 @@ use Rattle.isle_core.specs.BlockRun.{bind_one, bind_all}
 use Rattle.isle_core.specs.ExternalCall.{IsCall}
 use Rattle.isle_core.specs.Occurrences.{occurrence_at, occurrences}
 use Rattle.isle_core.specs.StandsFor.{EachOnce}
+use Rattle.isle_core.specs.Tests.{Test}
 use Rattle.isle_core.specs.Serializable.{IsSerializableCall, AreSerializableCalls}
 use Rattle.isle_core.specs.Rule.{Environment}
 use Rattle.isle_blocks.specs.Inners.{FindsInners}
@@ -81,15 +82,15 @@ one_run env m args bs inners c term parameters instance rest more is same true k
 
 -- ---- calls in order
 
-pub binds_run : (env : Environment) (t : Term) (m : Meaning) (args : List Value) (bs : List Binding) (inners : ℕ → Option BindingId) → FindsInners bs inners → EachOnce (paths_of bs)
-    → (cs : List BindingId) (done : List Path) → AreSerializableCalls env t (paths_of bs) done (map (at (paths_of bs)) cs) → (known : Known) (made : List Made)
+pub binds_run : (env : Environment) (t : Term) (tests : List Test) (m : Meaning) (args : List Value) (bs : List Binding) (inners : ℕ → Option BindingId) → FindsInners bs inners → EachOnce (paths_of bs)
+    → (cs : List BindingId) (done : List Path) → AreSerializableCalls env t tests (paths_of bs) done (map (at (paths_of bs)) cs) → (known : Known) (made : List Made)
     → bind_all env m args (paths_of bs) (binds inners cs) known made ≡ run_calls env m args (map (at (paths_of bs)) cs) known made
-binds_run env t m args bs inners f once [] done h known made = refl
-binds_run env t m args bs inners f once (c ∷ cs) done h known made =
-    let call : IsSerializableCall env t (paths_of bs) done (at (paths_of bs) c) = h.0 in
+binds_run env t tests m args bs inners f once [] done h known made = refl
+binds_run env t tests m args bs inners f once (c ∷ cs) done h known made =
+    let call : IsSerializableCall env t tests (paths_of bs) done (at (paths_of bs) c) = h.0 in
     one_run env m args bs inners c call.term call.parameters call.instance (binds inners cs) (map (at (paths_of bs)) cs) call.path
-    (binds_run env t m args bs inners f once cs (at (paths_of bs) c ∷ done) h.1)
-    (may_be_nothing call.kind) call.kind refl call.external (has_inner env t bs inners done c f once call) known made
+    (binds_run env t tests m args bs inners f once cs (at (paths_of bs) c ∷ done) h.1)
+    (may_be_nothing call.kind) call.kind refl call.external (has_inner env t tests bs inners done c f once call) known made
 
 -- inner values are no impure calls
 pub occurrences_same : (env : Environment) (bs : List Binding) (inners : ℕ → Option BindingId) → FindsInners bs inners → (cs : List BindingId) → occurrences env (paths_of bs) (binds inners cs) ≡ occurrences env (paths_of bs) cs

@@ -1,4 +1,8 @@
+pub mod PushedLists
 pub mod InnerLaws
+pub mod FieldLaws
+pub mod PathTypes
+pub mod FieldPlaces
 pub mod LawOrder
 pub mod LawFirst
 pub mod LawBinds

@@ -6,7 +6,7 @@ use Rattle.isle_core.specs.declared.rule_sets.FlatRule.{FlatRule}
 use Rattle.isle_core.specs.Block.{Block}
 use Rattle.isle_core.specs.BlockViews.{SeenStep, block_of}
 use Rattle.isle_blocks.specs.Order.{by_priority}
-use Rattle.isle_blocks.specs.Nest.{rule_step}
+use Rattle.isle_blocks.specs.Nest.{Shows, rule_step}
 
 -- no constraint and no equality
 abbrev pub no_tests : List (BindingId × Constraint) → List (BindingId × BindingId) → Bool
@@ -15,10 +15,10 @@ no_tests [] (e ∷ es) = false
 no_tests (c ∷ cs) es = false
 
 -- the steps of rules in order, up to the first rule without tests: nothing behind it is reached
-abbrev pub chain_steps : (ℕ → Option BindingId) → List FlatRule → List SeenStep
-chain_steps inners [] = []
-chain_steps inners (f ∷ fs) = rule_step inners f ∷ (if no_tests f.constraints f.equals then [] else chain_steps inners fs)
+abbrev pub chain_steps : Shows → (ℕ → Option BindingId) → List FlatRule → List SeenStep
+chain_steps shows inners [] = []
+chain_steps shows inners (f ∷ fs) = rule_step shows inners f ∷ (if no_tests f.constraints f.equals then [] else chain_steps shows inners fs)
 
 -- the block of the rules of a set
-abbrev pub chain : (ℕ → Option BindingId) → List FlatRule → Block
-chain inners fs = block_of (chain_steps inners (by_priority fs))
+abbrev pub chain : Shows → (ℕ → Option BindingId) → List FlatRule → Block
+chain shows inners fs = block_of (chain_steps shows inners (by_priority fs))

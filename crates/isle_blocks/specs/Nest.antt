@@ -20,18 +20,22 @@ binds inners (c ∷ cs) = with_inner (inners c.0) c (binds inners cs)
 abbrev pub alone : SeenStep → Block
 alone s = Step s.0 s.1 Stop
 
--- a match of one arm that shows no part
-abbrev pub matched : BindingId × Constraint → SeenStep → SeenStep
-matched c inner = ([], Match c.0 (Arm c.1 [] (alone inner) NoArm))
+-- what a constraint on a source shows, by its places
+abbrev pub Shows : Type 0
+Shows = BindingId → Constraint → List (Option BindingId)
+
+-- a match of one arm, which binds the parts that are shown
+abbrev pub matched : Shows → BindingId × Constraint → SeenStep → SeenStep
+matched shows c inner = ([], Match c.0 (Arm c.1 (shows c.0 c.1) (alone inner) NoArm))
 
 -- an equality
 abbrev pub equated : BindingId × BindingId → SeenStep → SeenStep
 equated e inner = ([], Equal e.0 e.1 (alone inner))
 
 -- matches, each round those behind it
-abbrev pub all_matched : List (BindingId × Constraint) → SeenStep → SeenStep
-all_matched [] inner = inner
-all_matched (c ∷ cs) inner = matched c (all_matched cs inner)
+abbrev pub all_matched : Shows → List (BindingId × Constraint) → SeenStep → SeenStep
+all_matched shows [] inner = inner
+all_matched shows (c ∷ cs) inner = matched shows c (all_matched shows cs inner)
 
 -- equalities, each round those behind it
 abbrev pub all_equated : List (BindingId × BindingId) → SeenStep → SeenStep
@@ -43,5 +47,5 @@ abbrev pub last_step : (ℕ → Option BindingId) → FlatRule → SeenStep
 last_step inners f = (binds inners f.ordered, Return f.pos f.result)
 
 -- the step of a rule
-abbrev pub rule_step : (ℕ → Option BindingId) → FlatRule → SeenStep
-rule_step inners f = all_matched f.constraints (all_equated f.equals (last_step inners f))
+abbrev pub rule_step : Shows → (ℕ → Option BindingId) → FlatRule → SeenStep
+rule_step shows inners f = all_matched shows f.constraints (all_equated f.equals (last_step inners f))

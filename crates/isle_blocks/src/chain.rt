@@ -16,8 +16,10 @@ ghost use Rattle.isle_core.specs.BlockLawful.{IsLawfulBlock};
 ghost use Rattle.isle_core.specs.Serializable.{IsSerializable};
 ghost use Rattle.isle_core.specs.Setting.{setting};
 ghost use Rattle.isle_core.specs.SingleArms.{HasSingleArms};
+ghost use Rattle.isle_blocks.specs.Fields.{places};
 ghost use Rattle.isle_blocks.specs.Chain as Chain;
 
+use crate::fields::{Fields, fields_of};
 use crate::inners::inner_values;
 use crate::nest::rule_step;
 use crate::order::in_order;
@@ -35,14 +37,15 @@ fn is_untested(rule: &FlatRule) -> bool
 // The steps of rules in order, up to the first one without tests.
 fn chain_steps(
     alloc: Global,
+    fields: &Fields,
     inners: &BTreeMap<usize, BindingId>,
     rules: &[&FlatRule],
 ) -> Result<Vec<EvalStep>, AllocError>
-    ensures { IfOk result (λ steps. map BlockViews.step steps.items ≡ Chain.chain_steps (get nat_cmp inners.now) (map (λ f. f.now) rules.now)) }
+    ensures { IfOk result (λ steps. map BlockViews.step steps.items ≡ Chain.chain_steps (places fields.now) (get nat_cmp inners.now) (map (λ f. f.now) rules.now)) }
 {
     let mut steps = Vec::new(alloc);
     for rule in rules {
-        steps.push(rule_step(alloc, inners, rule)?)?;
+        steps.push(rule_step(alloc, fields, inners, rule)?)?;
         if is_untested(rule) {
             return Ok(steps);
         }
@@ -54,13 +57,14 @@ fn chain_steps(
 #[tactic(auto, using(isle_core::proofs::SeesBlocks::sees_blocks))]
 fn chained(
     alloc: Global,
+    fields: &Fields,
     inners: &BTreeMap<usize, BindingId>,
     rules: &[FlatRule],
 ) -> Result<Block, AllocError>
-    ensures { IfOk result (λ b. BlockViews.block b ≡ Chain.chain (get nat_cmp inners.now) rules.now) }
+    ensures { IfOk result (λ b. BlockViews.block b ≡ Chain.chain (places fields.now) (get nat_cmp inners.now) rules.now) }
 {
     let order = in_order(alloc, rules)?;
-    let steps = chain_steps(alloc, inners, order.as_slice())?;
+    let steps = chain_steps(alloc, fields, inners, order.as_slice())?;
     Ok(Block {
         steps: List::new(steps),
     })
@@ -78,6 +82,7 @@ pub fn serialize(alloc: Global, rules: &RuleSet, iterator: bool) -> Result<Block
     ensures lawful { IfOk result (λ b. (env : Environment) (t : Term) → IsSerializable env t rules.now → IsLawfulBlock (setting env t rules.now.bindings) (BlockViews.block b)) }
     ensures single { IfOk result (λ b. HasSingleArms (BlockViews.block b)) }
 {
+    let fields = fields_of(alloc, rules.bindings.as_slice())?;
     let inners = inner_values(alloc, rules.bindings.as_slice())?;
-    Ok(chained(alloc, &inners, rules.rules.as_slice())?)
+    Ok(chained(alloc, &fields, &inners, rules.rules.as_slice())?)
 }

@@ -2,6 +2,7 @@
 #![tactic(auto)]
 
 mod chain;
+mod fields;
 mod inners;
 mod nest;
 mod order;

@@ -3,8 +3,10 @@ ghost use Rattle.std.specs.Ordering.{nat_cmp};
 ghost use Rattle.std.specs.BTreeMap.{get};
 ghost use Rattle.isle_core.specs.Block as Blocks;
 ghost use Rattle.isle_core.specs.BlockViews as BlockViews;
+ghost use Rattle.isle_blocks.specs.Fields.{places};
 ghost use Rattle.isle_blocks.specs.Nest as Nest;
 
+use crate::fields::Fields;
 use isle_core::{
     BindingId, Block, Constraint, ControlFlow, EvalStep, FlatRule, List, MatchArm, Pos,
 };
@@ -33,20 +35,22 @@ fn alone(alloc: Global, step: EvalStep) -> Result<Block, AllocError>
     })
 }
 
-// A match of one arm, in which nothing is bound.
+// A match of one arm, in which the fields that it shows are bound.
 #[tactic(auto, using(isle_core::proofs::SeesBlocks::sees_blocks))]
 fn matched(
     alloc: Global,
+    fields: &Fields,
     source: BindingId,
     constraint: Constraint,
     inner: EvalStep,
 ) -> Result<EvalStep, AllocError>
-    ensures { IfOk result (λ s. BlockViews.step s ≡ Nest.matched (source, constraint) (BlockViews.step inner)) }
+    ensures { IfOk result (λ s. BlockViews.step s ≡ Nest.matched (places fields.now) (source, constraint) (BlockViews.step inner)) }
 {
+    let places = fields.places(alloc, source, constraint)?;
     let body = alone(alloc, inner)?;
     let arm = MatchArm {
         constraint,
-        bindings: List::new(Vec::new(alloc)),
+        bindings: List::new(places),
         body,
     };
     let arms = vec![in alloc; arm]?;
@@ -119,30 +123,32 @@ fn all_equated(
 // Matches, each round those behind it, and the last one round what follows them.
 fn all_matched(
     alloc: Global,
+    fields: &Fields,
     constraints: &[(BindingId, Constraint)],
     inner: EvalStep,
 ) -> Result<EvalStep, AllocError>
-    ensures { IfOk result (λ s. BlockViews.step s ≡ Nest.all_matched constraints.now (BlockViews.step inner)) }
+    ensures { IfOk result (λ s. BlockViews.step s ≡ Nest.all_matched (places fields.now) constraints.now (BlockViews.step inner)) }
 {
     let mut step = inner;
     for place in (0..constraints.len()).rev() {
         let (source, constraint) = constraints[place];
-        step = matched(alloc, source, constraint, step)?;
+        step = matched(alloc, fields, source, constraint, step)?;
     }
     Ok(step)
 }
 
-/// Makes the step of a rule: its tests, each round what follows, and inside them its calls and its result. The only error
+/// Makes the step of a rule: its tests, each round what follows, with the fields that it shows bound, and inside them its calls and its result. The only error
 /// is want of memory.
 pub fn rule_step(
     alloc: Global,
+    fields: &Fields,
     inners: &BTreeMap<usize, BindingId>,
     rule: &FlatRule,
 ) -> Result<EvalStep, AllocError>
-    ensures { IfOk result (λ s. BlockViews.step s ≡ Nest.rule_step (get nat_cmp inners.now) rule.now) }
+    ensures { IfOk result (λ s. BlockViews.step s ≡ Nest.rule_step (places fields.now) (get nat_cmp inners.now) rule.now) }
 {
     let order = binds(alloc, inners, rule.ordered.as_slice())?;
     let last = returned(order, rule.pos, rule.result);
     let inner = all_equated(alloc, rule.equals.as_slice(), last)?;
-    all_matched(alloc, rule.constraints.as_slice(), inner)
+    all_matched(alloc, fields, rule.constraints.as_slice(), inner)
 }

@@ -24,7 +24,8 @@ use Rattle.isle_core.specs.Value.{Value}
 use Rattle.isle_core.specs.ValueAt.{Held, One, AValue, is_value, is_const, is_one, meets}
 use Rattle.isle_core.specs.Rule.{Environment}
 use Rattle.isle_core.proofs.SameValueLaws.{same_value_decides}
-use Rattle.isle_checks.specs.PlainConstants.{IsPlainDef, IsPlainType}
+use Rattle.isle_core.specs.NamesApart.{IsPlainDef}
+use Rattle.isle_checks.specs.PlainTypes.{IsPlainType}
 use Rattle.isle_checks.proofs.TestedTypes.{constant_test, IsOn, on_constant, on_variant, on_struct}
 
 -- ---- constants

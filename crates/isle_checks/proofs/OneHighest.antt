@@ -22,6 +22,7 @@ use Rattle.isle_core.specs.BuiltRule.{IsBuiltRule}
 use Rattle.isle_core.specs.HasType.{HaveTypes}
 use Rattle.isle_core.specs.Lawful.{IsLawful}
 use Rattle.isle_core.specs.OccurringConstants.{TypedConstant, rule_constants, rules_constants}
+use Rattle.isle_core.specs.NamesApart.{AreConstantsPlain}
 use Rattle.isle_core.specs.PatternType.{AreVariantsApart, ArePatternsOf, FitsTerm}
 use Rattle.isle_core.specs.Rule.{Environment, Rule, rules_of}
 use Rattle.isle_core.proofs.Contained.{contained_cases, none_contained}
@@ -30,7 +31,6 @@ use Rattle.isle_core.proofs.SetMeans.{rule_both}
 use Rattle.isle_checks.specs.Built.{AreBuilt}
 use Rattle.isle_checks.specs.CheckList.{RuleError, overlap_of, shadow_of, positions, is_multi, AreErrorsAt, AreErrorsBelow, AreErrorsOf, AreErrorsOfTerm, AreErrorsOfTerms, IsClean}
 use Rattle.isle_checks.specs.Firsts.{IsFirst}
-use Rattle.isle_checks.specs.PlainConstants.{AreConstantsPlain}
 use Rattle.isle_checks.specs.RuleChecks.{Overlaps, OverlapsAt}
 use Rattle.isle_checks.proofs.ListChecks.{of_two}
 use Rattle.isle_checks.proofs.TestedTypes.{IsOn, IsTyped, rule_typed}

@@ -1,8 +1,7 @@
 -- The types of the paths that a rule tests, and what it may ask of them.
-use Rattle.std.proofs.Common.{◌≡◌, ℕ, ◌+◌, suc, List, [], ◌∷◌, ◌++◌, Option, Some, None, refl, sym, ap, ◌∙◌, subst, arith, ⊎_elim}
+use Rattle.std.proofs.Common.{◌≡◌, ℕ, ◌+◌, suc, List, [], ◌∷◌, ◌++◌, Bool, Option, Some, None, refl, sym, ap, ◌∙◌, subst, arith, ⊎_elim}
 use Rattle.std.specs.Prelude.{Contains, IsSomeAnd, option_and_then, option_map, slice_get}
-use Rattle.std.proofs.lemmas.List.Elements.{All-contains, Contains-append_left, Contains-append_right, Contains-append_cases}
-use Rattle.isle_core.specs.declared.Sym.{Sym}
+use Rattle.std.proofs.lemmas.List.Elements.{Contains-append_left, Contains-append_right, Contains-append_cases}
 use Rattle.isle_core.specs.declared.TypeId.{TypeId}
 use Rattle.isle_core.specs.declared.VariantId.{VariantId}
 use Rattle.isle_core.specs.declared.rule_sets.Constraint.{Constraint}
@@ -23,7 +22,8 @@ use Rattle.isle_core.specs.Value as value
 use Rattle.isle_core.specs.Rule.{Environment, Rule}
 use Rattle.isle_core.proofs.Contained.{contained_cases, none_contained}
 use Rattle.isle_core.proofs.SetMeans.{without_iflets}
-use Rattle.isle_checks.specs.PlainConstants.{IsPlainDef, IsPlainType, AreConstantsPlain}
+use Rattle.isle_core.specs.NamesApart.{IsPlainDef, AreConstantsPlain}
+use Rattle.isle_checks.specs.PlainTypes.{IsPlainType}
 use Rattle.isle_checks.proofs.FlatTests.{is_path, is_constraint, met_none}
 use Rattle.isle_checks.proofs.PlacedLaws.{only_one}
 
@@ -131,7 +131,7 @@ module _ (env : Environment) (plain : AreConstantsPlain env) (known : List Typed
     pattern_typed (pattern.ConstInt of n) at ty places p c h t k is =
         constant_typed at p ty (Number n) c t (subst (λ x. AreKnown ((x, Number n) ∷ [])) h.0 k) (numbers_plain (slice_get env.types.types ty.0) h.2) (subst (λ x. Contains (Is at (constraint.ConstInt n x) ∷ []) (Is p c)) h.0 is)
     pattern_typed (pattern.ConstPrim of name) at ty places p c h t k is =
-        constant_typed at p ty (Named name) c t (subst (λ x. AreKnown ((x, Named name) ∷ [])) h.0 k) (All-contains (λ (x : Sym × TypeId). IsPlainType env x.1) env.types.consts (name, ty) plain h.1) is
+        constant_typed at p ty (Named name) c t (subst (λ x. AreKnown ((x, Named name) ∷ [])) h.0 k) (plain name ty h.1) is
     pattern_typed (pattern.Wildcard of) at ty places p c h t k is = absurd (none_contained (Is p c) is)
     pattern_typed (pattern.Term of term qs) at ty places p c h t k is =
         ⊎_elim (λ e. made_typed (making env term) at p ty c h.1 t e)

@@ -6,4 +6,4 @@ pub mod RuleChecks
 pub mod CheckList
 pub mod Errors
 pub mod Built
-pub mod PlainConstants
+pub mod PlainTypes

@@ -19,7 +19,7 @@ use Rattle.isle_core.specs.Path.{Path, Nowhere, at, paths_of}
 use Rattle.isle_core.specs.Calling.{impure}
 use Rattle.isle_core.specs.OrderedCalls.{rule_calls}
 use Rattle.isle_core.specs.RulePaths.{args_paths, expr_paths, rule_paths}
-use Rattle.isle_core.specs.Tests.{no_places, args_tests, args_after, rule_places, rule_tests}
+use Rattle.isle_core.specs.Tests.{is_constraint, no_places, args_tests, args_after, rule_places, rule_tests}
 use Rattle.isle_core.specs.RuleSet.{is_test, equal_test, flat_tests}
 use Rattle.isle_core.specs.RuleViews.{rule, rules}
 use Rattle.isle_core.specs.RulePaths.{rules_paths}
@@ -33,7 +33,7 @@ use Rattle.isle_core.proofs.TurnKinds.{IsPlaced}
 use Rattle.isle_core.specs.Scope.{all_variables, IsInScope, AreInScope, IsScopedRule}
 use Rattle.isle_rulesets.specs.declared.pattern_tests.PatternTests.{PatternTests}
 use Rattle.isle_rulesets.specs.Numbering.{Numbered, Extends}
-use Rattle.isle_rulesets.specs.PatternTests.{is_constraint, path_at, NumbersPatterns}
+use Rattle.isle_rulesets.specs.PatternTests.{path_at, NumbersPatterns}
 use Rattle.isle_rulesets.specs.RightSides.{StandsAt, Stand, AreThere, IsKnown, AreKnown, NumbersExpr}
 use Rattle.isle_rulesets.specs.FlatRules.{Adds, rules_impure, Covers}
 use Rattle.isle_rulesets.proofs.PlacedPaths.{extends_self, extends_more, at_get, contains_kept}
@@ -136,6 +136,7 @@ rule_added terms old mid new r d none calls b f built bound built_terms numbered
           tested = λ t c. inl (subst (λ ts. Contains ts t) (sym tests) (parted_keeps (rule_tests env r) t (rule_can env r t built_env c) c));
           no_other = λ t c. let k = parted_from (rule_tests env r) t (subst (λ ts. Contains ts t) tests c) in (k, no_trivial env r t built_env k);
           once = subst EachOnce (sym tests) (parted_once (rule_tests env r) (rule_once env r built_env));
+          constraints = ap (map (is_test ps)) is.constraints ∙ dr.constraints ∙ ap (filter is_constraint) (sym (without_iflets env r built.iflets));
           prio = is.prio;
           pos = is.pos;
           iterators = subst (λ qs. AreFirsts [] qs (map (at ps) f.iterators)) (sym (none_in_rule env terms r old.calls same built_env built_terms)) (subst (λ bs. AreFirsts [] [] (map (at ps) bs)) (sym is.iterators) (no_more []));

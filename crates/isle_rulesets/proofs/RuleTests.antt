@@ -9,13 +9,13 @@ use Rattle.isle_core.specs.Making.{Making, MakesVariant, MakesStruct, MakesNothi
 use Rattle.isle_core.specs.Pattern as pattern
 use Rattle.isle_core.specs.Pattern.{Pattern, Patterns, NoPattern, APattern, Var, ConstBool, ConstInt, ConstPrim, Wildcard, BindPattern, And}
 use Rattle.isle_core.specs.Path.{Path, Arg}
-use Rattle.isle_core.specs.Tests.{Test, Is, Equal, Never, Places, no_places, met_tests, made_test, field_path, tests, parts_tests, after, args_tests, rule_tests}
+use Rattle.isle_core.specs.Tests.{Test, Is, Equal, Never, is_constraint, Places, no_places, met_tests, made_test, field_path, tests, parts_tests, after, args_tests, rule_tests}
 use Rattle.isle_core.specs.StandsFor.{EachOnce}
 use Rattle.isle_core.proofs.Within.{IsWithin, within_self, field_within, field_apart, siblings, args_apart}
 use Rattle.isle_core.proofs.SetMeans.{without_iflets}
 use Rattle.isle_core.specs.Rule.{Environment, Rule}
 use Rattle.isle_core.proofs.Contained.{head_contained, tail_contained, contained_cases, none_contained}
-use Rattle.isle_rulesets.specs.PatternTests.{is_constraint, is_equality}
+use Rattle.isle_rulesets.specs.PatternTests.{is_equality}
 use Rattle.isle_rulesets.proofs.PlacedPaths.{append_once}
 
 -- ---- each test once

@@ -7,18 +7,13 @@ use Rattle.isle_core.specs.Making.{Making}
 use Rattle.isle_core.specs.Pattern.{Pattern, Patterns}
 use Rattle.isle_core.specs.Path.{Path, at, paths_of}
 use Rattle.isle_core.specs.RulePaths.{pattern_paths, parts_paths, args_paths}
-use Rattle.isle_core.specs.Tests.{Test, Is, Equal, Never, Places, no_places, made_test, tests, parts_tests, after, after_parts, args_tests, args_after}
+use Rattle.isle_core.specs.Tests.{Test, Is, Equal, Never, is_constraint, Places, no_places, made_test, tests, parts_tests, after, after_parts, args_tests, args_after}
 use Rattle.isle_core.specs.RuleSet.{is_test, equal_test}
 use Rattle.isle_core.specs.Rule.{Environment}
 use Rattle.isle_rulesets.specs.declared.pattern_tests.PatternTests.{PatternTests}
 use Rattle.isle_rulesets.specs.Numbering.{Extends, Joins, Numbered}
 
--- a test that is a constraint, and one that is an equality
-abbrev pub is_constraint : Test → Bool
-is_constraint (Is p c) = true
-is_constraint (Equal p q) = false
-is_constraint Never = false
-
+-- whether a test is an equality
 abbrev pub is_equality : Test → Bool
 is_equality (Is p c) = false
 is_equality (Equal p q) = true

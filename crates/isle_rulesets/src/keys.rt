@@ -37,7 +37,7 @@ impl Key {
     pub fn binding(&self, alloc: Global) -> Result<Binding, AllocError>
         ensures { IfOk result (λ b. b ≡ key_binding self.now) }
     {
-        let binding = match self {
+        Ok(match self {
             Key::Argument(index) => Binding::Argument { index: *index },
             Key::ConstBool(val) => Binding::ConstBool {
                 val: *val,
@@ -71,7 +71,6 @@ impl Key {
                 ty: *ty,
                 fields: fields.copied(alloc)?,
             },
-        };
-        Ok(binding)
+        })
     }
 }

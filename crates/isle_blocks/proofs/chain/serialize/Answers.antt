@@ -10,6 +10,7 @@ use Rattle.isle_core.specs.ReturnPosition.{block_position}
 use Rattle.isle_core.specs.BlockLawful.{IsLawfulBlock}
 use Rattle.isle_core.specs.Setting.{setting}
 use Rattle.isle_core.specs.SingleArms.{HasSingleArms}
+use Rattle.isle_blocks.specs.Fields.{key_cmp, shown_cmp, FindsFields, places}
 use Rattle.isle_blocks.specs.Inners.{FindsInners}
 use Rattle.isle_blocks.specs.Chain.{chain}
 use Rattle.isle_blocks.proofs.LawChain.{chain_means}
@@ -21,28 +22,33 @@ pub returns-clause-means : goal.returns-clause-means
 returns-clause-means c = λ env m t args kind h.
     let s = c.args.rules.now in
     let inners : ℕ → Option BindingId = get nat_cmp c.in_ok-inners.inners in
-    let found : FindsInners s.bindings inners = subst (λ bs. FindsInners bs inners) c.as_slice.ensures c.in_ok-inners.ensures in
-    let is_chain : block c.in_ok-chained.field-0 ≡ chain inners s.rules = c.in_ok-chained.ensures ∙ ap (chain inners) c.as_slice-2.ensures in
-    ap (λ b. block_outcome env m args (paths_of s.bindings) b kind) is_chain ∙ chain_means env t m args s.bindings inners kind found h.once s.rules h.rules
+    let fields = c.in_ok-fields.fields in
+    let found : FindsInners s.bindings inners = subst (λ bs. FindsInners bs inners) c.as_slice-2.ensures c.in_ok-inners.ensures in
+    let is_chain : block c.in_ok-chained.field-0 ≡ chain (places fields) inners s.rules = c.in_ok-chained.ensures ∙ ap (chain (places fields) inners) c.as_slice-3.ensures in
+    ap (λ b. block_outcome env m args (paths_of s.bindings) b kind) is_chain ∙ chain_means (places fields) env t m args s.bindings inners kind found h.once s.rules h.rules
 
 pub returns-clause-lawful : goal.returns-clause-lawful
 returns-clause-lawful c = λ env t h.
     let s = c.args.rules.now in
     let inners : ℕ → Option BindingId = get nat_cmp c.in_ok-inners.inners in
-    let found : FindsInners s.bindings inners = subst (λ bs. FindsInners bs inners) c.as_slice.ensures c.in_ok-inners.ensures in
-    let is_chain : block c.in_ok-chained.field-0 ≡ chain inners s.rules = c.in_ok-chained.ensures ∙ ap (chain inners) c.as_slice-2.ensures in
-    subst (IsLawfulBlock (setting env t s.bindings)) (sym is_chain) (chain_lawful env t s.bindings inners found h.once s.rules h.rules)
+    let fields = c.in_ok-fields.fields in
+    let found : FindsInners s.bindings inners = subst (λ bs. FindsInners bs inners) c.as_slice-2.ensures c.in_ok-inners.ensures in
+    let is_chain : block c.in_ok-chained.field-0 ≡ chain (places fields) inners s.rules = c.in_ok-chained.ensures ∙ ap (chain (places fields) inners) c.as_slice-3.ensures in
+    let finds : FindsFields s.bindings (get key_cmp fields.found) (get shown_cmp fields.counts) = subst (λ bs. FindsFields bs (get key_cmp fields.found) (get shown_cmp fields.counts)) c.as_slice.ensures c.in_ok-fields.ensures in
+    subst (IsLawfulBlock (setting env t s.bindings)) (sym is_chain) (chain_lawful env t s.bindings (get key_cmp fields.found) (get shown_cmp fields.counts) inners finds found h.once h.fields s.rules h.rules)
 
 pub returns-clause-single : goal.returns-clause-single
 returns-clause-single c =
     let s = c.args.rules.now in
     let inners : ℕ → Option BindingId = get nat_cmp c.in_ok-inners.inners in
-    subst HasSingleArms (sym (c.in_ok-chained.ensures ∙ ap (chain inners) c.as_slice-2.ensures)) (chain_single inners s.rules)
+    let fields = c.in_ok-fields.fields in
+    subst HasSingleArms (sym (c.in_ok-chained.ensures ∙ ap (chain (places fields) inners) c.as_slice-3.ensures)) (chain_single (places fields) inners s.rules)
 
 pub returns-clause-positions : goal.returns-clause-positions
 returns-clause-positions c = λ env m t args h.
     let s = c.args.rules.now in
     let inners : ℕ → Option BindingId = get nat_cmp c.in_ok-inners.inners in
-    let found : FindsInners s.bindings inners = subst (λ bs. FindsInners bs inners) c.as_slice.ensures c.in_ok-inners.ensures in
-    let is_chain : block c.in_ok-chained.field-0 ≡ chain inners s.rules = c.in_ok-chained.ensures ∙ ap (chain inners) c.as_slice-2.ensures in
-    ap (λ b. block_position env m args (paths_of s.bindings) b nothing_known []) is_chain ∙ chain_positions env t m args s.bindings inners found h.once s.rules h.rules
+    let fields = c.in_ok-fields.fields in
+    let found : FindsInners s.bindings inners = subst (λ bs. FindsInners bs inners) c.as_slice-2.ensures c.in_ok-inners.ensures in
+    let is_chain : block c.in_ok-chained.field-0 ≡ chain (places fields) inners s.rules = c.in_ok-chained.ensures ∙ ap (chain (places fields) inners) c.as_slice-3.ensures in
+    ap (λ b. block_position env m args (paths_of s.bindings) b nothing_known []) is_chain ∙ chain_positions (places fields) env t m args s.bindings inners found h.once s.rules h.rules

@@ -1,0 +1,42 @@
+-- A path has one type.
+use Rattle.std.proofs.Common.{◌≡◌, ℕ, Option, Some, None, sym, ◌∙◌, subst}
+use Rattle.std.specs.Prelude.{slice_get, IsSomeAnd}
+use Rattle.isle_core.specs.declared.TypeId.{TypeId}
+use Rattle.isle_core.specs.declared.types.Term.{Term}
+use Rattle.isle_core.specs.Form.{Form, form, form_types}
+use Rattle.isle_core.specs.Making.{MakesVariant, MakesStruct}
+use Rattle.isle_core.specs.Path.{Path, Arg, ConstBool, ConstInt, ConstPrim, Called, MadeVariant, MadeStruct, VariantField, StructField, Inner, Paths}
+use Rattle.isle_core.specs.PathType.{IsPathOf, IsOptionOf, ArePathsOf}
+use Rattle.isle_core.specs.Rule.{Environment}
+use Rattle.isle_blocks.proofs.PushedLists.{some_same}
+
+-- a term answers one type
+answer_once : (env : Environment) (t : Term) (ps : Paths) (o : Option Term) (a b : TypeId) → IsSomeAnd o (λ (c : Term). (c.ret_ty ≡ a) × ArePathsOf env t ps c.arg_tys) → IsSomeAnd o (λ (c : Term). (c.ret_ty ≡ b) × ArePathsOf env t ps c.arg_tys) → a ≡ b
+answer_once env t ps None a b h k = absurd h
+answer_once env t ps (Some c) a b h k = sym h.0 ∙ k.0
+
+option_once : (env : Environment) (t : Term) (p : Path) (a b : TypeId) → IsOptionOf env t p a → IsOptionOf env t p b → a ≡ b
+option_once env t (Called term ps instance) a b h k = answer_once env t ps (slice_get env.terms term.0) a b h.1 k.1
+option_once env t p a b h k = absurd h
+
+-- a field of a form is of one type
+field_once : (env : Environment) (o : Option Form) (field : ℕ) (a b : TypeId) → IsSomeAnd o (λ f. slice_get (form_types env f) field ≡ Some a) → IsSomeAnd o (λ f. slice_get (form_types env f) field ≡ Some b) → a ≡ b
+field_once env None field a b h k = absurd h
+field_once env (Some f) field a b h k = some_same a b (sym h ∙ k)
+
+pub path_type_once : (env : Environment) (t : Term) (p : Path) (a b : TypeId) → IsPathOf env t p a → IsPathOf env t p b → a ≡ b
+path_type_once env t (Arg i) a b h k = some_same a b (sym h ∙ k)
+path_type_once env t (ConstBool of v) a b h k = sym h.0 ∙ k.0
+path_type_once env t (ConstInt of n) a b h k = sym h.0 ∙ k.0
+path_type_once env t (ConstPrim name) a b h k = some_same a b (sym h ∙ k)
+path_type_once env t (Called term ps instance) a b h k = answer_once env t ps (slice_get env.terms term.0) a b h.1 k.1
+path_type_once env t (Inner q) a b h k = option_once env t q a b h k
+path_type_once env t (MadeVariant of variant ps) a b h k = sym h.0 ∙ k.0
+path_type_once env t (MadeStruct of ps) a b h k = sym h.0 ∙ k.0
+path_type_once env t (VariantField variant field q) a b h k =
+    let same = path_type_once env t q h.0 k.0 h.1 k.1 in
+    field_once env (form env (MakesVariant k.0 variant)) field a b (subst (λ of. IsSomeAnd (form env (MakesVariant of variant)) (λ f. slice_get (form_types env f) field ≡ Some a)) same h.2) k.2
+path_type_once env t (StructField field q) a b h k =
+    let same = path_type_once env t q h.0 k.0 h.1 k.1 in
+    field_once env (form env (MakesStruct k.0)) field a b (subst (λ of. IsSomeAnd (form env (MakesStruct of)) (λ f. slice_get (form_types env f) field ≡ Some a)) same h.2) k.2
+path_type_once env t p a b h k = absurd h
