@@ -1,6 +1,7 @@
-pub mod PathAt
+pub mod FieldSteps
 pub mod Onto
-pub mod ReadSteps
+pub mod PushedLets
+pub mod NeededLets
 pub mod StatementSteps
 pub mod Roots
 pub mod EmittedLaws

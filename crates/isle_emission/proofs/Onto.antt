@@ -1,12 +1,10 @@
 -- Statements before a body, as statements are pushed; and the locals that lets bind.
-use Rattle.std.proofs.Common.{◌≡◌, ℕ, List, [], ◌∷◌, ◌++◌, Option, Some, None, map, refl, ap, ◌∙◌, append_assoc, rules}
-use Rattle.isle_base.specs.declared.ids.BindingId.{BindingId}
+use Rattle.std.proofs.Common.{◌≡◌, List, [], ◌∷◌, ◌++◌, Option, Some, None, map, refl, ap}
 use Rattle.isle_tree.specs.declared.tree.Stmt.{Stmt as CodeStmt}
 use Rattle.isle_tree.specs.Program.{Stmt, Body, Done}
 use Rattle.isle_tree.specs.Views.{stmt, body_of}
 use Rattle.isle_emission.specs.BodyOnto.{body_onto}
 use Rattle.isle_simulation.specs.Statements.{stmt_before}
-use Rattle.isle_core.specs.Bindable.{bound_by}
 
 pub onto_pushed : (xs : List CodeStmt) (x : CodeStmt) (end : Option Body) → body_onto (map stmt (xs ++ x ∷ [])) end ≡ body_onto (map stmt xs) (stmt_before (Some (stmt x)) end)
 onto_pushed [] x end = refl

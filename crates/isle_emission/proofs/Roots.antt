@@ -10,7 +10,8 @@ use Rattle.isle_tree.specs.declared.tree.Stmt.{Stmt as CodeStmt}
 use Rattle.isle_tree.specs.Program.{Tail, Body, Done}
 use Rattle.isle_tree.specs.Views.{stmt, body}
 use Rattle.isle_emission.specs.BodyOnto.{body_onto}
-use Rattle.isle_simulation.specs.Statements.{stmt_before, block_body}
+use Rattle.isle_emission.specs.MadeBodies.{made_body}
+use Rattle.isle_simulation.specs.Statements.{stmt_before}
 use Rattle.isle_simulation.specs.TermFunction.{is_return, ends_in_return, mark_in, tail_body, root_body}
 use Rattle.isle_emission.proofs.Onto.{onto_pushed, onto_done}
 
@@ -27,13 +28,13 @@ ends_at (y ∷ z ∷ ys) zero x n is = absurd (omega (arith, n))
 ends_at (y ∷ z ∷ ys) (suc i) x n is = ends_at (z ∷ ys) i x (omega (arith, n)) is
 
 pub root_ended : (files : Files) (s : Setting) (b : Block) (ss : List CodeStmt)
-    → ends_in_return b ≡ true → ((end : Option Body) → body_onto (map stmt ss) end ≡ block_body s [] b end) → Some (body ss) ≡ root_body files s b
+    → ends_in_return b ≡ true → ((end : Option Body) → body_onto (map stmt ss) end ≡ made_body s [] b end) → Some (body ss) ≡ root_body files s b
 root_ended files s b ss ends is =
-    sym (onto_done (map stmt ss)) ∙ is (Some Done) ∙ ap (λ e. block_body s [] b (Some (cond e Done (tail_body (mark_in files s.env s.term))))) (sym ends)
+    sym (onto_done (map stmt ss)) ∙ is (Some Done) ∙ ap (λ e. made_body s [] b (Some (cond e Done (tail_body (mark_in files s.env s.term))))) (sym ends)
 
 -- after a block that goes on stands the tail
 pub root_open : (files : Files) (s : Setting) (b : Block) (ss new : List CodeStmt) (last : CodeStmt)
-    → ends_in_return b ≡ false → ((end : Option Body) → body_onto (map stmt ss) end ≡ block_body s [] b end) → Some (stmt last) ≡ option_map Tail (mark_in files s.env s.term) → new ≡ ss ++ last ∷ []
+    → ends_in_return b ≡ false → ((end : Option Body) → body_onto (map stmt ss) end ≡ made_body s [] b end) → Some (stmt last) ≡ option_map Tail (mark_in files s.env s.term) → new ≡ ss ++ last ∷ []
     → Some (body new) ≡ root_body files s b
 root_open files s b ss new last ends is is_last pushed =
     ap (λ xs. Some (body xs)) pushed
@@ -41,7 +42,7 @@ root_open files s b ss new last ends is is_last pushed =
     ∙ onto_pushed ss last (Some Done)
     ∙ ap (body_onto (map stmt ss)) (tail_last (mark_in files s.env s.term) is_last)
     ∙ is (Some (tail_body (mark_in files s.env s.term)))
-    ∙ ap (λ e. block_body s [] b (Some (cond e Done (tail_body (mark_in files s.env s.term))))) (sym ends)
+    ∙ ap (λ e. made_body s [] b (Some (cond e Done (tail_body (mark_in files s.env s.term))))) (sym ends)
   where
     tail_last : (mark : Option (Option (List ℕ × List ℕ))) → Some (stmt last) ≡ option_map Tail mark → stmt_before (Some (stmt last)) (Some Done) ≡ Some (tail_body mark)
     tail_last (Some m) e = ap (λ o. stmt_before o (Some Done)) e
@@ -49,13 +50,13 @@ root_open files s b ss new last ends is is_last pushed =
 
 -- or none, where the kind has none
 pub root_bare : (files : Files) (s : Setting) (b : Block) (ss : List CodeStmt)
-    → ends_in_return b ≡ false → ((end : Option Body) → body_onto (map stmt ss) end ≡ block_body s [] b end) → None ≡ option_map Tail (mark_in files s.env s.term)
+    → ends_in_return b ≡ false → ((end : Option Body) → body_onto (map stmt ss) end ≡ made_body s [] b end) → None ≡ option_map Tail (mark_in files s.env s.term)
     → Some (body ss) ≡ root_body files s b
 root_bare files s b ss ends is none =
     sym (onto_done (map stmt ss))
     ∙ is (Some Done)
-    ∙ ap (λ t. block_body s [] b (Some t)) (no_tail (mark_in files s.env s.term) none)
-    ∙ ap (λ e. block_body s [] b (Some (cond e Done (tail_body (mark_in files s.env s.term))))) (sym ends)
+    ∙ ap (λ t. made_body s [] b (Some t)) (no_tail (mark_in files s.env s.term) none)
+    ∙ ap (λ e. made_body s [] b (Some (cond e Done (tail_body (mark_in files s.env s.term))))) (sym ends)
   where
     no_tail : (mark : Option (Option (List ℕ × List ℕ))) → None ≡ option_map Tail mark → Done ≡ tail_body mark
     no_tail None e = refl

@@ -1,6 +1,9 @@
 pub mod Built
-pub mod Contexts
+pub mod Binds
+pub mod MadeValues
 pub mod BodyOnto
+pub mod PushedLets
+pub mod MadeBodies
 pub mod Views
 pub mod Origin
 pub mod MayEmit

@@ -11,11 +11,6 @@ use Rattle.isle_tree.specs.declared.tree.TraitFn.{TraitFn}
 use Rattle.isle_tree.specs.Program.{Body}
 use Rattle.isle_tree.specs.Views.{body}
 
--- the items of a vector, where it is there
-abbrev pub items_of : {A : Type 0} → Option (Vec A) → Option (List A)
-items_of None = None
-items_of (Some v) = Some v.items
-
 -- the body of statements, where they are there
 abbrev pub body_in : Option (Vec CodeStmt) → Option Body
 body_in None = None

@@ -1,17 +1,16 @@
-//! What bound locals compute: calls, and the inner values of options.
+//! Calls.
 
-ghost use Rattle.std.specs.Prelude.{◌≡◌, IfOk};
+ghost use Rattle.std.specs.Prelude.{◌≡◌, IfOk, slice_get};
 ghost use Rattle.isle_core.specs.Calling.{calling};
-ghost use Rattle.isle_emission.specs.Contexts.{env_of, setting_of};
+ghost use Rattle.isle_operands.specs.Contexts.{env_of};
+ghost use Rattle.isle_operands.specs.Typed.{setting_in};
+ghost use Rattle.isle_operands.specs.Views.{items_of};
 ghost use Rattle.isle_simulation.specs.Statements as Statements;
-ghost use Rattle.isle_emission.specs.Views.{items_of};
 
-use crate::context::Context;
-use crate::operands::{in_place, operand_of};
-use crate::signature::sym_name;
-use isle_core::{Binding, BindingId, Callee, ConstructorKind, List, TermId, TermKind};
+use isle_core::{BindingId, Callee, ConstructorKind, List, TermId, TermKind};
+use isle_operands::{Context, Typed, is_by_ref, reads, sym_name};
 use isle_scope::Scope;
-use isle_tree::{Operand, Read, TCall, TExpr};
+use isle_tree::{Read, TCall, TExpr};
 use std::alloc::{AllocError, Global};
 
 // Returns what a call of the term of this number goes to: its external function, or the function of the text that its
@@ -44,31 +43,12 @@ fn callee_of(
     }
 }
 
-// Makes the operands of bindings as they are read, in order, where each has one.
-fn reads(
-    alloc: Global,
-    context: &Context<'_>,
-    bound: &Scope,
-    bindings: &[BindingId],
-) -> Result<Option<Vec<Read>>, AllocError>
-    ensures { IfOk result (λ reads. items_of reads ≡ Statements.reads (setting_of context.now) bound.now bindings.now) }
-{
-    let mut reads = Vec::new(alloc);
-    for binding in bindings {
-        let Some(operand) = operand_of(context, bound, *binding) else {
-            return Ok(None);
-        };
-        reads.push(Read::Plain(operand))?;
-    }
-    Ok(Some(reads))
-}
-
-// Makes a call of what is called on what is read.
-fn call_on(callee: Option<Callee>, args: Option<Vec<Read>>) -> Option<TExpr>
-    ensures { result ≡ Statements.call_on callee (items_of args) }
+// Makes a call of what is called on what is read, behind a `&` or not.
+fn call_on(borrow: bool, callee: Option<Callee>, args: Option<Vec<Read>>) -> Option<TExpr>
+    ensures { result ≡ Statements.call_on borrow callee (items_of args) }
 {
     Some(TExpr::Call {
-        borrow: false,
+        borrow,
         call: TCall {
             callee: callee?,
             args: List::new(args?),
@@ -76,57 +56,21 @@ fn call_on(callee: Option<Callee>, args: Option<Vec<Read>>) -> Option<TExpr>
     })
 }
 
-// Makes the inner value of an option.
-fn inner_of(source: Option<Operand>) -> Option<TExpr>
-    ensures { result ≡ Statements.inner_of source }
-{
-    Some(TExpr::Try {
-        source: source?,
-        as_ref: false,
-    })
-}
-
-// Makes a read of an operand.
-fn read_of(operand: Option<Operand>) -> Option<TExpr>
-    ensures { result ≡ Statements.read_of operand }
-{
-    Some(TExpr::Read(Read::Plain(operand?)))
-}
-
-/// Makes what the local of a binding computes: a call, the inner value of an option, or what is read in place.
-pub fn bound_expr(
+/// Makes a call of the term of this number on bindings, behind a `&` where it gives an enum or a struct.
+pub fn call_of(
     alloc: Global,
-    context: &Context<'_>,
+    typed: &Typed<'_>,
     bound: &Scope,
-    binding: BindingId,
+    term: TermId,
+    parameters: &[BindingId],
 ) -> Result<Option<TExpr>, AllocError>
-    ensures { IfOk result (λ e. e ≡ Statements.bound_expr (setting_of context.now) bound.now binding) }
+    ensures { IfOk result (λ e. e ≡ Statements.call_of (setting_in typed.now) bound.now (slice_get (setting_in typed.now).env.terms term.0) (Statements.callee_of (calling (setting_in typed.now).env term)) parameters.now) }
 {
-    match context.bindings.get(binding.index()) {
-        Some(
-            Binding::Constructor {
-                term,
-                parameters,
-                ..
-            },
-        ) => {
-            let callee = callee_of(alloc, context, *term)?;
-            let args = reads(alloc, context, bound, parameters.as_slice())?;
-            Ok(call_on(callee, args))
-        }
-        Some(Binding::MatchSome { source }) => { Ok(inner_of(operand_of(context, bound, *source))) }
-        Some(Binding::Argument { .. })
-        | Some(Binding::ConstBool { .. })
-        | Some(Binding::ConstInt { .. }) => Ok(read_of(in_place(context, binding))),
-        Some(Binding::ConstPrim { .. })
-        | Some(Binding::Extractor { .. })
-        | Some(Binding::Iterator { .. })
-        | Some(Binding::MakeVariant { .. })
-        | Some(Binding::MakeStruct { .. })
-        | Some(Binding::MatchVariant { .. })
-        | Some(Binding::ExtractStruct { .. })
-        | Some(Binding::MakeSome { .. })
-        | Some(Binding::MatchTuple { .. })
-        | None => Ok(None),
-    }
+    let Some(called) = typed.context.termenv.terms.as_slice().get(term.index()) else {
+        return Ok(None);
+    };
+    let callee = callee_of(alloc, &typed.context, term)?;
+    let args = reads(alloc, typed, bound, called.arg_tys.as_slice(), parameters)?;
+    let borrow = is_by_ref(typed.context.typeenv, called.ret_ty);
+    Ok(call_on(borrow, callee, args))
 }

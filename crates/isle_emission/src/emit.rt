@@ -4,33 +4,36 @@ ghost use Rattle.std.specs.Prelude.{◌≡◌, map, option_map, IfOk};
 ghost use Rattle.isle_core.specs.BlockViews as BlockViews;
 ghost use Rattle.isle_core.specs.Places.{LiesIn};
 ghost use Rattle.isle_tree.specs.Views as Views;
-ghost use Rattle.isle_emission.specs.Contexts.{setting_of};
-ghost use Rattle.isle_emission.specs.Built.{IsBuilt};
+ghost use Rattle.isle_operands.specs.Contexts.{setting_of};
 ghost use Rattle.isle_core.specs.LineStarts.{starts_of};
-ghost use Rattle.isle_emission.specs.Origin.{origin};
-ghost use Rattle.isle_emission.specs.MayEmit.{MayEmitTerm};
+ghost use Rattle.isle_emission.specs.Built.{IsBuilt};
 ghost use Rattle.isle_emission.specs.EmittedTerm.{IsGiven, IsWellFormedIn, HasBlockShape, RunsAsItsBlock};
+ghost use Rattle.isle_emission.specs.MayEmit.{MayEmitTerm};
+ghost use Rattle.isle_emission.specs.Origin.{origin};
 ghost use Rattle.isle_simulation.specs.TermFunction as TermFunction;
 
-use crate::context::{Context, kind_of};
 use crate::root::root_stmts;
-use crate::signature::{params, sym_name, ty_name};
 use isle_core::{
     Block, CodegenOptions, Files, LineStarts, List, OutOfMemory, RuleSet, TermEnv, TermId, TypeEnv,
+};
+use isle_operands::{
+    ConstTypes, Context, Typed, binding_types, kind_of, params, sym_name, ty_name,
 };
 use isle_tree::Function;
 use std::alloc::Global;
 
-/// Makes the function of a term from its context and its block, where its forms are built. The table is that of the files.
-/// Fails for want of memory alone.
+/// Makes the function of a term from its context and its block, where its forms are built. The table is that of the files,
+/// and the constants are those of the context. Fails for want of memory alone.
 pub fn term_function(
     alloc: Global,
     files: &Files,
     starts: &LineStarts,
+    consts: &ConstTypes<'_>,
     context: &Context<'_>,
     block: &Block,
 ) -> Result<Option<Function>, OutOfMemory>
     requires starts { starts.now ≡ map starts_of files.now.file_texts }
+    requires consts { consts.now ≡ context.now.typeenv.now.consts }
     requires place { LiesIn files.now context.now.term.now.decl_pos }
     ensures { IfOk result (λ f. option_map Views.function f ≡ TermFunction.term_function files.now (setting_of context.now) (BlockViews.block block.now)) }
 {
@@ -43,7 +46,12 @@ pub fn term_function(
         term.arg_tys.as_slice(),
     )?;
     let result = ty_name(alloc, context.typeenv, term.ret_ty)?;
-    let Some(body) = root_stmts(alloc, files, starts, context, block)? else {
+    let types = binding_types(alloc, context, consts)?;
+    let typed = Typed {
+        context: *context,
+        types: types.as_slice(),
+    };
+    let Some(body) = root_stmts(alloc, files, starts, &typed, block)? else {
         return Ok(None);
     };
     Ok(Some(Function {
@@ -82,7 +90,8 @@ pub fn emit_term(
         term: &termenv.terms.as_slice()[term.index()],
         bindings: rules.bindings.as_slice(),
     };
-    match term_function(alloc, files, &starts, &context, block)? {
+    let consts = ConstTypes::new(alloc, typeenv.consts.as_slice())?;
+    match term_function(alloc, files, &starts, &consts, &context, block)? {
         Some(function) => Ok(function),
         None => unreachable!(),
     }

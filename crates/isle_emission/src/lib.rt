@@ -2,14 +2,15 @@
 #![tactic(auto)]
 
 mod calls;
-mod context;
+mod computed;
 mod emit;
 mod externals;
-mod operands;
+mod lets;
+mod made;
+mod patterns;
 mod root;
-mod signature;
 mod statements;
 
-pub use context::Context;
 pub use emit::{emit_term, term_function};
 pub use externals::trait_fns;
+pub use isle_operands::{ConstTypes, Context};

@@ -5,15 +5,15 @@ ghost use Rattle.isle_core.specs.BlockViews as BlockViews;
 ghost use Rattle.isle_core.specs.Places.{LiesIn};
 ghost use Rattle.isle_tree.specs.Program.{Tail};
 ghost use Rattle.isle_tree.specs.Views.{stmt};
-ghost use Rattle.isle_emission.specs.Contexts.{env_of, setting_of};
+ghost use Rattle.isle_operands.specs.Contexts.{env_of};
+ghost use Rattle.isle_operands.specs.Typed.{setting_in};
 ghost use Rattle.isle_core.specs.LineStarts.{starts_of};
 ghost use Rattle.isle_simulation.specs.TermFunction as TermFunction;
 ghost use Rattle.isle_emission.specs.Views.{body_in};
 
-use crate::context::{Context, kind_of};
-use crate::signature::sym_name;
 use crate::statements::block_stmts;
 use isle_core::{Block, ControlFlow, Files, LineStarts, OutOfMemory, ReturnKind, Text};
+use isle_operands::{Context, Typed, kind_of, sym_name};
 use isle_scope::Scope;
 use isle_tree::Stmt;
 use std::alloc::Global;
@@ -70,21 +70,21 @@ pub fn root_stmts(
     alloc: Global,
     files: &Files,
     starts: &LineStarts,
-    context: &Context<'_>,
+    typed: &Typed<'_>,
     block: &Block,
 ) -> Result<Option<Vec<Stmt>>, OutOfMemory>
     requires starts { starts.now ≡ map starts_of files.now.file_texts }
-    requires place { LiesIn files.now context.now.term.now.decl_pos }
-    ensures { IfOk result (λ stmts. body_in stmts ≡ TermFunction.root_body files.now (setting_of context.now) (BlockViews.block block.now)) }
+    requires place { LiesIn files.now typed.now.context.term.now.decl_pos }
+    ensures { IfOk result (λ stmts. body_in stmts ≡ TermFunction.root_body files.now (setting_in typed.now) (BlockViews.block block.now)) }
 {
     let mut bound = Scope::new(alloc);
-    let Some(mut stmts) = block_stmts(alloc, context, &mut bound, block)? else {
+    let Some(mut stmts) = block_stmts(alloc, typed, &mut bound, block)? else {
         return Ok(None);
     };
     if ends_in_return(block) {
         return Ok(Some(stmts));
     }
-    let Some(last) = tail(alloc, files, starts, context)? else {
+    let Some(last) = tail(alloc, files, starts, &typed.context)? else {
         return Ok(Some(stmts));
     };
     stmts.push(last)?;

@@ -1,51 +1,29 @@
 //! The statements of a block.
 
-ghost use Rattle.std.specs.Prelude.{◌≡◌, ◌++◌, List as ListOf, ℕ, true as Yes, option_map, IfOk, OnOk};
-ghost use Rattle.isle_core.specs.Bindable.{bound_by};
+ghost use Rattle.std.specs.Prelude.{◌≡◌, ◌++◌, [], ◌∷◌, List as ListOf, ℕ, Some as Is, option_map, IfOk, OnOk};
+ghost use Rattle.isle_core.specs.ArmPlaces.{bound_within};
 ghost use Rattle.isle_core.specs.BlockViews as BlockViews;
 ghost use Rattle.isle_tree.specs.Program.{Done};
 ghost use Rattle.isle_tree.specs.Views.{stmt};
-ghost use Rattle.isle_emission.specs.BodyOnto.{onto, stmts_of, AreMadeAs, ArePushedAs};
-ghost use Rattle.isle_emission.specs.Contexts.{setting_of};
-ghost use Rattle.isle_simulation.specs.Statements as Statements;
+ghost use Rattle.isle_emission.specs.BodyOnto.{onto, stmts_of, AreMadeAs};
+ghost use Rattle.isle_emission.specs.MadeBodies.{made_body, made_control, made_arms};
+ghost use Rattle.isle_operands.specs.Typed.{setting_in};
 ghost use Rattle.isle_emission.specs.Views.{steps_block, match_arms};
+ghost use Rattle.isle_simulation.specs.Statements as Statements;
 
-use crate::calls::bound_expr;
-use crate::context::{Context, kind_of};
-use crate::operands::{operand_of, tested};
-use isle_core::{BindingId, Block, ControlFlow, EvalStep, List, MatchArm, ReturnKind};
+use crate::lets::push_lets;
+use crate::patterns::pattern_of;
+use isle_core::{BindingId, Block, Constraint, ControlFlow, EvalStep, List, MatchArm, ReturnKind};
+use isle_operands::{Typed, kind_of, operand_of, read_in, tested};
 use isle_scope::Scope;
-use isle_tree::{Operand, Read, Stmt, TExpr};
+use isle_tree::{Operand, Read, Stmt, TExpr, TPat};
 use std::alloc::{AllocError, Global};
 
-// Binds each binding in its local, behind what is there, and returns whether each has something that its local computes.
-#[tactic(auto, using(isle_tree::proofs::Sees::sees))]
-fn push_lets(
-    alloc: Global,
-    context: &Context<'_>,
-    bound: &mut Scope,
-    bindings: &[BindingId],
-    out: &mut Vec<Stmt>,
-) -> Result<bool, AllocError>
-    ensures lets { IfOk result (λ made. ArePushedAs made out.old.items out.new.items (Statements.lets (setting_of context.now) bound.old bindings.now)) }
-    ensures bound { IfOk result (λ made. made ≡ Yes → bound.new ≡ bound_by bound.old bindings.now) }
-    ensures grows { OnOk result ((more : ListOf ℕ) × (bound.new ≡ bound.old ++ more)) }
-{
-    for binding in bindings {
-        let Some(computed) = bound_expr(alloc, context, bound, *binding)? else {
-            return Ok(false);
-        };
-        out.push(Stmt::Let(binding.index(), computed))?;
-        bound.bind(binding.index())?;
-    }
-    Ok(true)
-}
-
 // Makes a return: of a term that may answer nothing an option.
-fn return_of(kind: ReturnKind, operand: Option<Operand>) -> Option<Stmt>
-    ensures { option_map stmt result ≡ Statements.return_of kind operand }
+fn return_of(kind: ReturnKind, read: Option<Read>) -> Option<Stmt>
+    ensures { option_map stmt result ≡ Statements.return_of kind read }
 {
-    let read = Read::Plain(operand?);
+    let read = read?;
     match kind {
         ReturnKind::Plain => Some(Stmt::Return(TExpr::Read(read))),
         ReturnKind::Option => Some(Stmt::Return(TExpr::Some(read))),
@@ -56,9 +34,66 @@ fn return_of(kind: ReturnKind, operand: Option<Operand>) -> Option<Stmt>
 // Makes a test of two operands.
 #[tactic(auto, using(isle_tree::proofs::Sees::sees))]
 fn if_eq(a: Option<Operand>, b: Option<Operand>, inside: Option<Vec<Stmt>>) -> Option<Stmt>
-    ensures { option_map stmt result ≡ Statements.if_eq a b (onto (stmts_of inside) (Some Done)) }
+    ensures { option_map stmt result ≡ Statements.if_eq a b (onto (stmts_of inside) (Is Done)) }
 {
     Some(Stmt::IfEq(a?, b?, List::new(inside?)))
+}
+
+// Makes a test by a pattern.
+#[tactic(auto, using(isle_tree::proofs::Sees::sees))]
+fn if_let(pat: Option<TPat>, read: Option<Read>, inside: Option<Vec<Stmt>>) -> Option<Stmt>
+    ensures { option_map stmt result ≡ Statements.if_let pat read (onto (stmts_of inside) (Is Done)) }
+{
+    Some(Stmt::IfLet(pat?, read?, List::new(inside?)))
+}
+
+// Makes the test of a binding against a constraint.
+fn arm_stmt(
+    alloc: Global,
+    typed: &Typed<'_>,
+    bound: &Scope,
+    source: BindingId,
+    constraint: Constraint,
+    places: &[Option<BindingId>],
+    inside: Option<Vec<Stmt>>,
+) -> Result<Option<Stmt>, AllocError>
+    ensures { IfOk result (λ s. option_map stmt s ≡ Statements.arm_stmt (setting_in typed.now) bound.now source constraint places.now (onto (stmts_of inside) (Is Done))) }
+{
+    let context = &typed.context;
+    match constraint {
+        Constraint::ConstBool { .. } | Constraint::ConstInt { .. } | Constraint::ConstPrim { .. } =>
+            {
+                let operand = operand_of(alloc, context, bound, source)?;
+                Ok(if_eq(operand, tested(alloc, context, constraint)?, inside))
+            }
+        Constraint::Variant { .. } | Constraint::Struct { .. } => {
+            let pat = pattern_of(alloc, context, constraint, places)?;
+            Ok(if_let(pat, read_in(alloc, typed, bound, true, source)?, inside))
+        }
+        Constraint::Some => Ok(None),
+    }
+}
+
+// Binds what a place binds.
+fn bind_place(bound: &mut Scope, place: Option<BindingId>) -> Result<(), AllocError>
+    ensures more { OnOk result (bound.new ≡ bound_within bound.old (place ∷ [])) }
+    ensures grows { OnOk result ((more : ListOf ℕ) × (bound.new ≡ bound.old ++ more)) }
+{
+    match place {
+        Some(local) => bound.bind(local.index()),
+        None => Ok(()),
+    }
+}
+
+// Binds what places bind, in order.
+fn bind_places(bound: &mut Scope, places: &[Option<BindingId>]) -> Result<(), AllocError>
+    ensures more { OnOk result (bound.new ≡ bound_within bound.old places.now) }
+    ensures grows { OnOk result ((more : ListOf ℕ) × (bound.new ≡ bound.old ++ more)) }
+{
+    for place in places {
+        bind_place(bound, *place)?;
+    }
+    Ok(())
 }
 
 /// Makes the statements of a block, where its forms are built. What is bound is the same behind them.
@@ -66,15 +101,15 @@ fn if_eq(a: Option<Operand>, b: Option<Operand>, inside: Option<Vec<Stmt>>) -> O
 #[tactic(auto, using(isle_core::proofs::SeesBlocks::sees_blocks))]
 pub fn block_stmts(
     alloc: Global,
-    context: &Context<'_>,
+    typed: &Typed<'_>,
     bound: &mut Scope,
     block: &Block,
 ) -> Result<Option<Vec<Stmt>>, AllocError>
-    ensures stmts { IfOk result (λ stmts. AreMadeAs stmts (Statements.block_body (setting_of context.now) bound.old (BlockViews.block block.now))) }
+    ensures stmts { IfOk result (λ stmts. AreMadeAs stmts (made_body (setting_in typed.now) bound.old (BlockViews.block block.now))) }
     ensures bound { OnOk result (bound.new ≡ bound.old) }
 {
     let len = bound.len();
-    let stmts = step_stmts(alloc, context, bound, block.steps.as_slice())?;
+    let stmts = step_stmts(alloc, typed, bound, block.steps.as_slice())?;
     bound.truncate(len);
     Ok(stmts)
 }
@@ -84,19 +119,20 @@ pub fn block_stmts(
 #[tactic(auto, using(isle_core::proofs::SeesBlocks::sees_blocks))]
 fn step_stmts(
     alloc: Global,
-    context: &Context<'_>,
+    typed: &Typed<'_>,
     bound: &mut Scope,
     steps: &[EvalStep],
 ) -> Result<Option<Vec<Stmt>>, AllocError>
-    ensures stmts { IfOk result (λ stmts. AreMadeAs stmts (Statements.block_body (setting_of context.now) bound.old (steps_block steps.now))) }
+    ensures stmts { IfOk result (λ stmts. AreMadeAs stmts (made_body (setting_in typed.now) bound.old (steps_block steps.now))) }
     ensures grows { OnOk result ((more : ListOf ℕ) × (bound.new ≡ bound.old ++ more)) }
 {
     let mut out = Vec::new(alloc);
     for step in steps {
-        if !push_lets(alloc, context, bound, step.bind_order.as_slice(), &mut out)? {
+        let binds = step.bind_order.as_slice();
+        if !push_lets(alloc, typed, bound, binds, &step.check, &mut out)? {
             return Ok(None);
         }
-        let Some(made) = control_stmt(alloc, context, bound, &step.check)? else {
+        let Some(made) = control_stmt(alloc, typed, bound, &step.check)? else {
             return Ok(None);
         };
         out.push(made)?;
@@ -109,51 +145,68 @@ fn step_stmts(
 #[tactic(auto, using(isle_core::proofs::SeesBlocks::sees_blocks, isle_tree::proofs::Sees::sees))]
 fn control_stmt(
     alloc: Global,
-    context: &Context<'_>,
+    typed: &Typed<'_>,
     bound: &mut Scope,
     control: &ControlFlow,
 ) -> Result<Option<Stmt>, AllocError>
-    ensures stmt { IfOk result (λ s. option_map stmt s ≡ Statements.control_stmt (setting_of context.now) bound.old (BlockViews.control control.now)) }
+    ensures stmt { IfOk result (λ s. option_map stmt s ≡ made_control (setting_in typed.now) bound.old (BlockViews.control control.now)) }
     ensures bound { OnOk result (bound.new ≡ bound.old) }
 {
     match control {
         ControlFlow::Match { source, arms } => {
-            let source = operand_of(context, bound, *source);
-            Ok(arms_stmt(alloc, context, bound, source, arms.as_slice())?)
+            Ok(arms_stmt(alloc, typed, bound, *source, arms.as_slice())?)
         }
         ControlFlow::Equal { a, b, body } => {
-            let a = operand_of(context, bound, *a);
-            let b = operand_of(context, bound, *b);
-            let inside = block_stmts(alloc, context, bound, body)?;
+            let a = operand_of(alloc, &typed.context, bound, *a)?;
+            let b = operand_of(alloc, &typed.context, bound, *b)?;
+            let inside = block_stmts(alloc, typed, bound, body)?;
             Ok(if_eq(a, b, inside))
         }
         ControlFlow::Loop { .. } => Ok(None),
         ControlFlow::Return { result, .. } => {
-            Ok(return_of(
-                kind_of(&context.term.kind),
-                operand_of(context, bound, *result),
-            ))
+            let kind = kind_of(&typed.context.term.kind);
+            Ok(return_of(kind, read_in(alloc, typed, bound, false, *result)?))
         }
     }
 }
 
-// Makes the test of an operand against the one arm's constraint.
+// Makes the statements of an arm, within which its places are bound.
+#[cycle(statements)]
+fn arm_stmts(
+    alloc: Global,
+    typed: &Typed<'_>,
+    bound: &mut Scope,
+    places: &[Option<BindingId>],
+    body: &Block,
+) -> Result<Option<Vec<Stmt>>, AllocError>
+    ensures stmts { IfOk result (λ stmts. AreMadeAs stmts (made_body (setting_in typed.now) (bound_within bound.old places.now) (BlockViews.block body.now))) }
+    ensures bound { OnOk result (bound.new ≡ bound.old) }
+{
+    let outer = bound.len();
+    bind_places(bound, places)?;
+    let stmts = block_stmts(alloc, typed, bound, body)?;
+    bound.truncate(outer);
+    Ok(stmts)
+}
+
+// Makes the test of a binding against the one arm's constraint.
 #[cycle(statements)]
 #[tactic(auto, using(isle_core::proofs::SeesBlocks::sees_blocks, isle_tree::proofs::Sees::sees))]
 fn arms_stmt(
     alloc: Global,
-    context: &Context<'_>,
+    typed: &Typed<'_>,
     bound: &mut Scope,
-    source: Option<Operand>,
+    source: BindingId,
     arms: &[MatchArm],
 ) -> Result<Option<Stmt>, AllocError>
-    ensures stmt { IfOk result (λ s. option_map stmt s ≡ Statements.arms_stmt (setting_of context.now) bound.old source (match_arms arms.now)) }
+    ensures stmt { IfOk result (λ s. option_map stmt s ≡ made_arms (setting_in typed.now) bound.old source (match_arms arms.now)) }
     ensures bound { OnOk result (bound.new ≡ bound.old) }
 {
     if arms.len() != 1 {
         return Ok(None);
     }
     let arm = &arms[0];
-    let inside = block_stmts(alloc, context, bound, &arm.body)?;
-    Ok(if_eq(source, tested(context, arm.constraint), inside))
+    let places = arm.bindings.as_slice();
+    let inside = arm_stmts(alloc, typed, bound, places, &arm.body)?;
+    Ok(arm_stmt(alloc, typed, bound, source, arm.constraint, places, inside)?)
 }

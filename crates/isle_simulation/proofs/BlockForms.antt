@@ -1,8 +1,9 @@
 -- The statements of a block are of the forms that are built.
-use Rattle.std.proofs.Common.{◌≡◌, ⊎_elim, ℕ, ℤ, List, [], ◌∷◌, ◌++◌, Bool, true, false, Option, Some, None, refl, sym, subst}
-use Rattle.std.specs.Prelude.{IsSomeAnd, Contains, slice_get}
+use Rattle.std.proofs.Common.{◌≡◌, ⊎_elim, ℕ, ℤ, List, [], ◌∷◌, ◌++◌, map, Bool, true, false, Option, Some, None, refl, sym, ◌∙◌, subst, arith}
+use Rattle.std.specs.Prelude.{IsSomeAnd, option_map, slice_get}
 use Rattle.std.specs.List.{AllByRecursion}
 use Rattle.isle_core.specs.declared.BindingId.{BindingId}
+use Rattle.isle_core.specs.declared.Sym.{Sym}
 use Rattle.isle_core.specs.declared.TypeId.{TypeId}
 use Rattle.isle_core.specs.declared.rule_sets.Constraint.{Constraint}
 use Rattle.isle_core.specs.declared.rule_sets.Constraint.TheVariants as constraint
@@ -12,115 +13,213 @@ use Rattle.isle_core.specs.declared.types.TypeDef.TheVariants as def
 use Rattle.isle_core.specs.declared.types.ReturnKind.{ReturnKind}
 use Rattle.isle_core.specs.declared.types.ReturnKind.TheVariants as return_kind
 use Rattle.isle_core.specs.declared.types.Term.{Term}
-use Rattle.isle_core.specs.BuiltinType.{IsBuiltinDef, IsBuiltinType}
-use Rattle.isle_core.specs.HasType.{IsOfDef, HasType}
-use Rattle.isle_core.specs.Constants.{int_of_def, int_value}
 use Rattle.isle_core.specs.declared.rule_sets.Binding.{Binding}
 use Rattle.isle_core.specs.declared.rule_sets.Binding.TheVariants as binding
-use Rattle.isle_core.specs.Path.{Path, Arg, ConstBool, ConstInt, at, paths_of}
+use Rattle.isle_core.specs.ArmPlaces.{bound_within}
+use Rattle.isle_core.specs.HasType.{typed_fields, IsOfDef, HasType}
+use Rattle.isle_core.specs.Calling.{calling, kind_of}
+use Rattle.isle_core.specs.Constants.{int_of_def, int_value}
+use Rattle.isle_core.specs.Form.{Form, form, form_types}
+use Rattle.isle_core.specs.Making.{Making, MakesVariant, MakesStruct}
+use Rattle.isle_core.specs.Path.{Path, Paths, Arg, ConstBool, ConstInt, ConstPrim, MadeStruct, NoPath, APath, at}
 use Rattle.isle_core.specs.Block as block
-use Rattle.isle_core.specs.Block.{Block, Stop, Step, Control}
-use Rattle.isle_core.specs.Bindable.{IsBindable, AreBindable, bound_by}
-use Rattle.isle_core.specs.BlockLawful.{IsLawfulFrom, IsLawfulControl}
+use Rattle.isle_core.specs.Block.{Block, Stop, Step, Control, Arm, NoArm}
+use Rattle.isle_core.specs.Bindable.{IsPlain, bound_by}
 use Rattle.isle_core.specs.ConstraintType.{IsConstraintOf}
-use Rattle.isle_core.specs.PathType.{IsPathOf}
-use Rattle.isle_core.specs.Readable.{IsInPlace, IsReadAs, AreReadAs}
+use Rattle.isle_core.specs.PathType.{IsPathOf, ArePathsOf}
+use Rattle.isle_core.specs.PatternType.{IsNumericDef}
 use Rattle.isle_core.specs.Rule.{Environment}
 use Rattle.isle_core.specs.SingleArms.{HasSingleArms, IsSingle}
-use Rattle.isle_core.specs.Setting.{setting}
-use Rattle.isle_core.proofs.ReadablePaths.{read_place}
+use Rattle.isle_core.specs.Setting.{Setting, paths_in}
+use Rattle.isle_core.specs.Terms.{sym_text}
+use Rattle.isle_spelling.specs.Names.{IsName, IsFieldName}
 use Rattle.isle_tree.specs.declared.tree.Operand.{Operand}
+use Rattle.isle_tree.specs.declared.tree.Operand.TheVariants as operand
+use Rattle.isle_tree.specs.declared.tree.Read.{Read}
+use Rattle.isle_tree.specs.declared.tree.TBind.{TBind}
 use Rattle.isle_tree.specs.Program.{Body, Done, Then}
-use Rattle.isle_tree.specs.WellFormed.{IsOperand, IsRead, IsExpr, IsStmt, IsBody}
-use Rattle.isle_simulation.proofs.Written.{block_body, bound_expr, control_stmt, lets, reads, returned, written_constant, written_operand, written_place, written_test}
-use Rattle.isle_simulation.specs.Operands.{is_bound}
+use Rattle.isle_tree.specs.WellFormed.{IsOperand, IsRead, IsFieldRead, IsExpr, IsBind, IsPattern, IsStmt, IsBody}
+use Rattle.isle_simulation.specs.Operands.{constant, in_place, is_bound}
+use Rattle.isle_simulation.specs.Patterns.{bind_before, field_binds, pattern_named, pattern_of}
+use Rattle.isle_simulation.specs.References.{is_declared, is_reference_in, read_as}
+use Rattle.isle_simulation.specs.RustNames.{IsVariantName, HasRustNames}
+use Rattle.isle_simulation.specs.Statements.{made_named}
 use Rattle.isle_simulation.specs.TraitFns.{HasFnNames}
-use Rattle.isle_simulation.proofs.ArmBodies.{arm_body}
+use Rattle.isle_simulation.proofs.ArmsRun.{ArmPattern, arm_pattern}
+use Rattle.isle_simulation.proofs.OneBind.{spelled}
 use Rattle.isle_simulation.proofs.BoundTests.{found}
 use Rattle.isle_simulation.proofs.ExternalTerms.{callee_is}
+use Rattle.isle_simulation.proofs.PathValues.{IsConstant}
+use Rattle.isle_simulation.proofs.Ready.{IsSpelled, IsReady, AreReady, IsMadeReady, IsReadyBind, AreReadyBinds, IsReadyFrom, IsReadyControl}
+use Rattle.isle_simulation.proofs.Written.{written, written_operand, written_read, written_place, written_test, written_pattern, callee_of, reads, call_expr, field_reads, made_expr, bound_expr, block_body, control_stmt, lets, returned}
 
-number_is : (env : Environment) (o : Option TypeDef) (n : ℤ) → IsSomeAnd o (λ d. IsOfDef env d (int_of_def env o n)) → IsSomeAnd o IsBuiltinDef → IsOperand (written_constant (int_of_def env o n))
-number_is env (Some (def.Builtin (builtin.Int ty))) n h b = h.1
-number_is env (Some (def.Builtin builtin.Bool)) n h b = absurd h
-number_is env None n h b = absurd h
-number_is env (Some d) n h b = absurd b
+-- ---- operands
 
-typed_number_is : (env : Environment) (of ty : TypeId) (n : ℤ) → of ≡ ty → HasType env (int_value env ty n) ty → IsBuiltinType env ty → IsOperand (written_constant (int_value env of n))
-typed_number_is env of ty n e h b = rw e (number_is env (slice_get env.types.types ty.0) n h b)
+number_is : (env : Environment) (o : Option TypeDef) (n : ℤ) → IsSomeAnd o (λ d. IsOfDef env d (int_of_def env o n)) → IsSomeAnd o IsNumericDef → IsOperand (written (constant (int_of_def env o n)))
+number_is env (Some (def.Builtin (builtin.Int ty))) n h k = h.1
+number_is env (Some (def.Primitive name rust pos)) n h k = h.1
+number_is env None n h k = absurd h
+number_is env (Some (def.Builtin builtin.Bool)) n h k = absurd k
+number_is env (Some (def.Enum name is_extern is_nodebug variants pos)) n h k = absurd k
+number_is env (Some (def.Struct name is_extern is_nodebug fields pos)) n h k = absurd k
 
--- a path of a type that is read in place
-in_place_is : (env : Environment) (t : Term) (p : Path) (ty : TypeId) → IsPathOf env t p ty → IsInPlace p → IsOperand (written_place env p)
-in_place_is env t (Arg i) ty h k = tt
-in_place_is env t (ConstBool of b) ty h k = tt
-in_place_is env t (ConstInt of n) ty h k = typed_number_is env of ty n h.0 h.1 h.2
-in_place_is env t p ty h k = absurd k
+typed_number_is : (env : Environment) (of ty : TypeId) (n : ℤ) → of ≡ ty → HasType env (int_value env ty n) ty → IsSomeAnd (slice_get env.types.types ty.0) IsNumericDef → IsOperand (written (constant (int_value env of n)))
+typed_number_is env of ty n e h k = rw e (number_is env (slice_get env.types.types ty.0) n h k)
 
--- a constraint of a type
-tested_is : (env : Environment) (c : Constraint) (ty : TypeId) → IsConstraintOf env c ty → IsOperand (written_test env c)
-tested_is env (constraint.ConstBool val) ty h = tt
-tested_is env (constraint.ConstInt val of) ty h = typed_number_is env of ty val h.0 h.1 h.2
-tested_is env c ty h = absurd h
+struct_name_is : (env : Environment) (t : Term) (of : TypeId) (o : Option Form) → HasRustNames env → form env (MakesStruct of) ≡ o → IsSomeAnd o (λ f. ArePathsOf env t NoPath (form_types env f)) → IsOperand (written (option_map (λ (f : Form). operand.Name (sym_text env f.ty)) o))
+struct_name_is env t of None names e h = absurd h
+struct_name_is env t of (Some f) names e h = (names.forms (MakesStruct of) f e).ty
 
-not_bound : (bound : List ℕ) (b : BindingId) → Contains bound b.0 → is_bound bound b ≡ false → ⊥
-not_bound bound b c e = let t = found bound b.0 c in cc
+-- a path of a type that is spelled
+place_is : (env : Environment) (t : Term) (local : ℕ) (p : Path) (ty : TypeId) → HasRustNames env → IsPathOf env t p ty → IsSpelled p → IsOperand (written (in_place env local p))
+place_is env t local (Arg i) ty names h k = tt
+place_is env t local (ConstBool of b) ty names h k = tt
+place_is env t local (ConstInt of n) ty names h k = typed_number_is env of ty n h.0 h.1 h.2
+place_is env t local (ConstPrim name) ty names h k = names.constants name ty h
+place_is env t local (MadeStruct of NoPath) ty names h k = struct_name_is env t of (form env (MakesStruct of)) names refl h.1
+place_is env t local (MadeStruct of (APath p ps)) ty names h k = absurd k
+place_is env t local p ty names h k = absurd k
 
-operand_is : (env : Environment) (t : Term) (bs : List Binding) (bound : List ℕ) (b : BindingId) (ty : TypeId) → IsReadAs (setting env t bs) bound b ty → IsOperand (written_operand env bs bound b)
-operand_is env t bs bound b ty h = one (is_bound bound b) refl
+-- a constant of a type that is tested for
+tested_is : (env : Environment) (c : Constraint) (ty : TypeId) → HasRustNames env → IsConstraintOf env c ty → IsConstant c → IsOperand (written_test env c)
+tested_is env (constraint.ConstBool val) ty names h k = tt
+tested_is env (constraint.ConstInt val of) ty names h k = typed_number_is env of ty val h.0 h.1 h.2
+tested_is env (constraint.ConstPrim val) ty names h k = names.constants val ty h
+tested_is env c ty names h k = absurd k
+
+operand_is : (s : Setting) (bound : List ℕ) (b : BindingId) (ty : TypeId) → HasRustNames s.env → IsReady s bound b ty → IsOperand (written_operand s bound b)
+operand_is s bound b ty names h = one (is_bound bound b) refl
   where
-    one : (x : Bool) → is_bound bound b ≡ x → IsOperand (written_operand env bs bound b)
+    one : (x : Bool) → is_bound bound b ≡ x → IsOperand (written_operand s bound b)
     one true is = rw is tt
-    one false is = rw is (⊎_elim (λ k. in_place_is env t (at (paths_of bs) b) ty h.path k) (λ c. absurd (not_bound bound b c is)) (read_place (setting env t bs) bound b h.read))
+    one false is = rw is (⊎_elim (λ k. absurd (let bad : false ≡ true = sym is ∙ k in cc)) (λ k. place_is s.env s.term b.0 (at (paths_in s) b) ty names h.path k) h.place)
 
-reads_are : (env : Environment) (t : Term) (bs : List Binding) (bound : List ℕ) (parameters : List BindingId) (tys : List TypeId) → AreReadAs (setting env t bs) bound parameters tys → AllByRecursion IsRead (reads env bs bound parameters)
-reads_are env t bs bound [] [] h = tt
-reads_are env t bs bound (b ∷ more) (ty ∷ tys) h = (operand_is env t bs bound b ty h.0, reads_are env t bs bound more tys h.1)
-reads_are env t bs bound [] (ty ∷ tys) h = absurd h
-reads_are env t bs bound (b ∷ more) [] h = absurd h
+read_is : (wanted is : Bool) (o : Operand) → IsOperand o → IsRead (read_as wanted is o)
+read_is true true o h = h
+read_is true false o h = h
+read_is false true o h = h
+read_is false false o h = h
+
+written_is : (s : Setting) (bound : List ℕ) (wanted : Bool) (b : BindingId) (ty : TypeId) → HasRustNames s.env → IsReady s bound b ty → IsRead (written_read s bound wanted b)
+written_is s bound wanted b ty names h = read_is wanted (is_reference_in s b) (written_operand s bound b) (operand_is s bound b ty names h)
+
+reads_are : (s : Setting) (bound : List ℕ) (tys : List TypeId) (parameters : List BindingId) → HasRustNames s.env → AreReady s bound parameters tys → AllByRecursion IsRead (reads s bound tys parameters)
+reads_are s bound [] [] names h = tt
+reads_are s bound (ty ∷ tys) (b ∷ more) names h = (written_is s bound (is_declared s.env ty) b ty names h.0, reads_are s bound tys more names h.1)
+reads_are s bound (ty ∷ tys) [] names h = absurd h
+reads_are s bound [] (b ∷ more) names h = absurd h
 
 -- the local of a bound source is read
-source_is : (env : Environment) (bs : List Binding) (bound : List ℕ) (b : BindingId) → Contains bound b.0 → IsOperand (written_operand env bs bound b)
-source_is env bs bound b c = one (is_bound bound b) refl
+source_is : (s : Setting) (bound : List ℕ) (b : BindingId) → is_bound bound b ≡ true → IsOperand (written_operand s bound b)
+source_is s bound b is = rw is tt
+
+-- ---- made values
+
+fields_are : (s : Setting) (bound : List ℕ) (fields : List (List ℕ × TypeId)) (parts : List BindingId) → HasRustNames s.env → AllByRecursion (λ (f : List ℕ × TypeId). IsFieldName f.0) fields → AreReady s bound parts (map (λ (f : List ℕ × TypeId). f.1) fields)
+    → AllByRecursion IsFieldRead (field_reads s bound fields parts)
+fields_are s bound [] [] names all h = tt
+fields_are s bound (f ∷ fields) (b ∷ more) names all h = ((all.0, written_is s bound false b f.1 names h.0), fields_are s bound fields more names all.1 h.1)
+fields_are s bound (f ∷ fields) [] names all h = absurd h
+fields_are s bound [] (b ∷ more) names all h = absurd h
+
+named_is : (env : Environment) (ty : Sym) (variant : Option Sym) (fs : List (List ℕ × Read)) → IsName (sym_text env ty) → IsVariantName env variant → AllByRecursion IsFieldRead fs → IsExpr (made_named env ty variant fs)
+named_is env ty (Some variant) fs n v h = (n.identifier, v, h)
+named_is env ty None [] n v h = n
+named_is env ty None (f ∷ fs) n v h = (n.identifier, omega arith, h)
+
+made_is : (s : Setting) (bound : List ℕ) (p : Path) (over : Paths → Path) (mk : Making) (fields : List BindingId) → HasRustNames s.env → IsMadeReady s bound p over mk fields → IsExpr (made_expr s bound (form s.env mk) fields)
+made_is s bound p over mk fields names is =
+    let n = names.forms mk is.f is.found in
+    subst (λ o. IsExpr (made_expr s bound o fields)) (sym is.found) (named_is s.env is.f.ty is.f.variant (field_reads s bound (typed_fields s.env is.f.fields) fields) n.ty n.variant (fields_are s bound (typed_fields s.env is.f.fields) fields names n.fields is.parts))
+
+-- ---- what is computed
+
+returned_is : (kind : ReturnKind) (r : Read) → IsRead r → IsExpr (returned kind r)
+returned_is return_kind.Plain r h = h
+returned_is return_kind.Option r h = h
+returned_is return_kind.Iterator r h = h
+
+plain_is : (s : Setting) (b : BindingId) → HasRustNames s.env → IsPlain s.env s.term (at (paths_in s) b) → IsOperand (written_place s b)
+plain_is s b names k = place_is s.env s.term b.0 (at (paths_in s) b) k.1.0 names k.1.1 (spelled (at (paths_in s) b) k.0)
+
+call_is : (s : Setting) (bound : List ℕ) (o : Option Term) (called : Term) (callee : _) (parameters : List BindingId) → o ≡ Some called → IsExpr (call_expr s bound (Some called) callee parameters) → IsExpr (call_expr s bound o callee parameters)
+call_is s bound o called callee parameters e h = subst (λ x. IsExpr (call_expr s bound x callee parameters)) (sym e) h
+
+bound_is : (s : Setting) (bound : List ℕ) (b : BindingId) (o : Option Binding) → HasRustNames s.env → HasFnNames s.env → IsReadyBind s bound (at (paths_in s) b) o → IsExpr (bound_expr s bound b o)
+bound_is s bound b (Some (binding.Constructor term parameters k)) names fns is =
+    call_is s bound (slice_get s.env.terms term.0) is.called (callee_of (calling s.env term)) parameters is.found (record { callee = callee_is s.env term is.called is.kind fns is.found is.external; args = reads_are s bound is.called.arg_tys parameters names is.args })
+bound_is s bound b (Some (binding.MatchSome source)) names fns is = source_is s bound source (found bound source.0 is.bound')
+bound_is s bound b (Some (binding.Argument index)) names fns is = plain_is s b names is
+bound_is s bound b (Some (binding.ConstBool val ty)) names fns is = plain_is s b names is
+bound_is s bound b (Some (binding.ConstInt val ty)) names fns is = plain_is s b names is
+bound_is s bound b (Some (binding.ConstPrim val)) names fns is = plain_is s b names is
+bound_is s bound b (Some (binding.MakeVariant ty variant fields)) names fns is = made_is s bound (at (paths_in s) b) _ (MakesVariant ty variant) fields names is
+bound_is s bound b (Some (binding.MakeStruct ty fields)) names fns is = made_is s bound (at (paths_in s) b) _ (MakesStruct ty) fields names is
+bound_is s bound b o names fns is = absurd is
+
+lets_are : (s : Setting) (bound : List ℕ) (binds : List BindingId) (more : Body) → HasRustNames s.env → HasFnNames s.env → AreReadyBinds s bound binds → IsBody more → IsBody (lets s bound binds more)
+lets_are s bound [] more names fns k h = h
+lets_are s bound (b ∷ binds) more names fns k h = (bound_is s bound b (slice_get s.bindings b.0) names fns k.0, lets_are s (bound ++ b.0 ∷ []) binds more names fns k.1 h)
+
+-- ---- patterns
+
+binds_tail : (b : TBind) (o : Option (List TBind)) (binds : List TBind) → bind_before b o ≡ Some binds → ((rest : List TBind) → o ≡ Some rest → AllByRecursion IsBind rest) → IsBind b → AllByRecursion IsBind binds
+binds_tail b None binds e h k = cc
+binds_tail b (Some rest) binds e h k = subst (AllByRecursion IsBind) (same (b ∷ rest) binds e) (k, h rest refl)
   where
-    one : (x : Bool) → is_bound bound b ≡ x → IsOperand (written_operand env bs bound b)
-    one true is = rw is tt
-    one false is = absurd (not_bound bound b c is)
+    same : (x y : List TBind) → Some x ≡ Some y → x ≡ y
+    same x y c = cc
 
-returned_is : (kind : ReturnKind) (o : Operand) → IsOperand o → IsExpr (returned kind o)
-returned_is return_kind.Plain o h = h
-returned_is return_kind.Option o h = h
-returned_is return_kind.Iterator o h = h
+none_tail : (binds : List TBind) → Some [] ≡ Some binds → AllByRecursion IsBind binds
+none_tail [] e = tt
+none_tail (b ∷ binds) e = cc
 
--- what is computed for a binding that may be bound
-bound_is : (env : Environment) (t : Term) (bs : List Binding) (bound : List ℕ) (b : BindingId) (p : Path) (o : Option Binding) → HasFnNames env → at (paths_of bs) b ≡ p → IsBindable (setting env t bs) bound p o → IsExpr (bound_expr env bs bound b o)
-bound_is env t bs bound b p (Some (binding.Constructor term parameters k)) names e is = (refl, record { callee = callee_is env term is.called is.kind names is.found is.external; args = reads_are env t bs bound parameters is.called.arg_tys is.args })
-bound_is env t bs bound b p (Some (binding.MatchSome source)) names e is = (refl, source_is env bs bound source is.bound')
-bound_is env t bs bound b p (Some (binding.Argument index)) names e is = subst (λ q. IsOperand (written_place env q)) (sym e) (in_place_is env t p is.1.0 is.1.1 is.0)
-bound_is env t bs bound b p (Some (binding.ConstBool val ty)) names e is = subst (λ q. IsOperand (written_place env q)) (sym e) (in_place_is env t p is.1.0 is.1.1 is.0)
-bound_is env t bs bound b p (Some (binding.ConstInt val ty)) names e is = subst (λ q. IsOperand (written_place env q)) (sym e) (in_place_is env t p is.1.0 is.1.1 is.0)
-bound_is env t bs bound b p o names e is = absurd is
+binds_are : (env : Environment) (fields : List (List ℕ × TypeId)) (places : List (Option BindingId)) (binds : List TBind) → AllByRecursion (λ (f : List ℕ × TypeId). IsFieldName f.0) fields → field_binds env fields places ≡ Some binds → AllByRecursion IsBind binds
+binds_are env fields [] binds all e = none_tail binds e
+binds_are env [] (p ∷ places) binds all e = cc
+binds_are env (f ∷ fields) (None ∷ places) binds all e = binds_are env fields places binds all.1 e
+binds_are env (f ∷ fields) (Some b ∷ places) binds all e =
+    binds_tail (record { field = f.0; by_ref = is_declared env f.1; local = b.0 }) (field_binds env fields places) binds e (λ rest k. binds_are env fields places rest all.1 k) all.0
 
-lets_are : (env : Environment) (t : Term) (bs : List Binding) (bound : List ℕ) (binds : List BindingId) (more : Body) → HasFnNames env → AreBindable (setting env t bs) bound binds → IsBody more → IsBody (lets env bs bound binds more)
-lets_are env t bs bound [] more names k h = h
-lets_are env t bs bound (b ∷ binds) more names k h = (bound_is env t bs bound b (at (paths_of bs) b) (slice_get bs b.0) names refl k.0, lets_are env t bs (bound ++ b.0 ∷ []) binds more names k.1 h)
+pattern_is : (env : Environment) (ty : Sym) (variant : Option Sym) (more : Bool) (binds : List TBind) → IsName (sym_text env ty) → IsVariantName env variant → AllByRecursion IsBind binds → IsPattern (pattern_named env ty variant more binds)
+pattern_is env ty (Some variant) more binds n v h = (n.identifier, v, h)
+pattern_is env ty None more binds n v h = (n.identifier, h)
+
+arm_is : (s : Setting) (c : Constraint) (places : List (Option BindingId)) → HasRustNames s.env → ArmPattern s.env c places → IsPattern (written_pattern (pattern_of s.env c places))
+arm_is s c places names p =
+    let n = names.forms p.mk p.f p.found in
+    subst (λ o. IsPattern (written_pattern o)) (sym p.is) (pattern_is s.env p.f.ty p.f.variant _ p.binds n.ty n.variant (binds_are s.env (typed_fields s.env p.f.fields) places p.binds n.fields p.spelled))
+
+-- ---- blocks
 
 mutual
-  -- the statements of a lawful block
-  pub block_is : (b : Block) (env : Environment) (t : Term) (bs : List Binding) (kind : ReturnKind) (bound made : List ℕ) (end : Body) → HasFnNames env → IsLawfulFrom (setting env t bs) bound made b → HasSingleArms b → IsBody end → IsBody (block_body env bs kind bound b end)
-  block_is Stop env t bs kind bound made end names k o h = h
-  block_is (Step binds c more) env t bs kind bound made end names k o h =
-      lets_are env t bs bound binds (Then (control_stmt env bs kind (bound_by bound binds) c) (block_body env bs kind (bound_by bound binds) more end)) names k.0
-      (control_is c more env t bs kind (bound_by bound binds) _ names k.2 o.0, block_is more env t bs kind (bound_by bound binds) _ end names k.3 o.1 h)
+  -- the statements of a block
+  pub block_is : (b : Block) (s : Setting) (bound made : List ℕ) (end : Body) → HasRustNames s.env → HasFnNames s.env → IsReadyFrom s bound made b → HasSingleArms b → IsBody end → IsBody (block_body s bound b end)
+  block_is Stop s bound made end names fns k o h = h
+  block_is (Step binds c more) s bound made end names fns k o h =
+      lets_are s bound binds (Then (control_stmt s (bound_by bound binds) c) (block_body s (bound_by bound binds) more end)) names fns k.0
+      (control_is c s (bound_by bound binds) _ names fns k.2 o.0, block_is more s (bound_by bound binds) _ end names fns k.3 o.1 h)
 
-  control_is : (c : Control) (more : Block) (env : Environment) (t : Term) (bs : List Binding) (kind : ReturnKind) (bound made : List ℕ) → HasFnNames env → IsLawfulControl (setting env t bs) bound made c more → IsSingle c → IsStmt (control_stmt env bs kind bound c)
-  control_is (block.Match source (block.Arm c places body block.NoArm)) more env t bs kind bound made names k o = (
-    operand_is env t bs bound source k.1.0 k.1.1,
-    tested_is env c k.1.0 k.1.2.0,
-    block_is body env t bs kind bound made Done names (arm_body (setting env t bs) bound made source c places body block.NoArm k.1.0 k.1.2) o tt,
+  control_is : (c : Control) (s : Setting) (bound made : List ℕ) → HasRustNames s.env → HasFnNames s.env → IsReadyControl s bound made c → IsSingle c → IsStmt (control_stmt s bound c)
+  control_is (block.Match source (Arm (constraint.ConstBool val) places body NoArm)) s bound made names fns k o =
+      (operand_is s bound source k.1.0 names k.1.1, tested_is s.env (constraint.ConstBool val) k.1.0 names k.1.2.0 tt, block_is body s (bound_within bound places) made Done names fns k.1.2.2 o tt)
+  control_is (block.Match source (Arm (constraint.ConstInt val of) places body NoArm)) s bound made names fns k o =
+      (operand_is s bound source k.1.0 names k.1.1, tested_is s.env (constraint.ConstInt val of) k.1.0 names k.1.2.0 tt, block_is body s (bound_within bound places) made Done names fns k.1.2.2 o tt)
+  control_is (block.Match source (Arm (constraint.ConstPrim val) places body NoArm)) s bound made names fns k o =
+      (operand_is s bound source k.1.0 names k.1.1, tested_is s.env (constraint.ConstPrim val) k.1.0 names k.1.2.0 tt, block_is body s (bound_within bound places) made Done names fns k.1.2.2 o tt)
+  control_is (block.Match source (Arm (constraint.Variant of variant) places body NoArm)) s bound made names fns k o = (
+    arm_is s (constraint.Variant of variant) places names (arm_pattern s source k.1.0 (constraint.Variant of variant) places k.1.2.0 k.1.2.1 tt),
+    written_is s bound true source k.1.0 names k.1.1,
+    block_is body s (bound_within bound places) made Done names fns k.1.2.2 o tt,
   )
-  control_is (block.Match source (block.Arm c places body (block.Arm d others inside arms))) more env t bs kind bound made names k o = absurd o
-  control_is (block.Match source block.NoArm) more env t bs kind bound made names k o = absurd o
-  control_is (block.Equal x y body) more env t bs kind bound made names k o =
-      (operand_is env t bs bound x k.0.0 k.0.1, operand_is env t bs bound y k.0.0 k.0.2, block_is body env t bs kind bound made Done names k.1 o tt)
-  control_is (block.Loop result body) more env t bs kind bound made names k o = absurd k
-  control_is (block.Return pos result) more env t bs kind bound made names k o =
-      returned_is kind (written_operand env bs bound result) (operand_is env t bs bound result t.ret_ty k.0)
+  control_is (block.Match source (Arm (constraint.Struct of) places body NoArm)) s bound made names fns k o = (
+    arm_is s (constraint.Struct of) places names (arm_pattern s source k.1.0 (constraint.Struct of) places k.1.2.0 k.1.2.1 tt),
+    written_is s bound true source k.1.0 names k.1.1,
+    block_is body s (bound_within bound places) made Done names fns k.1.2.2 o tt,
+  )
+  control_is (block.Match source (Arm constraint.Some places body NoArm)) s bound made names fns k o = absurd k.1.2.0
+  control_is (block.Match source (Arm c places body (Arm d others inside arms))) s bound made names fns k o = absurd o
+  control_is (block.Match source NoArm) s bound made names fns k o = absurd o
+  control_is (block.Equal x y body) s bound made names fns k o = (operand_is s bound x k.0.0 names k.0.1, operand_is s bound y k.0.0 names k.0.2, block_is body s bound made Done names fns k.1 o tt)
+  control_is (block.Loop result body) s bound made names fns k o = absurd k
+  control_is (block.Return pos result) s bound made names fns k o = returned_is (kind_of s.term.kind) (written_read s bound false result) (written_is s bound false result s.term.ret_ty names k)

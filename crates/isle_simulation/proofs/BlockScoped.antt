@@ -1,141 +1,175 @@
 -- What the statements of a block read is there, and holds what is asked of it.
-use Rattle.std.proofs.Common.{◌≡◌, ⊎_elim, ℕ, suc, List, [], ◌∷◌, ◌++◌, length, Bool, true, false, cond, eqb, Option, Some, None, map, slice_get, refl, sym, ap, ◌∙◌, subst}
-use Rattle.std.specs.Prelude.{◌||◌, Contains, IsSome, IsTrue}
+use Rattle.std.proofs.Common.{◌≡◌, ⊎_elim, ℕ, suc, List, [], ◌∷◌, ◌++◌, length, Bool, true, false, cond, eqb, Option, Some, None, map, slice_get, refl, sym, ap, ◌∙◌, subst, append_assoc}
+use Rattle.std.specs.Prelude.{◌||◌, IsSome, IsTrue, option_map}
 use Rattle.std.proofs.lemmas.Bool.{eqb-true, eq-eqb, lt-ltb}
-use Rattle.std.proofs.lemmas.List.{length-map}
-use Rattle.std.proofs.lemmas.List.Folds.{list_any-append}
+use Rattle.std.proofs.lemmas.List.{append-nil, length-map}
 use Rattle.std.proofs.lemmas.List.Sums.{fold_push}
 use Rattle.std.proofs.lemmas.Option.{slice_get_within}
 use Rattle.isle_core.specs.declared.types.ReturnKind.{ReturnKind}
 use Rattle.isle_core.specs.declared.types.ReturnKind.TheVariants as return_kind
 use Rattle.isle_core.specs.declared.BindingId.{BindingId}
+use Rattle.isle_core.specs.declared.Sym.{Sym}
 use Rattle.isle_core.specs.declared.TypeId.{TypeId}
 use Rattle.isle_core.specs.declared.rule_sets.Binding.{Binding}
 use Rattle.isle_core.specs.declared.rule_sets.Binding.TheVariants as binding
 use Rattle.isle_core.specs.declared.rule_sets.Constraint.{Constraint}
 use Rattle.isle_core.specs.declared.rule_sets.Constraint.TheVariants as constraint
 use Rattle.isle_core.specs.declared.types.Term.{Term}
+use Rattle.isle_core.specs.ArmPlaces.{AreParts, ArePlacesOf, bound_within}
 use Rattle.isle_core.specs.Calling.{Calling, ByTurns, ByCases, NoCall, calling, kind_of, AnswersOnce}
-use Rattle.isle_core.specs.Value.{Value, Truth, Int, Opaque, Variant, Struct}
 use Rattle.isle_core.specs.Constants.{int_value}
-use Rattle.isle_core.specs.Path.{Path, Arg, ConstBool, ConstInt, Called, at, paths_of}
-use Rattle.isle_core.specs.Block as block
-use Rattle.isle_core.specs.Block.{Block, Stop, Step, Control}
-use Rattle.isle_core.specs.Bindable.{IsPlain, IsBindable, AreBindable, bound_by}
-use Rattle.isle_core.specs.BlockLawful.{IsLawfulFrom, IsLawfulControl, IsLawfulBlock}
 use Rattle.isle_core.specs.ConstraintType.{IsConstraintOf}
+use Rattle.isle_core.specs.Form.{Form, form}
+use Rattle.isle_core.specs.HasType.{typed_fields}
+use Rattle.isle_core.specs.Making.{Making, MakesVariant, MakesStruct}
+use Rattle.isle_core.specs.Path.{Path, Paths, Arg, ConstBool, ConstInt, ConstPrim, Called, MadeStruct, NoPath, APath, at}
+use Rattle.isle_core.specs.Block as block
+use Rattle.isle_core.specs.Block.{Block, Stop, Step, Control, Arm, NoArm}
+use Rattle.isle_core.specs.Bindable.{IsPlain, bound_by}
 use Rattle.isle_core.specs.ExternalCall.{IsCall}
 use Rattle.isle_core.specs.PathType.{IsPathOf, IsOptionOf}
-use Rattle.isle_core.specs.Readable.{IsInPlace, IsReadAs, AreReadAs}
 use Rattle.isle_core.specs.Rule.{Environment}
 use Rattle.isle_core.specs.SingleArms.{HasSingleArms, IsSingle}
-use Rattle.isle_core.specs.Setting.{setting}
-use Rattle.isle_core.proofs.ReadablePaths.{read_place}
+use Rattle.isle_core.specs.Setting.{Setting, paths_in}
+use Rattle.isle_core.specs.Terms.{sym_text}
+use Rattle.isle_core.specs.Value.{Value, Truth, Int, Opaque, Variant, Struct}
+use Rattle.isle_core.proofs.BindingPaths.{at_before}
 use Rattle.isle_tree.specs.declared.holds.Holds.{Holds}
 use Rattle.isle_tree.specs.declared.holds.Holds.TheVariants as holds
 use Rattle.isle_tree.specs.declared.holds.Item.TheVariants as item
 use Rattle.isle_tree.specs.declared.tree.Operand.{Operand}
-use Rattle.isle_tree.specs.Program.{Body, Done, Then}
-use Rattle.isle_tree.specs.WellFormed.{Locals, newer, local_holds, operand_holds, is_value, are_values, kind_holds, call_holds, callee_holds, inner_holds, expr_holds, GivesKind, after_let, IsBodyScoped}
-use Rattle.isle_simulation.proofs.Written.{block_body, bound_expr, callee_of, control_stmt, lets, reads, returned, written_constant, written_operand, written_place, written_test}
-use Rattle.isle_simulation.specs.Operands.{is_bound}
-use Rattle.isle_simulation.specs.TermFunction.{parameter}
+use Rattle.isle_tree.specs.declared.tree.Operand.TheVariants as operand
+use Rattle.isle_tree.specs.declared.tree.Read.{Read}
+use Rattle.isle_tree.specs.declared.tree.TBind.{TBind}
+use Rattle.isle_tree.specs.declared.tree.TraitFn.{TraitFn}
+use Rattle.isle_tree.specs.Program.{IfLet, Body, Done, Then}
+use Rattle.isle_tree.specs.WellFormed.{Locals, newer, local_holds, operand_holds, read_holds, is_value, are_values, kind_holds, call_holds, callee_holds, inner_holds, are_field_values, made_holds, expr_holds, GivesKind, after_let, ReadsPattern, field_locals, pattern_locals, IsBodyScoped}
+use Rattle.isle_simulation.specs.Operands.{constant, in_place, is_bound}
+use Rattle.isle_simulation.specs.Patterns.{bind_before, field_binds, leaves_out, pattern_named, pattern_of}
+use Rattle.isle_simulation.specs.References.{is_declared, is_reference_in, read_as}
+use Rattle.isle_simulation.specs.Statements.{made_named}
 use Rattle.isle_simulation.specs.TraitFns.{trait_fns_of, HasFnNames}
-use Rattle.isle_simulation.proofs.ArmBodies.{arm_body}
+use Rattle.isle_simulation.specs.TypeTexts.{parameter}
+use Rattle.isle_simulation.proofs.ArmsRun.{same_binds, IsForm, ArmPattern, arm_pattern}
+use Rattle.isle_simulation.proofs.OneBind.{no_option, spelled}
 use Rattle.isle_simulation.proofs.BoundTests.{found}
+use Rattle.isle_simulation.proofs.CompletedRuns.{bound_push}
 use Rattle.isle_simulation.proofs.ExternalTerms.{external_term, term_fn_found}
+use Rattle.isle_simulation.proofs.PathValues.{IsConstant}
+use Rattle.isle_simulation.proofs.Ready.{IsSpelled, IsReady, AreReady, IsMadeReady, IsReadyBind, AreReadyBinds, IsReadyFrom, IsReadyControl}
+use Rattle.isle_simulation.proofs.Written.{written, written_operand, written_read, written_place, written_test, written_pattern, callee_of, reads, call_expr, field_reads, made_expr, bound_expr, block_body, control_stmt, lets, returned}
 
 -- ---- operands
 
-constant_holds : (v : Value) (params : ℕ) (locals : Locals) → operand_holds params locals (written_constant v) ≡ Some (holds.One item.Value)
+-- a value is held
+abbrev one_value : Option Holds
+one_value = Some (holds.One item.Value)
+
+constant_holds : (v : Value) (params : ℕ) (locals : Locals) → operand_holds params locals (written (constant v)) ≡ one_value
 constant_holds (Truth b) params locals = refl
 constant_holds (Int ty n) params locals = refl
 constant_holds (Opaque ty n) params locals = refl
 constant_holds (Variant ty name fields) params locals = refl
 constant_holds (Struct ty fields) params locals = refl
 
--- a path of a type that is read in place holds a value
-in_place_holds : (env : Environment) (t : Term) (p : Path) (ty : TypeId) (locals : Locals) → IsPathOf env t p ty → IsInPlace p → operand_holds (length t.arg_tys) locals (written_place env p) ≡ Some (holds.One item.Value)
-in_place_holds env t (Arg i) ty locals h k = ap (λ b. cond b (Some (holds.One item.Value)) None) (lt-ltb i (length t.arg_tys) (slice_get_within t.arg_tys i ty h))
-in_place_holds env t (ConstBool of b) ty locals h k = refl
-in_place_holds env t (ConstInt of n) ty locals h k = constant_holds (int_value env of n) (length t.arg_tys) locals
-in_place_holds env t p ty locals h k = absurd k
+name_holds : (env : Environment) (params : ℕ) (locals : Locals) (o : Option Form) → operand_holds params locals (written (option_map (λ (f : Form). operand.Name (sym_text env f.ty)) o)) ≡ one_value
+name_holds env params locals None = refl
+name_holds env params locals (Some f) = refl
 
--- a constraint is tested for a value
-tested_holds : (env : Environment) (c : Constraint) (ty : TypeId) (params : ℕ) (locals : Locals) → IsConstraintOf env c ty → operand_holds params locals (written_test env c) ≡ Some (holds.One item.Value)
-tested_holds env (constraint.ConstBool val) ty params locals h = refl
-tested_holds env (constraint.ConstInt val of) ty params locals h = constant_holds (int_value env of val) params locals
-tested_holds env c ty params locals h = absurd h
+-- a path of a type that is spelled holds a value
+place_holds : (env : Environment) (t : Term) (local : ℕ) (p : Path) (ty : TypeId) (locals : Locals) → IsPathOf env t p ty → IsSpelled p → operand_holds (length t.arg_tys) locals (written (in_place env local p)) ≡ one_value
+place_holds env t local (Arg i) ty locals h k = ap (λ b. cond b one_value None) (lt-ltb i (length t.arg_tys) (slice_get_within t.arg_tys i ty h))
+place_holds env t local (ConstBool of b) ty locals h k = refl
+place_holds env t local (ConstInt of n) ty locals h k = constant_holds (int_value env of n) (length t.arg_tys) locals
+place_holds env t local (ConstPrim name) ty locals h k = refl
+place_holds env t local (MadeStruct of NoPath) ty locals h k = name_holds env (length t.arg_tys) locals (form env (MakesStruct of))
+place_holds env t local (MadeStruct of (APath p ps)) ty locals h k = absurd k
+place_holds env t local p ty locals h k = absurd k
+
+-- a constant is tested for
+tested_holds : (env : Environment) (c : Constraint) (params : ℕ) (locals : Locals) → IsConstant c → operand_holds params locals (written_test env c) ≡ one_value
+tested_holds env (constraint.ConstBool val) params locals h = refl
+tested_holds env (constraint.ConstInt val of) params locals h = constant_holds (int_value env of val) params locals
+tested_holds env (constraint.ConstPrim val) params locals h = refl
+tested_holds env c params locals h = absurd h
 
 -- a value where a path is of a type, an option where it is an option's
 record HoldsAs (env : Environment) (t : Term) (p : Path) (o : Option Holds) : Type 0 where
-  value : (ty : TypeId) → IsPathOf env t p ty → o ≡ Some (holds.One item.Value)
+  value : (ty : TypeId) → IsPathOf env t p ty → o ≡ one_value
   option : (ty : TypeId) → IsOptionOf env t p ty → o ≡ Some (holds.Optional item.Value)
 
 -- each that is bound holds what its path is
-record LocalsHold (env : Environment) (t : Term) (bs : List Binding) (bound : List ℕ) (locals : Locals) : Type 0 where
-  by : (c : BindingId) → is_bound bound c ≡ true → HoldsAs env t (at (paths_of bs) c) (local_holds locals c.0)
+record LocalsHold (s : Setting) (bound : List ℕ) (locals : Locals) : Type 0 where
+  by : (c : BindingId) → is_bound bound c ≡ true → HoldsAs s.env s.term (at (paths_in s) c) (local_holds locals c.0)
 
-none_hold : (env : Environment) (t : Term) (bs : List Binding) → LocalsHold env t bs [] []
-none_hold env t bs = record { by = λ c e. cc }
+none_hold : (s : Setting) → LocalsHold s [] []
+none_hold s = record { by = λ c e. cc }
 
-older : (x : Bool) → (x || (false || false)) ≡ true → x ≡ true
-older true e = refl
-older false e = e
-
-more_hold : (env : Environment) (t : Term) (bs : List Binding) (bound : List ℕ) (locals : Locals) (b : BindingId) (h : Holds) → LocalsHold env t bs bound locals → HoldsAs env t (at (paths_of bs) b) (Some h) → LocalsHold env t bs (bound ++ b.0 ∷ []) (locals ++ (b.0, h) ∷ [])
-more_hold env t bs bound locals b h l here = record {
-  by = λ c e. one c (eqb b.0 c.0) refl (sym (list_any-append (λ n. eqb n c.0) bound (b.0 ∷ [])) ∙ e);
-}
+more_hold : (s : Setting) (bound : List ℕ) (locals : Locals) (b : BindingId) (h : Holds) → LocalsHold s bound locals → HoldsAs s.env s.term (at (paths_in s) b) (Some h) → LocalsHold s (bound ++ b.0 ∷ []) (locals ++ (b.0, h) ∷ [])
+more_hold s bound locals b h l here = record { by = λ c e. one c (eqb b.0 c.0) refl (sym (bound_push bound b c) ∙ e) }
   where
-    one : (c : BindingId) (same : Bool) → eqb b.0 c.0 ≡ same → (is_bound bound c || is_bound (b.0 ∷ []) c) ≡ true → HoldsAs env t (at (paths_of bs) c) (local_holds (locals ++ (b.0, h) ∷ []) c.0)
+    older : (x : Bool) → (x || false) ≡ true → x ≡ true
+    older true e = refl
+    older false e = e
+
+    one : (c : BindingId) (same : Bool) → eqb b.0 c.0 ≡ same → (is_bound bound c || eqb b.0 c.0) ≡ true → HoldsAs s.env s.term (at (paths_in s) c) (local_holds (locals ++ (b.0, h) ∷ []) c.0)
     one c true is e =
-        let there : at (paths_of bs) b ≡ at (paths_of bs) c = ap (λ n. at (paths_of bs) (record { 0 = n })) (eqb-true b.0 c.0 is) in
-        subst (HoldsAs env t (at (paths_of bs) c)) (sym (fold_push (newer c.0) None locals (b.0, h) ∙ ap (λ x. cond x (Some h) (local_holds locals c.0)) is)) (subst (λ p. HoldsAs env t p (Some h)) there here)
+        let there : at (paths_in s) b ≡ at (paths_in s) c = ap (λ n. at (paths_in s) (record { 0 = n })) (eqb-true b.0 c.0 is) in
+        subst (HoldsAs s.env s.term (at (paths_in s) c)) (sym (fold_push (newer c.0) None locals (b.0, h) ∙ ap (λ x. cond x (Some h) (local_holds locals c.0)) is)) (subst (λ p. HoldsAs s.env s.term p (Some h)) there here)
     one c false is e =
-        subst (HoldsAs env t (at (paths_of bs) c)) (sym (fold_push (newer c.0) None locals (b.0, h) ∙ ap (λ x. cond x (Some h) (local_holds locals c.0)) is))
-        (l.by c (older (is_bound bound c) (subst (λ x. (is_bound bound c || (x || false)) ≡ true) is e)))
+        subst (HoldsAs s.env s.term (at (paths_in s) c)) (sym (fold_push (newer c.0) None locals (b.0, h) ∙ ap (λ x. cond x (Some h) (local_holds locals c.0)) is))
+        (l.by c (older (is_bound bound c) (subst (λ x. (is_bound bound c || x) ≡ true) is e)))
 
-not_bound : (bound : List ℕ) (b : BindingId) → Contains bound b.0 → is_bound bound b ≡ false → ⊥
-not_bound bound b c e = let t = found bound b.0 c in cc
-
-operand_one : (env : Environment) (t : Term) (bs : List Binding) (bound : List ℕ) (locals : Locals) (b : BindingId) (ty : TypeId) → LocalsHold env t bs bound locals → IsReadAs (setting env t bs) bound b ty → operand_holds (length t.arg_tys) locals (written_operand env bs bound b) ≡ Some (holds.One item.Value)
-operand_one env t bs bound locals b ty l h = one (is_bound bound b) refl
+operand_one : (s : Setting) (bound : List ℕ) (locals : Locals) (b : BindingId) (ty : TypeId) → LocalsHold s bound locals → IsReady s bound b ty → operand_holds (length s.term.arg_tys) locals (written_operand s bound b) ≡ one_value
+operand_one s bound locals b ty l h = one (is_bound bound b) refl
   where
-    one : (x : Bool) → is_bound bound b ≡ x → operand_holds (length t.arg_tys) locals (written_operand env bs bound b) ≡ Some (holds.One item.Value)
+    one : (x : Bool) → is_bound bound b ≡ x → operand_holds (length s.term.arg_tys) locals (written_operand s bound b) ≡ one_value
     one true is = rw is ((l.by b is).value ty h.path)
-    one false is = rw is (⊎_elim (λ k. in_place_holds env t (at (paths_of bs) b) ty locals h.path k) (λ c. absurd (not_bound bound b c is)) (read_place (setting env t bs) bound b h.read))
+    one false is = rw is (⊎_elim (λ k. absurd (let bad : false ≡ true = sym is ∙ k in cc)) (λ k. place_holds s.env s.term b.0 (at (paths_in s) b) ty locals h.path k) h.place)
 
-is_one : (o : Option Holds) → o ≡ Some (holds.One item.Value) → IsTrue (is_value o)
+read_same : (params : ℕ) (locals : Locals) (wanted is : Bool) (o : Operand) → read_holds params locals (read_as wanted is o) ≡ operand_holds params locals o
+read_same params locals true true o = refl
+read_same params locals true false o = refl
+read_same params locals false true o = refl
+read_same params locals false false o = refl
+
+read_one : (s : Setting) (bound : List ℕ) (locals : Locals) (wanted : Bool) (b : BindingId) (ty : TypeId) → LocalsHold s bound locals → IsReady s bound b ty → read_holds (length s.term.arg_tys) locals (written_read s bound wanted b) ≡ one_value
+read_one s bound locals wanted b ty l h = read_same (length s.term.arg_tys) locals wanted (is_reference_in s b) (written_operand s bound b) ∙ operand_one s bound locals b ty l h
+
+is_one : (o : Option Holds) → o ≡ one_value → IsTrue (is_value o)
 is_one o e = subst (λ x. IsTrue (is_value x)) (sym e) refl
 
-reads_hold : (env : Environment) (t : Term) (bs : List Binding) (bound : List ℕ) (locals : Locals) (parameters : List BindingId) (tys : List TypeId) → LocalsHold env t bs bound locals → AreReadAs (setting env t bs) bound parameters tys
-    → (are_values (length t.arg_tys) locals (reads env bs bound parameters) ≡ true) × (length (reads env bs bound parameters) ≡ length tys)
-reads_hold env t bs bound locals [] [] l h = (refl, refl)
-reads_hold env t bs bound locals (b ∷ more) (ty ∷ tys) l h =
-    let here = operand_one env t bs bound locals b ty l h.0 in
-    let rest = reads_hold env t bs bound locals more tys l h.1 in
+reads_hold : (s : Setting) (bound : List ℕ) (locals : Locals) (tys : List TypeId) (parameters : List BindingId) → LocalsHold s bound locals → AreReady s bound parameters tys
+    → (are_values (length s.term.arg_tys) locals (reads s bound tys parameters) ≡ true) × (length (reads s bound tys parameters) ≡ length tys)
+reads_hold s bound locals [] [] l h = (refl, refl)
+reads_hold s bound locals (ty ∷ tys) (b ∷ more) l h =
+    let here = read_one s bound locals (is_declared s.env ty) b ty l h.0 in
+    let rest = reads_hold s bound locals tys more l h.1 in
     (rw here rest.0, ap suc rest.1)
-reads_hold env t bs bound locals [] (ty ∷ tys) l h = absurd h
-reads_hold env t bs bound locals (b ∷ more) [] l h = absurd h
+reads_hold s bound locals (ty ∷ tys) [] l h = absurd h
+reads_hold s bound locals [] (b ∷ more) l h = absurd h
+
+fields_hold : (s : Setting) (bound : List ℕ) (locals : Locals) (fields : List (List ℕ × TypeId)) (parts : List BindingId) → LocalsHold s bound locals → AreReady s bound parts (map (λ (f : List ℕ × TypeId). f.1) fields)
+    → are_field_values (length s.term.arg_tys) locals (field_reads s bound fields parts) ≡ true
+fields_hold s bound locals [] [] l h = refl
+fields_hold s bound locals (f ∷ fields) (b ∷ more) l h = rw (read_one s bound locals false b f.1 l h.0) (fields_hold s bound locals fields more l h.1)
+fields_hold s bound locals (f ∷ fields) [] l h = absurd h
+fields_hold s bound locals [] (b ∷ more) l h = absurd h
 
 -- ---- lets
 
 -- what a let computes holds this, which is what the path is
-record LetHolds (env : Environment) (t : Term) (bs : List Binding) (bound : List ℕ) (locals : Locals) (b : BindingId) (p : Path) (o : Option Binding) : Type 0 where
+record LetHolds (s : Setting) (bound : List ℕ) (locals : Locals) (b : BindingId) (o : Option Binding) : Type 0 where
   h : Holds
-  is : expr_holds (trait_fns_of env) (length t.arg_tys) locals (bound_expr env bs bound b o) ≡ Some h
-  kept : HoldsAs env t p (Some h)
+  is : expr_holds (trait_fns_of s.env) (length s.term.arg_tys) locals (bound_expr s bound b o) ≡ Some h
+  kept : HoldsAs s.env s.term (at (paths_in s) b) (Some h)
 
-plain_holds : (env : Environment) (t : Term) (p : Path) → IsPlain env t p → HoldsAs env t p (Some (holds.One item.Value))
-plain_holds env t (Arg i) k = record { value = λ ty h. refl; option = λ ty h. absurd h }
-plain_holds env t (ConstBool of b) k = record { value = λ ty h. refl; option = λ ty h. absurd h }
-plain_holds env t (ConstInt of n) k = record { value = λ ty h. refl; option = λ ty h. absurd h }
-plain_holds env t p k = absurd k.0
-
-in_place_let : (env : Environment) (t : Term) (bs : List Binding) (bound : List ℕ) (locals : Locals) (b : BindingId) (p : Path) → at (paths_of bs) b ≡ p → IsPlain env t p
-    → (operand_holds (length t.arg_tys) locals (written_place env (at (paths_of bs) b)) ≡ Some (holds.One item.Value)) × HoldsAs env t p (Some (holds.One item.Value))
-in_place_let env t bs bound locals b p e k = (ap (λ q. operand_holds (length t.arg_tys) locals (written_place env q)) e ∙ in_place_holds env t p k.1.0 locals k.1.1 k.0, plain_holds env t p k)
+plain_let : (s : Setting) (bound : List ℕ) (locals : Locals) (b : BindingId) → IsPlain s.env s.term (at (paths_in s) b)
+    → (operand_holds (length s.term.arg_tys) locals (written_place s b) ≡ one_value) × HoldsAs s.env s.term (at (paths_in s) b) one_value
+plain_let s bound locals b k = (
+  place_holds s.env s.term b.0 (at (paths_in s) b) k.1.0 locals k.1.1 (spelled (at (paths_in s) b) k.0),
+  record { value = λ ty h. refl; option = λ ty h. absurd (no_option s.env s.term (at (paths_in s) b) ty k.0 h) },
+)
 
 -- what an answer holds
 abbrev answer_holds : (of : ReturnKind) → AnswersOnce of → (h : Holds) × (kind_holds of ≡ Some h)
@@ -158,81 +192,207 @@ call_as env t term ps k of once NoCall e h = absurd h
 same_count : (n m : ℕ) → n ≡ m → eqb n m ≡ true
 same_count n m e = eq-eqb n m e
 
-let_holds : (env : Environment) (t : Term) (bs : List Binding) (bound : List ℕ) (locals : Locals) (b : BindingId) (p : Path) (o : Option Binding) → HasFnNames env → at (paths_of bs) b ≡ p → LocalsHold env t bs bound locals → IsBindable (setting env t bs) bound p o → LetHolds env t bs bound locals b p o
-let_holds env t bs bound locals b p (Some (binding.Constructor term parameters k)) names e l is =
-    let x = external_term env term is.called is.kind is.found is.external in
-    let args = reads_hold env t bs bound locals parameters is.called.arg_tys l is.args in
-    let once = called_once is.kind (calling env term) is.external in
+call_let : (s : Setting) (bound : List ℕ) (locals : Locals) (o : Option Term) (called : Term) (callee : _) (parameters : List BindingId) (of : ReturnKind) → o ≡ Some called → LocalsHold s bound locals → AreReady s bound parameters called.arg_tys
+    → callee_holds (trait_fns_of s.env) callee (length called.arg_tys) ≡ kind_holds of → expr_holds (trait_fns_of s.env) (length s.term.arg_tys) locals (call_expr s bound o callee parameters) ≡ kind_holds of
+call_let s bound locals o called callee parameters of e l args k =
+    let r = reads_hold s bound locals called.arg_tys parameters l args in
+    ap (λ x. expr_holds (trait_fns_of s.env) (length s.term.arg_tys) locals (call_expr s bound x callee parameters)) e
+    ∙ ap (λ y. cond y (callee_holds (trait_fns_of s.env) callee (length (reads s bound called.arg_tys parameters))) None) r.0
+    ∙ ap (callee_holds (trait_fns_of s.env) callee) r.1 ∙ k
+
+named_holds : (fns : List TraitFn) (env : Environment) (params : ℕ) (locals : Locals) (ty : Sym) (variant : Option Sym) (fs : List (List ℕ × Read)) → are_field_values params locals fs ≡ true → expr_holds fns params locals (made_named env ty variant fs) ≡ one_value
+named_holds fns env params locals ty (Some variant) fs e = ap made_holds e
+named_holds fns env params locals ty None [] e = refl
+named_holds fns env params locals ty None (f ∷ fs) e = ap made_holds e
+
+made_let : (s : Setting) (bound : List ℕ) (locals : Locals) (p : Path) (over : Paths → Path) (mk : Making) (fields : List BindingId) → LocalsHold s bound locals → IsMadeReady s bound p over mk fields
+    → expr_holds (trait_fns_of s.env) (length s.term.arg_tys) locals (made_expr s bound (form s.env mk) fields) ≡ one_value
+made_let s bound locals p over mk fields l is =
+    ap (λ o. expr_holds (trait_fns_of s.env) (length s.term.arg_tys) locals (made_expr s bound o fields)) is.found
+    ∙ named_holds (trait_fns_of s.env) s.env (length s.term.arg_tys) locals is.f.ty is.f.variant (field_reads s bound (typed_fields s.env is.f.fields) fields) (fields_hold s bound locals (typed_fields s.env is.f.fields) fields l is.parts)
+
+let_holds : (s : Setting) (bound : List ℕ) (locals : Locals) (b : BindingId) (o : Option Binding) → HasFnNames s.env → LocalsHold s bound locals → IsReadyBind s bound (at (paths_in s) b) o → LetHolds s bound locals b o
+let_holds s bound locals b (Some (binding.Constructor term parameters k)) names l is =
+    let x = external_term s.env term is.called is.kind is.found is.external in
+    let once = called_once is.kind (calling s.env term) is.external in
     let answered = answer_holds is.kind once in
+    let n = length is.called.arg_tys in
     record {
       h = answered.0;
       is =
-          ap (λ y. cond y (callee_holds (trait_fns_of env) (callee_of (calling env term)) (length (reads env bs bound parameters))) None) args.0
-          ∙ ap (λ y. callee_holds (trait_fns_of env) y (length (reads env bs bound parameters))) x.callee
-          ∙ ap (λ y. call_holds y (length (reads env bs bound parameters))) (term_fn_found env term is.called is.kind names is.found x)
-          ∙ ap (λ y. cond y (kind_holds (kind_of is.called.kind)) None) (same_count (length (map (parameter env) is.called.arg_tys)) (length (reads env bs bound parameters)) (length-map is.called.arg_tys (parameter env) ∙ sym args.1))
-          ∙ ap kind_holds x.answers ∙ answered.1;
-      kept = subst (λ q. HoldsAs env t q (Some answered.0)) (sym is.path) (call_as env t term _ k is.kind once (calling env term) refl is.external);
+          call_let s bound locals (slice_get s.env.terms term.0) is.called (callee_of (calling s.env term)) parameters is.kind is.found l is.args
+          (
+          ap (λ y. callee_holds (trait_fns_of s.env) y n) x.callee
+          ∙ ap (λ y. call_holds y n) (term_fn_found s.env term is.called is.kind names is.found x)
+          ∙ ap (λ y. cond y (kind_holds (kind_of is.called.kind)) None) (same_count (length (map (parameter s.env) is.called.arg_tys)) n (length-map is.called.arg_tys (parameter s.env)))
+          ∙ ap kind_holds x.answers
+          )
+          ∙ answered.1;
+      kept = subst (λ q. HoldsAs s.env s.term q (Some answered.0)) (sym is.path) (call_as s.env s.term term _ k is.kind once (calling s.env term) refl is.external);
     }
-let_holds env t bs bound locals b p (Some (binding.MatchSome source)) names e l is =
+let_holds s bound locals b (Some (binding.MatchSome source)) names l is =
     record {
       h = holds.One item.Value;
       is = rw (found bound source.0 is.bound') (ap inner_holds ((l.by source (found bound source.0 is.bound')).option is.ty is.option));
-      kept = subst (λ q. HoldsAs env t q (Some (holds.One item.Value))) (sym is.path) (record { value = λ ty h. refl; option = λ ty h. absurd h });
+      kept = subst (λ q. HoldsAs s.env s.term q one_value) (sym is.path) (record { value = λ ty h. refl; option = λ ty h. absurd h });
     }
-let_holds env t bs bound locals b p (Some (binding.Argument index)) names e l is = let k = in_place_let env t bs bound locals b p e is in record { h = holds.One item.Value; is = k.0; kept = k.1 }
-let_holds env t bs bound locals b p (Some (binding.ConstBool val ty)) names e l is = let k = in_place_let env t bs bound locals b p e is in record { h = holds.One item.Value; is = k.0; kept = k.1 }
-let_holds env t bs bound locals b p (Some (binding.ConstInt val ty)) names e l is = let k = in_place_let env t bs bound locals b p e is in record { h = holds.One item.Value; is = k.0; kept = k.1 }
-let_holds env t bs bound locals b p o names e l is = absurd is
+let_holds s bound locals b (Some (binding.Argument index)) names l is = let k = plain_let s bound locals b is in record { h = holds.One item.Value; is = k.0; kept = k.1 }
+let_holds s bound locals b (Some (binding.ConstBool val ty)) names l is = let k = plain_let s bound locals b is in record { h = holds.One item.Value; is = k.0; kept = k.1 }
+let_holds s bound locals b (Some (binding.ConstInt val ty)) names l is = let k = plain_let s bound locals b is in record { h = holds.One item.Value; is = k.0; kept = k.1 }
+let_holds s bound locals b (Some (binding.ConstPrim val)) names l is = let k = plain_let s bound locals b is in record { h = holds.One item.Value; is = k.0; kept = k.1 }
+let_holds s bound locals b (Some (binding.MakeVariant of variant fields)) names l is = record {
+  h = holds.One item.Value;
+  is = made_let s bound locals (at (paths_in s) b) _ (MakesVariant of variant) fields l is;
+  kept = subst (λ q. HoldsAs s.env s.term q one_value) (sym is.path) (record { value = λ ty h. refl; option = λ ty h. absurd h });
+}
+let_holds s bound locals b (Some (binding.MakeStruct of fields)) names l is = record {
+  h = holds.One item.Value;
+  is = made_let s bound locals (at (paths_in s) b) _ (MakesStruct of) fields l is;
+  kept = subst (λ q. HoldsAs s.env s.term q one_value) (sym is.path) (record { value = λ ty h. refl; option = λ ty h. absurd h });
+}
+let_holds s bound locals b o names l is = absurd is
 
-lets_scoped : (env : Environment) (t : Term) (bs : List Binding) (bound : List ℕ) (locals : Locals) (binds : List BindingId) (more : Body) → HasFnNames env → LocalsHold env t bs bound locals → AreBindable (setting env t bs) bound binds
-    → ((after : Locals) → LocalsHold env t bs (bound_by bound binds) after → IsBodyScoped (trait_fns_of env) (kind_of t.kind) (length t.arg_tys) after more)
-    → IsBodyScoped (trait_fns_of env) (kind_of t.kind) (length t.arg_tys) locals (lets env bs bound binds more)
-lets_scoped env t bs bound locals [] more names l k h = h locals l
-lets_scoped env t bs bound locals (b ∷ binds) more names l k h =
-    let x = let_holds env t bs bound locals b (at (paths_of bs) b) (slice_get bs b.0) names refl l k.0 in
-    let rest = lets_scoped env t bs (bound ++ b.0 ∷ []) (locals ++ (b.0, x.h) ∷ []) binds more names (more_hold env t bs bound locals b x.h l x.kept) k.1 h in (
+lets_scoped : (s : Setting) (bound : List ℕ) (locals : Locals) (binds : List BindingId) (more : Body) → HasFnNames s.env → LocalsHold s bound locals → AreReadyBinds s bound binds
+    → ((after : Locals) → LocalsHold s (bound_by bound binds) after → IsBodyScoped (trait_fns_of s.env) (kind_of s.term.kind) (length s.term.arg_tys) after more)
+    → IsBodyScoped (trait_fns_of s.env) (kind_of s.term.kind) (length s.term.arg_tys) locals (lets s bound binds more)
+lets_scoped s bound locals [] more names l k h = h locals l
+lets_scoped s bound locals (b ∷ binds) more names l k h =
+    let x = let_holds s bound locals b (slice_get s.bindings b.0) names l k.0 in
+    let rest = lets_scoped s (bound ++ b.0 ∷ []) (locals ++ (b.0, x.h) ∷ []) binds more names (more_hold s bound locals b x.h l x.kept) k.1 h in (
       subst IsSome (sym x.is) refl,
-      subst (λ o. IsBodyScoped (trait_fns_of env) (kind_of t.kind) (length t.arg_tys) (after_let o b.0 locals) (lets env bs (bound ++ b.0 ∷ []) binds more)) (sym x.is) rest,
+      subst (λ o. IsBodyScoped (trait_fns_of s.env) (kind_of s.term.kind) (length s.term.arg_tys) (after_let o b.0 locals) (lets s (bound ++ b.0 ∷ []) binds more)) (sym x.is) rest,
     )
+
+-- ---- the places of arms
+
+-- a path that is no option's
+abbrev IsNoOption : Setting → BindingId → Type 0
+IsNoOption s b = (ty : TypeId) → IsOptionOf s.env s.term (at (paths_in s) b) ty → ⊥
+
+places_hold : (s : Setting) (part : ℕ → Binding) (i : ℕ) (fields : List (List ℕ × TypeId)) (places : List (Option BindingId)) (bound : List ℕ) (locals : Locals) (binds : List TBind) → ((j : ℕ) (b : BindingId) → slice_get s.bindings b.0 ≡ Some (part j) → IsNoOption s b)
+    → field_binds s.env fields places ≡ Some binds → AreParts s part i places → LocalsHold s bound locals → LocalsHold s (bound_within bound places) (locals ++ field_locals binds)
+places_hold s part i fields [] bound locals binds none e k l = subst (λ bs. LocalsHold s bound (locals ++ field_locals bs)) (same_binds [] binds e) (subst (LocalsHold s bound) (sym (append-nil locals)) l)
+places_hold s part i [] (p ∷ places) bound locals binds none e k l = cc
+places_hold s part i (f ∷ fields) (None ∷ places) bound locals binds none e k l = places_hold s part (suc i) fields places bound locals binds none e k.1 l
+places_hold s part i (f ∷ fields) (Some b ∷ places) bound locals binds none e k l =
+    one (field_binds s.env fields places) refl e (λ rest r. places_hold s part (suc i) fields places (bound ++ b.0 ∷ []) (locals ++ (b.0, holds.One item.Value) ∷ []) rest none r k.1
+    (more_hold s bound locals b (holds.One item.Value) l (record { value = λ ty h. refl; option = λ ty h. absurd (none i b k.0 ty h) })))
+  where
+    here : TBind
+    here = record { field = f.0; by_ref = is_declared s.env f.1; local = b.0 }
+
+    inner : List ℕ
+    inner = bound_within (bound ++ b.0 ∷ []) places
+
+    one : (o : Option (List TBind)) → field_binds s.env fields places ≡ o → bind_before here o ≡ Some binds → ((rest : List TBind) → field_binds s.env fields places ≡ Some rest → LocalsHold s inner ((locals ++ (b.0, holds.One item.Value) ∷ []) ++ field_locals rest))
+        → LocalsHold s inner (locals ++ field_locals binds)
+    one None r e' h = cc
+    one (Some rest) r e' h =
+        subst (λ bs. LocalsHold s inner (locals ++ field_locals bs)) (same_binds (here ∷ rest) binds e') (subst (LocalsHold s inner) (append_assoc locals ((b.0, holds.One item.Value) ∷ []) (field_locals rest)) (h rest r))
+
+-- a field is no option
+variant_none : (s : Setting) (source : BindingId) (variant : _) (j : ℕ) (b : BindingId) → slice_get s.bindings b.0 ≡ Some (binding.MatchVariant source variant (record { 0 = j })) → IsNoOption s b
+variant_none s source variant j b e ty h = none (subst (λ p. IsOptionOf s.env s.term p ty) (at_before s.bindings b (binding.MatchVariant source variant (record { 0 = j })) e) h)
+  where
+    none : ⊥ → ⊥
+    none x = x
+
+struct_none : (s : Setting) (source : BindingId) (j : ℕ) (b : BindingId) → slice_get s.bindings b.0 ≡ Some (binding.ExtractStruct source (record { 0 = j })) → IsNoOption s b
+struct_none s source j b e ty h = none (subst (λ p. IsOptionOf s.env s.term p ty) (at_before s.bindings b (binding.ExtractStruct source (record { 0 = j })) e) h)
+  where
+    none : ⊥ → ⊥
+    none x = x
+
+form_hold : (s : Setting) (source : BindingId) (ty : TypeId) (c : Constraint) (places : List (Option BindingId)) (bound : List ℕ) (locals : Locals) (p : ArmPattern s.env c places) → ArePlacesOf s source c places → IsForm c → LocalsHold s bound locals
+    → LocalsHold s (bound_within bound places) (locals ++ field_locals p.binds)
+form_hold s source ty (constraint.Variant of variant) places bound locals p k is l =
+    places_hold s (λ i. binding.MatchVariant source variant (record { 0 = i })) 0 (typed_fields s.env p.f.fields) places bound locals p.binds (λ j b e. variant_none s source variant j b e) p.spelled k.1 l
+form_hold s source ty (constraint.Struct of) places bound locals p k is l =
+    places_hold s (λ i. binding.ExtractStruct source (record { 0 = i })) 0 (typed_fields s.env p.f.fields) places bound locals p.binds (λ j b e. struct_none s source j b e) p.spelled k.1 l
+form_hold s source ty c places bound locals p k is l = absurd is
+
+named_pattern : (env : Environment) (ty : Sym) (variant : Option Sym) (more : Bool) (binds : List TBind) (h : Option Holds) → IsTrue (is_value h) → ReadsPattern (pattern_named env ty variant more binds) h × (pattern_locals (pattern_named env ty variant more binds) h ≡ field_locals binds)
+named_pattern env ty (Some variant) more binds h k = (k, refl)
+named_pattern env ty None more binds h k = (k, refl)
 
 -- ---- blocks
 
-returned_scoped : (kind : ReturnKind) → AnswersOnce kind → (o : Operand) (env : Environment) (params : ℕ) (locals : Locals) → operand_holds params locals o ≡ Some (holds.One item.Value) → GivesKind kind (expr_holds (trait_fns_of env) params locals (returned kind o))
-returned_scoped return_kind.Plain once o env params locals e = rw e tt
-returned_scoped return_kind.Option once o env params locals e = rw e tt
-returned_scoped return_kind.Iterator once o env params locals e = absurd once
+returned_scoped : (kind : ReturnKind) → AnswersOnce kind → (r : Read) (fns : List TraitFn) (params : ℕ) (locals : Locals) → read_holds params locals r ≡ one_value → GivesKind kind (expr_holds fns params locals (returned kind r))
+returned_scoped return_kind.Plain once r fns params locals e = rw e tt
+returned_scoped return_kind.Option once r fns params locals e = rw e tt
+returned_scoped return_kind.Iterator once r fns params locals e = absurd once
+
+-- the body of an arm that tests by a pattern
+form_scoped : (s : Setting) (bound : List ℕ) (locals : Locals) (source : BindingId) (ty : TypeId) (c : Constraint) (places : List (Option BindingId)) (inside ss : Body) → LocalsHold s bound locals → IsReady s bound source ty → IsConstraintOf s.env c ty → ArePlacesOf s source c places → IsForm c
+    → ((after : Locals) → LocalsHold s (bound_within bound places) after → IsBodyScoped (trait_fns_of s.env) (kind_of s.term.kind) (length s.term.arg_tys) after inside)
+    → IsBodyScoped (trait_fns_of s.env) (kind_of s.term.kind) (length s.term.arg_tys) locals ss
+    → IsBodyScoped (trait_fns_of s.env) (kind_of s.term.kind) (length s.term.arg_tys) locals (Then (IfLet (written_pattern (pattern_of s.env c places)) (written_read s bound true source) inside) ss)
+form_scoped s bound locals source ty c places inside ss l ready is parts form h rest =
+    let p = arm_pattern s source ty c places is parts form in
+    let held = read_holds (length s.term.arg_tys) locals (written_read s bound true source) in
+    let value = is_one held (read_one s bound locals true source ty l ready) in
+    let k = named_pattern s.env p.f.ty p.f.variant (leaves_out (typed_fields s.env p.f.fields) places) p.binds held value in
+    subst (λ o. IsBodyScoped (trait_fns_of s.env) (kind_of s.term.kind) (length s.term.arg_tys) locals (Then (IfLet (written_pattern o) (written_read s bound true source) inside) ss)) (sym p.is) (
+      (k.0, subst (λ more. IsBodyScoped (trait_fns_of s.env) (kind_of s.term.kind) (length s.term.arg_tys) (locals ++ more) inside) (sym k.1) (h (locals ++ field_locals p.binds) (form_hold s source ty c places bound locals p parts form l))),
+      rest,
+    )
+
+within_hold : (s : Setting) (bound : List ℕ) (places : List (Option BindingId)) (locals : Locals) → places ≡ [] → LocalsHold s bound locals → LocalsHold s (bound_within bound places) locals
+within_hold s bound places locals e l = subst (λ ps. LocalsHold s (bound_within bound ps) locals) (sym e) l
 
 mutual
-  -- what a lawful block reads, where what follows reads what is there whatever is bound
-  block_scoped : (b : Block) (env : Environment) (t : Term) (bs : List Binding) (bound made : List ℕ) (locals : Locals) (end : Body) → HasFnNames env → AnswersOnce (kind_of t.kind) → LocalsHold env t bs bound locals → IsLawfulFrom (setting env t bs) bound made b → HasSingleArms b
-      → ((after : Locals) → IsBodyScoped (trait_fns_of env) (kind_of t.kind) (length t.arg_tys) after end)
-      → IsBodyScoped (trait_fns_of env) (kind_of t.kind) (length t.arg_tys) locals (block_body env bs (kind_of t.kind) bound b end)
-  block_scoped Stop env t bs bound made locals end names once l k o h = h locals
-  block_scoped (Step binds c more) env t bs bound made locals end names once l k o h =
-      lets_scoped env t bs bound locals binds (Then (control_stmt env bs (kind_of t.kind) (bound_by bound binds) c) (block_body env bs (kind_of t.kind) (bound_by bound binds) more end)) names l k.0
-      (λ after held. control_scoped c more env t bs (bound_by bound binds) _ after (block_body env bs (kind_of t.kind) (bound_by bound binds) more end) names once held k.2 o.0 (block_scoped more env t bs (bound_by bound binds) _ after end names once held k.3 o.1 h))
+  -- what a block reads, where what follows reads what is there whatever is bound
+  block_scoped : (b : Block) (s : Setting) (bound made : List ℕ) (locals : Locals) (end : Body) → HasFnNames s.env → AnswersOnce (kind_of s.term.kind) → LocalsHold s bound locals → IsReadyFrom s bound made b → HasSingleArms b
+      → ((after : Locals) → IsBodyScoped (trait_fns_of s.env) (kind_of s.term.kind) (length s.term.arg_tys) after end)
+      → IsBodyScoped (trait_fns_of s.env) (kind_of s.term.kind) (length s.term.arg_tys) locals (block_body s bound b end)
+  block_scoped Stop s bound made locals end names once l k o h = h locals
+  block_scoped (Step binds c more) s bound made locals end names once l k o h =
+      lets_scoped s bound locals binds (Then (control_stmt s (bound_by bound binds) c) (block_body s (bound_by bound binds) more end)) names l k.0
+      (λ after held. control_scoped c s (bound_by bound binds) _ after (block_body s (bound_by bound binds) more end) names once held k.2 o.0 (block_scoped more s (bound_by bound binds) _ after end names once held k.3 o.1 h))
 
-  control_scoped : (c : Control) (more : Block) (env : Environment) (t : Term) (bs : List Binding) (bound made : List ℕ) (locals : Locals) (ss : Body) → HasFnNames env → AnswersOnce (kind_of t.kind) → LocalsHold env t bs bound locals → IsLawfulControl (setting env t bs) bound made c more → IsSingle c
-      → IsBodyScoped (trait_fns_of env) (kind_of t.kind) (length t.arg_tys) locals ss → IsBodyScoped (trait_fns_of env) (kind_of t.kind) (length t.arg_tys) locals (Then (control_stmt env bs (kind_of t.kind) bound c) ss)
-  control_scoped (block.Match source (block.Arm c places body block.NoArm)) more env t bs bound made locals ss names once l k o h = (
+  control_scoped : (c : Control) (s : Setting) (bound made : List ℕ) (locals : Locals) (ss : Body) → HasFnNames s.env → AnswersOnce (kind_of s.term.kind) → LocalsHold s bound locals → IsReadyControl s bound made c → IsSingle c
+      → IsBodyScoped (trait_fns_of s.env) (kind_of s.term.kind) (length s.term.arg_tys) locals ss → IsBodyScoped (trait_fns_of s.env) (kind_of s.term.kind) (length s.term.arg_tys) locals (Then (control_stmt s bound c) ss)
+  control_scoped (block.Match source (Arm (constraint.ConstBool val) places body NoArm)) s bound made locals ss names once l k o h = (
     (
-      is_one _ (operand_one env t bs bound locals source k.1.0 l k.1.1),
-      is_one _ (tested_holds env c k.1.0 (length t.arg_tys) locals k.1.2.0),
-      block_scoped body env t bs bound made locals Done names once l (arm_body (setting env t bs) bound made source c places body block.NoArm k.1.0 k.1.2) o (λ after. tt),
+      is_one _ (operand_one s bound locals source k.1.0 l k.1.1),
+      is_one _ (tested_holds s.env (constraint.ConstBool val) (length s.term.arg_tys) locals tt),
+      block_scoped body s (bound_within bound places) made locals Done names once (within_hold s bound places locals k.1.2.1 l) k.1.2.2 o (λ after. tt),
     ),
     h,
   )
-  control_scoped (block.Match source (block.Arm c places body (block.Arm d others inside arms))) more env t bs bound made locals ss names once l k o h = absurd o
-  control_scoped (block.Match source block.NoArm) more env t bs bound made locals ss names once l k o h = absurd o
-  control_scoped (block.Equal x y body) more env t bs bound made locals ss names once l k o h =
-      ((is_one _ (operand_one env t bs bound locals x k.0.0 l k.0.1), is_one _ (operand_one env t bs bound locals y k.0.0 l k.0.2), block_scoped body env t bs bound made locals Done names once l k.1 o (λ after. tt)), h)
-  control_scoped (block.Loop result body) more env t bs bound made locals ss names once l k o h = absurd k
-  control_scoped (block.Return pos result) more env t bs bound made locals ss names once l k o h =
-      (returned_scoped (kind_of t.kind) once (written_operand env bs bound result) env (length t.arg_tys) locals (operand_one env t bs bound locals result t.ret_ty l k.0), h)
+  control_scoped (block.Match source (Arm (constraint.ConstInt val of) places body NoArm)) s bound made locals ss names once l k o h = (
+    (
+      is_one _ (operand_one s bound locals source k.1.0 l k.1.1),
+      is_one _ (tested_holds s.env (constraint.ConstInt val of) (length s.term.arg_tys) locals tt),
+      block_scoped body s (bound_within bound places) made locals Done names once (within_hold s bound places locals k.1.2.1 l) k.1.2.2 o (λ after. tt),
+    ),
+    h,
+  )
+  control_scoped (block.Match source (Arm (constraint.ConstPrim val) places body NoArm)) s bound made locals ss names once l k o h = (
+    (
+      is_one _ (operand_one s bound locals source k.1.0 l k.1.1),
+      is_one _ (tested_holds s.env (constraint.ConstPrim val) (length s.term.arg_tys) locals tt),
+      block_scoped body s (bound_within bound places) made locals Done names once (within_hold s bound places locals k.1.2.1 l) k.1.2.2 o (λ after. tt),
+    ),
+    h,
+  )
+  control_scoped (block.Match source (Arm (constraint.Variant of variant) places body NoArm)) s bound made locals ss names once l k o h =
+      form_scoped s bound locals source k.1.0 (constraint.Variant of variant) places (block_body s (bound_within bound places) body Done) ss l k.1.1 k.1.2.0 k.1.2.1 tt
+      (λ after held. block_scoped body s (bound_within bound places) made after Done names once held k.1.2.2 o (λ last. tt)) h
+  control_scoped (block.Match source (Arm (constraint.Struct of) places body NoArm)) s bound made locals ss names once l k o h =
+      form_scoped s bound locals source k.1.0 (constraint.Struct of) places (block_body s (bound_within bound places) body Done) ss l k.1.1 k.1.2.0 k.1.2.1 tt
+      (λ after held. block_scoped body s (bound_within bound places) made after Done names once held k.1.2.2 o (λ last. tt)) h
+  control_scoped (block.Match source (Arm constraint.Some places body NoArm)) s bound made locals ss names once l k o h = absurd k.1.2.0
+  control_scoped (block.Match source (Arm c places body (Arm d others inside arms))) s bound made locals ss names once l k o h = absurd o
+  control_scoped (block.Match source NoArm) s bound made locals ss names once l k o h = absurd o
+  control_scoped (block.Equal x y body) s bound made locals ss names once l k o h =
+      ((is_one _ (operand_one s bound locals x k.0.0 l k.0.1), is_one _ (operand_one s bound locals y k.0.0 l k.0.2), block_scoped body s bound made locals Done names once l k.1 o (λ after. tt)), h)
+  control_scoped (block.Loop result body) s bound made locals ss names once l k o h = absurd k
+  control_scoped (block.Return pos result) s bound made locals ss names once l k o h =
+      (returned_scoped (kind_of s.term.kind) once (written_read s bound false result) (trait_fns_of s.env) (length s.term.arg_tys) locals (read_one s bound locals false result s.term.ret_ty l k), h)
 
 -- what the block of a function reads
-pub root_scoped : (b : Block) (env : Environment) (t : Term) (bs : List Binding) (end : Body) → HasFnNames env → AnswersOnce (kind_of t.kind) → IsLawfulBlock (setting env t bs) b → HasSingleArms b
-    → ((after : Locals) → IsBodyScoped (trait_fns_of env) (kind_of t.kind) (length t.arg_tys) after end)
-    → IsBodyScoped (trait_fns_of env) (kind_of t.kind) (length t.arg_tys) [] (block_body env bs (kind_of t.kind) [] b end)
-root_scoped b env t bs end names once k o h = block_scoped b env t bs [] [] [] end names once (none_hold env t bs) k o h
+pub root_scoped : (b : Block) (s : Setting) (end : Body) → HasFnNames s.env → AnswersOnce (kind_of s.term.kind) → IsReadyFrom s [] [] b → HasSingleArms b
+    → ((after : Locals) → IsBodyScoped (trait_fns_of s.env) (kind_of s.term.kind) (length s.term.arg_tys) after end)
+    → IsBodyScoped (trait_fns_of s.env) (kind_of s.term.kind) (length s.term.arg_tys) [] (block_body s [] b end)
+root_scoped b s end names once k o h = block_scoped b s [] [] [] end names once (none_hold s) k o h

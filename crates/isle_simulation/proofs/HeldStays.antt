@@ -3,9 +3,9 @@ use Rattle.std.proofs.Common.{◌≡◌, ℕ, List, Option, Some, None, refl, ap
 use Rattle.isle_core.specs.Value.{Value, Answer}
 use Rattle.isle_core.specs.Meaning.{Meaning}
 use Rattle.isle_core.specs.Calling.{Calling, ByTurns, ByCases, NoCall, calling}
-use Rattle.isle_core.specs.Path.{Path, Arg, ConstBool, ConstInt, ConstPrim, Called, MadeVariant, MadeStruct, VariantField, StructField, Inner, Paths, NoPath, APath}
-use Rattle.isle_core.specs.ValueAt.{Held, AValue, ATuple, Absent, One, Optional, Listed, Known, held_of, made_held, field_held, inner_held, value_before, case_held, call_held, value_at, values_at}
 use Rattle.isle_core.specs.Making.{Making, MakesVariant, MakesStruct}
+use Rattle.isle_core.specs.Path.{Path, Arg, ConstBool, ConstInt, ConstPrim, Called, MadeVariant, MadeStruct, VariantField, StructField, Inner, Paths, NoPath, APath}
+use Rattle.isle_core.specs.ValueAt.{Held, AValue, ATuple, Absent, One, Optional, Listed, Known, held_of, inner_held, value_before, case_held, call_held, made_held, field_held, value_at, values_at}
 use Rattle.isle_core.specs.Rule.{Environment}
 
 -- something stands there
@@ -28,16 +28,6 @@ answer_stays : (o p : Option Answer) → ((a : Answer) → o ≡ Some a → p �
 answer_stays None p h t = absurd t
 answer_stays (Some a) p h t = ap held_of (h a refl)
 
-field_stays : (i : ℕ) (h g : Held) → (IsThere h → g ≡ h) → IsThere (field_held i h) → field_held i g ≡ field_held i h
-field_stays i (One x) g s t = ap (field_held i) (s tt)
-field_stays i Absent g s t = absurd t
-field_stays i (Listed is) g s t = absurd t
-field_stays i (Optional o) g s t = absurd t
-
-made_stays : (env : Environment) (mk : Making) (o p : Option (List Value)) → (AreThere o → p ≡ o) → IsThere (made_held env mk o) → made_held env mk p ≡ made_held env mk o
-made_stays env mk None p s t = absurd t
-made_stays env mk (Some vs) p s t = ap (made_held env mk) (s tt)
-
 inner_stays : (h g : Held) → (IsThere h → g ≡ h) → IsThere (inner_held h) → inner_held g ≡ inner_held h
 inner_stays Absent g s t = absurd t
 inner_stays (One i) g s t = absurd t
@@ -59,20 +49,31 @@ call_stays m (ByCases callee partial) o p None ws h k t = absurd t
 call_stays m (ByCases callee partial) o p (Some vs) ws h k t = ap (case_held m (ByCases callee partial)) (k tt)
 call_stays m NoCall o p vs ws h k t = absurd t
 
+made_stays : (env : Environment) (mk : Making) (o p : Option (List Value)) → (AreThere o → p ≡ o) → IsThere (made_held env mk o) → made_held env mk p ≡ made_held env mk o
+made_stays env mk None p s t = absurd t
+made_stays env mk (Some vs) p s t = ap (made_held env mk) (s tt)
+
+field_stays : (i : ℕ) (h g : Held) → (IsThere h → g ≡ h) → IsThere (field_held i h) → field_held i g ≡ field_held i h
+field_stays i (One x) g s t = ap (field_held i) (s tt)
+field_stays i Absent g s t = absurd t
+field_stays i (Optional o) g s t = absurd t
+field_stays i (Listed is) g s t = absurd t
+
 mutual
   -- what stands at a path
   pub held_stays : (p : Path) (env : Environment) (m : Meaning) (args : List Value) (known later : Known) → Grows known later → IsThere (value_at env m args known p) → value_at env m args later p ≡ value_at env m args known p
   held_stays (Arg i) env m args known later g t = refl
   held_stays (ConstBool ty b) env m args known later g t = refl
   held_stays (ConstInt ty n) env m args known later g t = refl
-  held_stays (Called term ps k) env m args known later g t =
-      call_stays m (calling env term) (known k) (later k) (values_at env m args known ps) (values_at env m args later ps) (g.by k) (λ s. values_stay ps env m args known later g s) t
-  held_stays (Inner p) env m args known later g t = inner_stays (value_at env m args known p) (value_at env m args later p) (λ s. held_stays p env m args known later g s) t
   held_stays (ConstPrim name) env m args known later g t = refl
-  held_stays (MadeVariant ty variant ps) env m args known later g t = made_stays env (MakesVariant ty variant) (values_at env m args known ps) (values_at env m args later ps) (λ s. values_stay ps env m args known later g s) t
+  held_stays (MadeVariant ty variant ps) env m args known later g t =
+      made_stays env (MakesVariant ty variant) (values_at env m args known ps) (values_at env m args later ps) (λ s. values_stay ps env m args known later g s) t
   held_stays (MadeStruct ty ps) env m args known later g t = made_stays env (MakesStruct ty) (values_at env m args known ps) (values_at env m args later ps) (λ s. values_stay ps env m args known later g s) t
   held_stays (VariantField variant i p) env m args known later g t = field_stays i (value_at env m args known p) (value_at env m args later p) (λ s. held_stays p env m args known later g s) t
   held_stays (StructField i p) env m args known later g t = field_stays i (value_at env m args known p) (value_at env m args later p) (λ s. held_stays p env m args known later g s) t
+  held_stays (Called term ps k) env m args known later g t =
+      call_stays m (calling env term) (known k) (later k) (values_at env m args known ps) (values_at env m args later ps) (g.by k) (λ s. values_stay ps env m args known later g s) t
+  held_stays (Inner p) env m args known later g t = inner_stays (value_at env m args known p) (value_at env m args later p) (λ s. held_stays p env m args known later g s) t
   held_stays p env m args known later g t = absurd t
 
   -- and at paths in order

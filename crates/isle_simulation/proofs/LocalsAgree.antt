@@ -1,125 +1,169 @@
--- The locals that are bound hold what stands at the paths of their bindings.
-use Rattle.std.proofs.Common.{◌≡◌, ⊎_elim, ℕ, List, [], ◌∷◌, ◌++◌, Bool, true, false, cond, eqb, Option, Some, refl, sym, ap, ◌∙◌, subst}
-use Rattle.std.specs.Prelude.{◌||◌, Contains}
+-- The locals that are bound hold what stands at the paths of their bindings, but for the type names of opaque numbers.
+use Rattle.std.proofs.Common.{◌≡◌, ⊎_elim, ℕ, List, [], ◌∷◌, ◌++◌, map, Bool, true, false, cond, eqb, Option, Some, refl, sym, ap, ◌∙◌, subst}
+use Rattle.std.specs.Prelude.{◌||◌, option_map}
 use Rattle.std.proofs.lemmas.Bool.{eqb-true}
 use Rattle.std.proofs.lemmas.List.Folds.{list_any-append}
 use Rattle.std.proofs.lemmas.List.Sums.{fold_push}
 use Rattle.isle_core.specs.declared.BindingId.{BindingId}
 use Rattle.isle_core.specs.declared.TypeId.{TypeId}
-use Rattle.isle_core.specs.declared.rule_sets.Binding.{Binding}
 use Rattle.isle_core.specs.declared.types.Term.{Term}
-use Rattle.isle_core.specs.Value.{Value}
-use Rattle.isle_core.specs.Meaning.{Meaning}
-use Rattle.isle_core.specs.HasType.{HasType, HaveTypes}
-use Rattle.isle_core.specs.Path.{Path, at, at_all, paths_of}
-use Rattle.isle_core.specs.ValueAt.{Held, Absent, Known, a_value, an_option, value_before, value_at, values_at}
+use Rattle.isle_core.specs.HasType.{AreFieldsOf}
+use Rattle.isle_core.specs.Form.{field_values}
+use Rattle.isle_core.specs.Nameless.{nameless, nameless_fields}
+use Rattle.isle_core.specs.Path.{Path, at, at_all}
 use Rattle.isle_core.specs.PathType.{IsPathOf, IsOptionOf}
-use Rattle.isle_core.specs.Readable.{IsReadAs, AreReadAs}
 use Rattle.isle_core.specs.Rule.{Environment}
-use Rattle.isle_core.specs.Setting.{setting}
+use Rattle.isle_core.specs.Setting.{Setting, paths_in}
+use Rattle.isle_core.specs.Value.{Value, FieldValues, NoField, Field}
+use Rattle.isle_core.specs.ValueAt.{Held, Absent, Known, a_value, an_option, value_before, value_at, values_at}
 use Rattle.isle_core.proofs.TurnKinds.{IsHeldOf}
-use Rattle.isle_core.proofs.ReadablePaths.{read_place}
-use Rattle.isle_tree.specs.Run.{Around, Env, newer, look, bind, value_of, read_values}
-use Rattle.isle_simulation.proofs.Written.{reads, written_operand}
+use Rattle.isle_tree.specs.declared.tree.Operand.{Operand}
+use Rattle.isle_tree.specs.Run.{Around, Env, newer, look, bind, value_of, read_value, read_values, read_fields, field_before}
 use Rattle.isle_simulation.specs.Operands.{is_bound}
-use Rattle.isle_simulation.proofs.BoundTests.{found}
+use Rattle.isle_simulation.specs.References.{is_declared, is_reference_in, read_as}
 use Rattle.isle_simulation.proofs.HeldStays.{IsThere, Grows, held_stays}
-use Rattle.isle_simulation.proofs.PathValues.{path_reads}
+use Rattle.isle_simulation.proofs.PathValues.{Grounds, IsValueAt, constant_valued, path_reads}
+use Rattle.isle_simulation.proofs.Ready.{IsSpelled, IsReady, AreReady}
+use Rattle.isle_simulation.proofs.Written.{written_operand, written_read, reads, field_reads}
 
--- what stands at a path is of the path's kind and type
-pub record IsOfKind (env : Environment) (t : Term) (p : Path) (h : Held) : Type 0 where
-  pub found : IsThere h
-  pub value : (ty : TypeId) → IsPathOf env t p ty → (v : Value) × (h ≡ a_value v) × HasType env v ty
-  pub option : (ty : TypeId) → IsOptionOf env t p ty → (o : Option Value) × (h ≡ an_option o) × IsHeldOf env ty h
+-- a place holds in the run what another one holds where a block runs, an option of a value of the type, but for names
+pub record IsOptionAt (env : Environment) (h g : Held) (ty : TypeId) : Type 0 where
+  pub o : Option Value
+  pub q : Option Value
+  pub run : h ≡ an_option q
+  pub block : g ≡ an_option o
+  pub same : option_map nameless q ≡ option_map nameless o
+  pub typed : IsHeldOf env ty (an_option o)
 
--- a local holds what stands at its binding's path
-pub record Stands (env : Environment) (m : Meaning) (args : List Value) (t : Term) (bs : List Binding) (known : Known) (locals : Env) (c : BindingId) : Type 0 where
-  pub is : look locals c.0 ≡ value_at env m args known (at (paths_of bs) c)
-  pub kind : IsOfKind env t (at (paths_of bs) c) (value_at env m args known (at (paths_of bs) c))
+-- a local holds in the run what stands at a path of a type
+pub record Stands (env : Environment) (t : Term) (p : Path) (h g : Held) : Type 0 where
+  pub value : (ty : TypeId) → IsPathOf env t p ty → IsValueAt env h g ty
+  pub option : (ty : TypeId) → IsOptionOf env t p ty → IsOptionAt env h g ty
 
 -- so of each that is bound
-pub record Agree (env : Environment) (m : Meaning) (args : List Value) (t : Term) (bs : List Binding) (bound : List ℕ) (known : Known) (locals : Env) : Type 0 where
-  pub by : (c : BindingId) → is_bound bound c ≡ true → Stands env m args t bs known locals c
+pub record Agree (s : Setting) (u : Around) (bound : List ℕ) (known : Known) (locals : Env) : Type 0 where
+  pub by : (c : BindingId) → is_bound bound c ≡ true → Stands s.env s.term (at (paths_in s) c) (look locals c.0) (value_at s.env u.meaning u.args known (at (paths_in s) c))
 
 -- none is bound
-pub none_agree : (env : Environment) (m : Meaning) (args : List Value) (t : Term) (bs : List Binding) (known : Known) → Agree env m args t bs [] known []
-none_agree env m args t bs known = record { by = λ c e. cc }
+pub none_agree : (s : Setting) (u : Around) (known : Known) → Agree s u [] known []
+none_agree s u known = record { by = λ c e. cc }
 
 -- still so while later calls are answered
-pub agree_later : (env : Environment) (m : Meaning) (args : List Value) (t : Term) (bs : List Binding) (bound : List ℕ) (known later : Known) (locals : Env) → Grows known later → Agree env m args t bs bound known locals → Agree env m args t bs bound later locals
-agree_later env m args t bs bound known later locals g a = record { by = λ c e. still c (a.by c e) }
+pub agree_later : (s : Setting) (u : Around) (bound : List ℕ) (known later : Known) (locals : Env) → Grows known later → Agree s u bound known locals → Agree s u bound later locals
+agree_later s u bound known later locals g a = record { by = λ c e. record { value = λ ty k. still c ty ((a.by c e).value ty k); option = λ ty k. still_option c ty ((a.by c e).option ty k) } }
   where
-    still : (c : BindingId) → Stands env m args t bs known locals c → Stands env m args t bs later locals c
-    still c s =
-        let p = at (paths_of bs) c in
-        let same = held_stays p env m args known later g s.kind.found in
-        record { is = s.is ∙ sym same; kind = subst (IsOfKind env t p) (sym same) s.kind }
+    at_path : Known → BindingId → Held
+    at_path k c = value_at s.env u.meaning u.args k (at (paths_in s) c)
+
+    still : (c : BindingId) (ty : TypeId) → IsValueAt s.env (look locals c.0) (at_path known c) ty → IsValueAt s.env (look locals c.0) (at_path later c) ty
+    still c ty x = record { v = x.v; r = x.r; run = x.run; block = held_stays (at (paths_in s) c) s.env u.meaning u.args known later g (subst IsThere (sym x.block) tt) ∙ x.block; same = x.same; typed = x.typed }
+
+    still_option : (c : BindingId) (ty : TypeId) → IsOptionAt s.env (look locals c.0) (at_path known c) ty → IsOptionAt s.env (look locals c.0) (at_path later c) ty
+    still_option c ty x = record { o = x.o; q = x.q; run = x.run; block = held_stays (at (paths_in s) c) s.env u.meaning u.args known later g (subst IsThere (sym x.block) tt) ∙ x.block; same = x.same; typed = x.typed }
 
 older : (x : Bool) → (x || (false || false)) ≡ true → x ≡ true
 older true e = refl
 older false e = e
 
 -- a local more
-pub bind_agrees : (env : Environment) (m : Meaning) (args : List Value) (t : Term) (bs : List Binding) (bound : List ℕ) (known : Known) (locals : Env) (b : BindingId) (h : Held)
-    → Agree env m args t bs bound known locals → value_at env m args known (at (paths_of bs) b) ≡ h → IsOfKind env t (at (paths_of bs) b) h → Agree env m args t bs (bound ++ b.0 ∷ []) known (bind locals b.0 h)
-bind_agrees env m args t bs bound known locals b h a at_b kind = record {
+pub bind_agrees : (s : Setting) (u : Around) (bound : List ℕ) (known : Known) (locals : Env) (b : BindingId) (h : Held)
+    → Agree s u bound known locals → Stands s.env s.term (at (paths_in s) b) h (value_at s.env u.meaning u.args known (at (paths_in s) b)) → Agree s u (bound ++ b.0 ∷ []) known (bind locals b.0 h)
+bind_agrees s u bound known locals b h a here = record {
   by = λ c e. one c (eqb b.0 c.0) refl (sym (list_any-append (λ n. eqb n c.0) bound (b.0 ∷ [])) ∙ e);
 }
   where
-    one : (c : BindingId) (same : Bool) → eqb b.0 c.0 ≡ same → (is_bound bound c || is_bound (b.0 ∷ []) c) ≡ true → Stands env m args t bs known (bind locals b.0 h) c
+    one : (c : BindingId) (same : Bool) → eqb b.0 c.0 ≡ same → (is_bound bound c || is_bound (b.0 ∷ []) c) ≡ true
+        → Stands s.env s.term (at (paths_in s) c) (look (bind locals b.0 h) c.0) (value_at s.env u.meaning u.args known (at (paths_in s) c))
     one c true is e =
-        let here : at (paths_of bs) b ≡ at (paths_of bs) c = ap (λ n. at (paths_of bs) (record { 0 = n })) (eqb-true b.0 c.0 is) in
-        let held : value_at env m args known (at (paths_of bs) c) ≡ h = ap (value_at env m args known) (sym here) ∙ at_b in
-        record {
-          is = fold_push (newer c.0) Absent locals (b.0, h) ∙ ap (λ x. cond x h (look locals c.0)) is ∙ sym held;
-          kind = subst (λ g. IsOfKind env t (at (paths_of bs) c) g) (sym held) (subst (λ p. IsOfKind env t p h) here kind);
-        }
+        let there : at (paths_in s) b ≡ at (paths_in s) c = ap (λ n. at (paths_in s) (record { 0 = n })) (eqb-true b.0 c.0 is) in
+        let found : look (bind locals b.0 h) c.0 ≡ h = fold_push (newer c.0) Absent locals (b.0, h) ∙ ap (λ x. cond x h (look locals c.0)) is in
+        subst (λ g. Stands s.env s.term (at (paths_in s) c) g (value_at s.env u.meaning u.args known (at (paths_in s) c))) (sym found)
+        (subst (λ p. Stands s.env s.term p h (value_at s.env u.meaning u.args known p)) there here)
     one c false is e =
-        let s = a.by c (older (is_bound bound c) (subst (λ x. (is_bound bound c || (x || false)) ≡ true) is e)) in
-        record { is = fold_push (newer c.0) Absent locals (b.0, h) ∙ ap (λ x. cond x h (look locals c.0)) is ∙ s.is; kind = s.kind }
+        let found : look (bind locals b.0 h) c.0 ≡ look locals c.0 = fold_push (newer c.0) Absent locals (b.0, h) ∙ ap (λ x. cond x h (look locals c.0)) is in
+        subst (λ g. Stands s.env s.term (at (paths_in s) c) g (value_at s.env u.meaning u.args known (at (paths_in s) c))) (sym found)
+        (a.by c (older (is_bound bound c) (subst (λ x. (is_bound bound c || (x || false)) ≡ true) is e)))
 
 -- ---- operands
 
--- the value of the type that an operand stands for, in the function and at the path
-pub record ReadsAs (env : Environment) (u : Around) (bs : List Binding) (bound : List ℕ) (known : Known) (locals : Env) (b : BindingId) (ty : TypeId) : Type 0 where
-  pub v : Value
-  pub place : value_of u locals (written_operand env bs bound b) ≡ a_value v
-  pub held : value_at env u.meaning u.args known (at (paths_of bs) b) ≡ a_value v
-  pub typed : HasType env v ty
-
-not_bound : (bound : List ℕ) (n : ℕ) → Contains bound n → is_bound bound (record { 0 = n }) ≡ false → ⊥
-not_bound bound n c e = let t = found bound n c in cc
-
-pub operand_reads : (env : Environment) (u : Around) (t : Term) (bs : List Binding) (bound : List ℕ) (known : Known) (locals : Env) (b : BindingId) (ty : TypeId)
-    → HaveTypes env u.args t.arg_tys → Agree env u.meaning u.args t bs bound known locals → IsReadAs (setting env t bs) bound b ty → ReadsAs env u bs bound known locals b ty
-operand_reads env u t bs bound known locals b ty h a r = one (is_bound bound b) refl
+-- the value of the type that an operand stands for
+pub operand_reads : (s : Setting) (u : Around) (bound : List ℕ) (known : Known) (locals : Env) (b : BindingId) (ty : TypeId) → Grounds s u → Agree s u bound known locals → IsReady s bound b ty
+    → IsValueAt s.env (value_of u locals (written_operand s bound b)) (value_at s.env u.meaning u.args known (at (paths_in s) b)) ty
+operand_reads s u bound known locals b ty g a r = one (is_bound bound b) refl
   where
-    one : (x : Bool) → is_bound bound b ≡ x → ReadsAs env u bs bound known locals b ty
-    one true is =
-        let s = a.by b is in
-        let k = s.kind.value ty r.path in
-        record { v = k.0; place = rw is (s.is ∙ k.1); held = k.1; typed = k.2 }
-    one false is =
-        ⊎_elim
-        (λ in_place. let k = path_reads env u t (at (paths_of bs) b) ty h r.path in_place in record { v = k.0; place = rw is (k.1.place locals); held = k.1.held known; typed = k.1.typed })
-        (λ c. absurd (not_bound bound b.0 c is)) (read_place (setting env t bs) bound b r.read)
+    spelled : is_bound bound b ≡ false → IsSpelled (at (paths_in s) b) → IsValueAt s.env (value_of u locals (written_operand s bound b)) (value_at s.env u.meaning u.args known (at (paths_in s) b)) ty
+    spelled is k = rw is (path_reads s.env u s.term b.0 (at (paths_in s) b) ty known locals g.typed g.names g.constants (constant_valued s.env u.meaning s.bindings b g.answers) r.path k)
+
+    one : (x : Bool) → is_bound bound b ≡ x → IsValueAt s.env (value_of u locals (written_operand s bound b)) (value_at s.env u.meaning u.args known (at (paths_in s) b)) ty
+    one true is = rw is ((a.by b is).value ty r.path)
+    one false is = ⊎_elim (λ k. absurd (let bad : false ≡ true = sym is ∙ k in cc)) (λ k. spelled is k) r.place
+
+-- a reference is read as its value
+pub read_is : (u : Around) (locals : Env) (wanted is : Bool) (o : Operand) → read_value u locals (read_as wanted is o) ≡ value_of u locals o
+read_is u locals true true o = refl
+read_is u locals true false o = refl
+read_is u locals false true o = refl
+read_is u locals false false o = refl
+
+-- so of what is read
+pub written_reads : (s : Setting) (u : Around) (bound : List ℕ) (known : Known) (locals : Env) (wanted : Bool) (b : BindingId) (ty : TypeId) → Grounds s u → Agree s u bound known locals → IsReady s bound b ty
+    → IsValueAt s.env (read_value u locals (written_read s bound wanted b)) (value_at s.env u.meaning u.args known (at (paths_in s) b)) ty
+written_reads s u bound known locals wanted b ty g a r =
+    subst (λ h. IsValueAt s.env h (value_at s.env u.meaning u.args known (at (paths_in s) b)) ty) (sym (read_is u locals wanted (is_reference_in s b) (written_operand s bound b))) (operand_reads s u bound known locals b ty g a r)
 
 -- the values that operands stand for, in order
-pub record ReadAll (env : Environment) (u : Around) (bs : List Binding) (bound : List ℕ) (known : Known) (locals : Env) (parameters : List BindingId) : Type 0 where
+pub record ReadAll (s : Setting) (u : Around) (bound : List ℕ) (known : Known) (locals : Env) (tys : List TypeId) (parameters : List BindingId) : Type 0 where
   pub vs : List Value
-  pub places : read_values u locals (reads env bs bound parameters) ≡ Some vs
-  pub held : values_at env u.meaning u.args known (at_all (paths_of bs) parameters) ≡ Some vs
+  pub rs : List Value
+  pub run : read_values u locals (reads s bound tys parameters) ≡ Some rs
+  pub block : values_at s.env u.meaning u.args known (at_all (paths_in s) parameters) ≡ Some vs
+  pub same : map nameless rs ≡ map nameless vs
 
-pub operands_read : (env : Environment) (u : Around) (t : Term) (bs : List Binding) (bound : List ℕ) (known : Known) (locals : Env) (parameters : List BindingId) (tys : List TypeId)
-    → HaveTypes env u.args t.arg_tys → Agree env u.meaning u.args t bs bound known locals → AreReadAs (setting env t bs) bound parameters tys → ReadAll env u bs bound known locals parameters
-operands_read env u t bs bound known locals [] [] h a r = record { vs = []; places = refl; held = refl }
-operands_read env u t bs bound known locals (b ∷ more) (ty ∷ tys) h a r =
-    let k = operand_reads env u t bs bound known locals b ty h a r.0 in
-    let l = operands_read env u t bs bound known locals more tys h a r.1 in
+both : (r v : Value) (rs vs : List Value) → nameless r ≡ nameless v → map nameless rs ≡ map nameless vs → map nameless (r ∷ rs) ≡ map nameless (v ∷ vs)
+both r v rs vs e f = ap (λ x. x ∷ map nameless rs) e ∙ ap (λ xs. nameless v ∷ xs) f
+
+pub operands_read : (s : Setting) (u : Around) (bound : List ℕ) (known : Known) (locals : Env) (tys : List TypeId) (parameters : List BindingId) → Grounds s u → Agree s u bound known locals → AreReady s bound parameters tys
+    → ReadAll s u bound known locals tys parameters
+operands_read s u bound known locals [] [] g a r = record { vs = []; rs = []; run = refl; block = refl; same = refl }
+operands_read s u bound known locals (ty ∷ tys) (b ∷ more) g a r =
+    let k = written_reads s u bound known locals (is_declared s.env ty) b ty g a r.0 in
+    let l = operands_read s u bound known locals tys more g a r.1 in
     record {
       vs = k.v ∷ l.vs;
-      places = ap (λ x. value_before x (read_values u locals (reads env bs bound more))) k.place ∙ ap (value_before (a_value k.v)) l.places;
-      held = ap (λ x. value_before x (values_at env u.meaning u.args known (at_all (paths_of bs) more))) k.held ∙ ap (value_before (a_value k.v)) l.held;
+      rs = k.r ∷ l.rs;
+      run = ap (λ x. value_before x (read_values u locals (reads s bound tys more))) k.run ∙ ap (value_before (a_value k.r)) l.run;
+      block = ap (λ x. value_before x (values_at s.env u.meaning u.args known (at_all (paths_in s) more))) k.block ∙ ap (value_before (a_value k.v)) l.block;
+      same = both k.r k.v l.rs l.vs k.same l.same;
     }
-operands_read env u t bs bound known locals [] (ty ∷ tys) h a r = absurd r
-operands_read env u t bs bound known locals (b ∷ more) [] h a r = absurd r
+operands_read s u bound known locals (ty ∷ tys) [] g a r = absurd r
+operands_read s u bound known locals [] (b ∷ more) g a r = absurd r
+
+-- the fields that operands stand for, in order
+pub record FieldsRead (s : Setting) (u : Around) (bound : List ℕ) (known : Known) (locals : Env) (fields : List (List ℕ × TypeId)) (parts : List BindingId) : Type 0 where
+  pub vs : List Value
+  pub rs : FieldValues
+  pub run : read_fields u locals (field_reads s bound fields parts) ≡ Some rs
+  pub block : values_at s.env u.meaning u.args known (at_all (paths_in s) parts) ≡ Some vs
+  pub same : nameless_fields rs ≡ nameless_fields (field_values fields vs)
+  pub typed : AreFieldsOf s.env (Some fields) (field_values fields vs)
+
+both_fields : (name : List ℕ) (r v : Value) (rs vs : FieldValues) → nameless r ≡ nameless v → nameless_fields rs ≡ nameless_fields vs → nameless_fields (Field name r rs) ≡ nameless_fields (Field name v vs)
+unfolding nameless
+both_fields name r v rs vs e f = ap (λ x. Field name x (nameless_fields rs)) e ∙ ap (Field name (nameless v)) f
+
+pub fields_read : (s : Setting) (u : Around) (bound : List ℕ) (known : Known) (locals : Env) (fields : List (List ℕ × TypeId)) (parts : List BindingId) → Grounds s u → Agree s u bound known locals
+    → AreReady s bound parts (map (λ (f : List ℕ × TypeId). f.1) fields) → FieldsRead s u bound known locals fields parts
+fields_read s u bound known locals [] [] g a r = record { vs = []; rs = NoField; run = refl; block = refl; same = refl; typed = tt }
+fields_read s u bound known locals (f ∷ fields) (b ∷ more) g a r =
+    let k = written_reads s u bound known locals false b f.1 g a r.0 in
+    let l = fields_read s u bound known locals fields more g a r.1 in
+    record {
+      vs = k.v ∷ l.vs;
+      rs = Field f.0 k.r l.rs;
+      run = ap (λ x. field_before f.0 x (read_fields u locals (field_reads s bound fields more))) k.run ∙ ap (field_before f.0 (a_value k.r)) l.run;
+      block = ap (λ x. value_before x (values_at s.env u.meaning u.args known (at_all (paths_in s) more))) k.block ∙ ap (value_before (a_value k.v)) l.block;
+      same = both_fields f.0 k.r k.v l.rs (field_values fields l.vs) k.same l.same;
+      typed = (refl, k.typed, l.typed);
+    }
+fields_read s u bound known locals (f ∷ fields) [] g a r = absurd r
+fields_read s u bound known locals [] (b ∷ more) g a r = absurd r

@@ -1,6 +1,6 @@
 -- The forms of a lawful block are built, and its statements are the written ones.
-use Rattle.std.proofs.Common.{◌≡◌, ⊎_elim, ℕ, ℤ, List, [], ◌∷◌, ◌++◌, Bool, true, false, Option, Some, None, refl, sym, ap, subst}
-use Rattle.std.specs.Prelude.{Contains, IsSomeAnd, option_map, slice_get}
+use Rattle.std.proofs.Common.{◌≡◌, ⊎_elim, ℕ, ℤ, List, [], ◌∷◌, ◌++◌, map, Bool, true, false, Option, Some, None, refl, sym, ap, ◌∙◌}
+use Rattle.std.specs.Prelude.{IsSomeAnd, option_map, slice_get}
 use Rattle.isle_core.specs.declared.BindingId.{BindingId}
 use Rattle.isle_core.specs.declared.TypeId.{TypeId}
 use Rattle.isle_core.specs.declared.files.Files.{Files}
@@ -14,138 +14,181 @@ use Rattle.isle_core.specs.declared.types.ReturnKind.TheVariants as return_kind
 use Rattle.isle_core.specs.declared.types.Term.{Term}
 use Rattle.isle_core.specs.declared.types.TypeDef.{TypeDef}
 use Rattle.isle_core.specs.declared.types.TypeDef.TheVariants as def
-use Rattle.isle_core.specs.Bindable.{IsBindable, AreBindable, bound_by}
+use Rattle.isle_core.specs.declared.values.Callee.{Callee}
+use Rattle.isle_core.specs.ArmPlaces.{bound_within}
+use Rattle.isle_core.specs.Bindable.{IsPlain, bound_by}
 use Rattle.isle_core.specs.Block as block
-use Rattle.isle_core.specs.Block.{Block, Stop, Step, Control}
-use Rattle.isle_core.specs.BlockLawful.{IsLawfulFrom, IsLawfulControl, IsLawfulBlock}
+use Rattle.isle_core.specs.Block.{Block, Stop, Step, Control, Arm, NoArm}
+use Rattle.isle_core.specs.BlockLawful.{IsLawfulBlock}
 use Rattle.isle_core.specs.Calling.{Calling, ByTurns, ByCases, NoCall, calling, kind_of, AnswersOnce}
-use Rattle.isle_core.specs.Constants.{int_of_def, int_value}
-use Rattle.isle_core.specs.ConstraintType.{IsConstraintOf}
+use Rattle.isle_core.specs.Constants.{int_of_def}
 use Rattle.isle_core.specs.ExternalCall.{IsCall}
-use Rattle.isle_core.specs.HasType.{IsOfDef, HasType}
-use Rattle.isle_core.specs.Path.{Path, Arg, ConstBool, ConstInt, at, paths_of}
-use Rattle.isle_core.specs.PathType.{IsPathOf}
-use Rattle.isle_core.specs.Places.{place_in}
-use Rattle.isle_core.specs.Readable.{IsInPlace, IsReadAs, AreReadAs}
+use Rattle.isle_core.specs.Form.{Form, form, form_types}
+use Rattle.isle_core.specs.HasType.{typed_fields}
+use Rattle.isle_core.specs.Making.{Making, MakesStruct}
+use Rattle.isle_core.specs.Path.{Path, Paths, Arg, ConstBool, ConstInt, ConstPrim, MadeStruct, NoPath, APath, at}
+use Rattle.isle_core.specs.PathType.{IsPathOf, ArePathsOf}
 use Rattle.isle_core.specs.Rule.{Environment}
-use Rattle.isle_core.specs.Setting.{setting}
+use Rattle.isle_core.specs.Setting.{Setting, setting, paths_in}
 use Rattle.isle_core.specs.SingleArms.{HasSingleArms, IsSingle}
 use Rattle.isle_core.specs.Terms.{sym_text}
-use Rattle.isle_core.proofs.ReadablePaths.{read_place}
 use Rattle.isle_tree.specs.declared.tree.Operand.{Operand}
-use Rattle.isle_tree.specs.Program.{Stmt, IfEq, Return, Body, Done, Then}
+use Rattle.isle_tree.specs.declared.tree.Operand.TheVariants as operand
+use Rattle.isle_tree.specs.declared.tree.Read.{Read}
+use Rattle.isle_tree.specs.declared.tree.TPat.{TPat}
+use Rattle.isle_tree.specs.Program.{Stmt, IfEq, IfLet, Return, Body, Done, Then}
+use Rattle.isle_simulation.specs.Completed.{completed}
 use Rattle.isle_simulation.specs.Operands.{constant, in_place, tested, is_bound, operand_of}
-use Rattle.isle_simulation.specs.Shape.{IsOperandOf}
-use Rattle.isle_simulation.specs.Statements.{callee_of, reads, read_of, computed, stmt_before, lets, if_eq, return_of, block_body, control_stmt}
-use Rattle.isle_simulation.specs.TermFunction.{tail_of, function_with, term_function}
-use Rattle.isle_simulation.proofs.ArmBodies.{arm_body}
+use Rattle.isle_simulation.specs.References.{is_declared, is_reference_in, read_as}
+use Rattle.isle_simulation.specs.Statements.{callee_of, read_before, read_in, reads, call_on, call_of, read_of, field_before, field_reads, made_of, made_in, computed, stmt_before, let_of, lets, if_eq, if_let, return_of, block_body, control_stmt}
+use Rattle.isle_simulation.specs.TermFunction.{tail_in, function_with, term_function}
+use Rattle.isle_simulation.proofs.ArmsRun.{arm_pattern}
+use Rattle.isle_simulation.proofs.OneBind.{spelled}
 use Rattle.isle_simulation.proofs.BoundTests.{found}
+use Rattle.isle_simulation.proofs.CompletedReady.{completed_ready}
+use Rattle.isle_simulation.proofs.CompletedRuns.{completed_single}
+use Rattle.isle_simulation.proofs.PathValues.{IsConstant}
+use Rattle.isle_simulation.proofs.Ready.{IsSpelled, IsReady, AreReady, IsMadeReady, IsReadyBind, AreReadyBinds, IsReadyFrom, IsReadyControl}
 use Rattle.isle_simulation.proofs.Written as written
-use Rattle.isle_simulation.proofs.Written.{written_constant, written_place, written_test, written_operand, function_of}
+use Rattle.isle_simulation.proofs.Written.{written_test, written_operand, written_read, written_place, written_pattern, call_expr, made_expr, function_of}
 
 -- ---- operands that are there
 
-number_written : (env : Environment) (o : Option TypeDef) (n : ℤ) → constant (int_of_def env o n) ≡ Some (written_constant (int_of_def env o n))
-number_written env (Some (def.Builtin (builtin.Int ty))) n = refl
-number_written env (Some (def.Builtin builtin.Bool)) n = refl
-number_written env (Some (def.Primitive name rust pos)) n = refl
-number_written env (Some (def.Enum name is_extern is_nodebug variants pos)) n = refl
-number_written env (Some (def.Struct name is_extern is_nodebug fields pos)) n = refl
-number_written env None n = refl
+number_there : (env : Environment) (o : Option TypeDef) (n : ℤ) → constant (int_of_def env o n) ≡ Some (written.written (constant (int_of_def env o n)))
+number_there env (Some (def.Builtin (builtin.Int ty))) n = refl
+number_there env (Some (def.Builtin builtin.Bool)) n = refl
+number_there env (Some (def.Primitive name rust pos)) n = refl
+number_there env (Some (def.Enum name is_extern is_nodebug variants pos)) n = refl
+number_there env (Some (def.Struct name is_extern is_nodebug fields pos)) n = refl
+number_there env None n = refl
 
-typed_written : (env : Environment) (of : TypeId) (n : ℤ) → constant (int_value env of n) ≡ Some (written_constant (int_value env of n))
-typed_written env of n = number_written env (slice_get env.types.types of.0) n
+name_there : (env : Environment) (t : Term) (o : Option Form) → IsSomeAnd o (λ f. ArePathsOf env t NoPath (form_types env f)) → option_map (λ (f : Form). operand.Name (sym_text env f.ty)) o ≡ Some (written.written (option_map (λ (f : Form). operand.Name (sym_text env f.ty)) o))
+name_there env t None h = absurd h
+name_there env t (Some f) h = refl
 
--- of a path of a type that is read in place
-place_written : (env : Environment) (t : Term) (p : Path) (ty : TypeId) → IsPathOf env t p ty → IsInPlace p → in_place env p ≡ Some (written_place env p)
-place_written env t (Arg i) ty h k = refl
-place_written env t (ConstBool of b) ty h k = refl
-place_written env t (ConstInt of n) ty h k = typed_written env of n
-place_written env t p ty h k = absurd k
+-- of a path of a type that is spelled
+place_there : (env : Environment) (t : Term) (local : ℕ) (p : Path) (ty : TypeId) → IsPathOf env t p ty → IsSpelled p → in_place env local p ≡ Some (written.written (in_place env local p))
+place_there env t local (Arg i) ty h k = refl
+place_there env t local (ConstBool of b) ty h k = refl
+place_there env t local (ConstInt of n) ty h k = number_there env (slice_get env.types.types of.0) n
+place_there env t local (ConstPrim name) ty h k = refl
+place_there env t local (MadeStruct of NoPath) ty h k = name_there env t (form env (MakesStruct of)) h.1
+place_there env t local (MadeStruct of (APath p ps)) ty h k = absurd k
+place_there env t local p ty h k = absurd k
 
--- of a constraint of a type
-pub test_written : (env : Environment) (c : Constraint) (ty : TypeId) → IsConstraintOf env c ty → tested env c ≡ Some (written_test env c)
-test_written env (constraint.ConstBool val) ty h = refl
-test_written env (constraint.ConstInt val of) ty h = typed_written env of val
-test_written env c ty h = absurd h
+-- of a constraint that tests for a constant
+pub test_there : (env : Environment) (c : Constraint) → IsConstant c → tested env c ≡ Some (written_test env c)
+test_there env (constraint.ConstBool val) h = refl
+test_there env (constraint.ConstInt val of) h = number_there env (slice_get env.types.types of.0) val
+test_there env (constraint.ConstPrim val) h = refl
+test_there env c h = absurd h
 
-not_bound : (bound : List ℕ) (b : BindingId) → Contains bound b.0 → is_bound bound b ≡ false → ⊥
-not_bound bound b c e = let t = found bound b.0 c in cc
-
--- of a binding that may be read
-pub operand_written : (env : Environment) (t : Term) (bs : List Binding) (bound : List ℕ) (b : BindingId) (ty : TypeId) → IsReadAs (setting env t bs) bound b ty → IsOperandOf (setting env t bs) bound b (written_operand env bs bound b)
-operand_written env t bs bound b ty h = one (is_bound bound b) refl
+-- of a binding that is ready
+pub operand_there : (s : Setting) (bound : List ℕ) (b : BindingId) (ty : TypeId) → IsReady s bound b ty → operand_of s.env s.bindings bound b ≡ Some (written_operand s bound b)
+operand_there s bound b ty h = one (is_bound bound b) refl
   where
-    one : (x : Bool) → is_bound bound b ≡ x → operand_of env bs bound b ≡ Some (written_operand env bs bound b)
+    one : (x : Bool) → is_bound bound b ≡ x → operand_of s.env s.bindings bound b ≡ Some (written_operand s bound b)
     one true is = rw is refl
-    one false is = rw is (⊎_elim (λ k. place_written env t (at (paths_of bs) b) ty h.path k) (λ c. absurd (not_bound bound b c is)) (read_place (setting env t bs) bound b h.read))
+    one false is = rw is (⊎_elim (λ k. absurd (let bad : false ≡ true = sym is ∙ k in cc)) (λ k. place_there s.env s.term b.0 (at (paths_in s) b) ty h.path k) h.place)
+
+pub read_there : (s : Setting) (bound : List ℕ) (wanted : Bool) (b : BindingId) (ty : TypeId) → IsReady s bound b ty → read_in s bound wanted b ≡ Some (written_read s bound wanted b)
+read_there s bound wanted b ty h = ap (option_map (read_as wanted (is_reference_in s b))) (operand_there s bound b ty h)
 
 -- ---- what bound locals compute
 
-reads_made : (env : Environment) (t : Term) (bs : List Binding) (bound : List ℕ) (parameters : List BindingId) (tys : List TypeId) → AreReadAs (setting env t bs) bound parameters tys → reads (setting env t bs) bound parameters ≡ Some (written.reads env bs bound parameters)
-reads_made env t bs bound [] [] h = refl
-reads_made env t bs bound (b ∷ more) (ty ∷ tys) h = rw (operand_written env t bs bound b ty h.0, reads_made env t bs bound more tys h.1) refl
-reads_made env t bs bound [] (ty ∷ tys) h = absurd h
-reads_made env t bs bound (b ∷ more) [] h = absurd h
+reads_there : (s : Setting) (bound : List ℕ) (tys : List TypeId) (parameters : List BindingId) → AreReady s bound parameters tys → reads s bound tys parameters ≡ Some (written.reads s bound tys parameters)
+reads_there s bound [] [] h = refl
+reads_there s bound (ty ∷ tys) (b ∷ more) h =
+    ap (λ o. read_before o (reads s bound tys more)) (read_there s bound (is_declared s.env ty) b ty h.0) ∙ ap (read_before (Some (written_read s bound (is_declared s.env ty) b))) (reads_there s bound tys more h.1)
+reads_there s bound (ty ∷ tys) [] h = absurd h
+reads_there s bound [] (b ∷ more) h = absurd h
+
+fields_there : (s : Setting) (bound : List ℕ) (fields : List (List ℕ × TypeId)) (parts : List BindingId) → AreReady s bound parts (map (λ (f : List ℕ × TypeId). f.1) fields) → field_reads s bound fields parts ≡ Some (written.field_reads s bound fields parts)
+fields_there s bound [] [] h = refl
+fields_there s bound (f ∷ fields) (b ∷ more) h =
+    ap (λ o. field_before f.0 o (field_reads s bound fields more)) (read_there s bound false b f.1 h.0) ∙ ap (field_before f.0 (Some (written_read s bound false b))) (fields_there s bound fields more h.1)
+fields_there s bound (f ∷ fields) [] h = absurd h
+fields_there s bound [] (b ∷ more) h = absurd h
 
 pub callee_made : (of : ReturnKind) (c : Calling) → IsCall of c → callee_of c ≡ Some (written.callee_of c)
 callee_made of (ByTurns callee kind) h = refl
 callee_made of (ByCases callee kind) h = absurd h
 callee_made of NoCall h = absurd h
 
-in_place_made : (env : Environment) (t : Term) (bs : List Binding) (b : BindingId) (p : Path) (ty : TypeId) → at (paths_of bs) b ≡ p → IsPathOf env t p ty → IsInPlace p → read_of (in_place env (at (paths_of bs) b)) ≡ read_of (Some (written_place env (at (paths_of bs) b)))
-in_place_made env t bs b p ty e h k = ap read_of (subst (λ q. in_place env q ≡ Some (written_place env q)) (sym e) (place_written env t p ty h k))
+call_made : (s : Setting) (bound : List ℕ) (o : Option Term) (called : Term) (given : Option Callee) (callee : Callee) (parameters : List BindingId) → o ≡ Some called → given ≡ Some callee → AreReady s bound parameters called.arg_tys
+    → call_of s bound o given parameters ≡ Some (call_expr s bound o callee parameters)
+call_made s bound o called given callee parameters e f r = rw (e, f) (ap (call_on (is_declared s.env called.ret_ty) (Some callee)) (reads_there s bound called.arg_tys parameters r))
+
+plain_made : (s : Setting) (b : BindingId) → IsPlain s.env s.term (at (paths_in s) b) → read_of (in_place s.env b.0 (at (paths_in s) b)) ≡ read_of (Some (written_place s b))
+plain_made s b k = ap read_of (place_there s.env s.term b.0 (at (paths_in s) b) k.1.0 k.1.1 (spelled (at (paths_in s) b) k.0))
+
+value_made : (s : Setting) (bound : List ℕ) (p : Path) (over : Paths → Path) (mk : Making) (fields : List BindingId) → IsMadeReady s bound p over mk fields → made_in s bound (form s.env mk) fields ≡ Some (made_expr s bound (form s.env mk) fields)
+value_made s bound p over mk fields is = rw is.found (ap (option_map (made_of s.env is.f)) (fields_there s bound (typed_fields s.env is.f.fields) fields is.parts))
 
 -- what is computed for a binding that may be bound
-bound_made : (env : Environment) (t : Term) (bs : List Binding) (bound : List ℕ) (b : BindingId) (p : Path) (o : Option Binding) → at (paths_of bs) b ≡ p → IsBindable (setting env t bs) bound p o → computed (setting env t bs) bound b o ≡ Some (written.bound_expr env bs bound b o)
-bound_made env t bs bound b p (Some (binding.Constructor term parameters k)) e is = rw (callee_made is.kind (calling env term) is.external, reads_made env t bs bound parameters is.called.arg_tys is.args) refl
-bound_made env t bs bound b p (Some (binding.MatchSome source)) e is = rw (found bound source.0 is.bound') refl
-bound_made env t bs bound b p (Some (binding.Argument index)) e is = in_place_made env t bs b p is.1.0 e is.1.1 is.0
-bound_made env t bs bound b p (Some (binding.ConstBool val ty)) e is = in_place_made env t bs b p is.1.0 e is.1.1 is.0
-bound_made env t bs bound b p (Some (binding.ConstInt val ty)) e is = in_place_made env t bs b p is.1.0 e is.1.1 is.0
-bound_made env t bs bound b p o e is = absurd is
+bound_made : (s : Setting) (bound : List ℕ) (b : BindingId) (o : Option Binding) → IsReadyBind s bound (at (paths_in s) b) o → computed s bound b o ≡ Some (written.bound_expr s bound b o)
+bound_made s bound b (Some (binding.Constructor term parameters k)) is =
+    call_made s bound (slice_get s.env.terms term.0) is.called (callee_of (calling s.env term)) (written.callee_of (calling s.env term)) parameters is.found (callee_made is.kind (calling s.env term) is.external) is.args
+bound_made s bound b (Some (binding.MatchSome source)) is = rw (found bound source.0 is.bound') refl
+bound_made s bound b (Some (binding.Argument index)) is = plain_made s b is
+bound_made s bound b (Some (binding.ConstBool val ty)) is = plain_made s b is
+bound_made s bound b (Some (binding.ConstInt val ty)) is = plain_made s b is
+bound_made s bound b (Some (binding.ConstPrim val)) is = plain_made s b is
+bound_made s bound b (Some (binding.MakeVariant of variant fields)) is = value_made s bound (at (paths_in s) b) _ _ fields is
+bound_made s bound b (Some (binding.MakeStruct of fields)) is = value_made s bound (at (paths_in s) b) _ _ fields is
+bound_made s bound b o is = absurd is
 
 -- ---- statements
 
-before_made : (o : Option Stmt) (s : Stmt) (r : Option Body) (ss : Body) → o ≡ Some s → r ≡ Some ss → stmt_before o r ≡ Some (Then s ss)
-before_made o s r ss e f = rw (e, f) refl
+before_made : (o : Option Stmt) (st : Stmt) (r : Option Body) (ss : Body) → o ≡ Some st → r ≡ Some ss → stmt_before o r ≡ Some (Then st ss)
+before_made o st r ss e f = rw (e, f) refl
 
-lets_made : (env : Environment) (t : Term) (bs : List Binding) (bound : List ℕ) (binds : List BindingId) (r : Option Body) (more : Body) → AreBindable (setting env t bs) bound binds → r ≡ Some more → lets (setting env t bs) bound binds r ≡ Some (written.lets env bs bound binds more)
-lets_made env t bs bound [] r more k e = e
-lets_made env t bs bound (b ∷ binds) r more k e = rw (bound_made env t bs bound b (at (paths_of bs) b) (slice_get bs b.0) refl k.0, lets_made env t bs (bound ++ b.0 ∷ []) binds r more k.1 e) refl
+lets_made : (s : Setting) (bound : List ℕ) (binds : List BindingId) (r : Option Body) (more : Body) → AreReadyBinds s bound binds → r ≡ Some more → lets s bound binds r ≡ Some (written.lets s bound binds more)
+lets_made s bound [] r more k e = e
+lets_made s bound (b ∷ binds) r more k e =
+    before_made _ _ _ _ (ap (let_of b.0) (bound_made s bound b (slice_get s.bindings b.0) k.0)) (lets_made s (bound ++ b.0 ∷ []) binds r more k.1 e)
 
 test_made : (a b : Option Operand) (x y : Operand) (i : Option Body) (inside : Body) → a ≡ Some x → b ≡ Some y → i ≡ Some inside → if_eq a b i ≡ Some (IfEq x y inside)
 test_made a b x y i inside e f g = rw (e, f, g) refl
 
-return_made : (kind : ReturnKind) → AnswersOnce kind → (o : Option Operand) (x : Operand) → o ≡ Some x → return_of kind o ≡ Some (Return (written.returned kind x))
+pattern_made : (p : Option TPat) (r : Option Read) (pat : TPat) (q : Read) (i : Option Body) (inside : Body) → p ≡ Some pat → r ≡ Some q → i ≡ Some inside → if_let p r i ≡ Some (IfLet (written_pattern p) q inside)
+pattern_made p r pat q i inside e f g = rw (e, f, g) refl
+
+return_made : (kind : ReturnKind) → AnswersOnce kind → (o : Option Read) (x : Read) → o ≡ Some x → return_of kind o ≡ Some (Return (written.returned kind x))
 return_made return_kind.Plain once o x e = rw e refl
 return_made return_kind.Option once o x e = rw e refl
 return_made return_kind.Iterator once o x e = absurd once
 
 mutual
   -- the statements of a lawful block
-  block_made : (b : Block) (env : Environment) (t : Term) (bs : List Binding) → AnswersOnce (kind_of t.kind) → (bound made : List ℕ) (end : Body) → IsLawfulFrom (setting env t bs) bound made b → HasSingleArms b
-      → block_body (setting env t bs) bound b (Some end) ≡ Some (written.block_body env bs (kind_of t.kind) bound b end)
-  block_made Stop env t bs once bound made end k o = refl
-  block_made (Step binds c more) env t bs once bound made end k o =
-      lets_made env t bs bound binds _ _ k.0
-      (before_made _ _ _ _ (control_made c more env t bs once (bound_by bound binds) _ k.2 o.0) (block_made more env t bs once (bound_by bound binds) _ end k.3 o.1))
+  block_made : (b : Block) (s : Setting) → AnswersOnce (kind_of s.term.kind) → (bound made : List ℕ) (end : Body) → IsReadyFrom s bound made b → HasSingleArms b → block_body s bound b (Some end) ≡ Some (written.block_body s bound b end)
+  block_made Stop s once bound made end k o = refl
+  block_made (Step binds c more) s once bound made end k o =
+      lets_made s bound binds _ _ k.0
+      (before_made _ _ _ _ (control_made c s once (bound_by bound binds) _ k.2 o.0) (block_made more s once (bound_by bound binds) _ end k.3 o.1))
 
-  control_made : (c : Control) (more : Block) (env : Environment) (t : Term) (bs : List Binding) → AnswersOnce (kind_of t.kind) → (bound made : List ℕ) → IsLawfulControl (setting env t bs) bound made c more → IsSingle c
-      → control_stmt (setting env t bs) bound c ≡ Some (written.control_stmt env bs (kind_of t.kind) bound c)
-  control_made (block.Match source (block.Arm c places body block.NoArm)) more env t bs once bound made k o =
-      test_made _ _ _ _ _ _ (operand_written env t bs bound source k.1.0 k.1.1) (test_written env c k.1.0 k.1.2.0)
-      (block_made body env t bs once bound made Done (arm_body (setting env t bs) bound made source c places body block.NoArm k.1.0 k.1.2) o)
-  control_made (block.Match source (block.Arm c places body (block.Arm d others inside arms))) more env t bs once bound made k o = absurd o
-  control_made (block.Match source block.NoArm) more env t bs once bound made k o = absurd o
-  control_made (block.Equal x y body) more env t bs once bound made k o =
-      test_made _ _ _ _ _ _ (operand_written env t bs bound x k.0.0 k.0.1) (operand_written env t bs bound y k.0.0 k.0.2) (block_made body env t bs once bound made Done k.1 o)
-  control_made (block.Loop result body) more env t bs once bound made k o = absurd k
-  control_made (block.Return pos result) more env t bs once bound made k o =
-      return_made (kind_of t.kind) once _ _ (operand_written env t bs bound result t.ret_ty k.0)
+  control_made : (c : Control) (s : Setting) → AnswersOnce (kind_of s.term.kind) → (bound made : List ℕ) → IsReadyControl s bound made c → IsSingle c → control_stmt s bound c ≡ Some (written.control_stmt s bound c)
+  control_made (block.Match source (Arm (constraint.ConstBool val) places body NoArm)) s once bound made k o =
+      test_made _ _ _ _ _ _ (operand_there s bound source k.1.0 k.1.1) (test_there s.env (constraint.ConstBool val) tt) (block_made body s once (bound_within bound places) made Done k.1.2.2 o)
+  control_made (block.Match source (Arm (constraint.ConstInt val of) places body NoArm)) s once bound made k o =
+      test_made _ _ _ _ _ _ (operand_there s bound source k.1.0 k.1.1) (test_there s.env (constraint.ConstInt val of) tt) (block_made body s once (bound_within bound places) made Done k.1.2.2 o)
+  control_made (block.Match source (Arm (constraint.ConstPrim val) places body NoArm)) s once bound made k o =
+      test_made _ _ _ _ _ _ (operand_there s bound source k.1.0 k.1.1) (test_there s.env (constraint.ConstPrim val) tt) (block_made body s once (bound_within bound places) made Done k.1.2.2 o)
+  control_made (block.Match source (Arm (constraint.Variant of variant) places body NoArm)) s once bound made k o =
+      pattern_made _ _ _ _ _ _ (arm_pattern s source k.1.0 (constraint.Variant of variant) places k.1.2.0 k.1.2.1 tt).is (read_there s bound true source k.1.0 k.1.1) (block_made body s once (bound_within bound places) made Done k.1.2.2 o)
+  control_made (block.Match source (Arm (constraint.Struct of) places body NoArm)) s once bound made k o =
+      pattern_made _ _ _ _ _ _ (arm_pattern s source k.1.0 (constraint.Struct of) places k.1.2.0 k.1.2.1 tt).is (read_there s bound true source k.1.0 k.1.1) (block_made body s once (bound_within bound places) made Done k.1.2.2 o)
+  control_made (block.Match source (Arm constraint.Some places body NoArm)) s once bound made k o = absurd k.1.2.0
+  control_made (block.Match source (Arm c places body (Arm d others inside arms))) s once bound made k o = absurd o
+  control_made (block.Match source NoArm) s once bound made k o = absurd o
+  control_made (block.Equal x y body) s once bound made k o =
+      test_made _ _ _ _ _ _ (operand_there s bound x k.0.0 k.0.1) (operand_there s bound y k.0.0 k.0.2) (block_made body s once bound made Done k.1 o)
+  control_made (block.Loop result body) s once bound made k o = absurd k
+  control_made (block.Return pos result) s once bound made k o = return_made (kind_of s.term.kind) once _ _ (read_there s bound false result s.term.ret_ty k)
 
 -- ---- functions
 
 pub function_made : (files : Files) (env : Environment) (t : Term) (bs : List Binding) (b : Block) → AnswersOnce (kind_of t.kind) → IsLawfulBlock (setting env t bs) b → HasSingleArms b → term_function files (setting env t bs) b ≡ Some (function_of files env t bs b)
 function_made files env t bs b once h o =
-    ap (option_map (function_with env t)) (block_made b env t bs once [] [] (tail_of (kind_of t.kind) (sym_text env t.name) (place_in files t.decl_pos) b) h o)
+    let s = setting env t bs in
+    ap (option_map (function_with env t)) (block_made (completed s [] b) s once [] [] (tail_in files env t b) (completed_ready s b h) (completed_single s [] b o))

@@ -1,69 +1,106 @@
--- The function of a term runs as its block.
-use Rattle.std.proofs.Common.{◌≡◌, ℕ, List, [], ◌++◌, Bool, true, false, cond, Some, None, refl, sym, ap, ◌∙◌, subst}
+-- The function of a term runs as its block, but for the type names of opaque numbers.
+use Rattle.std.proofs.Common.{◌≡◌, ℕ, List, [], ◌++◌, map, Bool, true, false, cond, Option, Some, None, refl, sym, ap, ◌∙◌, subst}
 use Rattle.std.specs.Prelude.{Contains, option_map}
 use Rattle.std.proofs.lemmas.List.Elements.{Contains-append_left, Contains-append_right}
 use Rattle.isle_core.specs.Calling.{kind_of, AnswersOnce}
 use Rattle.isle_core.specs.declared.BindingId.{BindingId}
+use Rattle.isle_core.specs.declared.TypeId.{TypeId}
 use Rattle.isle_core.specs.declared.files.Files.{Files}
 use Rattle.isle_core.specs.declared.rule_sets.Binding.{Binding}
+use Rattle.isle_core.specs.declared.rule_sets.Constraint.{Constraint}
+use Rattle.isle_core.specs.declared.rule_sets.Constraint.TheVariants as constraint
 use Rattle.isle_core.specs.declared.types.ReturnKind.{ReturnKind}
 use Rattle.isle_core.specs.declared.types.ReturnKind.TheVariants as return_kind
 use Rattle.isle_core.specs.declared.types.Term.{Term}
-use Rattle.isle_core.specs.Value.{Value, Made}
-use Rattle.isle_core.specs.SameValue.{same_value}
+use Rattle.isle_core.specs.ArmPlaces.{ArePlacesOf, bound_within}
+use Rattle.isle_core.specs.ConstraintType.{IsConstraintOf}
+use Rattle.isle_core.specs.Value.{Value, Made, Gives, GivesSome, GivesNone, IsUnreachable}
+use Rattle.isle_core.specs.SameInRun.{same_in_run}
 use Rattle.isle_core.specs.Meaning.{Meaning}
-use Rattle.isle_core.specs.HasType.{HaveTypes}
+use Rattle.isle_core.specs.Nameless.{nameless, nameless_made, nameless_end, nameless_ran}
 use Rattle.isle_core.specs.Outcome.{Result, Value', Failure, Unmatched, Prescription}
-use Rattle.isle_core.specs.Path.{paths_of}
-use Rattle.isle_core.specs.ValueAt.{Known, a_value, nothing_known, meets}
+use Rattle.isle_core.specs.Path.{at, paths_of}
+use Rattle.isle_core.specs.ValueAt.{Known, a_value, nothing_known, value_at, meets, equal_held}
 use Rattle.isle_core.specs.Places.{place_in}
 use Rattle.isle_core.specs.Block as block
-use Rattle.isle_core.specs.Block.{Block, Stop, Step, Control}
+use Rattle.isle_core.specs.Block.{Block, Stop, Step, Control, Arm, NoArm}
 use Rattle.isle_core.specs.CallRun as went
-use Rattle.isle_core.specs.CallRun.{Went, then_go}
+use Rattle.isle_core.specs.CallRun.{Went, then_go, result_of}
 use Rattle.isle_core.specs.RuleSet.{gave}
 use Rattle.isle_core.specs.BlockRun.{bind_all, block_run, control_run, block_outcome}
 use Rattle.isle_core.specs.Bindable.{bound_by}
-use Rattle.isle_core.specs.BlockLawful.{IsLawfulFrom, IsLawfulControl, IsLawfulBlock}
+use Rattle.isle_core.specs.BlockLawful.{IsLawfulBlock}
 use Rattle.isle_core.specs.Occurrences.{AreNew, occurrences, after_block, after_control}
 use Rattle.isle_core.specs.Terms.{sym_text}
 use Rattle.isle_core.specs.Rule.{Environment}
-use Rattle.isle_core.specs.Setting.{setting}
+use Rattle.isle_core.specs.Setting.{Setting, setting, paths_in}
 use Rattle.isle_core.specs.SingleArms.{HasSingleArms, IsSingle}
-use Rattle.isle_core.proofs.RunEquality.{typed_same}
 use Rattle.isle_tree.specs.declared.tree.Operand.{Operand}
-use Rattle.isle_tree.specs.Program.{Body, Done, Then}
-use Rattle.isle_tree.specs.Run.{Around, Env, value_of, Flow, Goes, Ends, then_run, after_scope, run_return, run_stmt, run_body, ended, function_run}
-use Rattle.isle_simulation.proofs.Written.{block_body, control_stmt, end_of, returned, written_operand, function_of}
-use Rattle.isle_simulation.specs.TermFunction.{ends_in_return, mark_of, tail_body, tail_of}
+use Rattle.isle_tree.specs.declared.tree.Read.{Read}
+use Rattle.isle_tree.specs.declared.tree.TPat.{TPat}
+use Rattle.isle_tree.specs.Program.{IfEq, IfLet, Body, Done, Then}
+use Rattle.isle_tree.specs.Run.{Around, Env, value_of, read_value, fitted, Flow, Goes, then_run, after_scope, run_return, run_stmt, run_body, ended, function_run}
+use Rattle.isle_simulation.specs.Completed.{completed}
+use Rattle.isle_simulation.specs.Patterns.{pattern_of}
+use Rattle.isle_simulation.specs.TermFunction.{ends_in_return, mark_of, tail_body}
 use Rattle.isle_simulation.specs.Ends.{end_of as ending}
-use Rattle.isle_simulation.specs.Emitted.{AnswersBindings, RunsAsBlock, ran_with}
-use Rattle.isle_simulation.proofs.ArmBodies.{arm_body}
+use Rattle.isle_simulation.specs.Emitted.{AreSameRuns, RunsAsBlock, ran_with}
+use Rattle.isle_simulation.specs.RustNames.{HasRustNames}
+use Rattle.isle_simulation.proofs.ArmsRun.{FitsBy, IsForm, arm_fits}
+use Rattle.isle_simulation.proofs.BindsRun.{LetsRun, lets_run}
+use Rattle.isle_simulation.proofs.OneBind.{AreUnanswered, Keeps, done, EndsSo, ends_on, ends_as_well}
+use Rattle.isle_simulation.proofs.CompletedReady.{completed_ready}
+use Rattle.isle_simulation.proofs.CompletedRuns.{completed_runs, completed_single}
 use Rattle.isle_simulation.proofs.HeldStays.{Grows}
-use Rattle.isle_simulation.proofs.PathValues.{constraint_tests}
-use Rattle.isle_simulation.proofs.LocalsAgree.{Agree, none_agree, agree_later, operand_reads}
-use Rattle.isle_simulation.proofs.BindsRun.{AreUnanswered, Keeps, done, LetsRun, lets_run}
+use Rattle.isle_simulation.proofs.LocalsAgree.{Agree, none_agree, agree_later, operand_reads, written_reads}
+use Rattle.isle_simulation.proofs.NamelessLaws.{AreSameCalls, run_same}
+use Rattle.isle_simulation.proofs.PathValues.{Grounds, constraint_tests, IsConstant}
+use Rattle.isle_simulation.proofs.Ready.{IsReady, IsReadyFrom, IsReadyControl}
+use Rattle.isle_simulation.proofs.Written.{written_operand, written_read, written_test, written_pattern, block_body, control_stmt, end_of, returned, function_of}
 
--- ---- ends
+-- ---- how statements go
 
--- how a block went, as a flow that goes on with these locals
-abbrev back : ReturnKind → Env → Went → Flow
-back kind locals (went.Goes known made) = Goes locals (done made)
-back kind locals (went.Ends o) = Ends (end_of kind o.result) (done o.calls)
+-- statements go on to what follows, whatever that is
+record GoesOn (u : Around) (f : Body → Flow) (calls : List Made) : Type 0 where
+  after : Env
+  those : List Made
+  is : (end : Body) → f end ≡ run_body u end after (done those)
+  same : AreSameCalls those calls
 
-after_scope_back : (u : Around) (kind : ReturnKind) (locals inner : Env) (w : Went) → after_scope locals (then_run (back kind inner w) (run_body u Done)) ≡ back kind locals w
-after_scope_back u kind locals inner (went.Goes known made) = refl
-after_scope_back u kind locals inner (went.Ends o) = refl
+-- statements go as a block that went so
+abbrev RunsSo : ReturnKind → Around → (Body → Flow) → Went → Type 0
+RunsSo kind u f (went.Goes later calls) = GoesOn u f calls
+RunsSo kind u f (went.Ends o) = (end : Body) → EndsSo kind (f end) o
 
-if_back : (kind : ReturnKind) (x : Bool) (locals : Env) (f : Flow) (w : Went) (known : Known) (made : List Made) → after_scope locals f ≡ back kind locals w
-    → cond x (after_scope locals f) (Goes locals (done made)) ≡ back kind locals (cond x w (went.Goes known made))
-if_back kind true locals f w known made e = e
-if_back kind false locals f w known made e = refl
+-- a statement goes on with the locals that were there
+record StaysSo (locals : Env) (f : Flow) (calls : List Made) : Type 0 where
+  those : List Made
+  is : f ≡ Goes locals (done those)
+  same : AreSameCalls those calls
 
-return_back : (u : Around) (kind : ReturnKind) (o : Operand) (v : Value) (locals : Env) (made : List Made) → value_of u locals o ≡ a_value v → run_return u (returned kind o) locals (done made) ≡ Ends (end_of kind (Value' v)) (done made)
-return_back u return_kind.Plain o v locals made e = rw e refl
-return_back u return_kind.Option o v locals made e = rw e refl
-return_back u return_kind.Iterator o v locals made e = rw e refl
+-- a statement goes as a step that went so
+abbrev DoesSo : ReturnKind → Env → Flow → Went → Type 0
+DoesSo kind locals f (went.Goes later calls) = StaysSo locals f calls
+DoesSo kind locals f (went.Ends o) = EndsSo kind f o
+
+runs_by : (kind : ReturnKind) (u : Around) (f h : Body → Flow) (w : Went) → ((end : Body) → f end ≡ h end) → RunsSo kind u h w → RunsSo kind u f w
+runs_by kind u f h (went.Goes later calls) e r = record { after = r.after; those = r.those; is = λ end. e end ∙ r.is end; same = r.same }
+runs_by kind u f h (went.Ends o) e r = λ end. ends_as_well kind (f end) (h end) o (e end) (r end)
+
+does_by : (kind : ReturnKind) (locals : Env) (f h : Flow) (w : Went) → f ≡ h → DoesSo kind locals h w → DoesSo kind locals f w
+does_by kind locals f h (went.Goes later calls) e r = record { those = r.those; is = e ∙ r.is; same = r.same }
+does_by kind locals f h (went.Ends o) e r = ends_as_well kind f h o e r
+
+-- behind a body stand the outer locals
+scope_does : (kind : ReturnKind) (u : Around) (locals : Env) (f : Body → Flow) (w : Went) → RunsSo kind u f w → DoesSo kind locals (after_scope locals (f Done)) w
+scope_does kind u locals f (went.Goes later calls) r = record { those = r.those; is = ap (after_scope locals) (r.is Done); same = r.same }
+scope_does kind u locals f (went.Ends o) r = let e = r Done in record { end = e.end; those = e.those; is = ap (after_scope locals) e.is; same = e.same; calls = e.calls }
+
+return_does : (u : Around) (kind : ReturnKind) (q : Read) (r v : Value) (locals : Env) (calls those : List Made) → read_value u locals q ≡ a_value r → nameless r ≡ nameless v → AreSameCalls those calls
+    → EndsSo kind (run_return u (returned kind q) locals (done those)) (record { result = Value' v; calls = calls })
+return_does u return_kind.Plain q r v locals calls those e same made = record { end = Gives r; those = those; is = rw e refl; same = ap Gives same; calls = made }
+return_does u return_kind.Option q r v locals calls those e same made = record { end = GivesSome r; those = those; is = rw e refl; same = ap GivesSome same; calls = made }
+return_does u return_kind.Iterator q r v locals calls those e same made = record { end = Gives r; those = those; is = rw e refl; same = ap Gives same; calls = made }
 
 -- ---- what is known along a way
 
@@ -107,125 +144,192 @@ on_first : (more others : List ℕ) (known : Known) (w : Went) → WentOn known 
 on_first more others known (went.Goes later calls) h = on_left more others known later h
 on_first more others known (went.Ends o) h = tt
 
+-- the same is known as before
+same_later : (known : Known) (made : List ℕ) → KnowsOnly made known → IsLater known made known
+same_later known made only = record { grows = record { by = λ k a e. e }; only = only }
+
+-- what is known before a step stays to the end
+goes_twice : (known later : Known) (made : List ℕ) (w : Went) → Grows known later → WentOn later made w → WentOn known made w
+goes_twice known later made (went.Goes last all) g h = record { grows = grows_twice known later last g h.grows; only = h.only }
+goes_twice known later made (went.Ends o) g h = tt
+
 -- ---- blocks
 
-module _ (env : Environment) (u : Around) (t : Term) (bs : List Binding) (typed : HaveTypes env u.args t.arg_tys) (answers : AnswersBindings env u.meaning bs) where
+-- a statement goes as a step, and only these calls may have been answered then
+record Does (kind : ReturnKind) (locals : Env) (known : Known) (made : List ℕ) (f : Flow) (w : Went) : Type 0 where
+  runs : DoesSo kind locals f w
+  goes : WentOn known made w
+
+-- a test that doesn't hold
+skip : (kind : ReturnKind) (locals : Env) (known : Known) (made more : List ℕ) (f : Flow) (w : Went) (calls those : List Made) → KnowsOnly made known → AreSameCalls those calls → f ≡ Goes locals (done those) → w ≡ went.Goes known calls → Does kind locals known (made ++ more) f w
+skip kind locals known made more f w calls those only same e is =
+    subst (Does kind locals known (made ++ more) f) (sym is) (record { runs = record { those = those; is = e; same = same }; goes = on_left made more known known (same_later known made only) })
+
+module _ (s : Setting) (u : Around) (g : Grounds s u) where
   -- the statements of a block go as the block, whatever follows them
-  record Runs (bound made : List ℕ) (b : Block) (locals : Env) (known : Known) (calls : List Made) : Type 0 where
-    after : Env
-    runs : (end : Body) → run_body u (block_body env bs (kind_of t.kind) bound b end) locals (done calls) ≡ then_run (back (kind_of t.kind) after (block_run env u.meaning u.args (paths_of bs) b known calls)) (run_body u end)
-    goes : WentOn known (after_block env (paths_of bs) made b) (block_run env u.meaning u.args (paths_of bs) b known calls)
+  record Runs (bound made : List ℕ) (b : Block) (locals : Env) (known : Known) (calls those : List Made) : Type 0 where
+    runs : RunsSo (kind_of s.term.kind) u (λ end. run_body u (block_body s bound b end) locals (done those)) (block_run s.env u.meaning u.args (paths_in s) b known calls)
+    goes : WentOn known (after_block s.env (paths_in s) made b) (block_run s.env u.meaning u.args (paths_in s) b known calls)
 
-  -- a step's statement goes as what it does
-  record Does (bound made : List ℕ) (c : Control) (locals : Env) (known : Known) (calls : List Made) : Type 0 where
-    runs : run_stmt u (control_stmt env bs (kind_of t.kind) bound c) locals (done calls) ≡ back (kind_of t.kind) locals (control_run env u.meaning u.args (paths_of bs) c known calls)
-    goes : WentOn known (after_control env (paths_of bs) made c) (control_run env u.meaning u.args (paths_of bs) c known calls)
+  -- a statement, and the steps after it
+  record RunsAfter (bound made : List ℕ) (known : Known) (f : Flow) (w : Went) (more : Block) : Type 0 where
+    runs : RunsSo (kind_of s.term.kind) u (λ end. then_run f (run_body u (block_body s bound more end))) (then_go w (block_run s.env u.meaning u.args (paths_in s) more))
+    goes : WentOn known (after_block s.env (paths_in s) made more) (then_go w (block_run s.env u.meaning u.args (paths_in s) more))
 
-  -- what stands after a step that went so
-  record RunsAfter (bound made : List ℕ) (known : Known) (w : Went) (more : Block) (locals : Env) : Type 0 where
-    after : Env
-    runs : (end : Body) → then_run (back (kind_of t.kind) locals w) (run_body u (block_body env bs (kind_of t.kind) bound more end)) ≡ then_run (back (kind_of t.kind) after (then_go w (block_run env u.meaning u.args (paths_of bs) more))) (run_body u end)
-    goes : WentOn known (after_block env (paths_of bs) made more) (then_go w (block_run env u.meaning u.args (paths_of bs) more))
-
-  -- what is known before a step stays to the end
-  goes_twice : (known later : Known) (made : List ℕ) (w : Went) → Grows known later → WentOn later made w → WentOn known made w
-  goes_twice known later made (went.Goes last all) g h = record { grows = grows_twice known later last g h.grows; only = h.only }
-  goes_twice known later made (went.Ends o) g h = tt
-
-  runs_after : (bound made : List ℕ) (known : Known) (w : Went) (more : Block) (locals : Env) → WentOn known made w → ((last : Known) (all : List Made) → IsLater known made last → Runs bound made more locals last all) → RunsAfter bound made known w more locals
-  runs_after bound made known (went.Goes last all) more locals is h =
-      let r = h last all is in
-      record { after = r.after; runs = r.runs; goes = goes_twice known last (after_block env (paths_of bs) made more) (block_run env u.meaning u.args (paths_of bs) more last all) is.grows r.goes }
-  runs_after bound made known (went.Ends o) more locals is h = record { after = locals; runs = λ end. refl; goes = tt }
+  runs_after : (bound made : List ℕ) (known : Known) (f : Flow) (w : Went) (more : Block) (locals : Env) → Does (kind_of s.term.kind) locals known made f w
+      → ((last : Known) (all behind : List Made) → AreSameCalls behind all → IsLater known made last → Runs bound made more locals last all behind) → RunsAfter bound made known f w more
+  runs_after bound made known f (went.Goes last all) more locals is h =
+      let r = h last all is.runs.those is.runs.same is.goes in
+      record {
+        runs = runs_by (kind_of s.term.kind) u (λ end. then_run f (run_body u (block_body s bound more end))) (λ end. run_body u (block_body s bound more end) locals (done is.runs.those)) (block_run s.env u.meaning u.args (paths_in s) more last all)
+            (λ end. ap (λ x. then_run x (run_body u (block_body s bound more end))) is.runs.is) r.runs;
+        goes = goes_twice known last (after_block s.env (paths_in s) made more) (block_run s.env u.meaning u.args (paths_in s) more last all) is.goes.grows r.goes;
+      }
+  runs_after bound made known f (went.Ends o) more locals is h = record { runs = λ end. ends_on (kind_of s.term.kind) f o (run_body u (block_body s bound more end)) is.runs; goes = tt }
 
   -- a step, after its lets
-  step_runs : (bound made : List ℕ) (binds : List BindingId) (c : Control) (more : Block) (locals : Env) (known : Known) (calls : List Made) (w : Went) → bind_all env u.meaning u.args (paths_of bs) binds known calls ≡ w → AreUnanswered known (occurrences env (paths_of bs) binds)
-      → LetsRun env u t bs bound binds known calls locals w
-      → ((later : Known) (those : List Made) (after : Env) → Keeps (occurrences env (paths_of bs) binds) known later → Agree env u.meaning u.args t bs (bound_by bound binds) later after
-      → Does (bound_by bound binds) (made ++ occurrences env (paths_of bs) binds) c after later those
-      × ((last : Known) (all : List Made) → IsLater later (after_control env (paths_of bs) (made ++ occurrences env (paths_of bs) binds) c) last → Runs (bound_by bound binds) (after_control env (paths_of bs) (made ++ occurrences env (paths_of bs) binds) c) more after last all))
-      → Runs bound made (Step binds c more) locals known calls
-  step_runs bound made binds c more locals known calls (went.Ends o) e new is rest = record {
-    after = locals;
-    runs = λ end. is (Then (control_stmt env bs (kind_of t.kind) (bound_by bound binds) c) (block_body env bs (kind_of t.kind) (bound_by bound binds) more end)) ∙ ap (λ x. then_run (back (kind_of t.kind) locals (then_go (then_go x (control_run env u.meaning u.args (paths_of bs) c)) (block_run env u.meaning u.args (paths_of bs) more))) (run_body u end)) (sym e);
-    goes = subst (λ x. WentOn known (after_block env (paths_of bs) made (Step binds c more)) (then_go (then_go x (control_run env u.meaning u.args (paths_of bs) c)) (block_run env u.meaning u.args (paths_of bs) more))) (sym e) tt;
+  step_runs : (bound made : List ℕ) (binds : List BindingId) (c : Control) (more : Block) (locals : Env) (known : Known) (calls those : List Made) (w : Went) → bind_all s.env u.meaning u.args (paths_in s) binds known calls ≡ w → AreUnanswered known (occurrences s.env (paths_in s) binds)
+      → LetsRun s u bound binds known those locals w
+      → ((later : Known) (all behind : List Made) (after : Env) → AreSameCalls behind all → Keeps (occurrences s.env (paths_in s) binds) known later → Agree s u (bound_by bound binds) later after
+      → Does (kind_of s.term.kind) after later (after_control s.env (paths_in s) (made ++ occurrences s.env (paths_in s) binds) c) (run_stmt u (control_stmt s (bound_by bound binds) c) after (done behind)) (control_run s.env u.meaning u.args (paths_in s) c later all)
+      × ((last : Known) (all' behind' : List Made) → AreSameCalls behind' all' → IsLater later (after_control s.env (paths_in s) (made ++ occurrences s.env (paths_in s) binds) c) last → Runs (bound_by bound binds) (after_control s.env (paths_in s) (made ++ occurrences s.env (paths_in s) binds) c) more after last all' behind'))
+      → Runs bound made (Step binds c more) locals known calls those
+  step_runs bound made binds c more locals known calls those (went.Ends o) e new is rest = record {
+    runs = subst (λ x. RunsSo (kind_of s.term.kind) u (λ end. run_body u (block_body s bound (Step binds c more) end) locals (done those)) (then_go (then_go x (control_run s.env u.meaning u.args (paths_in s) c)) (block_run s.env u.meaning u.args (paths_in s) more))) (sym e)
+        (λ end. is (Then (control_stmt s (bound_by bound binds) c) (block_body s (bound_by bound binds) more end)));
+    goes = subst (λ x. WentOn known (after_block s.env (paths_in s) made (Step binds c more)) (then_go (then_go x (control_run s.env u.meaning u.args (paths_in s) c)) (block_run s.env u.meaning u.args (paths_in s) more))) (sym e) tt;
   }
-  step_runs bound made binds c more locals known calls (went.Goes later those) e new is rest =
-      let ps = paths_of bs in
-      let ks = occurrences env ps binds in
-      let k = rest later those is.0 is.3 is.2 in
-      let r = runs_after (bound_by bound binds) (after_control env ps (made ++ ks) c) later (control_run env u.meaning u.args ps c later those) more is.0 k.0.goes k.1 in
+  step_runs bound made binds c more locals known calls those (went.Goes later all) e new is rest =
+      let ps = paths_in s in
+      let ks = occurrences s.env ps binds in
+      let k = rest later all is.behind is.after is.same is.keeps is.agree in
+      let f = run_stmt u (control_stmt s (bound_by bound binds) c) is.after (done is.behind) in
+      let w = control_run s.env u.meaning u.args ps c later all in
+      let r = runs_after (bound_by bound binds) (after_control s.env ps (made ++ ks) c) later f w more is.after k.0 k.1 in
       record {
-        after = r.after;
-        runs = λ end.
-            is.1 (Then (control_stmt env bs (kind_of t.kind) (bound_by bound binds) c) (block_body env bs (kind_of t.kind) (bound_by bound binds) more end))
-            ∙ ap (λ f. then_run f (run_body u (block_body env bs (kind_of t.kind) (bound_by bound binds) more end))) k.0.runs
-            ∙ r.runs end
-            ∙ ap (λ x. then_run (back (kind_of t.kind) r.after (then_go (then_go x (control_run env u.meaning u.args ps c)) (block_run env u.meaning u.args ps more))) (run_body u end)) (sym e);
-        goes = subst (λ x. WentOn known (after_block env ps made (Step binds c more)) (then_go (then_go x (control_run env u.meaning u.args ps c)) (block_run env u.meaning u.args ps more))) (sym e)
-            (goes_twice known later (after_block env ps made (Step binds c more)) (then_go (control_run env u.meaning u.args ps c later those) (block_run env u.meaning u.args ps more)) (kept_grows ks known later new is.3) r.goes);
+        runs = subst (λ x. RunsSo (kind_of s.term.kind) u (λ end. run_body u (block_body s bound (Step binds c more) end) locals (done those)) (then_go (then_go x (control_run s.env u.meaning u.args ps c)) (block_run s.env u.meaning u.args ps more))) (sym e)
+            (runs_by (kind_of s.term.kind) u (λ end. run_body u (block_body s bound (Step binds c more) end) locals (done those)) (λ end. then_run f (run_body u (block_body s (bound_by bound binds) more end))) (then_go w (block_run s.env u.meaning u.args ps more))
+            (λ end. is.runs (Then (control_stmt s (bound_by bound binds) c) (block_body s (bound_by bound binds) more end))) r.runs);
+        goes = subst (λ x. WentOn known (after_block s.env ps made (Step binds c more)) (then_go (then_go x (control_run s.env u.meaning u.args ps c)) (block_run s.env u.meaning u.args ps more))) (sym e)
+            (goes_twice known later (after_block s.env ps made (Step binds c more)) (then_go w (block_run s.env u.meaning u.args ps more)) (kept_grows ks known later new is.keeps) r.goes);
       }
 
-  if_goes : (x : Bool) (w : Went) (known : Known) (calls : List Made) (made : List ℕ) → IsLater known made known → WentOn known made w → WentOn known made (cond x w (went.Goes known calls))
-  if_goes true w known calls made h k = k
-  if_goes false w known calls made h k = h
+  -- two values that are compared, and the body behind that
+  equal_does : (a b : Operand) (bound made more : List ℕ) (body : Block) (locals : Env) (known : Known) (calls those : List Made) (r q : Value) (x : Bool) → value_of u locals a ≡ a_value r → value_of u locals b ≡ a_value q → same_in_run r q ≡ x
+      → KnowsOnly made known → AreSameCalls those calls → Runs bound made body locals known calls those
+      → WentOn known (made ++ more) (block_run s.env u.meaning u.args (paths_in s) body known calls)
+      → Does (kind_of s.term.kind) locals known (made ++ more) (run_stmt u (IfEq a b (block_body s bound body Done)) locals (done those)) (cond x (block_run s.env u.meaning u.args (paths_in s) body known calls) (went.Goes known calls))
+  equal_does a b bound made more body locals known calls those r q true e f same only made' runs goes = record {
+    runs = does_by (kind_of s.term.kind) locals _ (after_scope locals (run_body u (block_body s bound body Done) locals (done those))) (block_run s.env u.meaning u.args (paths_in s) body known calls) (rw (e, f, same) refl)
+        (scope_does (kind_of s.term.kind) u locals (λ end. run_body u (block_body s bound body end) locals (done those)) (block_run s.env u.meaning u.args (paths_in s) body known calls) runs.runs);
+    goes = goes;
+  }
+  equal_does a b bound made more body locals known calls those r q false e f same only made' runs goes = skip (kind_of s.term.kind) locals known made more _ (went.Goes known calls) calls those only made' (rw (e, f, same) refl) refl
 
-  -- the same is known as before
-  same_later : (known : Known) (made : List ℕ) → KnowsOnly made known → IsLater known made known
-  same_later known made only = record { grows = record { by = λ k a e. e }; only = only }
+  arm_goes : (made : List ℕ) (body : Block) (known : Known) (w : Went) → WentOn known (after_block s.env (paths_in s) made body) w → WentOn known (made ++ (after_block s.env (paths_in s) made body ++ [])) w
+  arm_goes made body known w h = on_right made (after_block s.env (paths_in s) made body ++ []) known w (on_first (after_block s.env (paths_in s) made body) [] known w h)
 
-  -- a body goes as its block, and behind it stand the outer locals
-  body_back : (bound made : List ℕ) (body : Block) (locals : Env) (known : Known) (calls : List Made) → Runs bound made body locals known calls
-      → after_scope locals (run_body u (block_body env bs (kind_of t.kind) bound body Done) locals (done calls)) ≡ back (kind_of t.kind) locals (block_run env u.meaning u.args (paths_of bs) body known calls)
-  body_back bound made body locals known calls r = ap (after_scope locals) (r.runs Done) ∙ after_scope_back u (kind_of t.kind) locals r.after (block_run env u.meaning u.args (paths_of bs) body known calls)
+  -- an arm that tests for a constant
+  constant_does : (bound made : List ℕ) (source : BindingId) (ty : TypeId) (c : Constraint) (places : List (Option BindingId)) (body : Block) (locals : Env) (known : Known) (calls those : List Made) → KnowsOnly made known → AreSameCalls those calls → Agree s u bound known locals
+      → IsReady s bound source ty → IsConstraintOf s.env c ty → IsConstant c → Runs (bound_within bound places) made body locals known calls those
+      → Does (kind_of s.term.kind) locals known (after_control s.env (paths_in s) made (block.Match source (Arm c places body NoArm))) (run_stmt u (IfEq (written_operand s bound source) (written_test s.env c) (block_body s (bound_within bound places) body Done)) locals (done those))
+      (control_run s.env u.meaning u.args (paths_in s) (block.Match source (Arm c places body NoArm)) known calls)
+  constant_does bound made source ty c places body locals known calls those only same a ready is constant runs =
+      let v = operand_reads s u bound known locals source ty g a ready in
+      let w = constraint_tests s.env u c ty g.names g.constants is constant in
+      let after = after_block s.env (paths_in s) made body in
+      subst (λ h. Does (kind_of s.term.kind) locals known (made ++ (after ++ [])) (run_stmt u (IfEq (written_operand s bound source) (written_test s.env c) (block_body s (bound_within bound places) body Done)) locals (done those)) (cond (meets s.env u.meaning c h) (block_run s.env u.meaning u.args (paths_in s) body known calls) (went.Goes known calls))) (sym v.block)
+      (equal_does (written_operand s bound source) (written_test s.env c) (bound_within bound places) made (after ++ []) body locals known calls those v.r w.w (meets s.env u.meaning c (a_value v.v)) v.run (w.place locals) (w.met v.r v.v v.same v.typed) only same runs
+      (arm_goes made body known (block_run s.env u.meaning u.args (paths_in s) body known calls) runs.goes))
+
+  -- an arm that tests by a pattern
+  form_does : (bound made : List ℕ) (source : BindingId) (ty : TypeId) (c : Constraint) (places : List (Option BindingId)) (body : Block) (locals : Env) (known : Known) (calls those : List Made) → KnowsOnly made known → AreSameCalls those calls → Agree s u bound known locals
+      → IsReady s bound source ty → IsConstraintOf s.env c ty → ArePlacesOf s source c places → IsForm c → ((inner : Env) → Agree s u (bound_within bound places) known inner → Runs (bound_within bound places) made body inner known calls those)
+      → Does (kind_of s.term.kind) locals known (after_control s.env (paths_in s) made (block.Match source (Arm c places body NoArm))) (run_stmt u (IfLet (written_pattern (pattern_of s.env c places)) (written_read s bound true source) (block_body s (bound_within bound places) body Done)) locals (done those))
+      (control_run s.env u.meaning u.args (paths_in s) (block.Match source (Arm c places body NoArm)) known calls)
+  form_does bound made source ty c places body locals known calls those only same a ready is parts form runs =
+      let v = written_reads s u bound known locals true source ty g a ready in
+      let h = read_value u locals (written_read s bound true source) in
+      let fits = arm_fits s u bound known locals source ty c places h g a ready.path is parts form v in
+      subst (λ x. Does (kind_of s.term.kind) locals known (made ++ (after ++ [])) (run_stmt u (IfLet (written_pattern (pattern_of s.env c places)) (written_read s bound true source) inside) locals (done those)) (cond (meets s.env u.meaning c x) w (went.Goes known calls))) (sym v.block)
+      (subst (λ p. Does (kind_of s.term.kind) locals known (made ++ (after ++ [])) (run_stmt u (IfLet (written_pattern p) (written_read s bound true source) inside) locals (done those)) (cond (meets s.env u.meaning c (a_value v.v)) w (went.Goes known calls))) (sym fits.spelled)
+      (by fits.pat (meets s.env u.meaning c (a_value v.v)) fits.fits))
+    where
+      after : List ℕ
+      after = after_block s.env (paths_in s) made body
+
+      inside : Body
+      inside = block_body s (bound_within bound places) body Done
+
+      w : Went
+      w = block_run s.env u.meaning u.args (paths_in s) body known calls
+
+      by : (pat : TPat) (x : Bool) → FitsBy s u bound known locals places pat (read_value u locals (written_read s bound true source)) x → Does (kind_of s.term.kind) locals known (made ++ (after ++ [])) (run_stmt u (IfLet pat (written_read s bound true source) inside) locals (done those)) (cond x w (went.Goes known calls))
+      by pat false fits = skip (kind_of s.term.kind) locals known made (after ++ []) _ (went.Goes known calls) calls those only same (ap (λ o. fitted o (λ more. after_scope locals (run_body u inside (locals ++ more) (done those))) (Goes locals (done those))) fits) refl
+      by pat true fits =
+          let r = runs (locals ++ fits.0) fits.2 in
+          record {
+            runs = does_by (kind_of s.term.kind) locals _ (after_scope locals (run_body u inside (locals ++ fits.0) (done those))) w (ap (λ o. fitted o (λ more. after_scope locals (run_body u inside (locals ++ more) (done those))) (Goes locals (done those))) fits.1)
+                (scope_does (kind_of s.term.kind) u locals (λ end. run_body u (block_body s (bound_within bound places) body end) (locals ++ fits.0) (done those)) w r.runs);
+            goes = arm_goes made body known w r.goes;
+          }
+
+  -- an arm of a constant binds nothing
+  within_agrees : (bound : List ℕ) (places : List (Option BindingId)) (known : Known) (locals : Env) → places ≡ [] → Agree s u bound known locals → Agree s u (bound_within bound places) known locals
+  within_agrees bound places known locals e a = subst (λ ps. Agree s u (bound_within bound ps) known locals) (sym e) a
 
   mutual
-    block_runs : (b : Block) (bound made : List ℕ) (locals : Env) (known : Known) (calls : List Made) → KnowsOnly made known → IsLawfulFrom (setting env t bs) bound made b → HasSingleArms b → Agree env u.meaning u.args t bs bound known locals → Runs bound made b locals known calls
-    block_runs Stop bound made locals known calls only k o a = record { after = locals; runs = λ end. refl; goes = same_later known made only }
-    block_runs (Step binds c more) bound made locals known calls only k o a =
-        let ks = occurrences env (paths_of bs) binds in
+    block_runs : (b : Block) (bound made : List ℕ) (locals : Env) (known : Known) (calls those : List Made) → KnowsOnly made known → AreSameCalls those calls → IsReadyFrom s bound made b → HasSingleArms b → Agree s u bound known locals → Runs bound made b locals known calls those
+    block_runs Stop bound made locals known calls those only same k o a = record { runs = record { after = locals; those = those; is = λ end. refl; same = same }; goes = same_later known made only }
+    block_runs (Step binds c more) bound made locals known calls those only same k o a =
+        let ks = occurrences s.env (paths_in s) binds in
         let new = new_unanswered made ks known only k.1 in
-        step_runs bound made binds c more locals known calls (bind_all env u.meaning u.args (paths_of bs) binds known calls) refl new
-        (lets_run env u t bs bound binds known calls locals typed answers k.0 k.1.once new a)
-        (λ later those after keeps agree. (
-          control_runs c more (bound_by bound binds) (made ++ ks) after later those (kept_only made ks known later only keeps) k.2 o.0 agree,
-          λ last all is. block_runs more (bound_by bound binds) (after_control env (paths_of bs) (made ++ ks) c) after last all is.only k.3 o.1 (agree_later env u.meaning u.args t bs (bound_by bound binds) later last after is.grows agree),
+        step_runs bound made binds c more locals known calls those (bind_all s.env u.meaning u.args (paths_in s) binds known calls) refl new
+        (lets_run s u bound binds known calls those locals g same k.0 k.1.once new a)
+        (λ later all behind after same' keeps agree. (
+          control_runs c (bound_by bound binds) (made ++ ks) after later all behind (kept_only made ks known later only keeps) same' k.2 o.0 agree,
+          λ last all' behind' same'' is. block_runs more (bound_by bound binds) (after_control s.env (paths_in s) (made ++ ks) c) after last all' behind' is.only same'' k.3 o.1 (agree_later s u (bound_by bound binds) later last after is.grows agree),
         ))
 
-    control_runs : (c : Control) (more : Block) (bound made : List ℕ) (locals : Env) (known : Known) (calls : List Made) → KnowsOnly made known → IsLawfulControl (setting env t bs) bound made c more → IsSingle c → Agree env u.meaning u.args t bs bound known locals
-        → Does bound made c locals known calls
-    control_runs (block.Match source (block.Arm c places body block.NoArm)) more bound made locals known calls only k o a =
-        let v = operand_reads env u t bs bound known locals source k.1.0 typed a k.1.1 in
-        let w = constraint_tests env c k.1.0 k.1.2.0 in
-        let r = block_runs body bound made locals known calls only (arm_body (setting env t bs) bound made source c places body block.NoArm k.1.0 k.1.2) o a in
-        let after = after_block env (paths_of bs) made body in
+    control_runs : (c : Control) (bound made : List ℕ) (locals : Env) (known : Known) (calls those : List Made) → KnowsOnly made known → AreSameCalls those calls → IsReadyControl s bound made c → IsSingle c → Agree s u bound known locals
+        → Does (kind_of s.term.kind) locals known (after_control s.env (paths_in s) made c) (run_stmt u (control_stmt s bound c) locals (done those)) (control_run s.env u.meaning u.args (paths_in s) c known calls)
+    control_runs (block.Match source (Arm (constraint.ConstBool val) places body NoArm)) bound made locals known calls those only same k o a =
+        constant_does bound made source k.1.0 (constraint.ConstBool val) places body locals known calls those only same a k.1.1 k.1.2.0 tt
+        (block_runs body (bound_within bound places) made locals known calls those only same k.1.2.2 o (within_agrees bound places known locals k.1.2.1 a))
+    control_runs (block.Match source (Arm (constraint.ConstInt val of) places body NoArm)) bound made locals known calls those only same k o a =
+        constant_does bound made source k.1.0 (constraint.ConstInt val of) places body locals known calls those only same a k.1.1 k.1.2.0 tt
+        (block_runs body (bound_within bound places) made locals known calls those only same k.1.2.2 o (within_agrees bound places known locals k.1.2.1 a))
+    control_runs (block.Match source (Arm (constraint.ConstPrim val) places body NoArm)) bound made locals known calls those only same k o a =
+        constant_does bound made source k.1.0 (constraint.ConstPrim val) places body locals known calls those only same a k.1.1 k.1.2.0 tt
+        (block_runs body (bound_within bound places) made locals known calls those only same k.1.2.2 o (within_agrees bound places known locals k.1.2.1 a))
+    control_runs (block.Match source (Arm (constraint.Variant of variant) places body NoArm)) bound made locals known calls those only same k o a =
+        form_does bound made source k.1.0 (constraint.Variant of variant) places body locals known calls those only same a k.1.1 k.1.2.0 k.1.2.1 tt
+        (λ inner agree. block_runs body (bound_within bound places) made inner known calls those only same k.1.2.2 o agree)
+    control_runs (block.Match source (Arm (constraint.Struct of) places body NoArm)) bound made locals known calls those only same k o a =
+        form_does bound made source k.1.0 (constraint.Struct of) places body locals known calls those only same a k.1.1 k.1.2.0 k.1.2.1 tt
+        (λ inner agree. block_runs body (bound_within bound places) made inner known calls those only same k.1.2.2 o agree)
+    control_runs (block.Match source (Arm constraint.Some places body NoArm)) bound made locals known calls those only same k o a = absurd k.1.2.0
+    control_runs (block.Match source (Arm c places body (Arm d others inside arms))) bound made locals known calls those only same k o a = absurd o
+    control_runs (block.Match source NoArm) bound made locals known calls those only same k o a = absurd o
+    control_runs (block.Equal x y body) bound made locals known calls those only same k o a =
+        let v = operand_reads s u bound known locals x k.0.0 g a k.0.1 in
+        let w = operand_reads s u bound known locals y k.0.0 g a k.0.2 in
+        let r = block_runs body bound made locals known calls those only same k.1 o a in
+        let after = after_block s.env (paths_in s) made body in
+        let f = run_stmt u (IfEq (written_operand s bound x) (written_operand s bound y) (block_body s bound body Done)) locals (done those) in
+        let inner = block_run s.env u.meaning u.args (paths_in s) body known calls in
+        subst (λ h. Does (kind_of s.term.kind) locals known (made ++ after) f (cond (equal_held h (value_at s.env u.meaning u.args known (at (paths_in s) y))) inner (went.Goes known calls))) (sym v.block)
+        (subst (λ h. Does (kind_of s.term.kind) locals known (made ++ after) f (cond (equal_held (a_value v.v) h) inner (went.Goes known calls))) (sym w.block)
+        (equal_does (written_operand s bound x) (written_operand s bound y) bound made after body locals known calls those v.r w.r _ v.run w.run (run_same s.env k.0.0 v.r w.r v.v w.v v.same w.same v.typed w.typed) only same r
+        (on_right made after known inner r.goes)))
+    control_runs (block.Loop result body) bound made locals known calls those only same k o a = absurd k
+    control_runs (block.Return pos result) bound made locals known calls those only same k o a =
+        let v = written_reads s u bound known locals false result s.term.ret_ty g a k in
         record {
-          runs =
-              rw (v.place, w.1.place u locals, v.held, w.1.met u.meaning v.v, typed_same env v.v w.0 k.1.0 v.typed w.1.typed)
-              (if_back (kind_of t.kind) (same_value v.v w.0) locals (run_body u (block_body env bs (kind_of t.kind) bound body Done) locals (done calls)) (block_run env u.meaning u.args (paths_of bs) body known calls) known calls
-              (body_back bound made body locals known calls r));
-          goes = if_goes (meets env u.meaning c _) (block_run env u.meaning u.args (paths_of bs) body known calls) known calls (made ++ (after ++ [])) (on_left made (after ++ []) known known (same_later known made only))
-              (on_right made (after ++ []) known (block_run env u.meaning u.args (paths_of bs) body known calls) (on_first after [] known (block_run env u.meaning u.args (paths_of bs) body known calls) r.goes));
+          runs = subst (λ h. EndsSo (kind_of s.term.kind) (run_return u (returned (kind_of s.term.kind) (written_read s bound false result)) locals (done those)) (record { result = result_of h; calls = calls })) (sym v.block)
+              (return_does u (kind_of s.term.kind) (written_read s bound false result) v.r v.v locals calls those v.run v.same same);
+          goes = tt;
         }
-    control_runs (block.Match source (block.Arm c places body (block.Arm d others inside arms))) more bound made locals known calls only k o a = absurd o
-    control_runs (block.Match source block.NoArm) more bound made locals known calls only k o a = absurd o
-    control_runs (block.Equal x y body) more bound made locals known calls only k o a =
-        let v = operand_reads env u t bs bound known locals x k.0.0 typed a k.0.1 in
-        let w = operand_reads env u t bs bound known locals y k.0.0 typed a k.0.2 in
-        let r = block_runs body bound made locals known calls only k.1 o a in
-        let after = after_block env (paths_of bs) made body in
-        record {
-          runs =
-              rw (v.place, w.place, v.held, w.held, typed_same env v.v w.v k.0.0 v.typed w.typed)
-              (if_back (kind_of t.kind) (same_value v.v w.v) locals (run_body u (block_body env bs (kind_of t.kind) bound body Done) locals (done calls)) (block_run env u.meaning u.args (paths_of bs) body known calls) known calls
-              (body_back bound made body locals known calls r));
-          goes = if_goes _ (block_run env u.meaning u.args (paths_of bs) body known calls) known calls (made ++ after) (on_left made after known known (same_later known made only))
-              (on_right made after known (block_run env u.meaning u.args (paths_of bs) body known calls) r.goes);
-        }
-    control_runs (block.Loop result body) more bound made locals known calls only k o a = absurd k
-    control_runs (block.Return pos result) more bound made locals known calls only k o a =
-        let v = operand_reads env u t bs bound known locals result t.ret_ty typed a k.0 in
-        record { runs = rw v.held (return_back u (kind_of t.kind) (written_operand env bs bound result) v.v locals calls v.place); goes = tt }
 
 -- ---- functions
 
@@ -247,14 +351,21 @@ returns (Step binds c (Step ds d more)) env m args bs known made e =
     ended_after (went.Goes known' made') go h = h known' made'
     ended_after (went.Ends o) go h = (o, refl)
 
+-- a run that ends is the same but for names
+ran_same : (kind : ReturnKind) (f : Flow) (o : Prescription) → EndsSo kind f o → AreSameRuns (ended f) (Some (ran_with o.calls (end_of kind o.result)))
+ran_same kind f o e =
+    ap (λ x. option_map nameless_ran (ended x)) e.is ∙ ap (λ x. Some (record { end = x; calls = map nameless_made e.those })) e.same ∙ ap (λ x. Some (record { end = nameless_end (end_of kind o.result); calls = x })) e.calls
+
 -- behind a block that goes on stands the tail of its kind
-tail_runs : (u : Around) (kind : ReturnKind) → AnswersOnce kind → (x : Bool) (name place : List ℕ) (locals : Env) (w : Went) → (x ≡ true → (o : Prescription) × (w ≡ went.Ends o))
-    → ended (then_run (back kind locals w) (run_body u (cond x Done (tail_body (mark_of kind name place))))) ≡ Some (ran_with (gave kind w).calls (end_of kind (gave kind w).result))
-tail_runs u kind once x name place locals (went.Ends o) h = refl
-tail_runs u kind once true name place locals (went.Goes known made) h = let k = h refl in cc
-tail_runs u return_kind.Plain once false name place locals (went.Goes known made) h = refl
-tail_runs u return_kind.Option once false name place locals (went.Goes known made) h = refl
-tail_runs u return_kind.Iterator once false name place locals (went.Goes known made) h = absurd once
+tail_runs : (u : Around) (kind : ReturnKind) → AnswersOnce kind → (x : Bool) (name place : List ℕ) (f : Body → Flow) (w : Went) → (x ≡ true → (o : Prescription) × (w ≡ went.Ends o)) → RunsSo kind u f w
+    → AreSameRuns (ended (f (cond x Done (tail_body (mark_of kind name place))))) (Some (ran_with (gave kind w).calls (end_of kind (gave kind w).result)))
+tail_runs u kind once x name place f (went.Ends o) h r = ran_same kind (f (cond x Done (tail_body (mark_of kind name place)))) o (r (cond x Done (tail_body (mark_of kind name place))))
+tail_runs u kind once true name place f (went.Goes known made) h r = let k = h refl in cc
+tail_runs u return_kind.Plain once false name place f (went.Goes known made) h r =
+    ap (λ x. option_map nameless_ran (ended x)) (r.is (tail_body (mark_of return_kind.Plain name place))) ∙ ap (λ x. Some (record { end = IsUnreachable; calls = x })) r.same
+tail_runs u return_kind.Option once false name place f (went.Goes known made) h r =
+    ap (λ x. option_map nameless_ran (ended x)) (r.is (tail_body (mark_of return_kind.Option name place))) ∙ ap (λ x. Some (record { end = GivesNone; calls = x })) r.same
+tail_runs u return_kind.Iterator once false name place f (went.Goes known made) h r = absurd once
 
 -- the end that a kind has
 pub ends_as : (kind : ReturnKind) → AnswersOnce kind → (r : Result) → ending kind r ≡ Some (end_of kind r)
@@ -267,15 +378,18 @@ ends_as return_kind.Option once Unmatched = refl
 ends_as return_kind.Iterator once r = absurd once
 
 -- the function of a term whose block is lawful runs as the block
-pub written_runs : (files : Files) (env : Environment) (t : Term) (bs : List Binding) (b : Block) → AnswersOnce (kind_of t.kind) → IsLawfulBlock (setting env t bs) b → HasSingleArms b → RunsAsBlock env t bs b (function_of files env t bs b)
-written_runs files env t bs b once h o p args m e k answers =
+pub written_runs : (files : Files) (env : Environment) (t : Term) (bs : List Binding) (b : Block) → AnswersOnce (kind_of t.kind) → HasRustNames env → IsLawfulBlock (setting env t bs) b → HasSingleArms b → RunsAsBlock env t bs b (function_of files env t bs b)
+written_runs files env t bs b once names h o p args m e k answers values =
     let kind = kind_of t.kind in
     let name = sym_text env t.name in
     let place = place_in files t.decl_pos in
+    let s = setting env t bs in
     let u : Around = record { meaning = m; program = p; function = function_of files env t bs b; args = args; limit = None } in
-    let r = block_runs env u t bs k answers b [] [] [] nothing_known [] (λ j apart. refl) h o (none_agree env m args t bs nothing_known) in
+    let g : Grounds s u = record { typed = k; answers = answers; constants = values; names = names } in
+    let c = completed s [] b in
+    let f : Body → Flow = λ end. run_body u (block_body s [] c end) [] (done []) in
+    let r = block_runs s u g c [] [] [] nothing_known [] [] (λ j apart. refl) refl (completed_ready s b h) (completed_single s [] b o) (none_agree s u nothing_known) in
     let outcome = block_outcome env m args (paths_of bs) b kind in
-    ap (function_run p m args) e
-    ∙ ap ended (r.runs (tail_of kind name place b))
-    ∙ tail_runs u kind once (ends_in_return b) name place r.after (block_run env m args (paths_of bs) b nothing_known []) (λ x. returns b env m args bs nothing_known [] x)
-    ∙ ap (option_map (ran_with outcome.calls)) (sym (ends_as kind once outcome.result))
+    ap (option_map nameless_ran) (ap (function_run p m args) e)
+    ∙ tail_runs u kind once (ends_in_return b) name place f (block_run env m args (paths_of bs) b nothing_known []) (λ x. returns b env m args bs nothing_known [] x) (subst (RunsSo kind u f) (completed_runs s m args [] b nothing_known []) r.runs)
+    ∙ ap (λ x. option_map nameless_ran (option_map (ran_with outcome.calls) x)) (sym (ends_as kind once outcome.result))

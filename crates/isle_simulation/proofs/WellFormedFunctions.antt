@@ -17,7 +17,12 @@ use Rattle.isle_tree.specs.WellFormed.{Locals, IsBody, IsBodyScoped, IsKind, IsF
 use Rattle.isle_tree.specs.declared.tree.TraitFn.{TraitFn}
 use Rattle.isle_core.specs.declared.types.ReturnKind.{ReturnKind}
 use Rattle.isle_core.specs.declared.types.ReturnKind.TheVariants as return_kind
-use Rattle.isle_simulation.specs.TermFunction.{parameter, ends_in_return, mark_of, tail_body, tail_of}
+use Rattle.isle_simulation.specs.Completed.{completed}
+use Rattle.isle_simulation.specs.RustNames.{HasRustNames}
+use Rattle.isle_simulation.specs.TermFunction.{ends_in_return, mark_of, tail_body, tail_of}
+use Rattle.isle_simulation.specs.TypeTexts.{parameter}
+use Rattle.isle_simulation.proofs.CompletedReady.{completed_ready}
+use Rattle.isle_simulation.proofs.CompletedRuns.{completed_single}
 use Rattle.isle_simulation.specs.Emitted.{IsEmittable}
 use Rattle.isle_simulation.specs.TraitFns.{trait_fns_of, HasFnNames}
 use Rattle.isle_simulation.proofs.Written.{function_of}
@@ -45,19 +50,23 @@ tail_scoped (Some mark) false fns kind params locals = (tt, tt)
 tail_scoped None false fns kind params locals = tt
 
 -- the function of a term that may be emitted and whose block is lawful, in a program with the functions of the trait
-pub written_well_formed : (files : Files) (env : Environment) (t : Term) (bs : List Binding) (b : Block) → IsEmittable env t → IsLawfulBlock (setting env t bs) b → HasSingleArms b → HasFnNames env → (p : Program) → p.trait_fns ≡ trait_fns_of env → IsFunction p (function_of files env t bs b)
-written_well_formed files env t bs b h k o fns p same =
+pub written_well_formed : (files : Files) (env : Environment) (t : Term) (bs : List Binding) (b : Block) → IsEmittable env t → HasRustNames env → IsLawfulBlock (setting env t bs) b → HasSingleArms b → HasFnNames env → (p : Program) → p.trait_fns ≡ trait_fns_of env → IsFunction p (function_of files env t bs b)
+written_well_formed files env t bs b h names k o fns p same =
+    let s = setting env t bs in
     let kind = kind_of t.kind in
     let name = sym_text env t.name in
     let place = place_in files t.decl_pos in
     let mark = mark_of kind name place in
+    let c = completed s [] b in
+    let ready = completed_ready s b k in
+    let single = completed_single s [] b o in
     let body = (function_of files env t bs b).body in
     record {
       names = has_names env t body h;
       kind = kind_is kind h.once;
-      forms = block_is b env t bs kind [] [] (tail_of kind name place b) fns k o (tail_is mark (ends_in_return b));
+      forms = block_is c s [] [] (tail_of kind name place b) names fns ready single (tail_is mark (ends_in_return b));
       scoped = subst (λ (ts : List TraitFn). IsBodyScoped ts kind (length (map (parameter env) t.arg_tys)) [] body) (sym same)
           (subst (λ n. IsBodyScoped (trait_fns_of env) kind n [] body) (sym (length-map t.arg_tys (parameter env)))
-          (root_scoped b env t bs (tail_of kind name place b) fns h.once k o (λ locals. tail_scoped mark (ends_in_return b) (trait_fns_of env) kind (length t.arg_tys) locals)));
-      fits = function_fits b env t bs name place h.once k o;
+          (root_scoped c s (tail_of kind name place b) fns h.once ready single (λ locals. tail_scoped mark (ends_in_return b) (trait_fns_of env) kind (length t.arg_tys) locals)));
+      fits = function_fits b s name place h.once ready single;
     }

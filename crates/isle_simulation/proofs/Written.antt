@@ -1,35 +1,46 @@
 -- The statements of a lawful block by functions that always give something, for the laws. What they give in place of forms
 -- that are not built is never reached: `Made` says so.
-use Rattle.std.specs.Prelude.{ℕ, pos, List, [], ◌∷◌, ◌++◌, false, Option, Some, None, if◌then◌else◌, map, slice_get}
+use Rattle.std.specs.Prelude.{ℕ, pos, List, [], ◌∷◌, ◌++◌, Bool, true, false, Option, Some, None, slice_get}
 use Rattle.isle_core.specs.declared.BindingId.{BindingId}
+use Rattle.isle_core.specs.declared.TypeId.{TypeId}
 use Rattle.isle_core.specs.declared.files.Files.{Files}
 use Rattle.isle_core.specs.declared.rule_sets.Binding.{Binding}
 use Rattle.isle_core.specs.declared.rule_sets.Binding.TheVariants as binding
 use Rattle.isle_core.specs.declared.rule_sets.Constraint.{Constraint}
+use Rattle.isle_core.specs.declared.rule_sets.Constraint.TheVariants as constraint
 use Rattle.isle_core.specs.declared.types.ReturnKind.{ReturnKind}
 use Rattle.isle_core.specs.declared.types.ReturnKind.TheVariants as return_kind
 use Rattle.isle_core.specs.declared.types.Term.{Term}
 use Rattle.isle_core.specs.declared.values.Callee.{Callee}
 use Rattle.isle_core.specs.declared.values.Callee.TheVariants.{External}
-use Rattle.isle_core.specs.Value.{Value, End, Gives, GivesSome, GivesNone, IsUnreachable}
-use Rattle.isle_core.specs.Outcome.{Result, Value', Failure, Unmatched}
-use Rattle.isle_core.specs.Calling.{Calling, ByTurns, ByCases, NoCall, calling, kind_of}
-use Rattle.isle_core.specs.Path.{Path, at, paths_of}
-use Rattle.isle_core.specs.Places.{place_in}
+use Rattle.isle_core.specs.ArmPlaces.{bound_within}
 use Rattle.isle_core.specs.Bindable.{bound_by}
 use Rattle.isle_core.specs.Block as block
 use Rattle.isle_core.specs.Block.{Block, Control, Arms}
+use Rattle.isle_core.specs.Calling.{Calling, ByTurns, ByCases, NoCall, calling, kind_of}
+use Rattle.isle_core.specs.Form.{Form, form}
+use Rattle.isle_core.specs.HasType.{typed_fields}
+use Rattle.isle_core.specs.Making.{MakesVariant, MakesStruct}
+use Rattle.isle_core.specs.Outcome.{Result, Value', Failure, Unmatched}
+use Rattle.isle_core.specs.Path.{at}
 use Rattle.isle_core.specs.Rule.{Environment}
-use Rattle.isle_core.specs.Terms.{sym_text}
+use Rattle.isle_core.specs.Setting.{Setting, setting, paths_in}
+use Rattle.isle_core.specs.Value.{End, Gives, GivesSome, GivesNone, IsUnreachable}
 use Rattle.isle_tree.specs.declared.tree.Operand.{Operand}
 use Rattle.isle_tree.specs.declared.tree.Operand.TheVariants as operand
 use Rattle.isle_tree.specs.declared.tree.Read.{Read}
 use Rattle.isle_tree.specs.declared.tree.Read.TheVariants as read
 use Rattle.isle_tree.specs.declared.tree.TExpr.{TExpr}
 use Rattle.isle_tree.specs.declared.tree.TExpr.TheVariants as expr
-use Rattle.isle_tree.specs.Program.{Stmt, Let, IfEq, Return, Tail, Body, Done, Then, Function}
-use Rattle.isle_simulation.specs.Operands.{constant, in_place, tested, is_bound}
-use Rattle.isle_simulation.specs.TermFunction.{tail_of, function_with}
+use Rattle.isle_tree.specs.declared.tree.TPat.{TPat}
+use Rattle.isle_tree.specs.declared.tree.TPat.TheVariants as pattern
+use Rattle.isle_tree.specs.Program.{Stmt, Let, IfEq, IfLet, Return, Tail, Body, Done, Then, Function}
+use Rattle.isle_simulation.specs.Completed.{completed}
+use Rattle.isle_simulation.specs.Operands.{in_place, tested, operand_of}
+use Rattle.isle_simulation.specs.Patterns.{pattern_of}
+use Rattle.isle_simulation.specs.References.{is_declared, is_reference_in, read_as}
+use Rattle.isle_simulation.specs.Statements.{made_of}
+use Rattle.isle_simulation.specs.TermFunction.{tail_in, function_with}
 
 -- ---- operands
 
@@ -37,62 +48,89 @@ abbrev pub written : Option Operand → Operand
 written (Some o) = o
 written None = operand.Raw (pos 0)
 
-abbrev pub written_constant : Value → Operand
-written_constant v = written (constant v)
-
-abbrev pub written_place : Environment → Path → Operand
-written_place env p = written (in_place env p)
+abbrev pub written_place : Setting → BindingId → Operand
+written_place s b = written (in_place s.env b.0 (at (paths_in s) b))
 
 abbrev pub written_test : Environment → Constraint → Operand
 written_test env c = written (tested env c)
 
-abbrev pub written_operand : Environment → List Binding → List ℕ → BindingId → Operand
-written_operand env bs bound b = if is_bound bound b then operand.Local b.0 else written_place env (at (paths_of bs) b)
+abbrev pub written_operand : Setting → List ℕ → BindingId → Operand
+written_operand s bound b = written (operand_of s.env s.bindings bound b)
 
--- ---- statements
+abbrev pub written_read : Setting → List ℕ → (wanted : Bool) → BindingId → Read
+written_read s bound wanted b = read_as wanted (is_reference_in s b) (written_operand s bound b)
+
+abbrev pub written_pattern : Option TPat → TPat
+written_pattern (Some pat) = pat
+written_pattern None = pattern.Const (written None)
+
+-- ---- what bound locals compute
 
 abbrev pub callee_of : Calling → Callee
 callee_of (ByTurns callee kind) = callee
 callee_of (ByCases callee kind) = callee
 callee_of NoCall = External []
 
-abbrev pub reads : Environment → List Binding → List ℕ → List BindingId → List Read
-reads env bs bound parameters = map (λ b. read.Plain (written_operand env bs bound b)) parameters
+abbrev pub reads : Setting → List ℕ → List TypeId → List BindingId → List Read
+reads s bound (ty ∷ tys) (b ∷ more) = written_read s bound (is_declared s.env ty) b ∷ reads s bound tys more
+reads s bound [] bs = []
+reads s bound (ty ∷ tys) [] = []
 
-abbrev pub bound_expr : Environment → List Binding → List ℕ → BindingId → Option Binding → TExpr
-bound_expr env bs bound b (Some (binding.Constructor term parameters instance)) = expr.Call false (record { callee = callee_of (calling env term); args = reads env bs bound parameters })
-bound_expr env bs bound b (Some (binding.MatchSome source)) = expr.Try (written_operand env bs bound source) false
-bound_expr env bs bound b other = expr.Read (read.Plain (written_place env (at (paths_of bs) b)))
+abbrev pub call_expr : Setting → List ℕ → Option Term → Callee → List BindingId → TExpr
+call_expr s bound (Some t) callee parameters = expr.Call (is_declared s.env t.ret_ty) (record { callee = callee; args = reads s bound t.arg_tys parameters })
+call_expr s bound None callee parameters = expr.Call false (record { callee = callee; args = [] })
 
-abbrev pub lets : Environment → List Binding → List ℕ → List BindingId → Body → Body
-lets env bs bound [] more = more
-lets env bs bound (b ∷ binds) more = Then (Let b.0 (bound_expr env bs bound b (slice_get bs b.0))) (lets env bs (bound ++ b.0 ∷ []) binds more)
+abbrev pub field_reads : Setting → List ℕ → List (List ℕ × TypeId) → List BindingId → List (List ℕ × Read)
+field_reads s bound (f ∷ fields) (b ∷ more) = (f.0, written_read s bound false b) ∷ field_reads s bound fields more
+field_reads s bound [] bs = []
+field_reads s bound (f ∷ fields) [] = []
 
-abbrev pub returned : ReturnKind → Operand → TExpr
-returned return_kind.Plain o = expr.Read (read.Plain o)
-returned return_kind.Option o = expr.Some (read.Plain o)
-returned return_kind.Iterator o = expr.Read (read.Plain o)
+abbrev pub made_expr : Setting → List ℕ → Option Form → List BindingId → TExpr
+made_expr s bound (Some f) parts = made_of s.env f (field_reads s bound (typed_fields s.env f.fields) parts)
+made_expr s bound None parts = expr.Read (read.Plain (written None))
+
+abbrev pub bound_expr : Setting → List ℕ → BindingId → Option Binding → TExpr
+bound_expr s bound b (Some (binding.Constructor term parameters instance)) = call_expr s bound (slice_get s.env.terms term.0) (callee_of (calling s.env term)) parameters
+bound_expr s bound b (Some (binding.MatchSome source)) = expr.Try (written_operand s bound source) (is_reference_in s source)
+bound_expr s bound b (Some (binding.MakeVariant ty variant fields)) = made_expr s bound (form s.env (MakesVariant ty variant)) fields
+bound_expr s bound b (Some (binding.MakeStruct ty fields)) = made_expr s bound (form s.env (MakesStruct ty)) fields
+bound_expr s bound b other = expr.Read (read.Plain (written_place s b))
+
+-- ---- statements
+
+abbrev pub lets : Setting → List ℕ → List BindingId → Body → Body
+lets s bound [] more = more
+lets s bound (b ∷ binds) more = Then (Let b.0 (bound_expr s bound b (slice_get s.bindings b.0))) (lets s (bound ++ b.0 ∷ []) binds more)
+
+abbrev pub returned : ReturnKind → Read → TExpr
+returned return_kind.Plain r = expr.Read r
+returned return_kind.Option r = expr.Some r
+returned return_kind.Iterator r = expr.Read r
+
+abbrev pub arm_stmt : Setting → List ℕ → BindingId → Constraint → List (Option BindingId) → Body → Stmt
+arm_stmt s bound source (constraint.Variant ty variant) places inside = IfLet (written_pattern (pattern_of s.env (constraint.Variant ty variant) places)) (written_read s bound true source) inside
+arm_stmt s bound source (constraint.Struct ty) places inside = IfLet (written_pattern (pattern_of s.env (constraint.Struct ty) places)) (written_read s bound true source) inside
+arm_stmt s bound source c places inside = IfEq (written_operand s bound source) (written_test s.env c) inside
 
 abbrev mutual
-  pub block_body : Environment → List Binding → ReturnKind → List ℕ → Block → Body → Body
-  block_body env bs kind bound block.Stop end = end
-  block_body env bs kind bound (block.Step binds c more) end =
-      lets env bs bound binds (Then (control_stmt env bs kind (bound_by bound binds) c) (block_body env bs kind (bound_by bound binds) more end))
+  pub block_body : Setting → List ℕ → Block → Body → Body
+  block_body s bound block.Stop end = end
+  block_body s bound (block.Step binds c more) end = lets s bound binds (Then (control_stmt s (bound_by bound binds) c) (block_body s (bound_by bound binds) more end))
 
-  pub control_stmt : Environment → List Binding → ReturnKind → List ℕ → Control → Stmt
-  control_stmt env bs kind bound (block.Match source arms) = arms_stmt env bs kind bound (written_operand env bs bound source) arms
-  control_stmt env bs kind bound (block.Equal a b body) = IfEq (written_operand env bs bound a) (written_operand env bs bound b) (block_body env bs kind bound body Done)
-  control_stmt env bs kind bound (block.Loop result body) = Tail None
-  control_stmt env bs kind bound (block.Return place result) = Return (returned kind (written_operand env bs bound result))
+  pub control_stmt : Setting → List ℕ → Control → Stmt
+  control_stmt s bound (block.Match source arms) = arms_stmt s bound source arms
+  control_stmt s bound (block.Equal a b body) = IfEq (written_operand s bound a) (written_operand s bound b) (block_body s bound body Done)
+  control_stmt s bound (block.Loop result body) = Tail None
+  control_stmt s bound (block.Return place result) = Return (returned (kind_of s.term.kind) (written_read s bound false result))
 
-  pub arms_stmt : Environment → List Binding → ReturnKind → List ℕ → Operand → Arms → Stmt
-  arms_stmt env bs kind bound o block.NoArm = Tail None
-  arms_stmt env bs kind bound o (block.Arm c places body arms) = IfEq o (written_test env c) (block_body env bs kind bound body Done)
+  pub arms_stmt : Setting → List ℕ → BindingId → Arms → Stmt
+  arms_stmt s bound source block.NoArm = Tail None
+  arms_stmt s bound source (block.Arm c places body arms) = arm_stmt s bound source c places (block_body s (bound_within bound places) body Done)
 
 -- ---- functions
 
 abbrev pub function_of : Files → Environment → Term → List Binding → Block → Function
-function_of files env t bs b = function_with env t (block_body env bs (kind_of t.kind) [] b (tail_of (kind_of t.kind) (sym_text env t.name) (place_in files t.decl_pos) b))
+function_of files env t bs b = function_with env t (block_body (setting env t bs) [] (completed (setting env t bs) [] b) (tail_in files env t b))
 
 abbrev pub end_of : ReturnKind → Result → End
 end_of return_kind.Plain (Value' v) = Gives v

@@ -1,5 +1,5 @@
 -- What an emitted function is to its term and its block.
-use Rattle.std.specs.Prelude.{◌≡◌, List, [], ◌∷◌, IsTrue, Option, Some, option_map}
+use Rattle.std.specs.Prelude.{◌≡◌, List, [], ◌∷◌, IsTrue, IsSome, Option, Some, option_map}
 use Rattle.std.specs.List.{AllByRecursion, list_all}
 use Rattle.isle_printer.specs.Token.{is_word_byte}
 use Rattle.isle_core.specs.declared.types.Term.{Term}
@@ -16,15 +16,19 @@ use Rattle.isle_core.specs.Block.{Block}
 use Rattle.isle_core.specs.BlockRun.{block_outcome}
 use Rattle.isle_core.specs.Terms.{sym_text}
 use Rattle.isle_core.specs.Rule.{Environment}
-use Rattle.isle_core.specs.BuiltinType.{IsBuiltinType}
+use Rattle.isle_core.specs.Having.{const_of}
+use Rattle.isle_core.specs.NamesApart.{ValuesConstants}
+use Rattle.isle_core.specs.Nameless.{nameless_ran}
+use Rattle.isle_spelling.specs.Identifier.{IsIdentifier}
+use Rattle.isle_simulation.specs.TypeTexts.{type_text}
 use Rattle.isle_tree.specs.Program.{Function, Program}
 use Rattle.isle_tree.specs.Run.{run, function_of}
 use Rattle.isle_simulation.specs.Ends.{end_of}
 
--- a term whose name may be emitted, whose types are built, and that answers at most once
+-- a term whose name may be emitted, whose types have names of Rust, and that answers at most once
 pub record IsEmittable (env : Environment) (t : Term) : Type 0 where
   pub name : IsTrue (list_all is_word_byte (sym_text env t.name))
-  pub types : AllByRecursion (IsBuiltinType env) (t.ret_ty ∷ t.arg_tys)
+  pub types : AllByRecursion (λ ty. IsIdentifier (type_text env ty)) (t.ret_ty ∷ t.arg_tys)
   pub once : AnswersOnce (kind_of t.kind)
 
 -- an end with these calls
@@ -35,13 +39,14 @@ ran_with calls end = record { end = end; calls = calls }
 abbrev pub ran_of : Term → Prescription → Option Ran
 ran_of t o = option_map (ran_with o.calls) (end_of (kind_of t.kind) o.result)
 
--- the meaning answers each call among the bindings with its kind and its type; calls of extractors are not built
+-- the meaning answers each call among the bindings with its kind and its type, and each constant among them has a value; calls
+-- of extractors are not built
 abbrev pub AnswersBindings : Environment → Meaning → List Binding → Type 0
 AnswersBindings env m [] = Unit {0}
 AnswersBindings env m (binding.Constructor term parameters instance ∷ bs) = AnswersFit env m term × AnswersBindings env m bs
 AnswersBindings env m (binding.ConstBool val ty ∷ bs) = AnswersBindings env m bs
 AnswersBindings env m (binding.ConstInt val ty ∷ bs) = AnswersBindings env m bs
-AnswersBindings env m (binding.ConstPrim val ∷ bs) = AnswersBindings env m bs
+AnswersBindings env m (binding.ConstPrim val ∷ bs) = IsSome (const_of m (sym_text env val)) × AnswersBindings env m bs
 AnswersBindings env m (binding.Argument index ∷ bs) = AnswersBindings env m bs
 AnswersBindings env m (binding.Extractor term parameter ∷ bs) = AnswersBindings env m bs
 AnswersBindings env m (binding.Iterator source ∷ bs) = AnswersBindings env m bs
@@ -53,9 +58,13 @@ AnswersBindings env m (binding.MakeSome inner ∷ bs) = AnswersBindings env m bs
 AnswersBindings env m (binding.MatchSome source ∷ bs) = AnswersBindings env m bs
 AnswersBindings env m (binding.MatchTuple source field ∷ bs) = AnswersBindings env m bs
 
+-- two runs are the same but for the type names of opaque numbers
+abbrev pub AreSameRuns : Option Ran → Option Ran → Type 0
+AreSameRuns r q = option_map nameless_ran r ≡ option_map nameless_ran q
+
 -- in every program in which the term's function is this, its run on well-typed arguments is the block's, under every
--- meaning that answers its calls
+-- meaning that answers its calls and gives constants values of their types
 abbrev pub RunsAsBlock : Environment → Term → List Binding → Block → Function → Type 0
 RunsAsBlock env t bs b f = (p : Program) (args : List Value) (m : Meaning)
-    → function_of (sym_text env t.name) p.fns ≡ Some f → HaveTypes env args t.arg_tys → AnswersBindings env m bs
-    → run p (sym_text env t.name) args m ≡ ran_of t (block_outcome env m args (paths_of bs) b (kind_of t.kind))
+    → function_of (sym_text env t.name) p.fns ≡ Some f → HaveTypes env args t.arg_tys → AnswersBindings env m bs → ValuesConstants env m
+    → AreSameRuns (run p (sym_text env t.name) args m) (ran_of t (block_outcome env m args (paths_of bs) b (kind_of t.kind)))

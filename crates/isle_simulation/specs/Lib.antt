@@ -1,5 +1,9 @@
 pub mod Ends
+pub mod TypeTexts
+pub mod References
 pub mod Operands
+pub mod Patterns
+pub mod Completed
 pub mod Statements
 pub mod TermFunction
 pub mod TraitFns
@@ -7,3 +11,4 @@ pub mod OfTerm
 pub mod Bare
 pub mod Shape
 pub mod Emitted
+pub mod RustNames

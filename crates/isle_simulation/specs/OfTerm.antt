@@ -9,7 +9,8 @@ use Rattle.isle_core.specs.Terms.{sym_text}
 use Rattle.isle_core.specs.Rule.{Environment}
 use Rattle.isle_tree.specs.Program.{Stmt, Let, LetList, IfEq, IfLet, Match, Loop, Return, Extend, Overflow, Log, Split, Tail, Body, Function}
 use Rattle.isle_tree.specs.Walk.{of_body}
-use Rattle.isle_simulation.specs.TermFunction.{type_text, parameter, mark_in}
+use Rattle.isle_simulation.specs.TermFunction.{mark_in}
+use Rattle.isle_simulation.specs.TypeTexts.{type_text, parameter}
 
 -- the mark of a tail
 abbrev pub own_marks : Stmt → List (Option (List ℕ × List ℕ))

@@ -1,5 +1,5 @@
 -- When statements have the shape of a block.
-use Rattle.std.specs.Prelude.{◌≡◌, ℕ, List, [], Some}
+use Rattle.std.specs.Prelude.{◌≡◌, ℕ, List, [], Bool, true, false, Some}
 use Rattle.isle_core.specs.declared.BindingId.{BindingId}
 use Rattle.isle_core.specs.ArmPlaces.{bound_within}
 use Rattle.isle_core.specs.Bindable.{bound_by}
@@ -11,26 +11,26 @@ use Rattle.isle_core.specs.declared.types.ReturnKind.TheVariants as return_kind
 use Rattle.isle_core.specs.Setting.{Setting}
 use Rattle.isle_tree.specs.declared.tree.Operand.{Operand}
 use Rattle.isle_tree.specs.declared.tree.Read.{Read}
-use Rattle.isle_tree.specs.declared.tree.Read.TheVariants as read
+use Rattle.isle_tree.specs.declared.tree.TPat.{TPat}
 use Rattle.isle_tree.specs.declared.tree.TExpr.{TExpr}
 use Rattle.isle_tree.specs.declared.tree.TExpr.TheVariants as expr
 use Rattle.isle_tree.specs.Program.{Stmt, Let, LetList, IfEq, IfLet, Match, Loop, Return, Extend, Overflow, Log, Split, Tail, Body, Done, Then}
 use Rattle.isle_simulation.specs.Bare.{bare}
 use Rattle.isle_simulation.specs.Operands.{tested, operand_of}
+use Rattle.isle_simulation.specs.Patterns.{pattern_of}
+use Rattle.isle_simulation.specs.Statements.{read_in}
 
 -- the operand is that of the binding, where these are bound
 abbrev pub IsOperandOf : Setting → List ℕ → BindingId → Operand → Type 0
 IsOperandOf s bound b o = operand_of s.env s.bindings bound b ≡ Some o
 
--- what is read is the operand of the binding, without & and without .clone()
-abbrev pub IsReadOf : Setting → List ℕ → BindingId → Read → Type 0
-IsReadOf s bound b (read.Plain o) = IsOperandOf s bound b o
-IsReadOf s bound b (read.Borrow o) = ⊥
-IsReadOf s bound b (read.Clone o) = ⊥
+-- what is read is the operand of the binding, as it is read where a reference is wanted or not
+abbrev pub IsReadOf : Setting → List ℕ → (wanted : Bool) → BindingId → Read → Type 0
+IsReadOf s bound wanted b r = read_in s bound wanted b ≡ Some r
 
 -- the value of a binding is returned
 abbrev pub IsValueOf : Setting → List ℕ → BindingId → TExpr → Type 0
-IsValueOf s bound b (expr.Read r) = IsReadOf s bound b r
+IsValueOf s bound b (expr.Read r) = IsReadOf s bound false b r
 IsValueOf s bound b (expr.Call borrow call) = ⊥
 IsValueOf s bound b (expr.Variant ty variant fields) = ⊥
 IsValueOf s bound b (expr.Struct ty fields) = ⊥
@@ -44,7 +44,7 @@ IsSomeOf s bound b (expr.Read r) = ⊥
 IsSomeOf s bound b (expr.Call borrow call) = ⊥
 IsSomeOf s bound b (expr.Variant ty variant fields) = ⊥
 IsSomeOf s bound b (expr.Struct ty fields) = ⊥
-IsSomeOf s bound b (expr.Some r) = IsReadOf s bound b r
+IsSomeOf s bound b (expr.Some r) = IsReadOf s bound false b r
 IsSomeOf s bound b (expr.Try source as_ref) = ⊥
 IsSomeOf s bound b (expr.Tuple source part) = ⊥
 
@@ -68,6 +68,19 @@ IsTestOf s bound o q does (block.Equal a b body) = IsOperandOf s bound a o × Is
 IsTestOf s bound o q does (block.Loop result body) = ⊥
 IsTestOf s bound o q does (block.Return pos result) = ⊥
 
+-- the pattern is the one arm's, and the statements inside do its body; several arms are not built
+abbrev pub IsPatternArm : Setting → List ℕ → TPat → (does : List ℕ → Block → Type 0) → Arms → Type 0
+IsPatternArm s bound pat does block.NoArm = ⊥
+IsPatternArm s bound pat does (block.Arm c places body block.NoArm) = (pattern_of s.env c places ≡ Some pat) × does (bound_within bound places) body
+IsPatternArm s bound pat does (block.Arm c places body (block.Arm d others more arms)) = ⊥
+
+-- the test by a pattern is the step's, over a reference to its source
+abbrev pub IsPatternTest : Setting → List ℕ → TPat → Read → (does : List ℕ → Block → Type 0) → Control → Type 0
+IsPatternTest s bound pat r does (block.Match source arms) = IsReadOf s bound true source r × IsPatternArm s bound pat does arms
+IsPatternTest s bound pat r does (block.Equal a b body) = ⊥
+IsPatternTest s bound pat r does (block.Loop result body) = ⊥
+IsPatternTest s bound pat r does (block.Return pos result) = ⊥
+
 -- the return is the step's
 abbrev pub IsReturnOf : Setting → List ℕ → TExpr → Control → Type 0
 IsReturnOf s bound e (block.Match source arms) = ⊥
@@ -83,11 +96,11 @@ abbrev mutual
   AreSteps s bound Done (block.Step binds c more) = ⊥
   AreSteps s bound (Then st ss) block.Stop = ⊥
 
-  -- the statement does what the step does; those of parts and of several results are not built, and the others are not bare
+  -- the statement does what the step does; those of several arms and of several results are not built, and the others are not bare
   pub DoesControl : Setting → List ℕ → Stmt → Control → Type 0
   DoesControl s bound (IfEq o q inside) c = IsTestOf s bound o q (λ within body. AreSteps s within inside body) c
   DoesControl s bound (Return e) c = IsReturnOf s bound e c
-  DoesControl s bound (IfLet pat read inside) c = ⊥
+  DoesControl s bound (IfLet pat r inside) c = IsPatternTest s bound pat r (λ within body. AreSteps s within inside body) c
   DoesControl s bound (Match read arms) c = ⊥
   DoesControl s bound (Loop list item inside) c = ⊥
   DoesControl s bound (Extend read) c = ⊥

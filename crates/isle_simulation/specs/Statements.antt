@@ -1,5 +1,5 @@
 -- The statements of a block in its setting, where all of its forms are built.
-use Rattle.std.specs.Prelude.{ℕ, List, [], ◌∷◌, ◌++◌, false, Option, Some, None, slice_get}
+use Rattle.std.specs.Prelude.{ℕ, List, [], ◌∷◌, ◌++◌, Bool, true, false, Option, Some, None, option_map, slice_get}
 use Rattle.isle_core.specs.declared.BindingId.{BindingId}
 use Rattle.isle_core.specs.declared.rule_sets.Binding.{Binding}
 use Rattle.isle_core.specs.declared.rule_sets.Binding.TheVariants as binding
@@ -7,17 +7,32 @@ use Rattle.isle_core.specs.declared.types.ReturnKind.{ReturnKind}
 use Rattle.isle_core.specs.declared.types.ReturnKind.TheVariants as return_kind
 use Rattle.isle_core.specs.declared.values.Callee.{Callee}
 use Rattle.isle_core.specs.Calling.{Calling, ByTurns, ByCases, NoCall, calling, kind_of}
+use Rattle.isle_core.specs.declared.Sym.{Sym}
+use Rattle.isle_core.specs.declared.TypeId.{TypeId}
+use Rattle.isle_core.specs.declared.rule_sets.Constraint.{Constraint}
+use Rattle.isle_core.specs.declared.rule_sets.Constraint.TheVariants as constraint
+use Rattle.isle_core.specs.declared.types.Term.{Term}
+use Rattle.isle_core.specs.ArmPlaces.{bound_within}
+use Rattle.isle_core.specs.Form.{Form, form}
+use Rattle.isle_core.specs.HasType.{typed_fields}
+use Rattle.isle_core.specs.Making.{MakesVariant, MakesStruct}
 use Rattle.isle_core.specs.Path.{at}
+use Rattle.isle_core.specs.Rule.{Environment}
+use Rattle.isle_core.specs.Terms.{sym_text}
 use Rattle.isle_core.specs.Bindable.{bound_by}
 use Rattle.isle_core.specs.Block as block
 use Rattle.isle_core.specs.Block.{Block, Control, Arms}
 use Rattle.isle_core.specs.Setting.{Setting, paths_in}
 use Rattle.isle_tree.specs.declared.tree.Operand.{Operand}
+use Rattle.isle_tree.specs.declared.tree.Operand.TheVariants as operand
+use Rattle.isle_tree.specs.declared.tree.TPat.{TPat}
 use Rattle.isle_tree.specs.declared.tree.Read.{Read}
 use Rattle.isle_tree.specs.declared.tree.Read.TheVariants as read
 use Rattle.isle_tree.specs.declared.tree.TExpr.{TExpr}
 use Rattle.isle_tree.specs.declared.tree.TExpr.TheVariants as expr
-use Rattle.isle_tree.specs.Program.{Stmt, Let, IfEq, Return, Body, Done, Then}
+use Rattle.isle_tree.specs.Program.{Stmt, Let, IfEq, IfLet, Return, Body, Done, Then}
+use Rattle.isle_simulation.specs.Patterns.{pattern_of}
+use Rattle.isle_simulation.specs.References.{is_declared, is_reference_in, read_as}
 use Rattle.isle_simulation.specs.Operands.{in_place, tested, operand_of}
 
 -- ---- what bound locals compute
@@ -29,44 +44,83 @@ callee_of (ByCases callee kind) = Some callee
 callee_of NoCall = None
 
 -- an operand as it is read, before other reads
-abbrev pub read_before : Option Operand → Option (List Read) → Option (List Read)
-read_before (Some o) (Some rs) = Some (read.Plain o ∷ rs)
-read_before (Some o) None = None
+abbrev pub read_before : Option Read → Option (List Read) → Option (List Read)
+read_before (Some r) (Some rs) = Some (r ∷ rs)
+read_before (Some r) None = None
 read_before None rs = None
 
--- the operands of bindings as they are read, in order
-abbrev pub reads : Setting → List ℕ → List BindingId → Option (List Read)
-reads s bound [] = Some []
-reads s bound (b ∷ more) = read_before (operand_of s.env s.bindings bound b) (reads s bound more)
+-- the operand of a binding, read where a reference is wanted or not
+abbrev pub read_in : Setting → List ℕ → (wanted : Bool) → BindingId → Option Read
+read_in s bound wanted b = option_map (read_as wanted (is_reference_in s b)) (operand_of s.env s.bindings bound b)
 
--- a call of what is called on what is read
-abbrev pub call_on : Option Callee → Option (List Read) → Option TExpr
-call_on (Some callee) (Some args) = Some (expr.Call false (record { callee = callee; args = args }))
-call_on (Some callee) None = None
-call_on None args = None
+-- the operands of bindings as they are handed to parameters of these types, in order: by reference where they are enums or structs
+abbrev pub reads : Setting → List ℕ → List TypeId → List BindingId → Option (List Read)
+reads s bound [] [] = Some []
+reads s bound (ty ∷ tys) (b ∷ more) = read_before (read_in s bound (is_declared s.env ty) b) (reads s bound tys more)
+reads s bound [] (b ∷ more) = None
+reads s bound (ty ∷ tys) [] = None
+
+-- a call of what is called on what is read, behind a & where it gives an enum or a struct
+abbrev pub call_on : (borrow : Bool) → Option Callee → Option (List Read) → Option TExpr
+call_on borrow (Some callee) (Some args) = Some (expr.Call borrow (record { callee = callee; args = args }))
+call_on borrow (Some callee) None = None
+call_on borrow None args = None
+
+-- a call of a term that is there
+abbrev pub call_of : Setting → List ℕ → Option Term → Option Callee → List BindingId → Option TExpr
+call_of s bound None callee parameters = None
+call_of s bound (Some t) callee parameters = call_on (is_declared s.env t.ret_ty) callee (reads s bound t.arg_tys parameters)
 
 -- the inner value of an option
-abbrev pub inner_of : Option Operand → Option TExpr
-inner_of (Some o) = Some (expr.Try o false)
-inner_of None = None
+abbrev pub inner_of : (as_ref : Bool) → Option Operand → Option TExpr
+inner_of as_ref (Some o) = Some (expr.Try o as_ref)
+inner_of as_ref None = None
 
 -- what is read
 abbrev pub read_of : Option Operand → Option TExpr
 read_of (Some o) = Some (expr.Read (read.Plain o))
 read_of None = None
 
--- what is computed for a binding: a call, the inner value of an option, or what is read in place; the others are not built
+-- a field's read before others
+abbrev pub field_before : List ℕ → Option Read → Option (List (List ℕ × Read)) → Option (List (List ℕ × Read))
+field_before name (Some r) (Some fs) = Some ((name, r) ∷ fs)
+field_before name (Some r) None = None
+field_before name None fs = None
+
+-- the operands of bindings as they are put into these fields: never by reference
+abbrev pub field_reads : Setting → List ℕ → List (List ℕ × TypeId) → List BindingId → Option (List (List ℕ × Read))
+field_reads s bound [] [] = Some []
+field_reads s bound (f ∷ fields) (b ∷ more) = field_before f.0 (read_in s bound false b) (field_reads s bound fields more)
+field_reads s bound [] (b ∷ more) = None
+field_reads s bound (f ∷ fields) [] = None
+
+-- a value of these names with these fields; a struct without fields is a name
+abbrev pub made_named : Environment → Sym → Option Sym → List (List ℕ × Read) → TExpr
+made_named env ty (Some variant) fields = expr.Variant (sym_text env ty) (sym_text env variant) fields
+made_named env ty None [] = expr.Read (read.Plain (operand.Name (sym_text env ty)))
+made_named env ty None (f ∷ fields) = expr.Struct (sym_text env ty) (f ∷ fields)
+
+-- a made value of a form with these fields
+abbrev pub made_of : Environment → Form → List (List ℕ × Read) → TExpr
+made_of env f fields = made_named env f.ty f.variant fields
+
+-- what is made of the parts, where there is such a form
+abbrev pub made_in : Setting → List ℕ → Option Form → List BindingId → Option TExpr
+made_in s bound None parts = None
+made_in s bound (Some f) parts = option_map (made_of s.env f) (field_reads s bound (typed_fields s.env f.fields) parts)
+
+-- what is computed for a binding: a call, the inner value of an option, a made value, or what is read in place; the others are not built
 abbrev pub computed : Setting → List ℕ → BindingId → Option Binding → Option TExpr
-computed s bound b (Some (binding.Constructor term parameters instance)) = call_on (callee_of (calling s.env term)) (reads s bound parameters)
-computed s bound b (Some (binding.MatchSome source)) = inner_of (operand_of s.env s.bindings bound source)
-computed s bound b (Some (binding.Argument index)) = read_of (in_place s.env (at (paths_in s) b))
-computed s bound b (Some (binding.ConstBool val ty)) = read_of (in_place s.env (at (paths_in s) b))
-computed s bound b (Some (binding.ConstInt val ty)) = read_of (in_place s.env (at (paths_in s) b))
-computed s bound b (Some (binding.ConstPrim val)) = None
+computed s bound b (Some (binding.Constructor term parameters instance)) = call_of s bound (slice_get s.env.terms term.0) (callee_of (calling s.env term)) parameters
+computed s bound b (Some (binding.MatchSome source)) = inner_of (is_reference_in s source) (operand_of s.env s.bindings bound source)
+computed s bound b (Some (binding.MakeVariant ty variant fields)) = made_in s bound (form s.env (MakesVariant ty variant)) fields
+computed s bound b (Some (binding.MakeStruct ty fields)) = made_in s bound (form s.env (MakesStruct ty)) fields
+computed s bound b (Some (binding.Argument index)) = read_of (in_place s.env b.0 (at (paths_in s) b))
+computed s bound b (Some (binding.ConstBool val ty)) = read_of (in_place s.env b.0 (at (paths_in s) b))
+computed s bound b (Some (binding.ConstInt val ty)) = read_of (in_place s.env b.0 (at (paths_in s) b))
+computed s bound b (Some (binding.ConstPrim val)) = read_of (in_place s.env b.0 (at (paths_in s) b))
 computed s bound b (Some (binding.Extractor term parameter)) = None
 computed s bound b (Some (binding.Iterator source)) = None
-computed s bound b (Some (binding.MakeVariant ty variant fields)) = None
-computed s bound b (Some (binding.MakeStruct ty fields)) = None
 computed s bound b (Some (binding.MatchVariant source variant field)) = None
 computed s bound b (Some (binding.ExtractStruct source field)) = None
 computed s bound b (Some (binding.MakeSome inner)) = None
@@ -102,12 +156,28 @@ if_eq (Some a) (Some b) None = None
 if_eq (Some a) None inside = None
 if_eq None b inside = None
 
+-- a test by a pattern
+abbrev pub if_let : Option TPat → Option Read → Option Body → Option Stmt
+if_let (Some pat) (Some r) (Some inside) = Some (IfLet pat r inside)
+if_let (Some pat) (Some r) None = None
+if_let (Some pat) None inside = None
+if_let None r inside = None
+
 -- what is returned: of a term that may answer nothing an option; several answers are not built
-abbrev pub return_of : ReturnKind → Option Operand → Option Stmt
-return_of return_kind.Plain (Some o) = Some (Return (expr.Read (read.Plain o)))
-return_of return_kind.Option (Some o) = Some (Return (expr.Some (read.Plain o)))
-return_of return_kind.Iterator (Some o) = None
+abbrev pub return_of : ReturnKind → Option Read → Option Stmt
+return_of return_kind.Plain (Some r) = Some (Return (expr.Read r))
+return_of return_kind.Option (Some r) = Some (Return (expr.Some r))
+return_of return_kind.Iterator (Some r) = None
 return_of kind None = None
+
+-- the one arm of a match: a test for a constant, or by the pattern of a variant or a struct, over a reference; Some is not built
+abbrev pub arm_stmt : Setting → List ℕ → BindingId → Constraint → List (Option BindingId) → Option Body → Option Stmt
+arm_stmt s bound source (constraint.ConstBool val) places inside = if_eq (operand_of s.env s.bindings bound source) (tested s.env (constraint.ConstBool val)) inside
+arm_stmt s bound source (constraint.ConstInt val ty) places inside = if_eq (operand_of s.env s.bindings bound source) (tested s.env (constraint.ConstInt val ty)) inside
+arm_stmt s bound source (constraint.ConstPrim val) places inside = if_eq (operand_of s.env s.bindings bound source) (tested s.env (constraint.ConstPrim val)) inside
+arm_stmt s bound source (constraint.Variant ty variant) places inside = if_let (pattern_of s.env (constraint.Variant ty variant) places) (read_in s bound true source) inside
+arm_stmt s bound source (constraint.Struct ty) places inside = if_let (pattern_of s.env (constraint.Struct ty) places) (read_in s bound true source) inside
+arm_stmt s bound source constraint.Some places inside = None
 
 -- a block's steps in order, and what follows; a match of several arms and a loop are not built
 abbrev mutual
@@ -117,13 +187,13 @@ abbrev mutual
       lets s bound binds (stmt_before (control_stmt s (bound_by bound binds) c) (block_body s (bound_by bound binds) more end))
 
   pub control_stmt : Setting → List ℕ → Control → Option Stmt
-  control_stmt s bound (block.Match source arms) = arms_stmt s bound (operand_of s.env s.bindings bound source) arms
+  control_stmt s bound (block.Match source arms) = arms_stmt s bound source arms
   control_stmt s bound (block.Equal a b body) =
       if_eq (operand_of s.env s.bindings bound a) (operand_of s.env s.bindings bound b) (block_body s bound body (Some Done))
   control_stmt s bound (block.Loop result body) = None
-  control_stmt s bound (block.Return pos result) = return_of (kind_of s.term.kind) (operand_of s.env s.bindings bound result)
+  control_stmt s bound (block.Return pos result) = return_of (kind_of s.term.kind) (read_in s bound false result)
 
-  pub arms_stmt : Setting → List ℕ → Option Operand → Arms → Option Stmt
-  arms_stmt s bound o block.NoArm = None
-  arms_stmt s bound o (block.Arm c places body block.NoArm) = if_eq o (tested s.env c) (block_body s bound body (Some Done))
-  arms_stmt s bound o (block.Arm c places body (block.Arm d others inside arms)) = None
+  pub arms_stmt : Setting → List ℕ → BindingId → Arms → Option Stmt
+  arms_stmt s bound source block.NoArm = None
+  arms_stmt s bound source (block.Arm c places body block.NoArm) = arm_stmt s bound source c places (block_body s (bound_within bound places) body (Some Done))
+  arms_stmt s bound source (block.Arm c places body (block.Arm d others inside arms)) = None

@@ -1,49 +1,19 @@
 -- The function of a term.
-use Rattle.std.specs.Prelude.{ℕ, List, [], Bool, true, false, Option, Some, None, if◌then◌else◌, map, option_map, codes, slice_get}
-use Rattle.isle_core.specs.declared.TypeId.{TypeId}
+use Rattle.std.specs.Prelude.{ℕ, List, [], Bool, true, false, Option, Some, None, if◌then◌else◌, map, option_map}
 use Rattle.isle_core.specs.declared.files.Files.{Files}
-use Rattle.isle_core.specs.declared.types.BuiltinType.TheVariants as builtin
-use Rattle.isle_core.specs.declared.types.TypeDef.{TypeDef}
-use Rattle.isle_core.specs.declared.types.TypeEnv.{TypeEnv}
-use Rattle.isle_core.specs.declared.types.TypeDef.TheVariants as def
 use Rattle.isle_core.specs.declared.types.ReturnKind.{ReturnKind}
 use Rattle.isle_core.specs.declared.types.ReturnKind.TheVariants as kind
 use Rattle.isle_core.specs.declared.types.Term.{Term}
 use Rattle.isle_core.specs.Places.{place_in}
 use Rattle.isle_core.specs.Block.{Block, Stop, Step, Control, Match, Equal, Loop, Return}
 use Rattle.isle_core.specs.Calling.{kind_of}
-use Rattle.isle_core.specs.Terms.{symbol_text, sym_text}
+use Rattle.isle_core.specs.Terms.{sym_text}
 use Rattle.isle_core.specs.Rule.{Environment}
 use Rattle.isle_core.specs.Setting.{Setting}
-use Rattle.isle_tree.specs.declared.tree.Ty.{Ty}
-use Rattle.isle_core.specs.Int.{type_name}
 use Rattle.isle_tree.specs.Program.{Tail, Body, Done, Then, Function}
+use Rattle.isle_simulation.specs.Completed.{completed}
 use Rattle.isle_simulation.specs.Statements.{block_body}
-
--- the name of a type as it is emitted: of a primitive one the Rust name
-abbrev pub def_text : TypeEnv → Option TypeDef → List ℕ
-def_text types (Some (def.Builtin builtin.Bool)) = codes "bool"
-def_text types (Some (def.Builtin (builtin.Int ty))) = type_name ty
-def_text types (Some (def.Primitive name rust pos)) = symbol_text types rust
-def_text types (Some (def.Enum name is_extern is_nodebug variants pos)) = symbol_text types name
-def_text types (Some (def.Struct name is_extern is_nodebug fields pos)) = symbol_text types name
-def_text types None = []
-
--- the name of the type of this number
-abbrev pub type_text : Environment → TypeId → List ℕ
-type_text env ty = def_text env.types (slice_get env.types.types ty.0)
-
--- whether a parameter of the type stands behind a reference: enums and structs do
-abbrev pub is_by_ref : Option TypeDef → Bool
-is_by_ref (Some (def.Builtin of)) = false
-is_by_ref (Some (def.Primitive name rust pos)) = false
-is_by_ref (Some (def.Enum name is_extern is_nodebug variants pos)) = true
-is_by_ref (Some (def.Struct name is_extern is_nodebug fields pos)) = true
-is_by_ref None = false
-
--- the type of a parameter
-abbrev pub parameter : Environment → TypeId → Ty
-parameter env ty = record { by_ref = is_by_ref (slice_get env.types.types ty.0); name = type_text env ty }
+use Rattle.isle_simulation.specs.TypeTexts.{type_text, parameter}
 
 -- a step that ends the run
 abbrev pub is_return : Control → Bool
@@ -84,7 +54,7 @@ tail_in files env t b = tail_of (kind_of t.kind) (sym_text env t.name) (place_in
 
 -- the statements of a term's function
 abbrev pub root_body : Files → Setting → Block → Option Body
-root_body files s b = block_body s [] b (Some (tail_in files s.env s.term b))
+root_body files s b = block_body s [] (completed s [] b) (Some (tail_in files s.env s.term b))
 
 -- the function of a term with these statements
 abbrev pub function_with : Environment → Term → Body → Function

@@ -17,7 +17,7 @@ use Rattle.isle_core.specs.Rule.{Environment}
 use Rattle.isle_tree.specs.declared.tree.TraitFn.{TraitFn}
 use Rattle.isle_spelling.specs.Identifier.{IsIdentifier}
 use Rattle.isle_tree.specs.WellFormed.{fn_names}
-use Rattle.isle_simulation.specs.TermFunction.{type_text, parameter}
+use Rattle.isle_simulation.specs.TypeTexts.{type_text, parameter}
 
 -- ---- constructors
 

@@ -1,7 +1,5 @@
 use Rattle.std.proofs.Common.{◌≡◌, Some, None, get_or, sym, ap, ◌∙◌}
 use Rattle.std.specs.Prelude.{option_map}
-use Rattle.isle_core.specs.BlockViews.{block}
-use Rattle.isle_core.specs.RuleViews.{environment}
 use Rattle.isle_core.specs.Setting.{setting}
 use Rattle.isle_tree.specs.Views.{function}
 use Rattle.isle_emission.specs.Origin.{origin}

@@ -1,0 +1,20 @@
+-- The statements of blocks that are completed.
+use Rattle.std.specs.Prelude.{ℕ, List, Option}
+use Rattle.isle_core.specs.declared.BindingId.{BindingId}
+use Rattle.isle_core.specs.Block.{Block, Control, Arms}
+use Rattle.isle_core.specs.Setting.{Setting}
+use Rattle.isle_tree.specs.Program.{Stmt, Body}
+use Rattle.isle_simulation.specs.Completed.{completed, completed_control, completed_arms}
+use Rattle.isle_simulation.specs.Statements.{block_body, control_stmt, arms_stmt}
+
+-- those of a block, and what follows
+abbrev pub made_body : Setting → List ℕ → Block → Option Body → Option Body
+made_body s bound b end = block_body s bound (completed s bound b) end
+
+-- that of what a step does
+abbrev pub made_control : Setting → List ℕ → Control → Option Stmt
+made_control s bound c = control_stmt s bound (completed_control s bound c)
+
+-- that of the arms of a match
+abbrev pub made_arms : Setting → List ℕ → BindingId → Arms → Option Stmt
+made_arms s bound source arms = arms_stmt s bound source (completed_arms s bound arms)

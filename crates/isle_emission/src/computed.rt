@@ -1,0 +1,78 @@
+//! What bound locals compute: calls, the inner values of options, made values, and what is read in place.
+
+ghost use Rattle.std.specs.Prelude.{◌≡◌, IfOk};
+ghost use Rattle.isle_operands.specs.Typed.{setting_in};
+ghost use Rattle.isle_simulation.specs.Statements as Statements;
+
+use crate::calls::call_of;
+use crate::made::made_in;
+use isle_core::{Binding, BindingId};
+use isle_operands::{Typed, in_place, is_reference, operand_of, struct_form, variant_form};
+use isle_scope::Scope;
+use isle_tree::{Operand, Read, TExpr};
+use std::alloc::{AllocError, Global};
+
+// Makes the inner value of an option.
+fn inner_of(as_ref: bool, source: Option<Operand>) -> Option<TExpr>
+    ensures { result ≡ Statements.inner_of as_ref source }
+{
+    Some(TExpr::Try {
+        source: source?,
+        as_ref,
+    })
+}
+
+// Makes a read of an operand.
+fn read_of(operand: Option<Operand>) -> Option<TExpr>
+    ensures { result ≡ Statements.read_of operand }
+{
+    Some(TExpr::Read(Read::Plain(operand?)))
+}
+
+/// Makes what the local of a binding computes, where that is built.
+pub fn bound_expr(
+    alloc: Global,
+    typed: &Typed<'_>,
+    bound: &Scope,
+    binding: BindingId,
+) -> Result<Option<TExpr>, AllocError>
+    ensures { IfOk result (λ e. e ≡ Statements.bound_expr (setting_in typed.now) bound.now binding) }
+{
+    let context = &typed.context;
+    let Some(of) = context.bindings.get(binding.index()) else {
+        return Ok(None);
+    };
+    match of {
+        Binding::Constructor {
+            term,
+            parameters,
+            ..
+        } => { Ok(call_of(alloc, typed, bound, *term, parameters.as_slice())?) }
+        Binding::MatchSome { source } => {
+            let operand = operand_of(alloc, context, bound, *source)?;
+            Ok(inner_of(is_reference(typed, *source), operand))
+        }
+        Binding::MakeVariant {
+            ty,
+            variant,
+            fields,
+        } => {
+            let form = variant_form(context, *ty, *variant);
+            Ok(made_in(alloc, typed, bound, form, fields.as_slice())?)
+        }
+        Binding::MakeStruct { ty, fields } => {
+            let form = struct_form(context, *ty);
+            Ok(made_in(alloc, typed, bound, form, fields.as_slice())?)
+        }
+        Binding::Argument { .. }
+        | Binding::ConstBool { .. }
+        | Binding::ConstInt { .. }
+        | Binding::ConstPrim { .. } => Ok(read_of(in_place(alloc, context, binding)?)),
+        Binding::Extractor { .. }
+        | Binding::Iterator { .. }
+        | Binding::MatchVariant { .. }
+        | Binding::ExtractStruct { .. }
+        | Binding::MakeSome { .. }
+        | Binding::MatchTuple { .. } => Ok(None),
+    }
+}

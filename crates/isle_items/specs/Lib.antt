@@ -1,0 +1,3 @@
+pub mod TypeItems
+pub mod LawfulNames
+pub mod NameSet

@@ -1,0 +1,11 @@
+//! The declared types of the emitted text, and which names may stand in it.
+#![tactic(auto)]
+
+mod items;
+mod lawful;
+mod names_apart;
+mod texts;
+mod words;
+
+pub use items::type_items;
+pub use lawful::are_lawful;

@@ -1,0 +1,6 @@
+pub mod Contexts
+pub mod BindingTypes
+pub mod ConstTypes
+pub mod Typed
+pub mod Forms
+pub mod Views

@@ -1,0 +1,20 @@
+//! What stands for the values of bindings, and how it is read.
+#![tactic(auto)]
+
+mod constants;
+mod context;
+mod forms;
+mod operands;
+mod references;
+mod signature;
+mod typed;
+mod types;
+
+pub use constants::ConstTypes;
+pub use context::{Context, kind_of};
+pub use forms::{Form, field_at, field_count, struct_form, variant_form};
+pub use operands::{in_place, is_bound, operand_of, tested};
+pub use references::{is_reference, read_in, reads};
+pub use signature::{is_by_ref, params, sym_name, ty_name, ty_names};
+pub use typed::Typed;
+pub use types::binding_types;

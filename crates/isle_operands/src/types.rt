@@ -1,0 +1,108 @@
+//! The types of bindings.
+
+ghost use Rattle.std.specs.Prelude.{◌≡◌, List as ListOf, map, option_map, slice_get, IfOk};
+ghost use Rattle.isle_core.specs.declared.types.Term.{Term as TermOf};
+ghost use Rattle.isle_core.specs.Path.{Path, VariantField, StructField, path_over, at};
+ghost use Rattle.isle_core.specs.Rule.{Environment};
+ghost use Rattle.isle_operands.specs.BindingTypes.{types_in};
+ghost use Rattle.isle_operands.specs.Contexts.{env_of, setting_of};
+ghost use Rattle.isle_simulation.specs.References.{type_at};
+
+use crate::constants::ConstTypes;
+use crate::context::Context;
+use crate::forms::{field_type, struct_form, variant_form};
+use isle_core::{Binding, BindingId, TermId, TupleIndex, TypeId, VariantId};
+use std::alloc::{AllocError, Global};
+
+// Returns the type of what a term gives.
+fn result_type(context: &Context<'_>, term: TermId) -> Option<TypeId>
+    ensures { result ≡ option_map (λ t. t.ret_ty) (slice_get (env_of context.now).terms term.0) }
+{
+    Some(context.termenv.terms.as_slice().get(term.index())?.ret_ty)
+}
+
+/// Returns the type of the binding of this number, where these are the types.
+pub fn type_of(types: &[Option<TypeId>], binding: BindingId) -> Option<TypeId>
+    ensures { (env : Environment) → (t : TermOf) → (ps : ListOf Path) → types.now ≡ map (type_at env t) ps → result ≡ type_at env t (at ps binding) }
+{
+    match types.get(binding.index()) {
+        Some(ty) => *ty,
+        None => None,
+    }
+}
+
+// Returns the type of a field of a variant of the type.
+fn variant_field(
+    context: &Context<'_>,
+    source: Option<TypeId>,
+    variant: VariantId,
+    field: TupleIndex,
+) -> Option<TypeId>
+    ensures { (p : Path) → source ≡ type_at (env_of context.now) context.now.term.now p → result ≡ type_at (env_of context.now) context.now.term.now (VariantField variant field.0 p) }
+{
+    match source {
+        Some(ty) => field_type(variant_form(context, ty, variant), field.index()),
+        None => None,
+    }
+}
+
+// Returns the type of a field of the struct.
+fn struct_field(context: &Context<'_>, source: Option<TypeId>, field: TupleIndex) -> Option<TypeId>
+    ensures { (p : Path) → source ≡ type_at (env_of context.now) context.now.term.now p → result ≡ type_at (env_of context.now) context.now.term.now (StructField field.0 p) }
+{
+    match source {
+        Some(ty) => field_type(struct_form(context, ty), field.index()),
+        None => None,
+    }
+}
+
+// Returns the type of a binding over those of the bindings before it.
+fn binding_type(
+    context: &Context<'_>,
+    consts: &ConstTypes<'_>,
+    types: &[Option<TypeId>],
+    binding: &Binding,
+) -> Option<TypeId>
+    requires { consts.now ≡ context.now.typeenv.now.consts }
+    ensures { (ps : ListOf Path) → types.now ≡ map (type_at (env_of context.now) context.now.term.now) ps → result ≡ type_at (env_of context.now) context.now.term.now (path_over ps binding.now) }
+{
+    match binding {
+        Binding::ConstBool { ty, .. } => Some(*ty),
+        Binding::ConstInt { ty, .. } => Some(*ty),
+        Binding::ConstPrim { val } => consts.of(*val),
+        Binding::Argument { index } => context.term.arg_tys.as_slice().get(*index).copied(),
+        Binding::Constructor { term, .. } => result_type(context, *term),
+        Binding::MakeVariant { ty, .. } => Some(*ty),
+        Binding::MakeStruct { ty, .. } => Some(*ty),
+        Binding::MatchVariant {
+            source,
+            variant,
+            field,
+        } => variant_field(context, type_of(types, *source), *variant, *field),
+        Binding::ExtractStruct { source, field } => {
+            struct_field(context, type_of(types, *source), *field)
+        }
+        Binding::MatchSome { source } => type_of(types, *source),
+        Binding::Extractor { .. }
+        | Binding::Iterator { .. }
+        | Binding::MakeSome { .. }
+        | Binding::MatchTuple { .. } => None,
+    }
+}
+
+/// Makes the types of the bindings, in order: of each that has one. The constants are those of the context.
+pub fn binding_types(
+    alloc: Global,
+    context: &Context<'_>,
+    consts: &ConstTypes<'_>,
+) -> Result<Vec<Option<TypeId>>, AllocError>
+    requires { consts.now ≡ context.now.typeenv.now.consts }
+    ensures { IfOk result (λ types. types.items ≡ types_in (setting_of context.now)) }
+{
+    let mut types = Vec::new(alloc);
+    for binding in context.bindings {
+        let ty = binding_type(context, consts, types.as_slice(), binding);
+        types.push(ty)?;
+    }
+    Ok(types)
+}

@@ -1,0 +1,298 @@
+-- The let of a binding does what binding it does.
+use Rattle.std.proofs.Common.{◌≡◌, ◌⊎◌, inl, inr, ℕ, List, [], ◌∷◌, ◌++◌, map, Bool, true, false, cond, eqb, Option, Some, None, refl, sym, ap, ◌∙◌, subst}
+use Rattle.std.specs.Prelude.{Contains, IsSomeAnd, option_map, slice_get}
+use Rattle.std.proofs.lemmas.Bool.{eq-eqb, eqb-true}
+use Rattle.std.proofs.lemmas.List.{map-append}
+use Rattle.std.proofs.lemmas.List.Elements.{Contains-append_right}
+use Rattle.isle_core.specs.declared.types.ReturnKind.{ReturnKind}
+use Rattle.isle_core.specs.declared.types.ReturnKind.TheVariants as return_kind
+use Rattle.isle_core.specs.declared.BindingId.{BindingId}
+use Rattle.isle_core.specs.declared.TermId.{TermId}
+use Rattle.isle_core.specs.declared.TypeId.{TypeId}
+use Rattle.isle_core.specs.declared.types.Term.{Term}
+use Rattle.isle_core.specs.declared.values.Callee.{Callee}
+use Rattle.isle_core.specs.Value.{Value, Answer, Made, End, GivesNone}
+use Rattle.isle_core.specs.Meaning.{turn}
+use Rattle.isle_core.specs.Answered.{answer_held}
+use Rattle.isle_core.specs.Calling.{ByTurns, calling, kind_of, may_be_nothing}
+use Rattle.isle_core.specs.Match.{with}
+use Rattle.isle_core.specs.Nameless.{nameless, nameless_made, nameless_end}
+use Rattle.isle_core.specs.Outcome.{Failure, Prescription}
+use Rattle.isle_core.specs.HasType.{HasType}
+use Rattle.isle_core.specs.Lawful.{AnswersFit}
+use Rattle.isle_core.specs.Path.{Path, Paths, Arg, ConstBool, ConstInt, ConstPrim, Called, Inner, at, at_all}
+use Rattle.isle_core.specs.ValueAt.{Held, Absent, One, Optional, Listed, Known, a_value, an_option, inner_held, value_at, values_at}
+use Rattle.isle_core.specs.CallRun as went
+use Rattle.isle_core.specs.CallRun.{Went, then_go, take_turn, make_call, unless_nothing}
+use Rattle.isle_core.specs.BlockRun.{bind_one}
+use Rattle.isle_core.specs.StandsFor.{EachOnce}
+use Rattle.isle_core.specs.Bindable.{IsPlain}
+use Rattle.isle_core.specs.ExternalCall.{IsCall}
+use Rattle.isle_core.specs.Occurrences.{occurrence, occurrence_at}
+use Rattle.isle_core.specs.PathType.{IsPathOf, IsOptionOf, ArePathsOf}
+use Rattle.isle_core.specs.Readable.{IsInPlace}
+use Rattle.isle_core.specs.Rule.{Environment}
+use Rattle.isle_core.specs.Setting.{Setting, paths_in}
+use Rattle.isle_core.proofs.Contained.{head_contained, contained_cases, none_contained}
+use Rattle.isle_core.proofs.AnsweredByTurn.{turn_is, turn_held, turn_typed}
+use Rattle.isle_core.proofs.TurnKinds as turn_kind
+use Rattle.isle_core.proofs.TurnKinds.{IsHeldOf}
+use Rattle.isle_tree.specs.declared.tree.Read.TheVariants as read
+use Rattle.isle_tree.specs.declared.tree.TExpr.{TExpr}
+use Rattle.isle_tree.specs.declared.tree.TExpr.TheVariants as expr
+use Rattle.isle_tree.specs.Run.{Around, State, Env, Flow, look, bind, value_of, read_values, Goes, Ends, then_run, run_bind, run_call, run_try, run_let}
+use Rattle.isle_simulation.proofs.BoundTests.{found}
+use Rattle.isle_simulation.proofs.HeldStays.{IsThere, Grows}
+use Rattle.isle_simulation.proofs.LocalsAgree.{IsOptionAt, Stands, Agree, operands_read}
+use Rattle.isle_simulation.proofs.NamelessLaws.{AreSameCalls, turn_like}
+use Rattle.isle_simulation.proofs.PathTypes.{one_type}
+use Rattle.isle_simulation.proofs.PathValues.{Grounds, IsValueAt, constant_valued, path_reads}
+use Rattle.isle_simulation.proofs.Ready.{IsSpelled, AreReady}
+use Rattle.isle_simulation.proofs.Written.{written_operand, written_place, callee_of, reads, call_expr, end_of}
+
+-- ---- occurrences
+
+-- none of these was answered
+abbrev pub AreUnanswered : Known → List ℕ → Type 0
+AreUnanswered known ks = (k : ℕ) → Contains ks k → known k ≡ None
+
+-- all others stay as they are
+abbrev pub Keeps : List ℕ → (known later : Known) → Type 0
+Keeps ks known later = (k : ℕ) → (Contains ks k → ⊥) → later k ≡ known k
+
+-- two parts of a list without repeats
+pub once_parts : (xs ys : List ℕ) → EachOnce (xs ++ ys) → EachOnce ys × ((k : ℕ) → Contains xs k → Contains ys k → ⊥)
+once_parts [] ys once = (once, λ k c d. none_contained k c)
+once_parts (x ∷ xs) ys once =
+    let rest = once_parts xs ys once.1 in
+    (rest.0, λ k c d. apart k d (contained_cases x xs k c) rest.1)
+  where
+    apart : (k : ℕ) → Contains ys k → (x ≡ k) ⊎ Contains xs k → ((j : ℕ) → Contains xs j → Contains ys j → ⊥) → ⊥
+    apart k d (inl same) others = once.0 (Contains-append_right xs ys x (subst (Contains ys) (sym same) d))
+    apart k d (inr c) others = others k c d
+
+-- ---- one binding
+
+-- these calls were made
+abbrev pub done : List Made → State
+done made = record { made = made; given = [] }
+
+-- a flow ends as a run with this outcome
+pub record EndsSo (kind : ReturnKind) (f : Flow) (o : Prescription) : Type 0 where
+  pub end : End
+  pub those : List Made
+  pub is : f ≡ Ends end (done those)
+  pub same : nameless_end end ≡ nameless_end (end_of kind o.result)
+  pub calls : AreSameCalls those o.calls
+
+-- what follows an end is never reached
+pub ends_on : (kind : ReturnKind) (f : Flow) (o : Prescription) (go : Env → State → Flow) → EndsSo kind f o → EndsSo kind (then_run f go) o
+ends_on kind f o go e = record { end = e.end; those = e.those; is = ap (λ x. then_run x go) e.is; same = e.same; calls = e.calls }
+
+pub ends_as_well : (kind : ReturnKind) (f g : Flow) (o : Prescription) → f ≡ g → EndsSo kind g o → EndsSo kind f o
+ends_as_well kind f g o is e = record { end = e.end; those = e.those; is = is ∙ e.is; same = e.same; calls = e.calls }
+
+-- a let goes on with its local, which holds what stands at the path
+pub record GoesSo (s : Setting) (u : Around) (n : ℕ) (p : Path) (known : Known) (locals : Env) (f : Flow) (later : Known) (calls : List Made) : Type 0 where
+  pub h : Held
+  pub those : List Made
+  pub is : f ≡ Goes (bind locals n h) (done those)
+  pub made : AreSameCalls those calls
+  pub stands : Stands s.env s.term p h (value_at s.env u.meaning u.args later p)
+  pub grows : Grows known later
+  pub keeps : Keeps (occurrence_at s.env p) known later
+
+-- the let of a binding does what binding it does
+abbrev pub BindsOne : Setting → Around → (n : ℕ) → Path → Known → Env → Flow → Went → Type 0
+BindsOne s u n p known locals f (went.Goes later calls) = GoesSo s u n p known locals f later calls
+BindsOne s u n p known locals f (went.Ends o) = EndsSo (kind_of s.term.kind) f o
+
+pub same_known : (known : Known) → Grows known known
+same_known known = record { by = λ k a e. e }
+
+-- an argument or a constant
+plain_run : (env : Environment) (u : Around) (p : Path) (known : Known) (made : List Made) → IsInPlace p → bind_one env u.meaning u.args p known made ≡ went.Goes known made
+plain_run env u (Arg i) known made h = refl
+plain_run env u (ConstBool ty b) known made h = refl
+plain_run env u (ConstInt ty n) known made h = refl
+plain_run env u (ConstPrim name) known made h = refl
+plain_run env u p known made h = absurd h
+
+pub no_option : (env : Environment) (t : Term) (p : Path) (ty : TypeId) → IsInPlace p → IsOptionOf env t p ty → ⊥
+no_option env t (Arg i) ty h k = k
+no_option env t (ConstBool of b) ty h k = k
+no_option env t (ConstInt of n) ty h k = k
+no_option env t (ConstPrim name) ty h k = k
+no_option env t p ty h k = absurd h
+
+pub spelled : (p : Path) → IsInPlace p → IsSpelled p
+spelled (Arg i) h = tt
+spelled (ConstBool ty b) h = tt
+spelled (ConstInt ty n) h = tt
+spelled (ConstPrim name) h = tt
+spelled p h = absurd h
+
+no_occurrence : (env : Environment) (p : Path) (known : Known) → Keeps (occurrence_at env p) known known
+no_occurrence env p known k c = refl
+
+-- a path has one type, so its value is of each
+of_types : (env : Environment) (t : Term) (p : Path) (h g : Held) (ty : TypeId) → IsPathOf env t p ty → (x : IsValueAt env h g ty) → (of : TypeId) → IsPathOf env t p of → IsValueAt env (a_value x.r) g of
+of_types env t p h g ty k x of l = record { v = x.v; r = x.r; run = refl; block = x.block; same = x.same; typed = subst (HasType env x.v) (one_type env t p ty of k l) x.typed }
+
+pub plain_binds : (s : Setting) (u : Around) (b : BindingId) (known : Known) (made those : List Made) (locals : Env) → Grounds s u → AreSameCalls those made → IsPlain s.env s.term (at (paths_in s) b)
+    → BindsOne s u b.0 (at (paths_in s) b) known locals (run_let u b.0 (expr.Read (read.Plain (written_place s b))) locals (done those)) (bind_one s.env u.meaning u.args (at (paths_in s) b) known made)
+plain_binds s u b known made those locals g same k =
+    let p = at (paths_in s) b in
+    let x = path_reads s.env u s.term b.0 p k.1.0 known locals g.typed g.names g.constants (constant_valued s.env u.meaning s.bindings b g.answers) k.1.1 (spelled p k.0) in
+    subst (BindsOne s u b.0 p known locals (run_let u b.0 (expr.Read (read.Plain (written_place s b))) locals (done those))) (sym (plain_run s.env u p known made k.0)) (record {
+      h = a_value x.r;
+      those = those;
+      is = ap (λ y. run_bind b.0 y locals (done those)) x.run;
+      made = same;
+      stands = record { value = λ ty of. of_types s.env s.term p (value_of u locals (written_place s b)) (value_at s.env u.meaning u.args known p) k.1.0 k.1.1 x ty of; option = λ ty of. absurd (no_option s.env s.term p ty k.0 of) };
+      grows = same_known known;
+      keeps = no_occurrence s.env p known;
+    })
+
+-- ---- a call
+
+with_here : (known : Known) (k : ℕ) (a : Answer) → with known k a k ≡ Some a
+with_here known k a = ap (λ b. cond b (Some a) (known k)) (eq-eqb k k refl)
+
+with_else : (known : Known) (k j : ℕ) (a : Answer) → (k ≡ j → ⊥) → with known k a j ≡ known j
+with_else known k j a ne = one (eqb k j) refl
+  where
+    one : (b : Bool) → eqb k j ≡ b → cond b (Some a) (known j) ≡ known j
+    one true e = absurd (ne (eqb-true k j e))
+    one false e = refl
+
+with_grows : (known : Known) (k : ℕ) (a : Answer) → known k ≡ None → Grows known (with known k a)
+with_grows known k a new = record { by = λ j c e. with_else known k j a (λ (same : k ≡ j). let bad : None ≡ Some c = sym new ∙ ap known same ∙ e in cc) ∙ e }
+
+with_keeps : (known : Known) (k : ℕ) (a : Answer) → Keeps (k ∷ []) known (with known k a)
+with_keeps known k a j not_k = with_else known k j a (λ (same : k ≡ j). not_k (subst (Contains (k ∷ [])) same (head_contained k [])))
+
+-- what is held of one type is of an equal one
+typed_as : (env : Environment) (o : Option Term) (h : Held) (ty : TypeId) (P : Term → Type 0) → IsSomeAnd o (λ (c : Term). IsHeldOf env c.ret_ty h) → IsSomeAnd o (λ (c : Term). (c.ret_ty ≡ ty) × P c) → IsHeldOf env ty h
+typed_as env None h ty P a b = absurd a
+typed_as env (Some c) h ty P a b = subst (λ x. IsHeldOf env x h) b.0 a
+
+-- a place that holds what a call of the kind is answered
+held_kind : (kind : ReturnKind) (h g : Held) → g ≡ h → turn_kind.IsOfKind kind h → (env : Environment) (t : Term) (term : TermId) (callee : Callee) → calling env term ≡ ByTurns callee kind → IsSomeAnd (slice_get env.terms term.0) (λ (c : Term). IsHeldOf env c.ret_ty h) → (ps : Paths) (k : ℕ) → Stands env t (Called term ps k) h g
+held_kind return_kind.Iterator h g there is env t term callee c typed ps k = absurd is
+held_kind return_kind.Plain h g there is env t term callee c typed ps k = record {
+  value = λ ty of. record { v = is.0; r = is.0; run = is.1; block = there ∙ is.1; same = refl; typed = subst (IsHeldOf env ty) is.1 (typed_as env (slice_get env.terms term.0) h ty (λ (x : Term). ArePathsOf env t ps x.arg_tys) typed of.1) };
+  option = λ ty of. absurd (let call : IsCall return_kind.Option (ByTurns callee return_kind.Plain) = subst (IsCall return_kind.Option) c of.0 in let q = call.0 in cc);
+}
+held_kind return_kind.Option h g there is env t term callee c typed ps k = record {
+  value = λ ty of. absurd (let call : IsCall return_kind.Plain (ByTurns callee return_kind.Option) = subst (IsCall return_kind.Plain) c of.0 in let q = call.0 in cc);
+  option = λ ty of. record { o = is.0; q = is.0; run = is.1; block = there ∙ is.1; same = refl; typed = subst (IsHeldOf env ty) is.1 (typed_as env (slice_get env.terms term.0) h ty (λ (x : Term). ArePathsOf env t ps x.arg_tys) typed of.1) };
+}
+
+kind_there : (kind : ReturnKind) (h : Held) → turn_kind.IsOfKind kind h → IsThere h
+kind_there return_kind.Plain h is = subst IsThere (sym is.1) tt
+kind_there return_kind.Option h is = subst IsThere (sym is.1) tt
+kind_there return_kind.Iterator h is = absurd is
+
+bind_there : (n : ℕ) (h : Held) (locals : Env) (s : State) → IsThere h → run_bind n h locals s ≡ Goes (bind locals n h) s
+bind_there n Absent locals s t = absurd t
+bind_there n (One i) locals s t = refl
+bind_there n (Optional o) locals s t = refl
+bind_there n (Listed is) locals s t = refl
+
+-- a call whose occurrence is new takes its turn
+call_run : (env : Environment) (u : Around) (term : TermId) (ps : Paths) (k : ℕ) (callee : Callee) (kind : ReturnKind) (vs : List Value) (known : Known) (made : List Made) → calling env term ≡ ByTurns callee kind → known k ≡ None → values_at env u.meaning u.args known ps ≡ Some vs
+    → bind_one env u.meaning u.args (Called term ps k) known made ≡ went.Goes (with known k (turn u.meaning callee made)) (made ++ record { callee = callee; args = vs } ∷ [])
+call_run env u term ps k callee kind vs known made c new held = rw (c, new, held) refl
+
+-- a call more
+same_push : (xs ys : List Made) (x y : Made) → AreSameCalls xs ys → nameless_made x ≡ nameless_made y → AreSameCalls (xs ++ x ∷ []) (ys ++ y ∷ [])
+same_push xs ys x y e f = map-append nameless_made xs (x ∷ []) ∙ ap (λ zs. zs ++ nameless_made x ∷ []) e ∙ ap (λ z. map nameless_made ys ++ z ∷ []) f ∙ sym (map-append nameless_made ys (y ∷ []))
+
+same_args : (callee : Callee) (rs vs : List Value) → map nameless rs ≡ map nameless vs → nameless_made (record { callee = callee; args = rs }) ≡ nameless_made (record { callee = callee; args = vs })
+same_args callee rs vs e = ap (λ xs. record { callee = callee; args = xs }) e
+
+pub call_binds : (s : Setting) (u : Around) (bound : List ℕ) (n : ℕ) (term : TermId) (parameters : List BindingId) (k : ℕ) (callee : Callee) (kind : ReturnKind) (called : Term) (known : Known) (made those : List Made) (locals : Env)
+    → Grounds s u → AreSameCalls those made → Agree s u bound known locals → calling s.env term ≡ ByTurns callee kind → slice_get s.env.terms term.0 ≡ Some called → AreReady s bound parameters called.arg_tys → AnswersFit s.env u.meaning term → known k ≡ None
+    → BindsOne s u n (Called term (at_all (paths_in s) parameters) k) known locals (run_let u n (call_expr s bound (slice_get s.env.terms term.0) (callee_of (calling s.env term)) parameters) locals (done those)) (bind_one s.env u.meaning u.args (Called term (at_all (paths_in s) parameters) k) known made)
+call_binds s u bound n term parameters k callee kind called known made those locals g same a c found' r fit new =
+    let l = operands_read s u bound known locals called.arg_tys parameters g a r in
+    let ps = at_all (paths_in s) parameters in
+    let answered = answer_held (turn u.meaning callee made) in
+    let later = with known k (turn u.meaning callee made) in
+    let is = turn_held s.env u.meaning term callee kind fit c made in
+    let held : value_at s.env u.meaning u.args later (Called term ps k) ≡ answered = rw (c, with_here known k (turn u.meaning callee made)) refl in
+    let here : List Made = those ++ record { callee = callee; args = l.rs } ∷ [] in
+    subst (BindsOne s u n (Called term ps k) known locals (run_let u n (call_expr s bound (slice_get s.env.terms term.0) (callee_of (calling s.env term)) parameters) locals (done those))) (sym (call_run s.env u term ps k callee kind l.vs known made c new l.block)) (record {
+      h = answered;
+      those = here;
+      is =
+          ap (λ o. run_let u n (call_expr s bound o (callee_of (calling s.env term)) parameters) locals (done those)) found'
+          ∙ ap (λ d. run_call u n (callee_of d) (read_values u locals (reads s bound called.arg_tys parameters)) locals (done those)) c
+          ∙ ap (λ vs. run_call u n callee vs locals (done those)) l.run
+          ∙ ap (λ x. run_bind n (answer_held x) locals (done here)) (turn_is s.env u.meaning term callee kind fit c l.rs those ∙ turn_like u.meaning callee those made same)
+          ∙ bind_there n answered locals (done here) (kind_there kind answered is);
+      made = same_push those made (record { callee = callee; args = l.rs }) (record { callee = callee; args = l.vs }) same (same_args callee l.rs l.vs l.same);
+      stands = held_kind kind answered (value_at s.env u.meaning u.args later (Called term ps k)) held is s.env s.term term callee c (turn_typed s.env u.meaning term callee kind fit c made) ps k;
+      grows = with_grows known k (turn u.meaning callee made) new;
+      keeps = subst (λ d. Keeps (occurrence d k) known later) (sym c) (with_keeps known k (turn u.meaning callee made));
+    })
+
+-- ---- an inner value
+
+-- a failure of a term that may answer nothing
+nothing_ends : (kind : ReturnKind) → may_be_nothing kind ≡ true → end_of kind Failure ≡ GivesNone
+nothing_ends return_kind.Plain e = refl
+nothing_ends return_kind.Option e = refl
+nothing_ends return_kind.Iterator e = refl
+
+both_options : (q o : Option Value) → option_map nameless q ≡ option_map nameless o → (P : Option Value → Option Value → Type 0) → P None None → ((r v : Value) → nameless r ≡ nameless v → P (Some r) (Some v)) → P q o
+both_options None None e P n h = n
+both_options (Some r) (Some v) e P n h = h r v cc
+both_options None (Some v) e P n h = cc
+both_options (Some r) None e P n h = cc
+
+pub inner_binds : (s : Setting) (u : Around) (bound : List ℕ) (n : ℕ) (source : BindingId) (ty : TypeId) (known : Known) (made those : List Made) (locals : Env) (as_ref : Bool)
+    → AreSameCalls those made → Agree s u bound known locals → IsOptionOf s.env s.term (at (paths_in s) source) ty → Contains bound source.0 → may_be_nothing (kind_of s.term.kind) ≡ true
+    → BindsOne s u n (Inner (at (paths_in s) source)) known locals (run_let u n (expr.Try (written_operand s bound source) as_ref) locals (done those)) (bind_one s.env u.meaning u.args (Inner (at (paths_in s) source)) known made)
+inner_binds s u bound n source ty known made those locals as_ref same a of c fits =
+    let is = found bound source.0 c in
+    let x = (a.by source is).option ty of in
+    both_options x.q x.o x.same (λ q o. value_at s.env u.meaning u.args known path ≡ an_option o → value_of u locals (written_operand s bound source) ≡ an_option q → BindsOne s u n (Inner path) known locals (run_let u n e locals (done those)) (bind_one s.env u.meaning u.args (Inner path) known made))
+    none some x.block (rw is x.run)
+  where
+    path : Path
+    path = at (paths_in s) source
+
+    e : TExpr
+    e = expr.Try (written_operand s bound source) as_ref
+
+    none : value_at s.env u.meaning u.args known path ≡ an_option None → value_of u locals (written_operand s bound source) ≡ an_option None → BindsOne s u n (Inner path) known locals (run_let u n e locals (done those)) (bind_one s.env u.meaning u.args (Inner path) known made)
+    none held place =
+        subst (BindsOne s u n (Inner path) known locals (run_let u n e locals (done those))) (sym (ap (λ h. unless_nothing h known made) held)) (record {
+          end = GivesNone;
+          those = those;
+          is = ap (λ h. run_try n h locals (done those)) place;
+          same = ap nameless_end (sym (nothing_ends (kind_of s.term.kind) fits));
+          calls = same;
+        })
+
+    some : (r v : Value) → nameless r ≡ nameless v → value_at s.env u.meaning u.args known path ≡ an_option (Some v) → value_of u locals (written_operand s bound source) ≡ an_option (Some r)
+        → BindsOne s u n (Inner path) known locals (run_let u n e locals (done those)) (bind_one s.env u.meaning u.args (Inner path) known made)
+    some r v like held place =
+        subst (BindsOne s u n (Inner path) known locals (run_let u n e locals (done those))) (sym (ap (λ h. unless_nothing h known made) held)) (record {
+          h = a_value r;
+          those = those;
+          is = ap (λ h. run_try n h locals (done those)) place;
+          made = same;
+          stands = record { value = λ of' k. record { v = v; r = r; run = refl; block = ap inner_held held; same = like; typed = typed of' ((a.by source (found bound source.0 c)).option of' k) held }; option = λ of' k. absurd k };
+          grows = same_known known;
+          keeps = λ j not_j. refl;
+        })
+      where
+        one_option : (o : Option Value) (w : Value) → an_option o ≡ an_option (Some w) → o ≡ Some w
+        one_option None w k = cc
+        one_option (Some y) w k = cc
+
+        typed : (of' : TypeId) → (y : IsOptionAt s.env (look locals source.0) (value_at s.env u.meaning u.args known path) of') → value_at s.env u.meaning u.args known path ≡ an_option (Some v) → HasType s.env v of'
+        typed of' y held' = subst (λ o. IsHeldOf s.env of' (an_option o)) (one_option y.o v (sym y.block ∙ held')) y.typed

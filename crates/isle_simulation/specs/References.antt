@@ -1,0 +1,59 @@
+-- Which operands are references, and how they are read where one is wanted or not.
+use Rattle.std.specs.Prelude.{ℕ, Bool, true, false, Option, Some, None, option_and_then, option_map, slice_get}
+use Rattle.std.specs.Option.{option_map_or}
+use Rattle.isle_core.specs.declared.BindingId.{BindingId}
+use Rattle.isle_core.specs.declared.TypeId.{TypeId}
+use Rattle.isle_core.specs.declared.types.Term.{Term}
+use Rattle.isle_core.specs.Constants.{const_type}
+use Rattle.isle_core.specs.Form.{form, form_types}
+use Rattle.isle_core.specs.Making.{Making, MakesVariant, MakesStruct}
+use Rattle.isle_core.specs.Path.{Path, Nowhere, Arg, ConstBool, ConstInt, ConstPrim, Extracted, Called, Chosen, MadeVariant, MadeStruct, VariantField, StructField, Wrapped, Inner, Part, at}
+use Rattle.isle_core.specs.Setting.{Setting, paths_in}
+use Rattle.isle_core.specs.Rule.{Environment}
+use Rattle.isle_tree.specs.declared.tree.Operand.{Operand}
+use Rattle.isle_tree.specs.declared.tree.Read.{Read}
+use Rattle.isle_tree.specs.declared.tree.Read.TheVariants as read
+use Rattle.isle_simulation.specs.TypeTexts.{is_by_ref}
+
+-- the type of a field of what is made
+abbrev pub field_type : Environment → Making → ℕ → Option TypeId
+field_type env mk field = option_and_then (λ f. slice_get (form_types env f) field) (form env mk)
+
+-- the type of what stands at a path, where it has one; of an option it is the type of what is within
+abbrev pub type_at : Environment → Term → Path → Option TypeId
+type_at env t (Arg i) = slice_get t.arg_tys i
+type_at env t (ConstBool ty b) = Some ty
+type_at env t (ConstInt ty n) = Some ty
+type_at env t (ConstPrim name) = const_type env name
+type_at env t (Called term ps instance) = option_map (λ (c : Term). c.ret_ty) (slice_get env.terms term.0)
+type_at env t (Inner p) = type_at env t p
+type_at env t (MadeVariant ty variant ps) = Some ty
+type_at env t (MadeStruct ty ps) = Some ty
+type_at env t (VariantField variant field p) = option_and_then (λ ty. field_type env (MakesVariant ty variant) field) (type_at env t p)
+type_at env t (StructField field p) = option_and_then (λ ty. field_type env (MakesStruct ty) field) (type_at env t p)
+type_at env t Nowhere = None
+type_at env t (Extracted term p) = None
+type_at env t (Chosen p) = None
+type_at env t (Wrapped p) = None
+type_at env t (Part part p) = None
+
+-- whether a type is an enum or a struct
+abbrev pub is_declared : Environment → TypeId → Bool
+is_declared env ty = is_by_ref (slice_get env.types.types ty.0)
+
+-- whether what stands for a path is a reference: of the enums and structs all but those that are made here
+abbrev pub is_reference : Environment → Term → Path → Bool
+is_reference env t (MadeVariant ty variant ps) = false
+is_reference env t (MadeStruct ty ps) = false
+is_reference env t p = option_map_or (is_declared env) (type_at env t p) false
+
+-- so of a binding
+abbrev pub is_reference_in : Setting → BindingId → Bool
+is_reference_in s b = is_reference s.env s.term (at (paths_in s) b)
+
+-- an operand that is a reference or not, read where one is wanted or not
+abbrev pub read_as : (wanted is : Bool) → Operand → Read
+read_as true true o = read.Plain o
+read_as true false o = read.Borrow o
+read_as false true o = read.Clone o
+read_as false false o = read.Plain o
