@@ -69,7 +69,8 @@ absent_first : (syms : List (List ℕ)) (first name : List ℕ) (n : ℕ) (o : O
 absent_first syms first name n o true same at none h = let both : None ≡ Some n = sym none ∙ ap (index_of syms) (sym ((bytes_eq-Decides first name).0 same)) ∙ at in absurd cc
 absent_first syms first name n o false same at none h = ap (option_map (λ (p : ℕ). p + 1)) h
 
-all_absent : (syms : List (List ℕ)) (name : List ℕ) (sigs : List Signature) → AreAmong syms sigs → index_of syms name ≡ None → index_of (terms_of sigs) name ≡ None
+-- what is none of these names none of the terms
+pub all_absent : (syms : List (List ℕ)) (name : List ℕ) (sigs : List Signature) → AreAmong syms sigs → index_of syms name ≡ None → index_of (terms_of sigs) name ≡ None
 all_absent syms name [] among none = refl
 all_absent syms name (s ∷ sigs) among none = absent_first syms s.term name among.0.0 (index_of (terms_of sigs) name) (bytes_eq s.term name) refl among.0.1 none (all_absent syms name sigs among.1 none)
 

@@ -7,3 +7,4 @@ pub mod Gathered
 pub mod DistinctNames
 pub mod DeclaredNames
 pub mod FuncNumbers
+pub mod TermNames

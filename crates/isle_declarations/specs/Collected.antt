@@ -8,6 +8,7 @@ use Rattle.isle_declarations.specs.declared.collected.Extern.{Extern as CodeExte
 use Rattle.isle_declarations.specs.declared.collected.Definitions.{Definitions}
 use Rattle.isle_declarations.specs.declared.collected.Item.{Item}
 use Rattle.isle_declarations.specs.declared.collected.Item.TheVariants as item
+use Rattle.isle_declarations.specs.declared.terms.Origin.TheVariants as origin
 use Rattle.isle_declarations.specs.Names.{def_names}
 use Rattle.isle_declarations.specs.Symbols.{added, symbols}
 use Rattle.isle_declarations.specs.Signatures.{Signature, Extern, RuleDef, signature_of, extern_of, rule_of, signatures, externs, rule_defs}
@@ -15,7 +16,7 @@ use Rattle.isle_declarations.specs.Numbered.{AreNumbered}
 
 -- a declaration
 abbrev pub signature : CodeSignature → Signature
-signature s = record { term = s.term.now; pure = s.pure; multi = s.multi; partial = s.partial; recursive = s.recursive; args = s.args.now; ret = s.ret.now; pos = s.pos }
+signature s = record { term = s.term.now; pure = s.pure; multi = s.multi; partial = s.partial; recursive = s.recursive; args = s.args.now; ret = s.ret.now; pos = s.pos; origin = origin.Declared }
 
 -- an external constructor
 abbrev pub extern : CodeExtern → Extern

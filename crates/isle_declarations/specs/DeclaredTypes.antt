@@ -3,6 +3,8 @@ use Rattle.std.specs.Prelude.{ℕ, List, [], ◌∷◌, ◌++◌, Option, Some, 
 use Rattle.isle_ast.specs.Tree.{Def, TypeDecl, Decl, ExternConstructor, ExternExtractor, ExternConst, Extractor, Converter, Rule, Passed}
 use Rattle.isle_ast.specs.declared.tree.AstBody.{AstBody}
 use Rattle.isle_ast.specs.declared.tree.AstBody.TheVariants.{Primitive, Enum, Struct}
+use Rattle.isle_ast.specs.declared.tree.AstFields.{AstFields}
+use Rattle.isle_ast.specs.declared.tree.AstFields.TheVariants.{Unit, Named, Tuple}
 use Rattle.isle_ast.specs.declared.tree.AstVariant.{AstVariant}
 
 -- a type's name, with what it is declared as
@@ -46,6 +48,12 @@ types = filter_map type_of
 -- the constants, in order
 abbrev pub constants : List Def → List Constant
 constants = filter_map constant_of
+
+-- the names of the types of fields
+abbrev pub field_types : AstFields → List (List ℕ)
+field_types Unit = []
+field_types (Named fields) = map (λ (f : List ℕ × List ℕ). f.1) fields
+field_types (Tuple types) = types
 
 -- the term that makes a variant of the enum of that name: `E.V`
 abbrev pub variant_term : List ℕ → List ℕ → List ℕ

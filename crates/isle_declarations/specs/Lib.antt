@@ -4,8 +4,10 @@ pub mod DeclaredTypes
 pub mod Symbols
 pub mod Signatures
 pub mod Heads
+pub mod Terms
 pub mod Repeats
 pub mod LookedUp
 pub mod Numbered
 pub mod Collected
 pub mod Tables
+pub mod TermViews

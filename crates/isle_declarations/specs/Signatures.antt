@@ -5,9 +5,11 @@ use Rattle.std.specs.Str.{bytes_eq}
 use Rattle.isle_core.specs.declared.position.Pos.{Pos}
 use Rattle.isle_core.specs.declared.TermId.{TermId}
 use Rattle.isle_ast.specs.Tree.{Pattern, Expr, IfLet, Def, TypeDecl, Decl, ExternConstructor, ExternExtractor, ExternConst, Extractor, Converter, Rule, Passed}
+use Rattle.isle_declarations.specs.declared.terms.Origin.{Origin}
+use Rattle.isle_declarations.specs.declared.terms.Origin.TheVariants as origin
 use Rattle.isle_declarations.specs.Symbols.{index_of}
 
--- a declaration
+-- a term: declared, or made by a type
 pub record Signature : Type 0 where
   pub term : List ℕ
   pub pure : Bool
@@ -17,6 +19,7 @@ pub record Signature : Type 0 where
   pub args : List (List ℕ)
   pub ret : List ℕ
   pub pos : Pos
+  pub origin : Origin
 
 -- an external constructor
 pub record Extern : Type 0 where
@@ -35,7 +38,7 @@ pub record RuleDef : Type 0 where
 
 -- the declaration that a definition is
 abbrev pub signature_of : Def → Option Signature
-signature_of (Decl term pure multi partial recursive args ret pos) = Some (record { term = term; pure = pure; multi = multi; partial = partial; recursive = recursive; args = args; ret = ret; pos = pos })
+signature_of (Decl term pure multi partial recursive args ret pos) = Some (record { term = term; pure = pure; multi = multi; partial = partial; recursive = recursive; args = args; ret = ret; pos = pos; origin = origin.Declared })
 signature_of (TypeDecl name is_extern is_nodebug body pos) = None
 signature_of (ExternConstructor term func pos) = None
 signature_of (ExternExtractor term func infallible pos) = None

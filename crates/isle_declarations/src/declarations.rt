@@ -1,6 +1,6 @@
 //! Declarations, external constructors and rules, looked up by the numbers of their names.
 
-ghost use Rattle.std.specs.Prelude.{◌≡◌, IfOk, map};
+ghost use Rattle.std.specs.Prelude.{◌≡◌, IfOk, length, map};
 ghost use Rattle.isle_ast.specs.Views.{defs as seen};
 ghost use Rattle.isle_declarations.specs.Symbols.{index_of, symbols};
 ghost use Rattle.isle_declarations.specs.DeclaredTypes.{made_of};
@@ -81,6 +81,13 @@ impl<'d> Declarations<'d> {
         ensures { IfOk result (λ texts. texts.items ≡ symbols (seen self.now)) }
     {
         self.given.symbols.texts(alloc)
+    }
+
+    /// Returns how many symbols there are.
+    pub fn count(&self) -> usize
+        ensures { result ≡ length (symbols (seen self.now)) }
+    {
+        self.given.symbols.len()
     }
 
     /// Returns the number of a name, where it is a symbol.

@@ -13,6 +13,7 @@ mod pattern_interning;
 mod rule_interning;
 mod symbols;
 mod tables;
+mod terms;
 mod text_interning;
 mod type_interning;
 
@@ -21,3 +22,4 @@ pub use declarations::Declarations;
 pub use declared_types::{constant_of, type_of};
 pub use made::made_each;
 pub use symbols::Symbols;
+pub use terms::{ArgTypes, Origin, TermDef, Terms, terms_of};

@@ -1,15 +1,16 @@
 -- Definitions are built where their forms are, and no rule binds a variable twice; what is built then.
 use Rattle.std.proofs.Common.{◌≡◌, ℕ, Bool, true, false, List, [], ◌∷◌, Option, refl, sym, ap, ◌∙◌}
-use Rattle.std.specs.Prelude.{ℤ, ◌&&◌, ◌||◌, not, flat_map}
+use Rattle.std.specs.Prelude.{ℤ, ◌&&◌, ◌||◌, not}
 use Rattle.std.specs.List.{AllByRecursion, list_all, list_any}
 use Rattle.std.proofs.lemmas.Bool.{and_parts, not-true, and_from}
 use Rattle.isle_core.specs.declared.position.Pos.{Pos}
 use Rattle.isle_ast.specs.Tree as tree
 use Rattle.isle_ast.specs.Tree.{Pattern, Expr, IfLet, Def}
-use Rattle.isle_sema.specs.VariableNames.{variable_names}
+use Rattle.isle_ast.specs.Views.{patterns_of}
+use Rattle.isle_sema.specs.VariableNames.{variables_of}
 use Rattle.isle_declarations.specs.Signatures.{Signature, RuleDef, signatures, rule_defs}
 use Rattle.isle_declarations.specs.Repeats.{repeats}
-use Rattle.isle_sema.specs.Language.{is_built_pattern, are_none, is_built_expr, is_built_def}
+use Rattle.isle_sema.specs.Language.{are_built_patterns, are_none, is_built_expr, is_built_def}
 use Rattle.isle_sema.specs.BuiltForm.{is_built_form}
 use Rattle.isle_sema.specs.Tests.{binds_twice}
 
@@ -32,14 +33,14 @@ pub built_forms : (defs : List Def) → list_all is_built_def defs ≡ list_all 
 built_forms [] = refl
 built_forms (tree.Rule name prio term args iflets rhs pos ∷ defs) =
     let r : RuleDef = record { name = name; prio = prio; term = term; args = args; iflets = iflets; rhs = rhs; pos = pos } in
-    ap (λ b. ((list_all is_built_pattern args && are_none iflets && is_built_expr rhs) && not (binds_twice r)) && b) (built_forms defs)
-    ∙ form_bools (list_all is_built_pattern args && are_none iflets && is_built_expr rhs) (binds_twice r) (list_all is_built_form defs) (list_any binds_twice (rule_defs defs))
+    ap (λ b. ((are_built_patterns (patterns_of args) && are_none iflets && is_built_expr rhs) && not (binds_twice r)) && b) (built_forms defs)
+    ∙ form_bools (are_built_patterns (patterns_of args) && are_none iflets && is_built_expr rhs) (binds_twice r) (list_all is_built_form defs) (list_any binds_twice (rule_defs defs))
 built_forms (tree.Decl term pure multi partial recursive args ret pos ∷ defs) =
     ap (λ b. (not pure && not multi && not recursive) && b) (built_forms defs) ∙ other_bools (not pure && not multi && not recursive) (list_all is_built_form defs) (not (list_any binds_twice (rule_defs defs)))
 built_forms (tree.ExternConstructor term func pos ∷ defs) = built_forms defs
-built_forms (tree.TypeDecl name is_extern is_nodebug body pos ∷ defs) = refl
+built_forms (tree.TypeDecl name is_extern is_nodebug body pos ∷ defs) = built_forms defs
 built_forms (tree.ExternExtractor term func infallible pos ∷ defs) = refl
-built_forms (tree.ExternConst name ty pos ∷ defs) = refl
+built_forms (tree.ExternConst name ty pos ∷ defs) = built_forms defs
 built_forms (tree.Extractor term params template pos ∷ defs) = refl
 built_forms (tree.Converter from to term pos ∷ defs) = refl
 built_forms (tree.Passed head items pos ∷ defs) = built_forms defs
@@ -70,30 +71,30 @@ pub record IsPlain (s : Signature) : Type 0 where
 
 -- what a rule that is built is
 pub record IsRuleBuilt (r : RuleDef) : Type 0 where
-  pub patterns : list_all is_built_pattern r.args ≡ true
+  pub patterns : are_built_patterns (patterns_of r.args) ≡ true
   pub conditions : r.iflets ≡ []
   pub right : is_built_expr r.rhs ≡ true
-  pub apart : repeats (flat_map variable_names r.args) ≡ false
+  pub apart : repeats (variables_of (patterns_of r.args)) ≡ false
 
 -- what a rule that is built keeps
 record RuleForms (args : List Pattern) (iflets : List IfLet) (rhs : Expr) : Type 0 where
-  patterns : list_all is_built_pattern args ≡ true
+  patterns : are_built_patterns (patterns_of args) ≡ true
   conditions : are_none iflets ≡ true
   right : is_built_expr rhs ≡ true
-  apart : repeats (flat_map variable_names args) ≡ false
+  apart : repeats (variables_of (patterns_of args)) ≡ false
 
 rule_forms : (name : Option (List ℕ)) (prio : ℤ) (term : List ℕ) (args : List Pattern) (iflets : List IfLet) (rhs : Expr) (pos : Pos) → is_built_def (tree.Rule name prio term args iflets rhs pos) ≡ true → RuleForms args iflets rhs
 rule_forms name prio term args iflets rhs pos h =
-    let k = and_parts (list_all is_built_pattern args && are_none iflets && is_built_expr rhs) (not (repeats (flat_map variable_names args))) h in
-    let l = and_parts (list_all is_built_pattern args && are_none iflets) (is_built_expr rhs) k.0 in
-    let m = and_parts (list_all is_built_pattern args) (are_none iflets) l.0 in
-    record { patterns = m.0; conditions = m.1; right = l.1; apart = not-true (repeats (flat_map variable_names args)) k.1 }
+    let k = and_parts (are_built_patterns (patterns_of args) && are_none iflets && is_built_expr rhs) (not (repeats (variables_of (patterns_of args)))) h in
+    let l = and_parts (are_built_patterns (patterns_of args) && are_none iflets) (is_built_expr rhs) k.0 in
+    let m = and_parts (are_built_patterns (patterns_of args)) (are_none iflets) l.0 in
+    record { patterns = m.0; conditions = m.1; right = l.1; apart = not-true (repeats (variables_of (patterns_of args))) k.1 }
 
 no_conditions : (cs : List IfLet) → are_none cs ≡ true → cs ≡ []
 no_conditions [] h = refl
 no_conditions (c ∷ cs) h = absurd cc
 
-plain_flags : (pure multi recursive : Bool) → not pure && not multi && not recursive ≡ true → (pure ≡ false) × (multi ≡ false) × (recursive ≡ false)
+pub plain_flags : (pure multi recursive : Bool) → not pure && not multi && not recursive ≡ true → (pure ≡ false) × (multi ≡ false) × (recursive ≡ false)
 plain_flags true multi recursive h = absurd cc
 plain_flags false true recursive h = absurd cc
 plain_flags false false true h = absurd cc
@@ -108,9 +109,9 @@ plain_of (tree.Decl term pure multi partial recursive args ret pos ∷ ds) h =
     (record { pure = f.0; multi = f.1; recursive = f.2 }, plain_of ds k.1)
 plain_of (tree.ExternConstructor term func pos ∷ ds) h = plain_of ds h
 plain_of (tree.Rule name prio term args iflets rhs pos ∷ ds) h = plain_of ds (and_parts (is_built_def (tree.Rule name prio term args iflets rhs pos)) (list_all is_built_def ds) h).1
-plain_of (tree.TypeDecl name is_extern is_nodebug body pos ∷ ds) h = absurd cc
+plain_of (tree.TypeDecl name is_extern is_nodebug body pos ∷ ds) h = plain_of ds h
 plain_of (tree.ExternExtractor term func infallible pos ∷ ds) h = absurd cc
-plain_of (tree.ExternConst name ty pos ∷ ds) h = absurd cc
+plain_of (tree.ExternConst name ty pos ∷ ds) h = plain_of ds h
 plain_of (tree.Extractor term params template pos ∷ ds) h = absurd cc
 plain_of (tree.Converter from to term pos ∷ ds) h = absurd cc
 plain_of (tree.Passed head items pos ∷ ds) h = plain_of ds h
@@ -124,9 +125,9 @@ rules_built (tree.Rule name prio term args iflets rhs pos ∷ ds) h =
     (record { patterns = f.patterns; conditions = no_conditions iflets f.conditions; right = f.right; apart = f.apart }, rules_built ds k.1)
 rules_built (tree.Decl term pure multi partial recursive args ret pos ∷ ds) h = rules_built ds (and_parts (is_built_def (tree.Decl term pure multi partial recursive args ret pos)) (list_all is_built_def ds) h).1
 rules_built (tree.ExternConstructor term func pos ∷ ds) h = rules_built ds h
-rules_built (tree.TypeDecl name is_extern is_nodebug body pos ∷ ds) h = absurd cc
+rules_built (tree.TypeDecl name is_extern is_nodebug body pos ∷ ds) h = rules_built ds h
 rules_built (tree.ExternExtractor term func infallible pos ∷ ds) h = absurd cc
-rules_built (tree.ExternConst name ty pos ∷ ds) h = absurd cc
+rules_built (tree.ExternConst name ty pos ∷ ds) h = rules_built ds h
 rules_built (tree.Extractor term params template pos ∷ ds) h = absurd cc
 rules_built (tree.Converter from to term pos ∷ ds) h = absurd cc
 rules_built (tree.Passed head items pos ∷ ds) h = rules_built ds h

@@ -1,22 +1,11 @@
--- Forms that are built, one pattern after the other.
+-- Forms that are built, one definition after the other.
 use Rattle.std.proofs.Common.{◌≡◌, ℕ, ◌+◌, ◌<◌, List, ◌∷◌, length, map, Bool, get_or, sym, ap, ◌∙◌}
 use Rattle.std.specs.Prelude.{drop, ◌&&◌}
 use Rattle.std.specs.List.{list_all}
 use Rattle.std.proofs.lemmas.List.{drop_more}
-use Rattle.isle_ast.specs.declared.tree.AstPattern.{AstPattern}
 use Rattle.isle_ast.specs.declared.tree.Def.{Def as CodeDef}
-use Rattle.isle_ast.specs.Views.{pattern, def}
-use Rattle.isle_sema.specs.Language.{is_built_pattern}
+use Rattle.isle_ast.specs.Views.{def}
 use Rattle.isle_sema.specs.BuiltForm.{is_built_form}
-
--- the patterns from the i-th on are built
-abbrev pub built_from : ℕ → List AstPattern → Bool
-built_from i ps = list_all is_built_pattern (map pattern (drop i ps))
-
--- one pattern more
-pub built_more : (ps : List AstPattern) (i : ℕ) (p d : AstPattern) (built : Bool) → i < length ps → p ≡ get_or ps i d → built ≡ is_built_pattern (pattern p)
-    → built_from i ps ≡ built && built_from (i + 1) ps
-built_more ps i p d built h is seen = ap (λ xs. list_all is_built_pattern (map pattern xs)) (drop_more ps i d h ∙ ap (λ x. x ∷ drop (i + 1) ps) (sym is)) ∙ ap (λ b. b && built_from (i + 1) ps) (sym seen)
 
 -- the definitions from the i-th on are built
 abbrev pub forms_from : ℕ → List CodeDef → Bool

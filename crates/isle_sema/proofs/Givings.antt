@@ -1,5 +1,5 @@
 -- The environment of definitions that no test refuses.
-use Rattle.std.proofs.Common.{◌≡◌, Bool, true, false, List, [], ◌∷◌, map, Some, None, refl, sym, ap, ◌∙◌}
+use Rattle.std.proofs.Common.{◌≡◌, Bool, true, false, List, [], ◌∷◌, map, Some, None, refl, sym, ap, ◌∙◌, subst, ℕ}
 use Rattle.std.specs.Prelude.{◌||◌, not, option_map, option_and_then}
 use Rattle.std.specs.List.{list_all, list_any}
 use Rattle.std.proofs.lemmas.Bool.{or_parts, or_from, and_from}
@@ -9,6 +9,14 @@ use Rattle.isle_core.specs.Rule.{Rule as CoreRule, Environment}
 use Rattle.isle_core.specs.RuleViews.{rule as elaborated_rule, environment}
 use Rattle.isle_ast.specs.Tree.{Def}
 use Rattle.isle_declarations.specs.Signatures.{Signature, signatures, externs, rule_defs}
+use Rattle.isle_declarations.specs.Terms.{terms}
+use Rattle.isle_ast.specs.declared.tree.Def.{Def as CodeDef}
+use Rattle.isle_ast.specs.Views.{defs as seen}
+use Rattle.isle_declarations.specs.DeclaredTypes.{made_of}
+use Rattle.isle_types.specs.declared.before.Before.{Before}
+use Rattle.isle_types.specs.Gathered.{IsBefore}
+use Rattle.isle_types.specs.Fault.{type_fault}
+use Rattle.isle_types.specs.TypeEnvironment.{type_env_of}
 use Rattle.isle_declarations.specs.Heads.{terms_of, extern_terms}
 use Rattle.isle_declarations.specs.Repeats.{repeats}
 use Rattle.isle_sema.specs.Language.{is_built_def, rules_call_ruled}
@@ -16,28 +24,36 @@ use Rattle.isle_sema.specs.Tests.{binds_twice, is_misdeclared, has_undeclared}
 use Rattle.isle_sema.specs.BuiltForm.{is_built_form}
 use Rattle.isle_sema.specs.RulePass.{rules_pass}
 use Rattle.isle_sema.specs.Fault.{OfTypes, OfTerms, OfExtractors, OfRules, or_later, fault_in}
-use Rattle.isle_sema.specs.Environment.{types_of, whole_of, env_over, terms_pass}
-use Rattle.isle_sema.specs.Typing.{Typed}
+use Rattle.isle_sema.specs.Environment.{whole_of, env_over, terms_pass}
+use Rattle.isle_core.specs.declared.types.TypeEnv.{TypeEnv}
+use Rattle.isle_sema.specs.Typing.{Typed, TypedOnly}
+use Rattle.isle_sema.proofs.TypedOnce.{typed_only}
 use Rattle.isle_declarations.specs.Tables.{any_repeat}
 use Rattle.isle_sema.specs.Taken.{taken_rules}
 use Rattle.isle_sema.proofs.BuiltForms.{both, forms_of, unformed, bound_twice, rules_built}
 use Rattle.isle_sema.proofs.Firsts.{none_stages}
 use Rattle.isle_sema.proofs.TypedParts.{typed_in}
-use Rattle.isle_sema.proofs.TermFaults.{names_no_type, has_too_many, types_none, extractors_none, is_headless, TermParts, terms_kept, terms_none}
+use Rattle.isle_sema.proofs.TermFaults.{names_no_type, is_made_twice, has_too_many, extractors_none, is_headless, TermParts, terms_kept, terms_none}
 use Rattle.isle_sema.proofs.RuleLaws.{fault_none, none_fault, taken_are, are_taken}
 
 -- ---- declarations that are wrong by themselves
 
-misdeclared_bools : (a b f g : Bool) → (a || b) || (f || g) ≡ (a || f) || (b || g)
-misdeclared_bools true b f g = refl
-misdeclared_bools false true true g = refl
-misdeclared_bools false true false g = refl
-misdeclared_bools false false true g = refl
-misdeclared_bools false false false g = refl
+misdeclared_bools : (a b c f g h : Bool) → (a || (b || c)) || (f || (g || h)) ≡ (a || f) || ((b || g) || (c || h))
+misdeclared_bools true b c f g h = refl
+misdeclared_bools false b c true g h = or_all (b || c)
+  where
+    or_all : (x : Bool) → x || true ≡ true
+    or_all true = refl
+    or_all false = refl
+misdeclared_bools false true c false g h = refl
+misdeclared_bools false false true false true h = refl
+misdeclared_bools false false true false false h = refl
+misdeclared_bools false false false false g h = refl
 
-misdeclared_parts : (sigs : List Signature) → list_any is_misdeclared sigs ≡ list_any has_too_many sigs || list_any names_no_type sigs
-misdeclared_parts [] = refl
-misdeclared_parts (s ∷ sigs) = ap (λ b. is_misdeclared s || b) (misdeclared_parts sigs) ∙ misdeclared_bools (has_too_many s) (names_no_type s) (list_any has_too_many sigs) (list_any names_no_type sigs)
+misdeclared_parts : (all : List Def) (sigs : List Signature) → list_any (is_misdeclared all) sigs ≡ list_any has_too_many sigs || (list_any (names_no_type all) sigs || list_any (is_made_twice all) sigs)
+misdeclared_parts all [] = refl
+misdeclared_parts all (s ∷ sigs) =
+    ap (λ b. is_misdeclared all s || b) (misdeclared_parts all sigs) ∙ misdeclared_bools (has_too_many s) (names_no_type all s) (is_made_twice all s) (list_any has_too_many sigs) (list_any (names_no_type all) sigs) (list_any (is_made_twice all) sigs)
 
 -- ---- what typed definitions keep
 
@@ -65,10 +81,10 @@ unformed_untyped ds h env t = unformed ds h (typed_in t).built
 pub twice_untyped : (ds : List Def) → list_any binds_twice (rule_defs ds) ≡ true → (env : Environment) → Typed ds env → ⊥
 twice_untyped ds h env t = bound_twice ds h (typed_in t).built
 
-pub misdeclared_untyped : (ds : List Def) → list_any is_misdeclared (signatures ds) ≡ true → (env : Environment) → Typed ds env → ⊥
+pub misdeclared_untyped : (ds : List Def) → list_any (is_misdeclared ds) (signatures ds) ≡ true → (env : Environment) → Typed ds env → ⊥
 misdeclared_untyped ds h env t =
     let p = (kept t).parts in
-    both h (misdeclared_parts (signatures ds) ∙ or_from (list_any has_too_many (signatures ds)) (list_any names_no_type (signatures ds)) p.few p.typed)
+    both h (misdeclared_parts ds (signatures ds) ∙ or_from (list_any has_too_many (signatures ds)) (list_any (names_no_type ds) (signatures ds) || list_any (is_made_twice ds) (signatures ds)) p.few (or_from (list_any (names_no_type ds) (signatures ds)) (list_any (is_made_twice ds) (signatures ds)) p.typed p.unmade))
 
 pub repeated_untyped : (ds : List Def) → any_repeat ds ≡ true → (env : Environment) → Typed ds env → ⊥
 repeated_untyped ds h env t =
@@ -82,35 +98,47 @@ pub headless_untyped : (ds : List Def) → list_any (is_headless ds) (rule_defs 
 headless_untyped ds h env t = both h (kept t).parts.heads
 
 -- nor those whose terms have no types
-pub unmade_untyped : (ds : List Def) → None ≡ terms_pass (whole_of ds) (signatures ds) → (env : Environment) → Typed ds env → ⊥
-unmade_untyped ds none env t = let bad : None ≡ Some env = ap (λ o. option_and_then (λ (terms : List Term). option_map (env_over (types_of ds) terms) (rules_pass (whole_of ds) 0 (rule_defs ds))) o) none ∙ t.given in cc
+pub unmade_untyped : (ds : List Def) → None ≡ terms_pass (whole_of ds) (terms ds) → (env : Environment) → Typed ds env → ⊥
+unmade_untyped ds none env t = let bad : None ≡ Some env = ap (λ o. option_and_then (λ (made : List Term). option_map (env_over (type_env_of ds) made) (rules_pass (whole_of ds) 0 (rule_defs ds))) o) none ∙ t.given in cc
 
 pub untaken_untyped : (ds : List Def) → None ≡ taken_rules (whole_of ds) 0 (rule_defs ds) → (env : Environment) → Typed ds env → ⊥
 untaken_untyped ds h env t = let k = kept t in let bad : None ≡ Some k.rules = h ∙ k.taken in cc
 
 -- no test refuses the definitions
-pub parts_of : (ds : List Def) → list_any is_misdeclared (signatures ds) ≡ false → any_repeat ds ≡ false → has_undeclared (signatures ds) (externs ds) ≡ false → list_any (is_headless ds) (rule_defs ds) ≡ false → TermParts ds [] ds
+pub parts_of : (ds : List Def) → list_any (is_misdeclared ds) (signatures ds) ≡ false → any_repeat ds ≡ false → has_undeclared (signatures ds) (externs ds) ≡ false → list_any (is_headless ds) (rule_defs ds) ≡ false → TermParts ds [] ds
 parts_of ds declared apart known heads =
-    let d = or_parts (list_any has_too_many (signatures ds)) (list_any names_no_type (signatures ds)) (sym (misdeclared_parts (signatures ds)) ∙ declared) in
+    let d = or_parts (list_any has_too_many (signatures ds)) (list_any (names_no_type ds) (signatures ds) || list_any (is_made_twice ds) (signatures ds)) (sym (misdeclared_parts ds (signatures ds)) ∙ declared) in
+    let t = or_parts (list_any (names_no_type ds) (signatures ds)) (list_any (is_made_twice ds) (signatures ds)) d.1 in
     let a = or_parts (repeats (terms_of (signatures ds))) (repeats (extern_terms (externs ds))) apart in
-    record { apart = a.0; typed = d.1; few = d.0; externs_apart = a.1; known = known; heads = heads }
+    record { apart = a.0; unmade = t.1; typed = t.0; few = d.0; externs_apart = a.1; known = known; heads = heads }
 
 -- ---- the environment
 
 -- definitions that no test refuses give what is made of them
-pub given_typed : (ds : List Def) (t : TermEnv) → list_all is_built_def ds ≡ true → TermParts ds [] ds → terms_pass (whole_of ds) (signatures ds) ≡ Some t.terms
-    → taken_rules (whole_of ds) 0 (rule_defs ds) ≡ Some (map elaborated_rule t.rules) → t.converters ≡ [] → Typed ds (environment (types_of ds) t)
-given_typed ds t built parts terms rules none =
+pub given_typed : (ds : List Def) (t : TermEnv) → list_all is_built_def ds ≡ true → type_fault ds ≡ None → TermParts ds [] ds → terms_pass (whole_of ds) (terms ds) ≡ Some t.terms
+    → taken_rules (whole_of ds) 0 (rule_defs ds) ≡ Some (map elaborated_rule t.rules) → t.converters ≡ [] → Typed ds (environment (type_env_of ds) t)
+given_typed ds t built types parts given rules none =
     let w = whole_of ds in
     let forms = forms_of ds built in
     let k = taken_are w 0 (rule_defs ds) (map elaborated_rule t.rules) (rules_built ds built) rules in
     record {
       built = and_from (list_all is_built_def ds) (not (rules_call_ruled (rule_defs ds) (rule_defs ds))) built (ap not k.calls);
       sound =
-          none_stages (fault_in OfTypes w) (or_later (fault_in OfTerms w) (or_later (fault_in OfExtractors w) (fault_in OfRules w))) (types_none w [] ds forms)
+          none_stages (fault_in OfTypes w) (or_later (fault_in OfTerms w) (or_later (fault_in OfExtractors w) (fault_in OfRules w))) types
           (none_stages (fault_in OfTerms w) (or_later (fault_in OfExtractors w) (fault_in OfRules w)) (terms_none ds [] ds forms parts) (none_stages (fault_in OfExtractors w) (fault_in OfRules w) (extractors_none w [] ds forms) (fault_none w [] ds k.kept)));
       given =
-          ap (λ o. option_and_then (λ (ts : List Term). option_map (env_over (types_of ds) ts) (rules_pass w 0 (rule_defs ds))) o) terms
-          ∙ ap (λ o. option_map (env_over (types_of ds) t.terms) o) k.trees
-          ∙ ap (λ (cs : List _). Some (record { types = types_of ds; terms = t.terms; rules = map elaborated_rule t.rules; converters = cs })) (sym none);
+          ap (λ o. option_and_then (λ (ts : List Term). option_map (env_over (type_env_of ds) ts) (rules_pass w 0 (rule_defs ds))) o) given
+          ∙ ap (λ o. option_map (env_over (type_env_of ds) t.terms) o) k.trees
+          ∙ ap (λ (cs : List _). Some (record { types = type_env_of ds; terms = t.terms; rules = map elaborated_rule t.rules; converters = cs })) (sym none);
     }
+
+-- terms over the types of definitions
+pub over_types : {ds : List Def} {types : TypeEnv} (t : TermEnv) → types ≡ type_env_of ds → Typed ds (environment (type_env_of ds) t) → TypedOnly ds (environment types t)
+over_types {ds = ds} t is typed = typed_only (subst (λ (ts : TypeEnv). Typed ds (environment ts t)) (sym is) typed)
+
+-- what is known of definitions is known of the same
+pub same_before : {ds es : List CodeDef} {before : Before} → es ≡ ds → IsBefore (seen ds) before → IsBefore (seen es) before
+same_before {before = before} is h = subst (λ (xs : List CodeDef). IsBefore (seen xs) before) (sym is) h
+
+pub same_made : {ds es : List CodeDef} {made : List (List (List ℕ))} → es ≡ ds → made ≡ map made_of (seen ds) → made ≡ map made_of (seen es)
+same_made is h = h ∙ ap (λ (xs : List CodeDef). map made_of (seen xs)) (sym is)

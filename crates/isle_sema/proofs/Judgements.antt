@@ -11,14 +11,15 @@ use Rattle.isle_ast.specs.Tree.{IfLet}
 use Rattle.isle_sema.specs.declared.judged.Judged.{Judged}
 use Rattle.isle_sema.specs.declared.known.Called.{Called}
 use Rattle.isle_declarations.specs.Signatures.{Signature, RuleDef, externs, rule_defs, func_named, has_rule}
-use Rattle.isle_sema.specs.Site.{Site, CalledAt, NotBuiltAt}
-use Rattle.isle_sema.specs.Whole.{Whole, declared}
+use Rattle.isle_sema.specs.Site.{Site, CalledAt, TakenAt, NotBuiltAt}
+use Rattle.isle_sema.specs.Whole.{Whole, termed}
+use Rattle.isle_declarations.specs.Terms.{is_made}
 use Rattle.isle_sema.specs.TypeNames.{type_named}
 use Rattle.isle_types.specs.declared.row.Row.TheVariants as row
 use Rattle.isle_types.specs.declared.row.Row.{Row}
 use Rattle.isle_types.specs.TypeRows.{on}
 use Rattle.isle_sema.specs.RulePass.{patterns_of, right_side_of, sites_of}
-use Rattle.isle_sema.specs.RuleRows.{differ, is_misplaced, is_met_otherwise, is_unknown, is_mistyped}
+use Rattle.isle_sema.specs.RuleRows.{differ, is_untaken, is_mistaken, is_misplaced, is_undeclared, is_met_otherwise, is_unknown, is_mistyped}
 use Rattle.isle_sema.specs.Known.{IsCalled}
 use Rattle.isle_sema.specs.Judging.{is_ruled_call, is_partial_call, is_impure_call, is_multi_call, unjudged, judge, judge_all, lowest}
 use Rattle.isle_sema.specs.Taken.{row_of}
@@ -28,9 +29,12 @@ use Rattle.isle_sema.specs.Taken.{row_of}
 -- a call of a declared term, by what is known of it
 pub called_judged : (w : Whole) (s : Signature) (c : Called) (j : Judged) (expected : Option TypeId) (count nodes : ℕ) (differs : Bool) → differs ≡ differ (Some c.ret) expected → nodes ≡ min (j.nodes + 1) (2 ^ 64 - 1) → IsCalled w s c
     → record {
+      untaken = j.untaken;
+      mistaken = j.mistaken;
       misplaced = j.misplaced;
+      undeclared = j.undeclared;
       met_otherwise = j.met_otherwise;
-      unknown = (not (count == length c.args.now) || not (c.external || c.ruled)) || j.unknown;
+      unknown = (not (count == length c.args.now) || not (c.made || c.external || c.ruled)) || j.unknown;
       mistyped = differs || j.mistyped;
       partial = c.partial || j.partial;
       impure = not c.pure || j.impure;
@@ -40,10 +44,13 @@ pub called_judged : (w : Whole) (s : Signature) (c : Called) (j : Judged) (expec
     }
     ≡ judge w j (CalledAt expected (Some s) count)
 called_judged w s c j expected count nodes differs other more h =
-    let put : ℕ → Bool → Bool → Option TypeId → Bool → Bool → Bool → Judged = λ n external ruled ty partial pure multi. record {
+    let put : ℕ → Bool → Bool → Bool → Option TypeId → Bool → Bool → Bool → Judged = λ n made external ruled ty partial pure multi. record {
+      untaken = j.untaken;
+      mistaken = j.mistaken;
       misplaced = j.misplaced;
+      undeclared = j.undeclared;
       met_otherwise = j.met_otherwise;
-      unknown = (not (count == n) || not (external || ruled)) || j.unknown;
+      unknown = (not (count == n) || not (made || external || ruled)) || j.unknown;
       mistyped = differ ty expected || j.mistyped;
       partial = partial || j.partial;
       impure = not pure || j.impure;
@@ -51,13 +58,17 @@ called_judged w s c j expected count nodes differs other more h =
       ruled = ruled || j.ruled;
       nodes = min (j.nodes + 1) (2 ^ 64 - 1);
     } in
-    let long : length c.args.now ≡ length s.args = sym (length-map c.args.now Some) ∙ ap length (sym h.args) ∙ length-map s.args (type_named w.types) in
+    let long : length c.args.now ≡ length s.args = sym (length-map c.args.now Some) ∙ ap length (sym h.args) ∙ length-map s.args (type_named w.defs) in
+    let made = is_made s.origin in
     let external = is_some (func_named (externs w.defs) s.term) in
     let ruled = has_rule (rule_defs w.defs) s.term in
     ap (λ b. record {
+      untaken = j.untaken;
+      mistaken = j.mistaken;
       misplaced = j.misplaced;
+      undeclared = j.undeclared;
       met_otherwise = j.met_otherwise;
-      unknown = (not (count == length c.args.now) || not (c.external || c.ruled)) || j.unknown;
+      unknown = (not (count == length c.args.now) || not (c.made || c.external || c.ruled)) || j.unknown;
       mistyped = b || j.mistyped;
       partial = c.partial || j.partial;
       impure = not c.pure || j.impure;
@@ -66,9 +77,12 @@ called_judged w s c j expected count nodes differs other more h =
       nodes = nodes;
     }) other
     ∙ ap (λ n. record {
+      untaken = j.untaken;
+      mistaken = j.mistaken;
       misplaced = j.misplaced;
+      undeclared = j.undeclared;
       met_otherwise = j.met_otherwise;
-      unknown = (not (count == length c.args.now) || not (c.external || c.ruled)) || j.unknown;
+      unknown = (not (count == length c.args.now) || not (c.made || c.external || c.ruled)) || j.unknown;
       mistyped = differ (Some c.ret) expected || j.mistyped;
       partial = c.partial || j.partial;
       impure = not c.pure || j.impure;
@@ -76,13 +90,50 @@ called_judged w s c j expected count nodes differs other more h =
       ruled = c.ruled || j.ruled;
       nodes = n;
     }) more
-    ∙ ap (λ n. put n c.external c.ruled (Some c.ret) c.partial c.pure c.multi) long
-    ∙ ap (λ b. put (length s.args) b c.ruled (Some c.ret) c.partial c.pure c.multi) (sym h.external)
-    ∙ ap (λ b. put (length s.args) external b (Some c.ret) c.partial c.pure c.multi) (sym h.ruled)
-    ∙ ap (λ ty. put (length s.args) external ruled ty c.partial c.pure c.multi) (sym h.ret)
-    ∙ ap (λ b. put (length s.args) external ruled (type_named w.types s.ret) b c.pure c.multi) (sym h.partial)
-    ∙ ap (λ b. put (length s.args) external ruled (type_named w.types s.ret) s.partial b c.multi) (sym h.pure)
-    ∙ ap (λ b. put (length s.args) external ruled (type_named w.types s.ret) s.partial s.pure b) (sym h.multi)
+    ∙ ap (λ n. put n c.made c.external c.ruled (Some c.ret) c.partial c.pure c.multi) long
+    ∙ ap (λ b. put (length s.args) b c.external c.ruled (Some c.ret) c.partial c.pure c.multi) (sym h.made)
+    ∙ ap (λ b. put (length s.args) made b c.ruled (Some c.ret) c.partial c.pure c.multi) (sym h.external)
+    ∙ ap (λ b. put (length s.args) made external b (Some c.ret) c.partial c.pure c.multi) (sym h.ruled)
+    ∙ ap (λ ty. put (length s.args) made external ruled ty c.partial c.pure c.multi) (sym h.ret)
+    ∙ ap (λ b. put (length s.args) made external ruled (type_named w.defs s.ret) b c.pure c.multi) (sym h.partial)
+    ∙ ap (λ b. put (length s.args) made external ruled (type_named w.defs s.ret) s.partial b c.multi) (sym h.pure)
+    ∙ ap (λ b. put (length s.args) made external ruled (type_named w.defs s.ret) s.partial s.pure b) (sym h.multi)
+
+-- a term in a pattern, by what is known of it
+pub taken_judged : (w : Whole) (s : Signature) (c : Called) (j : Judged) (expected : Option TypeId) (count nodes : ℕ) (differs : Bool) → differs ≡ differ (Some c.ret) expected → nodes ≡ min (j.nodes + 1) (2 ^ 64 - 1) → IsCalled w s c
+    → record {
+      untaken = (not (count == length c.args.now) || not c.made) || j.untaken;
+      mistaken = differs || j.mistaken;
+      misplaced = j.misplaced;
+      undeclared = j.undeclared;
+      met_otherwise = j.met_otherwise;
+      unknown = j.unknown;
+      mistyped = j.mistyped;
+      partial = j.partial;
+      impure = j.impure;
+      multi = j.multi;
+      ruled = j.ruled;
+      nodes = nodes;
+    }
+    ≡ judge w j (TakenAt expected (Some s) count)
+taken_judged w s c j expected count nodes differs other more h =
+    let put : ℕ → Bool → Bool → ℕ → Judged = λ n made differs nodes. record {
+      untaken = (not (count == n) || not made) || j.untaken;
+      mistaken = differs || j.mistaken;
+      misplaced = j.misplaced;
+      undeclared = j.undeclared;
+      met_otherwise = j.met_otherwise;
+      unknown = j.unknown;
+      mistyped = j.mistyped;
+      partial = j.partial;
+      impure = j.impure;
+      multi = j.multi;
+      ruled = j.ruled;
+      nodes = nodes;
+    } in
+    let long : length c.args.now ≡ length s.args = sym (length-map c.args.now Some) ∙ ap length (sym h.args) ∙ length-map s.args (type_named w.defs) in
+    ap (λ n. put n c.made differs nodes) long ∙ ap (λ b. put (length s.args) b differs nodes) (sym h.made)
+    ∙ ap (λ b. put (length s.args) (is_made s.origin) b nodes) (other ∙ ap (λ ty. differ ty expected) (sym h.ret)) ∙ ap (put (length s.args) (is_made s.origin) (differ (type_named w.defs s.ret) expected)) more
 
 -- ---- parts in order
 
@@ -136,88 +187,86 @@ small_both w ps rs =
 
 -- ---- the row of a rule
 
--- nine tests in order
-abbrev pub tests : (a b c d e f g h i : Bool) → Option Row
-tests a b c d e f g h i =
-    cond a (Some row.PatternTermMisfit) (cond b (Some row.LiteralMisfit) (cond c (Some row.VariableTypeMisfit) (cond d (Some row.ExprNameMisfit) (cond e (Some row.ExprTypeMisfit)
-    (cond f (Some row.PartialCall) (cond g (Some row.ImpureCall) (cond h (Some row.MultiCall) (cond i (Some row.ManyNodes) None))))))))
+-- the tests in order
+abbrev pub tests : (a b c d e f g h i k l : Bool) → Option Row
+tests a b c d e f g h i k l =
+    cond a (Some row.PatternTermMisfit) (cond b (Some row.PatternTypeMisfit) (cond c (Some row.LiteralMisfit) (cond d (Some row.ConstantUndeclared) (cond e (Some row.VariableTypeMisfit) (cond f (Some row.ExprNameMisfit) (cond g (Some row.ExprTypeMisfit) (cond h (Some row.PartialCall) (cond i (Some row.ImpureCall) (cond k (Some row.MultiCall) (cond l (Some row.ManyNodes) None))))))))))
 
 -- where they give no row, each fails
-pub record AllFail (a b c d e f g h i : Bool) : Type 0 where
+pub record AllFail (a b c d e f g h i k l : Bool) : Type 0 where
   pub arity : a ≡ false
-  pub literal : b ≡ false
-  pub met : c ≡ false
-  pub name : d ≡ false
-  pub typing : e ≡ false
-  pub partial : f ≡ false
-  pub impure : g ≡ false
-  pub multi : h ≡ false
-  pub size : i ≡ false
+  pub taken : b ≡ false
+  pub literal : c ≡ false
+  pub constants : d ≡ false
+  pub met : e ≡ false
+  pub name : f ≡ false
+  pub typing : g ≡ false
+  pub partial : h ≡ false
+  pub impure : i ≡ false
+  pub multi : k ≡ false
+  pub size : l ≡ false
 
-pub tests_fail : (a b c d e f g h i : Bool) → tests a b c d e f g h i ≡ None → AllFail a b c d e f g h i
-tests_fail true b c d e f g h i none = absurd cc
-tests_fail false true c d e f g h i none = absurd cc
-tests_fail false false true d e f g h i none = absurd cc
-tests_fail false false false true e f g h i none = absurd cc
-tests_fail false false false false true f g h i none = absurd cc
-tests_fail false false false false false true g h i none = absurd cc
-tests_fail false false false false false false true h i none = absurd cc
-tests_fail false false false false false false false true i none = absurd cc
-tests_fail false false false false false false false false true none = absurd cc
-tests_fail false false false false false false false false false none = record { arity = refl; literal = refl; met = refl; name = refl; typing = refl; partial = refl; impure = refl; multi = refl; size = refl }
+pub tests_fail : (a b c d e f g h i k l : Bool) → tests a b c d e f g h i k l ≡ None → AllFail a b c d e f g h i k l
+tests_fail true b c d e f g h i k l none = absurd cc
+tests_fail false true c d e f g h i k l none = absurd cc
+tests_fail false false true d e f g h i k l none = absurd cc
+tests_fail false false false true e f g h i k l none = absurd cc
+tests_fail false false false false true f g h i k l none = absurd cc
+tests_fail false false false false false true g h i k l none = absurd cc
+tests_fail false false false false false false true h i k l none = absurd cc
+tests_fail false false false false false false false true i k l none = absurd cc
+tests_fail false false false false false false false false true k l none = absurd cc
+tests_fail false false false false false false false false false true l none = absurd cc
+tests_fail false false false false false false false false false false true none = absurd cc
+tests_fail false false false false false false false false false false false none = record { arity = refl; taken = refl; literal = refl; constants = refl; met = refl; name = refl; typing = refl; partial = refl; impure = refl; multi = refl; size = refl }
 
--- the tests of a rule under what declares its head, over the parts of both sides
+-- the tests of a rule under what gives its head, over the parts of both sides
 abbrev pub tests_of : Whole → RuleDef → Option Signature → List Site → List Site → Option Row
 tests_of w r o sites rs =
-    tests (on o (λ (s : Signature). not (length r.args == length s.args))) (list_any (is_misplaced w) sites) (list_any is_met_otherwise sites) (list_any (is_unknown w) sites)
+    tests (on o (λ (s : Signature). not (length r.args == length s.args)) || list_any is_untaken sites) (list_any (is_mistaken w) sites) (list_any (is_misplaced w) sites) (list_any is_undeclared sites) (list_any is_met_otherwise sites) (list_any (is_unknown w) sites)
     (list_any (is_mistyped w) sites) (on o (λ (s : Signature). not s.partial && list_any is_partial_call rs)) (on o (λ (s : Signature). s.pure && list_any is_impure_call rs))
     (on o (λ (s : Signature). not s.multi && list_any is_multi_call sites)) (not (nat_le (length sites) 4096))
 
-row_tests : (w : Whole) (r : RuleDef) → row_of w r ≡ tests_of w r (declared w r.term) (sites_of w r) (right_side_of w r).sites
+row_tests : (w : Whole) (r : RuleDef) → row_of w r ≡ tests_of w r (termed w r.term) (sites_of w r) (right_side_of w r).sites
 row_tests w r = refl
 
 -- where a term is declared, its types are expected
-sites_at : (w : Whole) (r : RuleDef) (s : Signature) → declared w r.term ≡ Some s → r.iflets ≡ [] → row_of w r ≡ tests_of w r (Some s) ((patterns_of w r).sites ++ (right_side_of w r).sites) (right_side_of w r).sites
+sites_at : (w : Whole) (r : RuleDef) (s : Signature) → termed w r.term ≡ Some s → r.iflets ≡ [] → row_of w r ≡ tests_of w r (Some s) ((patterns_of w r).sites ++ (right_side_of w r).sites) (right_side_of w r).sites
 sites_at w r s is none =
     row_tests w r ∙ ap (λ (o : Option Signature). tests_of w r o (sites_of w r) (right_side_of w r).sites) is
     ∙ ap (λ (cs : List IfLet). tests_of w r (Some s) ((patterns_of w r).sites ++ (map (λ (c : IfLet). NotBuiltAt) cs ++ (right_side_of w r).sites)) (right_side_of w r).sites) none
 
+-- tests that are the same give one row
+same_tests : {a a2 : Bool} {b b2 : Bool} {c c2 : Bool} {d d2 : Bool} {e e2 : Bool} {f f2 : Bool} {g g2 : Bool} {h h2 : Bool} {i i2 : Bool} {k k2 : Bool} {l l2 : Bool} → a ≡ a2 → b ≡ b2 → c ≡ c2 → d ≡ d2 → e ≡ e2 → f ≡ f2 → g ≡ g2 → h ≡ h2 → i ≡ i2 → k ≡ k2 → l ≡ l2 → tests a b c d e f g h i k l ≡ tests a2 b2 c2 d2 e2 f2 g2 h2 i2 k2 l2
+same_tests ea eb ec ed ee ef eg eh ei ek el = rw (ea, eb, ec, ed, ee, ef, eg, eh, ei, ek, el) refl
+
 -- what is judged of both sides of a rule is the row that it breaks
-pub lowest_is : (w : Whole) (r : RuleDef) (s : Signature) (own : Called) → declared w r.term ≡ Some s → IsCalled w s own → r.iflets ≡ []
+pub lowest_is : (w : Whole) (r : RuleDef) (s : Signature) (own : Called) → termed w r.term ≡ Some s → IsCalled w s own → r.iflets ≡ []
     → lowest own (length r.args) (judge_all w unjudged (patterns_of w r).sites) (judge_all w unjudged (right_side_of w r).sites) ≡ row_of w r
 lowest_is w r s own is h none =
     let ps = (patterns_of w r).sites in
     let rs = (right_side_of w r).sites in
-    let long : length own.args.now ≡ length s.args = sym (length-map own.args.now Some) ∙ ap length (sym h.args) ∙ length-map s.args (type_named w.types) in
+    let all = ps ++ rs in
+    let long : length own.args.now ≡ length s.args = sym (length-map own.args.now Some) ∙ ap length (sym h.args) ∙ length-map s.args (type_named w.defs) in
     let l = judge_all w unjudged ps in
     let m = judge_all w unjudged rs in
-    ap (λ n. tests (not (length r.args == n)) (l.misplaced || m.misplaced) (l.met_otherwise || m.met_otherwise) (l.unknown || m.unknown) (l.mistyped || m.mistyped) (not own.partial && m.partial) (own.pure && m.impure) (not own.multi && (l.multi || m.multi)) (not (nat_le (l.nodes + m.nodes) 4096))) long
-    ∙ ap (λ x. tests (not (length r.args == length s.args)) x (l.met_otherwise || m.met_otherwise) (l.unknown || m.unknown) (l.mistyped || m.mistyped) (not own.partial && m.partial) (own.pure && m.impure) (not own.multi && (l.multi || m.multi)) (not (nat_le (l.nodes + m.nodes) 4096)))
-    (any_both w (λ j. j.misplaced) (is_misplaced w) (λ j x. refl) refl ps rs)
-    ∙ ap (λ x. tests (not (length r.args == length s.args)) (list_any (is_misplaced w) (ps ++ rs)) x (l.unknown || m.unknown) (l.mistyped || m.mistyped) (not own.partial && m.partial) (own.pure && m.impure) (not own.multi && (l.multi || m.multi)) (not (nat_le (l.nodes + m.nodes) 4096)))
-    (any_both w (λ j. j.met_otherwise) is_met_otherwise (λ j x. refl) refl ps rs)
-    ∙ ap (λ x. tests (not (length r.args == length s.args)) (list_any (is_misplaced w) (ps ++ rs)) (list_any is_met_otherwise (ps ++ rs)) x (l.mistyped || m.mistyped) (not own.partial && m.partial) (own.pure && m.impure) (not own.multi && (l.multi || m.multi)) (not (nat_le (l.nodes + m.nodes) 4096)))
-    (any_both w (λ j. j.unknown) (is_unknown w) (λ j x. refl) refl ps rs)
-    ∙ ap (λ x. tests (not (length r.args == length s.args)) (list_any (is_misplaced w) (ps ++ rs)) (list_any is_met_otherwise (ps ++ rs)) (list_any (is_unknown w) (ps ++ rs)) x (not own.partial && m.partial) (own.pure && m.impure) (not own.multi && (l.multi || m.multi)) (not (nat_le (l.nodes + m.nodes) 4096)))
-    (any_both w (λ j. j.mistyped) (is_mistyped w) (λ j x. refl) refl ps rs)
-    ∙ ap (λ x. tests_from w r s ps rs x (own.pure && m.impure) (not own.multi && (l.multi || m.multi)) (not (nat_le (l.nodes + m.nodes) 4096)))
-    (ap (λ b. not b && m.partial) (sym h.partial) ∙ ap (λ b. not s.partial && b) (any_new w (λ j. j.partial) is_partial_call (λ j x. refl) refl rs))
-    ∙ ap (λ x. tests_from w r s ps rs (not s.partial && list_any is_partial_call rs) x (not own.multi && (l.multi || m.multi)) (not (nat_le (l.nodes + m.nodes) 4096)))
-    (ap (λ b. b && m.impure) (sym h.pure) ∙ ap (λ b. s.pure && b) (any_new w (λ j. j.impure) is_impure_call (λ j x. refl) refl rs))
-    ∙ ap (λ x. tests_from w r s ps rs (not s.partial && list_any is_partial_call rs) (s.pure && list_any is_impure_call rs) x (not (nat_le (l.nodes + m.nodes) 4096)))
-    (ap (λ b. not b && (l.multi || m.multi)) (sym h.multi) ∙ ap (λ b. not s.multi && b) (any_both w (λ j. j.multi) is_multi_call (λ j x. refl) refl ps rs))
-    ∙ ap (λ b. tests_from w r s ps rs (not s.partial && list_any is_partial_call rs) (s.pure && list_any is_impure_call rs) (not s.multi && list_any is_multi_call (ps ++ rs)) (not b)) (small_both w ps rs)
+    let both : (f : Judged → Bool) (test : Site → Bool) → ((j : Judged) (x : Site) → f (judge w j x) ≡ test x || f j) → f unjudged ≡ false → f l || f m ≡ list_any test all = λ f test step new. any_both w f test step new ps rs in
+    let arity : not (length r.args == length own.args.now) || (l.untaken || m.untaken) ≡ not (length r.args == length s.args) || list_any is_untaken all =
+    ap (λ n. not (length r.args == n) || (l.untaken || m.untaken)) long ∙ ap (λ b. not (length r.args == length s.args) || b) (both (λ j. j.untaken) is_untaken (λ j x. refl) refl) in
+    let partial : not own.partial && m.partial ≡ not s.partial && list_any is_partial_call rs = ap (λ b. not b && m.partial) (sym h.partial) ∙ ap (λ b. not s.partial && b) (any_new w (λ j. j.partial) is_partial_call (λ j x. refl) refl rs) in
+    let impure : own.pure && m.impure ≡ s.pure && list_any is_impure_call rs = ap (λ b. b && m.impure) (sym h.pure) ∙ ap (λ b. s.pure && b) (any_new w (λ j. j.impure) is_impure_call (λ j x. refl) refl rs) in
+    let multi : not own.multi && (l.multi || m.multi) ≡ not s.multi && list_any is_multi_call all = ap (λ b. not b && (l.multi || m.multi)) (sym h.multi) ∙ ap (λ b. not s.multi && b) (both (λ j. j.multi) is_multi_call (λ j x. refl) refl) in
+    same_tests arity (both (λ j. j.mistaken) (is_mistaken w) (λ j x. refl) refl) (both (λ j. j.misplaced) (is_misplaced w) (λ j x. refl) refl) (both (λ j. j.undeclared) is_undeclared (λ j x. refl) refl)
+    (both (λ j. j.met_otherwise) is_met_otherwise (λ j x. refl) refl) (both (λ j. j.unknown) (is_unknown w) (λ j x. refl) refl) (both (λ j. j.mistyped) (is_mistyped w) (λ j x. refl) refl) partial impure multi (ap not (small_both w ps rs))
     ∙ sym (sites_at w r s is none)
-  where
-    tests_from : Whole → RuleDef → Signature → List Site → List Site → Bool → Bool → Bool → Bool → Option Row
-    tests_from w r s ps rs f g h i = tests (not (length r.args == length s.args)) (list_any (is_misplaced w) (ps ++ rs)) (list_any is_met_otherwise (ps ++ rs)) (list_any (is_unknown w) (ps ++ rs)) (list_any (is_mistyped w) (ps ++ rs)) f g h i
 
 -- where a rule breaks no row, each test fails
 pub row_fails : (w : Whole) (r : RuleDef) → row_of w r ≡ None
-    → AllFail (on (declared w r.term) (λ (s : Signature). not (length r.args == length s.args))) (list_any (is_misplaced w) (sites_of w r)) (list_any is_met_otherwise (sites_of w r)) (list_any (is_unknown w) (sites_of w r)) (list_any (is_mistyped w) (sites_of w r))
-    (on (declared w r.term) (λ (s : Signature). not s.partial && list_any is_partial_call (right_side_of w r).sites)) (on (declared w r.term) (λ (s : Signature). s.pure && list_any is_impure_call (right_side_of w r).sites))
-    (on (declared w r.term) (λ (s : Signature). not s.multi && list_any is_multi_call (sites_of w r))) (not (nat_le (length (sites_of w r)) 4096))
-row_fails w r h = tests_fail _ _ _ _ _ _ _ _ _ h
+    → AllFail (on (termed w r.term) (λ (s : Signature). not (length r.args == length s.args)) || list_any is_untaken (sites_of w r)) (list_any (is_mistaken w) (sites_of w r)) (list_any (is_misplaced w) (sites_of w r)) (list_any is_undeclared (sites_of w r))
+    (list_any is_met_otherwise (sites_of w r)) (list_any (is_unknown w) (sites_of w r)) (list_any (is_mistyped w) (sites_of w r))
+    (on (termed w r.term) (λ (s : Signature). not s.partial && list_any is_partial_call (right_side_of w r).sites)) (on (termed w r.term) (λ (s : Signature). s.pure && list_any is_impure_call (right_side_of w r).sites))
+    (on (termed w r.term) (λ (s : Signature). not s.multi && list_any is_multi_call (sites_of w r))) (not (nat_le (length (sites_of w r)) 4096))
+row_fails w r h = tests_fail _ _ _ _ _ _ _ _ _ _ _ h
 
 -- no part of its right side is unknown
 pub all_known : (w : Whole) (r : RuleDef) → row_of w r ≡ None → list_any (is_unknown w) (sites_of w r) ≡ false

@@ -1,10 +1,11 @@
--- The terms that are made of declarations.
-use Rattle.std.proofs.Common.{◌≡◌, ℕ, zero, suc, List, [], ◌∷◌, map, Option, Some, None, refl, sym, ap, ◌∙◌}
+-- The terms that are made of signatures.
+use Rattle.std.proofs.Common.{◌≡◌, ℕ, zero, suc, List, [], ◌∷◌, map, Option, Some, None, refl, sym, ap, ◌∙◌, subst}
+use Rattle.std.specs.List.{AllByRecursion}
 use Rattle.std.specs.Prelude.{option_map, option_and_then, slice_get}
 use Rattle.std.proofs.lemmas.Option.{same_Some}
 use Rattle.isle_core.specs.declared.TypeId.{TypeId}
 use Rattle.isle_core.specs.declared.types.Term.{Term}
-use Rattle.isle_core.specs.declared.types.TypeEnv.{TypeEnv}
+use Rattle.isle_ast.specs.Tree.{Def}
 use Rattle.isle_declarations.specs.Signatures.{Signature}
 use Rattle.isle_sema.specs.TypeNames.{type_named}
 use Rattle.isle_sema.specs.Whole.{Whole}
@@ -71,14 +72,14 @@ made_of w (d ∷ sigs) terms (suc i) t h at =
 
 -- what a declaration's term is
 pub record IsTermOf (w : Whole) (s : Signature) (t : Term) : Type 0 where
-  pub args : types_named w.types s.args ≡ Some t.arg_tys
-  pub ret : type_named w.types s.ret ≡ Some t.ret_ty
+  pub args : types_named w.defs s.args ≡ Some t.arg_tys
+  pub ret : type_named w.defs s.ret ≡ Some t.ret_ty
   pub is : term_from w s t.arg_tys t.ret_ty ≡ t
 
 pub term_is : (w : Whole) (s : Signature) (t : Term) → term_pass w s ≡ Some t → IsTermOf w s t
-term_is w s t h = by (types_named w.types s.args) (type_named w.types s.ret) refl refl h
+term_is w s t h = by (types_named w.defs s.args) (type_named w.defs s.ret) refl refl h
   where
-    by : (args : Option (List TypeId)) (ret : Option TypeId) → types_named w.types s.args ≡ args → type_named w.types s.ret ≡ ret → option_and_then (λ (xs : List TypeId). option_map (term_from w s xs) ret) args ≡ Some t → IsTermOf w s t
+    by : (args : Option (List TypeId)) (ret : Option TypeId) → types_named w.defs s.args ≡ args → type_named w.defs s.ret ≡ ret → option_and_then (λ (xs : List TypeId). option_map (term_from w s xs) ret) args ≡ Some t → IsTermOf w s t
     by None ret e f h = absurd cc
     by (Some args) None e f h = absurd cc
     by (Some args) (Some ret) e f h =
@@ -87,8 +88,15 @@ term_is w s t h = by (types_named w.types s.args) (type_named w.types s.ret) ref
         let ty : ret ≡ t.ret_ty = ap (λ (x : Term). x.ret_ty) same in
         record { args = e ∙ ap Some tys; ret = f ∙ ap Some ty; is = ap (λ xs. term_from w s xs t.ret_ty) (sym tys) ∙ ap (term_from w s args) (sym ty) ∙ same }
 
-pub types_are : (types : TypeEnv) (names : List (List ℕ)) (tys : List TypeId) → types_named types names ≡ Some tys → map (type_named types) names ≡ map Some tys
-types_are types [] tys h = ap (map Some) (same_Some [] tys h)
-types_are types (name ∷ names) tys h =
-    let f = first_there (type_named types name) (types_named types names) tys h in
-    ap (λ o. o ∷ map (type_named types) names) f.here ∙ ap (λ os. Some f.first ∷ os) (types_are types names f.others f.found) ∙ ap (map Some) (sym f.all)
+pub types_are : (defs : List Def) (names : List (List ℕ)) (tys : List TypeId) → types_named defs names ≡ Some tys → map (type_named defs) names ≡ map Some tys
+types_are defs [] tys h = ap (map Some) (same_Some [] tys h)
+types_are defs (name ∷ names) tys h =
+    let f = first_there (type_named defs name) (types_named defs names) tys h in
+    ap (λ o. o ∷ map (type_named defs) names) f.here ∙ ap (λ os. Some f.first ∷ os) (types_are defs names f.others f.found) ∙ ap (map Some) (sym f.all)
+
+-- what holds of all holds at a place
+pub all_at : {X : Type 0} (P : X → Type 0) (xs : List X) (i : ℕ) (x : X) → AllByRecursion P xs → slice_get xs i ≡ Some x → P x
+all_at P [] zero x h e = absurd cc
+all_at P [] (suc i) x h e = absurd cc
+all_at P (y ∷ xs) zero x h e = subst P (same_Some y x e) h.0
+all_at P (y ∷ xs) (suc i) x h e = all_at P xs i x h.1 e

@@ -11,16 +11,17 @@ use Rattle.isle_core.specs.Pattern.{Pattern as CorePattern}
 use Rattle.isle_core.specs.Expr.{Expr as CoreExpr}
 use Rattle.isle_core.specs.Rule.{Rule as CoreRule, IfLet as CoreIfLet}
 use Rattle.isle_ast.specs.declared.tree.AstIfLet.{AstIfLet}
-use Rattle.isle_ast.specs.Views.{iflet}
+use Rattle.isle_ast.specs.Views.{iflet, patterns_of as seen_patterns}
 use Rattle.isle_ast.specs.Tree as tree
 use Rattle.isle_ast.specs.Tree.{Expr, Exprs, NoExpr, AnExpr, IfLet, Def}
-use Rattle.isle_declarations.specs.Signatures.{Signature, RuleDef, signatures, rule_defs, has_rule, signature_named, term_named}
+use Rattle.isle_declarations.specs.Terms.{terms}
+use Rattle.isle_declarations.specs.Signatures.{Signature, RuleDef, rule_defs, has_rule, signature_named, term_named}
 use Rattle.isle_sema.specs.Calls.{count_of, calls_ruled, any_calls_ruled}
 use Rattle.isle_sema.specs.Language.{is_built_expr, are_built_exprs}
 use Rattle.isle_types.specs.declared.row.Row.{Row}
 use Rattle.isle_sema.specs.Scope.{Scope}
 use Rattle.isle_sema.specs.Site.{Site, NotBuiltAt}
-use Rattle.isle_sema.specs.Whole.{Whole, declared, arg_types, ret_type}
+use Rattle.isle_sema.specs.Whole.{Whole, termed, arg_types, ret_type}
 use Rattle.isle_sema.specs.PatternPass.{PatternsPass, patterns_pass, first_expected, later_expected}
 use Rattle.isle_sema.specs.ExprPass.{ExprPass, expr_pass, exprs_pass}
 use Rattle.isle_sema.specs.RulePass.{patterns_of, right_side_of, conditions_of, rule_from, rule_pass, rules_pass}
@@ -88,9 +89,9 @@ none_fault w before (tree.Passed head items pos ∷ ds) h = none_fault w (before
 
 -- ---- calls of terms that have rules
 
-ruled_at : (w : Whole) (name : List ℕ) (o : Option Signature) (count : ℕ) → declared w name ≡ o → is_call_misfit w o count ≡ false → on o (λ (s : Signature). has_rule (rule_defs w.defs) s.term) ≡ has_rule (rule_defs w.defs) name
+ruled_at : (w : Whole) (name : List ℕ) (o : Option Signature) (count : ℕ) → termed w name ≡ o → is_call_misfit w o count ≡ false → on o (λ (s : Signature). has_rule (rule_defs w.defs) s.term) ≡ has_rule (rule_defs w.defs) name
 ruled_at w name None count is h = absurd cc
-ruled_at w name (Some s) count is h = ap (has_rule (rule_defs w.defs)) (named_is (signatures w.defs) name s is)
+ruled_at w name (Some s) count is h = ap (has_rule (rule_defs w.defs)) (named_is (terms w.defs) name s is)
 
 both_are : (a b c d : Bool) → a ≡ c → b ≡ d → a || b ≡ c || d
 both_are a b c d e f = ap (λ x. x || b) e ∙ ap (λ x. c || x) f
@@ -105,13 +106,13 @@ mutual
   calls_here w scope expected (tree.Number n) built h = refl
   calls_here w scope expected (tree.Fact b) built h = refl
   calls_here w scope expected (tree.Name name) built h = refl
-  calls_here w scope expected (tree.Constant name) built h = absurd cc
+  calls_here w scope expected (tree.Constant name) built h = refl
   calls_here w scope expected (tree.Let ls inner) built h = absurd cc
   calls_here w scope expected (tree.Call name es) built h =
-      let sites = (exprs_pass w scope (arg_types w (declared w name)) es).sites in
-      let k = or_parts (is_call_misfit w (declared w name) (count_of es)) (list_any (is_unknown w) sites) h in
-      both_are (on (declared w name) (λ (s : Signature). has_rule (rule_defs w.defs) s.term)) (list_any (is_ruled_call w) sites) (has_rule (rule_defs w.defs) name) (any_calls_ruled (rule_defs w.defs) es)
-      (ruled_at w name (declared w name) (count_of es) refl k.0) (calls_in w scope (arg_types w (declared w name)) es built k.1)
+      let sites = (exprs_pass w scope (arg_types w (termed w name)) es).sites in
+      let k = or_parts (is_call_misfit w (termed w name) (count_of es)) (list_any (is_unknown w) sites) h in
+      both_are (on (termed w name) (λ (s : Signature). has_rule (rule_defs w.defs) s.term)) (list_any (is_ruled_call w) sites) (has_rule (rule_defs w.defs) name) (any_calls_ruled (rule_defs w.defs) es)
+      (ruled_at w name (termed w name) (count_of es) refl k.0) (calls_in w scope (arg_types w (termed w name)) es built k.1)
 
   calls_in : (w : Whole) (scope : Scope) (expected : List (Option TypeId)) (es : Exprs) → are_built_exprs es ≡ true → list_any (is_unknown w) (exprs_pass w scope expected es).sites ≡ false
       → list_any (is_ruled_call w) (exprs_pass w scope expected es).sites ≡ any_calls_ruled (rule_defs w.defs) es
@@ -160,11 +161,11 @@ number_is sigs name = by (signature_named sigs name) refl
 
 -- what is elaborated at the types of a declared head are both sides of the rule
 pub sides_are : (w : Whole) (r : RuleDef) (own : Called) (sides : Sides) (old vars : Scope) (before first : Judged) → IsHead w r.term own → old ≡ [] → before ≡ unjudged → first ≡ unjudged
-    → ArePatternsAt w own.args.now r.args old vars before sides.left sides.args → IsExprAt w vars (Some own.ret) r.rhs first sides.right sides.rhs → AreSides w r sides
+    → ArePatternsAt w own.args.now (seen_patterns r.args) old vars before sides.left sides.args → IsExprAt w vars (Some own.ret) r.rhs first sides.right sides.rhs → AreSides w r sides
 sides_are w r own sides old vars before first h none start again ps e =
     let is = h.there in
-    let patterns : patterns_pass w (map Some own.args.now) old r.args ≡ patterns_of w r =
-    ap (λ (scope : Scope). patterns_pass w (map Some own.args.now) scope r.args) none ∙ ap (λ os. patterns_pass w os [] r.args) (sym h.called.args) ∙ ap (λ o. patterns_pass w (arg_types w o) [] r.args) (sym is) in
+    let patterns : patterns_pass w (map Some own.args.now) old (seen_patterns r.args) ≡ patterns_of w r =
+    ap (λ (scope : Scope). patterns_pass w (map Some own.args.now) scope (seen_patterns r.args)) none ∙ ap (λ os. patterns_pass w os [] (seen_patterns r.args)) (sym h.called.args) ∙ ap (λ o. patterns_pass w (arg_types w o) [] (seen_patterns r.args)) (sym is) in
     let right : expr_pass w vars (Some own.ret) r.rhs ≡ right_side_of w r =
     ap (λ (scope : Scope). expr_pass w scope (Some own.ret) r.rhs) (ps.scope ∙ ap (λ (p : PatternsPass). p.scope) patterns) ∙ ap (λ ty. expr_pass w (patterns_of w r).scope ty r.rhs) (sym h.called.ret)
     ∙ ap (λ o. expr_pass w (patterns_of w r).scope (ret_type w o) r.rhs) (sym is) in
@@ -213,7 +214,7 @@ with_row w i r h = refused w i r (ap (λ b. b || calls_rule w r) h)
 
 -- a rule without trees
 pub without_trees : (w : Whole) (i : ℕ) (r : RuleDef) → (patterns_of w r).trees ≡ None → None ≡ taken_rule w i r
-without_trees w i r h = untreed w i r (ap (λ o. option_and_then (λ (term : TermId). option_and_then (λ (args : List CorePattern). option_and_then (λ (iflets : List CoreIfLet). option_map (rule_from w i r term args iflets) (right_side_of w r).tree) (conditions_of r.iflets)) o) (term_named (signatures w.defs) r.term)) h ∙ by (term_named (signatures w.defs) r.term))
+without_trees w i r h = untreed w i r (ap (λ o. option_and_then (λ (term : TermId). option_and_then (λ (args : List CorePattern). option_and_then (λ (iflets : List CoreIfLet). option_map (rule_from w i r term args iflets) (right_side_of w r).tree) (conditions_of r.iflets)) o) (term_named (terms w.defs) r.term)) h ∙ by (term_named (terms w.defs) r.term))
   where
     no_rule : Option CoreRule
     no_rule = None
@@ -223,7 +224,7 @@ without_trees w i r h = untreed w i r (ap (λ o. option_and_then (λ (term : Ter
     by (Some term) = refl
 
 pub without_tree : (w : Whole) (i : ℕ) (r : RuleDef) → (right_side_of w r).tree ≡ None → None ≡ taken_rule w i r
-without_tree w i r h = untreed w i r (by (term_named (signatures w.defs) r.term) (patterns_of w r).trees (conditions_of r.iflets))
+without_tree w i r h = untreed w i r (by (term_named (terms w.defs) r.term) (patterns_of w r).trees (conditions_of r.iflets))
   where
     by : (term : Option TermId) (trees : Option (List CorePattern)) (cs : Option (List CoreIfLet))
         → option_and_then (λ (term : TermId). option_and_then (λ (args : List CorePattern). option_and_then (λ (iflets : List CoreIfLet). option_map (rule_from w i r term args iflets) (right_side_of w r).tree) cs) trees) term ≡ None
@@ -238,7 +239,7 @@ pub taken_made : (w : Whole) (i : ℕ) (r : RuleDef) (own : Called) (args : List
 taken_made w i r own args rhs h none row calls trees tree =
     let all : Option TermId → Option (List CorePattern) → List IfLet → Option CoreExpr → Option CoreRule = λ term ts cs t.
     option_and_then (λ (term : TermId). option_and_then (λ (xs : List CorePattern). option_and_then (λ (iflets : List CoreIfLet). option_map (rule_from w i r term xs iflets) t) (conditions_of cs)) ts) term in
-    let number : term_named (signatures w.defs) r.term ≡ Some own.term = ap (term_named (signatures w.defs)) (sym (named_is (signatures w.defs) r.term h.signature h.there)) ∙ h.called.term in
+    let number : term_named (terms w.defs) r.term ≡ Some own.term = ap (term_named (terms w.defs)) (sym (named_is (terms w.defs) r.term h.signature h.there)) ∙ h.called.term in
     sym (ap (λ b. cond b None (rule_pass w i r)) (or_from (is_broken w r) (calls_rule w r) row calls)
     ∙ ap (λ o. all o (patterns_of w r).trees r.iflets (right_side_of w r).tree) number
     ∙ ap (λ o. all (Some own.term) o r.iflets (right_side_of w r).tree) trees
@@ -250,8 +251,8 @@ none_called w None h = refl
 none_called w (Some s) h = absurd h
 
 -- a rule whose head is not declared
-pub without_term : (w : Whole) (i : ℕ) (r : RuleDef) → declared w r.term ≡ None → None ≡ taken_rule w i r
-without_term w i r h = untreed w i r (ap (λ o. option_and_then (λ (term : TermId). option_and_then (λ (args : List CorePattern). option_and_then (λ (iflets : List CoreIfLet). option_map (rule_from w i r term args iflets) (right_side_of w r).tree) (conditions_of r.iflets)) (patterns_of w r).trees) o) (none_named (signatures w.defs) r.term h))
+pub without_term : (w : Whole) (i : ℕ) (r : RuleDef) → termed w r.term ≡ None → None ≡ taken_rule w i r
+without_term w i r h = untreed w i r (ap (λ o. option_and_then (λ (term : TermId). option_and_then (λ (args : List CorePattern). option_and_then (λ (iflets : List CoreIfLet). option_map (rule_from w i r term args iflets) (right_side_of w r).tree) (conditions_of r.iflets)) (patterns_of w r).trees) o) (none_named (terms w.defs) r.term h))
 
 -- ---- the rules that are taken
 

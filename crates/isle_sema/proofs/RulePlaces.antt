@@ -15,7 +15,7 @@ use Rattle.isle_sema.specs.Environment.{whole_of}
 use Rattle.isle_sema.specs.Typing.{Typed}
 use Rattle.isle_sema.proofs.MadeTerms.{first_there}
 use Rattle.isle_sema.proofs.TypedParts.{typed_in}
-use Rattle.isle_sema.proofs.TypedRules.{rule_made}
+use Rattle.isle_sema.proofs.RuleRoots.{rule_made}
 
 -- a definition stands there
 StandsAt : List Def → Pos → Type 0

@@ -1,26 +1,27 @@
 -- Patterns and expressions that are passed one after the other: what is left.
 use Rattle.std.proofs.Common.{◌≡◌, ℕ, zero, suc, ◌+◌, ◌<◌, ◌≤◌, Bool, true, false, cond, List, [], ◌∷◌, ◌++◌, length, map, get_or, Option, Some, None, refl, sym, ap, ◌∙◌, arith}
 use Rattle.std.specs.Prelude.{drop, option_map, slice_get}
-use Rattle.std.proofs.lemmas.List.{drop_all, drop_more, map-append, append_assoc}
+use Rattle.std.proofs.lemmas.List.{drop_all, drop_more, map-append, append_assoc, append-nil}
 use Rattle.std.proofs.lemmas.List.Sums.{fold-append}
 use Rattle.isle_core.specs.declared.TypeId.{TypeId}
 use Rattle.isle_core.specs.declared.rules.Pattern.{Pattern as CodePattern}
 use Rattle.isle_core.specs.declared.rules.Expr.{Expr as CodeExpr}
 use Rattle.isle_core.specs.declared.rules.Rule.{Rule as CodeRule}
+use Rattle.isle_core.specs.Pattern.{Pattern}
 use Rattle.isle_core.specs.Expr.{Expr, Exprs, NoExpr, AnExpr}
 use Rattle.isle_core.specs.Rule.{Rule}
 use Rattle.isle_core.specs.RuleViews.{pattern as elaborated_pattern, expr as elaborated_expr, exprs_of, rule as elaborated_rule}
 use Rattle.isle_ast.specs.declared.tree.AstPattern.{AstPattern}
 use Rattle.isle_ast.specs.declared.tree.AstExpr.{AstExpr}
 use Rattle.isle_ast.specs.Tree.{Def}
-use Rattle.isle_ast.specs.Views.{pattern, expr, exprs_of as seen_exprs}
+use Rattle.isle_ast.specs.Views.{pattern, patterns_of as seen_patterns, expr, exprs_of as seen_exprs}
 use Rattle.isle_declarations.specs.declared.collected.RuleDef.{RuleDef as CodeRuleDef}
 use Rattle.isle_sema.specs.declared.judged.Judged.{Judged}
 use Rattle.isle_declarations.specs.Collected.{rule as seen_rule}
 use Rattle.isle_sema.specs.Scope.{Scope}
 use Rattle.isle_sema.specs.Whole.{Whole}
 use Rattle.isle_sema.specs.Environment.{whole_of}
-use Rattle.isle_sema.specs.PatternPass.{PatternsPass, patterns_pass, first_expected, later_expected, tree_before}
+use Rattle.isle_sema.specs.PatternPass.{PatternPass, PatternsPass, pattern_pass, patterns_pass, first_expected, later_expected, tree_before}
 use Rattle.isle_sema.specs.ExprPass.{ExprPass, ExprsPass, expr_pass, exprs_pass, expr_before}
 use Rattle.isle_sema.specs.Judging.{judge, judge_all}
 use Rattle.isle_sema.specs.Taken.{taken_rule, taken_rules}
@@ -64,13 +65,64 @@ same_cond o a b h = ap (λ c. cond c o None) h
 
 -- the patterns from the i-th on
 abbrev pub patterns_left : List Def → List TypeId → List AstPattern → ℕ → Scope → PatternsPass
-patterns_left defs tys ps i vars = patterns_pass (whole_of defs) (map Some (drop i tys)) vars (map pattern (drop i ps))
+patterns_left defs tys ps i vars = patterns_pass (whole_of defs) (map Some (drop i tys)) vars (seen_patterns (map pattern (drop i ps)))
 
 -- what all patterns come to is what was made and what is left
 pub record AreMade (defs : List Def) (all left : PatternsPass) (first now : Judged) (typed : List CodePattern) (complete : Bool) : Type 0 where
   pub trees : all.trees ≡ cond complete (before (map elaborated_pattern typed) left.trees) None
   pub scope : all.scope ≡ left.scope
   pub sites : judge_all (whole_of defs) first all.sites ≡ judge_all (whole_of defs) now left.sites
+
+-- a pattern and the rest
+abbrev patterns_joined : PatternPass → PatternsPass → PatternsPass
+patterns_joined first rest = record { trees = tree_before first.tree rest.trees; scope = rest.scope; sites = first.sites ++ rest.sites }
+
+patterns_are : (defs : List Def) (tys : List TypeId) (vars : Scope) (ps : List AstPattern) (i : ℕ) (p d : AstPattern) (expected : Option TypeId) → i < length ps → p ≡ get_or ps i d → expected ≡ slice_get tys i
+    → patterns_left defs tys ps i vars ≡ patterns_joined (pattern_pass (whole_of defs) expected vars (pattern p)) (patterns_left defs tys ps (i + 1) (pattern_pass (whole_of defs) expected vars (pattern p)).scope)
+patterns_are defs tys vars ps i p d expected lt is at =
+    let w = whole_of defs in
+    let others = seen_patterns (map pattern (drop (i + 1) ps)) in
+    ap (λ xs. patterns_pass w (map Some (drop i tys)) vars (seen_patterns (map pattern xs))) (drop_more ps i d lt ∙ ap (λ y. y ∷ drop (i + 1) ps) (sym is))
+    ∙ ap (λ ty. patterns_joined (pattern_pass w ty vars (pattern p)) (patterns_pass w (later_expected (map Some (drop i tys))) (pattern_pass w ty vars (pattern p)).scope others)) (first_got tys i ∙ sym at)
+    ∙ ap (λ os. patterns_joined (pattern_pass w expected vars (pattern p)) (patterns_pass w os (pattern_pass w expected vars (pattern p)).scope others)) (later_got tys i)
+
+-- one pattern more
+pub patterns_more : (defs : List Def) (tys : List TypeId) (vars new : Scope) (ps : List AstPattern) (i : ℕ) (first now next : Judged) (typed more : List CodePattern) (complete after : Bool) (p d : AstPattern) (expected : Option TypeId) (all : PatternsPass)
+    → i < length ps → p ≡ get_or ps i d → expected ≡ slice_get tys i → new ≡ (pattern_pass (whole_of defs) expected vars (pattern p)).scope → next ≡ judge_all (whole_of defs) now (pattern_pass (whole_of defs) expected vars (pattern p)).sites
+    → ((rest : Option (List Pattern)) → cond complete (before (map elaborated_pattern typed) (tree_before (pattern_pass (whole_of defs) expected vars (pattern p)).tree rest)) None ≡ cond after (before (map elaborated_pattern more) rest) None)
+    → AreMade defs all (patterns_left defs tys ps i vars) first now typed complete → AreMade defs all (patterns_left defs tys ps (i + 1) new) first next more after
+patterns_more defs tys vars new ps i first now next typed more complete after p d expected all lt is at scope sites tree h =
+    let w = whole_of defs in
+    let one = pattern_pass w expected vars (pattern p) in
+    let rest = patterns_left defs tys ps (i + 1) one.scope in
+    let step = patterns_are defs tys vars ps i p d expected lt is at in
+    rw scope (record {
+      trees = h.trees ∙ ap (λ (x : PatternsPass). cond complete (before (map elaborated_pattern typed) x.trees) None) step ∙ tree rest.trees;
+      scope = h.scope ∙ ap (λ (x : PatternsPass). x.scope) step;
+      sites = h.sites ∙ ap (λ (x : PatternsPass). judge_all w now x.sites) step ∙ fold-append (judge w) now one.sites rest.sites ∙ ap (λ (j : Judged). judge_all w j rest.sites) (sym sites);
+    })
+
+-- a pattern with a tree
+pub pattern_more : (typed more : List CodePattern) (x : CodePattern) (complete : Bool) (o : Option Pattern) → more ≡ typed ++ x ∷ [] → Some (elaborated_pattern x) ≡ o → (rest : Option (List Pattern))
+    → cond complete (before (map elaborated_pattern typed) (tree_before o rest)) None ≡ cond complete (before (map elaborated_pattern more) rest) None
+pattern_more typed more x complete o added is rest =
+    ap (λ y. cond complete (before (map elaborated_pattern typed) (tree_before y rest)) None) (sym is)
+    ∙ ap (λ y. cond complete y None) (one_before (map elaborated_pattern typed) (elaborated_pattern x) rest ∙ ap (λ ys. before ys rest) (sym (map-append elaborated_pattern typed (x ∷ [])) ∙ ap (map elaborated_pattern) (sym added)))
+
+-- a pattern without one
+pub pattern_missing : (typed : List CodePattern) (complete : Bool) (o : Option Pattern) → None ≡ o → (rest : Option (List Pattern))
+    → cond complete (before (map elaborated_pattern typed) (tree_before o rest)) None ≡ cond false (before (map elaborated_pattern typed) rest) None
+pattern_missing typed complete o is rest = ap (λ y. cond complete (before (map elaborated_pattern typed) (tree_before y rest)) None) (sym is) ∙ nothing_there complete (before (map elaborated_pattern typed) (tree_before None rest)) refl
+
+-- after the last
+pub patterns_all : (defs : List Def) (tys : List TypeId) (vars : Scope) (ps : List AstPattern) (i : ℕ) (first now : Judged) (typed : List CodePattern) (complete : Bool) (all : PatternsPass) → length ps ≤ i
+    → AreMade defs all (patterns_left defs tys ps i vars) first now typed complete → (all.trees ≡ cond complete (Some (map elaborated_pattern typed)) None) × (all.scope ≡ vars) × (judge_all (whole_of defs) first all.sites ≡ now)
+patterns_all defs tys vars ps i first now typed complete all le h =
+    let none : patterns_left defs tys ps i vars ≡ record { trees = Some []; scope = vars; sites = [] } = ap (λ xs. patterns_pass (whole_of defs) (map Some (drop i tys)) vars (seen_patterns (map pattern xs))) (drop_all i ps le) in (
+      h.trees ∙ ap (λ (x : PatternsPass). cond complete (before (map elaborated_pattern typed) x.trees) None) none ∙ ap (λ xs. cond complete (Some xs) None) (append-nil (map elaborated_pattern typed)),
+      h.scope ∙ ap (λ (x : PatternsPass). x.scope) none,
+      h.sites ∙ ap (λ (x : PatternsPass). judge_all (whole_of defs) now x.sites) none,
+    )
 
 -- ---- expressions
 
@@ -170,3 +222,10 @@ rule_more w rs i typed more r d x all lt is added one h =
     let rest = taken_rules w (i + 1) (map seen_rule (drop (i + 1) rs)) in
     h ∙ ap (before (map elaborated_rule typed)) (first_rule w rs i r d lt is ∙ ap (λ o. tree_before o rest) (sym one)) ∙ one_before (map elaborated_rule typed) (elaborated_rule x) rest
     ∙ ap (λ ys. before ys rest) (sym (map-append elaborated_rule typed (x ∷ [])) ∙ ap (map elaborated_rule) (sym added))
+
+-- a rule that is not taken
+pub rule_none : (w : Whole) (rs : List CodeRuleDef) (i : ℕ) (typed : List CodeRule) (r d : CodeRuleDef) (all : Option (List Rule)) → i < length rs → r ≡ get_or rs i d → None ≡ taken_rule w i (seen_rule r)
+    → all ≡ before (map elaborated_rule typed) (taken_rules w i (map seen_rule (drop i rs))) → None ≡ all
+rule_none w rs i typed r d all lt is none h =
+    let rest = taken_rules w (i + 1) (map seen_rule (drop (i + 1) rs)) in
+    sym (h ∙ ap (before (map elaborated_rule typed)) (first_rule w rs i r d lt is ∙ ap (λ o. tree_before o rest) (sym none)))

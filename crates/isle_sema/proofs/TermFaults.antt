@@ -6,7 +6,9 @@ use Rattle.std.proofs.lemmas.Bool.{or_parts, or_from, and_parts}
 use Rattle.isle_ast.specs.Tree as tree
 use Rattle.isle_ast.specs.Tree.{Def}
 use Rattle.isle_declarations.specs.Symbols.{index_of}
-use Rattle.isle_types.specs.Builtins.{builtin_named}
+use Rattle.isle_declarations.specs.declared.terms.Origin.TheVariants as origin
+use Rattle.isle_declarations.specs.DeclaredTypes.{made_terms}
+use Rattle.isle_sema.specs.TypeNames.{type_named}
 use Rattle.isle_declarations.specs.Signatures.{Signature, Extern, RuleDef, signature_of, extern_of, signatures, externs, rule_defs, signature_named, func_named}
 use Rattle.isle_declarations.specs.Heads.{terms_of, extern_terms}
 use Rattle.isle_declarations.specs.Repeats.{repeats_after}
@@ -15,26 +17,9 @@ use Rattle.isle_sema.specs.Tests.{has_undeclared}
 use Rattle.isle_types.specs.declared.row.Row.TheVariants as row
 use Rattle.isle_types.specs.declared.row.Row.{Row}
 use Rattle.isle_sema.specs.Whole.{Whole}
-use Rattle.isle_sema.specs.Fault.{OfTypes, OfTerms, OfExtractors, broken_in, fault_after}
+use Rattle.isle_sema.specs.Fault.{OfTerms, OfExtractors, broken_in, fault_after}
 use Rattle.isle_sema.specs.Environment.{whole_of}
 use Rattle.isle_sema.proofs.Firsts.{first_none, none_first, later_none, none_later, grown, unchanged}
-
--- ---- types
-
--- no definition that is built breaks a row of types
-pub types_none : (w : Whole) (before ds : List Def) → list_all is_built_form ds ≡ true → fault_after OfTypes w before ds ≡ None
-types_none w before [] f = refl
-types_none w before (tree.Decl term pure multi partial recursive args ret pos ∷ ds) f =
-    types_none w (before ++ tree.Decl term pure multi partial recursive args ret pos ∷ []) ds (and_parts (is_built_form (tree.Decl term pure multi partial recursive args ret pos)) (list_all is_built_form ds) f).1
-types_none w before (tree.ExternConstructor term func pos ∷ ds) f = types_none w (before ++ tree.ExternConstructor term func pos ∷ []) ds f
-types_none w before (tree.Rule name prio term args iflets rhs pos ∷ ds) f =
-    types_none w (before ++ tree.Rule name prio term args iflets rhs pos ∷ []) ds (and_parts (is_built_form (tree.Rule name prio term args iflets rhs pos)) (list_all is_built_form ds) f).1
-types_none w before (tree.TypeDecl name is_extern is_nodebug body pos ∷ ds) f = absurd cc
-types_none w before (tree.ExternExtractor term func infallible pos ∷ ds) f = absurd cc
-types_none w before (tree.ExternConst name ty pos ∷ ds) f = absurd cc
-types_none w before (tree.Extractor term params template pos ∷ ds) f = absurd cc
-types_none w before (tree.Converter from to term pos ∷ ds) f = absurd cc
-types_none w before (tree.Passed head items pos ∷ ds) f = types_none w (before ++ tree.Passed head items pos ∷ []) ds f
 
 -- ---- extractors
 
@@ -46,9 +31,9 @@ extractors_none w before (tree.Decl term pure multi partial recursive args ret p
 extractors_none w before (tree.ExternConstructor term func pos ∷ ds) f = extractors_none w (before ++ tree.ExternConstructor term func pos ∷ []) ds f
 extractors_none w before (tree.Rule name prio term args iflets rhs pos ∷ ds) f =
     extractors_none w (before ++ tree.Rule name prio term args iflets rhs pos ∷ []) ds (and_parts (is_built_form (tree.Rule name prio term args iflets rhs pos)) (list_all is_built_form ds) f).1
-extractors_none w before (tree.TypeDecl name is_extern is_nodebug body pos ∷ ds) f = absurd cc
+extractors_none w before (tree.TypeDecl name is_extern is_nodebug body pos ∷ ds) f = extractors_none w (before ++ tree.TypeDecl name is_extern is_nodebug body pos ∷ []) ds f
 extractors_none w before (tree.ExternExtractor term func infallible pos ∷ ds) f = absurd cc
-extractors_none w before (tree.ExternConst name ty pos ∷ ds) f = absurd cc
+extractors_none w before (tree.ExternConst name ty pos ∷ ds) f = extractors_none w (before ++ tree.ExternConst name ty pos ∷ []) ds f
 extractors_none w before (tree.Extractor term params template pos ∷ ds) f = absurd cc
 extractors_none w before (tree.Converter from to term pos ∷ ds) f = absurd cc
 extractors_none w before (tree.Passed head items pos ∷ ds) f = extractors_none w (before ++ tree.Passed head items pos ∷ []) ds f
@@ -56,8 +41,12 @@ extractors_none w before (tree.Passed head items pos ∷ ds) f = extractors_none
 -- ---- terms
 
 -- a declaration names a type that is not declared
-abbrev pub names_no_type : Signature → Bool
-names_no_type s = not (is_some (builtin_named s.ret) && list_all (λ (n : List ℕ). is_some (builtin_named n)) s.args)
+abbrev pub names_no_type : List Def → Signature → Bool
+names_no_type all s = not (is_some (type_named all s.ret) && list_all (λ (n : List ℕ). is_some (type_named all n)) s.args)
+
+-- its term is one that a type makes
+abbrev pub is_made_twice : List Def → Signature → Bool
+is_made_twice all s = is_some (index_of (made_terms all) s.term)
 
 -- a declaration has more than 256 arguments
 abbrev pub has_too_many : Signature → Bool
@@ -70,7 +59,8 @@ is_headless all r = not (is_some (signature_named (signatures all) r.term)) || i
 -- each test of these definitions, which follow those
 pub record TermParts (all before ds : List Def) : Type 0 where
   pub apart : repeats_after (terms_of (signatures before)) (terms_of (signatures ds)) ≡ false
-  pub typed : list_any names_no_type (signatures ds) ≡ false
+  pub unmade : list_any (is_made_twice all) (signatures ds) ≡ false
+  pub typed : list_any (names_no_type all) (signatures ds) ≡ false
   pub few : list_any has_too_many (signatures ds) ≡ false
   pub externs_apart : repeats_after (extern_terms (externs before)) (extern_terms (externs ds)) ≡ false
   pub known : has_undeclared (signatures all) (externs ds) ≡ false
@@ -100,19 +90,21 @@ single false false recursive partial h = refl
 
 -- the rows of terms are kept: each test fails
 pub terms_kept : (all before ds : List Def) → list_all is_built_form ds ≡ true → fault_after OfTerms (whole_of all) before ds ≡ None → TermParts all before ds
-terms_kept all before [] f h = record { apart = refl; typed = refl; few = refl; externs_apart = refl; known = refl; heads = refl }
+terms_kept all before [] f h = record { apart = refl; unmade = refl; typed = refl; few = refl; externs_apart = refl; known = refl; heads = refl }
 terms_kept all before (tree.Decl term pure multi partial recursive args ret pos ∷ ds) f h =
     let d = tree.Decl term pure multi partial recursive args ret pos in
-    let s : Signature = record { term = term; pure = pure; multi = multi; partial = partial; recursive = recursive; args = args; ret = ret; pos = pos } in
+    let s : Signature = record { term = term; pure = pure; multi = multi; partial = partial; recursive = recursive; args = args; ret = ret; pos = pos; origin = origin.Declared } in
     let g = and_parts (is_built_form d) (list_all is_built_form ds) f in
     let l = later_none (λ (r : Row). (r, pos)) (broken_in OfTerms (record { whole = whole_of all; before = before }) d) (fault_after OfTerms (whole_of all) (before ++ d ∷ []) ds) h in
-    let k = decl_kept (is_some (index_of (terms_of (signatures before)) term)) (names_no_type s) (has_too_many s) (multi && partial) l.0 in
+    let n = decl_kept (is_some (index_of (terms_of (signatures before)) term) || is_made_twice all s) (names_no_type all s) (has_too_many s) (multi && partial) l.0 in
+    let k = or_parts (is_some (index_of (terms_of (signatures before)) term)) (is_made_twice all s) n.0 in
     let rest = terms_kept all (before ++ d ∷ []) ds g.1 l.1 in
     record {
       apart = or_from (is_some (index_of (terms_of (signatures before)) term)) (repeats_after (terms_of (signatures before) ++ term ∷ []) (terms_of (signatures ds))) k.0
           (ap (λ ns. repeats_after ns (terms_of (signatures ds))) (sym (grown signature_of (λ (x : Signature). x.term) before d)) ∙ rest.apart);
-      typed = or_from (names_no_type s) (list_any names_no_type (signatures ds)) k.1 rest.typed;
-      few = or_from (has_too_many s) (list_any has_too_many (signatures ds)) k.2 rest.few;
+      unmade = or_from (is_made_twice all s) (list_any (is_made_twice all) (signatures ds)) k.1 rest.unmade;
+      typed = or_from (names_no_type all s) (list_any (names_no_type all) (signatures ds)) n.1 rest.typed;
+      few = or_from (has_too_many s) (list_any has_too_many (signatures ds)) n.2 rest.few;
       externs_apart = ap (λ ns. repeats_after ns (extern_terms (externs ds))) (sym (unchanged extern_of (λ (x : Extern). x.term) before d refl)) ∙ rest.externs_apart;
       known = rest.known;
       heads = rest.heads;
@@ -126,6 +118,7 @@ terms_kept all before (tree.ExternConstructor term func pos ∷ ds) f h =
     let rest = terms_kept all (before ++ d ∷ []) ds f l.1 in
     record {
       apart = ap (λ ns. repeats_after ns (terms_of (signatures ds))) (sym (unchanged signature_of (λ (x : Signature). x.term) before d refl)) ∙ rest.apart;
+      unmade = rest.unmade;
       typed = rest.typed;
       few = rest.few;
       externs_apart = or_from again (repeats_after (extern_terms (externs before) ++ term ∷ []) (extern_terms (externs ds))) m.0
@@ -142,15 +135,38 @@ terms_kept all before (tree.Rule name prio term args iflets rhs pos ∷ ds) f h 
     let rest = terms_kept all (before ++ d ∷ []) ds g.1 l.1 in
     record {
       apart = ap (λ ns. repeats_after ns (terms_of (signatures ds))) (sym (unchanged signature_of (λ (x : Signature). x.term) before d refl)) ∙ rest.apart;
+      unmade = rest.unmade;
       typed = rest.typed;
       few = rest.few;
       externs_apart = ap (λ ns. repeats_after ns (extern_terms (externs ds))) (sym (unchanged extern_of (λ (x : Extern). x.term) before d refl)) ∙ rest.externs_apart;
       known = rest.known;
       heads = or_from (is_headless all r) (list_any (is_headless all) (rule_defs ds)) k.0 rest.heads;
     }
-terms_kept all before (tree.TypeDecl name is_extern is_nodebug body pos ∷ ds) f h = absurd cc
+terms_kept all before (tree.TypeDecl name is_extern is_nodebug body pos ∷ ds) f h =
+    let d = tree.TypeDecl name is_extern is_nodebug body pos in
+    let rest = terms_kept all (before ++ d ∷ []) ds f h in
+    record {
+      apart = ap (λ ns. repeats_after ns (terms_of (signatures ds))) (sym (unchanged signature_of (λ (x : Signature). x.term) before d refl)) ∙ rest.apart;
+      unmade = rest.unmade;
+      typed = rest.typed;
+      few = rest.few;
+      externs_apart = ap (λ ns. repeats_after ns (extern_terms (externs ds))) (sym (unchanged extern_of (λ (x : Extern). x.term) before d refl)) ∙ rest.externs_apart;
+      known = rest.known;
+      heads = rest.heads;
+    }
 terms_kept all before (tree.ExternExtractor term func infallible pos ∷ ds) f h = absurd cc
-terms_kept all before (tree.ExternConst name ty pos ∷ ds) f h = absurd cc
+terms_kept all before (tree.ExternConst name ty pos ∷ ds) f h =
+    let d = tree.ExternConst name ty pos in
+    let rest = terms_kept all (before ++ d ∷ []) ds f h in
+    record {
+      apart = ap (λ ns. repeats_after ns (terms_of (signatures ds))) (sym (unchanged signature_of (λ (x : Signature). x.term) before d refl)) ∙ rest.apart;
+      unmade = rest.unmade;
+      typed = rest.typed;
+      few = rest.few;
+      externs_apart = ap (λ ns. repeats_after ns (extern_terms (externs ds))) (sym (unchanged extern_of (λ (x : Extern). x.term) before d refl)) ∙ rest.externs_apart;
+      known = rest.known;
+      heads = rest.heads;
+    }
 terms_kept all before (tree.Extractor term params template pos ∷ ds) f h = absurd cc
 terms_kept all before (tree.Converter from to term pos ∷ ds) f h = absurd cc
 terms_kept all before (tree.Passed head items pos ∷ ds) f h =
@@ -158,6 +174,7 @@ terms_kept all before (tree.Passed head items pos ∷ ds) f h =
     let rest = terms_kept all (before ++ d ∷ []) ds f h in
     record {
       apart = ap (λ ns. repeats_after ns (terms_of (signatures ds))) (sym (unchanged signature_of (λ (x : Signature). x.term) before d refl)) ∙ rest.apart;
+      unmade = rest.unmade;
       typed = rest.typed;
       few = rest.few;
       externs_apart = ap (λ ns. repeats_after ns (extern_terms (externs ds))) (sym (unchanged extern_of (λ (x : Extern). x.term) before d refl)) ∙ rest.externs_apart;
@@ -170,14 +187,16 @@ pub terms_none : (all before ds : List Def) → list_all is_built_form ds ≡ tr
 terms_none all before [] f p = refl
 terms_none all before (tree.Decl term pure multi partial recursive args ret pos ∷ ds) f p =
     let d = tree.Decl term pure multi partial recursive args ret pos in
-    let s : Signature = record { term = term; pure = pure; multi = multi; partial = partial; recursive = recursive; args = args; ret = ret; pos = pos } in
+    let s : Signature = record { term = term; pure = pure; multi = multi; partial = partial; recursive = recursive; args = args; ret = ret; pos = pos; origin = origin.Declared } in
     let g = and_parts (is_built_form d) (list_all is_built_form ds) f in
     let again = is_some (index_of (terms_of (signatures before)) term) in
     let a = or_parts again (repeats_after (terms_of (signatures before) ++ term ∷ []) (terms_of (signatures ds))) p.apart in
-    let t = or_parts (names_no_type s) (list_any names_no_type (signatures ds)) p.typed in
+    let u = or_parts (is_made_twice all s) (list_any (is_made_twice all) (signatures ds)) p.unmade in
+    let t = or_parts (names_no_type all s) (list_any (names_no_type all) (signatures ds)) p.typed in
     let m = or_parts (has_too_many s) (list_any has_too_many (signatures ds)) p.few in
     let rest = terms_none all (before ++ d ∷ []) ds g.1 (record {
       apart = ap (λ ns. repeats_after ns (terms_of (signatures ds))) (grown signature_of (λ (x : Signature). x.term) before d) ∙ a.1;
+      unmade = u.1;
       typed = t.1;
       few = m.1;
       externs_apart = ap (λ ns. repeats_after ns (extern_terms (externs ds))) (unchanged extern_of (λ (x : Extern). x.term) before d refl) ∙ p.externs_apart;
@@ -185,7 +204,7 @@ terms_none all before (tree.Decl term pure multi partial recursive args ret pos 
       heads = p.heads;
     }) in
     none_later (λ (r : Row). (r, pos)) (broken_in OfTerms (record { whole = whole_of all; before = before }) d) (fault_after OfTerms (whole_of all) (before ++ d ∷ []) ds)
-    (decl_from again (names_no_type s) (has_too_many s) (multi && partial) a.0 t.0 m.0 (single pure multi recursive partial g.0)) rest
+    (decl_from (again || is_made_twice all s) (names_no_type all s) (has_too_many s) (multi && partial) (or_from again (is_made_twice all s) a.0 u.0) t.0 m.0 (single pure multi recursive partial g.0)) rest
 terms_none all before (tree.ExternConstructor term func pos ∷ ds) f p =
     let d = tree.ExternConstructor term func pos in
     let again = is_some (index_of (extern_terms (externs before)) term) in
@@ -193,6 +212,7 @@ terms_none all before (tree.ExternConstructor term func pos ∷ ds) f p =
     let k = or_parts (not (is_some (signature_named (signatures all) term))) (has_undeclared (signatures all) (externs ds)) p.known in
     let rest = terms_none all (before ++ d ∷ []) ds f (record {
       apart = ap (λ ns. repeats_after ns (terms_of (signatures ds))) (unchanged signature_of (λ (x : Signature). x.term) before d refl) ∙ p.apart;
+      unmade = p.unmade;
       typed = p.typed;
       few = p.few;
       externs_apart = ap (λ ns. repeats_after ns (extern_terms (externs ds))) (grown extern_of (λ (x : Extern). x.term) before d) ∙ a.1;
@@ -208,6 +228,7 @@ terms_none all before (tree.Rule name prio term args iflets rhs pos ∷ ds) f p 
     let k = or_parts (is_headless all r) (list_any (is_headless all) (rule_defs ds)) p.heads in
     let rest = terms_none all (before ++ d ∷ []) ds g.1 (record {
       apart = ap (λ ns. repeats_after ns (terms_of (signatures ds))) (unchanged signature_of (λ (x : Signature). x.term) before d refl) ∙ p.apart;
+      unmade = p.unmade;
       typed = p.typed;
       few = p.few;
       externs_apart = ap (λ ns. repeats_after ns (extern_terms (externs ds))) (unchanged extern_of (λ (x : Extern). x.term) before d refl) ∙ p.externs_apart;
@@ -216,15 +237,36 @@ terms_none all before (tree.Rule name prio term args iflets rhs pos ∷ ds) f p 
     }) in
     none_later (λ (r : Row). (r, pos)) (broken_in OfTerms (record { whole = whole_of all; before = before }) d) (fault_after OfTerms (whole_of all) (before ++ d ∷ []) ds)
     (none_first (is_headless all r) row.HeadMisfit None k.0 refl) rest
-terms_none all before (tree.TypeDecl name is_extern is_nodebug body pos ∷ ds) f p = absurd cc
+terms_none all before (tree.TypeDecl name is_extern is_nodebug body pos ∷ ds) f p =
+    let d = tree.TypeDecl name is_extern is_nodebug body pos in
+    terms_none all (before ++ d ∷ []) ds f (record {
+      apart = ap (λ ns. repeats_after ns (terms_of (signatures ds))) (unchanged signature_of (λ (x : Signature). x.term) before d refl) ∙ p.apart;
+      unmade = p.unmade;
+      typed = p.typed;
+      few = p.few;
+      externs_apart = ap (λ ns. repeats_after ns (extern_terms (externs ds))) (unchanged extern_of (λ (x : Extern). x.term) before d refl) ∙ p.externs_apart;
+      known = p.known;
+      heads = p.heads;
+    })
 terms_none all before (tree.ExternExtractor term func infallible pos ∷ ds) f p = absurd cc
-terms_none all before (tree.ExternConst name ty pos ∷ ds) f p = absurd cc
+terms_none all before (tree.ExternConst name ty pos ∷ ds) f p =
+    let d = tree.ExternConst name ty pos in
+    terms_none all (before ++ d ∷ []) ds f (record {
+      apart = ap (λ ns. repeats_after ns (terms_of (signatures ds))) (unchanged signature_of (λ (x : Signature). x.term) before d refl) ∙ p.apart;
+      unmade = p.unmade;
+      typed = p.typed;
+      few = p.few;
+      externs_apart = ap (λ ns. repeats_after ns (extern_terms (externs ds))) (unchanged extern_of (λ (x : Extern). x.term) before d refl) ∙ p.externs_apart;
+      known = p.known;
+      heads = p.heads;
+    })
 terms_none all before (tree.Extractor term params template pos ∷ ds) f p = absurd cc
 terms_none all before (tree.Converter from to term pos ∷ ds) f p = absurd cc
 terms_none all before (tree.Passed head items pos ∷ ds) f p =
     let d = tree.Passed head items pos in
     terms_none all (before ++ d ∷ []) ds f (record {
       apart = ap (λ ns. repeats_after ns (terms_of (signatures ds))) (unchanged signature_of (λ (x : Signature). x.term) before d refl) ∙ p.apart;
+      unmade = p.unmade;
       typed = p.typed;
       few = p.few;
       externs_apart = ap (λ ns. repeats_after ns (extern_terms (externs ds))) (unchanged extern_of (λ (x : Extern). x.term) before d refl) ∙ p.externs_apart;

@@ -1,13 +1,19 @@
 -- Terms that are made one after the other: what is left.
-use Rattle.std.proofs.Common.{◌≡◌, ℕ, ◌+◌, ◌<◌, Bool, List, [], ◌∷◌, ◌++◌, length, map, get_or, Option, Some, None, refl, sym, ap, ◌∙◌}
-use Rattle.std.specs.Prelude.{is_some, option_map, drop}
+use Rattle.std.proofs.Common.{◌≡◌, ℕ, zero, suc, true, ◌+◌, ◌<◌, Bool, List, [], ◌∷◌, ◌++◌, length, map, get_or, Option, Some, None, refl, sym, ap, ◌∙◌}
+use Rattle.std.specs.Prelude.{is_some, option_map, drop, slice_get}
+use Rattle.std.proofs.lemmas.Option.{same_Some, slice_get-map, slice_get-get_or}
+use Rattle.isle_ast.specs.Tree.{Def}
 use Rattle.std.proofs.lemmas.List.{drop_more}
 use Rattle.isle_core.specs.declared.types.Term.{Term}
-use Rattle.isle_declarations.specs.declared.collected.Signature.{Signature as CodeSignature}
-use Rattle.isle_declarations.specs.Collected.{signature}
+use Rattle.isle_declarations.specs.declared.terms.TermDef.{TermDef}
+use Rattle.isle_declarations.specs.TermViews.{term_def}
 use Rattle.isle_declarations.specs.Heads.{heads_of}
 use Rattle.isle_declarations.specs.Signatures.{externs, rule_defs, func_named, has_rule}
-use Rattle.isle_declarations.specs.Symbols.{index_of, number_or}
+use Rattle.isle_declarations.specs.Symbols.{index_of, number_or, symbols}
+use Rattle.isle_declarations.specs.Terms.{terms}
+use Rattle.isle_declarations.specs.Signatures.{Signature}
+use Rattle.isle_declarations.proofs.DeclaredNames.{AreAmong}
+use Rattle.isle_declarations.proofs.TermNames.{are_terms_among}
 use Rattle.isle_declarations.proofs.NumberLaws.{has_head}
 use Rattle.isle_sema.specs.Whole.{Whole}
 use Rattle.isle_sema.specs.PatternPass.{tree_before}
@@ -26,8 +32,26 @@ inside w name rule ruled none at is =
     ∙ ap (λ o. constructor_of w.types.syms o (has_rule (rule_defs w.defs) name)) (no_func (λ (func : List ℕ). number_or (index_of w.types.syms func)) (func_named (externs w.defs) name) none)
 
 -- one term more
-pub term_more : (w : Whole) (sigs : List CodeSignature) (i : ℕ) (made more : List Term) (s d : CodeSignature) (t : Term) (all : Option (List Term)) → i < length sigs → s ≡ get_or sigs i d → more ≡ made ++ t ∷ [] → Some t ≡ term_pass w (signature s)
-    → all ≡ before made (terms_pass w (map signature (drop i sigs))) → all ≡ before more (terms_pass w (map signature (drop (i + 1) sigs)))
+pub term_more : (w : Whole) (sigs : List TermDef) (i : ℕ) (made more : List Term) (s d : TermDef) (t : Term) (all : Option (List Term)) → i < length sigs → s ≡ get_or sigs i d → more ≡ made ++ t ∷ [] → Some t ≡ term_pass w (term_def s)
+    → all ≡ before made (terms_pass w (map term_def (drop i sigs))) → all ≡ before more (terms_pass w (map term_def (drop (i + 1) sigs)))
 term_more w sigs i made more s d t all lt is added one h =
-    let rest = terms_pass w (map signature (drop (i + 1) sigs)) in
-    h ∙ ap (λ xs. before made (terms_pass w (map signature xs))) (drop_more sigs i d lt ∙ ap (λ y. y ∷ drop (i + 1) sigs) (sym is)) ∙ ap (λ o. before made (tree_before o rest)) (sym one) ∙ one_before made t rest ∙ ap (λ ys. before ys rest) (sym added)
+    let rest = terms_pass w (map term_def (drop (i + 1) sigs)) in
+    h ∙ ap (λ xs. before made (terms_pass w (map term_def xs))) (drop_more sigs i d lt ∙ ap (λ y. y ∷ drop (i + 1) sigs) (sym is)) ∙ ap (λ o. before made (tree_before o rest)) (sym one) ∙ one_before made t rest ∙ ap (λ ys. before ys rest) (sym added)
+
+-- a term whose types are not all declared
+pub term_none : (w : Whole) (ts : List TermDef) (i : ℕ) (made : List Term) (t d : TermDef) (all : Option (List Term)) → i < length ts → t ≡ get_or ts i d → None ≡ term_pass w (term_def t) → all ≡ before made (terms_pass w (map term_def (drop i ts))) → None ≡ all
+term_none w ts i made t d all lt is none h =
+    let rest = terms_pass w (map term_def (drop (i + 1) ts)) in
+    sym (h ∙ ap (λ xs. before made (terms_pass w (map term_def xs))) (drop_more ts i d lt ∙ ap (λ y. y ∷ drop (i + 1) ts) (sym is)) ∙ ap (λ o. before made (tree_before o rest)) (sym none))
+
+-- the name of a term is a symbol
+pub named_here : (defs : List Def) (ts : List TermDef) (i : ℕ) (t d : TermDef) → map term_def ts ≡ terms defs → i < length ts → t ≡ get_or ts i d → is_some (index_of (symbols defs) t.term.now) ≡ true
+named_here defs ts i t d is lt at =
+    let here : slice_get (terms defs) i ≡ Some (term_def t) = ap (λ xs. slice_get xs i) (sym is) ∙ slice_get-map term_def ts i ∙ ap (option_map term_def) (slice_get-get_or ts i d lt ∙ ap Some (sym at)) in
+    found_in (terms defs) i (term_def t) (are_terms_among defs) here
+  where
+    found_in : (sigs : List Signature) (i : ℕ) (s : Signature) → AreAmong (symbols defs) sigs → slice_get sigs i ≡ Some s → is_some (index_of (symbols defs) s.term) ≡ true
+    found_in [] zero s h e = absurd cc
+    found_in [] (suc i) s h e = absurd cc
+    found_in (x ∷ sigs) zero s h e = let same = same_Some x s e in ap (λ (y : Signature). is_some (index_of (symbols defs) y.term)) (sym same) ∙ ap is_some h.0.1
+    found_in (x ∷ sigs) (suc i) s h e = found_in sigs i s h.1 e

@@ -1,53 +1,105 @@
 -- Patterns whose parts break no row have the types that are expected, and each variable stands in one of them.
 use Rattle.std.proofs.Common.{◌≡◌, ◌⊎◌, ⊎_elim, inl, inr, ℕ, ◌+◌, ◌≤◌, Bool, true, false, List, [], ◌∷◌, ◌++◌, length, map, Option, Some, None, refl, sym, ap, ◌∙◌, subst, arith}
-use Rattle.std.specs.Prelude.{ℤ, ◌==◌, Contains, is_some, option_map, flat_map}
+use Rattle.std.specs.Prelude.{ℤ, ◌==◌, not, Contains, is_some, option_map}
 use Rattle.std.specs.List.{AllByRecursion, list_any}
 use Rattle.std.specs.Str.{bytes_eq}
 use Rattle.std.proofs.lemmas.Bool.{or_parts, eqb-true, not-false}
-use Rattle.std.proofs.lemmas.List.{length-append}
-use Rattle.std.proofs.lemmas.List.Elements.{All-contains, All-from_recursion}
+use Rattle.std.proofs.lemmas.List.{length-append, length-map, append_assoc, append-nil}
+use Rattle.std.proofs.lemmas.List.Elements.{All-contains, All-from_recursion, Contains-append_left, Contains-append_right}
 use Rattle.std.proofs.lemmas.Option.{same_Some}
 use Rattle.std.proofs.lemmas.Slice.Eq.{bytes_eq-Decides}
+use Rattle.isle_core.specs.declared.TermId.{TermId}
 use Rattle.isle_core.specs.declared.TypeId.{TypeId}
 use Rattle.isle_core.specs.declared.VarId.{VarId}
+use Rattle.isle_core.specs.declared.types.TypeEnv.{TypeEnv}
+use Rattle.isle_core.specs.Constants.{const_type}
+use Rattle.isle_core.specs.Form.{form, form_types}
+use Rattle.isle_core.specs.Making.{making}
 use Rattle.isle_core.specs.Pattern as core_pattern
 use Rattle.isle_core.specs.Pattern.{Pattern as CorePattern}
+use Rattle.isle_core.specs.PatternType.{IsOfMaking, IsPatternOf, ArePartsOf, ArePatternsOf}
 use Rattle.isle_core.specs.Rule.{Environment}
+use Rattle.isle_core.specs.RuleViews.{patterns_of as core_patterns}
+use Rattle.isle_core.specs.Scope.{variables, variables_within, all_variables}
 use Rattle.isle_core.specs.StandsFor.{EachOnce}
-use Rattle.isle_core.proofs.Contained.{head_contained, tail_contained}
+use Rattle.isle_core.proofs.Contained.{head_contained}
 use Rattle.isle_ast.specs.Tree as tree
-use Rattle.isle_ast.specs.Tree.{Pattern, Def}
-use Rattle.isle_declarations.specs.Symbols.{index_of}
-use Rattle.isle_sema.specs.VariableNames.{variable_names}
+use Rattle.isle_ast.specs.Tree.{Pattern, Patterns, NoPattern, APattern, Def}
 use Rattle.isle_declarations.specs.Repeats.{repeats_after}
+use Rattle.isle_declarations.specs.Signatures.{Signature, term_named}
+use Rattle.isle_declarations.specs.Symbols.{index_of, sym_of}
+use Rattle.isle_declarations.specs.Terms.{terms, is_made}
 use Rattle.isle_types.specs.Builtins.{type_id}
+use Rattle.isle_types.specs.TypeEnvironment.{type_env_of}
+use Rattle.isle_sema.specs.Environment.{whole_of}
+use Rattle.isle_sema.specs.PatternPass.{term_tree, count_of, first_expected, later_expected, pattern_pass, patterns_pass}
 use Rattle.isle_sema.specs.Reduced.{typed_integer}
+use Rattle.isle_sema.specs.RuleRows.{differ, is_taken_misfit, is_untaken, is_mistaken, is_misplaced, is_undeclared, is_other_type, is_met_otherwise}
 use Rattle.isle_sema.specs.Scope.{Scope, scope_names, bound_at, met, variable}
-use Rattle.isle_sema.specs.Site.{TruthAt}
-use Rattle.isle_sema.specs.TypeNames.{takes_truths}
-use Rattle.isle_sema.specs.Whole.{Whole}
-use Rattle.isle_sema.specs.PatternPass.{first_expected, later_expected, pattern_pass, patterns_pass}
-use Rattle.isle_sema.specs.RuleRows.{differ, is_other_type, is_misplaced, is_met_otherwise}
-use Rattle.isle_sema.specs.Environment.{types_of, whole_of}
-use Rattle.isle_sema.specs.TypedRule.{IsPatternOf, ArePatternsOf, numbers}
+use Rattle.isle_sema.specs.Site.{Site, TruthAt, TakenAt}
+use Rattle.isle_sema.specs.TypedRule.{typed_variables, typed_within, all_typed}
+use Rattle.isle_sema.specs.TypeNames.{type_named, takes_truths}
+use Rattle.isle_sema.specs.VariableNames.{variable_names, variables_of}
+use Rattle.isle_sema.specs.Whole.{Whole, termed, arg_types, ret_type, constant_type}
 use Rattle.isle_sema.proofs.Firsts.{any_parts}
 use Rattle.isle_sema.proofs.MadeTerms.{first_there}
+pub use Rattle.isle_sema.proofs.RuleRoots.{IsMapped, mapped}
 use Rattle.isle_sema.proofs.ScopeLaws.{variable_is, unbound, met_new, met_again, names_more, bound_new, place_new, variable_other}
 use Rattle.isle_sema.proofs.TypedConstants.{integer_typed, truth_typed}
-
--- what is made of something that may be there
-pub record IsMapped {X Y : Type 0} (f : X → Y) (o : Option X) (y : Y) : Type 0 where
-  pub from : X
-  pub there : o ≡ Some from
-  pub is : f from ≡ y
-
-pub mapped : {X Y : Type 0} (f : X → Y) (o : Option X) (y : Y) → option_map f o ≡ Some y → IsMapped f o y
-mapped f None y h = absurd cc
-mapped f (Some x) y h = record { from = x; there = refl; is = same_Some (f x) y h }
 
 -- two types that don't differ are one
 pub same_type : (of ty : TypeId) → differ (Some of) (Some ty) ≡ false → of ≡ ty
 same_type of ty h = ap type_id (eqb-true of.0 ty.0 (not-false (of.0 == ty.0) h))
+
+-- what the tree of a made term is made of
+record IsTermTree (ty : Option TypeId) (term : Option TermId) (ps : Option (List CorePattern)) (q : CorePattern) : Type 0 where
+  of : TypeId
+  number : TermId
+  parts : List CorePattern
+  of_is : ty ≡ Some of
+  number_is : term ≡ Some number
+  parts_are : ps ≡ Some parts
+  is : core_pattern.Term of number (core_patterns parts) ≡ q
+
+term_tree_is : (ty : Option TypeId) (term : Option TermId) (ps : Option (List CorePattern)) (q : CorePattern) → term_tree ty term ps ≡ Some q → IsTermTree ty term ps q
+term_tree_is None term ps q h = absurd cc
+term_tree_is (Some ty) None ps q h = absurd cc
+term_tree_is (Some ty) (Some n) None q h = absurd cc
+term_tree_is (Some ty) (Some n) (Some parts) q h = record {
+  of = ty;
+  number = n;
+  parts = parts;
+  of_is = refl;
+  number_is = refl;
+  parts_are = refl;
+  is = same_Some (core_pattern.Term ty n (core_patterns parts)) q h;
+}
+
+-- ---- what is known of parts and of terms
+
+-- parts of patterns that break no row
+pub record AreTakenWell (w : Whole) (sites : List Site) : Type 0 where
+  pub taken : list_any is_untaken sites ≡ false
+  pub types : list_any (is_mistaken w) sites ≡ false
+  pub placed : list_any (is_misplaced w) sites ≡ false
+  pub declared : list_any is_undeclared sites ≡ false
+  pub again : list_any is_met_otherwise sites ≡ false
+
+-- so of the first ones and of the others
+pub taken_parts : (w : Whole) (xs ys : List Site) → AreTakenWell w (xs ++ ys) → AreTakenWell w xs × AreTakenWell w ys
+taken_parts w xs ys h =
+    let a = any_parts is_untaken xs ys h.taken in
+    let b = any_parts (is_mistaken w) xs ys h.types in
+    let c = any_parts (is_misplaced w) xs ys h.placed in
+    let d = any_parts is_undeclared xs ys h.declared in
+    let e = any_parts is_met_otherwise xs ys h.again in
+    (record { taken = a.0; types = b.0; placed = c.0; declared = d.0; again = e.0 }, record { taken = a.1; types = b.1; placed = c.1; declared = d.1; again = e.1 })
+
+-- the environment knows what the made terms of definitions make, and the types of their constants
+pub record KnowsTerms (defs : List Def) (env : Environment) : Type 0 where
+  pub made : (name : List ℕ) (s : Signature) (number : TermId) (ty : TypeId) → termed (whole_of defs) name ≡ Some s → term_named (terms defs) name ≡ Some number → is_made s.origin ≡ true → type_named defs s.ret ≡ Some ty
+      → IsOfMaking ty (making env number) × (tys : List TypeId) × (option_map (form_types env) (form env (making env number)) ≡ Some tys) × (map (type_named defs) s.args ≡ map Some tys)
+  pub constant : (name : List ℕ) (ty : TypeId) → constant_type (whole_of defs) name ≡ Some ty → const_type env (sym_of (type_env_of defs).syms name) ≡ Some ty
 
 -- ---- types
 
@@ -67,38 +119,75 @@ met_type scope name ty v (Some of) is h k =
     let stays : bound_at (met scope name (Some ty)) name ≡ Some of = ap (λ (s : Scope). bound_at s name) (met_again scope name (Some ty) of is) ∙ is in
     bound_type ty v.0 (Some of) (sym stays ∙ v_is.bound_is) k
 
-pattern_typed : (defs : List Def) (env : Environment) (ty : TypeId) (scope : Scope) (p : Pattern) (q : CorePattern) → env.types ≡ types_of defs → (pattern_pass (whole_of defs) (Some ty) scope p).tree ≡ Some q
-    → list_any (is_misplaced (whole_of defs)) (pattern_pass (whole_of defs) (Some ty) scope p).sites ≡ false → list_any is_met_otherwise (pattern_pass (whole_of defs) (Some ty) scope p).sites ≡ false → IsPatternOf env ty q
-pattern_typed defs env ty scope (tree.Int n) q types h placed again =
-    let m = mapped (λ (v : TypeId × ℤ). core_pattern.ConstInt v.0 v.1) (typed_integer (types_of defs) (Some ty) n) q h in
-    subst (IsPatternOf env ty) m.is (integer_typed defs env ty n m.from types m.there)
-pattern_typed defs env ty scope (tree.Truth b) q types h placed again =
-    let takes = not-false (takes_truths (types_of defs) (Some ty)) (or_parts (is_misplaced (whole_of defs) (TruthAt (Some ty))) false placed).0 in
-    subst (IsPatternOf env ty) (same_Some (core_pattern.ConstBool b) q h) (truth_typed defs env b ty types takes)
-pattern_typed defs env ty scope tree.Wildcard q types h placed again = subst (IsPatternOf env ty) (same_Some (core_pattern.Wildcard ty) q h) refl
-pattern_typed defs env ty scope (tree.Var name) q types h placed again =
-    let m = mapped (λ (v : TypeId × VarId). core_pattern.Var v.0 v.1) (variable (met scope name (Some ty)) name) q h in
-    subst (IsPatternOf env ty) m.is (met_type scope name ty m.from (bound_at scope name) refl m.there (or_parts (is_other_type (bound_at scope name) (Some ty)) false again).0)
-pattern_typed defs env ty scope (tree.Const name) q types h placed again = absurd cc
-pattern_typed defs env ty scope (tree.Bind name p) q types h placed again = absurd cc
-pattern_typed defs env ty scope (tree.And ps) q types h placed again = absurd cc
-pattern_typed defs env ty scope (tree.Term name ps) q types h placed again = absurd cc
+-- patterns of a list are the parts of a pattern
+parts_of : (env : Environment) (tys : List TypeId) (qs : List CorePattern) → ArePatternsOf env tys qs → ArePartsOf env (Some tys) (core_patterns qs)
+parts_of env [] [] h = tt
+parts_of env [] (q ∷ qs) h = absurd h
+parts_of env (ty ∷ tys) [] h = absurd h
+parts_of env (ty ∷ tys) (q ∷ qs) h = (h.0, parts_of env tys qs h.1)
 
--- patterns at these types are of them
-pub patterns_typed : (defs : List Def) (env : Environment) (tys : List TypeId) (scope : Scope) (ps : List Pattern) (qs : List CorePattern) → env.types ≡ types_of defs → length ps ≡ length tys
-    → (patterns_pass (whole_of defs) (map Some tys) scope ps).trees ≡ Some qs → list_any (is_misplaced (whole_of defs)) (patterns_pass (whole_of defs) (map Some tys) scope ps).sites ≡ false
-    → list_any is_met_otherwise (patterns_pass (whole_of defs) (map Some tys) scope ps).sites ≡ false → ArePatternsOf env tys qs
-patterns_typed defs env [] scope [] qs types same h placed again = subst (ArePatternsOf env []) (same_Some [] qs h) tt
-patterns_typed defs env [] scope (p ∷ ps) qs types same h placed again = absurd (omega arith)
-patterns_typed defs env (ty ∷ tys) scope [] qs types same h placed again = absurd (omega arith)
-patterns_typed defs env (ty ∷ tys) scope (p ∷ ps) qs types same h placed again =
+-- patterns are of the types that are expected, where they are as many
+abbrev AreTyped : List Def → Environment → Scope → Patterns → Type 0
+AreTyped defs env scope ps = (tys : List TypeId) (qs : List CorePattern) → count_of ps ≡ length tys → (patterns_pass (whole_of defs) (map Some tys) scope ps).trees ≡ Some qs → AreTakenWell (whole_of defs) (patterns_pass (whole_of defs) (map Some tys) scope ps).sites
+    → ArePatternsOf env tys qs
+
+-- a made term's pattern is of the type where its parts are of its fields' types
+term_typed : (defs : List Def) (env : Environment) (ty : TypeId) (scope : Scope) (ps : Patterns) (name : List ℕ) (o : Option Signature) (q : CorePattern) → KnowsTerms defs env → termed (whole_of defs) name ≡ o → AreTyped defs env scope ps
+    → term_tree (ret_type (whole_of defs) o) (term_named (terms defs) name) (patterns_pass (whole_of defs) (arg_types (whole_of defs) o) scope ps).trees ≡ Some q
+    → AreTakenWell (whole_of defs) (TakenAt (Some ty) o (count_of ps) ∷ (patterns_pass (whole_of defs) (arg_types (whole_of defs) o) scope ps).sites) → IsPatternOf env ty q
+term_typed defs env ty scope ps name None q knows is typed h well = absurd cc
+term_typed defs env ty scope ps name (Some s) q knows is typed h well =
     let w = whole_of defs in
-    let one = pattern_pass w (Some ty) scope p in
-    let rest = patterns_pass w (map Some tys) one.scope ps in
-    let f = first_there one.tree rest.trees qs h in
-    let k = any_parts (is_misplaced w) one.sites rest.sites placed in
-    let m = any_parts is_met_otherwise one.sites rest.sites again in
-    subst (ArePatternsOf env (ty ∷ tys)) (sym f.all) (pattern_typed defs env ty scope p f.first types f.here k.0 m.0, patterns_typed defs env tys one.scope ps f.others types (omega arith) f.found k.1 m.1)
+    let args = map (type_named defs) s.args in
+    let t = term_tree_is (type_named defs s.ret) (term_named (terms defs) name) (patterns_pass w args scope ps).trees q h in
+    let k = taken_parts w (TakenAt (Some ty) (Some s) (count_of ps) ∷ []) (patterns_pass w args scope ps).sites well in
+    let fits = or_parts (not (count_of ps == length s.args)) (not (is_made s.origin)) (or_parts (is_taken_misfit (Some s) (count_of ps)) false k.0.taken).0 in
+    let many : count_of ps ≡ length s.args = eqb-true (count_of ps) (length s.args) (not-false (count_of ps == length s.args) fits.0) in
+    let same : t.of ≡ ty = same_type t.of ty (subst (λ o. differ o (Some ty) ≡ false) t.of_is (or_parts (differ (type_named defs s.ret) (Some ty)) false k.0.types).0) in
+    let m = knows.made name s t.number ty is t.number_is (not-false (is_made s.origin) fits.1) (t.of_is ∙ ap Some same) in
+    let long : length s.args ≡ length m.1 = sym (length-map s.args (type_named defs)) ∙ ap length m.3 ∙ length-map m.1 Some in
+    let trees = subst (λ (os : List (Option TypeId)). (patterns_pass w os scope ps).trees ≡ Some t.parts) m.3 t.parts_are in
+    let sites = subst (λ (os : List (Option TypeId)). AreTakenWell w (patterns_pass w os scope ps).sites) m.3 k.1 in
+    let parts = parts_of env m.1 t.parts (typed m.1 t.parts (many ∙ long) trees sites) in
+    subst (IsPatternOf env ty) t.is (same, m.0, subst (λ o. ArePartsOf env o (core_patterns t.parts)) (sym m.2) parts)
+
+mutual
+  -- a pattern at this type is of it
+  pattern_typed : (defs : List Def) (env : Environment) (ty : TypeId) (scope : Scope) (p : Pattern) (q : CorePattern) → KnowsTerms defs env → env.types ≡ type_env_of defs → (pattern_pass (whole_of defs) (Some ty) scope p).tree ≡ Some q
+      → AreTakenWell (whole_of defs) (pattern_pass (whole_of defs) (Some ty) scope p).sites → IsPatternOf env ty q
+  pattern_typed defs env ty scope (tree.Int n) q knows types h well =
+      let m = mapped (λ (v : TypeId × ℤ). core_pattern.ConstInt v.0 v.1) (typed_integer (type_env_of defs) (Some ty) n) q h in
+      subst (IsPatternOf env ty) m.is (integer_typed env ty n m.from (ap (λ (ts : TypeEnv). typed_integer ts (Some ty) n) types ∙ m.there))
+  pattern_typed defs env ty scope (tree.Truth b) q knows types h well =
+      let takes = not-false (takes_truths (type_env_of defs) (Some ty)) (or_parts (is_misplaced (whole_of defs) (TruthAt (Some ty))) false well.placed).0 in
+      subst (IsPatternOf env ty) (same_Some (core_pattern.ConstBool b) q h) (truth_typed defs env b ty types (ap (λ (ts : TypeEnv). takes_truths ts (Some ty)) types ∙ takes))
+  pattern_typed defs env ty scope tree.Wildcard q knows types h well = subst (IsPatternOf env ty) (same_Some (core_pattern.Wildcard ty) q h) refl
+  pattern_typed defs env ty scope (tree.Var name) q knows types h well =
+      let m = mapped (λ (v : TypeId × VarId). core_pattern.Var v.0 v.1) (variable (met scope name (Some ty)) name) q h in
+      subst (IsPatternOf env ty) m.is (met_type scope name ty m.from (bound_at scope name) refl m.there (or_parts (is_other_type (bound_at scope name) (Some ty)) false well.again).0)
+  pattern_typed defs env ty scope (tree.Const name) q knows types h well =
+      let found = constant_type (whole_of defs) name in
+      let m = mapped (λ (t : TypeId). core_pattern.ConstPrim t (sym_of (type_env_of defs).syms name)) found q h in
+      let same : m.from ≡ ty = same_type m.from ty (subst (λ o. differ o (Some ty) ≡ false) m.there (or_parts (differ found (Some ty)) false well.types).0) in
+      subst (IsPatternOf env ty) m.is (same, knows.constant name ty (m.there ∙ ap Some same))
+  pattern_typed defs env ty scope (tree.Term name ps) q knows types h well =
+      term_typed defs env ty scope ps name (termed (whole_of defs) name) q knows refl (λ tys qs same trees sites. patterns_typed defs env tys scope ps qs knows types same trees sites) h well
+  pattern_typed defs env ty scope (tree.Bind name p) q knows types h well = absurd cc
+  pattern_typed defs env ty scope (tree.And ps) q knows types h well = absurd cc
+
+  -- patterns at these types are of them
+  pub patterns_typed : (defs : List Def) (env : Environment) (tys : List TypeId) (scope : Scope) (ps : Patterns) (qs : List CorePattern) → KnowsTerms defs env → env.types ≡ type_env_of defs → count_of ps ≡ length tys
+      → (patterns_pass (whole_of defs) (map Some tys) scope ps).trees ≡ Some qs → AreTakenWell (whole_of defs) (patterns_pass (whole_of defs) (map Some tys) scope ps).sites → ArePatternsOf env tys qs
+  patterns_typed defs env [] scope NoPattern qs knows types same h well = subst (ArePatternsOf env []) (same_Some [] qs h) tt
+  patterns_typed defs env [] scope (APattern p ps) qs knows types same h well = absurd (omega arith)
+  patterns_typed defs env (ty ∷ tys) scope NoPattern qs knows types same h well = absurd (omega arith)
+  patterns_typed defs env (ty ∷ tys) scope (APattern p ps) qs knows types same h well =
+      let w = whole_of defs in
+      let one = pattern_pass w (Some ty) scope p in
+      let rest = patterns_pass w (map Some tys) one.scope ps in
+      let f = first_there one.tree rest.trees qs h in
+      let k = taken_parts w one.sites rest.sites well in
+      subst (ArePatternsOf env (ty ∷ tys)) (sym f.all) (pattern_typed defs env ty scope p f.first knows types f.here k.0, patterns_typed defs env tys one.scope ps f.others knows types (omega arith) f.found k.1)
 
 -- ---- each variable once
 
@@ -117,81 +206,105 @@ no_more n ms h c = let bad : n + 1 ≤ n = All-contains (λ (m : ℕ). n + 1 ≤
 from_next : (n : ℕ) (ms : List ℕ) → AreFrom (n + 1) ms → AreFrom n (n ∷ ms)
 from_next n ms h = let here : n ≤ n = omega arith in record { least = (here, less n ms h.least); once = (no_more n ms h.least, h.once) }
 
--- a pattern adds a number where it is a variable alone
-NumbersOf : Scope → Pattern → CorePattern → Type 0
-NumbersOf scope p q = (w : Whole) (expected : Option TypeId) (ps : List Pattern) (qs : List CorePattern) → (pattern_pass w expected scope p).tree ≡ Some q → repeats_after (scope_names scope) (variable_names p ++ flat_map variable_names ps) ≡ false
-    → (repeats_after (scope_names (pattern_pass w expected scope p).scope) (flat_map variable_names ps) ≡ false → AreFrom (length (pattern_pass w expected scope p).scope) (numbers qs)) → AreFrom (length scope) (numbers (q ∷ qs))
+-- the variables of a list's patterns, as parts of a pattern
+within_list : (qs : List CorePattern) → all_variables qs ≡ variables_within (core_patterns qs)
+within_list [] = refl
+within_list (q ∷ qs) = ap (λ ms. variables q ++ ms) (within_list qs)
 
-numbers_of : (scope : Scope) (p : Pattern) (q : CorePattern) → NumbersOf scope p q
-unfolding NumbersOf
-numbers_of scope (tree.Int n) q w expected ps qs h apart rest =
-    let m = mapped (λ (v : TypeId × ℤ). core_pattern.ConstInt v.0 v.1) (typed_integer w.types expected n) q h in
-    subst (λ x. AreFrom (length scope) (numbers (x ∷ qs))) m.is (rest apart)
-numbers_of scope (tree.Truth b) q w expected ps qs h apart rest = subst (λ x. AreFrom (length scope) (numbers (x ∷ qs))) (same_Some (core_pattern.ConstBool b) q h) (rest apart)
-numbers_of scope tree.Wildcard q w expected ps qs h apart rest =
-    let m = mapped core_pattern.Wildcard expected q h in
-    subst (λ x. AreFrom (length scope) (numbers (x ∷ qs))) m.is (rest apart)
-numbers_of scope (tree.Var name) q w expected ps qs h apart rest =
-    let after = met scope name expected in
-    let k = or_parts (is_some (index_of (scope_names scope) name)) (repeats_after (scope_names scope ++ name ∷ []) (flat_map variable_names ps)) apart in
-    let m = mapped (λ (v : TypeId × VarId). core_pattern.Var v.0 v.1) (variable after name) q h in
-    let v = variable_is (bound_at after name) (index_of (scope_names after) name) m.from m.there in
-    let number : m.from.1.0 ≡ length scope = same_Some m.from.1.0 (length scope) (sym v.place_is ∙ place_new scope name expected k.0) in
-    let new : after ≡ scope ++ (name, expected) ∷ [] = met_new scope name expected (unbound scope name k.0) in
-    let names : scope_names after ≡ scope_names scope ++ name ∷ [] = ap scope_names new ∙ names_more scope name expected in
-    let long : length after ≡ length scope + 1 = ap length new ∙ length-append scope ((name, expected) ∷ []) in
-    let others = rest (ap (λ ns. repeats_after ns (flat_map variable_names ps)) names ∙ k.1) in
-    subst (λ x. AreFrom (length scope) (numbers (x ∷ qs))) m.is (subst (λ n. AreFrom (length scope) (n ∷ numbers qs)) (sym number) (from_next (length scope) (numbers qs) (subst (λ n. AreFrom n (numbers qs)) long others)))
-numbers_of scope (tree.Const name) q w expected ps qs h apart rest = absurd cc
-numbers_of scope (tree.Bind name p) q w expected ps qs h apart rest = absurd cc
-numbers_of scope (tree.And ps) q w expected rs qs h apart rest = absurd cc
-numbers_of scope (tree.Term name ps) q w expected rs qs h apart rest = absurd cc
+mutual
+  -- the variables of a pattern and those of others behind it, whose names are apart
+  numbers_of : (w : Whole) (expected : Option TypeId) (scope : Scope) (p : Pattern) (q : CorePattern) (later : List (List ℕ)) (ms : List ℕ) → (pattern_pass w expected scope p).tree ≡ Some q
+      → repeats_after (scope_names scope) (variable_names p ++ later) ≡ false
+      → (repeats_after (scope_names (pattern_pass w expected scope p).scope) later ≡ false → AreFrom (length (pattern_pass w expected scope p).scope) ms) → AreFrom (length scope) (variables q ++ ms)
+  numbers_of w expected scope (tree.Int n) q later ms h apart rest =
+      let m = mapped (λ (v : TypeId × ℤ). core_pattern.ConstInt v.0 v.1) (typed_integer w.types expected n) q h in
+      subst (λ x. AreFrom (length scope) (variables x ++ ms)) m.is (rest apart)
+  numbers_of w expected scope (tree.Truth b) q later ms h apart rest = subst (λ x. AreFrom (length scope) (variables x ++ ms)) (same_Some (core_pattern.ConstBool b) q h) (rest apart)
+  numbers_of w expected scope tree.Wildcard q later ms h apart rest =
+      let m = mapped core_pattern.Wildcard expected q h in
+      subst (λ x. AreFrom (length scope) (variables x ++ ms)) m.is (rest apart)
+  numbers_of w expected scope (tree.Var name) q later ms h apart rest =
+      let after = met scope name expected in
+      let k = or_parts (is_some (index_of (scope_names scope) name)) (repeats_after (scope_names scope ++ name ∷ []) later) apart in
+      let m = mapped (λ (v : TypeId × VarId). core_pattern.Var v.0 v.1) (variable after name) q h in
+      let v = variable_is (bound_at after name) (index_of (scope_names after) name) m.from m.there in
+      let number : m.from.1.0 ≡ length scope = same_Some m.from.1.0 (length scope) (sym v.place_is ∙ place_new scope name expected k.0) in
+      let new : after ≡ scope ++ (name, expected) ∷ [] = met_new scope name expected (unbound scope name k.0) in
+      let names : scope_names after ≡ scope_names scope ++ name ∷ [] = ap scope_names new ∙ names_more scope name expected in
+      let long : length after ≡ length scope + 1 = ap length new ∙ length-append scope ((name, expected) ∷ []) in
+      let others = rest (ap (λ ns. repeats_after ns later) names ∙ k.1) in
+      subst (λ x. AreFrom (length scope) (variables x ++ ms)) m.is (subst (λ n. AreFrom (length scope) (n ∷ ms)) (sym number) (from_next (length scope) ms (subst (λ n. AreFrom n ms) long others)))
+  numbers_of w expected scope (tree.Const name) q later ms h apart rest =
+      let m = mapped (λ (t : TypeId). core_pattern.ConstPrim t (sym_of w.types.syms name)) (constant_type w name) q h in
+      subst (λ x. AreFrom (length scope) (variables x ++ ms)) m.is (rest apart)
+  numbers_of w expected scope (tree.Term name ps) q later ms h apart rest =
+      let args = arg_types w (termed w name) in
+      let t = term_tree_is (ret_type w (termed w name)) (term_named (terms w.defs) name) (patterns_pass w args scope ps).trees q h in
+      let parts = numbers_within w args scope ps t.parts later ms t.parts_are apart rest in
+      subst (λ x. AreFrom (length scope) (variables x ++ ms)) t.is (subst (λ xs. AreFrom (length scope) (xs ++ ms)) (within_list t.parts) parts)
+  numbers_of w expected scope (tree.Bind name p) q later ms h apart rest = absurd cc
+  numbers_of w expected scope (tree.And ps) q later ms h apart rest = absurd cc
+
+  -- so of patterns
+  numbers_within : (w : Whole) (expected : List (Option TypeId)) (scope : Scope) (ps : Patterns) (qs : List CorePattern) (later : List (List ℕ)) (ms : List ℕ) → (patterns_pass w expected scope ps).trees ≡ Some qs
+      → repeats_after (scope_names scope) (variables_of ps ++ later) ≡ false
+      → (repeats_after (scope_names (patterns_pass w expected scope ps).scope) later ≡ false → AreFrom (length (patterns_pass w expected scope ps).scope) ms) → AreFrom (length scope) (all_variables qs ++ ms)
+  numbers_within w expected scope NoPattern qs later ms h apart rest = subst (λ (xs : List CorePattern). AreFrom (length scope) (all_variables xs ++ ms)) (same_Some [] qs h) (rest apart)
+  numbers_within w expected scope (APattern p ps) qs later ms h apart rest =
+      let one = pattern_pass w (first_expected expected) scope p in
+      let f = first_there one.tree (patterns_pass w (later_expected expected) one.scope ps).trees qs h in
+      let names = ap (repeats_after (scope_names scope)) (append_assoc (variable_names p) (variables_of ps) later) in
+      let numbers = numbers_of w (first_expected expected) scope p f.first (variables_of ps ++ later) (all_variables f.others ++ ms) f.here (sym names ∙ apart)
+      (λ k. numbers_within w (later_expected expected) one.scope ps f.others later ms f.found k rest) in
+      subst (λ (xs : List CorePattern). AreFrom (length scope) (all_variables xs ++ ms)) (sym f.all)
+      (subst (AreFrom (length scope)) (sym (append_assoc (variables f.first) (all_variables f.others) ms)) numbers)
 
 -- the variables of patterns whose names don't repeat
-pub numbers_apart : (w : Whole) (expected : List (Option TypeId)) (scope : Scope) (ps : List Pattern) (qs : List CorePattern) → (patterns_pass w expected scope ps).trees ≡ Some qs → repeats_after (scope_names scope) (flat_map variable_names ps) ≡ false
-    → AreFrom (length scope) (numbers qs)
-unfolding NumbersOf
-numbers_apart w expected scope [] qs h apart = subst (λ (xs : List CorePattern). AreFrom (length scope) (numbers xs)) (same_Some [] qs h) (record { least = tt; once = tt })
-numbers_apart w expected scope (p ∷ ps) qs h apart =
-    let one = pattern_pass w (first_expected expected) scope p in
-    let f = first_there one.tree (patterns_pass w (later_expected expected) one.scope ps).trees qs h in
-    subst (λ (xs : List CorePattern). AreFrom (length scope) (numbers xs)) (sym f.all)
-    (numbers_of scope p f.first w (first_expected expected) ps f.others f.here apart (numbers_apart w (later_expected expected) one.scope ps f.others f.found))
+pub numbers_apart : (w : Whole) (expected : List (Option TypeId)) (scope : Scope) (ps : Patterns) (qs : List CorePattern) → (patterns_pass w expected scope ps).trees ≡ Some qs → repeats_after (scope_names scope) (variables_of ps) ≡ false
+    → AreFrom (length scope) (all_variables qs)
+numbers_apart w expected scope ps qs h apart =
+    let names = ap (repeats_after (scope_names scope)) (append-nil (variables_of ps)) in
+    subst (AreFrom (length scope)) (append-nil (all_variables qs)) (numbers_within w expected scope ps qs [] [] h (names ∙ apart) (λ k. record { least = tt; once = tt }))
 
 -- ---- where variables stand
 
--- a variable after a pattern stands in it, or was there before
-StandsIn : Scope → Pattern → CorePattern → Type 0
-StandsIn scope p q = (w : Whole) (expected : Option TypeId) (name : List ℕ) (v : TypeId × VarId) → (pattern_pass w expected scope p).tree ≡ Some q → variable (pattern_pass w expected scope p).scope name ≡ Some v
-    → (variable scope name ≡ Some v) ⊎ (q ≡ core_pattern.Var v.0 v.1)
+-- the variables of a list's patterns with their types, as parts of a pattern
+typed_list : (qs : List CorePattern) → all_typed qs ≡ typed_within (core_patterns qs)
+typed_list [] = refl
+typed_list (q ∷ qs) = ap (λ vars. typed_variables q ++ vars) (typed_list qs)
 
-stands_in : (scope : Scope) (p : Pattern) (q : CorePattern) → StandsIn scope p q
-unfolding StandsIn
-stands_in scope (tree.Int n) q w expected name v h at = inl at
-stands_in scope (tree.Truth b) q w expected name v h at = inl at
-stands_in scope tree.Wildcard q w expected name v h at = inl at
-stands_in scope (tree.Var x) q w expected name v h at = by (bytes_eq x name) refl
-  where
-    by : (b : Bool) → bytes_eq x name ≡ b → (variable scope name ≡ Some v) ⊎ (q ≡ core_pattern.Var v.0 v.1)
-    by true e =
-        let same : x ≡ name = (bytes_eq-Decides x name).0 e in
-        inr (same_Some q (core_pattern.Var v.0 v.1) (sym h ∙ ap (option_map (λ (y : TypeId × VarId). core_pattern.Var y.0 y.1)) (ap (variable (met scope x expected)) same ∙ at)))
-    by false e = inl (sym (variable_other scope x name expected e) ∙ at)
-stands_in scope (tree.Const x) q w expected name v h at = absurd cc
-stands_in scope (tree.Bind x p) q w expected name v h at = absurd cc
-stands_in scope (tree.And ps) q w expected name v h at = absurd cc
-stands_in scope (tree.Term x ps) q w expected name v h at = absurd cc
+mutual
+  -- a variable after a pattern stands in it, or was there before
+  stands_in : (w : Whole) (expected : Option TypeId) (scope : Scope) (p : Pattern) (q : CorePattern) (name : List ℕ) (v : TypeId × VarId) → (pattern_pass w expected scope p).tree ≡ Some q
+      → variable (pattern_pass w expected scope p).scope name ≡ Some v → (variable scope name ≡ Some v) ⊎ Contains (typed_variables q) (v.0, v.1.0)
+  stands_in w expected scope (tree.Int n) q name v h at = inl at
+  stands_in w expected scope (tree.Truth b) q name v h at = inl at
+  stands_in w expected scope tree.Wildcard q name v h at = inl at
+  stands_in w expected scope (tree.Var x) q name v h at = by (bytes_eq x name) refl
+    where
+      by : (b : Bool) → bytes_eq x name ≡ b → (variable scope name ≡ Some v) ⊎ Contains (typed_variables q) (v.0, v.1.0)
+      by true e =
+          let same : x ≡ name = (bytes_eq-Decides x name).0 e in
+          let is : q ≡ core_pattern.Var v.0 v.1 = same_Some q (core_pattern.Var v.0 v.1) (sym h ∙ ap (option_map (λ (y : TypeId × VarId). core_pattern.Var y.0 y.1)) (ap (variable (met scope x expected)) same ∙ at)) in
+          inr (subst (λ (y : CorePattern). Contains (typed_variables y) (v.0, v.1.0)) (sym is) (head_contained (v.0, v.1.0) []))
+      by false e = inl (sym (variable_other scope x name expected e) ∙ at)
+  stands_in w expected scope (tree.Const x) q name v h at = inl at
+  stands_in w expected scope (tree.Term x ps) q name v h at =
+      let args = arg_types w (termed w x) in
+      let t = term_tree_is (ret_type w (termed w x)) (term_named (terms w.defs) x) (patterns_pass w args scope ps).trees q h in
+      let parts = variable_stands w args scope ps t.parts name v t.parts_are at in
+      subst (λ (y : CorePattern). (variable scope name ≡ Some v) ⊎ Contains (typed_variables y) (v.0, v.1.0)) t.is (subst (λ vars. (variable scope name ≡ Some v) ⊎ Contains vars (v.0, v.1.0)) (typed_list t.parts) parts)
+  stands_in w expected scope (tree.Bind x p) q name v h at = absurd cc
+  stands_in w expected scope (tree.And ps) q name v h at = absurd cc
 
--- a variable after patterns stands in one of them, or was there before
-pub variable_stands : (w : Whole) (expected : List (Option TypeId)) (scope : Scope) (ps : List Pattern) (qs : List CorePattern) (name : List ℕ) (v : TypeId × VarId) → (patterns_pass w expected scope ps).trees ≡ Some qs
-    → variable (patterns_pass w expected scope ps).scope name ≡ Some v → (variable scope name ≡ Some v) ⊎ Contains qs (core_pattern.Var v.0 v.1)
-unfolding StandsIn
-variable_stands w expected scope [] qs name v h at = inl at
-variable_stands w expected scope (p ∷ ps) qs name v h at =
-    let one = pattern_pass w (first_expected expected) scope p in
-    let f = first_there one.tree (patterns_pass w (later_expected expected) one.scope ps).trees qs h in
-    let x = core_pattern.Var v.0 v.1 in
-    subst (λ (xs : List CorePattern). (variable scope name ≡ Some v) ⊎ Contains xs x) (sym f.all)
-    (⊎_elim
-    (λ before. ⊎_elim (λ was. inl was) (λ here. inr (subst (λ (y : CorePattern). Contains (y ∷ f.others) x) (sym here) (head_contained x f.others))) (stands_in scope p f.first w (first_expected expected) name v f.here before))
-    (λ later. inr (tail_contained f.first f.others x later)) (variable_stands w (later_expected expected) one.scope ps f.others name v f.found at))
+  -- a variable after patterns stands in one of them, or was there before
+  pub variable_stands : (w : Whole) (expected : List (Option TypeId)) (scope : Scope) (ps : Patterns) (qs : List CorePattern) (name : List ℕ) (v : TypeId × VarId) → (patterns_pass w expected scope ps).trees ≡ Some qs
+      → variable (patterns_pass w expected scope ps).scope name ≡ Some v → (variable scope name ≡ Some v) ⊎ Contains (all_typed qs) (v.0, v.1.0)
+  variable_stands w expected scope NoPattern qs name v h at = inl at
+  variable_stands w expected scope (APattern p ps) qs name v h at =
+      let one = pattern_pass w (first_expected expected) scope p in
+      let f = first_there one.tree (patterns_pass w (later_expected expected) one.scope ps).trees qs h in
+      subst (λ (xs : List CorePattern). (variable scope name ≡ Some v) ⊎ Contains (all_typed xs) (v.0, v.1.0)) (sym f.all)
+      (⊎_elim
+      (λ before. ⊎_elim (λ was. inl was) (λ here. inr (Contains-append_left (typed_variables f.first) (all_typed f.others) (v.0, v.1.0) here)) (stands_in w (first_expected expected) scope p f.first name v f.here before))
+      (λ later. inr (Contains-append_right (typed_variables f.first) (all_typed f.others) (v.0, v.1.0) later)) (variable_stands w (later_expected expected) one.scope ps f.others name v f.found at))

@@ -1,53 +1,67 @@
 -- What the terms of an environment are to its definitions.
-use Rattle.std.proofs.Common.{◌≡◌, ℕ, zero, suc, ◌+◌, ◌<◌, ◌≤◌, Bool, false, List, [], ◌∷◌, length, map, Some, refl, sym, ap, ◌∙◌, subst, arith}
-use Rattle.std.specs.Prelude.{Contains, slice_get}
-use Rattle.std.specs.List.{AllByRecursion, IsDistinct, range_with_len}
+use Rattle.std.proofs.Common.{◌≡◌, ℕ, zero, suc, ◌+◌, ◌<◌, ◌≤◌, Bool, true, false, List, [], ◌∷◌, ◌++◌, length, map, Option, Some, None, refl, sym, ap, ◌∙◌, subst, arith}
+use Rattle.std.specs.Prelude.{◌&&◌, not, Contains, filter_map, is_some, option_map, slice_get}
+use Rattle.std.specs.List.{AllByRecursion, IsDistinct, list_all, range_with_len}
 use Rattle.std.specs.Str.{bytes_eq}
-use Rattle.std.proofs.lemmas.Option.{same_Some}
+use Rattle.std.proofs.lemmas.Bool.{and_parts}
 use Rattle.std.proofs.lemmas.List.Elements.{All-from_recursion, All-filter, All-contains}
+use Rattle.std.proofs.lemmas.Option.{same_Some}
 use Rattle.isle_core.specs.declared.TermId.{TermId}
 use Rattle.isle_core.specs.declared.TypeId.{TypeId}
+use Rattle.isle_core.specs.declared.position.Pos.{Pos}
 use Rattle.isle_core.specs.declared.types.Term.{Term}
-use Rattle.isle_core.specs.declared.types.TypeEnv.{TypeEnv}
+use Rattle.isle_core.specs.declared.types.TermKind.{TermKind}
 use Rattle.isle_core.specs.declared.types.TermKind.TheVariants as kind
+use Rattle.isle_core.specs.declared.types.TypeEnv.{TypeEnv}
 use Rattle.isle_core.specs.declared.types.ConstructorKind.{ConstructorKind}
 use Rattle.isle_core.specs.declared.types.ExtractorKind.TheVariants as extractor
-use Rattle.isle_core.specs.BuiltinType.{IsBuiltinType}
+use Rattle.isle_core.specs.CalledTerms.{is_made_kind}
 use Rattle.isle_core.specs.Rule.{Environment}
 use Rattle.isle_core.specs.Terms.{symbol_text, sym_text, term_ids, has_rules, with_rules}
+use Rattle.isle_core.specs.TypedParts.{IsThere}
 use Rattle.isle_core.proofs.Contained.{head_contained, tail_contained}
 use Rattle.isle_ast.specs.Tree as tree
 use Rattle.isle_ast.specs.Tree.{Def}
 use Rattle.isle_ast.specs.Positions.{place_of}
+use Rattle.isle_ast.specs.declared.tree.AstBody.{AstBody}
+use Rattle.isle_ast.specs.declared.tree.AstBody.TheVariants.{Primitive, Enum, Struct}
+use Rattle.isle_ast.specs.declared.tree.AstVariant.{AstVariant}
+use Rattle.isle_declarations.specs.declared.terms.Origin.{Origin}
+use Rattle.isle_declarations.specs.declared.terms.Origin.TheVariants as origin
 use Rattle.isle_declarations.specs.Heads.{terms_of}
 use Rattle.isle_declarations.specs.Signatures.{Signature, signatures}
-use Rattle.isle_declarations.proofs.DeclaredNames.{AreAmong, are_among, text_of}
+use Rattle.isle_declarations.specs.Symbols.{index_of}
+use Rattle.isle_declarations.specs.Terms.{variant_signatures, body_signatures, terms, is_made}
+use Rattle.isle_declarations.proofs.DeclaredNames.{AreAmong, text_of}
 use Rattle.isle_declarations.proofs.DistinctNames.{distinct_names}
+use Rattle.isle_declarations.proofs.SymbolLaws.{index_below}
+use Rattle.isle_declarations.proofs.TermNames.{are_terms_among}
+use Rattle.isle_types.specs.Builtins.{type_id}
+use Rattle.isle_types.specs.TypeEnvironment.{type_def_in, type_env_of}
+use Rattle.isle_types.specs.TypeNames.{declared_names, type_names}
 use Rattle.isle_sema.specs.Whole.{Whole}
-use Rattle.isle_sema.specs.Environment.{types_of, whole_of, types_named, constructor_named, term_pass, terms_pass}
+use Rattle.isle_sema.specs.Environment.{whole_of, types_named, constructor_named, kind_from, term_pass, terms_pass}
+use Rattle.isle_sema.specs.Language.{is_built_def}
+use Rattle.isle_sema.specs.TypeNames.{type_named}
 use Rattle.isle_sema.specs.Typing.{Typed}
-use Rattle.isle_sema.proofs.BuiltForms.{IsPlain, forms_of, plain_of}
-use Rattle.isle_sema.proofs.MadeTerms.{first_there, made_of, term_is}
+use Rattle.isle_sema.proofs.BuiltForms.{IsPlain, forms_of, plain_flags}
+use Rattle.isle_sema.proofs.MadeTerms.{first_there, made_of, term_is, all_at}
+use Rattle.isle_sema.proofs.NamesApart.{made_apart, terms_apart, declared_unmade}
 use Rattle.isle_sema.proofs.TermFaults.{terms_kept}
-use Rattle.isle_sema.proofs.TypedConstants.{named_builtin}
-use Rattle.isle_sema.proofs.TypedExprs.{all_at}
 use Rattle.isle_sema.proofs.TypedParts.{typed_in}
 
--- ---- its types
+-- ---- what holds of all terms
 
-types_builtin : (defs : List Def) (env : Environment) (names : List (List ℕ)) (tys : List TypeId) → env.types ≡ types_of defs → types_named (types_of defs) names ≡ Some tys → AllByRecursion (IsBuiltinType env) tys
-types_builtin defs env [] tys types h = subst (AllByRecursion (IsBuiltinType env)) (same_Some [] tys h) tt
-types_builtin defs env (name ∷ names) tys types h =
-    let f = first_there _ (types_named (types_of defs) names) tys h in
-    subst (AllByRecursion (IsBuiltinType env)) (sym f.all) (named_builtin defs env name f.first types f.here, types_builtin defs env names f.others types f.found)
+variants_all : (P : Signature → Type 0) (ty : List ℕ) (pos : Pos) (i : ℕ) (vs : List AstVariant) (rest : List Signature) → ((s : Signature) → is_made s.origin ≡ true → s.pos ≡ pos → P s) → AllByRecursion P rest
+    → AllByRecursion P (variant_signatures ty pos i vs ++ rest)
+variants_all P ty pos i [] rest own h = h
+variants_all P ty pos i (v ∷ vs) rest own h = (own _ refl refl, variants_all P ty pos (i + 1) vs rest own h)
 
--- the types of a term are builtin
-pub typed_types : (defs : List Def) (env : Environment) (i : ℕ) (t : Term) → Typed defs env → slice_get env.terms i ≡ Some t → AllByRecursion (IsBuiltinType env) (t.ret_ty ∷ t.arg_tys)
-typed_types defs env i t h at =
-    let g = typed_in h in
-    let m = made_of (whole_of defs) (signatures defs) env.terms i t g.terms at in
-    let is = term_is (whole_of defs) m.signature t m.made in
-    (named_builtin defs env m.signature.ret t.ret_ty g.types is.ret, types_builtin defs env m.signature.args t.arg_tys g.types is.args)
+-- what holds of made terms of this place holds of those that a type makes
+body_all : (P : Signature → Type 0) (ty : List ℕ) (body : AstBody) (pos : Pos) (rest : List Signature) → ((s : Signature) → is_made s.origin ≡ true → s.pos ≡ pos → P s) → AllByRecursion P rest → AllByRecursion P (body_signatures ty body pos ++ rest)
+body_all P ty (Primitive rust) pos rest own h = h
+body_all P ty (Enum variants) pos rest own h = variants_all P ty pos 0 variants rest own h
+body_all P ty (Struct fields) pos rest own h = (own _ refl refl, h)
 
 -- ---- its kind
 
@@ -55,51 +69,83 @@ pub plain_kind : (pure multi partial recursive : Bool) (by : ConstructorKind) �
 plain_kind pure multi partial recursive by p m r =
     ap (λ b. kind.Decl b false partial false by extractor.Absent) (sym p) ∙ ap (λ b. kind.Decl pure b partial false by extractor.Absent) (sym m) ∙ ap (λ b. kind.Decl pure multi partial b by extractor.Absent) (sym r)
 
--- a term has at most the flag `partial`, and no extractor
-pub typed_kind : (defs : List Def) (env : Environment) (i : ℕ) (t : Term) → Typed defs env → slice_get env.terms i ≡ Some t → (partial : Bool) × (by : ConstructorKind) × (kind.Decl false false partial false by extractor.Absent ≡ t.kind)
-typed_kind defs env i t h at =
+-- a term that no type makes has at most the flag `partial`
+abbrev pub IsPlainTerm : Signature → Type 0
+IsPlainTerm s = is_made s.origin ≡ false → IsPlain s
+
+made_plain : (s : Signature) (pos : Pos) → is_made s.origin ≡ true → s.pos ≡ pos → IsPlainTerm s
+made_plain s pos made at other = let bad : true ≡ false = sym made ∙ other in absurd cc
+
+pub plain_terms : (ds : List Def) → list_all is_built_def ds ≡ true → AllByRecursion IsPlainTerm (terms ds)
+plain_terms [] h = tt
+plain_terms (tree.Decl term pure multi partial recursive args ret pos ∷ ds) h =
+    let k = and_parts (not pure && not multi && not recursive) (list_all is_built_def ds) h in
+    let f = plain_flags pure multi recursive k.0 in
+    (λ e. record { pure = f.0; multi = f.1; recursive = f.2 }, plain_terms ds k.1)
+plain_terms (tree.TypeDecl name is_extern is_nodebug body pos ∷ ds) h = body_all IsPlainTerm name body pos (terms ds) (λ s made at. made_plain s pos made at) (plain_terms ds h)
+plain_terms (tree.ExternConstructor term func pos ∷ ds) h = plain_terms ds h
+plain_terms (tree.Rule name prio term args iflets rhs pos ∷ ds) h = plain_terms ds (and_parts (is_built_def (tree.Rule name prio term args iflets rhs pos)) (list_all is_built_def ds) h).1
+plain_terms (tree.ExternConst name ty pos ∷ ds) h = plain_terms ds h
+plain_terms (tree.ExternExtractor term func infallible pos ∷ ds) h = absurd cc
+plain_terms (tree.Extractor term params template pos ∷ ds) h = absurd cc
+plain_terms (tree.Converter from to term pos ∷ ds) h = absurd cc
+plain_terms (tree.Passed head items pos ∷ ds) h = plain_terms ds h
+
+-- a term of this kind is declared, with at most the flag `partial`, and no extractor
+abbrev pub IsPlainKind : TermKind → Type 0
+IsPlainKind k = (partial : Bool) × (by : ConstructorKind) × (kind.Decl false false partial false by extractor.Absent ≡ k)
+
+kind_plain : (w : Whole) (s : Signature) (ret : TypeId) (from : Origin) (k : TermKind) → (is_made from ≡ false → IsPlain s) → kind_from w s ret from ≡ k → is_made_kind k ≡ false → IsPlainKind k
+kind_plain w s ret origin.Declared k plain is other =
+    let flags = plain refl in
+    let by = constructor_named w s.term in
+    (s.partial, by, plain_kind s.pure s.multi s.partial s.recursive by flags.pure flags.multi flags.recursive ∙ is)
+kind_plain w s ret (origin.Variant n) k plain is other = let bad : true ≡ false = ap is_made_kind is ∙ other in absurd cc
+kind_plain w s ret origin.Struct k plain is other = let bad : true ≡ false = ap is_made_kind is ∙ other in absurd cc
+
+-- a term that no type makes has at most the flag `partial`, and no extractor
+pub typed_kind : (defs : List Def) (env : Environment) (i : ℕ) (t : Term) → Typed defs env → slice_get env.terms i ≡ Some t → is_made_kind t.kind ≡ false → IsPlainKind t.kind
+typed_kind defs env i t h at other =
     let g = typed_in h in
-    let m = made_of (whole_of defs) (signatures defs) env.terms i t g.terms at in
+    let m = made_of (whole_of defs) (terms defs) env.terms i t g.terms at in
     let s = m.signature in
     let is = term_is (whole_of defs) s t m.made in
-    let flags = all_at IsPlain (signatures defs) i s (plain_of defs g.built) m.there in
-    let by = constructor_named (whole_of defs) s.term in
-    (s.partial, by, plain_kind s.pure s.multi s.partial s.recursive by flags.pure flags.multi flags.recursive ∙ ap (λ (u : Term). u.kind) is.is)
+    kind_plain (whole_of defs) s t.ret_ty s.origin t.kind (all_at IsPlainTerm (terms defs) i s (plain_terms defs g.built) m.there) (ap (λ (u : Term). u.kind) is.is) other
 
 -- ---- its place
 
 -- a definition of this place
-StandsIn : List Def → Signature → Type 0
+abbrev StandsIn : List Def → Signature → Type 0
 StandsIn defs s = (d : Def) × Contains defs d × (place_of d ≡ s.pos)
 
-later : (first : Def) (defs : List Def) (s : Signature) → StandsIn defs s → StandsIn (first ∷ defs) s
-unfolding StandsIn
-later first defs s h = (h.0, tail_contained first defs h.0 h.1, h.2)
+-- definitions among all
+abbrev AreIn : List Def → List Def → Type 0
+AreIn all ds = (d : Def) → Contains ds d → Contains all d
 
-first_is : (d : Def) (defs : List Def) (here s : Signature) → place_of d ≡ here.pos → Some here ≡ Some s → StandsIn (d ∷ defs) s
-unfolding StandsIn
-first_is d defs here s at e = (d, head_contained d defs, at ∙ ap (λ (x : Signature). x.pos) (same_Some here s e))
+rest_in : (all : List Def) (first : Def) (ds : List Def) → AreIn all (first ∷ ds) → AreIn all ds
+rest_in all first ds h d c = h d (tail_contained first ds d c)
 
-stands_in : (defs : List Def) (i : ℕ) (s : Signature) → slice_get (signatures defs) i ≡ Some s → StandsIn defs s
-stands_in [] i s e = absurd cc
-stands_in (tree.Decl term pure multi partial recursive args ret pos ∷ defs) zero s e =
-    first_is (tree.Decl term pure multi partial recursive args ret pos) defs (record { term = term; pure = pure; multi = multi; partial = partial; recursive = recursive; args = args; ret = ret; pos = pos }) s refl e
-stands_in (tree.Decl term pure multi partial recursive args ret pos ∷ defs) (suc i) s e = later (tree.Decl term pure multi partial recursive args ret pos) defs s (stands_in defs i s e)
-stands_in (tree.Rule name prio term args iflets rhs pos ∷ defs) i s e = later (tree.Rule name prio term args iflets rhs pos) defs s (stands_in defs i s e)
-stands_in (tree.TypeDecl name is_extern is_nodebug body pos ∷ defs) i s e = later (tree.TypeDecl name is_extern is_nodebug body pos) defs s (stands_in defs i s e)
-stands_in (tree.ExternConstructor term func pos ∷ defs) i s e = later (tree.ExternConstructor term func pos) defs s (stands_in defs i s e)
-stands_in (tree.ExternExtractor term func infallible pos ∷ defs) i s e = later (tree.ExternExtractor term func infallible pos) defs s (stands_in defs i s e)
-stands_in (tree.ExternConst name ty pos ∷ defs) i s e = later (tree.ExternConst name ty pos) defs s (stands_in defs i s e)
-stands_in (tree.Extractor term params template pos ∷ defs) i s e = later (tree.Extractor term params template pos) defs s (stands_in defs i s e)
-stands_in (tree.Converter from to term pos ∷ defs) i s e = later (tree.Converter from to term pos) defs s (stands_in defs i s e)
-stands_in (tree.Passed head items pos ∷ defs) i s e = later (tree.Passed head items pos) defs s (stands_in defs i s e)
+all_stand : (all ds : List Def) → AreIn all ds → AllByRecursion (StandsIn all) (terms ds)
+all_stand all [] h = tt
+all_stand all (tree.Decl term pure multi partial recursive args ret pos ∷ ds) h =
+    let d = tree.Decl term pure multi partial recursive args ret pos in
+    ((d, h d (head_contained d ds), refl), all_stand all ds (rest_in all d ds h))
+all_stand all (tree.TypeDecl name is_extern is_nodebug body pos ∷ ds) h =
+    let d = tree.TypeDecl name is_extern is_nodebug body pos in
+    body_all (StandsIn all) name body pos (terms ds) (λ s made at. (d, h d (head_contained d ds), sym at)) (all_stand all ds (rest_in all d ds h))
+all_stand all (tree.Rule name prio term args iflets rhs pos ∷ ds) h = all_stand all ds (rest_in all (tree.Rule name prio term args iflets rhs pos) ds h)
+all_stand all (tree.ExternConstructor term func pos ∷ ds) h = all_stand all ds (rest_in all (tree.ExternConstructor term func pos) ds h)
+all_stand all (tree.ExternExtractor term func infallible pos ∷ ds) h = all_stand all ds (rest_in all (tree.ExternExtractor term func infallible pos) ds h)
+all_stand all (tree.ExternConst name ty pos ∷ ds) h = all_stand all ds (rest_in all (tree.ExternConst name ty pos) ds h)
+all_stand all (tree.Extractor term params template pos ∷ ds) h = all_stand all ds (rest_in all (tree.Extractor term params template pos) ds h)
+all_stand all (tree.Converter from to term pos ∷ ds) h = all_stand all ds (rest_in all (tree.Converter from to term pos) ds h)
+all_stand all (tree.Passed head items pos ∷ ds) h = all_stand all ds (rest_in all (tree.Passed head items pos) ds h)
 
--- a term stands where a definition does
+-- a term stands where a definition does: a made one where its type's does
 pub typed_places : (defs : List Def) (env : Environment) (i : ℕ) (t : Term) → Typed defs env → slice_get env.terms i ≡ Some t → (d : Def) × Contains defs d × (place_of d ≡ t.decl_pos)
-unfolding StandsIn
 typed_places defs env i t h at =
-    let m = made_of (whole_of defs) (signatures defs) env.terms i t (typed_in h).terms at in
-    let s = stands_in defs i m.signature m.there in
+    let m = made_of (whole_of defs) (terms defs) env.terms i t (typed_in h).terms at in
+    let s = all_at (StandsIn defs) (terms defs) i m.signature (all_stand defs defs (λ d c. c)) m.there in
     (s.0, s.1, s.2 ∙ ap (λ (u : Term). u.decl_pos) (term_is (whole_of defs) m.signature t m.made).is)
 
 -- ---- the terms with rules
@@ -120,20 +166,64 @@ typed_there defs env id h among =
     let ids = All-from_recursion below (term_ids env) (ids_below 0 (length env.terms) (length env.terms) (omega arith)) in
     is_there env.terms id.0 (All-contains below (with_rules env) id (All-filter (has_rules env) below (term_ids env) ids) among)
 
+-- ---- its types
+
+-- as many types are declared as names of types
+as_many : (all ds : List Def) → length (filter_map (type_def_in all) ds) ≡ length (declared_names ds)
+as_many all [] = refl
+as_many all (tree.TypeDecl name is_extern is_nodebug body pos ∷ ds) = ap suc (as_many all ds)
+as_many all (tree.Decl term pure multi partial recursive args ret pos ∷ ds) = as_many all ds
+as_many all (tree.ExternConstructor term func pos ∷ ds) = as_many all ds
+as_many all (tree.ExternExtractor term func infallible pos ∷ ds) = as_many all ds
+as_many all (tree.ExternConst name ty pos ∷ ds) = as_many all ds
+as_many all (tree.Extractor term params template pos ∷ ds) = as_many all ds
+as_many all (tree.Converter from to term pos ∷ ds) = as_many all ds
+as_many all (tree.Rule name prio term args iflets rhs pos ∷ ds) = as_many all ds
+as_many all (tree.Passed head items pos ∷ ds) = as_many all ds
+
+-- the type of a name is there
+type_there : (defs : List Def) (env : Environment) (name : List ℕ) (ty : TypeId) → env.types ≡ type_env_of defs → type_named defs name ≡ Some ty → IsThere env.types ty
+type_there defs env name ty types h = by (index_of (type_names defs) name) refl h
+  where
+    by : (o : Option ℕ) → index_of (type_names defs) name ≡ o → option_map type_id o ≡ Some ty → IsThere env.types ty
+    by None at e = absurd cc
+    by (Some n) at e =
+        let among : n < length (type_names defs) = index_below (type_names defs) name n at in
+        let counted = as_many defs defs in
+        let below : n < length (type_env_of defs).types = omega (arith, among, counted) in
+        let there = is_there (type_env_of defs).types n below in
+        subst (IsThere env.types) (same_Some (type_id n) ty e) (ap (λ (ts : TypeEnv). is_some (slice_get ts.types n)) types ∙ ap is_some there.1)
+
+types_there : (defs : List Def) (env : Environment) (names : List (List ℕ)) (tys : List TypeId) → env.types ≡ type_env_of defs → types_named defs names ≡ Some tys → AllByRecursion (IsThere env.types) tys
+types_there defs env [] tys types h = subst (AllByRecursion (IsThere env.types)) (same_Some [] tys h) tt
+types_there defs env (name ∷ names) tys types h =
+    let f = first_there (type_named defs name) (types_named defs names) tys h in
+    subst (AllByRecursion (IsThere env.types)) (sym f.all) (type_there defs env name f.first types f.here, types_there defs env names f.others types f.found)
+
+-- the types of a term are there
+pub typed_types : (defs : List Def) (env : Environment) (i : ℕ) (t : Term) → Typed defs env → slice_get env.terms i ≡ Some t → AllByRecursion (IsThere env.types) (t.ret_ty ∷ t.arg_tys)
+typed_types defs env i t h at =
+    let g = typed_in h in
+    let m = made_of (whole_of defs) (terms defs) env.terms i t g.terms at in
+    let is = term_is (whole_of defs) m.signature t m.made in
+    (type_there defs env m.signature.ret t.ret_ty g.types is.ret, types_there defs env m.signature.args t.arg_tys g.types is.args)
+
 -- ---- their names
 
-names_are : (w : Whole) (sigs : List Signature) (terms : List Term) → terms_pass w sigs ≡ Some terms → AreAmong w.types.syms sigs → map (λ (t : Term). symbol_text w.types t.name) terms ≡ terms_of sigs
-names_are w [] terms h among = ap (map (λ (t : Term). symbol_text w.types t.name)) (sym (same_Some [] terms h))
-names_are w (s ∷ sigs) terms h among =
-    let f = first_there (term_pass w s) (terms_pass w sigs) terms h in
+names_are : (w : Whole) (sigs : List Signature) (made : List Term) → terms_pass w sigs ≡ Some made → AreAmong w.types.syms sigs → map (λ (t : Term). symbol_text w.types t.name) made ≡ terms_of sigs
+names_are w [] made h among = ap (map (λ (t : Term). symbol_text w.types t.name)) (sym (same_Some [] made h))
+names_are w (s ∷ sigs) made h among =
+    let f = first_there (term_pass w s) (terms_pass w sigs) made h in
     let is = term_is w s f.first f.here in
     ap (map (λ (t : Term). symbol_text w.types t.name)) f.all
     ∙ ap (λ name. name ∷ map (λ (t : Term). symbol_text w.types t.name) f.others) (ap (λ (t : Term). symbol_text w.types t.name) (sym is.is) ∙ text_of w.types.syms s.term among.0.0 among.0.1)
     ∙ ap (λ names. s.term ∷ names) (names_are w sigs f.others f.found among.1)
 
--- the declared names don't repeat
+-- no two terms have one name
 pub typed_names : (defs : List Def) (env : Environment) → Typed defs env → IsDistinct bytes_eq (map (λ (t : Term). sym_text env t.name) env.terms)
 typed_names defs env h =
     let g = typed_in h in
+    let kept = terms_kept defs [] defs (forms_of defs g.built) g.terms_kept in
+    let apart = terms_apart defs (distinct_names (terms_of (signatures defs)) kept.apart) (made_apart defs g.types_kept) (declared_unmade defs (signatures defs) kept.unmade) in
     subst (λ (types : TypeEnv). IsDistinct bytes_eq (map (λ (t : Term). symbol_text types t.name) env.terms)) (sym g.types)
-    (subst (IsDistinct bytes_eq) (sym (names_are (whole_of defs) (signatures defs) env.terms g.terms (are_among defs))) (distinct_names (terms_of (signatures defs)) (terms_kept defs [] defs (forms_of defs g.built) g.terms_kept).apart))
+    (subst (IsDistinct bytes_eq) (sym (names_are (whole_of defs) (terms defs) env.terms g.terms (are_terms_among defs))) apart)

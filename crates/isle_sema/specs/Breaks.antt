@@ -6,7 +6,7 @@ use Rattle.isle_types.specs.declared.row.Row.{Row}
 use Rattle.isle_types.specs.TypeRows.{type_repeats, field_repeats, field_type_missing, many_fields, made_term_repeats, constant_misfit}
 use Rattle.isle_sema.specs.Context.{Context}
 use Rattle.isle_sema.specs.DeclarationRows.{declaration_repeats, type_missing, many_arguments, multi_and_partial, term_undeclared, second_of_term, head_misfit}
-use Rattle.isle_sema.specs.RuleRows.{pattern_term_misfit, literal_misfit, variable_type_misfit, expr_name_misfit, expr_type_misfit, partial_call, impure_call, multi_call, many_nodes}
+use Rattle.isle_sema.specs.RuleRows.{pattern_term_misfit, pattern_type_misfit, literal_misfit, constant_undeclared, variable_type_misfit, expr_name_misfit, expr_type_misfit, partial_call, impure_call, multi_call, many_nodes}
 
 -- what a row refuses; nothing is said yet of the rows that no definition of a built form can break
 abbrev pub judge : Row → Option (Context → Def → Bool)
@@ -29,9 +29,9 @@ judge row.HeadMisfit = Some head_misfit
 judge row.ExtractorReachesItself = None
 judge row.TemplateMisfit = None
 judge row.PatternTermMisfit = Some pattern_term_misfit
-judge row.PatternTypeMisfit = None
+judge row.PatternTypeMisfit = Some pattern_type_misfit
 judge row.LiteralMisfit = Some literal_misfit
-judge row.ConstantUndeclared = None
+judge row.ConstantUndeclared = Some constant_undeclared
 judge row.VariableTypeMisfit = Some variable_type_misfit
 judge row.MultiExtractor = None
 judge row.ExprNameMisfit = Some expr_name_misfit

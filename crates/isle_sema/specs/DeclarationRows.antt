@@ -4,19 +4,20 @@ use Rattle.std.specs.List.{list_all}
 use Rattle.isle_ast.specs.Tree.{Def, TypeDecl, Decl, ExternConstructor, ExternExtractor, ExternConst, Extractor, Converter, Rule, Passed}
 use Rattle.isle_declarations.specs.Symbols.{index_of}
 use Rattle.isle_declarations.specs.Signatures.{Signature, Extern, RuleDef, signature_of, extern_of, rule_of, signatures, externs, func_named}
+use Rattle.isle_declarations.specs.DeclaredTypes.{made_terms}
 use Rattle.isle_declarations.specs.Heads.{terms_of, extern_terms}
 use Rattle.isle_sema.specs.TypeNames.{type_named}
 use Rattle.isle_sema.specs.Whole.{declared}
 use Rattle.isle_types.specs.TypeRows.{on}
 use Rattle.isle_sema.specs.Context.{Context}
 
--- a declaration's name is that of an earlier declaration; made terms are not built
+-- a declaration's name is that of an earlier declaration, or of a term that a type makes
 abbrev pub declaration_repeats : Context → Def → Bool
-declaration_repeats c d = on (signature_of d) (λ (s : Signature). is_some (index_of (terms_of (signatures c.before)) s.term))
+declaration_repeats c d = on (signature_of d) (λ (s : Signature). is_some (index_of (terms_of (signatures c.before)) s.term) || is_some (index_of (made_terms c.whole.defs) s.term))
 
 -- the type of its result or of an argument is not declared
 abbrev pub type_missing : Context → Def → Bool
-type_missing c d = on (signature_of d) (λ (s : Signature). not (is_some (type_named c.whole.types s.ret) && list_all (λ (n : List ℕ). is_some (type_named c.whole.types n)) s.args))
+type_missing c d = on (signature_of d) (λ (s : Signature). not (is_some (type_named c.whole.defs s.ret) && list_all (λ (n : List ℕ). is_some (type_named c.whole.defs n)) s.args))
 
 -- it has more than 256 arguments
 abbrev pub many_arguments : Context → Def → Bool

@@ -7,7 +7,7 @@ use Rattle.isle_core.specs.declared.rules.Expr.{Expr as CodeExpr}
 use Rattle.isle_core.specs.Pattern.{Pattern as CorePattern}
 use Rattle.isle_core.specs.Expr.{Exprs as CoreExprs}
 use Rattle.isle_core.specs.RuleViews.{pattern as elaborated_pattern, expr as elaborated_expr, exprs_of}
-use Rattle.isle_ast.specs.Tree.{Pattern, Expr, Exprs}
+use Rattle.isle_ast.specs.Tree.{Pattern, Patterns, Expr, Exprs}
 use Rattle.isle_sema.specs.declared.judged.Judged.{Judged}
 use Rattle.isle_sema.specs.declared.sides.Sides.{Sides}
 use Rattle.isle_declarations.specs.Signatures.{RuleDef}
@@ -33,7 +33,7 @@ pub record IsPatternAt (w : Whole) (expected : Option TypeId) (p : Pattern) (old
   pub sites : after ≡ judge_all w before (pattern_pass w expected old p).sites
 
 -- patterns where these types are expected
-pub record ArePatternsAt (w : Whole) (types : List TypeId) (ps : List Pattern) (old new : Scope) (before after : Judged) (found : Option (Vec CodePattern)) : Type 0 where
+pub record ArePatternsAt (w : Whole) (types : List TypeId) (ps : Patterns) (old new : Scope) (before after : Judged) (found : Option (Vec CodePattern)) : Type 0 where
   pub trees : pattern_trees found ≡ (patterns_pass w (map Some types) old ps).trees
   pub scope : new ≡ (patterns_pass w (map Some types) old ps).scope
   pub sites : after ≡ judge_all w before (patterns_pass w (map Some types) old ps).sites

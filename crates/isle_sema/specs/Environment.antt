@@ -2,6 +2,7 @@
 use Rattle.std.specs.Prelude.{ℕ, List, [], ◌∷◌, Bool, true, false, Option, Some, None, option_map, option_and_then}
 use Rattle.isle_core.specs.declared.TypeId.{TypeId}
 use Rattle.isle_core.specs.declared.types.Term.{Term}
+use Rattle.isle_core.specs.declared.types.TermKind.{TermKind}
 use Rattle.isle_core.specs.declared.types.TermKind.TheVariants as kind
 use Rattle.isle_core.specs.declared.types.ConstructorKind.{ConstructorKind}
 use Rattle.isle_core.specs.declared.types.ConstructorKind.TheVariants as constructor
@@ -9,26 +10,25 @@ use Rattle.isle_core.specs.declared.types.ExtractorKind.TheVariants as extractor
 use Rattle.isle_core.specs.declared.types.TypeEnv.{TypeEnv}
 use Rattle.isle_core.specs.Rule.{Rule as CoreRule, Environment}
 use Rattle.isle_ast.specs.Tree.{Def}
-use Rattle.isle_declarations.specs.Symbols.{symbols, sym_of}
-use Rattle.isle_types.specs.Builtins.{builtins}
-use Rattle.isle_declarations.specs.Signatures.{Signature, signatures, externs, rule_defs, func_named, has_rule}
+use Rattle.isle_declarations.specs.declared.terms.Origin.{Origin}
+use Rattle.isle_declarations.specs.declared.terms.Origin.TheVariants as origin
+use Rattle.isle_declarations.specs.Symbols.{sym_of}
+use Rattle.isle_declarations.specs.Signatures.{Signature, externs, rule_defs, func_named, has_rule}
+use Rattle.isle_declarations.specs.Terms.{terms}
+use Rattle.isle_types.specs.TypeEnvironment.{type_env_of}
 use Rattle.isle_sema.specs.TypeNames.{type_named}
 use Rattle.isle_sema.specs.Whole.{Whole}
 use Rattle.isle_sema.specs.PatternPass.{tree_before}
 use Rattle.isle_sema.specs.RulePass.{rules_pass}
 
--- the symbols, types and constants of definitions; of types and constants none is built
-abbrev pub types_of : List Def → TypeEnv
-types_of defs = record { syms = symbols defs; types = builtins; consts = [] }
-
 -- the definitions over their types
 abbrev pub whole_of : List Def → Whole
-whole_of defs = record { types = types_of defs; defs = defs }
+whole_of defs = record { types = type_env_of defs; defs = defs }
 
 -- the types of names, where all are declared
-abbrev pub types_named : TypeEnv → List (List ℕ) → Option (List TypeId)
-types_named types [] = Some []
-types_named types (name ∷ names) = tree_before (type_named types name) (types_named types names)
+abbrev pub types_named : List Def → List (List ℕ) → Option (List TypeId)
+types_named defs [] = Some []
+types_named defs (name ∷ names) = tree_before (type_named defs name) (types_named defs names)
 
 -- a term comes from its external constructor, or else from its rules, where it has some
 abbrev pub constructor_of : List (List ℕ) → Option (List ℕ) → Bool → ConstructorKind
@@ -40,21 +40,27 @@ constructor_of syms None false = constructor.Absent
 abbrev pub constructor_named : Whole → List ℕ → ConstructorKind
 constructor_named w name = constructor_of w.types.syms (func_named (externs w.defs) name) (has_rule (rule_defs w.defs) name)
 
--- the term of a declaration, on arguments of these types; extractors are not built
+-- what a term is that gives this type; extractors are not built
+abbrev pub kind_from : Whole → Signature → TypeId → Origin → TermKind
+kind_from w s ret origin.Declared = kind.Decl s.pure s.multi s.partial s.recursive (constructor_named w s.term) extractor.Absent
+kind_from w s ret (origin.Variant number) = kind.Variant ret (record { 0 = number })
+kind_from w s ret origin.Struct = kind.Struct ret
+
+-- the term on arguments of these types
 abbrev pub term_from : Whole → Signature → List TypeId → TypeId → Term
 term_from w s args ret = record {
   name = sym_of w.types.syms s.term;
   decl_pos = s.pos;
   arg_tys = args;
   ret_ty = ret;
-  kind = kind.Decl s.pure s.multi s.partial s.recursive (constructor_named w s.term) extractor.Absent;
+  kind = kind_from w s ret s.origin;
 }
 
--- the term of a declaration, where its types are declared
+-- the term, where its types are declared
 abbrev pub term_pass : Whole → Signature → Option Term
-term_pass w s = option_and_then (λ (args : List TypeId). option_map (term_from w s args) (type_named w.types s.ret)) (types_named w.types s.args)
+term_pass w s = option_and_then (λ (args : List TypeId). option_map (term_from w s args) (type_named w.defs s.ret)) (types_named w.defs s.args)
 
--- the terms of declarations, in order
+-- terms in order
 abbrev pub terms_pass : Whole → List Signature → Option (List Term)
 terms_pass w [] = Some []
 terms_pass w (s ∷ sigs) = tree_before (term_pass w s) (terms_pass w sigs)
@@ -65,4 +71,4 @@ env_over types terms rules = record { types = types; terms = terms; rules = rule
 
 -- the environment of definitions, where their forms are built and their types are known
 abbrev pub env_of : List Def → Option Environment
-env_of defs = option_and_then (λ (terms : List Term). option_map (env_over (types_of defs) terms) (rules_pass (whole_of defs) 0 (rule_defs defs))) (terms_pass (whole_of defs) (signatures defs))
+env_of defs = option_and_then (λ (made : List Term). option_map (env_over (type_env_of defs) made) (rules_pass (whole_of defs) 0 (rule_defs defs))) (terms_pass (whole_of defs) (terms defs))

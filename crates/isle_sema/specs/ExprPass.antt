@@ -1,6 +1,6 @@
 -- Expressions of rules: the expected type and the variables go in; the tree with types in it and the places that the
 -- typing table judges come out.
-use Rattle.std.specs.Prelude.{ℕ, ℤ, List, [], ◌∷◌, ◌++◌, Option, Some, None, option_map, option_and_then}
+use Rattle.std.specs.Prelude.{ℕ, ℤ, List, [], ◌∷◌, ◌++◌, false, Option, Some, None, option_map, option_and_then}
 use Rattle.isle_core.specs.declared.TermId.{TermId}
 use Rattle.isle_core.specs.declared.TypeId.{TypeId}
 use Rattle.isle_core.specs.declared.VarId.{VarId}
@@ -10,11 +10,13 @@ use Rattle.isle_core.specs.Expr.{Expr as CoreExpr, Exprs as CoreExprs, NoExpr as
 use Rattle.isle_ast.specs.Tree as tree
 use Rattle.isle_ast.specs.Tree.{Expr, Exprs, NoExpr, AnExpr}
 use Rattle.isle_sema.specs.Reduced.{typed_integer}
-use Rattle.isle_declarations.specs.Signatures.{signatures, term_named}
+use Rattle.isle_declarations.specs.Signatures.{term_named}
+use Rattle.isle_declarations.specs.Symbols.{sym_of}
+use Rattle.isle_declarations.specs.Terms.{terms}
 use Rattle.isle_sema.specs.Calls.{count_of}
 use Rattle.isle_sema.specs.Scope.{Scope, bound_at, variable}
-use Rattle.isle_sema.specs.Site.{Site, IntegerAt, TruthAt, UsedAt, CalledAt, NotBuiltAt}
-use Rattle.isle_sema.specs.Whole.{Whole, declared, arg_types, ret_type}
+use Rattle.isle_sema.specs.Site.{Site, IntegerAt, TruthAt, UsedAt, CalledAt, ConstantAt, NotBuiltAt}
+use Rattle.isle_sema.specs.Whole.{Whole, termed, arg_types, ret_type, constant_type}
 use Rattle.isle_sema.specs.PatternPass.{first_expected, later_expected}
 
 -- an expression's tree, where its form is built and its types are known, and its parts
@@ -39,6 +41,10 @@ integer_tree types expected n = option_map (λ (v : TypeId × ℤ). core_expr.Co
 abbrev pub variable_tree : Scope → List ℕ → Option CoreExpr
 variable_tree scope name = option_map (λ (v : TypeId × VarId). core_expr.Var v.0 v.1) (variable scope name)
 
+-- a constant's tree, where it is declared
+abbrev pub constant_tree : TypeEnv → Option TypeId → List ℕ → Option CoreExpr
+constant_tree types ty name = option_map (λ (t : TypeId). core_expr.ConstPrim t (sym_of types.syms name)) ty
+
 -- a call of this type, of this term, on these
 abbrev pub call_tree : Option TypeId → Option TermId → Option CoreExprs → Option CoreExpr
 call_tree ty term es = option_and_then (λ (t : TypeId). option_and_then (λ (n : TermId). option_map (core_expr.Term t n) es) term) ty
@@ -55,9 +61,9 @@ abbrev mutual
   expr_pass w scope expected (tree.Fact b) = record { tree = Some (core_expr.ConstBool b); sites = TruthAt expected ∷ [] }
   expr_pass w scope expected (tree.Name name) = record { tree = variable_tree scope name; sites = UsedAt expected (bound_at scope name) ∷ [] }
   expr_pass w scope expected (tree.Call name es) =
-      let args = exprs_pass w scope (arg_types w (declared w name)) es in
-      record { tree = call_tree (ret_type w (declared w name)) (term_named (signatures w.defs) name) args.trees; sites = CalledAt expected (declared w name) (count_of es) ∷ args.sites }
-  expr_pass w scope expected (tree.Constant name) = not_built
+      let args = exprs_pass w scope (arg_types w (termed w name)) es in
+      record { tree = call_tree (ret_type w (termed w name)) (term_named (terms w.defs) name) args.trees; sites = CalledAt expected (termed w name) (count_of es) ∷ args.sites }
+  expr_pass w scope expected (tree.Constant name) = record { tree = constant_tree w.types (constant_type w name) name; sites = ConstantAt false expected (constant_type w name) ∷ [] }
   expr_pass w scope expected (tree.Let ls inner) = not_built
 
   -- expressions where these are expected, beyond them nothing

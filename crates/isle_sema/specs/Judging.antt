@@ -7,7 +7,7 @@ use Rattle.isle_types.specs.declared.row.Row.{Row}
 use Rattle.isle_declarations.specs.Signatures.{Signature, rule_defs, has_rule}
 use Rattle.isle_sema.specs.Site.{Site}
 use Rattle.isle_sema.specs.Whole.{Whole}
-use Rattle.isle_sema.specs.RuleRows.{is_misplaced, is_met_otherwise, is_unknown, is_mistyped, is_call_of}
+use Rattle.isle_sema.specs.RuleRows.{is_untaken, is_mistaken, is_misplaced, is_undeclared, is_met_otherwise, is_unknown, is_mistyped, is_call_of}
 
 -- a call of a term that has a rule, which is not built
 abbrev pub is_ruled_call : Whole → Site → Bool
@@ -27,12 +27,15 @@ is_multi_call site = is_call_of (λ (s : Signature). s.multi) site
 
 -- before any part
 abbrev pub unjudged : Judged
-unjudged = record { misplaced = false; met_otherwise = false; unknown = false; mistyped = false; partial = false; impure = false; multi = false; ruled = false; nodes = 0 }
+unjudged = record { untaken = false; mistaken = false; misplaced = false; undeclared = false; met_otherwise = false; unknown = false; mistyped = false; partial = false; impure = false; multi = false; ruled = false; nodes = 0 }
 
 -- one part more, at most as many as are counted
 abbrev pub judge : Whole → Judged → Site → Judged
 judge w j site = record {
+  untaken = is_untaken site || j.untaken;
+  mistaken = is_mistaken w site || j.mistaken;
   misplaced = is_misplaced w site || j.misplaced;
+  undeclared = is_undeclared site || j.undeclared;
   met_otherwise = is_met_otherwise site || j.met_otherwise;
   unknown = is_unknown w site || j.unknown;
   mistyped = is_mistyped w site || j.mistyped;
@@ -50,8 +53,10 @@ judge_all w j sites = fold (judge w) j sites
 -- the lowest row that a rule of this term breaks, with so many patterns that are judged so, and its right side so
 abbrev pub lowest : Called → ℕ → Judged → Judged → Option Row
 lowest own count left right =
-    if not (count == length own.args.now) then Some row.PatternTermMisfit
+    if not (count == length own.args.now) || (left.untaken || right.untaken) then Some row.PatternTermMisfit
+    else if left.mistaken || right.mistaken then Some row.PatternTypeMisfit
     else if left.misplaced || right.misplaced then Some row.LiteralMisfit
+    else if left.undeclared || right.undeclared then Some row.ConstantUndeclared
     else if left.met_otherwise || right.met_otherwise then Some row.VariableTypeMisfit
     else if left.unknown || right.unknown then Some row.ExprNameMisfit
     else if left.mistyped || right.mistyped then Some row.ExprTypeMisfit

@@ -1,32 +1,39 @@
 -- The definitions that are built.
-use Rattle.std.specs.Prelude.{List, [], ◌∷◌, Bool, true, false, ◌&&◌, not, flat_map}
+use Rattle.std.specs.Prelude.{List, [], ◌∷◌, Bool, true, false, ◌&&◌, not}
 use Rattle.std.specs.List.{list_all, list_any}
 use Rattle.isle_ast.specs.Tree as tree
-use Rattle.isle_ast.specs.Tree.{Pattern, Expr, Exprs, NoExpr, AnExpr, IfLet, Def, TypeDecl, Decl, ExternConstructor, ExternExtractor, ExternConst, Extractor, Converter, Rule, Passed}
-use Rattle.isle_sema.specs.VariableNames.{variable_names}
+use Rattle.isle_ast.specs.Tree.{Pattern, Patterns, NoPattern, APattern, Expr, Exprs, NoExpr, AnExpr, IfLet, Def, TypeDecl, Decl, ExternConstructor, ExternExtractor, ExternConst, Extractor, Converter, Rule, Passed}
+use Rattle.isle_ast.specs.Views.{patterns_of}
+use Rattle.isle_sema.specs.VariableNames.{variables_of}
 use Rattle.isle_declarations.specs.Signatures.{RuleDef, rule_defs}
 use Rattle.isle_sema.specs.Calls.{calls_ruled}
 use Rattle.isle_declarations.specs.Repeats.{repeats}
 
--- an integer, a truth, a wildcard or a variable
-abbrev pub is_built_pattern : Pattern → Bool
-is_built_pattern (tree.Int n) = true
-is_built_pattern (tree.Truth b) = true
-is_built_pattern tree.Wildcard = true
-is_built_pattern (tree.Var name) = true
-is_built_pattern (tree.Const name) = false
-is_built_pattern (tree.Bind name p) = false
-is_built_pattern (tree.And ps) = false
-is_built_pattern (tree.Term name ps) = false
+-- an integer, a truth, a wildcard, a variable, a named constant, or a term on such patterns
+abbrev mutual
+  pub is_built_pattern : Pattern → Bool
+  is_built_pattern (tree.Int n) = true
+  is_built_pattern (tree.Truth b) = true
+  is_built_pattern tree.Wildcard = true
+  is_built_pattern (tree.Var name) = true
+  is_built_pattern (tree.Const name) = true
+  is_built_pattern (tree.Term name ps) = are_built_patterns ps
+  is_built_pattern (tree.Bind name p) = false
+  is_built_pattern (tree.And ps) = false
 
--- an integer, a truth, a variable, or a call of such expressions
+  -- so of patterns in order
+  pub are_built_patterns : Patterns → Bool
+  are_built_patterns NoPattern = true
+  are_built_patterns (APattern p ps) = is_built_pattern p && are_built_patterns ps
+
+-- an integer, a truth, a variable, a named constant, or a call of such expressions
 abbrev mutual
   pub is_built_expr : Expr → Bool
   is_built_expr (tree.Number n) = true
   is_built_expr (tree.Fact b) = true
   is_built_expr (tree.Name name) = true
   is_built_expr (tree.Call name es) = are_built_exprs es
-  is_built_expr (tree.Constant name) = false
+  is_built_expr (tree.Constant name) = true
   is_built_expr (tree.Let ls inner) = false
 
   -- so of expressions in order
@@ -39,15 +46,15 @@ abbrev pub are_none : List IfLet → Bool
 are_none [] = true
 are_none (c ∷ cs) = false
 
--- a declaration with at most the flag `partial`, an external constructor, a rule without conditions that names no
+-- a type, a constant, a declaration with at most the flag `partial`, an external constructor, a rule without conditions that names no
 -- variable twice in its patterns, or a list that is passed over
 abbrev pub is_built_def : Def → Bool
 is_built_def (Decl term pure multi partial recursive args ret pos) = not pure && not multi && not recursive
 is_built_def (ExternConstructor term func pos) = true
-is_built_def (Rule name prio term args iflets rhs pos) = list_all is_built_pattern args && are_none iflets && is_built_expr rhs && not (repeats (flat_map variable_names args))
-is_built_def (TypeDecl name is_extern is_nodebug body pos) = false
+is_built_def (Rule name prio term args iflets rhs pos) = are_built_patterns (patterns_of args) && are_none iflets && is_built_expr rhs && not (repeats (variables_of (patterns_of args)))
+is_built_def (TypeDecl name is_extern is_nodebug body pos) = true
 is_built_def (ExternExtractor term func infallible pos) = false
-is_built_def (ExternConst name ty pos) = false
+is_built_def (ExternConst name ty pos) = true
 is_built_def (Extractor term params template pos) = false
 is_built_def (Converter from to term pos) = false
 is_built_def (Passed head items pos) = true

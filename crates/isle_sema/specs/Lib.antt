@@ -17,10 +17,10 @@ pub mod Breaks
 pub mod Fault
 pub mod Environment
 pub mod Typing
-pub mod SerializableRule
 pub mod Known
 pub mod BuiltForm
 pub mod Tests
 pub mod Judging
 pub mod Taken
 pub mod ElaboratedAt
+pub mod KnownOf

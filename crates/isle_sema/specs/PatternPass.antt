@@ -1,17 +1,22 @@
 -- Patterns of rules from left to right: the expected type and the variables so far go in; the tree with types in it, the
 -- variables after it and the places that the typing table judges come out.
-use Rattle.std.specs.Prelude.{ℕ, ℤ, List, [], ◌∷◌, ◌++◌, Option, Some, None, option_map}
+use Rattle.std.specs.Prelude.{ℕ, suc, ℤ, List, [], ◌∷◌, ◌++◌, true, Option, Some, None, option_map, option_and_then}
+use Rattle.isle_core.specs.declared.TermId.{TermId}
 use Rattle.isle_core.specs.declared.TypeId.{TypeId}
 use Rattle.isle_core.specs.declared.VarId.{VarId}
 use Rattle.isle_core.specs.declared.types.TypeEnv.{TypeEnv}
 use Rattle.isle_core.specs.Pattern as core_pattern
 use Rattle.isle_core.specs.Pattern.{Pattern as CorePattern}
+use Rattle.isle_core.specs.RuleViews.{patterns_of as core_patterns}
 use Rattle.isle_ast.specs.Tree as tree
-use Rattle.isle_ast.specs.Tree.{Pattern}
+use Rattle.isle_ast.specs.Tree.{Pattern, Patterns, NoPattern, APattern}
+use Rattle.isle_declarations.specs.Signatures.{term_named}
+use Rattle.isle_declarations.specs.Symbols.{sym_of}
+use Rattle.isle_declarations.specs.Terms.{terms}
 use Rattle.isle_sema.specs.Reduced.{typed_integer}
 use Rattle.isle_sema.specs.Scope.{Scope, bound_at, met, variable}
-use Rattle.isle_sema.specs.Site.{Site, IntegerAt, TruthAt, WildcardAt, MetAt, NotBuiltAt}
-use Rattle.isle_sema.specs.Whole.{Whole}
+use Rattle.isle_sema.specs.Site.{Site, IntegerAt, TruthAt, WildcardAt, MetAt, TakenAt, ConstantAt, NotBuiltAt}
+use Rattle.isle_sema.specs.Whole.{Whole, termed, arg_types, ret_type, constant_type}
 
 -- a pattern's tree, where its form is built and its types are known; the variables after it; and its parts
 pub record PatternPass : Type 0 where
@@ -31,16 +36,13 @@ integer_tree types expected n = option_map (λ (v : TypeId × ℤ). core_pattern
 abbrev pub variable_tree : Scope → List ℕ → Option CorePattern
 variable_tree scope name = option_map (λ (v : TypeId × VarId). core_pattern.Var v.0 v.1) (variable scope name)
 
--- a pattern where this is expected; a variable has the type that it was bound at
-abbrev pub pattern_pass : Whole → Option TypeId → Scope → Pattern → PatternPass
-pattern_pass w expected scope (tree.Int n) = record { tree = integer_tree w.types expected n; scope = scope; sites = IntegerAt expected ∷ [] }
-pattern_pass w expected scope (tree.Truth b) = record { tree = Some (core_pattern.ConstBool b); scope = scope; sites = TruthAt expected ∷ [] }
-pattern_pass w expected scope tree.Wildcard = record { tree = option_map core_pattern.Wildcard expected; scope = scope; sites = WildcardAt ∷ [] }
-pattern_pass w expected scope (tree.Var name) = record { tree = variable_tree (met scope name expected) name; scope = met scope name expected; sites = MetAt expected (bound_at scope name) ∷ [] }
-pattern_pass w expected scope (tree.Const name) = not_built scope
-pattern_pass w expected scope (tree.Bind name p) = not_built scope
-pattern_pass w expected scope (tree.And ps) = not_built scope
-pattern_pass w expected scope (tree.Term name ps) = not_built scope
+-- a constant's tree, where it is declared
+abbrev pub constant_tree : TypeEnv → Option TypeId → List ℕ → Option CorePattern
+constant_tree types ty name = option_map (λ (t : TypeId). core_pattern.ConstPrim t (sym_of types.syms name)) ty
+
+-- a made term's tree, of this type, of this term, on these
+abbrev pub term_tree : Option TypeId → Option TermId → Option (List CorePattern) → Option CorePattern
+term_tree ty term ps = option_and_then (λ (t : TypeId). option_and_then (λ (n : TermId). option_map (λ (parts : List CorePattern). core_pattern.Term t n (core_patterns parts)) ps) term) ty
 
 -- patterns in order
 pub record PatternsPass : Type 0 where
@@ -63,10 +65,29 @@ abbrev pub tree_before : {X : Type 0} → Option X → Option (List X) → Optio
 tree_before None xs = None
 tree_before (Some x) xs = option_map (λ (others : List _). x ∷ others) xs
 
--- patterns where these are expected, beyond them nothing
-abbrev pub patterns_pass : Whole → List (Option TypeId) → Scope → List Pattern → PatternsPass
-patterns_pass w expected scope [] = record { trees = Some []; scope = scope; sites = [] }
-patterns_pass w expected scope (p ∷ ps) =
-    let first = pattern_pass w (first_expected expected) scope p in
-    let rest = patterns_pass w (later_expected expected) first.scope ps in
-    record { trees = tree_before first.tree rest.trees; scope = rest.scope; sites = first.sites ++ rest.sites }
+-- how many patterns there are
+abbrev pub count_of : Patterns → ℕ
+count_of NoPattern = 0
+count_of (APattern p ps) = suc (count_of ps)
+
+-- a pattern where this is expected; a variable has the type that it was bound at, and a term that which it makes
+abbrev mutual
+  pub pattern_pass : Whole → Option TypeId → Scope → Pattern → PatternPass
+  pattern_pass w expected scope (tree.Int n) = record { tree = integer_tree w.types expected n; scope = scope; sites = IntegerAt expected ∷ [] }
+  pattern_pass w expected scope (tree.Truth b) = record { tree = Some (core_pattern.ConstBool b); scope = scope; sites = TruthAt expected ∷ [] }
+  pattern_pass w expected scope tree.Wildcard = record { tree = option_map core_pattern.Wildcard expected; scope = scope; sites = WildcardAt ∷ [] }
+  pattern_pass w expected scope (tree.Var name) = record { tree = variable_tree (met scope name expected) name; scope = met scope name expected; sites = MetAt expected (bound_at scope name) ∷ [] }
+  pattern_pass w expected scope (tree.Const name) = record { tree = constant_tree w.types (constant_type w name) name; scope = scope; sites = ConstantAt true expected (constant_type w name) ∷ [] }
+  pattern_pass w expected scope (tree.Term name ps) =
+      let parts = patterns_pass w (arg_types w (termed w name)) scope ps in
+      record { tree = term_tree (ret_type w (termed w name)) (term_named (terms w.defs) name) parts.trees; scope = parts.scope; sites = TakenAt expected (termed w name) (count_of ps) ∷ parts.sites }
+  pattern_pass w expected scope (tree.Bind name p) = not_built scope
+  pattern_pass w expected scope (tree.And ps) = not_built scope
+
+  -- patterns where these are expected, beyond them nothing
+  pub patterns_pass : Whole → List (Option TypeId) → Scope → Patterns → PatternsPass
+  patterns_pass w expected scope NoPattern = record { trees = Some []; scope = scope; sites = [] }
+  patterns_pass w expected scope (APattern p ps) =
+      let first = pattern_pass w (first_expected expected) scope p in
+      let rest = patterns_pass w (later_expected expected) first.scope ps in
+      record { trees = tree_before first.tree rest.trees; scope = rest.scope; sites = first.sites ++ rest.sites }

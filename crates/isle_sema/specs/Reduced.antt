@@ -30,7 +30,7 @@ abbrev pub integer_by : Option TypeDef → ℤ → Option ℤ
 integer_by None z = None
 integer_by (Some (Builtin Truths)) z = None
 integer_by (Some (Builtin (Int ty))) z = Some (reduced ty z)
-integer_by (Some (Primitive name rust pos)) z = Some z
+integer_by (Some (Primitive name rust pos)) z = Some (reduced I128 z)
 integer_by (Some (Enum name is_extern is_nodebug variants pos)) z = None
 integer_by (Some (Struct name is_extern is_nodebug fields pos)) z = None
 
@@ -38,12 +38,3 @@ integer_by (Some (Struct name is_extern is_nodebug fields pos)) z = None
 abbrev pub typed_integer : TypeEnv → Option TypeId → ℤ → Option (TypeId × ℤ)
 typed_integer types None z = None
 typed_integer types (Some ty) z = option_map (λ (n : ℤ). (ty, n)) (integer_by (slice_get types.types ty.0) z)
-
--- the integer type that a definition is
-abbrev pub int_type_by : Option TypeDef → Option IntType
-int_type_by None = None
-int_type_by (Some (Builtin Truths)) = None
-int_type_by (Some (Builtin (Int ty))) = Some ty
-int_type_by (Some (Primitive name rust pos)) = None
-int_type_by (Some (Enum name is_extern is_nodebug variants pos)) = None
-int_type_by (Some (Struct name is_extern is_nodebug fields pos)) = None

@@ -5,20 +5,22 @@ use Rattle.isle_core.specs.Pattern.{Pattern as CorePattern}
 use Rattle.isle_core.specs.Expr.{Expr as CoreExpr}
 use Rattle.isle_core.specs.Rule.{Rule as CoreRule, IfLet as CoreIfLet}
 use Rattle.isle_ast.specs.Tree.{IfLet}
+use Rattle.isle_ast.specs.Views.{patterns_of as seen_patterns}
 use Rattle.isle_declarations.specs.Symbols.{sym_of}
-use Rattle.isle_declarations.specs.Signatures.{RuleDef, signatures, term_named}
+use Rattle.isle_declarations.specs.Signatures.{RuleDef, term_named}
+use Rattle.isle_declarations.specs.Terms.{terms}
 use Rattle.isle_sema.specs.Site.{Site, NotBuiltAt}
-use Rattle.isle_sema.specs.Whole.{Whole, declared, arg_types, ret_type}
+use Rattle.isle_sema.specs.Whole.{Whole, termed, arg_types, ret_type}
 use Rattle.isle_sema.specs.PatternPass.{PatternsPass, patterns_pass, tree_before}
 use Rattle.isle_sema.specs.ExprPass.{ExprPass, expr_pass}
 
 -- its patterns, at the types of its term's arguments
 abbrev pub patterns_of : Whole → RuleDef → PatternsPass
-patterns_of w r = patterns_pass w (arg_types w (declared w r.term)) [] r.args
+patterns_of w r = patterns_pass w (arg_types w (termed w r.term)) [] (seen_patterns r.args)
 
 -- its right side, at the type that its term gives, over the variables of its patterns
 abbrev pub right_side_of : Whole → RuleDef → ExprPass
-right_side_of w r = expr_pass w (patterns_of w r).scope (ret_type w (declared w r.term)) r.rhs
+right_side_of w r = expr_pass w (patterns_of w r).scope (ret_type w (termed w r.term)) r.rhs
 
 -- all that is judged in it
 abbrev pub sites_of : Whole → RuleDef → List Site
@@ -37,7 +39,7 @@ rule_from w i r term args iflets rhs = record { id = record { 0 = i }; root_term
 abbrev pub rule_pass : Whole → ℕ → RuleDef → Option CoreRule
 rule_pass w i r =
     option_and_then (λ (term : TermId). option_and_then (λ (args : List CorePattern). option_and_then (λ (iflets : List CoreIfLet). option_map (rule_from w i r term args iflets) (right_side_of w r).tree) (conditions_of r.iflets)) (patterns_of w r).trees)
-    (term_named (signatures w.defs) r.term)
+    (term_named (terms w.defs) r.term)
 
 -- rules, from that number on
 abbrev pub rules_pass : Whole → ℕ → List RuleDef → Option (List CoreRule)

@@ -4,9 +4,10 @@ use Rattle.std.specs.List.{list_any}
 use Rattle.isle_core.specs.declared.TypeId.{TypeId}
 use Rattle.isle_ast.specs.Tree.{Def}
 use Rattle.isle_declarations.specs.Signatures.{Signature, RuleDef, rule_of}
+use Rattle.isle_declarations.specs.Terms.{is_made}
 use Rattle.isle_sema.specs.TypeNames.{type_named, takes_integers, takes_truths}
-use Rattle.isle_sema.specs.Whole.{Whole, declared, has_constructor}
-use Rattle.isle_sema.specs.Site.{Site, IntegerAt, TruthAt, WildcardAt, MetAt, UsedAt, CalledAt, NotBuiltAt}
+use Rattle.isle_sema.specs.Whole.{Whole, termed, has_constructor}
+use Rattle.isle_sema.specs.Site.{Site, IntegerAt, TruthAt, WildcardAt, MetAt, UsedAt, CalledAt, TakenAt, ConstantAt, NotBuiltAt}
 use Rattle.isle_sema.specs.RulePass.{right_side_of, sites_of}
 use Rattle.isle_types.specs.TypeRows.{on}
 use Rattle.isle_sema.specs.Context.{Context}
@@ -17,9 +18,42 @@ differ None expected = false
 differ (Some ty) None = false
 differ (Some ty) (Some expected) = not (ty.0 == expected.0)
 
--- a rule's head has another number of arguments than its term; terms in patterns are not built
+-- a term in a pattern that is not there, has another number of arguments, or has no extractor: only made terms have one yet
+abbrev pub is_taken_misfit : Option Signature → ℕ → Bool
+is_taken_misfit None count = true
+is_taken_misfit (Some s) count = not (count == length s.args) || not (is_made s.origin)
+
+-- a part is one
+abbrev pub is_untaken : Site → Bool
+is_untaken (IntegerAt expected) = false
+is_untaken (TruthAt expected) = false
+is_untaken WildcardAt = false
+is_untaken (MetAt expected bound) = false
+is_untaken (UsedAt expected bound) = false
+is_untaken (CalledAt expected callee count) = false
+is_untaken (TakenAt expected callee count) = is_taken_misfit callee count
+is_untaken (ConstantAt in_pattern expected found) = false
+is_untaken NotBuiltAt = false
+
+-- one stands in a rule, or its head has another number of arguments than its term
 abbrev pub pattern_term_misfit : Context → Def → Bool
-pattern_term_misfit c d = on (rule_of d) (λ (r : RuleDef). on (declared c.whole r.term) (λ (s : Signature). not (length r.args == length s.args)))
+pattern_term_misfit c d = on (rule_of d) (λ (r : RuleDef). on (termed c.whole r.term) (λ (s : Signature). not (length r.args == length s.args)) || list_any is_untaken (sites_of c.whole r))
+
+-- a term or a constant in a pattern that has another type than the one expected
+abbrev pub is_mistaken : Whole → Site → Bool
+is_mistaken w (IntegerAt expected) = false
+is_mistaken w (TruthAt expected) = false
+is_mistaken w WildcardAt = false
+is_mistaken w (MetAt expected bound) = false
+is_mistaken w (UsedAt expected bound) = false
+is_mistaken w (CalledAt expected callee count) = false
+is_mistaken w (TakenAt expected callee count) = on callee (λ (s : Signature). differ (type_named w.defs s.ret) expected)
+is_mistaken w (ConstantAt in_pattern expected found) = in_pattern && differ found expected
+is_mistaken w NotBuiltAt = false
+
+-- one stands in a rule
+abbrev pub pattern_type_misfit : Context → Def → Bool
+pattern_type_misfit c d = on (rule_of d) (λ (r : RuleDef). list_any (is_mistaken c.whole) (sites_of c.whole r))
 
 -- an integer where no type of integers is expected, or `true` or `false` where another type than bool is
 abbrev pub is_misplaced : Whole → Site → Bool
@@ -29,11 +63,29 @@ is_misplaced w WildcardAt = false
 is_misplaced w (MetAt expected bound) = false
 is_misplaced w (UsedAt expected bound) = false
 is_misplaced w (CalledAt expected callee count) = false
+is_misplaced w (TakenAt expected callee count) = false
+is_misplaced w (ConstantAt in_pattern expected found) = false
 is_misplaced w NotBuiltAt = false
 
 -- one stands so in a rule
 abbrev pub literal_misfit : Context → Def → Bool
 literal_misfit c d = on (rule_of d) (λ (r : RuleDef). list_any (is_misplaced c.whole) (sites_of c.whole r))
+
+-- a constant that is not declared
+abbrev pub is_undeclared : Site → Bool
+is_undeclared (IntegerAt expected) = false
+is_undeclared (TruthAt expected) = false
+is_undeclared WildcardAt = false
+is_undeclared (MetAt expected bound) = false
+is_undeclared (UsedAt expected bound) = false
+is_undeclared (CalledAt expected callee count) = false
+is_undeclared (TakenAt expected callee count) = false
+is_undeclared (ConstantAt in_pattern expected found) = not (is_some found)
+is_undeclared NotBuiltAt = false
+
+-- one stands in a rule
+abbrev pub constant_undeclared : Context → Def → Bool
+constant_undeclared c d = on (rule_of d) (λ (r : RuleDef). list_any is_undeclared (sites_of c.whole r))
 
 -- a type that differs from the one that is expected, where there is one
 abbrev pub is_other_type : Option (Option TypeId) → Option TypeId → Bool
@@ -48,16 +100,18 @@ is_met_otherwise WildcardAt = false
 is_met_otherwise (MetAt expected bound) = is_other_type bound expected
 is_met_otherwise (UsedAt expected bound) = false
 is_met_otherwise (CalledAt expected callee count) = false
+is_met_otherwise (TakenAt expected callee count) = false
+is_met_otherwise (ConstantAt in_pattern expected found) = false
 is_met_otherwise NotBuiltAt = false
 
 -- a variable that is met again has another type
 abbrev pub variable_type_misfit : Context → Def → Bool
 variable_type_misfit c d = on (rule_of d) (λ (r : RuleDef). list_any is_met_otherwise (sites_of c.whole r))
 
--- a call of a term that is not declared, has another number of arguments, or has no constructor
+-- a call of a term that is not there, has another number of arguments, or has no constructor
 abbrev pub is_call_misfit : Whole → Option Signature → ℕ → Bool
 is_call_misfit w None count = true
-is_call_misfit w (Some s) count = not (count == length s.args) || not (has_constructor w s.term)
+is_call_misfit w (Some s) count = not (count == length s.args) || not (has_constructor w s)
 
 -- an expression's variable that is not bound, or such a call
 abbrev pub is_unknown : Whole → Site → Bool
@@ -67,27 +121,31 @@ is_unknown w WildcardAt = false
 is_unknown w (MetAt expected bound) = false
 is_unknown w (UsedAt expected bound) = not (is_some bound)
 is_unknown w (CalledAt expected callee count) = is_call_misfit w callee count
+is_unknown w (TakenAt expected callee count) = false
+is_unknown w (ConstantAt in_pattern expected found) = false
 is_unknown w NotBuiltAt = false
 
 -- one stands in a rule
 abbrev pub expr_name_misfit : Context → Def → Bool
 expr_name_misfit c d = on (rule_of d) (λ (r : RuleDef). list_any (is_unknown c.whole) (sites_of c.whole r))
 
--- an expression's variable or call that has another type than the one expected
+-- an expression's variable, constant or call that has another type than the one expected
 abbrev pub is_mistyped : Whole → Site → Bool
 is_mistyped w (IntegerAt expected) = false
 is_mistyped w (TruthAt expected) = false
 is_mistyped w WildcardAt = false
 is_mistyped w (MetAt expected bound) = false
 is_mistyped w (UsedAt expected bound) = is_other_type bound expected
-is_mistyped w (CalledAt expected callee count) = on callee (λ (s : Signature). differ (type_named w.types s.ret) expected)
+is_mistyped w (CalledAt expected callee count) = on callee (λ (s : Signature). differ (type_named w.defs s.ret) expected)
+is_mistyped w (TakenAt expected callee count) = false
+is_mistyped w (ConstantAt in_pattern expected found) = not in_pattern && differ found expected
 is_mistyped w NotBuiltAt = false
 
 -- one stands in a rule; `let` is not built
 abbrev pub expr_type_misfit : Context → Def → Bool
 expr_type_misfit c d = on (rule_of d) (λ (r : RuleDef). list_any (is_mistyped c.whole) (sites_of c.whole r))
 
--- a call of a declared term of which this holds
+-- a call of a term of which this holds
 abbrev pub is_call_of : (Signature → Bool) → Site → Bool
 is_call_of test (IntegerAt expected) = false
 is_call_of test (TruthAt expected) = false
@@ -95,19 +153,21 @@ is_call_of test WildcardAt = false
 is_call_of test (MetAt expected bound) = false
 is_call_of test (UsedAt expected bound) = false
 is_call_of test (CalledAt expected callee count) = on callee test
+is_call_of test (TakenAt expected callee count) = false
+is_call_of test (ConstantAt in_pattern expected found) = false
 is_call_of test NotBuiltAt = false
 
 -- a right side calls a partial term in a term that is not `partial`
 abbrev pub partial_call : Context → Def → Bool
-partial_call c d = on (rule_of d) (λ (r : RuleDef). on (declared c.whole r.term) (λ (s : Signature). not s.partial && list_any (is_call_of (λ (t : Signature). t.partial)) (right_side_of c.whole r).sites))
+partial_call c d = on (rule_of d) (λ (r : RuleDef). on (termed c.whole r.term) (λ (s : Signature). not s.partial && list_any (is_call_of (λ (t : Signature). t.partial)) (right_side_of c.whole r).sites))
 
 -- a right side calls a term that is not `pure` in a `pure` term
 abbrev pub impure_call : Context → Def → Bool
-impure_call c d = on (rule_of d) (λ (r : RuleDef). on (declared c.whole r.term) (λ (s : Signature). s.pure && list_any (is_call_of (λ (t : Signature). not t.pure)) (right_side_of c.whole r).sites))
+impure_call c d = on (rule_of d) (λ (r : RuleDef). on (termed c.whole r.term) (λ (s : Signature). s.pure && list_any (is_call_of (λ (t : Signature). not t.pure)) (right_side_of c.whole r).sites))
 
 -- an expression calls a `multi` term in a rule of a term without `multi`
 abbrev pub multi_call : Context → Def → Bool
-multi_call c d = on (rule_of d) (λ (r : RuleDef). on (declared c.whole r.term) (λ (s : Signature). not s.multi && list_any (is_call_of (λ (t : Signature). t.multi)) (sites_of c.whole r)))
+multi_call c d = on (rule_of d) (λ (r : RuleDef). on (termed c.whole r.term) (λ (s : Signature). not s.multi && list_any (is_call_of (λ (t : Signature). t.multi)) (sites_of c.whole r)))
 
 -- a rule has more than 4,096 nodes: each of its parts is one, and none is replaced by a template yet
 abbrev pub many_nodes : Context → Def → Bool

@@ -1,5 +1,5 @@
 -- What the typing table judges inside a rule: each part of it where it stands.
-use Rattle.std.specs.Prelude.{ℕ, Option}
+use Rattle.std.specs.Prelude.{ℕ, Bool, Option}
 use Rattle.isle_core.specs.declared.TypeId.{TypeId}
 use Rattle.isle_declarations.specs.Signatures.{Signature}
 
@@ -15,7 +15,11 @@ pub data Site : Type 0 where
   MetAt : (expected : Option TypeId) (bound : Option (Option TypeId)) → Site
   -- a variable in an expression, and the type that it was bound at, where it was
   UsedAt : (expected : Option TypeId) (bound : Option (Option TypeId)) → Site
-  -- a call of this term, where it is declared, on so many arguments
+  -- a call of this term, where it is there, on so many arguments
   CalledAt : (expected : Option TypeId) (callee : Option Signature) (count : ℕ) → Site
-  -- a part of a form that is not built: a named constant, `@`, `and`, a term in a pattern, a `let` or a condition
+  -- this term in a pattern, where it is there, on so many patterns
+  TakenAt : (expected : Option TypeId) (callee : Option Signature) (count : ℕ) → Site
+  -- a named constant in a pattern or in an expression, and its type, where it is declared
+  ConstantAt : (in_pattern : Bool) (expected found : Option TypeId) → Site
+  -- a part of a form that is not built: `@`, `and`, a `let` or a condition
   NotBuiltAt : Site

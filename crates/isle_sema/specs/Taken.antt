@@ -12,7 +12,7 @@ use Rattle.isle_sema.specs.PatternPass.{tree_before}
 use Rattle.isle_sema.specs.RulePass.{right_side_of, rule_pass}
 use Rattle.isle_sema.specs.Fault.{OfRules, broken_in}
 use Rattle.isle_sema.specs.Judging.{is_ruled_call}
-use Rattle.isle_sema.specs.Environment.{types_of}
+use Rattle.isle_types.specs.TypeEnvironment.{type_env_of}
 use Rattle.isle_sema.specs.Typing.{Typed}
 
 -- the definition that a rule is
@@ -39,4 +39,4 @@ taken_rules w i (r ∷ rs) = tree_before (taken_rule w i r) (taken_rules w (i + 
 -- the terms and rules of definitions, or nothing where they give no environment
 abbrev pub IsTermEnvOf : List Def → Option TermEnv → Type 0
 IsTermEnvOf defs None = (env : Environment) → Typed defs env → ⊥
-IsTermEnvOf defs (Some t) = Typed defs (environment (types_of defs) t)
+IsTermEnvOf defs (Some t) = Typed defs (environment (type_env_of defs) t)

@@ -1,7 +1,8 @@
 -- What the code tests of declarations, external constructors and rules.
-use Rattle.std.specs.Prelude.{List, [], Bool, ◌||◌, not, is_some, flat_map}
+use Rattle.std.specs.Prelude.{List, [], Bool, ◌||◌, not, is_some}
 use Rattle.std.specs.List.{list_any}
-use Rattle.isle_sema.specs.VariableNames.{variable_names}
+use Rattle.isle_ast.specs.Views.{patterns_of}
+use Rattle.isle_sema.specs.VariableNames.{variables_of}
 use Rattle.isle_declarations.specs.Signatures.{Signature, Extern, RuleDef, signature_named, func_named}
 use Rattle.isle_ast.specs.Tree.{Def, Decl}
 use Rattle.isle_types.specs.declared.row.Row.TheVariants as row
@@ -12,17 +13,17 @@ use Rattle.isle_declarations.specs.Repeats.{repeats}
 
 -- a rule binds a variable twice
 abbrev pub binds_twice : RuleDef → Bool
-binds_twice r = repeats (flat_map variable_names r.args)
+binds_twice r = repeats (variables_of (patterns_of r.args))
 
 -- the definition that a declaration is
 abbrev pub decl_of : Signature → Def
 decl_of s = Decl s.term s.pure s.multi s.partial s.recursive s.args s.ret s.pos
 
--- a declaration breaks one of the rows that look at no other definition
-abbrev pub is_misdeclared : Signature → Bool
-is_misdeclared s =
-    let alone : Context = record { whole = whole_of []; before = [] } in
-    breaks row.ManyArguments alone (decl_of s) || breaks row.TypeMissing alone (decl_of s)
+-- a declaration breaks one of the rows that hang on no earlier definition, or its term is one that a type makes
+abbrev pub is_misdeclared : List Def → Signature → Bool
+is_misdeclared defs s =
+    let here : Context = record { whole = whole_of defs; before = [] } in
+    breaks row.ManyArguments here (decl_of s) || (breaks row.TypeMissing here (decl_of s) || breaks row.DeclarationRepeats here (decl_of s))
 
 -- an external constructor is of a term that is not declared
 abbrev pub has_undeclared : List Signature → List Extern → Bool

@@ -1,90 +1,97 @@
 -- A rule whose parts have the types of its term.
-use Rattle.std.specs.Prelude.{◌≡◌, ℕ, List, [], ◌∷◌, Bool, true, false, Some, IsTrue, IsSomeAnd, Contains, slice_get}
+use Rattle.std.specs.Prelude.{◌≡◌, ℕ, List, [], ◌∷◌, ◌++◌, Bool, true, false, Some, IsTrue, IsSomeAnd, Contains, option_map, slice_get}
 use Rattle.isle_core.specs.declared.TypeId.{TypeId}
 use Rattle.isle_core.specs.declared.types.Term.{Term}
-use Rattle.isle_core.specs.Pattern as pattern
-use Rattle.isle_core.specs.Pattern.{Pattern}
-use Rattle.isle_core.specs.Expr as expr
-use Rattle.isle_core.specs.Expr.{Expr, Exprs, NoExpr, AnExpr}
 use Rattle.isle_core.specs.declared.types.TermKind.{TermKind}
 use Rattle.isle_core.specs.declared.types.TermKind.TheVariants as kind
 use Rattle.isle_core.specs.declared.types.ConstructorKind.TheVariants as constructor
+use Rattle.isle_core.specs.Pattern as pattern
+use Rattle.isle_core.specs.Pattern.{Pattern, Patterns, NoPattern, APattern}
+use Rattle.isle_core.specs.Expr as expr
+use Rattle.isle_core.specs.Expr.{Expr, Exprs, NoExpr, AnExpr}
 use Rattle.isle_core.specs.Calling.{kind_of, may_be_nothing}
-use Rattle.isle_core.specs.Rule.{Rule, Environment}
-use Rattle.isle_core.specs.Value.{Truth}
-use Rattle.isle_core.specs.BuiltinType.{IsBuiltinType}
+use Rattle.isle_core.specs.Constants.{int_value, const_type}
+use Rattle.isle_core.specs.Form.{form, form_types}
 use Rattle.isle_core.specs.HasType.{HasType}
-use Rattle.isle_core.specs.Constants.{int_value}
-use Rattle.isle_core.specs.StandsFor.{EachOnce}
+use Rattle.isle_core.specs.Making.{Making, MakesVariant, MakesStruct}
+use Rattle.isle_core.specs.PatternType.{IsNumeric, FitsTerm}
 use Rattle.isle_core.specs.RightSide.{bool_type}
+use Rattle.isle_core.specs.Rule.{Rule, Environment}
+use Rattle.isle_core.specs.Scope.{all_variables}
+use Rattle.isle_core.specs.StandsFor.{EachOnce}
+use Rattle.isle_core.specs.Value.{Truth}
 
--- a pattern of the type: a constant is one of its values
-abbrev pub IsPatternOf : Environment → TypeId → Pattern → Type 0
-IsPatternOf env ty (pattern.Var of x) = of ≡ ty
-IsPatternOf env ty (pattern.ConstBool b) = (bool_type ≡ ty) × HasType env (Truth b) ty
-IsPatternOf env ty (pattern.ConstInt of n) = (of ≡ ty) × HasType env (int_value env ty n) ty × IsBuiltinType env ty
-IsPatternOf env ty (pattern.Wildcard of) = of ≡ ty
-IsPatternOf env ty (pattern.BindPattern of x p) = ⊥
-IsPatternOf env ty (pattern.ConstPrim of name) = ⊥
-IsPatternOf env ty (pattern.Term of term ps) = ⊥
-IsPatternOf env ty (pattern.And of ps) = ⊥
+-- ---- variables
 
--- as many patterns as types, each of its type
-abbrev pub ArePatternsOf : Environment → List TypeId → List Pattern → Type 0
-ArePatternsOf env [] [] = Unit {0}
-ArePatternsOf env (ty ∷ tys) (p ∷ ps) = IsPatternOf env ty p × ArePatternsOf env tys ps
-ArePatternsOf env [] (p ∷ ps) = ⊥
-ArePatternsOf env (ty ∷ tys) [] = ⊥
-
--- the numbers of the variables of patterns, in order
-abbrev pub numbers : List Pattern → List ℕ
-numbers [] = []
-numbers (pattern.Var of x ∷ ps) = x.0 ∷ numbers ps
-numbers (pattern.ConstBool b ∷ ps) = numbers ps
-numbers (pattern.ConstInt of n ∷ ps) = numbers ps
-numbers (pattern.Wildcard of ∷ ps) = numbers ps
-numbers (pattern.BindPattern of x p ∷ ps) = numbers ps
-numbers (pattern.ConstPrim of name ∷ ps) = numbers ps
-numbers (pattern.Term of term qs ∷ ps) = numbers ps
-numbers (pattern.And of qs ∷ ps) = numbers ps
-
--- a term with an external constructor and at most the flag `partial`; it may answer nothing only where that is allowed
-abbrev pub IsExternalKind : (allowed : Bool) → TermKind → Type 0
-IsExternalKind allowed (kind.Decl false false partial false (constructor.External func) extractor) = IsTrue partial → IsTrue allowed
-IsExternalKind allowed (kind.Decl false false partial false constructor.Internal extractor) = ⊥
-IsExternalKind allowed (kind.Decl false false partial false constructor.Absent extractor) = ⊥
-IsExternalKind allowed (kind.Decl false false partial true by extractor) = ⊥
-IsExternalKind allowed (kind.Decl false true partial recursive by extractor) = ⊥
-IsExternalKind allowed (kind.Decl true multi partial recursive by extractor) = ⊥
-IsExternalKind allowed (kind.Variant ty variant) = ⊥
-IsExternalKind allowed (kind.Struct ty) = ⊥
-
--- an expression of the type: a constant is one of its values, a variable stands in a pattern of the type, and a call is
--- of an external term that gives the type, on expressions of its types; a term that may answer nothing is called only
--- where that is allowed
+-- the variables of a pattern with their types, in order
 abbrev mutual
-  pub IsExprOf : Environment → (allowed : Bool) → List Pattern → TypeId → Expr → Type 0
-  IsExprOf env allowed args ty (expr.Var of x) = (of ≡ ty) × Contains args (pattern.Var ty x)
-  IsExprOf env allowed args ty (expr.ConstBool b) = (bool_type ≡ ty) × HasType env (Truth b) ty
-  IsExprOf env allowed args ty (expr.ConstInt of n) = (of ≡ ty) × HasType env (int_value env ty n) ty × IsBuiltinType env ty
-  IsExprOf env allowed args ty (expr.Term of term es) =
-      (of ≡ ty) × IsSomeAnd (slice_get env.terms term.0) (λ (c : Term). IsExternalKind allowed c.kind × (c.ret_ty ≡ ty) × AreExprsOf env allowed args c.arg_tys es)
-  IsExprOf env allowed args ty (expr.ConstPrim of name) = ⊥
-  IsExprOf env allowed args ty (expr.Let of bindings inner) = ⊥
+  pub typed_variables : Pattern → List (TypeId × ℕ)
+  typed_variables (pattern.Var of x) = (of, x.0) ∷ []
+  typed_variables (pattern.BindPattern of x q) = (of, x.0) ∷ typed_variables q
+  typed_variables (pattern.Term of term qs) = typed_within qs
+  typed_variables (pattern.And of qs) = typed_within qs
+  typed_variables (pattern.ConstBool b) = []
+  typed_variables (pattern.ConstInt of n) = []
+  typed_variables (pattern.ConstPrim of name) = []
+  typed_variables (pattern.Wildcard of) = []
+
+  -- those of the parts of a pattern
+  pub typed_within : Patterns → List (TypeId × ℕ)
+  typed_within NoPattern = []
+  typed_within (APattern q qs) = typed_variables q ++ typed_within qs
+
+-- those of patterns in order
+abbrev pub all_typed : List Pattern → List (TypeId × ℕ)
+all_typed [] = []
+all_typed (q ∷ qs) = typed_variables q ++ all_typed qs
+
+-- ---- terms
+
+-- what a term makes has this type, and has these for its fields
+abbrev pub IsMadeOf : Environment → Term → TypeId → Making → Type 0
+IsMadeOf env t ty made = (ty ≡ t.ret_ty) × (option_map (form_types env) (form env made) ≡ Some t.arg_tys)
+
+-- a term of this kind makes a value of a type, or has an external constructor and at most the flag `partial`; it may answer
+-- nothing only where that is allowed
+abbrev pub IsTermKind : Environment → (allowed : Bool) → Term → TermKind → Type 0
+IsTermKind env allowed t (kind.Decl false false partial false (constructor.External func) extractor) = IsTrue partial → IsTrue allowed
+IsTermKind env allowed t (kind.Variant ty variant) = IsMadeOf env t ty (MakesVariant ty variant)
+IsTermKind env allowed t (kind.Struct ty) = IsMadeOf env t ty (MakesStruct ty)
+IsTermKind env allowed t (kind.Decl false false partial false constructor.Internal extractor) = ⊥
+IsTermKind env allowed t (kind.Decl false false partial false constructor.Absent extractor) = ⊥
+IsTermKind env allowed t (kind.Decl false false partial true by extractor) = ⊥
+IsTermKind env allowed t (kind.Decl false true partial recursive by extractor) = ⊥
+IsTermKind env allowed t (kind.Decl true multi partial recursive by extractor) = ⊥
+
+-- ---- right sides
+
+-- an expression of the type over these variables: a constant is one of its values or declared as one, and a term gives the type,
+-- on expressions of its types
+abbrev mutual
+  pub IsExprOf : Environment → (allowed : Bool) → List (TypeId × ℕ) → TypeId → Expr → Type 0
+  IsExprOf env allowed vars ty (expr.Var of x) = (of ≡ ty) × Contains vars (ty, x.0)
+  IsExprOf env allowed vars ty (expr.ConstBool b) = (bool_type ≡ ty) × HasType env (Truth b) ty
+  IsExprOf env allowed vars ty (expr.ConstInt of n) = (of ≡ ty) × HasType env (int_value env ty n) ty × IsNumeric env ty
+  IsExprOf env allowed vars ty (expr.ConstPrim of name) = (of ≡ ty) × (const_type env name ≡ Some ty)
+  IsExprOf env allowed vars ty (expr.Term of term es) =
+      (of ≡ ty) × IsSomeAnd (slice_get env.terms term.0) (λ (c : Term). IsTermKind env allowed c c.kind × (c.ret_ty ≡ ty) × AreExprsOf env allowed vars c.arg_tys es)
+  IsExprOf env allowed vars ty (expr.Let of bindings inner) = ⊥
 
   -- as many expressions as types, each of its type
-  pub AreExprsOf : Environment → (allowed : Bool) → List Pattern → List TypeId → Exprs → Type 0
-  AreExprsOf env allowed args [] NoExpr = Unit {0}
-  AreExprsOf env allowed args (ty ∷ tys) (AnExpr e es) = IsExprOf env allowed args ty e × AreExprsOf env allowed args tys es
-  AreExprsOf env allowed args [] (AnExpr e es) = ⊥
-  AreExprsOf env allowed args (ty ∷ tys) NoExpr = ⊥
+  pub AreExprsOf : Environment → (allowed : Bool) → List (TypeId × ℕ) → List TypeId → Exprs → Type 0
+  AreExprsOf env allowed vars [] NoExpr = Unit {0}
+  AreExprsOf env allowed vars (ty ∷ tys) (AnExpr e es) = IsExprOf env allowed vars ty e × AreExprsOf env allowed vars tys es
+  AreExprsOf env allowed vars [] (AnExpr e es) = ⊥
+  AreExprsOf env allowed vars (ty ∷ tys) NoExpr = ⊥
+
+-- ---- rules
 
 -- the rule's patterns and right side have the types of this term, no variable stands twice, and it has no condition
 pub record IsRuleOf (env : Environment) (t : Term) (r : Rule) : Type 0 where
-  pub args : ArePatternsOf env t.arg_tys r.args
-  pub once : EachOnce (numbers r.args)
+  pub args : FitsTerm env t r
+  pub once : EachOnce (all_variables r.args)
   pub iflets : r.iflets ≡ []
-  pub rhs : IsExprOf env (may_be_nothing (kind_of t.kind)) r.args t.ret_ty r.rhs
+  pub rhs : IsExprOf env (may_be_nothing (kind_of t.kind)) (all_typed r.args) t.ret_ty r.rhs
 
 -- the rule's term is there, and the rule is one of its
 pub record IsTypedRule (env : Environment) (r : Rule) : Type 0 where

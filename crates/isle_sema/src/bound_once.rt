@@ -1,9 +1,9 @@
 //! Rules that bind a variable twice.
 
-ghost use Rattle.std.specs.Prelude.{◌≡◌, ◌∷◌, IfOk, true, flat_map, map};
+ghost use Rattle.std.specs.Prelude.{◌≡◌, IfOk, map};
 ghost use Rattle.std.specs.List.{list_any};
-ghost use Rattle.isle_ast.specs.Views.{pattern, defs as seen};
-ghost use Rattle.isle_sema.specs.VariableNames.{variable_names};
+ghost use Rattle.isle_ast.specs.Views.{pattern, patterns_of, defs as seen};
+ghost use Rattle.isle_sema.specs.VariableNames.{variable_names, variables_of};
 ghost use Rattle.isle_declarations.specs.Signatures.{rule_defs};
 ghost use Rattle.isle_declarations.specs.Repeats.{repeats, IsFound};
 ghost use Rattle.isle_sema.specs.Tests.{binds_twice};
@@ -12,7 +12,8 @@ use isle_ast::AstPattern;
 use isle_declarations::{Declarations, Symbols};
 use std::alloc::{AllocError, Global};
 
-// Whether a pattern is a variable that was met before; it is met now.
+// Whether a pattern binds a variable that was met before, or one twice; its variables are met now.
+#[cycle(meeting)]
 #[tactic(auto, using(isle_ast::proofs::Sees::pattern_sees))]
 fn meets_again<'d>(before: &mut Symbols<'d>, p: &'d AstPattern) -> Result<bool, AllocError>
     ensures { IfOk result (λ found. IsFound before.old before.new (variable_names (pattern p.now)) found) }
@@ -25,21 +26,36 @@ fn meets_again<'d>(before: &mut Symbols<'d>, p: &'d AstPattern) -> Result<bool, 
             before.intern(name.as_str())?;
             Ok(false)
         }
-        _ => Ok(false),
+        AstPattern::Term(_, parts) => any_meets(before, parts.as_slice()),
+        AstPattern::Int(_) => Ok(false),
+        AstPattern::Bool(_) => Ok(false),
+        AstPattern::Const(_) => Ok(false),
+        AstPattern::Wildcard => Ok(false),
+        AstPattern::Bind(_, _) => Ok(false),
+        AstPattern::And(_) => Ok(false),
     }
 }
 
-// Whether a variable stands in two of the patterns.
-fn repeats_variable(alloc: Global, patterns: &[AstPattern]) -> Result<bool, AllocError>
-    ensures { IfOk result (λ found. found ≡ repeats (flat_map variable_names (map pattern patterns.now))) }
+// Whether one of the patterns does.
+#[cycle(meeting)]
+fn any_meets<'d>(before: &mut Symbols<'d>, patterns: &'d [AstPattern]) -> Result<bool, AllocError>
+    ensures { IfOk result (λ found. IsFound before.old before.new (variables_of (patterns_of (map pattern patterns.now))) found) }
 {
-    let mut before = Symbols::new(alloc);
     for p in patterns {
-        if meets_again(&mut before, p)? {
+        if meets_again(before, p)? {
             return Ok(true);
         }
     }
     Ok(false)
+}
+
+// Whether a variable stands in two places of the patterns.
+fn repeats_variable(alloc: Global, patterns: &[AstPattern]) -> Result<bool, AllocError>
+    ensures { IfOk result (λ found. found ≡ repeats (variables_of (patterns_of (map pattern patterns.now)))) }
+{
+    let mut before = Symbols::new(alloc);
+    let found = any_meets(&mut before, patterns)?;
+    Ok(found)
 }
 
 /// Tells whether one of the rules binds a variable twice.

@@ -1,33 +1,41 @@
 //! Expressions with types in them, their variables and terms as numbers.
 
-ghost use Rattle.std.specs.Prelude.{◌≡◌, List, Option, IfOk, Some, map, option_map};
+ghost use Rattle.std.specs.Prelude.{◌≡◌, List, Option, IfOk, map, option_map};
 ghost use Rattle.isle_ast.specs.Tree as tree;
 ghost use Rattle.isle_ast.specs.Tree.{Def};
+ghost use Rattle.isle_sema.specs.Environment.{whole_of};
 ghost use Rattle.isle_ast.specs.Views.{expr, exprs_of};
 ghost use Rattle.isle_core.specs.RuleViews.{expr as elaborated};
 ghost use Rattle.isle_declarations.specs.Signatures.{Signature};
-ghost use Rattle.isle_sema.specs.Whole.{Whole, arg_types, ret_type, number_of};
-ghost use Rattle.isle_sema.specs.Environment.{types_of, whole_of};
+ghost use Rattle.isle_sema.specs.Whole.{Whole, ret_type, number_of};
 ghost use Rattle.isle_sema.specs.Known.{whole, MayBeCalled};
-ghost use Rattle.isle_sema.specs.ExprPass.{integer_tree, call_tree};
+ghost use Rattle.isle_sema.specs.ExprPass.{integer_tree, constant_tree, call_tree};
 ghost use Rattle.isle_sema.specs.ElaboratedAt.{expr_trees, IsExprAt, AreExprsAt};
 
 use crate::judged::Judged;
-use crate::known::{Called, Known};
-use crate::reduced::{int_type, reduced};
+use crate::known::{Called, Known, argument_types};
+use crate::reduced::typed_integer;
 use crate::variables::Variables;
 use isle_ast::AstExpr;
-use isle_core::{Expr, List, Text, TypeId, VarId};
+use isle_core::{Expr, List, Text, TypeEnv, TypeId, VarId};
 use std::alloc::{AllocError, Global};
 
 // An integer where this type is expected.
 #[tactic(auto, using(isle_core::proofs::SeesRules::sees))]
-fn integer_at(expected: Option<TypeId>, n: i128) -> Option<Expr>
-    ensures { (defs : List Def) → option_map elaborated result ≡ integer_tree (types_of defs) expected n }
+fn integer_at(types: &TypeEnv, expected: Option<TypeId>, n: i128) -> Option<Expr>
+    ensures { option_map elaborated result ≡ integer_tree types.now expected n }
 {
-    let ty = expected?;
-    let of = int_type(ty)?;
-    Some(Expr::ConstInt(ty, reduced(of, n)))
+    let (ty, reduced) = typed_integer(types, expected, n)?;
+    Some(Expr::ConstInt(ty, reduced))
+}
+
+// A constant of this type, where it is declared.
+#[tactic(auto, using(isle_core::proofs::SeesRules::sees))]
+fn constant_at(known: &Known, found: Option<TypeId>, name: &Text) -> Option<Expr>
+    ensures { option_map elaborated result ≡ constant_tree (whole known.now).types found name.now }
+{
+    let ty = found?;
+    Some(Expr::ConstPrim(ty, known.sym(name)))
 }
 
 // A variable, where it is bound at a type that is known.
@@ -49,16 +57,6 @@ fn variable_at(
             judged.used(expected, None);
             None
         }
-    }
-}
-
-// The types of a term's arguments: of a term that is not declared, none.
-fn argument_types<'s>(callee: &Option<Called<'s>>) -> &'s [TypeId]
-    ensures { (w : Whole) (s : Option Signature) → MayBeCalled w s callee.now → arg_types w s ≡ map Some result.now }
-{
-    match callee {
-        Some(callee) => callee.args,
-        None => &[],
     }
 }
 
@@ -90,11 +88,11 @@ pub fn expr_at(
 {
     match e {
         AstExpr::Int(n) => {
-            judged.integer(expected);
-            Ok(integer_at(expected, *n))
+            judged.integer(known.types(), expected);
+            Ok(integer_at(known.types(), expected, *n))
         }
         AstExpr::Bool(b) => {
-            judged.truth(expected);
+            judged.truth(known.types(), expected);
             Ok(Some(Expr::ConstBool(*b)))
         }
         AstExpr::Var(name) => Ok(variable_at(vars, judged, expected, name)),
@@ -107,9 +105,10 @@ pub fn expr_at(
             name,
             args.as_slice(),
         ),
-        AstExpr::Const(_) => {
-            judged.part();
-            Ok(None)
+        AstExpr::Const(name) => {
+            let found = known.constant(name);
+            judged.constant(false, expected, found);
+            Ok(constant_at(known, found, name))
         }
         AstExpr::Let(_, _) => {
             judged.part();

@@ -3,7 +3,7 @@
 ghost use Rattle.std.specs.Prelude.{◌≡◌, IfOk, Some, [], map, option_map};
 ghost use Rattle.isle_core.specs.RuleViews.{rule as elaborated_rule, pattern as elaborated_pattern, expr as elaborated_expr};
 ghost use Rattle.isle_ast.specs.Views.{defs as seen_defs};
-ghost use Rattle.isle_declarations.specs.Symbols.{index_of, sym_of};
+ghost use Rattle.isle_declarations.specs.Symbols.{index_of};
 ghost use Rattle.isle_declarations.specs.Collected.{rule as seen};
 ghost use Rattle.isle_declarations.specs.Signatures.{rule_defs};
 ghost use Rattle.isle_sema.specs.RulePass.{rule_from};
@@ -13,22 +13,9 @@ ghost use Rattle.isle_sema.specs.Taken.{taken_rule, taken_rules};
 use crate::known::{Called, Known};
 use crate::rows::lowest_row;
 use crate::sides::sides_of;
-use isle_core::{Expr, List, Pattern, Rule, RuleId, Sym, Text};
+use isle_core::{Expr, List, Pattern, Rule, RuleId};
 use isle_declarations::RuleDef;
 use std::alloc::{AllocError, Global};
-
-// The symbol of a rule's own name, where it has one.
-fn name_of(known: &Known, name: &Option<&Text>) -> Option<Sym>
-    ensures { result ≡ option_map (λ n. sym_of (whole known.now).types.syms n.now) name.now }
-{
-    match name {
-        Some(name) => match known.number(name) {
-            Some(number) => Some(Sym(number)),
-            None => Some(Sym(0)),
-        },
-        None => None,
-    }
-}
 
 // The rule of that number, of this term with these parts.
 fn rule_from(
@@ -42,6 +29,10 @@ fn rule_from(
 ) -> Rule
     ensures { elaborated_rule result ≡ rule_from (whole known.now) number (seen given.now) own.now.term (map elaborated_pattern args.items) [] (elaborated_expr rhs) }
 {
+    let name = match given.name {
+        Some(name) => Some(known.sym(name)),
+        None => None,
+    };
     Rule {
         id: RuleId(number),
         root_term: own.term,
@@ -50,7 +41,7 @@ fn rule_from(
         rhs,
         prio: given.prio,
         pos: given.pos,
-        name: name_of(known, &given.name),
+        name,
     }
 }
 

@@ -1,17 +1,18 @@
 //! Terms with types in them, their names as symbols.
 
-ghost use Rattle.std.specs.Prelude.{◌≡◌, ℕ, List, Some, IfOk, option_map};
-ghost use Rattle.isle_ast.specs.Tree.{Def};
+ghost use Rattle.std.specs.Prelude.{◌≡◌, ℕ, List, Some, true, is_some, IfOk, option_map};
 ghost use Rattle.isle_ast.specs.Views.{defs};
-ghost use Rattle.isle_declarations.specs.Collected.{signature as seen};
+ghost use Rattle.isle_declarations.specs.TermViews.{term_def as seen, AreTerms};
 ghost use Rattle.isle_declarations.specs.Symbols.{index_of, symbols};
-ghost use Rattle.isle_declarations.specs.Signatures.{signatures};
-ghost use Rattle.isle_sema.specs.Environment.{types_of, types_named, constructor_named, term_pass, terms_pass};
+ghost use Rattle.isle_declarations.specs.Terms.{terms as all_terms};
+ghost use Rattle.isle_types.specs.Gathered.{IsBefore};
+ghost use Rattle.isle_sema.specs.Environment.{constructor_named, kind_from, term_pass, terms_pass};
 ghost use Rattle.isle_sema.specs.Known.{whole};
 
-use isle_core::{ConstructorKind, ExtractorKind, List, Sym, Term, TermKind, Text, TypeId};
-use isle_declarations::{Declarations, Signature};
-use isle_types::type_named;
+use crate::named_types::{type_named, types_of};
+use isle_core::{ConstructorKind, ExtractorKind, List, Sym, Term, TermKind, TypeId, VariantId};
+use isle_declarations::{Declarations, Origin, TermDef, Terms};
+use isle_types::Before;
 use std::alloc::{AllocError, Global};
 
 // A term comes from its external constructor, or else from its rules, where it has some.
@@ -30,62 +31,74 @@ fn constructor_of(declarations: &Declarations, number: usize) -> ConstructorKind
     }
 }
 
-// The types of names, where all are declared.
-fn types_of(alloc: Global, names: &[Text]) -> Result<Option<Vec<TypeId>>, AllocError>
-    ensures { (defs : List Def) → IfOk result (λ found. option_map (λ types. types.items) found ≡ types_named (types_of defs) names.now) }
+// What a term is that gives this type, where its name has this number.
+fn kind_of(declarations: &Declarations, number: usize, given: &TermDef, ret: TypeId) -> TermKind
+    requires { index_of (symbols (defs declarations.now)) given.now.term.now ≡ Some number }
+    ensures { result ≡ kind_from (whole declarations.now) (seen given.now) ret given.now.origin }
 {
-    let mut types = Vec::with_capacity(alloc, names.len())?;
-    for name in names {
-        match type_named(name.as_str()) {
-            Some(ty) => types.push(ty)?,
-            None => return Ok(None),
-        }
+    match given.origin {
+        Origin::Declared => TermKind::Decl {
+            pure: given.pure,
+            multi: given.multi,
+            partial: given.partial,
+            recursive: given.recursive,
+            constructor: constructor_of(declarations, number),
+            extractor: ExtractorKind::Absent,
+        },
+        Origin::Variant(variant) => TermKind::Variant {
+            ty: ret,
+            variant: VariantId(variant),
+        },
+        Origin::Struct => TermKind::Struct { ty: ret },
     }
-    Ok(Some(types))
 }
 
-// The term of a declaration, where its types are declared.
+// The term, where its types are declared.
 fn term_of(
     alloc: Global,
     declarations: &Declarations,
-    signature: &Signature,
+    before: &Before,
+    given: &TermDef,
 ) -> Result<Option<Term>, AllocError>
-    requires { index_of (symbols (defs declarations.now)) signature.now.term.now ≡ Some signature.now.number }
-    ensures { IfOk result (λ term. term ≡ term_pass (whole declarations.now) (seen signature.now)) }
+    requires before { IsBefore (defs declarations.now) before.now }
+    requires named { is_some (index_of (symbols (defs declarations.now)) given.now.term.now) ≡ true }
+    ensures { IfOk result (λ term. term ≡ term_pass (whole declarations.now) (seen given.now)) }
 {
-    let Some(args) = types_of(alloc, signature.args)? else {
+    let Some(number) = declarations.number(given.term) else {
         return Ok(None);
     };
-    let Some(ret) = type_named(signature.ret.as_str()) else {
+    let Some(args) = types_of(alloc, before, given.args)? else {
+        return Ok(None);
+    };
+    let Some(ret) = type_named(before, given.ret) else {
         return Ok(None);
     };
     Ok(Some(Term {
-        name: Sym(signature.number),
-        decl_pos: signature.pos,
+        name: Sym(number),
+        decl_pos: given.pos,
         arg_tys: List::new(args),
         ret_ty: ret,
-        kind: TermKind::Decl {
-            pure: signature.pure,
-            multi: signature.multi,
-            partial: signature.partial,
-            recursive: signature.recursive,
-            constructor: constructor_of(declarations, signature.number),
-            extractor: ExtractorKind::Absent,
-        },
+        kind: kind_of(declarations, number, given, ret),
     }))
 }
 
-/// Returns the terms of the declarations, in order, where their types are declared.
-pub fn terms_of(alloc: Global, declarations: &Declarations) -> Result<Option<Vec<Term>>, AllocError>
-    ensures { IfOk result (λ terms. option_map (λ ts. ts.items) terms ≡ terms_pass (whole declarations.now) (signatures (defs declarations.now))) }
+/// Returns the terms, in order, where their types are declared.
+pub fn terms_of(
+    alloc: Global,
+    declarations: &Declarations,
+    before: &Before,
+    terms: &Terms,
+) -> Result<Option<Vec<Term>>, AllocError>
+    requires before { IsBefore (defs declarations.now) before.now }
+    requires terms { AreTerms (defs declarations.now) terms.now }
+    ensures { IfOk result (λ found. option_map (λ ts. ts.items) found ≡ terms_pass (whole declarations.now) (all_terms (defs declarations.now))) }
 {
-    let signatures = declarations.signatures();
-    let mut terms = Vec::with_capacity(alloc, signatures.len())?;
-    for signature in signatures {
-        match term_of(alloc, declarations, signature)? {
-            Some(term) => terms.push(term)?,
+    let mut found = Vec::with_capacity(alloc, terms.terms.len())?;
+    for given in terms.terms.as_slice() {
+        match term_of(alloc, declarations, before, given)? {
+            Some(term) => found.push(term)?,
             None => return Ok(None),
         }
     }
-    Ok(Some(terms))
+    Ok(Some(found))
 }

@@ -1,10 +1,9 @@
 //! What the typing table says of the parts of a rule.
 
-ghost use Rattle.std.specs.Prelude.{◌≡◌, Option, Some, List, []};
-ghost use Rattle.isle_ast.specs.Tree.{Def};
+ghost use Rattle.std.specs.Prelude.{◌≡◌, [], Option, Some};
 ghost use Rattle.isle_declarations.specs.Signatures.{Signature};
 ghost use Rattle.isle_sema.specs.Whole.{Whole};
-ghost use Rattle.isle_sema.specs.Site.{IntegerAt, TruthAt, WildcardAt, MetAt, UsedAt, CalledAt, NotBuiltAt};
+ghost use Rattle.isle_sema.specs.Site.{IntegerAt, TruthAt, WildcardAt, MetAt, UsedAt, CalledAt, TakenAt, ConstantAt, NotBuiltAt};
 ghost use Rattle.isle_sema.specs.RuleRows.{is_other_type};
 ghost use Rattle.isle_sema.specs.Environment.{whole_of};
 ghost use Rattle.isle_sema.specs.Known.{IsCalled, MayBeCalled};
@@ -12,13 +11,16 @@ ghost use Rattle.isle_sema.specs.Judging.{unjudged, judge};
 
 use crate::expected::{takes_integers, takes_truths};
 use crate::known::Called;
-use isle_core::TypeId;
+use isle_core::{TypeEnv, TypeId};
 
 /// Which rows the parts of a rule that were met so far break, whether one calls a term that has a rule, and how many
 /// parts there are.
 #[derive(Clone, Copy)]
 pub struct Judged {
+    pub untaken: bool,
+    pub mistaken: bool,
     pub misplaced: bool,
+    pub undeclared: bool,
     pub met_otherwise: bool,
     pub unknown: bool,
     pub mistyped: bool,
@@ -39,14 +41,17 @@ fn is_other_type(bound: Option<Option<TypeId>>, expected: Option<TypeId>) -> boo
     }
 }
 
-// The rows look at the definitions at integers, truths and calls alone: elsewhere it is all one what definitions there are.
+// The rows look at the definitions at integers, truths and terms alone: elsewhere it is all one what definitions there are.
 impl Judged {
     /// Begins with no part.
     pub fn new() -> Judged
         ensures { result ≡ unjudged }
     {
         Judged {
+            untaken: false,
+            mistaken: false,
             misplaced: false,
+            undeclared: false,
             met_otherwise: false,
             unknown: false,
             mistyped: false,
@@ -67,19 +72,19 @@ impl Judged {
     }
 
     /// Judges an integer where this type is expected.
-    pub fn integer(&mut self, expected: Option<TypeId>)
-        ensures { (defs : List Def) → self.new ≡ judge (whole_of defs) self.old (IntegerAt expected) }
+    pub fn integer(&mut self, types: &TypeEnv, expected: Option<TypeId>)
+        ensures { (w : Whole) → types.now ≡ w.types → self.new ≡ judge w self.old (IntegerAt expected) }
     {
         self.nodes = self.nodes.saturating_add(1);
-        self.misplaced = !takes_integers(expected) | self.misplaced;
+        self.misplaced = !takes_integers(types, expected) | self.misplaced;
     }
 
     /// Judges `true` or `false` where this type is expected.
-    pub fn truth(&mut self, expected: Option<TypeId>)
-        ensures { (defs : List Def) → self.new ≡ judge (whole_of defs) self.old (TruthAt expected) }
+    pub fn truth(&mut self, types: &TypeEnv, expected: Option<TypeId>)
+        ensures { (w : Whole) → types.now ≡ w.types → self.new ≡ judge w self.old (TruthAt expected) }
     {
         self.nodes = self.nodes.saturating_add(1);
-        self.misplaced = !takes_truths(expected) | self.misplaced;
+        self.misplaced = !takes_truths(types, expected) | self.misplaced;
     }
 
     /// Judges a variable in a pattern by the type that it was bound at before, where it was.
@@ -99,13 +104,13 @@ impl Judged {
         self.mistyped = is_other_type(bound, expected) | self.mistyped;
     }
 
-    // A call of a declared term.
+    // A call of a term that is there.
     fn term(&mut self, expected: Option<TypeId>, callee: &Called, count: usize)
         ensures { (w : Whole) (s : Signature) → IsCalled w s callee.now → self.new ≡ judge w self.old (CalledAt expected (Some s) count) }
     {
         self.nodes = self.nodes.saturating_add(1);
         self.unknown = (count != callee.args.len())
-            | !(callee.external | callee.ruled)
+            | !(callee.made | callee.external | callee.ruled)
             | self.unknown;
         self.mistyped = is_other_type(Some(Some(callee.ret)), expected) | self.mistyped;
         self.partial = callee.partial | self.partial;
@@ -125,5 +130,38 @@ impl Judged {
                 self.unknown = true;
             }
         }
+    }
+
+    // A term in a pattern that is there.
+    fn taken_term(&mut self, expected: Option<TypeId>, callee: &Called, count: usize)
+        ensures { (w : Whole) (s : Signature) → IsCalled w s callee.now → self.new ≡ judge w self.old (TakenAt expected (Some s) count) }
+    {
+        self.nodes = self.nodes.saturating_add(1);
+        self.untaken = ((count != callee.args.len()) | !callee.made) | self.untaken;
+        self.mistaken = is_other_type(Some(Some(callee.ret)), expected) | self.mistaken;
+    }
+
+    /// Judges a term in a pattern, on so many patterns.
+    pub fn taken(&mut self, expected: Option<TypeId>, callee: &Option<Called>, count: usize)
+        ensures { (w : Whole) (s : Option Signature) → MayBeCalled w s callee.now → self.new ≡ judge w self.old (TakenAt expected s count) }
+    {
+        match callee {
+            Some(callee) => self.taken_term(expected, callee, count),
+            None => {
+                self.nodes = self.nodes.saturating_add(1);
+                self.untaken = true;
+            }
+        }
+    }
+
+    /// Judges a constant of this type, where it is declared.
+    pub fn constant(&mut self, in_pattern: bool, expected: Option<TypeId>, found: Option<TypeId>)
+        ensures { self.new ≡ judge (whole_of []) self.old (ConstantAt in_pattern expected found) }
+    {
+        self.nodes = self.nodes.saturating_add(1);
+        let differs = is_other_type(Some(found), expected);
+        self.undeclared = found.is_none() | self.undeclared;
+        self.mistaken = (in_pattern & differs) | self.mistaken;
+        self.mistyped = (!in_pattern & differs) | self.mistyped;
     }
 }

@@ -1,18 +1,21 @@
 //! The terms that names call.
 
-ghost use Rattle.std.specs.Prelude.{◌≡◌, ℕ, List, Some};
+ghost use Rattle.std.specs.Prelude.{◌≡◌, ℕ, List, Option, Some, map};
+ghost use Rattle.isle_declarations.specs.Signatures.{Signature};
 ghost use Rattle.isle_ast.specs.Views.{defs as seen};
-ghost use Rattle.isle_declarations.specs.Symbols.{index_of, symbols};
+ghost use Rattle.isle_declarations.specs.Symbols.{index_of, symbols, sym_of};
 ghost use Rattle.isle_declarations.specs.Collected.{AreRules};
-ghost use Rattle.isle_sema.specs.Whole.{declared};
+ghost use Rattle.isle_declarations.specs.Terms.{is_made};
+ghost use Rattle.isle_sema.specs.Whole.{Whole, termed, arg_types, constant_type};
 ghost use Rattle.isle_sema.specs.Known.{whole, MayBeCalled};
 
-use isle_core::{Term, TermId, Text, TypeId};
-use isle_declarations::{Declarations, RuleDef};
+use isle_core::{Sym, Term, TermId, Text, TypeEnv, TypeId};
+use isle_declarations::{Declarations, Origin, RuleDef, Terms};
+use isle_types::Before;
 use std::marker::Model;
 
-/// A declared term: its number, the types of its arguments and of its result, its flags, and whether it has an
-/// external constructor and a rule.
+/// A term: its number, the types of its arguments and of its result, its flags, whether a type makes it, and whether it has
+/// an external constructor and a rule.
 #[derive(Clone, Copy)]
 pub struct Called<'s> {
     pub term: TermId,
@@ -21,25 +24,27 @@ pub struct Called<'s> {
     pub pure: bool,
     pub multi: bool,
     pub partial: bool,
+    pub made: bool,
     pub external: bool,
     pub ruled: bool,
 }
 
-/// What definitions declare, with the terms of their declarations. Contracts see the definitions.
+/// Definitions whose types and constants have no fault, with what they declare. Contracts see the definitions.
 #[derive(Drop)]
 pub struct Known<'s, 'd> {
     pub declarations: &'s Declarations<'d>,
-    pub terms: &'s [Term],
+    pub before: &'s Before<'d>,
+    pub types: &'s TypeEnv,
+    pub terms: &'s Terms<'d>,
+    pub typed: &'s [Term],
 }
 
 impl<'s, 'd> Model for Known<'s, 'd> {
-    ghost use Rattle.std.specs.Prelude.{◌≡◌, List, Some};
+    ghost use Rattle.std.specs.Prelude.{List};
     ghost use Rattle.std.specs.Coded.{codes};
     ghost use Rattle.isle_ast.specs.contracts.tree.Def as d;
     ghost use Rattle.isle_ast.specs.declared.tree.Def.{Def};
-    ghost use Rattle.isle_declarations.specs.Signatures.{signatures};
-    ghost use Rattle.isle_sema.specs.Environment.{terms_pass};
-    ghost use Rattle.isle_sema.specs.Known.{whole};
+    ghost use Rattle.isle_sema.specs.KnownOf.{AreKnown};
 
     ghost Value = { List Def };
 
@@ -47,10 +52,57 @@ impl<'s, 'd> Model for Known<'s, 'd> {
 
     ghost view = { λ k. k.declarations.now };
 
-    ghost invariant = { λ k. terms_pass (whole k.declarations.now) (signatures (whole k.declarations.now).defs) ≡ Some k.terms.now };
+    ghost invariant = { λ k. AreKnown k.declarations.now k.before.now k.types.now k.terms.now k.typed.now };
+}
+
+// Whether a type makes a term.
+fn is_made(origin: Origin) -> bool
+    ensures { result ≡ is_made origin }
+{
+    match origin {
+        Origin::Declared => false,
+        Origin::Variant(_) => true,
+        Origin::Struct => true,
+    }
+}
+
+/// Returns the types of a term's arguments: of a term that is not there, none.
+pub fn argument_types<'s>(callee: &Option<Called<'s>>) -> &'s [TypeId]
+    ensures { (w : Whole) (s : Option Signature) → MayBeCalled w s callee.now → arg_types w s ≡ map Some result.now }
+{
+    match callee {
+        Some(callee) => callee.args,
+        None => &[],
+    }
 }
 
 impl<'s, 'd> Known<'s, 'd> {
+    /// Returns the types and constants.
+    pub fn types(&self) -> &'s TypeEnv
+        ensures { result.now ≡ (whole self.now).types }
+    {
+        self.types
+    }
+
+    /// Returns the type of a constant, where it is declared.
+    pub fn constant(&self, name: &Text) -> Option<TypeId>
+        ensures { result ≡ constant_type (whole self.now) name.now }
+    {
+        let place = self.before.constants.find(name.as_str())?;
+        let constant = self.types.consts.as_slice().get(place)?;
+        Some(constant.1)
+    }
+
+    /// Returns the symbol of a name.
+    pub fn sym(&self, name: &Text) -> Sym
+        ensures { result ≡ sym_of (whole self.now).types.syms name.now }
+    {
+        match self.declarations.number(name) {
+            Some(number) => Sym(number),
+            None => Sym(0),
+        }
+    }
+
     /// Returns the number of a name.
     pub fn number(&self, name: &Text) -> Option<usize>
         ensures { result ≡ index_of (symbols (seen self.now)) name.now }
@@ -67,18 +119,19 @@ impl<'s, 'd> Known<'s, 'd> {
 
     /// Returns the term of the name of this number.
     pub fn at(&self, number: usize) -> Option<Called<'s>>
-        ensures { (name : List ℕ) → index_of (symbols (seen self.now)) name ≡ Some number → MayBeCalled (whole self.now) (declared (whole self.now) name) result }
+        ensures { (name : List ℕ) → index_of (symbols (seen self.now)) name ≡ Some number → MayBeCalled (whole self.now) (termed (whole self.now) name) result }
     {
-        let place = self.declarations.declaration(number)?;
-        let term = self.terms.get(place)?;
-        let signature = self.declarations.signatures().get(place)?;
+        let place = self.terms.place(number)?;
+        let term = self.typed.get(place)?;
+        let given = self.terms.terms.as_slice().get(place)?;
         Some(Called {
             term: TermId(place),
             args: term.arg_tys.as_slice(),
             ret: term.ret_ty,
-            pure: signature.pure,
-            multi: signature.multi,
-            partial: signature.partial,
+            pure: given.pure,
+            multi: given.multi,
+            partial: given.partial,
+            made: is_made(given.origin),
             external: self.declarations.external(number).is_some(),
             ruled: self.declarations.rule(number).is_some(),
         })
@@ -86,7 +139,7 @@ impl<'s, 'd> Known<'s, 'd> {
 
     /// Returns the term of a name.
     pub fn called(&self, name: &Text) -> Option<Called<'s>>
-        ensures { MayBeCalled (whole self.now) (declared (whole self.now) name.now) result }
+        ensures { MayBeCalled (whole self.now) (termed (whole self.now) name.now) result }
     {
         match self.number(name) {
             Some(number) => self.at(number),

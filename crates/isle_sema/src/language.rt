@@ -2,13 +2,14 @@
 
 ghost use Rattle.std.specs.Prelude.{◌≡◌, map};
 ghost use Rattle.std.specs.List.{list_all};
-ghost use Rattle.isle_ast.specs.Views.{pattern, expr, exprs_of, iflet, def, defs as seen};
-ghost use Rattle.isle_sema.specs.Language.{is_built_pattern, is_built_expr, are_built_exprs};
+ghost use Rattle.isle_ast.specs.Views.{pattern, patterns_of, expr, exprs_of, iflet, def, defs as seen};
+ghost use Rattle.isle_sema.specs.Language.{is_built_pattern, are_built_patterns, is_built_expr, are_built_exprs};
 ghost use Rattle.isle_sema.specs.BuiltForm.{is_built_form};
 
 use isle_ast::{AstExpr, AstPattern, Def};
 
 // Whether the form of a pattern is built.
+#[cycle(patterns)]
 #[tactic(auto, using(isle_ast::proofs::Sees::pattern_sees))]
 fn is_built_pattern(p: &AstPattern) -> bool
     ensures { result ≡ is_built_pattern (pattern p.now) }
@@ -18,11 +19,24 @@ fn is_built_pattern(p: &AstPattern) -> bool
         AstPattern::Bool(_) => true,
         AstPattern::Wildcard => true,
         AstPattern::Var(_) => true,
-        AstPattern::Const(_) => false,
+        AstPattern::Const(_) => true,
+        AstPattern::Term(_, parts) => are_built_patterns(parts.as_slice()),
         AstPattern::Bind(_, _) => false,
         AstPattern::And(_) => false,
-        AstPattern::Term(_, _) => false,
     }
+}
+
+// Whether the form of each pattern is built.
+#[cycle(patterns)]
+fn are_built_patterns(patterns: &[AstPattern]) -> bool
+    ensures { result ≡ are_built_patterns (patterns_of (map pattern patterns.now)) }
+{
+    for p in patterns {
+        if !is_built_pattern(p) {
+            return false;
+        }
+    }
+    true
 }
 
 // Whether the form of an expression is built.
@@ -35,7 +49,7 @@ fn is_built_expr(e: &AstExpr) -> bool
         AstExpr::Int(_) => true,
         AstExpr::Bool(_) => true,
         AstExpr::Var(_) => true,
-        AstExpr::Const(_) => false,
+        AstExpr::Const(_) => true,
         AstExpr::Let(_, _) => false,
         AstExpr::Term(_, args) => are_built_exprs(args.as_slice()),
     }
@@ -54,19 +68,7 @@ fn are_built_exprs(es: &[AstExpr]) -> bool
     true
 }
 
-// Whether the form of each pattern is built.
-fn are_built_patterns(patterns: &[AstPattern]) -> bool
-    ensures { result ≡ list_all is_built_pattern (map pattern patterns.now) }
-{
-    for p in patterns {
-        if !is_built_pattern(p) {
-            return false;
-        }
-    }
-    true
-}
-
-// Whether the form of a definition is built: a declaration with at most the flag `partial`, an external constructor, a
+// Whether the form of a definition is built: a type, a constant, a declaration with at most the flag `partial`, an external constructor, a
 // rule without conditions whose forms are built, or a list that is passed over.
 fn is_built_form(given: &Def) -> bool
     ensures { result ≡ is_built_form (def given.now) }
@@ -78,6 +80,7 @@ fn is_built_form(given: &Def) -> bool
             recursive,
             ..
         } => !*pure && !*multi && !*recursive,
+        Def::TypeDecl { .. } | Def::ExternConst { .. } => true,
         Def::ExternConstructor { .. } | Def::Passed { .. } => true,
         Def::Rule {
             args,

@@ -10,6 +10,7 @@ mod expected;
 mod judged;
 mod known;
 mod language;
+mod named_types;
 mod reduced;
 mod rows;
 mod sides;

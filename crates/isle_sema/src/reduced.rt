@@ -1,12 +1,11 @@
 //! Integers as the values of their type.
 
-ghost use Rattle.std.specs.Prelude.{◌≡◌, slice_get};
+ghost use Rattle.std.specs.Prelude.{◌≡◌, Some};
 ghost use Rattle.std.specs.Int.{w8, w16, w32, w64};
 ghost use Rattle.isle_core.specs.Int.{residue};
-ghost use Rattle.isle_types.specs.Builtins.{builtins};
-ghost use Rattle.isle_sema.specs.Reduced.{reduced, int_type_by};
+ghost use Rattle.isle_sema.specs.Reduced.{reduced, integer_by, typed_integer};
 
-use isle_core::{IntType, TypeId};
+use isle_core::{BuiltinType, IntType, TypeDef, TypeEnv, TypeId};
 
 // The lowest 8 bits.
 fn low_8(n: i128) -> u8
@@ -36,9 +35,9 @@ fn low_64(n: i128) -> u64
     n.rem_euclid(0x1_0000_0000_0000_0000).unsigned_abs() as u64
 }
 
-/// Returns the number of the type that a number wraps to, u128 as its 128 signed bits.
+// The number of the type that a number wraps to, u128 as its 128 signed bits.
 #[tactic(auto, using(crate::proofs::ReducedLaws::reduced_is))]
-pub fn reduced(ty: IntType, n: i128) -> i128
+fn reduced(ty: IntType, n: i128) -> i128
     ensures { result ≡ reduced ty n }
 {
     match ty {
@@ -54,24 +53,25 @@ pub fn reduced(ty: IntType, n: i128) -> i128
     }
 }
 
-/// Returns the integer type that a type is.
-pub fn int_type(ty: TypeId) -> Option<IntType>
-    ensures { result ≡ int_type_by (slice_get builtins ty.0) }
+// An integer as a type of this definition has it.
+fn integer_by(def: &TypeDef, n: i128) -> Option<i128>
+    ensures { result ≡ integer_by (Some def.now) n }
 {
-    let of = match ty.index() {
-        1 => IntType::U8,
-        2 => IntType::U16,
-        3 => IntType::U32,
-        4 => IntType::U64,
-        5 => IntType::U128,
-        6 => IntType::USize,
-        7 => IntType::I8,
-        8 => IntType::I16,
-        9 => IntType::I32,
-        10 => IntType::I64,
-        11 => IntType::I128,
-        12 => IntType::ISize,
-        _ => return None,
-    };
-    Some(of)
+    match def {
+        TypeDef::Builtin(BuiltinType::Bool) => None,
+        TypeDef::Builtin(BuiltinType::Int(ty)) => Some(reduced(*ty, n)),
+        TypeDef::Primitive { .. } => Some(reduced(IntType::I128, n)),
+        TypeDef::Enum { .. } => None,
+        TypeDef::Struct { .. } => None,
+    }
+}
+
+/// Returns an integer with its type, where this type is expected.
+pub fn typed_integer(types: &TypeEnv, expected: Option<TypeId>, n: i128) -> Option<(TypeId, i128)>
+    ensures { result ≡ typed_integer types.now expected n }
+{
+    let ty = expected?;
+    let def = types.types.as_slice().get(ty.index())?;
+    let reduced = integer_by(def, n)?;
+    Some((ty, reduced))
 }

@@ -12,10 +12,14 @@ use isle_types::Row;
 pub fn lowest_row(own: &Called, count: usize, left: &Judged, right: &Judged) -> Option<Row>
     ensures { result ≡ lowest own.now count left.now right.now }
 {
-    if count != own.args.len() {
+    if count != own.args.len() || (left.untaken || right.untaken) {
         Some(Row::PatternTermMisfit)
+    } else if left.mistaken || right.mistaken {
+        Some(Row::PatternTypeMisfit)
     } else if left.misplaced || right.misplaced {
         Some(Row::LiteralMisfit)
+    } else if left.undeclared || right.undeclared {
+        Some(Row::ConstantUndeclared)
     } else if left.met_otherwise || right.met_otherwise {
         Some(Row::VariableTypeMisfit)
     } else if left.unknown || right.unknown {

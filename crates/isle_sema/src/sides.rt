@@ -35,7 +35,7 @@ pub fn sides_of(
 {
     let mut vars = Variables::new(alloc);
     let mut left = Judged::new();
-    let args = patterns_at(alloc, &mut vars, &mut left, own.args, given.args)?;
+    let args = patterns_at(alloc, known, &mut vars, &mut left, own.args, given.args)?;
     let mut right = Judged::new();
     let rhs = expr_at(alloc, known, &vars, &mut right, Some(own.ret), given.rhs)?;
     Ok(Sides {

@@ -1,12 +1,16 @@
 //! The terms and rules of definitions.
 
-ghost use Rattle.std.specs.Prelude.{◌≡◌, IfOk, Some, true, map, option_map};
+ghost use Rattle.std.specs.Prelude.{◌≡◌, IfOk, None, true, map, option_map};
 ghost use Rattle.std.specs.List.{list_all, list_any};
 ghost use Rattle.isle_core.specs.RuleViews.{rule as elaborated_rule};
 ghost use Rattle.isle_ast.specs.Views.{defs as seen};
 ghost use Rattle.isle_declarations.specs.Signatures.{signatures, externs, rule_defs};
 ghost use Rattle.isle_sema.specs.Language.{is_built_def};
-ghost use Rattle.isle_sema.specs.Environment.{terms_pass};
+ghost use Rattle.isle_declarations.specs.DeclaredTypes.{made_of};
+ghost use Rattle.isle_types.specs.Fault.{type_fault};
+ghost use Rattle.isle_types.specs.Gathered.{IsBefore};
+ghost use Rattle.isle_types.specs.TypeEnvironment.{type_env_of};
+ghost use Rattle.isle_sema.specs.KnownOf.{AreKnown};
 ghost use Rattle.isle_sema.specs.Known.{whole};
 ghost use Rattle.isle_sema.specs.Taken.{taken_rules, IsTermEnvOf};
 ghost use Rattle.isle_sema.specs.Tests.{has_undeclared, is_headless};
@@ -15,8 +19,9 @@ use crate::elaborated_rules::rules_at;
 use crate::elaborated_terms::terms_of;
 use crate::known::Known;
 use crate::signature_faults::are_misdeclared;
-use isle_core::{List, Rule, Term, TermEnv};
-use isle_declarations::Declarations;
+use isle_core::{List, Rule, Term, TermEnv, Text, TypeEnv};
+use isle_declarations::{Declarations, Terms, terms_of as gathered_terms};
+use isle_types::Before;
 use std::alloc::{AllocError, Global};
 
 // Whether an external constructor is of a term that is not declared.
@@ -47,27 +52,44 @@ fn has_misfit_head(declarations: &Declarations) -> bool
 }
 
 // The rules of definitions over their terms.
-fn rules_of(
+fn rules_of<'d>(
     alloc: Global,
-    declarations: &Declarations,
-    terms: &[Term],
+    declarations: &Declarations<'d>,
+    before: &Before<'d>,
+    types: &TypeEnv,
+    terms: &Terms<'d>,
+    typed: &[Term],
 ) -> Result<Option<Vec<Rule>>, AllocError>
-    requires { terms_pass (whole declarations.now) (signatures (seen declarations.now)) ≡ Some terms.now }
+    requires { AreKnown declarations.now before.now types.now terms.now typed.now }
     ensures { IfOk result (λ rules. option_map (λ rs. map elaborated_rule rs.items) rules ≡ taken_rules (whole declarations.now) 0 (rule_defs (seen declarations.now))) }
 {
     let known = Known {
         declarations,
+        before,
+        types,
         terms,
+        typed,
     };
     rules_at(alloc, &known)
 }
 
-/// Returns the terms and rules of definitions: nothing where they break a row of the typing table, or are not built.
-pub fn term_env(alloc: Global, declarations: &Declarations) -> Result<Option<TermEnv>, AllocError>
-    requires { list_all is_built_def (seen declarations.now) ≡ true }
+/// Returns the terms and rules of definitions, whose types make these: nothing where they break a row of the typing table, or
+/// are not built.
+pub fn term_env<'d>(
+    alloc: Global,
+    declarations: &Declarations<'d>,
+    before: &Before<'d>,
+    types: &TypeEnv,
+    made: &'d [List<Text>],
+) -> Result<Option<TermEnv>, AllocError>
+    requires built { list_all is_built_def (seen declarations.now) ≡ true }
+    requires sound { type_fault (seen declarations.now) ≡ None }
+    requires before { IsBefore (seen declarations.now) before.now }
+    requires types { types.now ≡ type_env_of (seen declarations.now) }
+    requires made { made.now ≡ map made_of (seen declarations.now) }
     ensures { IfOk result (λ found. IsTermEnvOf (seen declarations.now) found) }
 {
-    if are_misdeclared(declarations) {
+    if are_misdeclared(declarations, before) {
         return Ok(None);
     }
     if declarations.any_repeat() {
@@ -79,14 +101,15 @@ pub fn term_env(alloc: Global, declarations: &Declarations) -> Result<Option<Ter
     if has_misfit_head(declarations) {
         return Ok(None);
     }
-    let Some(terms) = terms_of(alloc, declarations)? else {
+    let terms = gathered_terms(alloc, declarations, made)?;
+    let Some(typed) = terms_of(alloc, declarations, before, &terms)? else {
         return Ok(None);
     };
-    let Some(rules) = rules_of(alloc, declarations, terms.as_slice())? else {
+    let Some(rules) = rules_of(alloc, declarations, before, types, &terms, typed.as_slice())? else {
         return Ok(None);
     };
     Ok(Some(TermEnv {
-        terms: List::new(terms),
+        terms: List::new(typed),
         rules: List::new(rules),
         converters: List::new(Vec::new(alloc)),
     }))

@@ -1,6 +1,10 @@
-ghost use Rattle.std.specs.Prelude.{◌≡◌, IfOk, IfErr};
+ghost use Rattle.std.specs.Prelude.{◌≡◌, None, IfOk, IfErr, map};
 ghost use Rattle.isle_core.specs.RuleViews.{environment};
 ghost use Rattle.isle_ast.specs.Views.{defs as seen};
+ghost use Rattle.isle_declarations.specs.DeclaredTypes.{made_of};
+ghost use Rattle.isle_types.specs.Fault.{type_fault};
+ghost use Rattle.isle_types.specs.Gathered.{IsBefore};
+ghost use Rattle.isle_types.specs.TypeEnvironment.{type_env_of};
 ghost use Rattle.isle_sema.specs.Taken.{IsTermEnvOf};
 ghost use Rattle.isle_sema.specs.Typing.{TypesFrom, TypedOnly, SomeTypes, SomeTyped, IsUntyped};
 
@@ -8,9 +12,9 @@ use crate::bound_once::any_binds_twice;
 use crate::language::are_built_forms;
 use crate::term_env::term_env;
 use isle_ast::Def;
-use isle_core::{Error, OutOfMemory, TermEnv, TypeEnv};
+use isle_core::{Error, List, OutOfMemory, TermEnv, Text, TypeEnv};
 use isle_declarations::{Declarations, made_each};
-use isle_types::{check_types, type_env};
+use isle_types::{Before, check_types, type_env};
 use std::alloc::{AllocError, Global};
 
 /// Why definitions give no environment.
@@ -46,7 +50,17 @@ impl From<OutOfMemory> for EnvError {
 }
 
 // The terms and rules of definitions: nothing where they are not all of forms that are built, or one is wrong.
-fn built_terms(alloc: Global, declarations: &Declarations) -> Result<Option<TermEnv>, AllocError>
+fn built_terms<'d>(
+    alloc: Global,
+    declarations: &Declarations<'d>,
+    before: &Before<'d>,
+    types: &TypeEnv,
+    made: &'d [List<Text>],
+) -> Result<Option<TermEnv>, AllocError>
+    requires sound { type_fault (seen declarations.now) ≡ None }
+    requires before { IsBefore (seen declarations.now) before.now }
+    requires types { types.now ≡ type_env_of (seen declarations.now) }
+    requires made { made.now ≡ map made_of (seen declarations.now) }
     ensures { IfOk result (λ found. IsTermEnvOf (seen declarations.now) found) }
 {
     if !are_built_forms(declarations.defs()) {
@@ -55,7 +69,7 @@ fn built_terms(alloc: Global, declarations: &Declarations) -> Result<Option<Term
     if any_binds_twice(alloc, declarations)? {
         return Ok(None);
     }
-    term_env(alloc, declarations)
+    term_env(alloc, declarations, before, types, made)
 }
 
 /// Types the definitions' symbols, types and constants, of all forms (`specs/Typing.antt`). `Typing` comes exactly where one of
@@ -82,10 +96,13 @@ pub fn term_env_from_ast(alloc: Global, env: &TypeEnv, defs: &[Def]) -> Result<T
     ensures ok { IfOk result (λ terms. TypedOnly (seen defs.now) (environment env.now terms)) }
     ensures err { IfErr result (λ e. IsUntyped (SomeTyped (seen defs.now)) e (seen defs.now)) }
 {
-    let _given = env;
     let made = made_each(alloc, defs)?;
+    let before = match check_types(alloc, defs, made.as_slice())? {
+        Ok(before) => before,
+        Err(error) => return Err(EnvError::Typing(error)),
+    };
     let declarations = Declarations::gather(alloc, defs, made.as_slice())?;
-    match built_terms(alloc, &declarations)? {
+    match built_terms(alloc, &declarations, &before, env, made.as_slice())? {
         Some(terms) => Ok(terms),
         None => Err(EnvError::NotYet),
     }
@@ -103,8 +120,9 @@ pub fn env_from_ast(alloc: Global, defs: &[Def]) -> Result<(TypeEnv, TermEnv), E
         Err(error) => return Err(EnvError::Typing(error)),
     };
     let declarations = Declarations::gather(alloc, defs, made.as_slice())?;
-    match built_terms(alloc, &declarations)? {
-        Some(terms) => Ok((type_env(alloc, &declarations, &before)?, terms)),
+    let types = type_env(alloc, &declarations, &before)?;
+    match built_terms(alloc, &declarations, &before, &types, made.as_slice())? {
+        Some(terms) => Ok((types, terms)),
         None => Err(EnvError::NotYet),
     }
 }

@@ -2,3 +2,10 @@ pub mod KnownLaws
 pub mod BeforeLaws
 pub mod FaultLaws
 pub mod TypeSteps
+pub mod SymbolsApart
+pub mod SoundRows
+pub mod TypePlaces
+pub mod SoundFields
+pub mod SoundTypes
+pub mod SoundBodies
+pub mod SoundConstants

@@ -7,18 +7,13 @@ use Rattle.isle_ast.specs.declared.tree.AstFields.{AstFields}
 use Rattle.isle_ast.specs.declared.tree.AstFields.TheVariants.{Unit, Named, Tuple}
 use Rattle.isle_ast.specs.declared.tree.AstVariant.{AstVariant}
 use Rattle.isle_declarations.specs.Repeats.{repeats}
+pub use Rattle.isle_declarations.specs.DeclaredTypes.{field_types}
 
 -- the names of fields; those of a tuple have none
 abbrev pub field_names : AstFields → List (List ℕ)
 field_names Unit = []
 field_names (Named fields) = map (λ (f : List ℕ × List ℕ). f.0) fields
 field_names (Tuple types) = []
-
--- the names of their types
-abbrev pub field_types : AstFields → List (List ℕ)
-field_types Unit = []
-field_types (Named fields) = map (λ (f : List ℕ × List ℕ). f.1) fields
-field_types (Tuple types) = types
 
 -- the names of variants
 abbrev pub variant_names : List AstVariant → List (List ℕ)

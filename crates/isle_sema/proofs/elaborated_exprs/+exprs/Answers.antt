@@ -4,8 +4,9 @@ use Rattle.std.specs.Int.{w128}
 use Rattle.isle_core.specs.RuleViews.{expr as elaborated, exprs_of as elaborated_of}
 use Rattle.isle_ast.specs.Tree as tree
 use Rattle.isle_ast.specs.Views.{expr, exprs_of, defs as seen}
-use Rattle.isle_declarations.specs.Signatures.{signatures, term_named}
-use Rattle.isle_sema.specs.Whole.{declared, arg_types, ret_type}
+use Rattle.isle_declarations.specs.Signatures.{term_named}
+use Rattle.isle_declarations.specs.Terms.{terms}
+use Rattle.isle_sema.specs.Whole.{termed, arg_types, ret_type}
 use Rattle.isle_sema.specs.ExprPass.{integer_tree, call_tree, expr_pass, exprs_pass}
 use Rattle.isle_sema.specs.ElaboratedAt.{expr_trees}
 use Rattle.isle_sema.specs.Known.{whole}
@@ -13,7 +14,8 @@ use Rattle.isle_sema.specs.declared.judged.Judged.{Judged}
 use Rattle.isle_sema.specs.Site.{CalledAt}
 use Rattle.isle_sema.specs.Judging.{judge, judge_all}
 use Rattle.isle_sema.proofs.CallLaws.{counted}
-use Rattle.isle_ast.proofs.Sees.{expr-number, expr-name}
+use Rattle.isle_ast.proofs.Sees.{expr-number, expr-fact, expr-name}
+use Rattle.isle_core.proofs.SeesRules.{expr-bool}
 use Rattle.isle_declarations.proofs.LookUps.{got}
 use Rattle.isle_sema.proofs.RuleLaws.{number_is}
 use Rattle.isle_sema.proofs.Steps.{exprs_before, same_cond, exprs_more, expr_more, expr_missing, exprs_all}
@@ -23,12 +25,12 @@ use Rattle.isle_sema.proofs.elaborated_exprs.+exprs.Goals as goal
 pub call_at-returns : goal.call_at-returns
 call_at-returns t c =
     let w = whole c.args.known.now in
-    let o = declared w c.args.name.now in
+    let o = termed w c.args.name.now in
     let es = exprs_of (map expr c.args.args.now) in
     let types : map Some c.argument_types.result.now ≡ arg_types w o = sym (c.argument_types.ensures w o c.called-callee.ensures) in
     record {
-      tree = c.call_of.ensures w o c.called-callee.ensures ∙ ap (λ n. call_tree (ret_type w o) n (expr_trees c.in_ok-typed.typed)) (number_is (signatures w.defs) c.args.name.now)
-          ∙ ap (call_tree (ret_type w o) (term_named (signatures w.defs) c.args.name.now)) (c.in_ok-typed.ensures.trees ∙ ap (λ os. (exprs_pass w c.args.vars.now os es).trees) types);
+      tree = c.call_of.ensures w o c.called-callee.ensures ∙ ap (λ n. call_tree (ret_type w o) n (expr_trees c.in_ok-typed.typed)) (number_is (terms w.defs) c.args.name.now)
+          ∙ ap (call_tree (ret_type w o) (term_named (terms w.defs) c.args.name.now)) (c.in_ok-typed.ensures.trees ∙ ap (λ os. (exprs_pass w c.args.vars.now os es).trees) types);
       sites = c.in_ok-typed.ensures.sites ∙ ap (λ os. judge_all w c.called.new.self (exprs_pass w c.args.vars.now os es).sites) types
           ∙ ap (λ (j : Judged). judge_all w j (exprs_pass w c.args.vars.now (arg_types w o) es).sites) (c.called.ensures w o c.called-callee.ensures ∙ ap (λ n. judge w c.args.judged.now (CalledAt c.args.expected o n)) (sym (counted c.args.args.now)));
     }
@@ -39,8 +41,8 @@ expr_at-returns-in-Int t c =
     let same : to_z w128 (of_z w128 c.in-Int.n) ≡ c.in-Int.n = search rules in
     let w = whole c.args.known.now in
     record {
-      tree = c.integer_at.ensures (seen c.args.known.now) ∙ ap (integer_tree w.types c.args.expected) same ∙ ap (λ q. (expr_pass w c.args.vars.now c.args.expected q).tree) is;
-      sites = c.integer.ensures (seen c.args.known.now) ∙ ap (λ q. judge_all w c.args.judged.now (expr_pass w c.args.vars.now c.args.expected q).sites) is;
+      tree = c.integer_at.ensures ∙ ap (λ types. integer_tree types c.args.expected (to_z w128 (of_z w128 c.in-Int.n))) c.types-in-Int.ensures ∙ ap (integer_tree w.types c.args.expected) same ∙ ap (λ q. (expr_pass w c.args.vars.now c.args.expected q).tree) is;
+      sites = c.integer.ensures w c.types.ensures ∙ ap (λ q. judge_all w c.args.judged.now (expr_pass w c.args.vars.now c.args.expected q).sites) is;
     }
 
 pub expr_at-returns-in-Var : goal.expr_at-returns-in-Var
@@ -78,4 +80,13 @@ exprs_at-returns t c =
         | exprs_at-else-complete w ↦ ap expr_trees w.result-is ∙ sym (all.0 ∙ same_cond made c.loop-index.complete false w.if-complete.false)
       ];
       sites = sym all.1;
+    }
+
+pub expr_at-returns-in-Bool : goal.expr_at-returns-in-Bool
+expr_at-returns-in-Bool t c =
+    let is : tree.Fact c.in-Bool.b ≡ expr c.args.e.now = sym (ap expr c.in-Bool.is ∙ expr-fact c.in-Bool.b) in
+    let w = whole c.args.known.now in
+    record {
+      tree = ap Some (expr-bool c.in-Bool.b) ∙ ap (λ q. (expr_pass w c.args.vars.now c.args.expected q).tree) is;
+      sites = c.truth.ensures w c.types-in-Bool.ensures ∙ ap (λ q. judge_all w c.args.judged.now (expr_pass w c.args.vars.now c.args.expected q).sites) is;
     }

@@ -8,4 +8,4 @@ use Rattle.isle_sema.specs.Tests.{is_misdeclared}
 use Rattle.isle_sema.proofs.signature_faults.are_misdeclared.Given as goal
 
 abbrev pub invariant-loop-given : goal.invariant-loop-given
-invariant-loop-given l = list_any is_misdeclared (signatures (defs l.declarations)) ≡ list_any is_misdeclared (map signature (drop l.given-index l.given-items))
+invariant-loop-given l = list_any (is_misdeclared (defs l.declarations)) (signatures (defs l.declarations)) ≡ list_any (is_misdeclared (defs l.declarations)) (map signature (drop l.given-index l.given-items))

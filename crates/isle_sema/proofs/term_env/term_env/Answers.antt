@@ -4,6 +4,7 @@ use Rattle.isle_core.specs.RuleViews.{rule as elaborated_rule}
 use Rattle.isle_ast.specs.Views.{defs as seen}
 use Rattle.isle_declarations.specs.Signatures.{signatures, externs, rule_defs}
 use Rattle.isle_declarations.specs.Tables.{any_repeat}
+use Rattle.isle_declarations.specs.Terms.{terms}
 use Rattle.isle_sema.specs.Environment.{whole_of, terms_pass}
 use Rattle.isle_sema.specs.Tests.{is_misdeclared, has_undeclared, is_headless}
 use Rattle.isle_sema.specs.Taken.{taken_rules}
@@ -13,7 +14,7 @@ use Rattle.isle_sema.proofs.term_env.term_env.Goals as goal
 pub returns-then-are_misdeclared : goal.returns-then-are_misdeclared
 returns-then-are_misdeclared c =
     let defs = seen c.args.declarations.now in
-    let wrong : list_any is_misdeclared (signatures defs) ≡ true = search rules in
+    let wrong : list_any (is_misdeclared defs) (signatures defs) ≡ true = search rules in
     misdeclared_untyped defs wrong
 
 pub returns-then-any_repeat : goal.returns-then-any_repeat
@@ -37,7 +38,7 @@ returns-then-has_misfit_head c =
 pub returns-in_default : goal.returns-in_default
 returns-in_default c =
     let defs = seen c.args.declarations.now in
-    let none : None ≡ terms_pass (whole_of defs) (signatures defs) = search rules in
+    let none : None ≡ terms_pass (whole_of defs) (terms defs) = search rules in
     unmade_untyped defs none
 
 pub returns-in_default-2 : goal.returns-in_default-2
@@ -49,11 +50,17 @@ returns-in_default-2 c =
 pub returns : goal.returns
 returns c =
     let defs = seen c.args.declarations.now in
-    let declared : list_any is_misdeclared (signatures defs) ≡ false = search rules in
+    let declared : list_any (is_misdeclared defs) (signatures defs) ≡ false = search rules in
     let apart : any_repeat defs ≡ false = search rules in
     let known : has_undeclared (signatures defs) (externs defs) ≡ false = search rules in
     let heads : list_any (is_headless (signatures defs) (externs defs)) (rule_defs defs) ≡ false = search rules in
-    let terms : Some c.new.result ≡ terms_pass (whole_of defs) (signatures defs) = search rules in
+    let made : Some c.new.result ≡ terms_pass (whole_of defs) (terms defs) = search rules in
     let given : Some (map elaborated_rule c.in-Some-2.rules.items) ≡ taken_rules (whole_of defs) 0 (rule_defs defs) = search rules in
     let items : c.new-2.result ≡ c.in-Some-2.rules.items = search rules in
-    given_typed defs _ c.requires (parts_of defs declared apart known heads) (sym terms) (sym (ap (λ rs. Some (map elaborated_rule rs)) items ∙ given)) (search rules)
+    given_typed defs _ c.requires.built c.requires.sound (parts_of defs declared apart known heads) (sym made) (sym (ap (λ rs. Some (map elaborated_rule rs)) items ∙ given)) (search rules)
+
+pub rules_of-requires : goal.rules_of-requires
+rules_of-requires c =
+    let defs = seen c.args.declarations.now in
+    let made : terms_pass (whole_of defs) (terms defs) ≡ Some c.as_slice.result.now = search rules in
+    record { before = c.requires.before; types = c.requires.types; termed = c.in_ok-terms.ensures; typed = made }

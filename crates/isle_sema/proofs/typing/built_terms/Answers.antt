@@ -22,4 +22,4 @@ pub term_env-requires : goal.term_env-requires
 term_env-requires c =
     let forms : list_all is_built_form (seen c.args.declarations.now) ≡ true = search rules in
     let once : list_any binds_twice (rule_defs (seen c.args.declarations.now)) ≡ false = search rules in
-    built_from (seen c.args.declarations.now) forms once
+    record { built = built_from (seen c.args.declarations.now) forms once; sound = c.requires.sound; before = c.requires.before; types = c.requires.types; made = c.requires.made }

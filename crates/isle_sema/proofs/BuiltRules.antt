@@ -1,0 +1,142 @@
+-- What typed rules are: built, in scope, on built terms, and of their term's types.
+use Rattle.std.proofs.Common.{◌≡◌, ℕ, suc, ◌≤◌, List, [], ◌∷◌, length, map, Option, Some, None, refl, sym, ap, ◌∙◌, subst, arith}
+use Rattle.std.specs.Prelude.{All, IsSomeAnd, option_map, get_or, slice_get}
+use Rattle.std.specs.List.{AllByRecursion}
+use Rattle.std.proofs.lemmas.List.{length-map}
+use Rattle.std.proofs.lemmas.List.Elements.{All-from_recursion}
+use Rattle.std.proofs.lemmas.Option.{same_Some}
+use Rattle.isle_core.specs.declared.TermId.{TermId}
+use Rattle.isle_core.specs.declared.TypeId.{TypeId}
+use Rattle.isle_core.specs.declared.types.Fields.{Fields}
+use Rattle.isle_core.specs.declared.types.Fields.TheVariants as fields
+use Rattle.isle_core.specs.declared.types.Field.{Field}
+use Rattle.isle_core.specs.declared.types.Term.{Term}
+use Rattle.isle_core.specs.BuiltRule.{IsMaking, count, IsBuiltPattern, AreBuiltPatterns, IsBuiltRule, CallsBuiltTerms}
+use Rattle.isle_core.specs.Calling.{kind_of, may_be_nothing}
+use Rattle.isle_core.specs.Form.{Form, form, form_types}
+use Rattle.isle_core.specs.HasType.{tuple_fields, typed_fields}
+use Rattle.isle_core.specs.Making.{Making, MakesVariant, MakesStruct, MakesNothing, making}
+use Rattle.isle_core.specs.Pattern as pattern
+use Rattle.isle_core.specs.Pattern.{Pattern, Patterns, NoPattern, APattern}
+use Rattle.isle_core.specs.PatternType.{IsOfMaking, IsPatternOf, ArePartsOf, ArePatternsOf, FitsTerm}
+use Rattle.isle_core.specs.Rule.{Rule, Environment, rules_of}
+use Rattle.isle_core.specs.Scope.{all_variables, iflets_scope, IsInScope, AreIfLetsInScope, IsScopedRule}
+use Rattle.isle_core.specs.TypedParts.{field_types}
+use Rattle.isle_ast.specs.Tree.{Def}
+use Rattle.isle_types.proofs.SoundTypes.{form_sound}
+use Rattle.isle_sema.specs.Typing.{Typed}
+use Rattle.isle_sema.specs.TypedRule.{all_typed}
+use Rattle.isle_sema.proofs.TypedParts.{typed_in}
+use Rattle.isle_sema.proofs.TypedRules.{typed_rules, typed_of}
+use Rattle.isle_sema.proofs.TypedSides.{built_expr, scoped_expr, built_terms}
+
+-- ---- at most 256 fields
+
+tuple_count : (i : ℕ) (tys : List TypeId) → length (tuple_fields i tys) ≡ length tys
+tuple_count i [] = refl
+tuple_count i (ty ∷ tys) = ap suc (tuple_count (suc i) tys)
+
+fields_count : (env : Environment) (fs : Fields) → length (typed_fields env fs) ≡ length (field_types fs)
+fields_count env fields.Unit = refl
+fields_count env (fields.Struct named) = length-map named _ ∙ sym (length-map named (λ (f : Field). f.ty))
+fields_count env (fields.Tuple tys) = tuple_count 0 tys
+
+-- each form has few fields
+abbrev AreFormsFew : Environment → Type 0
+AreFormsFew env = (mk : Making) (f : Form) → form env mk ≡ Some f → length (form_types env f) ≤ 256
+
+few_forms : (defs : List Def) (env : Environment) → Typed defs env → AreFormsFew env
+few_forms defs env h mk f at =
+    let g = typed_in h in
+    let few = (form_sound defs env mk f g.types g.types_kept at).typed.few in
+    let long = length-map (typed_fields env f.fields) (λ (x : List ℕ × TypeId). x.1) in
+    let same = fields_count env f.fields in
+    omega (arith, few, long, same)
+
+parts_few : (env : Environment) (mk : Making) (ps : Patterns) (o : Option Form) → AreFormsFew env → form env mk ≡ o → ArePartsOf env (option_map (form_types env) o) ps → count ps ≤ 256
+parts_few env mk ps None few at h = absurd h
+parts_few env mk ps (Some f) few at h = let le = few mk f at in let same = as_many (form_types env f) ps h in omega (arith, le, same)
+  where
+    as_many : (tys : List TypeId) (ps : Patterns) → ArePartsOf env (Some tys) ps → count ps ≡ length tys
+    as_many [] NoPattern h = refl
+    as_many (ty ∷ tys) (APattern p ps) h = ap suc (as_many tys ps h.1)
+    as_many [] (APattern p ps) h = absurd h
+    as_many (ty ∷ tys) NoPattern h = absurd h
+
+-- ---- built patterns
+
+is_making : (ty : TypeId) (mk : Making) → IsOfMaking ty mk → IsMaking mk
+is_making ty (MakesVariant of variant) h = tt
+is_making ty (MakesStruct of) h = tt
+is_making ty MakesNothing h = absurd h
+
+mutual
+  built_pattern : (env : Environment) (few : AreFormsFew env) (ty : TypeId) (p : Pattern) → IsPatternOf env ty p → IsBuiltPattern env.terms p
+  built_pattern env few ty (pattern.Var of x) h = tt
+  built_pattern env few ty (pattern.ConstBool b) h = tt
+  built_pattern env few ty (pattern.ConstInt of n) h = tt
+  built_pattern env few ty (pattern.ConstPrim of name) h = tt
+  built_pattern env few ty (pattern.Wildcard of) h = tt
+  built_pattern env few ty (pattern.Term of term ps) h =
+      (is_making ty (making env term) h.1, parts_few env (making env term) ps (form env (making env term)) few refl h.2, built_parts env few (option_map (form_types env) (form env (making env term))) ps h.2)
+  built_pattern env few ty (pattern.BindPattern of x p) h = absurd h
+  built_pattern env few ty (pattern.And of ps) h = absurd h
+
+  built_parts : (env : Environment) (few : AreFormsFew env) (o : Option (List TypeId)) (ps : Patterns) → ArePartsOf env o ps → AreBuiltPatterns env.terms ps
+  built_parts env few (Some []) NoPattern h = tt
+  built_parts env few (Some (ty ∷ tys)) (APattern p ps) h = (built_pattern env few ty p h.0, built_parts env few (Some tys) ps h.1)
+  built_parts env few (Some []) (APattern p ps) h = absurd h
+  built_parts env few (Some (ty ∷ tys)) NoPattern h = absurd h
+  built_parts env few None ps h = absurd h
+
+built_patterns : (env : Environment) → AreFormsFew env → (tys : List TypeId) (ps : List Pattern) → ArePatternsOf env tys ps → AllByRecursion (IsBuiltPattern env.terms) ps
+built_patterns env few [] [] h = tt
+built_patterns env few (ty ∷ tys) (p ∷ ps) h = (built_pattern env few ty p h.0, built_patterns env few tys ps h.1)
+built_patterns env few [] (p ∷ ps) h = absurd h
+built_patterns env few (ty ∷ tys) [] h = absurd h
+
+as_many : (env : Environment) (tys : List TypeId) (ps : List Pattern) → ArePatternsOf env tys ps → length ps ≡ length tys
+as_many env [] [] h = refl
+as_many env (ty ∷ tys) (p ∷ ps) h = ap suc (as_many env tys ps h.1)
+as_many env [] (p ∷ ps) h = absurd h
+as_many env (ty ∷ tys) [] h = absurd h
+
+-- ---- rules
+
+-- the rules are built
+pub typed_built : (defs : List Def) (env : Environment) → Typed defs env → All (IsBuiltRule env.terms) env.rules
+typed_built defs env h k d lt =
+    let t = typed_rules defs env h k d lt in
+    record {
+      args = All-from_recursion (IsBuiltPattern env.terms) _ (built_patterns env (few_forms defs env h) t.term.arg_tys _ t.typed.args);
+      iflets = t.typed.iflets;
+      rhs = built_expr env (may_be_nothing (kind_of t.term.kind)) _ t.term.ret_ty _ t.typed.rhs;
+    }
+
+-- a right side in scope of the patterns of a rule without conditions
+without_conditions : (r : Rule) → r.iflets ≡ [] → IsInScope (all_variables r.args) r.rhs → IsScopedRule r
+without_conditions r e h = record {
+  iflets = subst (AreIfLetsInScope (all_variables r.args)) (sym e) tt;
+  rhs = subst (λ is. IsInScope (iflets_scope (all_variables r.args) is) r.rhs) (sym e) h;
+}
+
+-- each variable of a right side is in scope
+pub typed_scoped : (defs : List Def) (env : Environment) → Typed defs env → All IsScopedRule env.rules
+typed_scoped defs env h k d lt =
+    let t = typed_rules defs env h k d lt in
+    let rhs = scoped_expr env (may_be_nothing (kind_of t.term.kind)) (get_or env.rules k d).args t.term.ret_ty _ t.typed.rhs in
+    without_conditions _ t.typed.iflets rhs
+
+-- each term of a right side is built
+pub typed_terms : (defs : List Def) (env : Environment) → Typed defs env → All (CallsBuiltTerms env.terms) env.rules
+typed_terms defs env h k d lt = let t = typed_rules defs env h k d lt in built_terms env (may_be_nothing (kind_of t.term.kind)) _ t.term.ret_ty _ t.typed.rhs
+
+-- ---- the rules of a term
+
+-- they have as many patterns as the term has arguments
+pub typed_args : (defs : List Def) (env : Environment) (id : TermId) (t : Term) → Typed defs env → slice_get env.terms id.0 ≡ Some t → All (λ (r : Rule). length r.args ≡ length t.arg_tys) (rules_of env id)
+typed_args defs env id t h at k d lt = as_many env t.arg_tys _ (typed_of defs env id t h at k d lt).args
+
+-- and patterns of its types
+pub typed_patterns : (defs : List Def) (env : Environment) (id : TermId) (t : Term) → Typed defs env → slice_get env.terms id.0 ≡ Some t → All (FitsTerm env t) (rules_of env id)
+typed_patterns defs env id t h at k d lt = (typed_of defs env id t h at k d lt).args

@@ -1,0 +1,89 @@
+use Rattle.std.proofs.Common.{◌≡◌, rules, Some, true, false, map, ap, sym, ◌∙◌, to_z, of_z}
+use Rattle.std.specs.Prelude.{option_map, slice_get}
+use Rattle.std.specs.Int.{w128}
+use Rattle.isle_core.specs.RuleViews.{pattern as elaborated}
+use Rattle.isle_ast.specs.Tree as tree
+use Rattle.isle_ast.specs.Views.{pattern, patterns_of, defs as seen}
+use Rattle.isle_ast.proofs.Sees.{pattern-int, pattern-truth}
+use Rattle.isle_core.proofs.SeesRules.{pattern-bool}
+use Rattle.isle_declarations.specs.Signatures.{term_named}
+use Rattle.isle_declarations.specs.Terms.{terms}
+use Rattle.isle_declarations.proofs.LookUps.{got}
+use Rattle.isle_sema.specs.declared.judged.Judged.{Judged}
+use Rattle.isle_sema.specs.ElaboratedAt.{pattern_trees}
+use Rattle.isle_sema.specs.Judging.{judge, judge_all}
+use Rattle.isle_sema.specs.Known.{whole}
+use Rattle.isle_sema.specs.PatternPass.{integer_tree, term_tree, pattern_pass, patterns_pass}
+use Rattle.isle_sema.specs.Site.{TakenAt}
+use Rattle.isle_sema.specs.Whole.{termed, arg_types, ret_type}
+use Rattle.isle_sema.proofs.CallLaws.{parts_counted}
+use Rattle.isle_sema.proofs.RuleLaws.{number_is}
+use Rattle.isle_sema.proofs.Steps.{before, same_cond, patterns_more, pattern_more, pattern_missing, patterns_all}
+use Rattle.isle_sema.proofs.elaborated_patterns.+patterns.Goals.{patterns_at-in-Some+in_ok-push-in-Some, patterns_at-in-None, patterns_at-then-complete, patterns_at-else-complete}
+use Rattle.isle_sema.proofs.elaborated_patterns.+patterns.Goals as goal
+
+pub term_at-returns : goal.term_at-returns
+term_at-returns t c =
+    let w = whole c.args.known.now in
+    let o = termed w c.args.name.now in
+    let ps = patterns_of (map pattern c.args.parts.now) in
+    let old = c.args.vars.now in
+    let types : map Some c.argument_types.result.now ≡ arg_types w o = sym (c.argument_types.ensures w o c.called-callee.ensures) in
+    record {
+      tree = c.made_of.ensures w o c.called-callee.ensures ∙ ap (λ n. term_tree (ret_type w o) n (pattern_trees c.in_ok-typed.typed)) (number_is (terms w.defs) c.args.name.now)
+          ∙ ap (term_tree (ret_type w o) (term_named (terms w.defs) c.args.name.now)) (c.in_ok-typed.ensures.trees ∙ ap (λ os. (patterns_pass w os old ps).trees) types);
+      scope = c.in_ok-typed.ensures.scope ∙ ap (λ os. (patterns_pass w os old ps).scope) types;
+      sites = c.in_ok-typed.ensures.sites ∙ ap (λ os. judge_all w c.taken.new.self (patterns_pass w os old ps).sites) types
+          ∙ ap (λ (j : Judged). judge_all w j (patterns_pass w (arg_types w o) old ps).sites) (c.taken.ensures w o c.called-callee.ensures ∙ ap (λ n. judge w c.args.judged.now (TakenAt c.args.expected o n)) (sym (parts_counted c.args.parts.now)));
+    }
+
+pub pattern_at-returns-in-Int : goal.pattern_at-returns-in-Int
+pattern_at-returns-in-Int t c =
+    let is : tree.Int c.in-Int.n ≡ pattern c.args.p.now = sym (ap pattern c.in-Int.is ∙ pattern-int c.in-Int.n) in
+    let same : to_z w128 (of_z w128 c.in-Int.n) ≡ c.in-Int.n = search rules in
+    let w = whole c.args.known.now in
+    let old = c.args.vars.now in
+    record {
+      tree = c.integer_at.ensures ∙ ap (λ types. integer_tree types c.args.expected (to_z w128 (of_z w128 c.in-Int.n))) c.types-in-Int.ensures ∙ ap (integer_tree w.types c.args.expected) same ∙ ap (λ q. (pattern_pass w c.args.expected old q).tree) is;
+      scope = ap (λ q. (pattern_pass w c.args.expected old q).scope) is;
+      sites = c.integer.ensures w c.types.ensures ∙ ap (λ q. judge_all w c.args.judged.now (pattern_pass w c.args.expected old q).sites) is;
+    }
+
+pub patterns_at-loop-index-preserved : goal.patterns_at-loop-index-preserved
+patterns_at-loop-index-preserved t c =
+    let h = c.get.ensures.lookup in
+    let at : c.copied.result ≡ slice_get c.args.types.now c.loop-index.index = c.copied.ensures ∙ got c.args.types.now c.loop-index.index c.get.result h.1 h.3 in
+    let made = patterns_more (seen c.args.known.now) c.args.types.now c.loop-index.vars c.pattern_at.new.vars c.args.patterns.now c.loop-index.index c.args.judged.now c.loop-index.judged c.pattern_at.new.judged c.loop-index.typed.items c.match-branch-3.typed.items c.loop-index.complete c.match-branch-3.complete
+    c.index-patterns-index.result _ c.copied.result _ c.loop-index-test.true c.index-patterns-index.is at c.in_ok-found.ensures.scope c.in_ok-found.ensures.sites in
+    elim c.match-branch-3.branch [
+      | patterns_at-in-Some+in_ok-push-in-Some w ↦ made
+          (λ rest. pattern_more c.loop-index.typed.items c.match-branch-3.typed.items w.in-Some.found c.loop-index.complete _ (ap (λ v. v.items) w.typed-is ∙ w.in_ok-push-in-Some.ensures.items) (ap (option_map elaborated) (sym w.in-Some.is) ∙ c.in_ok-found.ensures.tree) rest
+          ∙ same_cond (before (map elaborated c.match-branch-3.typed.items) rest) c.loop-index.complete c.match-branch-3.complete (sym w.complete-is)) c.loop-index.invariant
+      | patterns_at-in-None w ↦ made
+          (λ rest. pattern_missing c.loop-index.typed.items c.loop-index.complete _ (ap (option_map elaborated) (sym w.in-None.is) ∙ c.in_ok-found.ensures.tree) rest
+          ∙ same_cond (before (map elaborated c.match-branch-3.typed.items) rest) false c.match-branch-3.complete (sym w.complete-is)) c.loop-index.invariant
+    ]
+
+pub patterns_at-returns : goal.patterns_at-returns
+patterns_at-returns t c =
+    let all = patterns_all (seen c.args.known.now) c.args.types.now c.loop-index.vars c.args.patterns.now c.loop-index.index c.args.judged.now c.loop-index.judged c.loop-index.typed.items c.loop-index.complete _ (search rules) c.loop-index.invariant in
+    let made = Some (map elaborated c.loop-index.typed.items) in
+    record {
+      trees = elim c.if-complete.branch [
+        | patterns_at-then-complete w ↦ ap pattern_trees w.result-is ∙ sym (all.0 ∙ same_cond made c.loop-index.complete true w.if-complete.true)
+        | patterns_at-else-complete w ↦ ap pattern_trees w.result-is ∙ sym (all.0 ∙ same_cond made c.loop-index.complete false w.if-complete.false)
+      ];
+      scope = sym all.1;
+      sites = sym all.2;
+    }
+
+pub pattern_at-returns-in-Bool : goal.pattern_at-returns-in-Bool
+pattern_at-returns-in-Bool t c =
+    let is : tree.Truth c.in-Bool.b ≡ pattern c.args.p.now = sym (ap pattern c.in-Bool.is ∙ pattern-truth c.in-Bool.b) in
+    let w = whole c.args.known.now in
+    let old = c.args.vars.now in
+    record {
+      tree = ap Some (pattern-bool c.in-Bool.b) ∙ ap (λ q. (pattern_pass w c.args.expected old q).tree) is;
+      scope = ap (λ q. (pattern_pass w c.args.expected old q).scope) is;
+      sites = c.truth.ensures w c.types-in-Bool.ensures ∙ ap (λ q. judge_all w c.args.judged.now (pattern_pass w c.args.expected old q).sites) is;
+    }
