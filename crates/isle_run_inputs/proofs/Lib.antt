@@ -1,10 +1,11 @@
 pub mod HaveTypes
 mod HeldNumbers
-mod FieldPlaces
 mod Makes
 mod InFields
 mod AllSeen
 mod FindTypes
+mod FindConstants
+mod Counted
 mod Rest
 mod FirstNamed
 mod Turns

@@ -1,5 +1,5 @@
 -- The turns and answers of forms, one more.
-use Rattle.std.proofs.Common.{◌≡◌, ℕ, ◌+◌, ◌<◌, ◌≤◌, List, [], ◌∷◌, ◌++◌, length, drop, get_or, map, Option, Some, None, refl, sym, ap, ◌∙◌}
+use Rattle.std.proofs.Common.{◌≡◌, ℕ, ◌+◌, ◌<◌, ◌≤◌, List, [], ◌∷◌, ◌++◌, length, drop, get_or, map, Option, Some, refl, sym, ap, ◌∙◌}
 use Rattle.std.specs.Prelude.{option_map}
 use Rattle.std.specs.List.{cons_option}
 use Rattle.std.proofs.lemmas.List.{drop_more, map-append, append_assoc, append-nil}
@@ -13,7 +13,7 @@ use Rattle.isle_core.specs.ValueViews.{answer, turn_answers}
 use Rattle.isle_answers.specs.declared.form.AnswerForm.{AnswerForm as CodeAnswerForm}
 use Rattle.isle_answers.specs.declared.form.Form.{Form as CodeForm}
 use Rattle.isle_answers.specs.Form.{Form}
-use Rattle.isle_answers.specs.Views.{answer_seen, form_seen, forms_seen}
+use Rattle.isle_answers.specs.Views.{answer_seen, form_seen}
 use Rattle.isle_answers.specs.declared.form.Form.TheVariants as code
 use Rattle.isle_run_inputs.specs.Requested.{answer_type}
 use Rattle.isle_run_inputs.specs.AnswersAt.{answer_at, turns_at}

@@ -15,12 +15,12 @@ is_built_answer (Found r) = is_built_result r
 is_built_answer Nothing = true
 is_built_answer (Several rs) = false
 
--- a form that is built: turns alone
+-- a form that is built: turns, and the value of a constant
 abbrev pub is_built : Form → Bool
 is_built (Turns callee turns rest at) = list_all is_built_answer turns && is_built_answer rest
 is_built (Held count at) = false
 is_built (Max count at) = false
-is_built (Const name v at) = false
+is_built (Const name v at) = true
 is_built (Answers callee cases rest at) = false
 
 -- all of them are

@@ -5,5 +5,6 @@ pub mod Requested
 pub mod Built
 pub mod AnswersAt
 pub mod AnswerTypes
+pub mod ConstantTypes
 pub mod Called
 pub mod Places

@@ -1,13 +1,14 @@
--- What names stand for in an environment: the term that is run, and what callees answer.
+-- What names stand for in an environment: the term that is run, what callees answer, and constants.
 use Rattle.std.specs.Prelude.{ℕ, List, [], Option, find, option_map, slice_get}
 use Rattle.std.specs.Str.{bytes_eq}
 use Rattle.std.specs.Option.{option_map_or}
+use Rattle.isle_core.specs.declared.Sym.{Sym}
 use Rattle.isle_core.specs.declared.TermId.{TermId}
 use Rattle.isle_core.specs.declared.TypeId.{TypeId}
 use Rattle.isle_core.specs.declared.types.Term.{Term}
 use Rattle.isle_core.specs.declared.values.Callee.{Callee}
 use Rattle.isle_core.specs.Rule.{Environment}
-use Rattle.isle_core.specs.Terms.{with_rules, term_name, impure_callee, goes_to}
+use Rattle.isle_core.specs.Terms.{with_rules, term_name, sym_text, impure_callee, goes_to}
 
 -- the first term with rules that has this name
 abbrev pub requested_term : Environment → List ℕ → Option TermId
@@ -24,3 +25,7 @@ requested_types env name = option_map_or (arg_types env) (requested_term env nam
 -- the type of what a call of an impure callee answers
 abbrev pub answer_type : Environment → Callee → Option TypeId
 answer_type env callee = option_map (λ (t : Term). t.ret_ty) (find (λ (t : Term). goes_to callee (impure_callee env t t.kind)) env.terms)
+
+-- the type of the first constant that has this name
+abbrev pub constant_type : Environment → List ℕ → Option TypeId
+constant_type env name = option_map (λ (c : Sym × TypeId). c.1) (find (λ (c : Sym × TypeId). bytes_eq name (sym_text env c.0)) env.types.consts)

@@ -12,6 +12,7 @@ ghost use Rattle.isle_run_inputs.specs.AnswerTypes.{OfTypes};
 ghost use Rattle.isle_run_inputs.specs.AnswersAt.{result_at, answer_at, turns_at, answers_at};
 
 use crate::answer_types::AnswerTypes;
+use crate::constants::constants_at;
 use crate::value::value_at_any;
 use isle_answers::{AnswerForm, Form, ResultForm};
 use isle_core::{Answer, Answers, List, OutOfMemory, TermEnv, TurnAnswers, TypeEnv, TypeId, Value};
@@ -75,7 +76,7 @@ fn all_at(
     Ok(found)
 }
 
-// The turns that a form gives; only forms of turns are built, and the others give none.
+// The turns that a form gives; the other forms give none.
 fn turns_of(
     alloc: Global,
     typeenv: &TypeEnv,
@@ -107,8 +108,27 @@ fn turns_of(
     }
 }
 
-/// Returns the answers that forms give, their values at the types of what callees answer; a value of another type is
-/// one of no type. Only turns are built: the other forms give none.
+// The turns that forms give, in order.
+fn all_turns(
+    alloc: Global,
+    typeenv: &TypeEnv,
+    termenv: &TermEnv,
+    forms: &[Form],
+) -> Result<Vec<TurnAnswers>, OutOfMemory>
+    ensures { IfOk result (λ found. map turn_answers found.items ≡ turns_at (environment typeenv.now termenv.now) (forms_seen forms.now)) }
+{
+    let types = AnswerTypes::new(alloc, typeenv, termenv.terms.as_slice())?;
+    let mut all = Vec::new(alloc);
+    for form in forms {
+        if let Some(turns) = turns_of(alloc, typeenv, &types, form)? {
+            all.push(turns)?;
+        }
+    }
+    Ok(all)
+}
+
+/// Returns the answers that forms give, their values at the types of constants and of what callees answer; a value of
+/// another type is one of no type. Only constants and turns are built: the other forms give none.
 pub fn answers_at(
     alloc: Global,
     typeenv: &TypeEnv,
@@ -118,17 +138,12 @@ pub fn answers_at(
     ensures answers { IfOk result (λ a. meaning a ≡ answers_at (environment typeenv.now termenv.now) (forms_seen forms.now)) }
     ensures counted { IfOk result (λ a. length a.consts + length a.pure + length a.turns < 2 ^ 64) }
 {
-    let types = AnswerTypes::new(alloc, typeenv, termenv.terms.as_slice())?;
-    let mut all = Vec::new(alloc);
-    for form in forms {
-        if let Some(turns) = turns_of(alloc, typeenv, &types, form)? {
-            all.push(turns)?;
-        }
-    }
+    let consts = constants_at(alloc, typeenv, forms)?;
+    let turns = all_turns(alloc, typeenv, termenv, forms)?;
     Ok(Answers {
-        consts: List::new(Vec::new(alloc)),
+        consts: List::new(consts),
         pure: List::new(Vec::new(alloc)),
-        turns: List::new(all),
+        turns: List::new(turns),
         held: 0,
         max_returns: 100,
     })

@@ -28,7 +28,7 @@ fn is_built_answer(answer: &AnswerForm) -> bool
     }
 }
 
-// Whether a form is built: turns alone are.
+// Whether a form is built: turns and the values of constants are.
 fn is_built(form: &Form) -> bool
     ensures { result ≡ is_built (form_seen form.now) }
 {
@@ -36,7 +36,8 @@ fn is_built(form: &Form) -> bool
         Form::Turns { turns, rest, .. } => {
             are_built_answers(turns.as_slice()) && is_built_answer(rest)
         }
-        Form::Held { .. } | Form::Max { .. } | Form::Const { .. } | Form::Answers { .. } => false,
+        Form::Const { .. } => true,
+        Form::Held { .. } | Form::Max { .. } | Form::Answers { .. } => false,
     }
 }
 

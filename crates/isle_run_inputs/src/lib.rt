@@ -4,6 +4,8 @@
 mod answer_types;
 mod answers;
 mod built;
+mod constant_types;
+mod constants;
 mod field;
 mod made_value;
 mod maker;

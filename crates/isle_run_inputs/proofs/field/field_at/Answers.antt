@@ -1,7 +1,7 @@
 use Rattle.std.proofs.Common.{◌∙◌, ap, sym}
 use Rattle.std.specs.Prelude.{slice_get}
 use Rattle.std.specs.Option.{option_copied}
-use Rattle.isle_run_inputs.proofs.FieldPlaces.{tuple_found, tuple_absent}
+use Rattle.isle_core.proofs.TupleFields.{tuple_found, tuple_absent}
 use Rattle.isle_run_inputs.proofs.Rest.{got}
 use Rattle.isle_run_inputs.proofs.field.field_at.Goals as goal
 

@@ -1,5 +1,5 @@
 use Rattle.std.proofs.Common.{rules}
-use Rattle.isle_run_inputs.proofs.FieldPlaces.{tuple_count}
+use Rattle.isle_core.proofs.TupleFields.{tuple_count}
 use Rattle.isle_run_inputs.proofs.field.field_count.Goals as goal
 
 pub returns-in-Tuple : goal.returns-in-Tuple
