@@ -33,4 +33,4 @@ accepted_none names texts e a h = none_have names texts e.errors a h.cause
 -- files that pass the check have texts that are accepted
 pub checked_accepted : (files : Files) (env : Environment) → IsChecked files env → AreAccepted files.file_texts
 checked_accepted files env h =
-    record { defs = h.defs; env = env; source = h.source; compilable = record { typed = h.typed.typed; names = h.given.compilable.names; fns = h.given.compilable.fns }; clean = h.given.clean }
+    record { defs = h.defs; env = env; source = h.source; compilable = record { typed = h.typed.typed; names = h.given.compilable.names; fns = h.given.compilable.fns; lawful = h.given.compilable.lawful }; clean = h.given.clean }

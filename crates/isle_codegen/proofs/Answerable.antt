@@ -1,124 +1,154 @@
 -- The terms that the rules of the built language call may be answered, where what they answer has values.
-use Rattle.std.proofs.Common.{◌≡◌, ⊎_elim, ℕ, zero, suc, List, [], ◌∷◌, ◌++◌, Bool, true, false, cond, Option, Some, None, refl, sym, ap, ◌∙◌, subst}
+use Rattle.std.proofs.Common.{◌≡◌, ⊎_elim, ℕ, zero, suc, List, [], ◌∷◌, ◌++◌, Bool, true, false, cond, Option, Some, None, map, refl, sym, ap, ◌∙◌, subst}
 use Rattle.std.specs.Prelude.{Contains, IsSomeAnd, slice_get, option_map}
 use Rattle.std.specs.List.{AllByRecursion, IsDistinct, cons_option}
 use Rattle.std.specs.Str.{bytes_eq}
-use Rattle.std.proofs.lemmas.List.Elements.{All-contains, All-from_recursion, Contains-append_cases}
+use Rattle.std.proofs.lemmas.List.Elements.{All-contains, All-from_recursion, recursion_from_All, Contains-append_cases}
 use Rattle.std.proofs.lemmas.Slice.Eq.{bytes_eq-Decides}
 use Rattle.isle_core.specs.declared.Sym.{Sym}
+use Rattle.isle_core.specs.declared.TermId.{TermId}
 use Rattle.isle_core.specs.declared.TypeId.{TypeId}
+use Rattle.isle_core.specs.declared.types.ConstructorKind.{ConstructorKind}
 use Rattle.isle_core.specs.declared.types.ConstructorKind.TheVariants as constructor
 use Rattle.isle_core.specs.declared.types.ExtractorKind.{ExtractorKind}
 use Rattle.isle_core.specs.declared.types.Term.{Term}
 use Rattle.isle_core.specs.declared.types.TermKind.{TermKind}
 use Rattle.isle_core.specs.declared.types.TermKind.TheVariants as term_kind
-use Rattle.isle_core.specs.declared.values.Callee.TheVariants.{External}
+use Rattle.isle_core.specs.declared.values.Callee.{Callee}
+use Rattle.isle_core.specs.declared.values.Callee.TheVariants.{External, Internal}
+use Rattle.isle_core.specs.BuiltRule.{IsMaking, IsBuiltPattern, AreBuiltPatterns, IsBuiltExpr, AreBuiltExprs, IsBuiltRule, IsBuiltKind, HasBuiltTerms, AllHaveBuiltTerms, CallsBuiltTerms}
 use Rattle.isle_core.specs.Calling.{calling_of, calling_by, kind_of, kind_by, pure_callee}
-use Rattle.isle_core.specs.CalledTerms.{Role, Constructor, CalledTerm, is_made, unless_made, called_by, called_by_all, extracted_in, called_in_iflets, called_in, called}
+use Rattle.isle_core.specs.CalledTerms.{Role, Constructor, CalledTerm, is_made_kind, is_made_term, is_made, unless_made, called_by, called_by_all, extracted_by, extracted_by_all, extracted_in, called_in_iflets, called_in, called}
 use Rattle.isle_core.specs.Expr as expr
 use Rattle.isle_core.specs.Expr.{Expr, Exprs, NoExpr, AnExpr}
 use Rattle.isle_core.specs.HasType.{HasType}
 use Rattle.isle_core.specs.History.{Service, service_by, service_of, AreAnswerable}
 use Rattle.isle_core.specs.Lawful.{Fits, called_as, result_types}
+use Rattle.isle_core.specs.Making.{making_kind, making_of}
 use Rattle.isle_core.specs.Pattern as pattern
-use Rattle.isle_core.specs.Pattern.{Pattern}
+use Rattle.isle_core.specs.Pattern.{Pattern, Patterns, NoPattern, APattern}
 use Rattle.isle_core.specs.Rule.{Environment, Rule}
-use Rattle.isle_core.specs.Terms.{sym_text, impure_callee}
+use Rattle.isle_core.specs.Terms.{sym_text, callee_by, impure_callee}
 use Rattle.isle_core.specs.Value.{Value, Answer, Plain, Nothing}
 use Rattle.isle_core.proofs.Contained.{contained_cases, none_contained}
-use Rattle.isle_sema.specs.TypedRule.{ArePatternsOf, IsExternalKind, IsExprOf, AreExprsOf, IsRuleOf}
 use Rattle.isle_tree.specs.declared.tree.TraitFn.{TraitFn}
 use Rattle.isle_tree.specs.WellFormed.{fn_names}
 use Rattle.isle_simulation.specs.TraitFns.{constructor_fn, constructor_fn_of, extractor_fn_of, func_of, trait_fns_in, HasFnNames}
 use Rattle.isle_simulation.proofs.ExternalTerms.{fn_contained, name_contained}
-use Rattle.isle_codegen.specs.Meant.{AnswersInhabited}
+use Rattle.isle_codegen.specs.Meant.{HasValue, AnswersInhabited}
 
 -- ---- what rules call
 
--- a term with an external constructor and at most the flag `partial`, called as a constructor
-record IsExternal (env : Environment) (o : CalledTerm) : Type 0 where
+-- an impure term that answers at most once, called as a constructor
+record IsCallable (env : Environment) (o : CalledTerm) : Type 0 where
   term : Term
   found : slice_get env.terms o.term.0 ≡ Some term
   role : o.role ≡ Constructor
   partial : Bool
-  func : Sym
+  recursive : Bool
+  by : ConstructorKind
   extractor : ExtractorKind
-  kind : term.kind ≡ term_kind.Decl false false partial false (constructor.External func) extractor
+  kind : term.kind ≡ term_kind.Decl false false partial recursive by extractor
+  callee : Callee
+  to : callee_by env term by ≡ Some callee
 
-external_kind : (allowed : Bool) (k : TermKind) → IsExternalKind allowed k → (partial : Bool) × (func : Sym) × (extractor : ExtractorKind) × (k ≡ term_kind.Decl false false partial false (constructor.External func) extractor)
-external_kind allowed (term_kind.Decl false false partial false (constructor.External func) extractor) h = (partial, func, extractor, refl)
-external_kind allowed (term_kind.Decl false false partial false constructor.Internal extractor) h = absurd h
-external_kind allowed (term_kind.Decl false false partial false constructor.Absent extractor) h = absurd h
-external_kind allowed (term_kind.Decl false false partial true by extractor) h = absurd h
-external_kind allowed (term_kind.Decl false true partial recursive by extractor) h = absurd h
-external_kind allowed (term_kind.Decl true multi partial recursive by extractor) h = absurd h
-external_kind allowed (term_kind.Variant ty variant) h = absurd h
-external_kind allowed (term_kind.Struct ty) h = absurd h
+-- what kind a built term has that no type makes
+record IsCalledKind (env : Environment) (t : Term) (k : TermKind) : Type 0 where
+  partial : Bool
+  recursive : Bool
+  by : ConstructorKind
+  extractor : ExtractorKind
+  is : k ≡ term_kind.Decl false false partial recursive by extractor
+  callee : Callee
+  to : callee_by env t by ≡ Some callee
+
+called_kind : (env : Environment) (t : Term) (k : TermKind) → IsBuiltKind k → is_made_kind k ≡ false → IsCalledKind env t k
+called_kind env t (term_kind.Decl false false partial recursive constructor.Internal x) h e = record { partial = partial; recursive = recursive; by = constructor.Internal; extractor = x; is = refl; callee = Internal (sym_text env t.name); to = refl }
+called_kind env t (term_kind.Decl false false partial recursive (constructor.External func) x) h e = record { partial = partial; recursive = recursive; by = constructor.External func; extractor = x; is = refl; callee = External (sym_text env func); to = refl }
+called_kind env t (term_kind.Decl false false partial recursive constructor.Absent x) h e = absurd h
+called_kind env t (term_kind.Decl false true partial recursive by x) h e = absurd h
+called_kind env t (term_kind.Decl true multi partial recursive by x) h e = absurd h
+called_kind env t (term_kind.Variant ty variant) h e = cc
+called_kind env t (term_kind.Struct ty) h e = cc
 
 some_of : {X : Type 0} (o : Option X) (P : X → Type 0) → IsSomeAnd o P → (x : X) × (o ≡ Some x) × P x
 some_of None P h = absurd h
 some_of (Some x) P h = (x, refl, h)
 
-in_unless : (b : Bool) (x o : CalledTerm) → Contains (cond b [] (x ∷ [])) o → x ≡ o
+in_unless : (b : Bool) (x o : CalledTerm) → Contains (cond b [] (x ∷ [])) o → (b ≡ false) × (x ≡ o)
 in_unless true x o c = absurd (none_contained o c)
-in_unless false x o c = ⊎_elim (λ e. e) (λ d. absurd (none_contained o d)) (contained_cases x [] o c)
+in_unless false x o c = (refl, ⊎_elim (λ e. e) (λ d. absurd (none_contained o d)) (contained_cases x [] o c))
+
+term_callable : (env : Environment) (term : TermId) (o : CalledTerm) → IsSomeAnd (slice_get env.terms term.0) (λ (t : Term). IsBuiltKind t.kind) → Contains (unless_made env Constructor term) o → IsCallable env o
+term_callable env term o h c =
+    let t = some_of (slice_get env.terms term.0) _ h in
+    let d = in_unless (is_made env term) (record { term = term; role = Constructor }) o c in
+    let k = called_kind env t.0 t.0.kind t.2 (ap is_made_term (sym t.1) ∙ d.0) in
+    subst (IsCallable env) d.1 (record { term = t.0; found = t.1; role = refl; partial = k.partial; recursive = k.recursive; by = k.by; extractor = k.extractor; kind = k.is; callee = k.callee; to = k.to })
 
 mutual
-  expr_external : (env : Environment) (allowed : Bool) (args : List Pattern) (ty : TypeId) (e : Expr) → IsExprOf env allowed args ty e → (o : CalledTerm) → Contains (called_by env e) o → IsExternal env o
-  expr_external env allowed args ty (expr.Var of x) h o c = absurd (none_contained o c)
-  expr_external env allowed args ty (expr.ConstBool b) h o c = absurd (none_contained o c)
-  expr_external env allowed args ty (expr.ConstInt of n) h o c = absurd (none_contained o c)
-  expr_external env allowed args ty (expr.Term of term es) h o c =
-      let t = some_of (slice_get env.terms term.0) _ h.1 in
-      let k = external_kind allowed t.0.kind t.2.0 in
-      ⊎_elim (λ d. exprs_external env allowed args t.0.arg_tys es t.2.2 o d)
-      (λ d. subst (IsExternal env) (in_unless (is_made env term) (record { term = term; role = Constructor }) o d)
-      (record { term = t.0; found = t.1; role = refl; partial = k.0; func = k.1; extractor = k.2; kind = k.3 }))
-      (Contains-append_cases (called_by_all env es) (unless_made env Constructor term) o c)
-  expr_external env allowed args ty (expr.ConstPrim of name) h o c = absurd h
-  expr_external env allowed args ty (expr.Let of bindings inner) h o c = absurd h
+  expr_callable : (env : Environment) (e : Expr) → IsBuiltExpr e → HasBuiltTerms env.terms e → (o : CalledTerm) → Contains (called_by env e) o → IsCallable env o
+  expr_callable env (expr.Var of x) b h o c = absurd (none_contained o c)
+  expr_callable env (expr.ConstBool v) b h o c = absurd (none_contained o c)
+  expr_callable env (expr.ConstInt of n) b h o c = absurd (none_contained o c)
+  expr_callable env (expr.ConstPrim of name) b h o c = absurd (none_contained o c)
+  expr_callable env (expr.Term of term es) b h o c = ⊎_elim (λ d. exprs_callable env es b h.1 o d) (λ d. term_callable env term o h.0 d) (Contains-append_cases (called_by_all env es) (unless_made env Constructor term) o c)
+  expr_callable env (expr.Let of bindings inner) b h o c = absurd b
 
-  exprs_external : (env : Environment) (allowed : Bool) (args : List Pattern) (tys : List TypeId) (es : Exprs) → AreExprsOf env allowed args tys es → (o : CalledTerm) → Contains (called_by_all env es) o → IsExternal env o
-  exprs_external env allowed args [] NoExpr h o c = absurd (none_contained o c)
-  exprs_external env allowed args (ty ∷ tys) (AnExpr e es) h o c =
-      ⊎_elim (λ d. expr_external env allowed args ty e h.0 o d) (λ d. exprs_external env allowed args tys es h.1 o d) (Contains-append_cases (called_by env e) (called_by_all env es) o c)
-  exprs_external env allowed args [] (AnExpr e es) h o c = absurd h
-  exprs_external env allowed args (ty ∷ tys) NoExpr h o c = absurd h
+  exprs_callable : (env : Environment) (es : Exprs) → AreBuiltExprs es → AllHaveBuiltTerms env.terms es → (o : CalledTerm) → Contains (called_by_all env es) o → IsCallable env o
+  exprs_callable env NoExpr b h o c = absurd (none_contained o c)
+  exprs_callable env (AnExpr e es) b h o c = ⊎_elim (λ d. expr_callable env e b.0 h.0 o d) (λ d. exprs_callable env es b.1 h.1 o d) (Contains-append_cases (called_by env e) (called_by_all env es) o c)
+
+made_there : (o : Option Term) → IsMaking (making_of o) → is_made_term o ≡ true
+made_there None h = absurd h
+made_there (Some t) h = of_kind t.kind h
+  where
+    of_kind : (k : TermKind) → IsMaking (making_kind k) → is_made_kind k ≡ true
+    of_kind (term_kind.Decl pure multi partial recursive by x) h = absurd h
+    of_kind (term_kind.Variant ty variant) h = refl
+    of_kind (term_kind.Struct ty) h = refl
 
 -- built patterns call nothing
-none_extracted : (env : Environment) (tys : List TypeId) (ps : List Pattern) → ArePatternsOf env tys ps → extracted_in env ps ≡ []
-none_extracted env [] [] h = refl
-none_extracted env (ty ∷ tys) (pattern.Var of x ∷ ps) h = none_extracted env tys ps h.1
-none_extracted env (ty ∷ tys) (pattern.ConstBool b ∷ ps) h = none_extracted env tys ps h.1
-none_extracted env (ty ∷ tys) (pattern.ConstInt of n ∷ ps) h = none_extracted env tys ps h.1
-none_extracted env (ty ∷ tys) (pattern.Wildcard of ∷ ps) h = none_extracted env tys ps h.1
-none_extracted env (ty ∷ tys) (pattern.BindPattern of x p ∷ ps) h = absurd h.0
-none_extracted env (ty ∷ tys) (pattern.ConstPrim of name ∷ ps) h = absurd h.0
-none_extracted env (ty ∷ tys) (pattern.Term of term qs ∷ ps) h = absurd h.0
-none_extracted env (ty ∷ tys) (pattern.And of qs ∷ ps) h = absurd h.0
-none_extracted env [] (p ∷ ps) h = absurd h
-none_extracted env (ty ∷ tys) [] h = absurd h
+mutual
+  none_called : (env : Environment) (p : Pattern) → IsBuiltPattern env.terms p → extracted_by env p ≡ []
+  none_called env (pattern.Var of x) h = refl
+  none_called env (pattern.ConstBool b) h = refl
+  none_called env (pattern.ConstInt of n) h = refl
+  none_called env (pattern.ConstPrim of name) h = refl
+  none_called env (pattern.Wildcard of) h = refl
+  none_called env (pattern.Term of term ps) h = rw (made_there (slice_get env.terms term.0) h.0, none_called_all env ps h.2) refl
+  none_called env (pattern.BindPattern of x p) h = absurd h
+  none_called env (pattern.And of ps) h = absurd h
 
-rule_external : (env : Environment) (t : Term) (r : Rule) → IsRuleOf env t r → (o : CalledTerm) → Contains (called_in env r) o → IsExternal env o
-rule_external env t r h o c =
+  none_called_all : (env : Environment) (ps : Patterns) → AreBuiltPatterns env.terms ps → extracted_by_all env ps ≡ []
+  none_called_all env NoPattern h = refl
+  none_called_all env (APattern p ps) h = rw (none_called env p h.0, none_called_all env ps h.1) refl
+
+none_extracted : (env : Environment) (ps : List Pattern) → AllByRecursion (IsBuiltPattern env.terms) ps → extracted_in env ps ≡ []
+none_extracted env [] h = refl
+none_extracted env (p ∷ ps) h = rw (none_called env p h.0, none_extracted env ps h.1) refl
+
+rule_callable : (env : Environment) (r : Rule) → IsBuiltRule env.terms r → CallsBuiltTerms env.terms r → (o : CalledTerm) → Contains (called_in env r) o → IsCallable env o
+rule_callable env r b h o c =
     let before = extracted_in env r.args ++ called_in_iflets env r.iflets in
-    let none : before ≡ [] = ap (λ xs. xs ++ called_in_iflets env r.iflets) (none_extracted env t.arg_tys r.args h.args) ∙ ap (called_in_iflets env) h.iflets in
-    ⊎_elim (λ d. absurd (none_contained o (subst (λ (xs : List CalledTerm). Contains xs o) none d))) (λ d. expr_external env _ r.args t.ret_ty r.rhs h.rhs o d) (Contains-append_cases before (called_by env r.rhs) o c)
+    let none : before ≡ [] = ap (λ xs. xs ++ called_in_iflets env r.iflets) (none_extracted env r.args (recursion_from_All (IsBuiltPattern env.terms) r.args b.args)) ∙ ap (called_in_iflets env) b.iflets in
+    ⊎_elim (λ d. absurd (none_contained o (subst (λ (xs : List CalledTerm). Contains xs o) none d))) (λ d. expr_callable env r.rhs b.rhs h o d) (Contains-append_cases before (called_by env r.rhs) o c)
 
-rules_external : (env : Environment) (t : Term) (rules : List Rule) → AllByRecursion (IsRuleOf env t) rules → (o : CalledTerm) → Contains (called env rules) o → IsExternal env o
-rules_external env t [] h o c = absurd (none_contained o c)
-rules_external env t (r ∷ rules) h o c = ⊎_elim (λ d. rule_external env t r h.0 o d) (λ d. rules_external env t rules h.1 o d) (Contains-append_cases (called_in env r) (called env rules) o c)
+rules_callable : (env : Environment) (rules : List Rule) → AllByRecursion (IsBuiltRule env.terms) rules → AllByRecursion (CallsBuiltTerms env.terms) rules → (o : CalledTerm) → Contains (called env rules) o → IsCallable env o
+rules_callable env [] b h o c = absurd (none_contained o c)
+rules_callable env (r ∷ rules) b h o c = ⊎_elim (λ d. rule_callable env r b.0 h.0 o d) (λ d. rules_callable env rules b.1 h.1 o d) (Contains-append_cases (called_in env r) (called env rules) o c)
 
 -- ---- what is asked of it
 
-abbrev asked_of : (env : Environment) (o : CalledTerm) → IsExternal env o → Service
-asked_of env o x = record { callee = External (sym_text env x.func); pure = false; kind = kind_by false x.partial; types = x.term.ret_ty ∷ [] }
+abbrev asked_of : (env : Environment) (o : CalledTerm) → IsCallable env o → Service
+asked_of env o x = record { callee = x.callee; pure = false; kind = kind_by false x.partial; types = x.term.ret_ty ∷ [] }
 
-service_is : (env : Environment) (o : CalledTerm) (x : IsExternal env o) → service_of env o ≡ Some (asked_of env o x)
+service_is : (env : Environment) (o : CalledTerm) (x : IsCallable env o) → service_of env o ≡ Some (asked_of env o x)
 service_is env o x =
     subst (λ (r : Role). service_by r (slice_get env.terms o.term.0) (called_as env o.term r) ≡ Some (asked_of env o x)) (sym x.role)
     (subst (λ (t : Option Term). service_by Constructor t (calling_of env t) ≡ Some (asked_of env o x)) (sym x.found)
-    (subst (λ (k : TermKind). service_by Constructor (Some x.term) (calling_by (kind_of k) (impure_callee env x.term k) (pure_callee env x.term k)) ≡ Some (asked_of env o x)) (sym x.kind) refl))
+    (subst (λ (k : TermKind). service_by Constructor (Some x.term) (calling_by (kind_of k) (impure_callee env x.term k) (pure_callee env x.term k)) ≡ Some (asked_of env o x)) (sym x.kind)
+    (subst (λ (c : Option Callee). service_by Constructor (Some x.term) (calling_by (kind_by false x.partial) c None) ≡ Some (asked_of env o x)) (sym x.to) refl)))
 
 answer_fits : (env : Environment) (partial : Bool) (ty : TypeId) (v : Value) → HasType env v ty → (a : Answer) × Fits env (kind_by false partial) (ty ∷ []) a
 answer_fits env true ty v h = (Nothing, tt)
@@ -160,40 +190,91 @@ one_place env (x ∷ ts) (suc i) zero t u f g d a b k l same =
 one_place env (x ∷ ts) (suc i) (suc j) t u f g d a b k l same =
     ap suc (one_place env ts i j t u f g (behind_one (constructor_fn_of env x) (trait_fns_in env ts) (behind_one (extractor_fn_of env x) (cons_option (constructor_fn_of env x) (trait_fns_in env ts)) d)) a b k l same)
 
-fn_is : (env : Environment) (o : CalledTerm) (x : IsExternal env o) → constructor_fn_of env x.term ≡ Some (constructor_fn env x.term x.func)
-fn_is env o x = ap (λ (k : TermKind). option_map (constructor_fn env x.term) (func_of k)) x.kind
+-- ---- no two terms have one name
 
-callee_name : (a b : List ℕ) → External a ≡ External b → a ≡ b
-callee_name a b e = cc
+all_at : (P : List ℕ → Type 0) (name : Term → List ℕ) (xs : List Term) (j : ℕ) (x : Term) → AllByRecursion P (map name xs) → slice_get xs j ≡ Some x → P (name x)
+all_at P name [] j x h e = cc
+all_at P name (y ∷ xs) zero x h e = subst (λ z. P (name z)) (the_one y x e) h.0
+  where
+    the_one : (p q : Term) → Some p ≡ Some q → p ≡ q
+    the_one p q k = cc
+all_at P name (y ∷ xs) (suc j) x h e = all_at P name xs j x h.1 e
+
+named_apart : (name : Term → List ℕ) (x t u : Term) (ts : List Term) (j : ℕ) → Some x ≡ Some t → AllByRecursion (λ y. bytes_eq (name x) y ≡ false) (map name ts) → slice_get ts j ≡ Some u → name t ≡ name u → ⊥
+named_apart name x t u ts j e h k same =
+    let apart : bytes_eq (name x) (name u) ≡ false = all_at (λ y. bytes_eq (name x) y ≡ false) name ts j u h k in
+    let one : name x ≡ name u = ap name (the_one x t e) ∙ same in
+    let equal : bytes_eq (name x) (name u) ≡ true = (bytes_eq-Decides (name x) (name u)).1 one in
+    cc
+  where
+    the_one : (p q : Term) → Some p ≡ Some q → p ≡ q
+    the_one p q k = cc
+
+named_once : (name : Term → List ℕ) (ts : List Term) (i j : ℕ) (t u : Term) → IsDistinct bytes_eq (map name ts) → slice_get ts i ≡ Some t → slice_get ts j ≡ Some u → name t ≡ name u → i ≡ j
+unfolding IsDistinct
+named_once name [] i j t u d a b same = cc
+named_once name (x ∷ ts) zero zero t u d a b same = refl
+named_once name (x ∷ ts) zero (suc j) t u d a b same = absurd (named_apart name x t u ts j a d.0 b same)
+named_once name (x ∷ ts) (suc i) zero t u d a b same = absurd (named_apart name x u t ts i b d.0 a (sym same))
+named_once name (x ∷ ts) (suc i) (suc j) t u d a b same = ap suc (named_once name ts i j t u d.1 a b same)
+
+-- ---- of one callee the same is asked
+
+fn_is : (env : Environment) (t : Term) (partial recursive : Bool) (func : Sym) (x : ExtractorKind) → t.kind ≡ term_kind.Decl false false partial recursive (constructor.External func) x → constructor_fn_of env t ≡ Some (constructor_fn env t func)
+fn_is env t partial recursive func x e = ap (λ (k : TermKind). option_map (constructor_fn env t) (func_of k)) e
+
+external_name : (a b : List ℕ) → Some (External a) ≡ Some (External b) → a ≡ b
+external_name a b e = cc
+
+internal_name : (a b : List ℕ) → Some (Internal a) ≡ Some (Internal b) → a ≡ b
+internal_name a b e = cc
 
 the_service : (s t : Service) → Some s ≡ Some t → s ≡ t
 the_service s t e = cc
 
--- of one callee the same is asked
-asked_alike : (env : Environment) → HasFnNames env → (o p : CalledTerm) (x : IsExternal env o) (y : IsExternal env p) (s t : Service) → service_of env o ≡ Some s → service_of env p ≡ Some t → s.callee ≡ t.callee → s ≡ t
-asked_alike env names o p x y s t a b same =
+-- the names of an environment's terms
+abbrev names_of : Environment → List (List ℕ)
+names_of env = map (λ (t : Term). sym_text env t.name) env.terms
+
+one_term : (env : Environment) → HasFnNames env → IsDistinct bytes_eq (names_of env) → (o p : CalledTerm) (x : IsCallable env o) (y : IsCallable env p) → x.callee ≡ y.callee → o.term.0 ≡ p.term.0
+one_term env names apart o p x y same = by x.by y.by x.kind y.kind (x.to ∙ ap Some same ∙ sym y.to) x.to
+  where
+    by : (a b : ConstructorKind) → x.term.kind ≡ term_kind.Decl false false x.partial x.recursive a x.extractor → y.term.kind ≡ term_kind.Decl false false y.partial y.recursive b y.extractor
+        → callee_by env x.term a ≡ callee_by env y.term b → callee_by env x.term a ≡ Some x.callee → o.term.0 ≡ p.term.0
+    by (constructor.External f) (constructor.External g) k l e t =
+        one_place env env.terms o.term.0 p.term.0 x.term y.term (constructor_fn env x.term f) (constructor_fn env y.term g) names.distinct x.found y.found (fn_is env x.term x.partial x.recursive f x.extractor k) (fn_is env y.term y.partial y.recursive g y.extractor l)
+        (external_name (sym_text env f) (sym_text env g) e)
+    by constructor.Internal constructor.Internal k l e t = named_once (λ (u : Term). sym_text env u.name) env.terms o.term.0 p.term.0 x.term y.term apart x.found y.found (internal_name (sym_text env x.term.name) (sym_text env y.term.name) e)
+    by (constructor.External f) constructor.Internal k l e t = cc
+    by (constructor.External f) constructor.Absent k l e t = cc
+    by constructor.Internal (constructor.External g) k l e t = cc
+    by constructor.Internal constructor.Absent k l e t = cc
+    by constructor.Absent b k l e t = cc
+
+asked_alike : (env : Environment) → HasFnNames env → IsDistinct bytes_eq (names_of env) → (o p : CalledTerm) (x : IsCallable env o) (y : IsCallable env p) (s t : Service) → service_of env o ≡ Some s → service_of env p ≡ Some t → s.callee ≡ t.callee → s ≡ t
+asked_alike env names apart o p x y s t a b same =
     let first : asked_of env o x ≡ s = the_service (asked_of env o x) s (sym (service_is env o x) ∙ a) in
     let second : asked_of env p y ≡ t = the_service (asked_of env p y) t (sym (service_is env p y) ∙ b) in
-    let name = callee_name (sym_text env x.func) (sym_text env y.func) (ap (λ (z : Service). z.callee) first ∙ same ∙ sym (ap (λ (z : Service). z.callee) second)) in
-    let place = one_place env env.terms o.term.0 p.term.0 x.term y.term (constructor_fn env x.term x.func) (constructor_fn env y.term y.func) names.distinct x.found y.found (fn_is env o x) (fn_is env p y) name in
+    let place = one_term env names apart o p x y (ap (λ (z : Service). z.callee) first ∙ same ∙ sym (ap (λ (z : Service). z.callee) second)) in
     let one : o ≡ p = ap (λ (r : Role). record { term = o.term; role = r }) x.role ∙ ap (λ (n : ℕ). record { term = record { 0 = n }; role = Constructor }) place ∙ sym (ap (λ (r : Role). record { term = p.term; role = r }) y.role) in
     the_service s t (sym a ∙ ap (service_of env) one ∙ b)
 
 -- ---- the law
 
-inhabited : (env : Environment) (o : CalledTerm) (x : IsExternal env o) → AnswersInhabited env o → (v : Value) × HasType env v x.term.ret_ty
-inhabited env o x h = of x.role (subst (λ (t : Option Term). IsSomeAnd t (λ (u : Term). AllByRecursion (λ ty. (v : Value) × HasType env v ty) (result_types o.role u))) x.found h)
+inhabited : (env : Environment) (o : CalledTerm) (x : IsCallable env o) → AnswersInhabited env o → HasValue env x.term.ret_ty
+inhabited env o x h = of x.role (subst (λ (t : Option Term). IsSomeAnd t (λ (u : Term). AllByRecursion (HasValue env) (result_types o.role u))) x.found h)
   where
-    of : o.role ≡ Constructor → AllByRecursion (λ ty. (v : Value) × HasType env v ty) (result_types o.role x.term) → (v : Value) × HasType env v x.term.ret_ty
-    of is k = (subst (λ (r : Role). AllByRecursion (λ ty. (v : Value) × HasType env v ty) (result_types r x.term)) is k).0
+    of : o.role ≡ Constructor → AllByRecursion (HasValue env) (result_types o.role x.term) → HasValue env x.term.ret_ty
+    of is k = (subst (λ (r : Role). AllByRecursion (HasValue env) (result_types r x.term)) is k).0
 
--- the terms that typed rules call may be answered, where the types of their answers have values
-pub answerable : (env : Environment) (t : Term) (rules : List Rule) → HasFnNames env → AllByRecursion (IsRuleOf env t) rules → ((o : CalledTerm) → Contains (called env rules) o → AnswersInhabited env o) → AreAnswerable env (called env rules)
-answerable env t rules names typed values = record {
+-- the terms that built rules call may be answered, where the types of their answers have values
+pub answerable : (env : Environment) (rules : List Rule) → HasFnNames env → IsDistinct bytes_eq (names_of env) → AllByRecursion (IsBuiltRule env.terms) rules → AllByRecursion (CallsBuiltTerms env.terms) rules
+    → ((o : CalledTerm) → Contains (called env rules) o → AnswersInhabited env o) → AreAnswerable env (called env rules)
+answerable env rules names apart built terms values = record {
   each = λ o c.
-      let x = rules_external env t rules typed o c in
+      let x = rules_callable env rules built terms o c in
       let v = inhabited env o x (values o c) in
       let a = answer_fits env x.partial x.term.ret_ty v.0 v.1 in
       record { service = asked_of env o x; is = service_is env o x; answer = a.0; fits = a.1 };
-  alike = λ o p s u c d a b same. asked_alike env names o p (rules_external env t rules typed o c) (rules_external env t rules typed p d) s u a b same;
+  alike = λ o p s u c d a b same. asked_alike env names apart o p (rules_callable env rules built terms o c) (rules_callable env rules built terms p d) s u a b same;
 }

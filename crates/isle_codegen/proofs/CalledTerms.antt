@@ -1,12 +1,14 @@
 -- The calls among the bindings of a rule set are of terms that its rules call.
-use Rattle.std.proofs.Common.{◌≡◌, ⊎_elim, ℕ, zero, suc, ◌+◌, List, [], ◌∷◌, ◌++◌, Bool, true, false, cond, Option, Some, None, refl, sym, ◌∙◌, subst}
-use Rattle.std.specs.Prelude.{Contains, slice_get}
+use Rattle.std.proofs.Common.{◌≡◌, ⊎_elim, ℕ, zero, suc, ◌+◌, List, [], ◌∷◌, ◌++◌, Bool, true, false, cond, Option, Some, None, refl, subst}
+use Rattle.std.specs.Prelude.{Contains, IsSome, slice_get}
 use Rattle.std.specs.List.{AllByRecursion}
 use Rattle.std.proofs.lemmas.List.Elements.{Contains-append_left, Contains-append_right, Contains-append_cases}
+use Rattle.isle_core.specs.declared.Sym.{Sym}
 use Rattle.isle_core.specs.declared.TermId.{TermId}
 use Rattle.isle_core.specs.declared.rule_sets.Binding.{Binding}
 use Rattle.isle_core.specs.declared.rule_sets.Binding.TheVariants as binding
 use Rattle.isle_core.specs.declared.rule_sets.RuleSet.{RuleSet}
+use Rattle.isle_core.specs.Having.{const_of}
 use Rattle.isle_core.specs.Meaning.{Meaning}
 use Rattle.isle_core.specs.Calling.{Calling, ByTurns, ByCases, NoCall, calling, is_fallible, instance_of, impure, impure_all}
 use Rattle.isle_core.specs.Expr as expr
@@ -20,7 +22,6 @@ use Rattle.isle_core.proofs.OpenedPaths.{IsOpened, IsOpenedPlace, AreOpened, arg
 use Rattle.isle_core.specs.CalledTerms.{CalledTerm, Constructor, is_made_kind, is_made_term, unless_made, called_by, called_by_all, extracted_in, called_in_iflets, called_in, called}
 use Rattle.isle_core.specs.Lawful.{AnswersFit, IsLawful}
 use Rattle.isle_core.specs.Path.{Path, Nowhere, Called, Inner, MadeVariant, MadeStruct, Paths, paths_of}
-use Rattle.isle_core.specs.Pattern.{Pattern}
 use Rattle.isle_core.specs.Rule.{Environment, Rule, rules_of}
 use Rattle.isle_core.specs.RulePaths.{rules_paths}
 use Rattle.isle_core.specs.StandsFor.{StandsFor}
@@ -36,7 +37,9 @@ use Rattle.isle_core.specs.ExternalCall.{IsCall}
 use Rattle.isle_simulation.proofs.BlockCalls.{IsBoundCall}
 use Rattle.isle_simulation.specs.Emitted.{AnswersBindings}
 use Rattle.isle_simulation.specs.Statements.{callee_of}
+use Rattle.isle_core.specs.Terms.{sym_text}
 use Rattle.isle_codegen.specs.CalledBy.{GoesTo, IsCalledBy}
+use Rattle.isle_codegen.proofs.NamedConstants.{rules_named, named_valued}
 
 -- ---- the calls among paths
 
@@ -79,8 +82,8 @@ call_of false terms term ps j here other qs k c =
 
 -- a made value, and its inner value, are no calls
 made_of : (b : Bool) (terms : List CalledTerm) (p : Path) → ((term : TermId) (qs : Paths) (k : ℕ) → p ≡ Called term qs k → ⊥) → AreOf terms (cond b (p ∷ Inner p ∷ []) (p ∷ []))
-made_of true terms p apart other qs k c = ⊎_elim (λ e. absurd (apart other qs k e)) (λ d. none_of terms (Inner p) (inner_apart p) other qs k d) (contained_cases p (Inner p ∷ []) (Called other qs k) c)
-made_of false terms p apart other qs k c = none_of terms p apart other qs k c
+made_of true terms p apart = λ other qs k c. ⊎_elim (λ e. absurd (apart other qs k e)) (λ d. none_of terms (Inner p) (inner_apart p) other qs k d) (contained_cases p (Inner p ∷ []) (Called other qs k) c)
+made_of false terms p apart = none_of terms p apart
 
 not_made : (o : Option Term) → making_of o ≡ MakesNothing → is_made_term o ≡ false
 not_made None e = refl
@@ -139,16 +142,23 @@ place_contained [] i p e = cc
 place_contained (q ∷ ps) zero p e = let same : q ≡ p = cc in subst (Contains (q ∷ ps)) same (head_contained q ps)
 place_contained (q ∷ ps) (suc i) p e = tail_contained q ps p (place_contained ps i p e)
 
-answers_each : (env : Environment) (m : Meaning) (bs : List Binding) → ((i : ℕ) (term : TermId) (parameters : _) (k : ℕ) → slice_get bs i ≡ Some (binding.Constructor term parameters k) → AnswersFit env m term) → AnswersBindings env m bs
-answers_each env m [] h = tt
-answers_each env m (binding.Constructor term parameters k ∷ bs) h = (h 0 term parameters k refl, answers_each env m bs (λ i x ps j e. h (suc i) x ps j e))
-answers_each env m (b ∷ bs) h = answers_each env m bs (λ i x ps j e. h (suc i) x ps j e)
+answers_each : (env : Environment) (m : Meaning) (bs : List Binding) → ((i : ℕ) (term : TermId) (parameters : _) (k : ℕ) → slice_get bs i ≡ Some (binding.Constructor term parameters k) → AnswersFit env m term)
+    → ((i : ℕ) (name : Sym) → slice_get bs i ≡ Some (binding.ConstPrim name) → IsSome (const_of m (sym_text env name))) → AnswersBindings env m bs
+answers_each env m [] h k = tt
+answers_each env m (binding.Constructor term parameters n ∷ bs) h k = (h 0 term parameters n refl, answers_each env m bs (λ i x ps j e. h (suc i) x ps j e) (λ i name e. k (suc i) name e))
+answers_each env m (binding.ConstPrim name ∷ bs) h k = (k 0 name refl, answers_each env m bs (λ i x ps j e. h (suc i) x ps j e) (λ i other e. k (suc i) other e))
+answers_each env m (b ∷ bs) h k = answers_each env m bs (λ i x ps j e. h (suc i) x ps j e) (λ i name e. k (suc i) name e)
 
--- a meaning that is lawful for a term answers the calls of its rule set
+-- a meaning that is lawful for a term answers the calls of its rule set, and gives its constants values
 pub bindings_answered : (env : Environment) (id : TermId) (m : Meaning) (s : RuleSet) → StandsFor env s (rules_of env id) → IsLawful env id m → AnswersBindings env m s.bindings
-bindings_answered env id m s stands lawful = answers_each env m s.bindings (λ i term parameters k e.
+bindings_answered env id m s stands lawful = answers_each env m s.bindings
+    (λ i term parameters k e.
     let at_i = path_before s.bindings i (binding.Constructor term parameters k) e in
     lawful.answers (constructed term) (rules_of_called (rules_of env id) env 0 term _ k ((stands.paths _).0 (place_contained (paths_of s.bindings) i _ at_i))))
+    (λ i name e.
+    let at_i = path_before s.bindings i (binding.ConstPrim name) e in
+    let c = rules_named (rules_of env id) env 0 name ((stands.paths _).0 (place_contained (paths_of s.bindings) i _ at_i)) in
+    named_valued env id m c.0 name lawful c.1)
 
 -- ---- the calls of a function
 

@@ -1,6 +1,6 @@
 -- The functions of an environment are well formed, and mean its rules.
 use Rattle.std.proofs.Common.{◌≡◌, ℕ, suc, List, [], ◌∷◌, map, Some, refl, sym, ap, ◌∙◌, subst}
-use Rattle.std.specs.Prelude.{Contains, slice_get}
+use Rattle.std.specs.Prelude.{All, Contains, slice_get}
 use Rattle.std.specs.List.{AllByRecursion, IsDistinct}
 use Rattle.std.specs.Str.{bytes_eq}
 use Rattle.std.proofs.lemmas.List.Elements.{recursion_from_All}
@@ -10,14 +10,14 @@ use Rattle.isle_core.specs.declared.rule_sets.RuleSet.{RuleSet}
 use Rattle.isle_core.specs.declared.types.Term.{Term}
 use Rattle.isle_core.specs.StandsFor.{StandsFor}
 use Rattle.isle_core.specs.Terms.{term_name, with_rules}
-use Rattle.isle_core.specs.Rule.{Environment, rules_of}
+use Rattle.isle_core.specs.Rule.{Environment, Rule, rules_of}
 use Rattle.isle_ast.specs.Tree.{Def}
 use Rattle.isle_checks.specs.CheckList.{IsClean}
 use Rattle.isle_rulesets.specs.Grouping.{AreRuleSets}
 use Rattle.isle_sema.specs.Typing.{Typed}
 use Rattle.isle_sema.proofs.TypedTerms.{typed_names, typed_types}
 use Rattle.isle_tree.specs.Program.{Function, Program}
-use Rattle.isle_tree.specs.WellFormed.{IsTraitFn, fn_names, declared_names, IsFunction, IsWellFormed}
+use Rattle.isle_tree.specs.WellFormed.{IsTraitFn, fn_names, declared_names, IsFunction, IsTypeItem, IsWellFormed}
 use Rattle.isle_tree.specs.declared.tree.TraitFn.{TraitFn}
 use Rattle.isle_tree.specs.declared.tree.TypeItem.{TypeItem}
 use Rattle.isle_codegen.specs.Emits.{CanEmit, AreEmitted}
@@ -27,19 +27,25 @@ use Rattle.isle_simulation.proofs.TraitFnForms.{IsPlainTerm, fns_are}
 use Rattle.isle_codegen.proofs.PlainTerms.{typed_once, typed_unextracted}
 use Rattle.isle_simulation.specs.OfTerm.{AreDeclared}
 use Rattle.isle_core.specs.declared.TypeId.{TypeId}
-use Rattle.isle_core.specs.BuiltinType.{IsBuiltinType}
+use Rattle.isle_core.specs.BuiltRule.{IsBuiltRule, CallsBuiltTerms}
 use Rattle.isle_core.specs.HasType.{HaveTypes}
 use Rattle.isle_core.specs.Value.{Value}
-use Rattle.isle_core.proofs.Inhabited.{builtin_has_value}
 use Rattle.isle_core.proofs.LawfulExists.{lawful_with}
 use Rattle.isle_codegen.specs.FromBlock.{AreFromBlocks}
-use Rattle.isle_codegen.specs.Meant.{IsMeant}
+use Rattle.isle_codegen.specs.Meant.{HasValue, IsMeant}
+use Rattle.isle_codegen.specs.Names.{has_a_rule}
 use Rattle.isle_codegen.specs.Headline.{FunctionsMean}
 use Rattle.isle_codegen.proofs.EmittedNames.{emitted_names, distinct_names}
 use Rattle.isle_codegen.proofs.MeanRules.{HasFunction, has_function, means_rules, of_term}
 use Rattle.isle_codegen.proofs.CalledTerms.{bound_called}
-use Rattle.isle_sema.proofs.TypedRules.{typed_of}
-use Rattle.isle_sema.specs.TypedRule.{IsRuleOf}
+use Rattle.isle_codegen.proofs.InhabitedTypes.{inhabited_valued}
+use Rattle.isle_codegen.proofs.TypedNames.{typed_parts}
+use Rattle.isle_items.specs.LawfulNames.{AreLawful}
+use Rattle.isle_items.specs.TypeItems.{type_items_of}
+use Rattle.isle_items.proofs.HasRustNames.{has_rust_names}
+use Rattle.isle_items.proofs.ItemLaws.{items_are, items_apart}
+use Rattle.isle_items.proofs.TextLaws.{texts_are}
+use Rattle.isle_sema.proofs.BuiltRules.{typed_built, typed_terms}
 use Rattle.isle_codegen.proofs.Answerable.{answerable}
 use Rattle.isle_simulation.proofs.GivenFunctions.{emitted_well_formed, has_shape, of_its_term, function_calls}
 
@@ -57,13 +63,12 @@ are_declared files env (s ∷ sets) (f ∷ fs) h = (
 are_declared files env [] (f ∷ fs) h = absurd h
 are_declared files env (s ∷ sets) [] h = absurd h
 
--- arguments of builtin types
-arguments_of : (env : Environment) (tys : List TypeId) → AllByRecursion (IsBuiltinType env) tys → (args : List Value) × HaveTypes env args tys
+-- arguments of types that have values
+arguments_of : (env : Environment) (tys : List TypeId) → AllByRecursion (HasValue env) tys → (args : List Value) × HaveTypes env args tys
 arguments_of env [] h = ([], tt)
 arguments_of env (ty ∷ tys) h =
-    let v = builtin_has_value env ty h.0 in
     let vs = arguments_of env tys h.1 in
-    (v.0 ∷ vs.0, (v.1, vs.1))
+    (h.0.0 ∷ vs.0, (h.0.1, vs.1))
 
 -- each function is made from a block
 are_from_blocks : (files : Files) (env : Environment) (sets : List (TermId × RuleSet)) (fs : List Function) → AllByRecursion (λ (s : TermId × RuleSet). StandsFor env s.1 (rules_of env s.0)) sets → AreEmitted files env sets fs
@@ -95,24 +100,19 @@ are_well_formed : (files : Files) (env : Environment) (p : Program) (sets : List
 are_well_formed files env p [] [] same c h = tt
 are_well_formed files env p (s ∷ sets) (f ∷ fs) same c h =
     let e : IsEmittable env h.0.term = subst (IsEmittable env) (some_same c.0.term h.0.term (sym c.0.found ∙ h.0.found)) c.0.emittable in (
-      emitted_well_formed files env h.0.term s.1.bindings h.0.block f h.0.lawful h.0.single h.0.once h.0.given e c.0.fns p same,
+      emitted_well_formed files env h.0.term s.1.bindings h.0.block f h.0.lawful h.0.single h.0.once h.0.given e c.0.names c.0.fns p same,
       are_well_formed files env p sets fs same c.1 h.1,
     )
 are_well_formed files env p [] (f ∷ fs) same c h = absurd h
 are_well_formed files env p (s ∷ sets) [] same c h = absurd h
 
--- the types of all terms are builtin, each answers at most once, and none has an external extractor
-plain_terms : (defs : List Def) (env : Environment) → Typed defs env → AllByRecursion (IsPlainTerm env) env.terms
-plain_terms defs env typed = each env.terms (λ i t e. record { types = typed_types defs env i t typed e; once = typed_once defs env i t typed e; unextracted = typed_unextracted defs env i t typed e })
+-- the types of all terms have names of Rust, each answers at most once, and none has an external extractor
+plain_terms : (defs : List Def) (env : Environment) → Typed defs env → AreLawful (has_a_rule env.rules) env.types → AllByRecursion (IsPlainTerm env) env.terms
+plain_terms defs env typed lawful = each env.terms (λ i t e. record { types = texts_are (has_a_rule env.rules) env (t.ret_ty ∷ t.arg_tys) lawful (typed_types defs env i t typed e); once = typed_once defs env i t typed e; unextracted = typed_unextracted defs env i t typed e })
   where
     each : (ts : List Term) → ((i : ℕ) (t : Term) → slice_get ts i ≡ Some t → IsPlainTerm env t) → AllByRecursion (IsPlainTerm env) ts
     each [] h = tt
     each (t ∷ ts) h = (h 0 t refl, each ts (λ i u e. h (suc i) u e))
-
--- where there are no types, no two have one name
-no_types : IsDistinct bytes_eq (declared_names [])
-unfolding IsDistinct
-no_types = tt
 
 module _ (defs : List Def) (files : Files) (env : Environment) (typed : Typed defs env) (clean : IsClean env) (sets : List (TermId × RuleSet)) (stand : AreRuleSets env sets) (fs : List Function) (emitted : AreEmitted files env sets fs) where
   names_of : map (λ (f : Function). f.term) fs ≡ map (term_name env) (with_rules env)
@@ -121,16 +121,16 @@ module _ (defs : List Def) (files : Files) (env : Environment) (typed : Typed de
   distinct : IsDistinct bytes_eq (map (λ (f : Function). f.term) fs)
   distinct = subst (IsDistinct bytes_eq) (sym names_of) (distinct_names env (typed_names defs env typed))
 
-  -- a program of these functions and those of the trait is well formed
-  pub program_well_formed : (p : Program) → HasFnNames env → p.trait_fns ≡ trait_fns_of env → p.types ≡ [] → p.fns ≡ fs → AllByRecursion (CanEmit files env) sets → IsWellFormed p
-  program_well_formed p names a b e c =
+  -- a program of these functions, those of the trait and the declared types is well formed
+  pub program_well_formed : (p : Program) → HasFnNames env → AreLawful (has_a_rule env.rules) env.types → p.trait_fns ≡ trait_fns_of env → p.types ≡ type_items_of env → p.fns ≡ fs → AllByRecursion (CanEmit files env) sets → IsWellFormed p
+  program_well_formed p names lawful a b e c =
       record {
-        trait_fns = subst (AllByRecursion IsTraitFn) (sym a) (fns_are env env.terms names.identifiers (plain_terms defs env typed));
-        types = rw b tt;
+        trait_fns = subst (AllByRecursion IsTraitFn) (sym a) (fns_are env env.terms names.identifiers (plain_terms defs env typed lawful));
+        types = subst (AllByRecursion IsTypeItem) (sym b) (items_are (has_a_rule env.rules) env.types lawful (typed_parts defs env typed).types);
         fns = subst (AllByRecursion (IsFunction p)) (sym e) (are_well_formed files env p sets fs a c emitted);
         distinct = subst (λ (xs : List Function). IsDistinct bytes_eq (map (λ (f : Function). f.term) xs)) (sym e) distinct;
         trait_names = subst (λ (xs : List TraitFn). IsDistinct bytes_eq (fn_names xs)) (sym a) names.distinct;
-        type_names = subst (λ (xs : List TypeItem). IsDistinct bytes_eq (declared_names xs)) (sym b) no_types;
+        type_names = subst (λ (xs : List TypeItem). IsDistinct bytes_eq (declared_names xs)) (sym b) (items_apart (has_a_rule env.rules) env.types lawful);
       }
 
   -- the function of each term with rules
@@ -144,17 +144,21 @@ module _ (defs : List Def) (files : Files) (env : Environment) (typed : Typed de
   meant_of names id t there = record {
     term = t;
     found = there;
-    arguments = arguments_of env t.arg_tys (typed_types defs env id.0 t typed there).1;
-    meanings = λ none values h history. lawful_with env id h (answerable env t (rules_of env id) names (recursion_from_All (IsRuleOf env t) (rules_of env id) (typed_of defs env id t typed there)) values) none history;
+    arguments = arguments_of env t.arg_tys;
+    meanings = λ none values h history. lawful_with env id h (answerable env (rules_of env id) names (typed_names defs env typed) (of_rules (IsBuiltRule env.terms) (typed_built defs env typed)) (of_rules (CallsBuiltTerms env.terms) (typed_terms defs env typed)) values) none history;
   }
+    where
+      of_rules : (P : Rule → Type 0) → All P env.rules → AllByRecursion P (rules_of env id)
+      of_rules P k = recursion_from_All P (rules_of env id) (of_term P env id k)
 
   -- and its functions mean the rules
-  pub program_means : (p : Program) → HasFnNames env → p.fns ≡ fs → FunctionsMean files env p
-  program_means p names e =
+  pub program_means : (p : Program) → HasFnNames env → AreLawful (has_a_rule env.rules) env.types → p.fns ≡ fs → FunctionsMean files env p
+  program_means p names lawful e =
       record {
         names = ap (map (λ (f : Function). f.term)) e ∙ names_of;
         declared = subst (λ (xs : List Function). AreDeclared files env (with_rules env) xs) (sym e) (subst (λ (ids : List TermId). AreDeclared files env ids fs) stand.ids (are_declared files env sets fs emitted));
         blocks = subst (λ (xs : List Function). AreFromBlocks files env (with_rules env) xs) (sym e) (subst (λ (ids : List TermId). AreFromBlocks files env ids fs) stand.ids (are_from_blocks files env sets fs (recursion_from_All (λ (s : TermId × RuleSet). StandsFor env s.1 (rules_of env s.0)) sets stand.stand) emitted));
-        mean = λ id c. means_rules defs files env p id typed clean c (subst (λ (xs : List Function). HasFunction files env xs id) (sym e) (function_for id c));
+        mean = λ id c. means_rules defs files env p id typed clean (has_rust_names (has_a_rule env.rules) env lawful (typed_parts defs env typed)) c (subst (λ (xs : List Function). HasFunction files env xs id) (sym e) (function_for id c));
         meant = λ id c. meant_of names id (function_for id c).emitted.term (function_for id c).emitted.found;
+        values = inhabited_valued env (typed_parts defs env typed).variants;
       }

@@ -14,16 +14,20 @@ use Rattle.isle_core.specs.Terms.{term_name, with_rules}
 use Rattle.isle_core.specs.Rule.{Environment, rules_of}
 use Rattle.isle_core.proofs.Contained.{head_contained, tail_contained}
 use Rattle.isle_ast.specs.Tree.{Def}
+use Rattle.isle_items.specs.LawfulNames.{AreLawful}
+use Rattle.isle_items.proofs.HasRustNames.{has_rust_names}
+use Rattle.isle_items.proofs.TextLaws.{texts_are}
 use Rattle.isle_rulesets.specs.Grouping.{AreRuleSets}
 use Rattle.isle_sema.specs.Typing.{Typed}
 use Rattle.isle_sema.proofs.SerializableRules.{set_serializable}
 use Rattle.isle_sema.proofs.TypedTerms.{typed_types, typed_there}
-use Rattle.isle_codegen.specs.Names.{is_term_name, are_term_names}
+use Rattle.isle_codegen.specs.Names.{is_term_name, are_term_names, has_a_rule}
 use Rattle.isle_codegen.specs.Emission.{ArePlaced}
 use Rattle.isle_simulation.specs.TraitFns.{HasFnNames}
 use Rattle.isle_codegen.specs.Emits.{CanEmit}
 use Rattle.isle_codegen.proofs.EmittedNames.{name_of_term}
 use Rattle.isle_codegen.proofs.PlainTerms.{typed_once}
+use Rattle.isle_codegen.proofs.TypedNames.{typed_parts}
 
 placed_at : (files : Files) (ts : List Term) (i : ℕ) (t : Term) → AllByRecursion (λ (u : Term). LiesIn files u.decl_pos) ts → slice_get ts i ≡ Some t → LiesIn files t.decl_pos
 placed_at files [] i t h e = cc
@@ -35,26 +39,27 @@ placed_at files (u ∷ ts) (suc i) t h e = placed_at files ts i t h.1 e
 
 -- a term of those with rules, its name and its rule set
 one : (defs : List Def) (files : Files) (env : Environment) (s : TermId × RuleSet) → Typed defs env → ArePlaced files env → Contains (with_rules env) s.0
-    → is_term_name (term_name env s.0) ≡ true → HasFnNames env → StandsFor env s.1 (rules_of env s.0) → CanEmit files env s
-one defs files env s h placed c name fns stands =
+    → is_term_name (term_name env s.0) ≡ true → HasFnNames env → AreLawful (has_a_rule env.rules) env.types → StandsFor env s.1 (rules_of env s.0) → CanEmit files env s
+one defs files env s h placed c name fns lawful stands =
     let t = typed_there defs env s.0 h c in
     record {
       term = t.0;
       found = t.1;
       placed = placed_at files env.terms s.0.0 t.0 placed t.1;
-      emittable = record { name = subst (λ n. IsTrue (is_term_name n)) (name_of_term env s.0 t.0 t.1) name; types = typed_types defs env s.0.0 t.0 h t.1; once = typed_once defs env s.0.0 t.0 h t.1 };
+      emittable = record { name = subst (λ n. IsTrue (is_term_name n)) (name_of_term env s.0 t.0 t.1) name; types = texts_are (has_a_rule env.rules) env (t.0.ret_ty ∷ t.0.arg_tys) lawful (typed_types defs env s.0.0 t.0 h t.1); once = typed_once defs env s.0.0 t.0 h t.1 };
       ready = set_serializable defs env s.0 t.0 s.1 h t.1 stands;
       fns = fns;
+      names = has_rust_names (has_a_rule env.rules) env lawful (typed_parts defs env h);
     }
 
-module _ (defs : List Def) (files : Files) (env : Environment) (typed : Typed defs env) (placed : ArePlaced files env) (fns : HasFnNames env) where
+module _ (defs : List Def) (files : Files) (env : Environment) (typed : Typed defs env) (placed : ArePlaced files env) (fns : HasFnNames env) (lawful : AreLawful (has_a_rule env.rules) env.types) where
   each : (sets : List (TermId × RuleSet)) → ((id : TermId) → Contains (map (λ (s : TermId × RuleSet). s.0) sets) id → Contains (with_rules env) id)
       → list_all (λ (id : TermId). is_term_name (term_name env id)) (map (λ (s : TermId × RuleSet). s.0) sets) ≡ true
       → AllByRecursion (λ (s : TermId × RuleSet). StandsFor env s.1 (rules_of env s.0)) sets → AllByRecursion (CanEmit files env) sets
   each [] among names stand = tt
   each (s ∷ sets) among names stand =
       let both = and_parts (is_term_name (term_name env s.0)) (list_all (λ (id : TermId). is_term_name (term_name env id)) (map (λ (x : TermId × RuleSet). x.0) sets)) names in (
-        one defs files env s typed placed (among s.0 (head_contained s.0 (map (λ (x : TermId × RuleSet). x.0) sets))) both.0 fns stand.0,
+        one defs files env s typed placed (among s.0 (head_contained s.0 (map (λ (x : TermId × RuleSet). x.0) sets))) both.0 fns lawful stand.0,
         each sets (λ id c. among id (tail_contained s.0 (map (λ (x : TermId × RuleSet). x.0) sets) id c)) both.1 stand.1,
       )
 

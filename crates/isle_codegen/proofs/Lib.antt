@@ -2,9 +2,12 @@ pub mod Sources
 pub mod Headers
 pub mod Refusals
 pub mod EmittedNames
+pub mod NamedConstants
 pub mod CalledTerms
 pub mod MeanRules
+pub mod TypedNames
 pub mod Emitting
+pub mod InhabitedTypes
 pub mod EmittedProgram
 pub mod Placed
 pub mod RootNames

@@ -1,11 +1,9 @@
 -- No two rules of a typed term that match have one priority, where nothing is wrong with the rules.
-use Rattle.std.proofs.Common.{◌≡◌, ◌<◌, List, [], ◌∷◌, length, false, Option, Some, refl, ap, ◌∙◌, subst, arith}
+use Rattle.std.proofs.Common.{◌≡◌, ◌<◌, List, length, false, Option, Some, refl, ap, ◌∙◌}
 use Rattle.std.specs.Prelude.{All, Contains, slice_get}
 use Rattle.std.specs.Option.{option_map_or}
 use Rattle.std.proofs.lemmas.Option.{slice_get_within}
-use Rattle.isle_core.specs.declared.Sym.{Sym}
 use Rattle.isle_core.specs.declared.TermId.{TermId}
-use Rattle.isle_core.specs.declared.TypeId.{TypeId}
 use Rattle.isle_core.specs.declared.types.ReturnKind.{ReturnKind}
 use Rattle.isle_core.specs.declared.types.ReturnKind.TheVariants as return_kind
 use Rattle.isle_core.specs.declared.types.Term.{Term}
@@ -19,15 +17,11 @@ use Rattle.isle_ast.specs.Tree.{Def}
 use Rattle.isle_core.specs.HasType.{HaveTypes}
 use Rattle.isle_core.specs.Lawful.{IsLawful}
 use Rattle.isle_sema.specs.Typing.{Typed}
-use Rattle.isle_sema.proofs.NamesApart.{variants_apart, no_constants}
-use Rattle.isle_sema.proofs.TypedRules.{typed_built, typed_patterns, typed_rules}
+use Rattle.isle_sema.proofs.BuiltRules.{typed_built, typed_patterns}
+use Rattle.isle_sema.proofs.TypedRules.{typed_rules}
 use Rattle.isle_checks.specs.CheckList.{is_multi, IsClean}
-use Rattle.isle_checks.specs.PlainConstants.{AreConstantsPlain}
 use Rattle.isle_checks.proofs.OneHighest.{one_highest}
-
--- typed definitions declare no constant yet
-constants_plain : (defs : List Def) (env : Environment) → Typed defs env → AreConstantsPlain env
-constants_plain defs env t k d lt = let none : k < 0 = subst (λ (cs : List (Sym × TypeId)). k < length cs) (no_constants defs env t) lt in absurd (omega (arith, none))
+use Rattle.isle_codegen.proofs.TypedNames.{typed_parts}
 
 -- what answers at most once doesn't answer several times
 not_several : (kind : ReturnKind) → AnswersOnce kind → is_several kind ≡ false
@@ -39,8 +33,9 @@ not_several return_kind.Iterator h = absurd h
 pub rules_apart : (defs : List Def) (env : Environment) (id : TermId) (t : Term) → Typed defs env → IsClean env → Contains (with_rules env) id → slice_get env.terms id.0 ≡ Some t → AnswersOnce (kind_of t.kind)
     → (m : Meaning) (args : List Value) → IsLawful env id m → HaveTypes env args t.arg_tys → AreApart env m args (rules_of env id)
 rules_apart defs env id t typed clean listed at once m args lawful types =
+    let names = typed_parts defs env typed in
     let single : is_multi env id ≡ false = ap (λ (o : Option Term). option_map_or (λ (u : Term). is_several (kind_of u.kind)) o false) at ∙ not_several (kind_of t.kind) once in
-    one_highest env id t listed single (typed_built defs env typed) (typed_patterns defs env id t typed at) clean (variants_apart defs env typed) (constants_plain defs env typed) m args lawful types
+    one_highest env id t listed single (typed_built defs env typed) (typed_patterns defs env id t typed at) clean names.variants names.constants m args lawful types
 
 -- each rule is of a term that is there
 pub typed_roots : (defs : List Def) (env : Environment) → Typed defs env → All (λ (r : Rule). r.root_term.0 < length env.terms) env.rules

@@ -1,5 +1,5 @@
 -- The program that is emitted for an environment.
-use Rattle.std.specs.Prelude.{◌≡◌, List, [], not}
+use Rattle.std.specs.Prelude.{◌≡◌, List, not}
 use Rattle.std.specs.List.{AllByRecursion}
 use Rattle.isle_core.specs.declared.options.CodegenOptions.{CodegenOptions}
 use Rattle.isle_core.specs.declared.files.Files.{Files}
@@ -10,8 +10,8 @@ use Rattle.isle_ast.specs.Tree.{Def}
 use Rattle.isle_ast.specs.Positions.{place_of}
 use Rattle.isle_checks.specs.CheckList.{IsClean}
 use Rattle.isle_codegen.specs.Source.{IsCompilable}
+use Rattle.isle_items.specs.TypeItems.{type_items_of}
 use Rattle.isle_simulation.specs.TraitFns.{trait_fns_of}
-use Rattle.isle_tree.specs.declared.tree.TypeItem.{TypeItem}
 use Rattle.isle_tree.specs.Program.{Program}
 
 -- an environment that definitions give, whose names may be emitted, and with whose rules nothing is wrong
@@ -27,10 +27,6 @@ ArePlaced files env = AllByRecursion (λ (t : Term). LiesIn files t.decl_pos) en
 -- the definitions stand in the files
 abbrev pub DefsArePlaced : Files → List Def → Type 0
 DefsArePlaced files defs = AllByRecursion (λ (d : Def). LiesIn files (place_of d)) defs
-
--- the declared types: none is built
-abbrev pub type_items_of : Environment → List TypeItem
-type_items_of env = []
 
 -- what stands round the functions of a program
 pub record IsFrame (options : CodegenOptions) (env : Environment) (p : Program) : Type 0 where

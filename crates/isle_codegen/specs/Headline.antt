@@ -1,6 +1,7 @@
 -- What an emitted text is to the definitions that it was made from.
-use Rattle.std.specs.Prelude.{◌≡◌, ℕ, List, [], map, filter, Some, Contains, slice_get, IsSomeAnd}
+use Rattle.std.specs.Prelude.{◌≡◌, ℕ, List, [], map, filter, Some, Contains, option_map, slice_get, IsSomeAnd}
 use Rattle.isle_base.specs.declared.ids.TermId.{TermId}
+use Rattle.isle_base.specs.declared.ids.TypeId.{TypeId}
 use Rattle.isle_core.specs.declared.types.ReturnKind.{ReturnKind}
 use Rattle.isle_core.specs.declared.types.Term.{Term}
 use Rattle.isle_core.specs.declared.options.CodegenOptions.{CodegenOptions}
@@ -9,6 +10,7 @@ use Rattle.isle_core.specs.Value.{Value, Made, Ran}
 use Rattle.isle_core.specs.Meaning.{Meaning}
 use Rattle.isle_core.specs.HasType.{HaveTypes}
 use Rattle.isle_core.specs.Lawful.{IsLawful}
+use Rattle.isle_core.specs.Nameless.{nameless_made, nameless_end}
 use Rattle.isle_core.specs.Outcome.{Prescription, Prescribed, kind_of}
 use Rattle.isle_core.specs.Rule.{Environment, rules_of}
 use Rattle.isle_core.specs.Terms.{with_rules, term_name, is_impure}
@@ -22,16 +24,17 @@ use Rattle.isle_codegen.specs.Emission.{IsFrame}
 use Rattle.isle_simulation.specs.Ends.{end_of}
 use Rattle.isle_simulation.specs.OfTerm.{AreDeclared}
 use Rattle.isle_codegen.specs.FromBlock.{AreFromBlocks}
-use Rattle.isle_codegen.specs.Meant.{IsMeant}
+use Rattle.isle_codegen.specs.Inhabited.{IsInhabited}
+use Rattle.isle_codegen.specs.Meant.{HasValue, IsMeant}
 
 -- the calls of impure terms
 abbrev pub impure_calls : Environment → List Made → List Made
 impure_calls env calls = filter (λ (c : Made). is_impure env c.callee) calls
 
--- a run gives what is prescribed: its end, and the calls of impure terms in order
+-- a run gives what is prescribed, but for the type names of opaque numbers: its end, and the calls of impure terms in order
 pub record GivesAs (env : Environment) (kind : ReturnKind) (o : Prescription) (r : Ran) : Type 0 where
-  pub end : end_of kind o.result ≡ Some r.end
-  pub calls : impure_calls env r.calls ≡ o.calls
+  pub end : option_map nameless_end (end_of kind o.result) ≡ Some (nameless_end r.end)
+  pub calls : map nameless_made (impure_calls env r.calls) ≡ map nameless_made o.calls
 
 -- the run of the term's function gives the one outcome that its rules prescribe
 pub record GivesOutcome (env : Environment) (p : Program) (id : TermId) (t : Term) (args : List Value) (m : Meaning) : Type 0 where
@@ -46,13 +49,15 @@ MeansRules env p id = IsSomeAnd (slice_get env.terms id.0) (λ (t : Term).
     (args : List Value) (m : Meaning) → HaveTypes env args t.arg_tys → IsLawful env id m → GivesOutcome env p id t args m)
 
 -- the functions of the program are the terms with rules, in order of ids, each as its term is declared, made from a block
--- of its rules, and with their meaning, which says something: there are arguments and lawful meanings
+-- of its rules, and with their meaning, which says something: there are arguments and lawful meanings where types have values,
+-- as inhabited ones do
 pub record FunctionsMean (files : Files) (env : Environment) (p : Program) : Type 0 where
   pub names : map (λ (f : Function). f.term) p.fns ≡ map (term_name env) (with_rules env)
   pub declared : AreDeclared files env (with_rules env) p.fns
   pub blocks : AreFromBlocks files env (with_rules env) p.fns
   pub mean : (id : TermId) → Contains (with_rules env) id → MeansRules env p id
   pub meant : (id : TermId) → Contains (with_rules env) id → IsMeant env id
+  pub values : (ty : TypeId) → IsInhabited env ty → HasValue env ty
 
 -- the text spells exactly one program, whose frame and functions are those of the environment
 pub record IsText (options : CodegenOptions) (files : Files) (env : Environment) (text : List ℕ) : Type 0 where

@@ -4,6 +4,7 @@ pub mod Source
 pub mod Emission
 pub mod Checked
 pub mod Meant
+pub mod Inhabited
 pub mod CalledBy
 pub mod FromBlock
 pub mod Headline

@@ -1,5 +1,5 @@
 -- Which names may stand in an emitted text.
-use Rattle.std.specs.Prelude.{ℕ, List, Bool, ◌==◌, ◌&&◌, not, nat_le}
+use Rattle.std.specs.Prelude.{ℕ, List, [], ◌∷◌, Bool, true, false, ◌==◌, ◌&&◌, not, nat_le}
 use Rattle.std.specs.List.{list_all}
 use Rattle.isle_printer.specs.Token.{is_word_byte}
 use Rattle.isle_core.specs.declared.TermId.{TermId}
@@ -29,3 +29,8 @@ are_root_names env rules = list_all (λ (r : Rule). is_term_name (term_name env 
 -- the names of the terms with rules may be emitted
 abbrev pub are_term_names : Environment → Bool
 are_term_names env = list_all (λ (id : TermId). is_term_name (term_name env id)) (with_rules env)
+
+-- whether there is a rule
+abbrev pub has_a_rule : List Rule → Bool
+has_a_rule [] = false
+has_a_rule (r ∷ rules) = true

@@ -1,5 +1,5 @@
 -- The definitions that texts spell together.
-use Rattle.std.specs.Prelude.{◌≡◌, ℕ, ◌+◌, List, [], ◌∷◌, ◌++◌, true, Option, None}
+use Rattle.std.specs.Prelude.{◌≡◌, ℕ, ◌+◌, List, [], ◌∷◌, ◌++◌, true, None}
 use Rattle.isle_core.specs.Rule.{Environment}
 use Rattle.isle_ast.specs.Tree.{Def}
 use Rattle.isle_core.specs.declared.position.Pos.{Pos}
@@ -7,7 +7,8 @@ use Rattle.isle_grammar.specs.Spelling.{Spells, IsTextFault}
 use Rattle.isle_types.specs.Fault.{type_fault}
 use Rattle.isle_sema.specs.Typing.{Typed}
 use Rattle.isle_checks.specs.CheckList.{IsClean}
-use Rattle.isle_codegen.specs.Names.{are_term_names}
+use Rattle.isle_codegen.specs.Names.{are_term_names, has_a_rule}
+use Rattle.isle_items.specs.LawfulNames.{AreLawful}
 use Rattle.isle_simulation.specs.TraitFns.{HasFnNames}
 
 -- the texts, read as the files from that number on, spell the definitions one after the other
@@ -24,11 +25,12 @@ pub data GoesWrong : ℕ → List (List ℕ) → Pos → Type 0 where
   here : (file at : ℕ) (text : List ℕ) (texts : List (List ℕ)) → IsTextFault file text at → GoesWrong file (text ∷ texts) (record { file = file; offset = at })
   later : (file : ℕ) (text : List ℕ) (texts : List (List ℕ)) (defs : List Def) (pos : Pos) → Spells file text defs → GoesWrong (file + 1) texts pos → GoesWrong file (text ∷ texts) pos
 
--- the definitions are built and have no fault, and the names of their terms and external functions may be emitted
+-- the definitions are built and have no fault, and the names of their terms, external functions, types and constants may be emitted
 pub record IsCompilable (defs : List Def) (env : Environment) : Type 0 where
   pub typed : Typed defs env
   pub names : are_term_names env ≡ true
   pub fns : HasFnNames env
+  pub lawful : AreLawful (has_a_rule env.rules) env.types
 
 -- some environment makes them so
 abbrev pub SomeCompilable : List Def → Type 0

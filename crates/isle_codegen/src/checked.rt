@@ -13,12 +13,13 @@ ghost use Rattle.isle_codegen.specs.Causes.{IsRefusal, IsUncompiled};
 
 use crate::compile_error::CompileError;
 use crate::file_error::{FileError, of_texts};
-use crate::names::{are_file_names, are_fn_names, are_term_names};
+use crate::names::{are_file_names, are_fn_names, are_term_names, has_a_rule};
 use crate::source::parse_files;
 use isle_ast::Def;
 use isle_checks::{CheckError, overlap};
 use isle_core::{Error, Errors, Files, List, RuleSet, TermEnv, TermId, TypeEnv};
 use isle_emission::trait_fns;
+use isle_items::are_lawful;
 use isle_sema::{EnvError, env_from_ast};
 use isle_tree::TraitFn;
 use std::alloc::Global;
@@ -122,8 +123,7 @@ fn untyped(alloc: Global, files: &Files, fail: EnvError) -> CompileError
 }
 
 // The environment of the definitions, with the functions of the trait. `Typing` tells a fault of types or constants; `NotYet`
-// comes exactly where there is none, and they are not of the language that is built, or the name of a term or of an external
-// function may not be emitted.
+// comes exactly where there is none, and they are not of the language that is built, or a name of theirs may not be emitted.
 fn emittable(alloc: Global, defs: &[Def]) -> Result<(TypeEnv, TermEnv, Vec<TraitFn>), EnvError>
     ensures typed { IfOk result (λ e. TypedOnly (seen defs.now) (environment e.0 e.1)) }
     ensures compilable { IfOk result (λ e. IsCompilable (seen defs.now) (environment e.0 e.1)) }
@@ -136,6 +136,11 @@ fn emittable(alloc: Global, defs: &[Def]) -> Result<(TypeEnv, TermEnv, Vec<Trait
     };
     let fns = trait_fns(alloc, &typeenv, &termenv)?;
     match are_fn_names(alloc, fns.as_slice()) {
+        Ok(true) => {}
+        Ok(false) => return Err(EnvError::NotYet),
+        Err(_) => return Err(EnvError::Memory),
+    }
+    match are_lawful(alloc, &typeenv, has_a_rule(&termenv)) {
         Ok(true) => {}
         Ok(false) => return Err(EnvError::NotYet),
         Err(_) => return Err(EnvError::Memory),

@@ -7,7 +7,7 @@ ghost use Rattle.isle_printer.specs.Token.{is_word_byte};
 ghost use Rattle.isle_core.specs.Rule.{Rule as TheRule};
 ghost use Rattle.isle_core.specs.RuleViews.{rule as seen, environment};
 ghost use Rattle.isle_core.specs.Terms.{term_name};
-ghost use Rattle.isle_codegen.specs.Names.{is_name_byte, is_file_name, are_file_names, is_term_name, are_root_names, are_term_names};
+ghost use Rattle.isle_codegen.specs.Names.{is_name_byte, is_file_name, are_file_names, is_term_name, are_root_names, are_term_names, has_a_rule};
 
 use isle_core::{OutOfMemory, TermEnv, TermId, Text, TypeEnv};
 use isle_spelling::is_identifier;
@@ -93,6 +93,16 @@ pub fn are_term_names(typeenv: &TypeEnv, termenv: &TermEnv) -> bool
     ensures { result ≡ are_term_names (environment typeenv.now termenv.now) }
 {
     are_root_names(typeenv, termenv)
+}
+
+/// Tells whether there is a rule.
+pub fn has_a_rule(termenv: &TermEnv) -> bool
+    ensures { result ≡ has_a_rule (map seen termenv.now.rules) }
+{
+    match termenv.rules.as_slice() {
+        [] => false,
+        [_, ..] => true,
+    }
 }
 
 /// Tells whether functions of the trait may be called by their names: each is a name of Rust, and no two are equal. The

@@ -15,21 +15,25 @@ use isle_blocks::serialize;
 use isle_core::{
     CodegenOptions, Files, LineStarts, List, OutOfMemory, RuleSet, TermEnv, TermId, TypeEnv,
 };
-use isle_emission::{Context, term_function, trait_fns};
+use isle_emission::{ConstTypes, Context, term_function, trait_fns};
+use isle_items::type_items;
 use isle_tree::{Function, Program, TraitFn};
 use std::alloc::Global;
 
-// The function of the term of this number, from the block of its rule set. The table is that of the files.
+// The function of the term of this number, from the block of its rule set. The table is that of the files, and the constants
+// are those of the environment.
 fn emit_one(
     alloc: Global,
     files: &Files,
     starts: &LineStarts,
+    consts: &ConstTypes<'_>,
     typeenv: &TypeEnv,
     termenv: &TermEnv,
     term: TermId,
     rules: &RuleSet,
 ) -> Result<Function, OutOfMemory>
     requires starts { starts.now ≡ map starts_of files.now.file_texts }
+    requires consts { consts.now ≡ typeenv.now.consts }
     requires can { CanEmit files.now (environment typeenv.now termenv.now) (term, rules.now) }
     ensures { IfOk result (λ f. IsEmitted files.now (environment typeenv.now termenv.now) term rules.now (function f)) }
 {
@@ -40,7 +44,7 @@ fn emit_one(
         term: &termenv.terms.as_slice()[term.index()],
         bindings: rules.bindings.as_slice(),
     };
-    match term_function(alloc, files, starts, &context, &block)? {
+    match term_function(alloc, files, starts, consts, &context, &block)? {
         Some(function) => Ok(function),
         None => unreachable!(),
     }
@@ -58,9 +62,12 @@ fn emit_all(
     ensures { IfOk result (λ fns. AreEmitted files.now (environment typeenv.now termenv.now) terms.now (map function fns.items)) }
 {
     let starts = LineStarts::new(alloc, files)?;
+    let consts = ConstTypes::new(alloc, typeenv.consts.as_slice())?;
     let mut fns = Vec::new(alloc);
     for (term, rules) in terms {
-        fns.push(emit_one(alloc, files, &starts, typeenv, termenv, *term, rules)?)?;
+        fns.push(emit_one(
+            alloc, files, &starts, &consts, typeenv, termenv, *term, rules,
+        )?)?;
     }
     Ok(fns)
 }
@@ -107,11 +114,12 @@ pub fn tree_of(
     ensures frame { IfOk result (λ p. IsFrame options.now (environment typeenv.now termenv.now) (program p)) }
     ensures functions { IfOk result (λ p. FunctionsMean files.now (environment typeenv.now termenv.now) (program p)) }
 {
+    let types = type_items(alloc, typeenv)?;
     let fns = emit_all(alloc, files, typeenv, termenv, terms)?;
     Ok(Program {
         allow: !options.exclude_global_allow_pragmas,
         trait_fns: List::new(trait_fns),
-        types: List::new(Vec::new(alloc)),
+        types: List::new(types),
         fns: List::new(fns),
     })
 }

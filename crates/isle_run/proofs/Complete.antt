@@ -7,7 +7,7 @@ use Rattle.isle_core.specs.declared.options.CodegenOptions.{CodegenOptions}
 use Rattle.isle_core.specs.declared.types.Term.{Term}
 use Rattle.isle_core.specs.Meaning.{Meaning}
 use Rattle.isle_core.specs.Rule.{Environment}
-use Rattle.isle_core.specs.Terms.{with_rules}
+use Rattle.isle_core.specs.Terms.{with_rules, goes_to}
 use Rattle.isle_core.specs.Value.{Value}
 use Rattle.isle_answers.specs.Form.{Form}
 use Rattle.isle_answers.specs.Spelling.{SpellsForms}
@@ -15,18 +15,19 @@ use Rattle.isle_answers.proofs.FaultOnce.{fault_unspelt}
 use Rattle.isle_answers.proofs.Files.{forms_once}
 use Rattle.isle_ast.specs.Tree.{Def}
 use Rattle.isle_sema.specs.Typing.{Typed}
-use Rattle.isle_sema.proofs.TypedTerms.{typed_types}
 use Rattle.isle_values.specs.Written.{Writtens}
 use Rattle.isle_tree.specs.declared.tree.Ty.{Ty}
+use Rattle.isle_tree.specs.declared.tree.TypeItem.{TypeItem}
 use Rattle.isle_tree.specs.Program.{Program}
+use Rattle.isle_interpreter.specs.Entries.{Turns, answers_for, gives}
 use Rattle.isle_interpreter.specs.Refusals as refusal
 use Rattle.isle_interpreter.specs.Refusals.{MayRun, IsRefused}
 use Rattle.isle_interpreter.specs.Signatures.{type_names, AreNamed}
 use Rattle.isle_interpreter.specs.declared.run_error.RunError.TheVariants as error
 use Rattle.isle_interpreter.proofs.OneRefusal.{not_refused}
-use Rattle.isle_simulation.specs.TermFunction.{parameter, type_text}
+use Rattle.isle_simulation.specs.TypeTexts.{parameter, type_text}
 use Rattle.isle_run_inputs.specs.Built.{are_built}
-use Rattle.isle_run_inputs.specs.AnswersAt.{answers_at, turns_at}
+use Rattle.isle_run_inputs.specs.AnswersAt.{answers_at, constants_at, turns_at}
 use Rattle.isle_codegen.specs.Causes.{IsNotOfIt}
 use Rattle.isle_codegen.specs.Checked.{IsChecked}
 use Rattle.isle_codegen.proofs.Accepted.{accepted_none, checked_accepted}
@@ -37,15 +38,17 @@ use Rattle.isle_run.specs.Conforming.{Conforms}
 use Rattle.isle_run.specs.NoLines as no_lines
 use Rattle.isle_run.specs.NoLines.{IsRunRefused, IsSourceRefused, HasNoLines}
 use Rattle.isle_run.specs.Trial.{args_given}
-use Rattle.isle_run.specs.Valid.{CanRun}
+use Rattle.isle_run.specs.Valid.{AreWanted, CanRun}
+use Rattle.isle_run.proofs.LawfulNames.{HasLawfulNames}
+use Rattle.isle_run.proofs.SourceNames.{lawful_names}
 use Rattle.isle_run.proofs.RequestedTerms.{HasFunction, requested_function}
 use Rattle.isle_run.proofs.NamedTypes.{are_named}
-use Rattle.isle_run.proofs.RightEntries.{all_right, answered_back}
+use Rattle.isle_run.proofs.RightEntries.{as_entries, all_front, all_back, all_right, answered_back, given_back}
 
 -- ---- the source
 
 in_language : (files : Files) (env : Environment) → IsChecked files env → InLanguage files.file_texts
-in_language files env c = (c.defs, env, c.source, record { typed = c.typed.typed; names = c.given.compilable.names; fns = c.given.compilable.fns })
+in_language files env c = (c.defs, env, c.source, record { typed = c.typed.typed; names = c.given.compilable.names; fns = c.given.compilable.fns; lawful = c.given.compilable.lawful })
 
 not_of_it : (files : Files) (env : Environment) → IsChecked files env → IsNotOfIt files.file_names files.file_texts → ⊥
 not_of_it files env c h = ⊎_elim (λ never. never (in_language files env c)) (λ bad. let same : true ≡ false = sym c.names ∙ bad in cc) h.1
@@ -76,8 +79,11 @@ type_of : (p : Program) (term : List ℕ) (args : List Value) (m n : Meaning) (i
 type_of p term args m n _ (refusal.arg_type f i e k w) = refusal.arg_type f i e k w
 
 module _ (options : CodegenOptions) (files : Files) (term : List ℕ) (ws : Writtens) (text : List ℕ) (c : CanRun files term ws text) (p : Program) (conforms : Conforms options files c.env p) where
-  abbrev typed : Typed c.checked.defs c.env
-  typed = c.checked.typed.typed
+  abbrev names : HasLawfulNames c.env
+  names = lawful_names files c.env c.checked
+
+  abbrev wanted : AreWanted p term (constants_at c.env c.forms)
+  wanted = c.wanted options p conforms
 
   abbrev answers : Meaning
   answers = answers_at c.env c.forms
@@ -91,20 +97,25 @@ module _ (options : CodegenOptions) (files : Files) (term : List ℕ) (ws : Writ
   some_same : (a b : Term) → Some a ≡ Some b → a ≡ b
   some_same a b e = cc
 
-  named : AreNamed (type_names the_function.function.params) args
+  named : AreNamed p.types (type_names the_function.function.params) args
   named =
       let tys = c.declared.arg_tys in
       let is : the_function.declared.term ≡ c.declared = some_same the_function.declared.term c.declared (sym the_function.declared.found ∙ c.found) in
       let params : the_function.function.params ≡ map (parameter c.env) tys = the_function.declared.of_term.params ∙ ap (λ (t : Term). map (parameter c.env) t.arg_tys) is in
-      subst (λ (ps : List Ty). AreNamed (type_names ps) args) (sym params)
-      (subst (λ ns. AreNamed ns args) (names_of c.env tys) (are_named c.env tys args (typed_types c.checked.defs c.env c.id.0 c.declared typed c.found).1 c.typed))
+      subst (λ (ps : List Ty). AreNamed p.types (type_names ps) args) (sym params)
+      (subst (λ ns. AreNamed p.types ns args) (names_of c.env tys) (subst (λ (types : List TypeItem). AreNamed types (map (type_text c.env) tys) args) (sym conforms.frame.types) (are_named c.env names.has_rules names.lawful names.builtins tys args c.typed)))
 
   may : MayRun p term args answers the_function.function
   may = record {
     found = the_function.found;
     typed = named;
-    right = all_right options files c.checked.defs c.env typed p conforms [] (turns_at c.env c.forms) c.right;
-    answered = λ callee k none. c.answered callee (the_function.block.calls callee k) (answered_back callee (turns_at c.env c.forms) none);
+    right = all_right options files c.env names p conforms (constants_at c.env c.forms) (turns_at c.env c.forms) c.constants wanted.stand c.right;
+    answered = λ callee k none.
+        c.answered callee (the_function.block.calls callee k)
+        (answered_back callee (turns_at c.env c.forms) (all_back (λ f. goes_to callee (answers_for f) ≡ false) (as_entries (constants_at c.env c.forms)) (map Turns (turns_at c.env c.forms)) none));
+    given = λ name k free none.
+        wanted.given the_function.function the_function.found name k free
+        (given_back name (constants_at c.env c.forms) (all_front (λ f. gives name f ≡ false) (as_entries (constants_at c.env c.forms)) (map Turns (turns_at c.env c.forms)) none));
   }
 
   -- such a run isn't refused

@@ -1,5 +1,5 @@
 -- What a run gives are the lines of a trial.
-use Rattle.std.proofs.Common.{◌≡◌, ℕ, List, [], ◌∷◌, map, length, Option, Some, refl, sym, ap, subst, ◌∙◌}
+use Rattle.std.proofs.Common.{◌≡◌, ℕ, List, [], ◌∷◌, map, length, true, false, Option, Some, refl, sym, ap, subst, ◌∙◌}
 use Rattle.std.specs.Prelude.{slice_get}
 use Rattle.std.specs.Option.{option_map_or}
 use Rattle.std.proofs.lemmas.List.{length-map}
@@ -15,12 +15,13 @@ use Rattle.isle_core.specs.Meaning.{Meaning}
 use Rattle.isle_core.specs.Value.{Value, Ran}
 use Rattle.isle_values.specs.Written.{Writtens}
 use Rattle.isle_tree.specs.declared.tree.Ty.{Ty}
+use Rattle.isle_tree.specs.declared.tree.TypeItem.{TypeItem}
 use Rattle.isle_tree.specs.Program.{Program, Function}
 use Rattle.isle_tree.specs.Run.{run}
-use Rattle.isle_simulation.specs.TermFunction.{parameter}
+use Rattle.isle_simulation.specs.TypeTexts.{parameter}
 use Rattle.isle_run_inputs.specs.Requested.{requested_term, requested_types, arg_types}
 use Rattle.isle_run_inputs.specs.AnswersAt.{answers_at}
-use Rattle.isle_run_inputs.specs.ValuesAt.{values_at}
+use Rattle.isle_run_inputs.specs.ValuesAt.{misfit, values_at}
 use Rattle.isle_run_inputs.proofs.HaveTypes.{Matched, have_types}
 use Rattle.isle_outcomes.specs.Lines.{run_lines}
 use Rattle.isle_interpreter.specs.Refusals.{MayRun}
@@ -30,14 +31,21 @@ use Rattle.isle_run.specs.Conforming.{Conforms}
 use Rattle.isle_run.specs.Ran.{IsUnder, IsOutcome}
 use Rattle.isle_run.specs.Trial.{args_given, shown_run, AreLines, IsTrial}
 use Rattle.isle_run.proofs.FoundTerms.{Found, both_found, declared_name}
+use Rattle.isle_run.proofs.LawfulNames.{HasLawfulNames}
 use Rattle.isle_run.proofs.Means.{means}
+use Rattle.isle_run.proofs.SourceNames.{lawful_names}
+
+-- a misfit is of no type
+misfit_unnamed : (types : List TypeItem) (name : List ℕ) → IsNamed types name misfit → ⊥
+misfit_unnamed types [] h = let never : false ≡ true = h.0 in cc
+misfit_unnamed types (b ∷ bs) h = let never : false ≡ true = h.0 in cc
 
 -- each value is of the type of its name
-matched : (names : List (List ℕ)) (vs : List Value) → AreNamed names vs → Matched IsNamed names vs
-matched [] [] h = h
-matched [] (v ∷ vs) h = absurd h
-matched (name ∷ names) [] h = absurd h
-matched (name ∷ names) (v ∷ vs) h = (h.0, matched names vs h.1)
+matched : (types : List TypeItem) (names : List (List ℕ)) (vs : List Value) → AreNamed types names vs → Matched (IsNamed types) names vs
+matched types [] [] h = h
+matched types [] (v ∷ vs) h = absurd h
+matched types (name ∷ names) [] h = absurd h
+matched types (name ∷ names) (v ∷ vs) h = (h.0, matched types names vs h.1)
 
 -- as many names of types as types
 as_many : (env : Environment) (tys : List TypeId) → length (type_names (map (parameter env) tys)) ≡ length tys
@@ -49,29 +57,29 @@ types_found env term id t requested there =
     ap (λ (o : Option TermId). option_map_or (arg_types env) o []) requested ∙ ap (λ (o : Option Term). option_map_or (λ (t : Term). t.arg_tys) o []) there
 
 -- the arguments of a run have the types of the term
-types_fit : (files : Files) (env : Environment) (term : List ℕ) (ws : Writtens) (f : Function) (h : Found files env term (with_rules env) f) → AreNamed (type_names f.params) (args_given env term ws) → HaveTypes env (args_given env term ws) h.declared.term.arg_tys
-types_fit files env term ws f h named =
+types_fit : (files : Files) (env : Environment) (types : List TypeItem) (term : List ℕ) (ws : Writtens) (f : Function) (h : Found files env term (with_rules env) f) → AreNamed types (type_names f.params) (args_given env term ws) → HaveTypes env (args_given env term ws) h.declared.term.arg_tys
+types_fit files env types term ws f h named =
     let tys = types_found env term h.id h.declared.term h.requested h.declared.found in
-    let names = subst (λ ps. AreNamed (type_names ps) (args_given env term ws)) h.declared.of_term.params named in
-    let at_types = subst (λ (ts : List TypeId). AreNamed (type_names (map (parameter env) h.declared.term.arg_tys)) (values_at env ts ws)) tys names in
+    let names = subst (λ ps. AreNamed types (type_names ps) (args_given env term ws)) h.declared.of_term.params named in
+    let at_types = subst (λ (ts : List TypeId). AreNamed types (type_names (map (parameter env) h.declared.term.arg_tys)) (values_at env ts ws)) tys names in
     subst (λ (ts : List TypeId). HaveTypes env (values_at env ts ws) h.declared.term.arg_tys) (sym tys)
-    (have_types IsNamed (λ name k. k) env (type_names (map (parameter env) h.declared.term.arg_tys)) h.declared.term.arg_tys ws (as_many env h.declared.term.arg_tys)
-    (matched (type_names (map (parameter env) h.declared.term.arg_tys)) (values_at env h.declared.term.arg_tys ws) at_types))
+    (have_types (IsNamed types) (misfit_unnamed types) env (type_names (map (parameter env) h.declared.term.arg_tys)) h.declared.term.arg_tys ws (as_many env h.declared.term.arg_tys)
+    (matched types (type_names (map (parameter env) h.declared.term.arg_tys)) (values_at env h.declared.term.arg_tys ws) at_types))
 
 -- the lines of a run
 pub are_lines : (options : CodegenOptions) (files : Files) (env : Environment) (p : Program) (term : List ℕ) (ws : Writtens) (f : Function) (r : Ran) (answers : Meaning)
-    → Conforms options files env p → MayRun p term (args_given env term ws) answers f → run p term (args_given env term ws) answers ≡ Some r
+    → HasLawfulNames env → Conforms options files env p → MayRun p term (args_given env term ws) answers f → run p term (args_given env term ws) answers ≡ Some r
     → AreLines options files env term (args_given env term ws) answers (run_lines (shown_run env r))
-are_lines options files env p term ws f r answers conforms may runs =
+are_lines options files env p term ws f r answers names conforms may runs =
     let h = both_found files env term (with_rules env) p.fns f conforms.functions.declared may.found in
-    let types = types_fit files env term ws f h may.typed in
+    let types = types_fit files env p.types term ws f h may.typed in
     record {
       id = h.id;
       requested = h.requested;
       declared = h.declared.term;
       found = h.declared.found;
       typed = types;
-      means = means options files env p term (args_given env term ws) answers f r h.id h.declared.term conforms may runs h.among (declared_name files env h.id f h.declared ∙ sym h.named) h.declared.found types;
+      means = means options files env p term (args_given env term ws) answers f r h.id h.declared.term names conforms may runs h.among (declared_name files env h.id f h.declared ∙ sym h.named) h.declared.found types;
       program = p;
       conforms = conforms;
       fits = record { function = f; may = may };
@@ -92,5 +100,5 @@ is_trial options files env p term ws args text r lines checked conforms given h 
       spelt = h.spelt;
       once = h.once;
       built = under.built;
-      are_lines = subst (AreLines options files env term (args_given env term ws) (answers_at env h.forms)) (sym shown) (are_lines options files env p term ws under.fits.function r (answers_at env h.forms) conforms under.fits.may under.runs);
+      are_lines = subst (AreLines options files env term (args_given env term ws) (answers_at env h.forms)) (sym shown) (are_lines options files env p term ws under.fits.function r (answers_at env h.forms) (lawful_names files env checked) conforms under.fits.may under.runs);
     }

@@ -6,7 +6,11 @@ pub mod Refusing
 pub mod GivesLines
 pub mod ImpureSteps
 pub mod RequestedTerms
+pub mod DeclaredItems
 pub mod NamedTypes
+pub mod LawfulNames
+pub mod SourceNames
+pub mod NamelessLines
 pub mod ServedCallees
 pub mod RightEntries
 pub mod Complete

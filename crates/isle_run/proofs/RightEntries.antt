@@ -1,6 +1,6 @@
--- Turns that are right at the types of a source are right entries of a program that conforms to it.
-use Rattle.std.proofs.Common.{◌≡◌, List, [], ◌∷◌, ◌++◌, map, Option, Some, refl, sym, ap, ◌∙◌, subst}
-use Rattle.std.specs.Prelude.{IsSomeAnd, option_map}
+-- Constants and turns that are right at the types of a source are right entries of a program that conforms to it.
+use Rattle.std.proofs.Common.{◌≡◌, List, [], ◌∷◌, ◌++◌, map, true, Option, Some, refl, sym, ap, ◌∙◌, subst, append-nil, append_assoc}
+use Rattle.std.specs.Prelude.{ℕ, IsSomeAnd, option_map}
 use Rattle.std.specs.List.{AllByRecursion, IsDistinct}
 use Rattle.std.specs.Str.{bytes_eq}
 use Rattle.std.proofs.lemmas.List.{map-append}
@@ -8,27 +8,26 @@ use Rattle.isle_core.specs.declared.files.Files.{Files}
 use Rattle.isle_core.specs.declared.options.CodegenOptions.{CodegenOptions}
 use Rattle.isle_core.specs.declared.types.Term.{Term}
 use Rattle.isle_core.specs.declared.values.Callee.{Callee}
-use Rattle.isle_core.specs.BuiltinType.{IsBuiltinType}
 use Rattle.isle_core.specs.Calling.{kind_of}
 use Rattle.isle_core.specs.Lawful.{Fits}
 use Rattle.isle_core.specs.Meaning.{TurnAnswers}
 use Rattle.isle_core.specs.Rule.{Environment}
 use Rattle.isle_core.specs.Terms.{sym_text, with_rules}
-use Rattle.isle_core.specs.Value.{Answer}
-use Rattle.isle_ast.specs.Tree.{Def}
-use Rattle.isle_sema.specs.Typing.{Typed}
-use Rattle.isle_sema.proofs.TypedTerms.{typed_types}
+use Rattle.isle_core.specs.Value.{Value, Answer}
 use Rattle.isle_tree.specs.declared.tree.TraitFn.{TraitFn}
 use Rattle.isle_tree.specs.Program.{Program}
 use Rattle.isle_tree.specs.WellFormed.{trait_fn, fn_names}
-use Rattle.isle_interpreter.specs.Entries.{Turns, IsUnanswered, EntryFits, IsRight, AreRight}
+use Rattle.isle_interpreter.specs.Entries.{Entry, Constant, Turns, IsUnanswered, IsUngiven, EntryFits, has_constant, IsRight, AreRight}
 use Rattle.isle_interpreter.specs.Signatures.{Signature, trait_signature, term_signature, signature_of, AnswerFits}
-use Rattle.isle_simulation.specs.TermFunction.{type_text}
+use Rattle.isle_interpreter.proofs.AnswersHold.{no_constants, both_unanswered}
+use Rattle.isle_simulation.specs.TypeTexts.{type_text}
 use Rattle.isle_simulation.specs.TraitFns.{constructor_fn, trait_fns_of}
+use Rattle.isle_items.specs.TypeItems.{type_items_of}
 use Rattle.isle_run.specs.Conforming.{Conforms}
-use Rattle.isle_run.specs.Valid.{IsServed, external, internal, HasNoTurns, AreRightTurns, AllRight}
+use Rattle.isle_run.specs.Valid.{IsServed, external, internal, HasNoTurns, AreRightTurns, AllRight, HasNoValue, IsRightConstant, AreRightConstants}
+use Rattle.isle_run.proofs.LawfulNames.{HasLawfulNames}
 use Rattle.isle_run.proofs.RequestedTerms.{requested_function}
-use Rattle.isle_run.proofs.NamedTypes.{answer_named}
+use Rattle.isle_run.proofs.NamedTypes.{answer_named, value_typed}
 use Rattle.isle_run.proofs.ServedCallees.{served_fn}
 
 -- a signature with the result and the kind of a term
@@ -36,16 +35,18 @@ pub record IsSignatureOf (env : Environment) (t : Term) (s : Signature) : Type 0
   pub results : s.results ≡ map (type_text env) (t.ret_ty ∷ [])
   pub kind : s.kind ≡ kind_of t.kind
 
--- each answer fits such a signature
-fits_signature : (env : Environment) (t : Term) (s : Signature) (a : Answer) → IsSignatureOf env t s → AllByRecursion (IsBuiltinType env) (t.ret_ty ∷ []) → Fits env (kind_of t.kind) (t.ret_ty ∷ []) a → AnswerFits s a
-fits_signature env t s a is b h =
-    let by : AnswerFits (record { params = s.params; results = map (type_text env) (t.ret_ty ∷ []); kind = kind_of t.kind }) a = answer_named env (t.ret_ty ∷ []) (kind_of t.kind) s.params a b h in
-    let kinds = subst (λ k. AnswerFits (record { params = s.params; results = map (type_text env) (t.ret_ty ∷ []); kind = k }) a) (sym is.kind) by in
-    subst (λ rs. AnswerFits (record { params = s.params; results = rs; kind = s.kind }) a) (sym is.results) kinds
+-- the entries of constants
+abbrev pub as_entries : List (List ℕ × Value) → List Entry
+as_entries = map (λ c. Constant c.0 c.1)
 
-all_fit : (env : Environment) (t : Term) (s : Signature) (given : List Answer) → IsSignatureOf env t s → AllByRecursion (IsBuiltinType env) (t.ret_ty ∷ []) → AllByRecursion (Fits env (kind_of t.kind) (t.ret_ty ∷ [])) given → AllByRecursion (AnswerFits s) given
-all_fit env t s [] is b h = tt
-all_fit env t s (a ∷ given) is b h = (fits_signature env t s a is b h.0, all_fit env t s given is b h.1)
+-- what holds of all of two lists behind one another holds of the one and the other
+pub all_front : {X : Type 0} (P : X → Type 0) (xs ys : List X) → AllByRecursion P (xs ++ ys) → AllByRecursion P xs
+all_front P [] ys h = tt
+all_front P (x ∷ xs) ys h = (h.0, all_front P xs ys h.1)
+
+pub all_back : {X : Type 0} (P : X → Type 0) (xs ys : List X) → AllByRecursion P (xs ++ ys) → AllByRecursion P ys
+all_back P [] ys h = h
+all_back P (x ∷ xs) ys h = all_back P xs ys h.1
 
 -- no turns of a callee is no entry of it
 unanswered : (c : Callee) (given : List TurnAnswers) → HasNoTurns c given → IsUnanswered c (map Turns given)
@@ -56,10 +57,33 @@ pub answered_back : (c : Callee) (given : List TurnAnswers) → IsUnanswered c (
 answered_back c [] h = tt
 answered_back c (a ∷ given) h = (h.0, answered_back c given h.1)
 
+-- no value of a constant is no entry of it
+ungiven : (name : List ℕ) (consts : List (List ℕ × Value)) → HasNoValue name consts → IsUngiven name (as_entries consts)
+ungiven name [] h = tt
+ungiven name (c ∷ consts) h = (h.0, ungiven name consts h.1)
+
+pub given_back : (name : List ℕ) (consts : List (List ℕ × Value)) → IsUngiven name (as_entries consts) → HasNoValue name consts
+given_back name [] h = tt
+given_back name (c ∷ consts) h = (h.0, given_back name consts h.1)
+
 some_with : {A : Type 0} (P : A → Type 0) (o : Option A) (x : A) → o ≡ Some x → P x → IsSomeAnd o P
 some_with P o x e h = subst (λ z. IsSomeAnd z P) (sym e) h
 
-module _ (options : CodegenOptions) (files : Files) (defs : List Def) (env : Environment) (typed : Typed defs env) (p : Program) (conforms : Conforms options files env p) where
+module _ (options : CodegenOptions) (files : Files) (env : Environment) (names : HasLawfulNames env) (p : Program) (conforms : Conforms options files env p) where
+  -- ---- turns
+
+  -- each answer fits such a signature
+  fits_signature : (t : Term) (s : Signature) (a : Answer) → IsSignatureOf env t s → Fits env (kind_of t.kind) (t.ret_ty ∷ []) a → AnswerFits (type_items_of env) s a
+  fits_signature t s a is h =
+      let by : AnswerFits (type_items_of env) (record { params = s.params; results = map (type_text env) (t.ret_ty ∷ []); kind = kind_of t.kind }) a =
+      answer_named env names.has_rules names.lawful names.builtins (t.ret_ty ∷ []) (kind_of t.kind) s.params a h in
+      let kinds = subst (λ k. AnswerFits (type_items_of env) (record { params = s.params; results = map (type_text env) (t.ret_ty ∷ []); kind = k }) a) (sym is.kind) by in
+      subst (λ rs. AnswerFits (type_items_of env) (record { params = s.params; results = rs; kind = s.kind }) a) (sym is.results) kinds
+
+  all_fit : (t : Term) (s : Signature) (given : List Answer) → IsSignatureOf env t s → AllByRecursion (Fits env (kind_of t.kind) (t.ret_ty ∷ [])) given → AllByRecursion (AnswerFits (type_items_of env) s) given
+  all_fit t s [] is h = tt
+  all_fit t s (a ∷ given) is h = (fits_signature t s a is h.0, all_fit t s given is h.1)
+
   -- the program's functions of the trait are those of the environment
   distinct_names : IsDistinct bytes_eq (fn_names (trait_fns_of env))
   distinct_names = subst (λ (fs : List TraitFn). IsDistinct bytes_eq (fn_names fs)) conforms.frame.trait_fns conforms.well_formed.trait_names
@@ -85,19 +109,39 @@ module _ (options : CodegenOptions) (files : Files) (defs : List Def) (env : Env
       some_same : (a b : Term) → Some a ≡ Some b → a ≡ b
       some_same a b e = cc
 
-  builtin_result : (c : Callee) (t : Term) → IsServed env c t → AllByRecursion (IsBuiltinType env) (t.ret_ty ∷ [])
-  builtin_result _ _ (external i t func at e) = ((typed_types defs env i t typed at).0, tt)
-  builtin_result _ _ (internal name id t requested at) = ((typed_types defs env id.0 t typed at).0, tt)
-
-  turns_right : (earlier : List TurnAnswers) (a : TurnAnswers) → AreRightTurns env earlier a → IsRight p (map Turns earlier) (Turns a)
-  turns_right earlier a h =
-      let s = served_signature a.callee h.term h.served in
-      let b = builtin_result a.callee h.term h.served in (
-        unanswered a.callee earlier h.first,
-        some_with (EntryFits (Turns a)) (signature_of p a.callee) s.0 s.1 (all_fit env h.term s.0 a.turns s.2 b h.turns, fits_signature env h.term s.0 a.rest s.2 b h.rest),
+  turns_right : (consts : List (List ℕ × Value)) (earlier : List TurnAnswers) (a : TurnAnswers) → AreRightTurns env earlier a → IsRight p (as_entries consts ++ map Turns earlier) (Turns a)
+  turns_right consts earlier a h =
+      let s = served_signature a.callee h.term h.served in (
+        both_unanswered a.callee (as_entries consts) (map Turns earlier) (no_constants a.callee consts) (unanswered a.callee earlier h.first),
+        some_with (EntryFits p.types (Turns a)) (signature_of p a.callee) s.0 s.1
+            (subst (λ types. AllByRecursion (AnswerFits types s.0) a.turns × AnswerFits types s.0 a.rest) (sym conforms.frame.types) (all_fit h.term s.0 a.turns s.2 h.turns, fits_signature h.term s.0 a.rest s.2 h.rest)),
       )
 
-  pub all_right : (earlier later : List TurnAnswers) → AllRight env earlier later → AreRight p (map Turns earlier) (map Turns later)
-  all_right earlier [] h = tt
-  all_right earlier (a ∷ later) h =
-      (turns_right earlier a h.0, subst (λ fs. AreRight p fs (map Turns later)) (map-append Turns earlier (a ∷ [])) (all_right (earlier ++ a ∷ []) later h.1))
+  all_turns : (consts : List (List ℕ × Value)) (earlier later : List TurnAnswers) → AllRight env earlier later → AreRight p (as_entries consts ++ map Turns earlier) (map Turns later)
+  all_turns consts earlier [] h = tt
+  all_turns consts earlier (a ∷ later) h = (
+    turns_right consts earlier a h.0,
+    subst (λ fs. AreRight p fs (map Turns later)) (ap (λ fs. as_entries consts ++ fs) (map-append Turns earlier (a ∷ [])) ∙ sym (append_assoc (as_entries consts) (map Turns earlier) (Turns a ∷ [])))
+        (all_turns consts (earlier ++ a ∷ []) later h.1),
+  )
+
+  -- ---- constants
+
+  constant_right : (earlier : List (List ℕ × Value)) (c : List ℕ × Value) → IsRightConstant env earlier c → has_constant p c.0 ≡ true → IsRight p (as_entries earlier) (Constant c.0 c.1)
+  constant_right earlier c h stands = (ungiven c.0 earlier h.first, stands, value_typed env names.has_rules names.lawful names.builtins c.1 h.ty h.typed)
+
+  -- constants in front of what is right behind them all
+  constants_right : (earlier later : List (List ℕ × Value)) (rest : List Entry) → AreRightConstants env earlier later → AllByRecursion (λ (c : List ℕ × Value). has_constant p c.0 ≡ true) later → AreRight p (as_entries (earlier ++ later)) rest
+      → AreRight p (as_entries earlier) (as_entries later ++ rest)
+  constants_right earlier [] rest h stand right = subst (λ cs. AreRight p (as_entries cs) rest) (append-nil earlier) right
+  constants_right earlier (c ∷ later) rest h stand right = (
+    constant_right earlier c h.0 stand.0,
+    subst (λ fs. AreRight p fs (as_entries later ++ rest)) (map-append (λ (x : List ℕ × Value). Constant x.0 x.1) earlier (c ∷ []))
+        (constants_right (earlier ++ c ∷ []) later rest h.1 stand.1 (subst (λ cs. AreRight p (as_entries cs) rest) (sym (append_assoc earlier (c ∷ []) later)) right)),
+  )
+
+  -- all entries
+  pub all_right : (consts : List (List ℕ × Value)) (turns : List TurnAnswers) → AreRightConstants env [] consts → AllByRecursion (λ (c : List ℕ × Value). has_constant p c.0 ≡ true) consts → AllRight env [] turns
+      → AreRight p [] (as_entries consts ++ map Turns turns)
+  all_right consts turns constants stand right =
+      constants_right [] consts (map Turns turns) constants stand (subst (λ fs. AreRight p fs (map Turns turns)) (append-nil (as_entries consts)) (all_turns consts [] turns right))

@@ -15,13 +15,18 @@ use Rattle.isle_run.specs.Attempt.{Attempt}
 use Rattle.isle_run.specs.NoLines.{IsRunRefused, no_term, arg_count, arg_type, wrong}
 use Rattle.isle_run.specs.Placed.{placed}
 
+early : (a : Attempt) (text : List ℕ) (m : Meaning) (e : RunError) → IsEarly e → IsRefused a.program a.term a.args m e → IsRunRefused a text (placed e 0 [])
+early a text m error.NoTerm is h = no_term m h
+early a text m error.ArgCount is h = arg_count m h
+early a text m (error.ArgType i) is h = arg_type m i h
+early a text m (error.BadAnswers i) is h = absurd is
+early a text m error.Memory is h = absurd is
+
 -- before any entry is looked at
-pub refuses_early : (a : Attempt) (text : List ℕ) (m : Meaning) (e : RunError) → IsEarly e → IsRefused a.program a.term a.args m e → IsRunRefused a text (placed e 0 [])
-refuses_early a text m error.NoTerm early h = no_term m h
-refuses_early a text m error.ArgCount early h = arg_count m h
-refuses_early a text m (error.ArgType i) early h = arg_type m i h
-refuses_early a text m (error.BadAnswers i) early h = absurd early
-refuses_early a text m error.Memory early h = absurd early
+pub refuses_early : (a : Attempt) (text : List ℕ) (m : Meaning) (e : RunError) → (e ≡ error.Memory) ⊎ (IsEarly e × ((n : Meaning) → IsRefused a.program a.term a.args n e))
+    → (placed e 0 [] ≡ refusal.Memory) ⊎ IsRunRefused a text (placed e 0 [])
+refuses_early a text m e (inl memory) = inl (ap (λ r. placed r 0 []) memory)
+refuses_early a text m e (inr h) = inr (early a text m e h.0 (h.1 m))
 
 -- under the answers of forms
 pub refuses : (a : Attempt) (text : List ℕ) (forms : List Form) (end : ℕ) (e : RunError) → SpellsForms text forms → are_built forms ≡ true → end ≡ length text

@@ -1,5 +1,5 @@
 -- A callee that is served has its signature in a program that conforms.
-use Rattle.std.proofs.Common.{◌≡◌, ℕ, zero, suc, List, [], ◌∷◌, Bool, true, false, Option, Some, None, ⊎_elim, refl, sym, ap, ◌∙◌, subst}
+use Rattle.std.proofs.Common.{◌≡◌, ℕ, zero, suc, List, [], ◌∷◌, false, Option, Some, None, ⊎_elim, refl, ap, ◌∙◌, subst}
 use Rattle.std.specs.Prelude.{Contains, slice_get, option_map}
 use Rattle.std.specs.List.{AllByRecursion, IsDistinct, cons_option}
 use Rattle.std.specs.Str.{bytes_eq}
@@ -11,6 +11,7 @@ use Rattle.isle_core.specs.Terms.{sym_text}
 use Rattle.isle_core.proofs.Contained.{head_contained, tail_contained, contained_cases, none_contained}
 use Rattle.isle_tree.specs.declared.tree.TraitFn.{TraitFn}
 use Rattle.isle_tree.specs.WellFormed.{trait_fn, fn_names}
+use Rattle.isle_run.proofs.DeclaredItems.{apart}
 use Rattle.isle_simulation.specs.TraitFns.{constructor_fn, constructor_fn_of, extractor_fn_of, func_of, trait_fns_in}
 
 -- the names of those of terms
@@ -38,16 +39,6 @@ among env (u ∷ ts) (suc i) t func at e =
 of_each : (P : List ℕ → Type 0) (xs : List (List ℕ)) (y : List ℕ) → AllByRecursion P xs → Contains xs y → P y
 of_each P [] y h c = absurd (none_contained y c)
 of_each P (x ∷ xs) y h c = ⊎_elim (λ e. subst P e h.0) (λ k. of_each P xs y h.1 k) (contained_cases x xs y c)
-
-apart : (a b : List ℕ) → bytes_eq a b ≡ false → bytes_eq b a ≡ false
-apart a b e = by (bytes_eq b a) refl
-  where
-    by : (x : Bool) → bytes_eq b a ≡ x → bytes_eq b a ≡ false
-    by false is = is
-    by true is =
-        let same : a ≡ b = sym ((bytes_eq-Decides b a).0 is) in
-        let t : bytes_eq a b ≡ true = (bytes_eq-Decides a b).1 same in
-        absurd cc
 
 -- a function behind one more, or none, where names are distinct
 found_after : (o : Option TraitFn) (fs : List TraitFn) (f : TraitFn) → IsDistinct bytes_eq (fn_names (cons_option o fs)) → Contains (fn_names fs) f.name → (IsDistinct bytes_eq (fn_names fs) → trait_fn fs f.name ≡ Some f)

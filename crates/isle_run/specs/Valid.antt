@@ -1,27 +1,37 @@
 -- When a term of a source may be run under the answers of a text.
-use Rattle.std.specs.Prelude.{◌≡◌, ℕ, List, [], ◌∷◌, ◌++◌, Some, true, false, slice_get}
+use Rattle.std.specs.Prelude.{◌≡◌, ℕ, List, [], ◌∷◌, ◌++◌, Some, true, false, Contains, slice_get}
 use Rattle.std.specs.List.{AllByRecursion}
+use Rattle.std.specs.Str.{bytes_eq}
 use Rattle.isle_core.specs.declared.Sym.{Sym}
 use Rattle.isle_core.specs.declared.TermId.{TermId}
+use Rattle.isle_core.specs.declared.TypeId.{TypeId}
 use Rattle.isle_core.specs.declared.files.Files.{Files}
+use Rattle.isle_core.specs.declared.options.CodegenOptions.{CodegenOptions}
 use Rattle.isle_core.specs.declared.types.Term.{Term}
 use Rattle.isle_core.specs.declared.values.Callee.{Callee}
 use Rattle.isle_core.specs.declared.values.Callee.TheVariants as callee
 use Rattle.isle_core.specs.Calling.{kind_of}
-use Rattle.isle_core.specs.HasType.{HaveTypes}
+use Rattle.isle_core.specs.HasType.{HasType, HaveTypes}
 use Rattle.isle_core.specs.Lawful.{Fits}
 use Rattle.isle_core.specs.Meaning.{TurnAnswers}
 use Rattle.isle_core.specs.Rule.{Environment}
 use Rattle.isle_core.specs.Terms.{sym_text, goes_to}
+use Rattle.isle_core.specs.Value.{Value}
 use Rattle.isle_answers.specs.Form.{Form}
 use Rattle.isle_answers.specs.Spelling.{SpellsForms}
 use Rattle.isle_values.specs.Written.{Writtens}
 use Rattle.isle_simulation.specs.TraitFns.{func_of}
-use Rattle.isle_run_inputs.specs.Requested.{requested_term}
+use Rattle.isle_tree.specs.Program.{Function, Program}
+use Rattle.isle_tree.specs.Run.{function_of}
+use Rattle.isle_interpreter.specs.DeclaredTypes.{is_declared}
+use Rattle.isle_interpreter.specs.Entries.{has_constant}
+use Rattle.isle_interpreter.specs.Names.{body_names}
+use Rattle.isle_run_inputs.specs.Requested.{requested_term, constant_type}
 use Rattle.isle_run_inputs.specs.Built.{are_built}
-use Rattle.isle_run_inputs.specs.AnswersAt.{turns_at}
+use Rattle.isle_run_inputs.specs.AnswersAt.{constants_at, turns_at}
 use Rattle.isle_codegen.specs.CalledBy.{IsCalledBy}
 use Rattle.isle_codegen.specs.Checked.{IsChecked}
+use Rattle.isle_run.specs.Conforming.{Conforms}
 use Rattle.isle_run.specs.Trial.{args_given}
 
 -- what calls go to: the external constructor of a term, or a term with rules
@@ -46,8 +56,30 @@ abbrev pub AllRight : Environment → (earlier later : List TurnAnswers) → Typ
 AllRight env earlier [] = Unit {0}
 AllRight env earlier (a ∷ more) = AreRightTurns env earlier a × AllRight env (earlier ++ a ∷ []) more
 
+-- none of these values is of the constant of this name
+abbrev pub HasNoValue : List ℕ → List (List ℕ × Value) → Type 0
+HasNoValue name = AllByRecursion (λ (c : List ℕ × Value). bytes_eq name c.0 ≡ false)
+
+-- a constant behind these is right: none of these has its name, and its value is of its type
+pub record IsRightConstant (env : Environment) (earlier : List (List ℕ × Value)) (c : List ℕ × Value) : Type 0 where
+  pub first : HasNoValue c.0 earlier
+  pub ty : TypeId
+  pub named : constant_type env c.0 ≡ Some ty
+  pub typed : HasType env c.1 ty
+
+-- so of each
+abbrev pub AreRightConstants : Environment → (earlier later : List (List ℕ × Value)) → Type 0
+AreRightConstants env earlier [] = Unit {0}
+AreRightConstants env earlier (c ∷ more) = IsRightConstant env earlier c × AreRightConstants env (earlier ++ c ∷ []) more
+
+-- the constants with values are those that a program wants for a run of the term: each of them stands in a function of it, and each
+-- that stands in the term's function is one of them
+pub record AreWanted (p : Program) (term : List ℕ) (consts : List (List ℕ × Value)) : Type 0 where
+  pub stand : AllByRecursion (λ (c : List ℕ × Value). has_constant p c.0 ≡ true) consts
+  pub given : (f : Function) → function_of term p.fns ≡ Some f → (name : List ℕ) → Contains (body_names f.body) name → is_declared p.types name ≡ false → HasNoValue name consts → ⊥
+
 -- the source was checked, the term has rules, the values are of its types, and the text spells forms that are built and
--- right, one for each callee of the term's rules
+-- right, one for each callee of the term's rules, and for the constants of each program that conforms to the source
 pub record CanRun (files : Files) (term : List ℕ) (ws : Writtens) (text : List ℕ) : Type 0 where
   pub env : Environment
   pub checked : IsChecked files env
@@ -59,5 +91,7 @@ pub record CanRun (files : Files) (term : List ℕ) (ws : Writtens) (text : List
   pub forms : List Form
   pub spelt : SpellsForms text forms
   pub built : are_built forms ≡ true
+  pub constants : AreRightConstants env [] (constants_at env forms)
+  pub wanted : (options : CodegenOptions) (p : Program) → Conforms options files env p → AreWanted p term (constants_at env forms)
   pub right : AllRight env [] (turns_at env forms)
   pub answered : (c : Callee) → IsCalledBy env id c → HasNoTurns c (turns_at env forms) → ⊥

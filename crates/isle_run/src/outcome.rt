@@ -41,12 +41,18 @@ fn placed(e: RunError, end: usize, forms: &[Form]) -> Refusal
     }
 }
 
-// The refusal for the term or the arguments, or else another one.
-fn refused(compiled: &Compiled<'_>, term: &str, args: &[Value], other: Refusal) -> Refusal
+// The refusal for the term or the arguments, or else another one; beside these, want of memory.
+fn refused(
+    alloc: Global,
+    compiled: &Compiled<'_>,
+    term: &str,
+    args: &[Value],
+    other: Refusal,
+) -> Refusal
     ensures { (text : List ℕ) → (Takes (program_of compiled.now) term.now (values args.now) → IsRunRefused (attempt compiled.now term.now args.now) text other)
-        → IsRunRefused (attempt compiled.now term.now args.now) text result }
+        → (result ≡ Memory) ⊎ IsRunRefused (attempt compiled.now term.now args.now) text result }
 {
-    match takes(compiled.program, term, args) {
+    match takes(alloc, compiled.program, term, args) {
         Ok(()) => other,
         Err(e) => placed(e, 0, &[]),
     }
@@ -67,7 +73,7 @@ fn under_forms(
         → (e ≡ Memory) ⊎ IsRunRefused (attempt compiled.now term.now args.now) text e) }
 {
     if !are_built(forms) {
-        return Err(refused(compiled, term, args, Refusal::NotYet));
+        return Err(refused(alloc, compiled, term, args, Refusal::NotYet));
     }
     let answers = answers_at(alloc, compiled.typeenv, compiled.termenv, forms)?;
     match run_term(alloc, compiled.program, term, args, &answers) {
@@ -92,7 +98,7 @@ pub fn outcome_under(
         Ok(forms) => under_forms(alloc, compiled, term, args, forms.as_slice(), text.len()),
         Err(AnswersFail::At(at)) => {
             let other = Refusal::BadAnswers(at);
-            Err(refused(compiled, term, args, other))
+            Err(refused(alloc, compiled, term, args, other))
         }
         Err(AnswersFail::Memory) => Err(Refusal::Memory),
     }

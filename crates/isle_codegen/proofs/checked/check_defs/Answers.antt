@@ -1,7 +1,7 @@
 use Rattle.std.proofs.Common.{rules, ◌≡◌, false, inr}
 use Rattle.isle_core.specs.RuleViews.{environment}
 use Rattle.isle_ast.specs.Views.{defs as seen}
-use Rattle.isle_sema.proofs.TypedRules.{typed_built, typed_scoped, typed_terms}
+use Rattle.isle_sema.proofs.BuiltRules.{typed_built, typed_scoped, typed_terms}
 use Rattle.isle_codegen.specs.Names.{are_file_names}
 use Rattle.isle_sema.proofs.TypedParts.{typed_types_sound}
 use Rattle.isle_codegen.proofs.Placed.{terms_placed}
