@@ -1,0 +1,24 @@
+"""The lines of examples/cases."""
+import pathlib
+import re
+
+HERE = pathlib.Path(__file__).resolve().parent
+
+
+def words_of(line):
+    """The words of a line: blanks part them, but none within parentheses."""
+    words, depth = [""], 0
+    for char in line:
+        depth += (char == "(") - (char == ")")
+        if char == " " and depth == 0:
+            words.append("")
+        else:
+            words[-1] += char
+    return words
+
+
+def blocks():
+    """Each line, as it stands and as words, and what is written for it."""
+    for block in re.split(r"^\$ ", (HERE / "cases").read_text(), flags=re.M)[1:]:
+        line, want = block.split("\n", 1)
+        yield line, words_of(line), want
