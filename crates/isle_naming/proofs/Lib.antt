@@ -1,0 +1,2 @@
+pub mod NamesJoin
+pub mod SetNames
