@@ -25,7 +25,7 @@ use Rattle.isle_tree.specs.Program.{Program, Stmt, Let, LetList, IfEq, IfLet, Ma
 use Rattle.isle_tree.specs.Run.{Around, State, nothing_done, one_made, Env, Flow, Goes, Ends, Leaves, Stuck, value_of, name_value, bind, read_value, read_values, field_before, read_fields, on_value, value_in, constant, are_same, fit, fitted, then_run, after_scope, run_bind, run_call, run_try, run_variant, run_struct, run_let, ends_with, run_return, run_stmt, run_body, ended, function_run}
 use Rattle.isle_interpreter.specs.Entries.{Constant, Cases, Turns, entries, IsUnanswered, IsUngiven}
 use Rattle.isle_tree.specs.Calls.{expr_calls, stmt_calls, body_calls}
-use Rattle.isle_interpreter.specs.Names.{operand_names, read_names, reads_names, fields_names, expr_names, pattern_names, stmt_names, body_names}
+use Rattle.isle_naming.specs.Names.{operand_names, read_names, reads_names, fields_names, expr_names, pattern_names, stmt_names, body_names}
 use Rattle.isle_interpreter.specs.Refusals.{AreAnswered}
 use Rattle.isle_interpreter.proofs.AnswersHold.{goes_same, both_unanswered, no_constants, no_turns, no_cases, both_ungiven, no_consts, cases_give_none, turns_give_none}
 use Rattle.isle_interpreter.proofs.Answering.{by_turns, by_cases}

@@ -1,27 +1,27 @@
 -- Entries that are right, as they are looked at one after another.
-use Rattle.std.proofs.Common.{◌≡◌, ℕ, ◌+◌, List, [], ◌∷◌, ◌++◌, take, Bool, true, false, Option, Some, None, refl, sym, ap, ◌∙◌, subst, arith, append_assoc, append-nil}
+use Rattle.std.proofs.Common.{◌≡◌, ℕ, ◌+◌, List, [], ◌∷◌, ◌++◌, take, Bool, true, false, Some, None, refl, sym, ap, ◌∙◌, subst, arith, append_assoc, append-nil}
 use Rattle.std.specs.Prelude.{not, ◌||◌, ◌&&◌, ◌↔◌, IsTrue, IfOk, IsSomeAnd, Contains, slice_get, zero, suc}
 use Rattle.std.specs.declared.result.Result.{Result}
 use Rattle.std.specs.declared.result.Result.TheVariants as result
 use Rattle.std.specs.List.{AllByRecursion, list_all}
-use Rattle.std.specs.Str.{bytes_eq}
 use Rattle.std.proofs.lemmas.Bool.{and_parts, or_parts, or_from}
 use Rattle.std.proofs.lemmas.List.Elements.{All-from_recursion, All-contains, Contains-append_left, Contains-append_right}
-use Rattle.std.proofs.lemmas.List.Folds.{list_any-append}
 use Rattle.isle_core.specs.declared.values.Callee.{Callee}
-use Rattle.isle_core.specs.declared.values.Callee.TheVariants.{External, Internal}
 use Rattle.isle_core.specs.Value.{Value}
-use Rattle.isle_core.specs.Terms.{goes_to}
 use Rattle.isle_tree.specs.declared.tree.TypeItem.{TypeItem}
+use Rattle.isle_tree.specs.declared.tree.Program.{Program as CodeProgram}
 use Rattle.isle_tree.specs.Program.{Function, Program}
+use Rattle.isle_tree.specs.Views.{program}
 use Rattle.isle_interpreter.specs.declared.served.Served.{Served}
 use Rattle.isle_interpreter.specs.Signatures.{Signature, signature_of}
-use Rattle.isle_interpreter.specs.Entries.{Entry, Constant, Cases, Turns, answers_for, IsUnanswered, gives, IsUngiven, is_typed, has_constant, EntryFits, IsRightFor, IsRight, AreRight}
-use Rattle.isle_interpreter.specs.DeclaredTypes.{is_declared}
-use Rattle.isle_interpreter.specs.Names.{body_names}
+use Rattle.isle_interpreter.specs.Entries.{Entry, Constant, Cases, Turns, answers_for, IsUnanswered, IsUngiven, is_typed, has_constant, FitsPlaces, EntryFits, IsRightFor, IsRight, AreRight}
+use Rattle.isle_naming.specs.Occurring.{occurs}
+use Rattle.isle_naming.specs.Sets.{has_name}
+use Rattle.isle_interpreter.specs.Places.{names_at, places}
+use Rattle.isle_interpreter.proofs.NamesAt.{named_there, there_named}
 use Rattle.isle_tree.specs.Calls.{body_calls}
 use Rattle.isle_interpreter.specs.Refusals.{IsMissing, no_answers, no_value, AreAnswered, AreGiven}
-use Rattle.isle_interpreter.specs.Served.{has_name, has, is_answered, is_given, Serves}
+use Rattle.isle_interpreter.specs.Served.{has, is_answered, is_given, Serves}
 
 unanswered : (callee : Callee) (fs : List Entry) → is_answered fs callee ≡ false → IsUnanswered callee fs
 unanswered callee [] e = tt
@@ -86,74 +86,26 @@ pub given_again : (p : Program) (earlier : List Entry) (name : List ℕ) (v : Va
 given_again p earlier name v s serves there = (
   λ t. absurd cc,
   λ r.
-      let none : is_given earlier name ≡ false = is_ungiven name earlier r.0 in
+      let none : is_given earlier name ≡ false = is_ungiven name earlier r.once in
       let some : is_given earlier name ≡ true = sym (serves.given name) ∙ there in
       absurd cc,
 )
 
--- one whose constant isn't there
-pub given_none : (p : Program) (earlier : List Entry) (name : List ℕ) (v : Value) → has_constant p name ≡ false → IsTrue false ↔ IsRight p earlier (Constant name v)
-given_none p earlier name v none = (λ t. absurd cc, λ r. absurd cc)
+-- another one is right exactly if its value is of the types of its places
+pub given_right : (p : Program) (earlier : List Entry) (name : List ℕ) (v : Value) (s : Served) (b : Bool) → Serves earlier s → has_name s.constants name ≡ false → has_constant p name ≡ true → is_typed v ≡ true → IsTrue b ↔ FitsPlaces p name v
+    → IsTrue b ↔ IsRight p earlier (Constant name v)
+given_right p earlier name v s b serves fresh there typed fits = (
+  λ t. record { once = ungiven name earlier (sym (serves.given name) ∙ fresh); there = there; typed = typed; fits = fits.0 t },
+  λ r. fits.1 r.fits,
+)
 
--- another one is right exactly if its value is one
-pub given_right : (p : Program) (earlier : List Entry) (name : List ℕ) (v : Value) (s : Served) (b : Bool) → Serves earlier s → has_name s.constants name ≡ false → has_constant p name ≡ true → b ≡ is_typed v → IsTrue b ↔ IsRight p earlier (Constant name v)
-given_right p earlier name v s b serves fresh there is = (λ t. (ungiven name earlier (sym (serves.given name) ∙ fresh), there, sym is ∙ t), λ r. is ∙ r.2)
+-- so of the test that tells it
+pub given_fits : {E : Type 0} (p : Program) (name : List ℕ) (v : Value) (s : Served) (r : Result Bool E) → has_name s.constants name ≡ false → has_constant p name ≡ true → is_typed v ≡ true → IfOk r (λ b. IsTrue b ↔ FitsPlaces p name v)
+    → IfOk r (λ b. (earlier : List Entry) → Serves earlier s → IsTrue b ↔ IsRight p earlier (Constant name v))
+given_fits p name v s (result.Ok b) fresh there typed fits = λ earlier serves. given_right p earlier name v s b serves fresh there typed fits
+given_fits p name v s (result.Err x) fresh there typed fits = tt
 
--- ---- what entries answer for joins that of earlier ones
-
-goes_none : (callee : Callee) → goes_to callee None ≡ false
-goes_none (External name) = refl
-goes_none (Internal term) = refl
-
-at_end : (a b : Bool) → (a || b) ≡ (b || (a || false))
-at_end true true = refl
-at_end true false = refl
-at_end false true = refl
-at_end false false = refl
-
--- a constant more
-pub serves_constant : (earlier : List Entry) (name : List ℕ) (v : Value) (old new : Served) → Serves earlier old → ((other : List ℕ) → has_name new.constants other ≡ (bytes_eq other name || has_name old.constants other)) → ((callee : Callee) → has new callee ≡ has old callee)
-    → Serves (earlier ++ Constant name v ∷ []) new
-serves_constant earlier name v old new serves more same = record {
-  serves = λ callee.
-      same callee
-      ∙ serves.serves callee
-      ∙ sym (list_any-append (λ f. goes_to callee (answers_for f)) earlier (Constant name v ∷ []) ∙ ap (λ b. is_answered earlier callee || (b || false)) (goes_none callee) ∙ or_false (is_answered earlier callee));
-  given = λ other.
-      more other
-      ∙ ap (λ b. bytes_eq other name || b) (serves.given other)
-      ∙ at_end (bytes_eq other name) (is_given earlier other)
-      ∙ sym (list_any-append (gives other) earlier (Constant name v ∷ []));
-}
-  where
-    or_false : (b : Bool) → (b || (false || false)) ≡ b
-    or_false true = refl
-    or_false false = refl
-
--- a callee more
-pub serves_callee : (earlier : List Entry) (f : Entry) (callee : Callee) (old new : Served) → Serves earlier old → answers_for f ≡ Some callee → ((other : Callee) → has new other ≡ (goes_to other (Some callee) || has old other)) → new.constants ≡ old.constants
-    → Serves (earlier ++ f ∷ []) new
-serves_callee earlier f callee old new serves e more same = record {
-  serves = λ other.
-      more other
-      ∙ ap (λ b. goes_to other (Some callee) || b) (serves.serves other)
-      ∙ at_end (goes_to other (Some callee)) (is_answered earlier other)
-      ∙ ap (λ o. is_answered earlier other || (goes_to other o || false)) (sym e)
-      ∙ sym (list_any-append (λ f. goes_to other (answers_for f)) earlier (f ∷ []));
-  given = λ other.
-      ap (λ names. has_name names other) same
-      ∙ serves.given other
-      ∙ sym (list_any-append (gives other) earlier (f ∷ []) ∙ ap (λ b. is_given earlier other || (b || false)) (no_constant f e other) ∙ or_false (is_given earlier other));
-}
-  where
-    no_constant : (f : Entry) → answers_for f ≡ Some callee → (other : List ℕ) → gives other f ≡ false
-    no_constant (Constant name v) e other = absurd cc
-    no_constant (Cases a) e other = refl
-    no_constant (Turns a) e other = refl
-
-    or_false : (b : Bool) → (b || (false || false)) ≡ b
-    or_false true = refl
-    or_false false = refl
+-- ---- tests
 
 -- the two answers of an addition
 pub added : (b r : Bool) → r ≡ not b → r ≡ true → b ≡ false
@@ -214,43 +166,51 @@ left fs s (c ∷ cs) serves all = by (has s c) refl all (left fs s cs serves)
     by false is none others = (c, Contains-append_left (c ∷ []) cs c (0, omega arith, refl), unanswered c fs (sym (serves.serves c) ∙ is))
 
 -- or one of them has none
-pub is_missing : (types : List TypeItem) (f : Function) (fs : List Entry) (s : Served) → Serves fs s → list_all (has s) (body_calls f.body) ≡ false → IsMissing types f fs
-is_missing types f fs s serves all = let one = left fs s (body_calls f.body) serves all in no_answers one.0 one.1 one.2
+pub is_missing : (p : Program) (f : Function) (fs : List Entry) (s : Served) → Serves fs s → list_all (has s) (body_calls f.body) ≡ false → IsMissing p f fs
+is_missing p f fs s serves all = let one = left fs s (body_calls f.body) serves all in no_answers one.0 one.1 one.2
 
 -- ---- names
 
 -- whether a name is known
-abbrev knows : List TypeItem → Served → List ℕ → Bool
-knows types s name = has_name s.constants name || is_declared types name
+abbrev knows : Program → Served → List ℕ × List ℕ → Bool
+knows p s x = has_name s.constants x.0 || occurs p x.0
 
-all_known : (types : List TypeItem) (fs : List Entry) (s : Served) (names : List (List ℕ)) → Serves fs s → list_all (knows types s) names ≡ true → AllByRecursion (λ name. (is_given fs name || is_declared types name) ≡ true) names
-all_known types fs s [] serves all = tt
-all_known types fs s (n ∷ names) serves all =
-    let parts = and_parts (knows types s n) (list_all (knows types s) names) all in
-    (ap (λ b. b || is_declared types n) (sym (serves.given n)) ∙ parts.0, all_known types fs s names serves parts.1)
+-- what is told of names by what is kept of the program
+pub known_of : (p kept signed : CodeProgram) (f : Function) (s : Served) (told : Bool) → kept ≡ p → signed ≡ p → told ≡ list_all (knows (program kept) s) (names_at (places (program signed) f)) → told ≡ list_all (knows (program p) s) (names_at (places (program p) f))
+known_of p kept signed f s told one two e =
+    e
+    ∙ ap (λ (q : CodeProgram). list_all (knows (program q) s) (names_at (places (program signed) f))) one
+    ∙ ap (λ (q : CodeProgram). list_all (knows (program p) s) (names_at (places (program q) f))) two
+
+all_known : (p : Program) (fs : List Entry) (s : Served) (xs : List (List ℕ × List ℕ)) → Serves fs s → list_all (knows p s) xs ≡ true → AllByRecursion (λ (x : List ℕ × List ℕ). (is_given fs x.0 || occurs p x.0) ≡ true) xs
+all_known p fs s [] serves all = tt
+all_known p fs s (x ∷ xs) serves all =
+    let parts = and_parts (knows p s x) (list_all (knows p s) xs) all in
+    (ap (λ b. b || occurs p x.0) (sym (serves.given x.0)) ∙ parts.0, all_known p fs s xs serves parts.1)
 
 -- each constant in the function has an entry
-pub are_given : (types : List TypeItem) (f : Function) (fs : List Entry) (s : Served) → Serves fs s → list_all (knows types s) (body_names f.body) ≡ true → AreGiven types f fs
-are_given types f fs s serves all name there free none =
-    let some : (is_given fs name || is_declared types name) ≡ true =
-    All-contains (λ n. (is_given fs n || is_declared types n) ≡ true) (body_names f.body) name (All-from_recursion (λ n. (is_given fs n || is_declared types n) ≡ true) (body_names f.body) (all_known types fs s (body_names f.body) serves all)) there in
-    let not : (is_given fs name || is_declared types name) ≡ false = or_from _ _ (is_ungiven name fs none) free in
+pub are_given : (p : Program) (f : Function) (fs : List Entry) (s : Served) → Serves fs s → list_all (knows p s) (names_at (places p f)) ≡ true → AreGiven p f fs
+are_given p f fs s serves all name ty there free none =
+    let some : (is_given fs name || occurs p name) ≡ true =
+    All-contains (λ (x : List ℕ × List ℕ). (is_given fs x.0 || occurs p x.0) ≡ true) (names_at (places p f)) (name, ty) (All-from_recursion (λ (x : List ℕ × List ℕ). (is_given fs x.0 || occurs p x.0) ≡ true) (names_at (places p f)) (all_known p fs s (names_at (places p f)) serves all))
+    (named_there (places p f) name ty there) in
+    let not : (is_given fs name || occurs p name) ≡ false = or_from _ _ (is_ungiven name fs none) free in
     absurd cc
 
--- one of the names has no entry, and no type
-abbrev IsFree : List TypeItem → List (List ℕ) → List Entry → Type 0
-IsFree types names fs = (name : List ℕ) × Contains names name × ((is_declared types name ≡ false) × IsUngiven name fs)
+-- one of the names has no entry, and no type that occurs
+abbrev IsFree : Program → List (List ℕ × List ℕ) → List Entry → Type 0
+IsFree p xs fs = (name : List ℕ) × (ty : List ℕ) × Contains xs (name, ty) × (occurs p name ≡ false) × IsUngiven name fs
 
-free : (types : List TypeItem) (fs : List Entry) (s : Served) (names : List (List ℕ)) → Serves fs s → list_all (knows types s) names ≡ false → IsFree types names fs
-free types fs s [] serves all = absurd cc
-free types fs s (n ∷ names) serves all = by (knows types s n) refl all (free types fs s names serves)
+free : (p : Program) (fs : List Entry) (s : Served) (xs : List (List ℕ × List ℕ)) → Serves fs s → list_all (knows p s) xs ≡ false → IsFree p xs fs
+free p fs s [] serves all = absurd cc
+free p fs s (x ∷ xs) serves all = by (knows p s x) refl all (free p fs s xs serves)
   where
-    by : (b : Bool) → knows types s n ≡ b → (b && list_all (knows types s) names) ≡ false → (list_all (knows types s) names ≡ false → IsFree types names fs) → IsFree types (n ∷ names) fs
-    by true is none others = let other = others none in (other.0, Contains-append_right (n ∷ []) names other.0 other.1, other.2)
+    by : (b : Bool) → knows p s x ≡ b → (b && list_all (knows p s) xs) ≡ false → (list_all (knows p s) xs ≡ false → IsFree p xs fs) → IsFree p (x ∷ xs) fs
+    by true is none others = let other = others none in (other.0, other.1, Contains-append_right (x ∷ []) xs (other.0, other.1) other.2, other.3, other.4)
     by false is none others =
-        let parts = or_parts (has_name s.constants n) (is_declared types n) is in
-        (n, Contains-append_left (n ∷ []) names n (0, omega arith, refl), (parts.1, ungiven n fs (sym (serves.given n) ∙ parts.0)))
+        let parts = or_parts (has_name s.constants x.0) (occurs p x.0) is in
+        (x.0, x.1, Contains-append_left (x ∷ []) xs x (0, omega arith, refl), parts.1, ungiven x.0 fs (sym (serves.given x.0) ∙ parts.0))
 
 -- or one of them has none
-pub is_free : (types : List TypeItem) (f : Function) (fs : List Entry) (s : Served) → Serves fs s → list_all (knows types s) (body_names f.body) ≡ false → IsMissing types f fs
-is_free types f fs s serves all = let one = free types fs s (body_names f.body) serves all in no_value one.0 one.1 one.2.0 one.2.1
+pub is_free : (p : Program) (f : Function) (fs : List Entry) (s : Served) → Serves fs s → list_all (knows p s) (names_at (places p f)) ≡ false → IsMissing p f fs
+is_free p f fs s serves all = let one = free p fs s (names_at (places p f)) serves all in no_value one.0 one.1 (there_named (places p f) one.0 one.1 one.2) one.3 one.4

@@ -1,4 +1,5 @@
 pub mod Agree
+pub mod Agreeing
 pub mod Answering
 pub mod AnswersHold
 pub mod AskedApart
@@ -8,13 +9,15 @@ pub mod EntryTests
 pub mod FindItems
 pub mod FindTerms
 pub mod Founds
+pub mod MapsNames
 pub mod NamedApart
 pub mod NamedMore
-pub mod NamesJoin
+pub mod NamesAt
 pub mod OneRefusal
+pub mod PlacedStatements
 pub mod Progress
 pub mod Refusing
 pub mod Runs
-pub mod SetNames
+pub mod ToldLaws
 pub mod WithinArms
 pub mod WrongNamed

@@ -129,9 +129,9 @@ module _ (p : Program) (term : List ℕ) (args : List Value) (m : Meaning) where
   one_refusal _ _ (missing f e s r l) (missing g h t q k) = refl
 
   -- where the function may run nothing is missing
-  not_missing : (f : Function) → MayRun p term args m f → IsMissing p.types f (entries m) → ⊥
+  not_missing : (f : Function) → MayRun p term args m f → IsMissing p f (entries m) → ⊥
   not_missing f may (no_answers callee there none) = may.answered callee there none
-  not_missing f may (no_value name there free none) = may.given name there free none
+  not_missing f may (no_value name ty there free none) = may.given name ty there free none
 
   -- where the function may run there is none
   pub not_refused : (f : Function) (d : RunError) → MayRun p term args m f → IsRefused p term args m d → ⊥
@@ -139,4 +139,4 @@ module _ (p : Program) (term : List ℕ) (args : List Value) (m : Meaning) where
   not_refused f _ may (arg_count g h k) = not_counted g f h may.found k may.typed
   not_refused f _ may (arg_type g j h k w) = not_typed g f j h may.found w may.typed
   not_refused f _ may (wrong_entry g j h t w) = not_right p (entries m) j w may.right
-  not_refused f _ may (missing g h t r l) = not_missing f may (subst (λ (x : Function). IsMissing p.types x (entries m)) (same g f h may.found) l)
+  not_refused f _ may (missing g h t r l) = not_missing f may (subst (λ (x : Function). IsMissing p x (entries m)) (same g f h may.found) l)

@@ -1,7 +1,6 @@
 -- Values among which one is wrong are not of their types.
 use Rattle.std.proofs.Common.{◌≡◌, ℕ, zero, suc, List, [], ◌∷◌, length, Option, Some, None, Bool, true, refl, sym, subst, ◌∙◌}
-use Rattle.std.specs.Prelude.{slice_get, ◌↔◌, IsTrue, false, not, is_some, eqb}
-use Rattle.std.proofs.lemmas.Bool.{eqb-true}
+use Rattle.std.specs.Prelude.{slice_get, ◌↔◌, IsTrue, false, not, is_some}
 use Rattle.std.proofs.lemmas.List.{length-map}
 use Rattle.isle_tree.specs.declared.tree.Ty.{Ty}
 use Rattle.isle_tree.specs.declared.tree.TypeItem.{TypeItem}

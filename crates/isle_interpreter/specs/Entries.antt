@@ -1,5 +1,5 @@
 -- Answers as entries, which are counted, and when one is wrong.
-use Rattle.std.specs.Prelude.{◌≡◌, ℕ, List, [], ◌∷◌, ◌++◌, map, Bool, true, false, ◌&&◌, not, IsTrue, Option, Some, None, IsSomeAnd}
+use Rattle.std.specs.Prelude.{◌≡◌, ℕ, List, [], ◌∷◌, ◌++◌, map, Bool, true, false, ◌&&◌, not, IsTrue, Option, Some, None, IsSomeAnd, Contains}
 use Rattle.std.specs.List.{AllByRecursion}
 use Rattle.std.specs.Str.{bytes_eq}
 use Rattle.isle_core.specs.declared.values.Callee.{Callee}
@@ -8,10 +8,11 @@ use Rattle.isle_core.specs.Meaning.{PureAnswers, TurnAnswers, Meaning}
 use Rattle.isle_core.specs.Terms.{goes_to}
 use Rattle.isle_printer.specs.Bytes.{same_bytes}
 use Rattle.isle_tree.specs.declared.tree.TypeItem.{TypeItem}
-use Rattle.isle_tree.specs.Program.{Program}
-use Rattle.isle_interpreter.specs.DeclaredTypes.{is_declared}
-use Rattle.isle_interpreter.specs.Names.{function_names, is_among}
-use Rattle.isle_interpreter.specs.Signatures.{Signature, signature_of, AreNamed, AnswerFits}
+use Rattle.isle_tree.specs.Program.{Function, Program}
+use Rattle.isle_naming.specs.Names.{function_names, is_among}
+use Rattle.isle_naming.specs.Occurring.{occurs}
+use Rattle.isle_interpreter.specs.Places.{StandsAt}
+use Rattle.isle_interpreter.specs.Signatures.{Signature, signature_of, IsNamed, AreNamed, AnswerFits}
 
 -- a constant's value, the cases of a callee, or its turns
 pub data Entry : Type 0 where
@@ -51,9 +52,13 @@ is_typed (Int ty n) = true
 is_typed (Variant ty variant fs) = true
 is_typed (Struct ty fs) = true
 
--- whether the program has a constant of this name: it stands in a function, and no type that is declared has it
+-- whether the program has a constant of this name: it stands in a function, and no type that occurs has it
 abbrev pub has_constant : Program → List ℕ → Bool
-has_constant p name = is_among name (function_names p.fns) && not (is_declared p.types name)
+has_constant p name = is_among name (function_names p.fns) && not (occurs p name)
+
+-- a value of each type that the program fixes for a place of the constant of this name
+abbrev pub FitsPlaces : Program → List ℕ → Value → Type 0
+FitsPlaces p name v = (g : Function) (ty : List ℕ) → Contains p.fns g → StandsAt p g name ty → IsNamed p.types ty v
 
 -- a case takes what the function takes
 abbrev pub CaseFits : List TypeItem → Signature → List Value × Answer → Type 0
@@ -69,10 +74,16 @@ EntryFits types (Turns a) s = AllByRecursion (AnswerFits types s) a.turns × Ans
 abbrev pub IsRightFor : Program → List Entry → Entry → Callee → Type 0
 IsRightFor p earlier f callee = IsUnanswered callee earlier × IsSomeAnd (signature_of p callee) (EntryFits p.types f)
 
--- an entry behind these is right: the program has its constant or its callee, none of them gives the same, and its value is one, or
--- its answers fit
+-- a constant behind these is right: the program has it, none of them gives it a value, and its own is of each type that its places have
+pub record IsRightConstant (p : Program) (earlier : List Entry) (name : List ℕ) (v : Value) : Type 0 where
+  pub once : IsUngiven name earlier
+  pub there : IsTrue (has_constant p name)
+  pub typed : IsTrue (is_typed v)
+  pub fits : FitsPlaces p name v
+
+-- an entry behind these is right: so a constant, or the program has its callee, none of them answers for that, and its answers fit
 abbrev pub IsRight : Program → List Entry → Entry → Type 0
-IsRight p earlier (Constant name v) = IsUngiven name earlier × IsTrue (has_constant p name) × IsTrue (is_typed v)
+IsRight p earlier (Constant name v) = IsRightConstant p earlier name v
 IsRight p earlier (Cases a) = IsRightFor p earlier (Cases a) a.callee
 IsRight p earlier (Turns a) = IsRightFor p earlier (Turns a) a.callee
 

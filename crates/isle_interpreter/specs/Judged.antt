@@ -31,7 +31,7 @@ abbrev pub AreBad : Program → Function → List Entry → RunError → Type 0
 AreBad p f fs error.NoTerm = ⊥
 AreBad p f fs error.ArgCount = ⊥
 AreBad p f fs (error.ArgType i) = ⊥
-AreBad p f fs (error.BadAnswers i) = IsWrongEntry p fs i ⊎ (AreRight p [] fs × IsMissing p.types f fs × (i ≡ length fs))
+AreBad p f fs (error.BadAnswers i) = IsWrongEntry p fs i ⊎ (AreRight p [] fs × IsMissing p f fs × (i ≡ length fs))
 AreBad p f fs error.Memory = Unit {0}
 
 -- the function of the term takes the arguments

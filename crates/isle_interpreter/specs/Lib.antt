@@ -1,8 +1,11 @@
-pub mod Names
 pub mod DeclaredTypes
 pub mod Types
 pub mod AskedViews
 pub mod Signatures
+pub mod Told
+pub mod Places
+pub mod ToldViews
+pub mod Agreed
 pub mod Entries
 pub mod Refusals
 pub mod FirstWrong

@@ -10,8 +10,8 @@ use Rattle.isle_interpreter.specs.declared.run_error.RunError.{RunError}
 use Rattle.isle_interpreter.specs.declared.run_error.RunError.TheVariants as error
 use Rattle.isle_interpreter.specs.Signatures.{type_names, IsNamed, AreNamed}
 use Rattle.isle_interpreter.specs.Entries.{Entry, entries, IsUnanswered, IsUngiven, IsRight, AreRight}
-use Rattle.isle_interpreter.specs.DeclaredTypes.{is_declared}
-use Rattle.isle_interpreter.specs.Names.{body_names}
+use Rattle.isle_naming.specs.Occurring.{occurs}
+use Rattle.isle_interpreter.specs.Places.{StandsAt}
 use Rattle.isle_tree.specs.Calls.{body_calls}
 
 -- the argument of this number is the first that is no value of its parameter's type
@@ -30,18 +30,19 @@ pub record IsWrongEntry (p : Program) (fs : List Entry) (i : ℕ) : Type 0 where
   pub before : AreRight p [] (take i fs)
   pub wrong : IsRight p (take i fs) entry → ⊥
 
--- something that the function calls, or a constant that stands in it, has no entry
-pub data IsMissing (types : List TypeItem) (f : Function) (fs : List Entry) : Type 0 where
-  no_answers : (callee : Callee) → Contains (body_calls f.body) callee → IsUnanswered callee fs → IsMissing types f fs
-  no_value : (name : List ℕ) → Contains (body_names f.body) name → is_declared types name ≡ false → IsUngiven name fs → IsMissing types f fs
+-- something that the function calls has no entry, or a name in it that is a constant has none: one that stands at a place whose type
+-- the program fixes, and that no type has which occurs
+pub data IsMissing (p : Program) (f : Function) (fs : List Entry) : Type 0 where
+  no_answers : (callee : Callee) → Contains (body_calls f.body) callee → IsUnanswered callee fs → IsMissing p f fs
+  no_value : (name ty : List ℕ) → StandsAt p f name ty → occurs p name ≡ false → IsUngiven name fs → IsMissing p f fs
 
 -- each callee of the function has an entry
 abbrev pub AreAnswered : Function → List Entry → Type 0
 AreAnswered f fs = (callee : Callee) → Contains (body_calls f.body) callee → IsUnanswered callee fs → ⊥
 
--- each constant that stands in the function has an entry: each name that no declared type has
-abbrev pub AreGiven : List TypeItem → Function → List Entry → Type 0
-AreGiven types f fs = (name : List ℕ) → Contains (body_names f.body) name → is_declared types name ≡ false → IsUngiven name fs → ⊥
+-- each constant that stands in the function has an entry, where the program fixes the type of a place of it
+abbrev pub AreGiven : Program → Function → List Entry → Type 0
+AreGiven p f fs = (name ty : List ℕ) → StandsAt p f name ty → occurs p name ≡ false → IsUngiven name fs → ⊥
 
 -- the term, the arguments and the answers fit the function
 pub record MayRun (p : Program) (term : List ℕ) (args : List Value) (m : Meaning) (f : Function) : Type 0 where
@@ -49,7 +50,7 @@ pub record MayRun (p : Program) (term : List ℕ) (args : List Value) (m : Meani
   pub typed : AreNamed p.types (type_names f.params) args
   pub right : AreRight p [] (entries m)
   pub answered : AreAnswered f (entries m)
-  pub given : AreGiven p.types f (entries m)
+  pub given : AreGiven p f (entries m)
 
 -- why they don't, in the order in which it is asked
 pub data IsRefused (p : Program) (term : List ℕ) (args : List Value) (m : Meaning) : RunError → Type 0 where
@@ -59,5 +60,5 @@ pub data IsRefused (p : Program) (term : List ℕ) (args : List Value) (m : Mean
       → IsRefused p term args m (error.ArgType i)
   wrong_entry : (f : Function) (i : ℕ) → function_of term p.fns ≡ Some f → AreNamed p.types (type_names f.params) args → IsWrongEntry p (entries m) i
       → IsRefused p term args m (error.BadAnswers i)
-  missing : (f : Function) → function_of term p.fns ≡ Some f → AreNamed p.types (type_names f.params) args → AreRight p [] (entries m) → IsMissing p.types f (entries m)
+  missing : (f : Function) → function_of term p.fns ≡ Some f → AreNamed p.types (type_names f.params) args → AreRight p [] (entries m) → IsMissing p f (entries m)
       → IsRefused p term args m (error.BadAnswers (length (entries m)))

@@ -1,19 +1,12 @@
 -- The callees that entries answer for, and the constants that they give, as the code keeps them.
 use Rattle.std.specs.Prelude.{◌≡◌, ℕ, List, Bool}
 use Rattle.std.specs.List.{list_any}
-use Rattle.std.specs.BTreeSet.{BTreeSet, contains_by}
-use Rattle.std.specs.Cmp.Lexicographic.{slice_cmp}
-use Rattle.std.specs.Ordering.{nat_cmp}
-use denote.Ref.{Bor}
 use Rattle.isle_core.specs.declared.values.Callee.{Callee}
 use Rattle.isle_core.specs.declared.values.Callee.TheVariants.{External, Internal}
 use Rattle.isle_core.specs.Terms.{goes_to}
+use Rattle.isle_naming.specs.Sets.{has_name}
 use Rattle.isle_interpreter.specs.declared.served.Served.{Served}
 use Rattle.isle_interpreter.specs.Entries.{Entry, answers_for, gives}
-
--- whether the set has the name
-abbrev pub has_name : BTreeSet (Bor (List ℕ)) → List ℕ → Bool
-has_name names name = contains_by (λ (k : Bor (List ℕ)). slice_cmp nat_cmp name k.now) names
 
 -- whether the sets have the callee
 abbrev pub has : Served → Callee → Bool

@@ -114,5 +114,8 @@ pub fn takes_opaque(types: &Types<'_>, name: &str, ty: &str) -> bool
     if !is_same(name, ty) {
         return false;
     }
-    is_foreign(name) && !types.has(name)
+    match types.named(name) {
+        Some(_) => false,
+        None => is_foreign(name),
+    }
 }

@@ -9,6 +9,7 @@ ghost use Rattle.isle_interpreter.specs.Judged.{AreWrong, AreBad};
 ghost use Rattle.isle_interpreter.specs.Refusals.{AreAnswered, AreGiven};
 ghost use Rattle.isle_interpreter.specs.Served.{Serves};
 
+use crate::constants::Constants;
 use crate::entry::{Entry, entry_at};
 use crate::run_error::RunError;
 use crate::served::Served;
@@ -33,10 +34,13 @@ fn count(answers: &Answers) -> usize
 
 // Whether the entry of a constant is right behind earlier ones. The constant joins theirs.
 fn is_right_constant<'a>(
+    alloc: Global,
     signatures: &Signatures<'_>,
+    constants: &Constants<'_>,
     served: &mut Served<'a>,
     given: &'a (Text, Value),
 ) -> Result<bool, AllocError>
+    requires { constants.now ≡ signatures.now }
     ensures right { IfOk result (λ right. (earlier : List EntryOf) → Serves earlier served.old
         → IsTrue right ↔ IsRight (program signatures.now) earlier (constant_entry given.now)) }
     ensures serves { IfOk result (λ right. (earlier : List EntryOf) → Serves earlier served.old
@@ -45,10 +49,13 @@ fn is_right_constant<'a>(
     if !served.give(given.0.as_str())? {
         return Ok(false);
     }
-    if !signatures.has_constant(given.0.as_str()) {
+    if !constants.has(given.0.as_str()) {
         return Ok(false);
     }
-    Ok(is_typed(&given.1))
+    if !is_typed(&given.1) {
+        return Ok(false);
+    }
+    constants.fits(alloc, signatures.types(), given.0.as_str(), &given.1)
 }
 
 // Whether the entry of a callee is right behind earlier ones. The callee joins theirs.
@@ -78,16 +85,20 @@ fn is_right_callee<'a>(
 fn is_right<'a>(
     alloc: Global,
     signatures: &Signatures<'_>,
+    constants: &Constants<'_>,
     served: &mut Served<'a>,
     given: &Entry<'a>,
 ) -> Result<bool, AllocError>
+    requires { constants.now ≡ signatures.now }
     ensures right { IfOk result (λ right. (earlier : List EntryOf) → Serves earlier served.old
         → IsTrue right ↔ IsRight (program signatures.now) earlier (entry given.now)) }
     ensures serves { IfOk result (λ right. (earlier : List EntryOf) → Serves earlier served.old
         → IsTrue right → Serves (earlier ++ entry given.now ∷ []) served.new) }
 {
     match given {
-        Entry::Constant(constant) => is_right_constant(signatures, served, constant),
+        Entry::Constant(constant) => {
+            is_right_constant(alloc, signatures, constants, served, constant)
+        }
         Entry::Cases(cases) => is_right_callee(alloc, signatures, served, &cases.callee, given),
         Entry::Turns(turns) => is_right_callee(alloc, signatures, served, &turns.callee, given),
     }
@@ -97,9 +108,11 @@ fn is_right<'a>(
 fn all_right<'a>(
     alloc: Global,
     signatures: &Signatures<'_>,
+    constants: &Constants<'_>,
     answers: &'a Answers,
 ) -> Result<Served<'a>, RunError>
-    requires { length answers.now.consts + length answers.now.pure + length answers.now.turns < 2 ^ 64 }
+    requires same { constants.now ≡ signatures.now }
+    requires counted { length answers.now.consts + length answers.now.pure + length answers.now.turns < 2 ^ 64 }
     ensures right { OnOk result (AreRight (program signatures.now) [] (entries (meaning answers.now))) }
     ensures serves { IfOk result (Serves (entries (meaning answers.now))) }
     ensures wrong { IfErr result (AreWrong (program signatures.now) (entries (meaning answers.now))) }
@@ -107,7 +120,7 @@ fn all_right<'a>(
     let mut served = Served::new(alloc);
     for index in 0..count(answers) {
         let given = entry_at(answers, index);
-        if !is_right(alloc, signatures, &mut served, &given)? {
+        if !is_right(alloc, signatures, constants, &mut served, &given)? {
             return Err(RunError::BadAnswers(index));
         }
     }
@@ -124,18 +137,19 @@ pub fn try_entries(
     requires { length answers.now.consts + length answers.now.pure + length answers.now.turns < 2 ^ 64 }
     ensures right { OnOk result (AreRight (program p.now) [] (entries (meaning answers.now))) }
     ensures answered { OnOk result (AreAnswered (function f.now) (entries (meaning answers.now))) }
-    ensures given { OnOk result (AreGiven p.now.types (function f.now) (entries (meaning answers.now))) }
+    ensures given { OnOk result (AreGiven (program p.now) (function f.now) (entries (meaning answers.now))) }
     ensures bad { IfErr result (AreBad (program p.now) (function f.now) (entries (meaning answers.now))) }
 {
     let signatures = Signatures::new(alloc, p)?;
-    let served = match all_right(alloc, &signatures, answers) {
+    let constants = Constants::new(alloc, p, &signatures)?;
+    let served = match all_right(alloc, &signatures, &constants, answers) {
         Ok(served) => served,
         Err(e) => return Err(e),
     };
     if !are_within(&served, f.body.as_slice()) {
         return Err(RunError::BadAnswers(count(answers)));
     }
-    if !are_known(alloc, &served, signatures.types(), f.body.as_slice())? {
+    if !are_known(alloc, &served, &constants, &signatures, f)? {
         return Err(RunError::BadAnswers(count(answers)));
     }
     Ok(())

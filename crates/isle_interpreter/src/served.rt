@@ -4,7 +4,8 @@ ghost use Rattle.std.specs.Prelude.{◌≡◌, ◌||◌, ℕ, List, [], not, IfO
 ghost use Rattle.std.specs.Str.{bytes_eq};
 ghost use Rattle.isle_core.specs.declared.values.Callee.{Callee};
 ghost use Rattle.isle_core.specs.Terms.{goes_to};
-ghost use Rattle.isle_interpreter.specs.Served.{has_name, has, Serves};
+ghost use Rattle.isle_naming.specs.Sets.{has_name};
+ghost use Rattle.isle_interpreter.specs.Served.{has, Serves};
 
 use isle_core::Callee;
 use std::alloc::{AllocError, Global};

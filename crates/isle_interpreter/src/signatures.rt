@@ -3,25 +3,25 @@
 ghost use Rattle.std.specs.Prelude.{◌≡◌, ◌↔◌, IfOk, IsTrue, option_map};
 ghost use Rattle.isle_core.specs.ValueViews.{values, answer};
 ghost use Rattle.isle_tree.specs.Views.{function, program};
-ghost use Rattle.isle_interpreter.specs.Entries.{has_constant};
 ghost use Rattle.isle_interpreter.specs.Signatures.{AreNamed, AnswerFits, trait_signature, term_signature, signature_of};
 ghost use Rattle.isle_interpreter.specs.SignatureViews.{signature};
+ghost use Rattle.isle_interpreter.specs.Told.{answer_told};
+ghost use Rattle.isle_interpreter.specs.ToldViews.{told};
 
-use crate::standing::standing;
 use crate::terms::Terms;
+use crate::told::Told;
 use crate::types::Types;
 use crate::values::{answer_fits, first_wrong};
 use isle_core::{Answer, Callee, ReturnKind, Text, Value};
 use isle_tree::{Callees, Function, Program, TraitFn, Ty};
 use std::alloc::{AllocError, Global};
-use std::collections::BTreeSet;
 use std::marker::Model;
 use std::slice;
 
 /// What a function takes, what its answers hold, and how it answers.
 #[derive(Drop)]
 pub struct Signature<'p> {
-    params: &'p [Ty],
+    pub params: &'p [Ty],
     results: &'p [Text],
     kind: ReturnKind,
 }
@@ -65,6 +65,21 @@ impl<'p> Signature<'p> {
         Ok(first_wrong(alloc, types, self.params, args)?.is_none())
     }
 
+    /// Returns what is told of what a call of the function gives.
+    pub fn answer_told(&self) -> Told<'p>
+        ensures { told result ≡ answer_told (signature self.now).kind (signature self.now).results }
+    {
+        let ty = match self.results {
+            [ty] => ty.as_str(),
+            _ => return Told::Untold,
+        };
+        match self.kind {
+            ReturnKind::Plain => Told::AValue(ty),
+            ReturnKind::Option => Told::AnOption(ty),
+            ReturnKind::Iterator => Told::Untold,
+        }
+    }
+
     /// Tells whether the function can answer so. The only error is want of memory.
     pub fn gives(
         &self,
@@ -78,24 +93,20 @@ impl<'p> Signature<'p> {
     }
 }
 
-/// The functions of a program, each found by what a call goes to, its types, and the names in its functions.
+/// The functions of a program, each found by what a call goes to, and its types.
 #[derive(Drop)]
 pub struct Signatures<'p> {
     program: &'p Program,
     callees: Callees<'p>,
     terms: Terms<'p>,
     types: Types<'p>,
-    names: BTreeSet<&'p str>,
 }
 
 impl<'p> Model for Signatures<'p> {
-    ghost use Rattle.std.specs.Prelude.{◌≡◌, ℕ, List, map};
+    ghost use Rattle.std.specs.Prelude.{◌≡◌};
     ghost use Rattle.std.specs.Coded.{codes};
     ghost use Rattle.isle_tree.specs.contracts.tree.Stmt as e;
     ghost use Rattle.isle_tree.specs.declared.tree.Program.{Program};
-    ghost use Rattle.isle_tree.specs.Views.{function};
-    ghost use Rattle.isle_interpreter.specs.Names.{function_names, is_among};
-    ghost use Rattle.isle_interpreter.specs.Served.{has_name};
 
     ghost Value = { Program };
 
@@ -103,8 +114,7 @@ impl<'p> Model for Signatures<'p> {
 
     ghost view = { λ s. s.program.now };
 
-    ghost invariant = { λ s. (s.callees ≡ s.program.now.trait_fns) × (s.terms ≡ s.program.now.fns) × (s.types ≡ s.program.now.types)
-        × ((name : List ℕ) → has_name s.names name ≡ is_among name (function_names (map function s.program.now.fns))) };
+    ghost invariant = { λ s. (s.callees ≡ s.program.now.trait_fns) × (s.terms ≡ s.program.now.fns) × (s.types ≡ s.program.now.types) };
 }
 
 impl<'p> Signatures<'p> {
@@ -115,13 +125,11 @@ impl<'p> Signatures<'p> {
         let callees = Callees::new(alloc, p.trait_fns.as_slice())?;
         let terms = Terms::new(alloc, p.fns.as_slice())?;
         let types = Types::new(alloc, p.types.as_slice())?;
-        let names = standing(alloc, p.fns.as_slice())?;
         Ok(Signatures {
             program: p,
             callees,
             terms,
             types,
-            names,
         })
     }
 
@@ -130,13 +138,6 @@ impl<'p> Signatures<'p> {
         ensures { result.now ≡ self.now.types }
     {
         &self.types
-    }
-
-    /// Tells whether the program has a constant of this name.
-    pub fn has_constant(&self, name: &str) -> bool
-        ensures { result ≡ has_constant (program self.now) name.now }
-    {
-        self.names.contains(name) && !self.types.has(name)
     }
 
     /// Returns the signature of what is called, where the program has it.

@@ -1,7 +1,7 @@
 //! The declared types of a program, by their names.
 
 ghost use Rattle.std.specs.Prelude.{◌≡◌, IfOk, option_map};
-ghost use Rattle.isle_interpreter.specs.DeclaredTypes.{type_item, is_declared};
+ghost use Rattle.isle_interpreter.specs.DeclaredTypes.{type_item};
 ghost use Rattle.isle_interpreter.specs.Types.{FindsItems};
 
 use isle_tree::TypeItem;
@@ -57,15 +57,5 @@ impl<'p> Types<'p> {
         ensures { option_map (λ t. t.now) result ≡ type_item self.now name.now }
     {
         self.found.get(name).copied()
-    }
-
-    /// Tells whether a type has the name.
-    pub fn has(&self, name: &str) -> bool
-        ensures { result ≡ is_declared self.now name.now }
-    {
-        match self.named(name) {
-            Some(_) => true,
-            None => false,
-        }
     }
 }

@@ -1,4 +1,4 @@
-use Rattle.std.proofs.Common.{rules, ◌≡◌, Some, None, true, false}
+use Rattle.std.proofs.Common.{rules, ◌≡◌, Some, true, false}
 use Rattle.isle_tree.specs.Views.{program}
 use Rattle.isle_interpreter.specs.EntryViews.{entry}
 use Rattle.isle_interpreter.specs.Served.{has}

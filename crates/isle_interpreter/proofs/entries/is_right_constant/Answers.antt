@@ -1,9 +1,10 @@
-use Rattle.std.proofs.Common.{rules, ◌≡◌, true, false}
+use Rattle.std.proofs.Common.{rules, ◌≡◌, true, false, subst}
+use Rattle.std.specs.Prelude.{◌↔◌, IsTrue, IfOk}
 use Rattle.isle_core.specs.ValueViews.{value}
 use Rattle.isle_tree.specs.Views.{program}
-use Rattle.isle_interpreter.specs.Entries.{has_constant, is_typed}
-use Rattle.isle_interpreter.specs.Served.{has_name}
-use Rattle.isle_interpreter.proofs.EntryTests.{added, not_added, given_again, given_right}
+use Rattle.isle_naming.specs.Sets.{has_name}
+use Rattle.isle_interpreter.specs.Entries.{has_constant, is_typed, FitsPlaces}
+use Rattle.isle_interpreter.proofs.EntryTests.{added, not_added, given_again, given_fits}
 use Rattle.isle_interpreter.proofs.entries.is_right_constant.Goals as goal
 
 pub returns-then-not-branch-clause-right : goal.returns-then-not-branch-clause-right
@@ -13,8 +14,12 @@ returns-then-not-branch-clause-right c earlier serves =
     given_again (program c.args.signatures.now) earlier name (value c.args.given.now.1) c.args.served.now serves there
 
 pub returns-clause-right : goal.returns-clause-right
-returns-clause-right c earlier serves =
+returns-clause-right c =
     let name = c.args.given.now.0 in
     let fresh : has_name c.args.served.now.constants name ≡ false = added _ _ (search rules) c.if-not-branch.false in
     let there : has_constant (program c.args.signatures.now) name ≡ true = search rules in
-    given_right (program c.args.signatures.now) earlier name (value c.args.given.now.1) c.args.served.now c.is_typed.result serves fresh there c.is_typed.ensures
+    let typed : is_typed (value c.args.given.now.1) ≡ true = search rules in
+    let fits : IfOk c.fits.result (λ b. IsTrue b ↔ FitsPlaces (program c.args.signatures.now) name (value c.args.given.now.1)) =
+    subst (λ n. IfOk c.fits.result (λ b. IsTrue b ↔ FitsPlaces (program c.args.signatures.now) n (value c.args.given.now.1))) c.as_str-3.ensures
+    (subst (λ q. IfOk c.fits.result (λ b. IsTrue b ↔ FitsPlaces (program q) c.as_str-3.result.now (value c.args.given.now.1))) c.requires c.fits.ensures) in
+    given_fits (program c.args.signatures.now) name (value c.args.given.now.1) c.args.served.now c.fits.result fresh there typed fits

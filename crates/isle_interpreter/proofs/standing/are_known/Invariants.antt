@@ -1,12 +1,13 @@
-use Rattle.std.proofs.Common.{◌≡◌, map, drop}
+use Rattle.std.proofs.Common.{◌≡◌, ℕ, List, drop}
 use Rattle.std.specs.Prelude.{◌||◌}
 use Rattle.std.specs.List.{list_all}
-use Rattle.isle_tree.specs.Views.{body}
-use Rattle.isle_interpreter.specs.DeclaredTypes.{is_declared}
-use Rattle.isle_interpreter.specs.Names.{body_names}
-use Rattle.isle_interpreter.specs.Served.{has_name}
+use Rattle.isle_tree.specs.Views.{function, program}
+use Rattle.isle_naming.specs.Occurring.{occurs}
+use Rattle.isle_naming.specs.Sets.{has_name}
+use Rattle.isle_interpreter.specs.Places.{names_at, places}
+use Rattle.isle_interpreter.specs.ToldViews.{named}
 use Rattle.isle_interpreter.proofs.standing.are_known.Given as goal
 
 abbrev pub invariant-loop-index : goal.invariant-loop-index
 invariant-loop-index l =
-    list_all (λ name. has_name l.served.constants name || is_declared l.types name) (map (λ x. x.now) (drop l.index l.names.items)) ≡ list_all (λ name. has_name l.served.constants name || is_declared l.types name) (body_names (body l.statements))
+    list_all (λ (x : List ℕ × List ℕ). has_name l.served.constants x.0 || occurs (program l.constants) x.0) (named (drop l.index l.found.items)) ≡ list_all (λ (x : List ℕ × List ℕ). has_name l.served.constants x.0 || occurs (program l.constants) x.0) (names_at (places (program l.signatures) (function l.f)))

@@ -1,4 +1,4 @@
-use Rattle.std.proofs.Common.{rules, ◌≡◌, Some, inr}
+use Rattle.std.proofs.Common.{rules, ◌≡◌, Some}
 use Rattle.isle_core.specs.ValueViews.{values, meaning}
 use Rattle.isle_tree.specs.Run.{function_of}
 use Rattle.isle_tree.specs.Views.{function, program}

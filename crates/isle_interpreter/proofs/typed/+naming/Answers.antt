@@ -1,4 +1,4 @@
-use Rattle.std.proofs.Common.{rules, arith, ◌≡◌, ◌<◌, length, Bool, false}
+use Rattle.std.proofs.Common.{rules, arith, ◌≡◌, ◌<◌, length}
 use Rattle.std.specs.Fmt.{decimal}
 use Rattle.isle_outcomes.specs.Fields.{fields}
 use Rattle.isle_printer.specs.Bytes.{same_bytes}

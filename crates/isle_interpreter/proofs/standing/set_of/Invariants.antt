@@ -1,8 +1,0 @@
-use Rattle.std.proofs.Common.{◌≡◌, ℕ, List, map, drop}
-use Rattle.std.specs.Prelude.{◌||◌}
-use Rattle.isle_interpreter.specs.Names.{is_among}
-use Rattle.isle_interpreter.specs.Served.{has_name}
-use Rattle.isle_interpreter.proofs.standing.set_of.Given as goal
-
-abbrev pub invariant-loop-name : goal.invariant-loop-name
-invariant-loop-name l = (name : List ℕ) → (has_name l.found name || is_among name (map (λ x. x.now) (drop l.name-index l.names))) ≡ is_among name (map (λ x. x.now) l.names)
