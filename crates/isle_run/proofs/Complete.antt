@@ -35,6 +35,7 @@ use Rattle.isle_codegen.specs.Source.{InLanguage}
 use Rattle.isle_run.specs.declared.refusal.Refusal.{Refusal}
 use Rattle.isle_run.specs.declared.refusal.Refusal.TheVariants as refused
 use Rattle.isle_run.specs.Conforming.{Conforms}
+use Rattle.isle_run.specs.LeftOut.{leave_out}
 use Rattle.isle_run.specs.NoLines as no_lines
 use Rattle.isle_run.specs.NoLines.{IsRunRefused, IsSourceRefused, HasNoLines}
 use Rattle.isle_run.specs.Trial.{args_given}
@@ -82,7 +83,7 @@ module _ (options : CodegenOptions) (files : Files) (term : List ℕ) (ws : Writ
   abbrev names : HasLawfulNames c.env
   names = lawful_names files c.env c.checked
 
-  abbrev wanted : AreWanted p term (constants_at c.env c.forms)
+  abbrev wanted : AreWanted (record { program = p; env = c.env; term = term; args = args_given c.env term ws }) (answers_at c.env c.forms)
   wanted = c.wanted options p conforms
 
   abbrev answers : Meaning
@@ -109,12 +110,12 @@ module _ (options : CodegenOptions) (files : Files) (term : List ℕ) (ws : Writ
   may = record {
     found = the_function.found;
     typed = named;
-    right = all_right options files c.env names p conforms (constants_at c.env c.forms) (turns_at c.env c.forms) c.constants wanted.stand c.right;
+    right = all_right options files c.env names p conforms (constants_at c.env c.forms) (turns_at c.env c.forms) c.constants wanted.stand wanted.fit c.right;
     answered = λ callee k none.
         c.answered callee (the_function.block.calls callee k)
         (answered_back callee (turns_at c.env c.forms) (all_back (λ f. goes_to callee (answers_for f) ≡ false) (as_entries (constants_at c.env c.forms)) (map Turns (turns_at c.env c.forms)) none));
-    given = λ name k free none.
-        wanted.given the_function.function the_function.found name k free
+    given = λ name ty k free none.
+        wanted.given the_function.function the_function.found name ty k free
         (given_back name (constants_at c.env c.forms) (all_front (λ f. gives name f ≡ false) (as_entries (constants_at c.env c.forms)) (map Turns (turns_at c.env c.forms)) none));
   }
 
@@ -129,6 +130,10 @@ module _ (options : CodegenOptions) (files : Files) (term : List ℕ) (ws : Writ
       absurd cc
   run_not_refused _ (no_lines.wrong forms i spelt built h) =
       not_refused p term args answers the_function.function _ may (subst (λ fs. IsRefused p term args (answers_at c.env fs) (error.BadAnswers i)) (forms_same text forms c.forms spelt c.spelt) h)
+  run_not_refused _ (no_lines.left_out forms spelt built runs h) =
+      let left : leave_out (record { program = p; env = c.env; term = term; args = args }) answers ≡ true = subst (λ fs. leave_out (record { program = p; env = c.env; term = term; args = args }) (answers_at c.env fs) ≡ true) (forms_same text forms c.forms spelt c.spelt) h in
+      let same : true ≡ false = sym left ∙ wanted.kept in
+      absurd cc
 
 source_not_refused : (options : CodegenOptions) (files : Files) (term : List ℕ) (ws : Writtens) (text : List ℕ) (e : Refusal) (c : CanRun files term ws text) → IsSourceRefused options files term ws text e → ⊥
 source_not_refused options files term ws text e c s =

@@ -28,12 +28,11 @@ use Rattle.isle_interpreter.specs.Refusals.{MayRun}
 use Rattle.isle_interpreter.specs.Signatures.{type_names, IsNamed, AreNamed}
 use Rattle.isle_codegen.specs.Checked.{IsChecked}
 use Rattle.isle_run.specs.Conforming.{Conforms}
+use Rattle.isle_run.specs.LeftOut.{leave_out}
 use Rattle.isle_run.specs.Ran.{IsUnder, IsOutcome}
 use Rattle.isle_run.specs.Trial.{args_given, shown_run, AreLines, IsTrial}
 use Rattle.isle_run.proofs.FoundTerms.{Found, both_found, declared_name}
-use Rattle.isle_run.proofs.LawfulNames.{HasLawfulNames}
 use Rattle.isle_run.proofs.Means.{means}
-use Rattle.isle_run.proofs.SourceNames.{lawful_names}
 
 -- a misfit is of no type
 misfit_unnamed : (types : List TypeItem) (name : List ℕ) → IsNamed types name misfit → ⊥
@@ -68,9 +67,9 @@ types_fit files env types term ws f h named =
 
 -- the lines of a run
 pub are_lines : (options : CodegenOptions) (files : Files) (env : Environment) (p : Program) (term : List ℕ) (ws : Writtens) (f : Function) (r : Ran) (answers : Meaning)
-    → HasLawfulNames env → Conforms options files env p → MayRun p term (args_given env term ws) answers f → run p term (args_given env term ws) answers ≡ Some r
+    → leave_out (record { program = p; env = env; term = term; args = args_given env term ws }) answers ≡ false → Conforms options files env p → MayRun p term (args_given env term ws) answers f → run p term (args_given env term ws) answers ≡ Some r
     → AreLines options files env term (args_given env term ws) answers (run_lines (shown_run env r))
-are_lines options files env p term ws f r answers names conforms may runs =
+are_lines options files env p term ws f r answers kept conforms may runs =
     let h = both_found files env term (with_rules env) p.fns f conforms.functions.declared may.found in
     let types = types_fit files env p.types term ws f h may.typed in
     record {
@@ -79,7 +78,7 @@ are_lines options files env p term ws f r answers names conforms may runs =
       declared = h.declared.term;
       found = h.declared.found;
       typed = types;
-      means = means options files env p term (args_given env term ws) answers f r h.id h.declared.term names conforms may runs h.among (declared_name files env h.id f h.declared ∙ sym h.named) h.declared.found types;
+      means = means options files env p term (args_given env term ws) answers f r h.id h.declared.term kept conforms may runs h.among (declared_name files env h.id f h.declared ∙ sym h.named) h.declared.found types;
       program = p;
       conforms = conforms;
       fits = record { function = f; may = may };
@@ -100,5 +99,5 @@ is_trial options files env p term ws args text r lines checked conforms given h 
       spelt = h.spelt;
       once = h.once;
       built = under.built;
-      are_lines = subst (AreLines options files env term (args_given env term ws) (answers_at env h.forms)) (sym shown) (are_lines options files env p term ws under.fits.function r (answers_at env h.forms) (lawful_names files env checked) conforms under.fits.may under.runs);
+      are_lines = subst (AreLines options files env term (args_given env term ws) (answers_at env h.forms)) (sym shown) (are_lines options files env p term ws under.fits.function r (answers_at env h.forms) under.given conforms under.fits.may under.runs);
     }

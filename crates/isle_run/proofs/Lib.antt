@@ -1,4 +1,5 @@
 pub mod FoundTerms
+pub mod LeftOut
 pub mod Means
 pub mod ImpureCalls
 pub mod RunRefusals

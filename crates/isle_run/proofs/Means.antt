@@ -15,22 +15,20 @@ use Rattle.isle_core.specs.NamesApart.{ValuesConstants}
 use Rattle.isle_core.specs.Calling.{kind_of}
 use Rattle.isle_core.specs.Rule.{Environment}
 use Rattle.isle_core.specs.Terms.{term_name, with_rules}
-use Rattle.isle_tree.specs.declared.tree.TypeItem.{TypeItem}
 use Rattle.isle_tree.specs.Program.{Program, Function}
-use Rattle.isle_tree.specs.Run.{run, function_run}
+use Rattle.isle_tree.specs.Run.{run, function_of, function_run}
 use Rattle.isle_outcomes.specs.Lines.{run_lines}
-use Rattle.isle_interpreter.specs.DeclaredTypes.{is_declared}
-use Rattle.isle_interpreter.specs.Entries.{entries}
-use Rattle.isle_interpreter.specs.Names.{body_names}
-use Rattle.isle_interpreter.specs.Refusals.{AreGiven, MayRun}
-use Rattle.isle_interpreter.proofs.Agree.{same_run, no_value_given}
+use Rattle.isle_naming.specs.Names.{body_names}
+use Rattle.isle_interpreter.specs.Refusals.{MayRun}
+use Rattle.isle_interpreter.proofs.Agree.{same_run}
 use Rattle.isle_simulation.specs.Emitted.{ran_with}
 use Rattle.isle_simulation.specs.Ends.{end_of}
 use Rattle.isle_codegen.specs.Headline.{impure_calls, GivesOutcome, GivesAs}
-use Rattle.isle_items.specs.TypeItems.{type_items_of}
+use Rattle.isle_run.specs.Attempt.{Attempt}
 use Rattle.isle_run.specs.Conforming.{Conforms}
+use Rattle.isle_run.specs.LeftOut.{leave_out}
 use Rattle.isle_run.specs.Trial.{AreOutcome, shown_run}
-use Rattle.isle_run.proofs.LawfulNames.{HasLawfulNames, constant_undeclared}
+use Rattle.isle_run.proofs.LeftOut.{none_left_out}
 use Rattle.isle_run.proofs.NamelessLines.{lines_same}
 
 -- what holds of the thing that is there
@@ -56,28 +54,24 @@ same_lines env id t args m p r e h =
     }
 
 -- a name in the function that the answers leave out has no value under a meaning that values constants alone
-no_value : (env : Environment) (types : List TypeItem) (answers m : Meaning) (f : Function) → HasLawfulNames env → types ≡ type_items_of env → AreGiven types f (entries answers) → ValuesConstants env m
-    → (name : List ℕ) → Contains (body_names f.body) name → const_of answers name ≡ None → const_of m name ≡ None
-no_value env types answers m f names are given values name there none = by (const_of m name) refl
+no_value : (a : Attempt) (answers m : Meaning) (f : Function) → leave_out a answers ≡ false → function_of a.term a.program.fns ≡ Some f → ValuesConstants a.env m → (name : List ℕ) → Contains (body_names f.body) name → const_of answers name ≡ None → const_of m name ≡ None
+no_value a answers m f kept found values name there none = by (const_of m name) refl
   where
     by : (o : Option Value) → const_of m name ≡ o → const_of m name ≡ None
     by None e = e
-    by (Some v) e =
-        let c = values name v e in
-        let free : is_declared types name ≡ false = subst (λ ts. is_declared ts name ≡ false) (sym are) (constant_undeclared env names c.0 name c.1) in
-        absurd (given name there free (no_value_given answers name none))
+    by (Some v) e = let c = values name v e in absurd (none_left_out a answers f c.0 name kept found c.1 there none)
 
 -- so it is under every lawful meaning that has the answers
 pub means : (options : CodegenOptions) (files : Files) (env : Environment) (p : Program) (term : List ℕ) (args : List Value) (answers : Meaning) (f : Function) (r : Ran) (id : TermId) (t : Term)
-    → HasLawfulNames env → Conforms options files env p → MayRun p term args answers f → run p term args answers ≡ Some r
+    → leave_out (record { program = p; env = env; term = term; args = args }) answers ≡ false → Conforms options files env p → MayRun p term args answers f → run p term args answers ≡ Some r
     → Contains (with_rules env) id → term_name env id ≡ term → slice_get env.terms id.0 ≡ Some t → HaveTypes env args t.arg_tys
     → (m : Meaning) → IsLawful env id m → HasAnswers m answers → AreOutcome env id t args m (run_lines (shown_run env r))
-means options files env p term args answers f r id t names conforms may runs among named there types m lawful has =
+means options files env p term args answers f r id t kept conforms may runs among named there types m lawful has =
     let rules = some_and (λ (t : Term). (args : List Value) (m : Meaning) → HaveTypes env args t.arg_tys → IsLawful env id m → GivesOutcome env p id t args m) (slice_get env.terms id.0) t there (conforms.functions.mean id among) in
     let same : run p (term_name env id) args m ≡ Some r =
     ap (λ n. run p n args m) named
     ∙ ap (function_run p m args) may.found
-    ∙ same_run m answers has p f args may.answered (no_value env p.types answers m f names conforms.frame.types may.given lawful.declared)
+    ∙ same_run m answers has p f args may.answered (no_value (record { program = p; env = env; term = term; args = args }) answers m f kept may.found lawful.declared)
     ∙ sym (ap (function_run p answers args) may.found)
     ∙ runs in
     same_lines env id t args m p r same (rules args m types lawful)

@@ -40,6 +40,7 @@ run_of a text _ (no_lines.arg_type m i h) = tt
 run_of a text _ (no_lines.fault at takes h) = tt
 run_of a text _ (no_lines.unbuilt forms takes spelt bad) = tt
 run_of a text _ (no_lines.wrong forms i spelt built h) = tt
+run_of a text _ (no_lines.left_out forms spelt built runs h) = tt
 
 -- so of what gives no lines
 pub lines_of : (options : CodegenOptions) (files : Files) (term : List ℕ) (ws : Writtens) (text : List ℕ) (e : Refusal) → HasNoLines options files term ws text e → IsOfRun e
@@ -55,6 +56,7 @@ run_places a text _ (no_lines.arg_type m i h) = tt
 run_places a text _ (no_lines.fault at takes h) = tt
 run_places a text _ (no_lines.unbuilt forms takes spelt bad) = tt
 run_places a text _ (no_lines.wrong forms i spelt built h) = tt
+run_places a text _ (no_lines.left_out forms spelt built runs h) = tt
 
 has_places : (options : CodegenOptions) (files : Files) (term : List ℕ) (ws : Writtens) (text : List ℕ) (e : Refusal) → HasNoLines options files term ws text e → HasPlaces e
 has_places options files term ws text _ (no_lines.not_of_it h) = tt

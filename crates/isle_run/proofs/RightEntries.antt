@@ -17,7 +17,7 @@ use Rattle.isle_core.specs.Value.{Value, Answer}
 use Rattle.isle_tree.specs.declared.tree.TraitFn.{TraitFn}
 use Rattle.isle_tree.specs.Program.{Program}
 use Rattle.isle_tree.specs.WellFormed.{trait_fn, fn_names}
-use Rattle.isle_interpreter.specs.Entries.{Entry, Constant, Turns, IsUnanswered, IsUngiven, EntryFits, has_constant, IsRight, AreRight}
+use Rattle.isle_interpreter.specs.Entries.{Entry, Constant, Turns, IsUnanswered, IsUngiven, EntryFits, has_constant, FitsPlaces, IsRight, AreRight}
 use Rattle.isle_interpreter.specs.Signatures.{Signature, trait_signature, term_signature, signature_of, AnswerFits}
 use Rattle.isle_interpreter.proofs.AnswersHold.{no_constants, both_unanswered}
 use Rattle.isle_simulation.specs.TypeTexts.{type_text}
@@ -127,21 +127,21 @@ module _ (options : CodegenOptions) (files : Files) (env : Environment) (names :
 
   -- ---- constants
 
-  constant_right : (earlier : List (List ℕ × Value)) (c : List ℕ × Value) → IsRightConstant env earlier c → has_constant p c.0 ≡ true → IsRight p (as_entries earlier) (Constant c.0 c.1)
-  constant_right earlier c h stands = (ungiven c.0 earlier h.first, stands, value_typed env names.has_rules names.lawful names.builtins c.1 h.ty h.typed)
+  constant_right : (earlier : List (List ℕ × Value)) (c : List ℕ × Value) → IsRightConstant env earlier c → has_constant p c.0 ≡ true → FitsPlaces p c.0 c.1 → IsRight p (as_entries earlier) (Constant c.0 c.1)
+  constant_right earlier c h stands fits = record { once = ungiven c.0 earlier h.first; there = stands; typed = value_typed env names.has_rules names.lawful names.builtins c.1 h.ty h.typed; fits = fits }
 
   -- constants in front of what is right behind them all
-  constants_right : (earlier later : List (List ℕ × Value)) (rest : List Entry) → AreRightConstants env earlier later → AllByRecursion (λ (c : List ℕ × Value). has_constant p c.0 ≡ true) later → AreRight p (as_entries (earlier ++ later)) rest
+  constants_right : (earlier later : List (List ℕ × Value)) (rest : List Entry) → AreRightConstants env earlier later → AllByRecursion (λ (c : List ℕ × Value). has_constant p c.0 ≡ true) later → AllByRecursion (λ (c : List ℕ × Value). FitsPlaces p c.0 c.1) later → AreRight p (as_entries (earlier ++ later)) rest
       → AreRight p (as_entries earlier) (as_entries later ++ rest)
-  constants_right earlier [] rest h stand right = subst (λ cs. AreRight p (as_entries cs) rest) (append-nil earlier) right
-  constants_right earlier (c ∷ later) rest h stand right = (
-    constant_right earlier c h.0 stand.0,
+  constants_right earlier [] rest h stand fit right = subst (λ cs. AreRight p (as_entries cs) rest) (append-nil earlier) right
+  constants_right earlier (c ∷ later) rest h stand fit right = (
+    constant_right earlier c h.0 stand.0 fit.0,
     subst (λ fs. AreRight p fs (as_entries later ++ rest)) (map-append (λ (x : List ℕ × Value). Constant x.0 x.1) earlier (c ∷ []))
-        (constants_right (earlier ++ c ∷ []) later rest h.1 stand.1 (subst (λ cs. AreRight p (as_entries cs) rest) (sym (append_assoc earlier (c ∷ []) later)) right)),
+        (constants_right (earlier ++ c ∷ []) later rest h.1 stand.1 fit.1 (subst (λ cs. AreRight p (as_entries cs) rest) (sym (append_assoc earlier (c ∷ []) later)) right)),
   )
 
   -- all entries
-  pub all_right : (consts : List (List ℕ × Value)) (turns : List TurnAnswers) → AreRightConstants env [] consts → AllByRecursion (λ (c : List ℕ × Value). has_constant p c.0 ≡ true) consts → AllRight env [] turns
+  pub all_right : (consts : List (List ℕ × Value)) (turns : List TurnAnswers) → AreRightConstants env [] consts → AllByRecursion (λ (c : List ℕ × Value). has_constant p c.0 ≡ true) consts → AllByRecursion (λ (c : List ℕ × Value). FitsPlaces p c.0 c.1) consts → AllRight env [] turns
       → AreRight p [] (as_entries consts ++ map Turns turns)
-  all_right consts turns constants stand right =
-      constants_right [] consts (map Turns turns) constants stand (subst (λ fs. AreRight p fs (map Turns turns)) (append-nil (as_entries consts)) (all_turns consts [] turns right))
+  all_right consts turns constants stand fit right =
+      constants_right [] consts (map Turns turns) constants stand fit (subst (λ fs. AreRight p fs (map Turns turns)) (append-nil (as_entries consts)) (all_turns consts [] turns right))

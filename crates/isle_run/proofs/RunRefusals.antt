@@ -1,18 +1,22 @@
 -- A refusal of a run refuses it.
-use Rattle.std.proofs.Common.{◌≡◌, ◌⊎◌, inl, inr, ℕ, List, [], length, true, sym, subst, ap, refl}
+use Rattle.std.proofs.Common.{◌≡◌, ◌⊎◌, inl, inr, ℕ, List, [], length, Bool, true, false, Some, sym, subst, ap, refl, ◌∙◌}
 use Rattle.isle_core.specs.Meaning.{Meaning}
 use Rattle.isle_answers.specs.Form.{Form}
 use Rattle.isle_answers.specs.Spelling.{SpellsForms}
 use Rattle.isle_run_inputs.specs.Built.{are_built}
 use Rattle.isle_run_inputs.specs.AnswersAt.{answers_at}
 use Rattle.isle_run_inputs.specs.Places.{place_at}
-use Rattle.isle_interpreter.specs.Judged.{IsEarly}
+use Rattle.isle_core.specs.Value.{Ran}
+use Rattle.isle_tree.specs.Run.{run}
+use Rattle.isle_interpreter.specs.Judged.{IsEarly, Runs}
 use Rattle.isle_interpreter.specs.Refusals.{IsRefused}
 use Rattle.isle_interpreter.specs.declared.run_error.RunError.{RunError}
 use Rattle.isle_interpreter.specs.declared.run_error.RunError.TheVariants as error
 use Rattle.isle_run.specs.declared.refusal.Refusal.TheVariants as refusal
 use Rattle.isle_run.specs.Attempt.{Attempt}
-use Rattle.isle_run.specs.NoLines.{IsRunRefused, no_term, arg_count, arg_type, wrong}
+use Rattle.isle_run.specs.LeftOut.{leave_out}
+use Rattle.isle_run.specs.Ran.{IsUnder}
+use Rattle.isle_run.specs.NoLines.{IsRunRefused, no_term, arg_count, arg_type, wrong, left_out}
 use Rattle.isle_run.specs.Placed.{placed}
 
 early : (a : Attempt) (text : List ℕ) (m : Meaning) (e : RunError) → IsEarly e → IsRefused a.program a.term a.args m e → IsRunRefused a text (placed e 0 [])
@@ -38,3 +42,18 @@ refuses a text forms end (error.ArgType i) spelt built ends (inr h) = inr (arg_t
 refuses a text forms end (error.BadAnswers i) spelt built ends (inr h) =
     inr (subst (λ n. IsRunRefused a text (refusal.BadAnswers (place_at n forms i))) (sym ends) (wrong forms i spelt built h))
 refuses a text forms end error.Memory spelt built ends (inr h) = inl refl
+
+-- a constant that is left out
+pub refuses_left : (a : Attempt) (text : List ℕ) (forms : List Form) (end : ℕ) (m : Meaning) (left : Bool) → SpellsForms text forms → are_built forms ≡ true → end ≡ length text → m ≡ answers_at a.env forms → Runs a.program a.term a.args m → left ≡ leave_out a m → left ≡ true
+    → IsRunRefused a text (refusal.BadAnswers end)
+refuses_left a text forms end m left spelt built ends same runs is out =
+    subst (λ n. IsRunRefused a text (refusal.BadAnswers n)) (sym ends) (left_out forms spelt built (subst (Runs a.program a.term a.args) same runs) (ap (leave_out a) (sym same) ∙ sym is ∙ out))
+
+-- a run under forms that leave none out
+pub under_forms : (a : Attempt) (forms : List Form) (m : Meaning) (left : Bool) (r : Ran) → are_built forms ≡ true → m ≡ answers_at a.env forms → Runs a.program a.term a.args m → left ≡ leave_out a m → left ≡ false → run a.program a.term a.args m ≡ Some r → IsUnder a forms r
+under_forms a forms m left r built same fits is kept runs = record {
+  built = built;
+  fits = subst (Runs a.program a.term a.args) same fits;
+  given = ap (leave_out a) (sym same) ∙ sym is ∙ kept;
+  runs = ap (run a.program a.term a.args) (sym same) ∙ runs;
+}

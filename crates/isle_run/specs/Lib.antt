@@ -1,6 +1,7 @@
 pub mod Conforming
 pub mod Trial
 pub mod Attempt
+pub mod LeftOut
 pub mod NoLines
 pub mod Ran
 pub mod Placed

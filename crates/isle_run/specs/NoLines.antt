@@ -12,7 +12,7 @@ use Rattle.isle_run_inputs.specs.Built.{are_built}
 use Rattle.isle_run_inputs.specs.AnswersAt.{answers_at}
 use Rattle.isle_run_inputs.specs.Places.{place_at}
 use Rattle.isle_tree.specs.Program.{Program}
-use Rattle.isle_interpreter.specs.Judged.{Takes}
+use Rattle.isle_interpreter.specs.Judged.{Takes, Runs}
 use Rattle.isle_interpreter.specs.Refusals.{IsRefused}
 use Rattle.isle_interpreter.specs.declared.run_error.RunError.TheVariants as error
 use Rattle.isle_core.specs.declared.errors.Errors.{Errors}
@@ -23,12 +23,13 @@ use Rattle.isle_codegen.specs.Checked.{IsChecked}
 use Rattle.isle_run.specs.declared.refusal.Refusal.{Refusal}
 use Rattle.isle_run.specs.declared.refusal.Refusal.TheVariants as refusal
 use Rattle.isle_run.specs.Attempt.{Attempt}
+use Rattle.isle_run.specs.LeftOut.{leave_out}
 use Rattle.isle_run.specs.Conforming.{Conforms}
 use Rattle.isle_run.specs.Trial.{args_given}
 
 -- why a program that conforms to the source isn't run, in the order in which it is asked: no function has the term, or
 -- takes the arguments, whatever the answers; the text of the answers goes wrong at this place; a form isn't built; a form
--- is wrong, or missing
+-- is wrong, or missing; or a constant of the source that stands in the function has none
 pub data IsRunRefused (a : Attempt) (text : List ℕ) : Refusal → Type 0 where
   no_term : (m : Meaning) → IsRefused a.program a.term a.args m error.NoTerm → IsRunRefused a text refusal.NoTerm
   arg_count : (m : Meaning) → IsRefused a.program a.term a.args m error.ArgCount → IsRunRefused a text refusal.ArgCount
@@ -37,6 +38,8 @@ pub data IsRunRefused (a : Attempt) (text : List ℕ) : Refusal → Type 0 where
   unbuilt : (forms : List Form) → Takes a.program a.term a.args → SpellsForms text forms → are_built forms ≡ false → IsRunRefused a text refusal.NotYet
   wrong : (forms : List Form) (i : ℕ) → SpellsForms text forms → are_built forms ≡ true → IsRefused a.program a.term a.args (answers_at a.env forms) (error.BadAnswers i)
       → IsRunRefused a text (refusal.BadAnswers (place_at (length text) forms i))
+  left_out : (forms : List Form) → SpellsForms text forms → are_built forms ≡ true → Runs a.program a.term a.args (answers_at a.env forms) → leave_out a (answers_at a.env forms) ≡ true
+      → IsRunRefused a text (refusal.BadAnswers (length text))
 
 -- the source was checked, and a program that conforms to it isn't run
 pub record IsSourceRefused (options : CodegenOptions) (files : Files) (term : List ℕ) (ws : Writtens) (text : List ℕ) (e : Refusal) : Type 0 where

@@ -1,5 +1,5 @@
 -- When a term of a source may be run under the answers of a text.
-use Rattle.std.specs.Prelude.{◌≡◌, ℕ, List, [], ◌∷◌, ◌++◌, Some, true, false, Contains, slice_get}
+use Rattle.std.specs.Prelude.{◌≡◌, ℕ, List, [], ◌∷◌, ◌++◌, Some, true, false, slice_get}
 use Rattle.std.specs.List.{AllByRecursion}
 use Rattle.std.specs.Str.{bytes_eq}
 use Rattle.isle_core.specs.declared.Sym.{Sym}
@@ -13,7 +13,7 @@ use Rattle.isle_core.specs.declared.values.Callee.TheVariants as callee
 use Rattle.isle_core.specs.Calling.{kind_of}
 use Rattle.isle_core.specs.HasType.{HasType, HaveTypes}
 use Rattle.isle_core.specs.Lawful.{Fits}
-use Rattle.isle_core.specs.Meaning.{TurnAnswers}
+use Rattle.isle_core.specs.Meaning.{TurnAnswers, Meaning}
 use Rattle.isle_core.specs.Rule.{Environment}
 use Rattle.isle_core.specs.Terms.{sym_text, goes_to}
 use Rattle.isle_core.specs.Value.{Value}
@@ -23,15 +23,17 @@ use Rattle.isle_values.specs.Written.{Writtens}
 use Rattle.isle_simulation.specs.TraitFns.{func_of}
 use Rattle.isle_tree.specs.Program.{Function, Program}
 use Rattle.isle_tree.specs.Run.{function_of}
-use Rattle.isle_interpreter.specs.DeclaredTypes.{is_declared}
-use Rattle.isle_interpreter.specs.Entries.{has_constant}
-use Rattle.isle_interpreter.specs.Names.{body_names}
+use Rattle.isle_naming.specs.Occurring.{occurs}
+use Rattle.isle_interpreter.specs.Entries.{has_constant, FitsPlaces}
+use Rattle.isle_interpreter.specs.Places.{StandsAt}
 use Rattle.isle_run_inputs.specs.Requested.{requested_term, constant_type}
 use Rattle.isle_run_inputs.specs.Built.{are_built}
-use Rattle.isle_run_inputs.specs.AnswersAt.{constants_at, turns_at}
+use Rattle.isle_run_inputs.specs.AnswersAt.{constants_at, turns_at, answers_at}
 use Rattle.isle_codegen.specs.CalledBy.{IsCalledBy}
 use Rattle.isle_codegen.specs.Checked.{IsChecked}
+use Rattle.isle_run.specs.Attempt.{Attempt}
 use Rattle.isle_run.specs.Conforming.{Conforms}
+use Rattle.isle_run.specs.LeftOut.{leave_out}
 use Rattle.isle_run.specs.Trial.{args_given}
 
 -- what calls go to: the external constructor of a term, or a term with rules
@@ -72,11 +74,14 @@ abbrev pub AreRightConstants : Environment → (earlier later : List (List ℕ �
 AreRightConstants env earlier [] = Unit {0}
 AreRightConstants env earlier (c ∷ more) = IsRightConstant env earlier c × AreRightConstants env (earlier ++ c ∷ []) more
 
--- the constants with values are those that a program wants for a run of the term: each of them stands in a function of it, and each
--- that stands in the term's function is one of them
-pub record AreWanted (p : Program) (term : List ℕ) (consts : List (List ℕ × Value)) : Type 0 where
-  pub stand : AllByRecursion (λ (c : List ℕ × Value). has_constant p c.0 ≡ true) consts
-  pub given : (f : Function) → function_of term p.fns ≡ Some f → (name : List ℕ) → Contains (body_names f.body) name → is_declared p.types name ≡ false → HasNoValue name consts → ⊥
+-- the constants with values are those that a program wants for a run of the term: each of them stands in a function of it, and has a
+-- value of each type that its places there have; and each that stands in the term's function is one of them, by the program and by
+-- the source
+pub record AreWanted (a : Attempt) (m : Meaning) : Type 0 where
+  pub stand : AllByRecursion (λ (c : List ℕ × Value). has_constant a.program c.0 ≡ true) m.consts
+  pub fit : AllByRecursion (λ (c : List ℕ × Value). FitsPlaces a.program c.0 c.1) m.consts
+  pub given : (f : Function) → function_of a.term a.program.fns ≡ Some f → (name ty : List ℕ) → StandsAt a.program f name ty → occurs a.program name ≡ false → HasNoValue name m.consts → ⊥
+  pub kept : leave_out a m ≡ false
 
 -- the source was checked, the term has rules, the values are of its types, and the text spells forms that are built and
 -- right, one for each callee of the term's rules, and for the constants of each program that conforms to the source
@@ -92,6 +97,6 @@ pub record CanRun (files : Files) (term : List ℕ) (ws : Writtens) (text : List
   pub spelt : SpellsForms text forms
   pub built : are_built forms ≡ true
   pub constants : AreRightConstants env [] (constants_at env forms)
-  pub wanted : (options : CodegenOptions) (p : Program) → Conforms options files env p → AreWanted p term (constants_at env forms)
+  pub wanted : (options : CodegenOptions) (p : Program) → Conforms options files env p → AreWanted (record { program = p; env = env; term = term; args = args_given env term ws }) (answers_at env forms)
   pub right : AllRight env [] (turns_at env forms)
   pub answered : (c : Callee) → IsCalledBy env id c → HasNoTurns c (turns_at env forms) → ⊥

@@ -2,6 +2,7 @@
 #![tactic(auto)]
 
 mod checked;
+mod left_out;
 mod outcome;
 mod program;
 mod refusal;

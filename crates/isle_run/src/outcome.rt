@@ -12,6 +12,7 @@ ghost use Rattle.isle_run.specs.NoLines.{IsRunRefused};
 ghost use Rattle.isle_run.specs.Placed.{placed};
 ghost use Rattle.isle_run.specs.declared.refusal.Refusal.TheVariants.{Memory};
 
+use crate::left_out::leaves_out;
 use crate::refusal::Refusal;
 use isle_answers::{AnswersFail, Form, forms};
 use isle_core::{Outcome, TermEnv, TypeEnv, Value};
@@ -76,10 +77,14 @@ fn under_forms(
         return Err(refused(alloc, compiled, term, args, Refusal::NotYet));
     }
     let answers = answers_at(alloc, compiled.typeenv, compiled.termenv, forms)?;
-    match run_term(alloc, compiled.program, term, args, &answers) {
-        Ok(outcome) => Ok(outcome),
-        Err(e) => Err(placed(e, end, forms)),
+    let outcome = match run_term(alloc, compiled.program, term, args, &answers) {
+        Ok(outcome) => outcome,
+        Err(e) => return Err(placed(e, end, forms)),
+    };
+    if leaves_out(alloc, compiled, term, &answers)? {
+        return Err(Refusal::BadAnswers(end));
     }
+    Ok(outcome)
 }
 
 /// Runs the function under the answers that a text spells.
