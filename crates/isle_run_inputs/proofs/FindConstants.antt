@@ -15,7 +15,8 @@ use Rattle.isle_core.specs.declared.types.TypeEnv.{TypeEnv}
 use Rattle.isle_core.specs.Rule.{Environment}
 use Rattle.isle_core.specs.Terms.{sym_text, symbol_text}
 use Rattle.isle_run_inputs.specs.AnswerTypes.{type_at}
-use Rattle.isle_run_inputs.specs.ConstantTypes.{first_constant, FindsConstants}
+use Rattle.isle_run_inputs.specs.ConstantTypes.{FindsConstants}
+use Rattle.isle_run_inputs.specs.Requested.{first_constant}
 
 -- the first type, by the constant at the place
 first_at : (env : Environment) (consts : List (Sym × TypeId)) (i : ℕ) (c d : Sym × TypeId) (name : List ℕ) → i < length consts → c ≡ get_or consts i d

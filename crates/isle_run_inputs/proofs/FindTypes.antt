@@ -16,7 +16,8 @@ use Rattle.isle_core.specs.declared.values.Callee.{Callee}
 use Rattle.isle_core.specs.declared.values.Callee.TheVariants.{External, Internal}
 use Rattle.isle_core.specs.Rule.{Environment}
 use Rattle.isle_core.specs.Terms.{impure_callee, goes_to}
-use Rattle.isle_run_inputs.specs.AnswerTypes.{type_at, first_type, FindsTypes}
+use Rattle.isle_run_inputs.specs.AnswerTypes.{type_at, FindsTypes}
+use Rattle.isle_run_inputs.specs.Requested.{first_type}
 use Rattle.isle_run_inputs.specs.declared.answer_types.Called.{Called}
 use Rattle.isle_run_inputs.specs.Called.{called}
 

@@ -1,6 +1,8 @@
 pub mod HaveTypes
 mod HeldNumbers
-mod Makes
+mod VariantPart
+mod FindFields
+mod AtTypes
 mod InFields
 mod AllSeen
 mod FindTypes

@@ -1,5 +1,5 @@
 -- How the code finds the types of what callees answer.
-use Rattle.std.specs.Prelude.{◌≡◌, ℕ, List, Option, option_map, find}
+use Rattle.std.specs.Prelude.{◌≡◌, ℕ, List, Option}
 use Rattle.std.specs.BTreeMap.{BTreeMap, get_by}
 use Rattle.std.specs.Cmp.Lexicographic.{slice_cmp}
 use Rattle.std.specs.Ordering.{nat_cmp}
@@ -7,10 +7,9 @@ use denote.Ref.{Bor}
 use Rattle.isle_core.specs.declared.TypeId.{TypeId}
 use Rattle.isle_core.specs.declared.types.TypeEnv.{TypeEnv}
 use Rattle.isle_core.specs.declared.types.Term.{Term}
-use Rattle.isle_core.specs.declared.values.Callee.{Callee}
 use Rattle.isle_core.specs.declared.values.Callee.TheVariants.{External, Internal}
 use Rattle.isle_core.specs.Rule.{Environment}
-use Rattle.isle_core.specs.Terms.{impure_callee, goes_to}
+use Rattle.isle_run_inputs.specs.Requested.{first_type}
 
 -- so for every environment with these types and terms
 abbrev pub OfTypes : TypeEnv × List Term → (Environment → Type 0) → Type 0
@@ -19,10 +18,6 @@ OfTypes known P = (env : Environment) → env.types ≡ known.0 → env.terms �
 -- what the map has at a name
 abbrev pub type_at : BTreeMap (Bor (List ℕ)) TypeId → List ℕ → Option TypeId
 type_at found name = get_by (λ (k : Bor (List ℕ)). slice_cmp nat_cmp name k.now) found
-
--- the type of what the first of these terms answers that calls of the callee go to
-abbrev pub first_type : Environment → List Term → Callee → Option TypeId
-first_type env terms callee = option_map (λ (t : Term). t.ret_ty) (find (λ (t : Term). goes_to callee (impure_callee env t t.kind)) terms)
 
 -- the maps have the type of the first term of each callee
 pub record FindsTypes (types : TypeEnv) (terms : List Term) (external internal : BTreeMap (Bor (List ℕ)) TypeId) : Type 0 where

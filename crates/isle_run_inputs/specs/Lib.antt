@@ -1,5 +1,6 @@
 pub mod Makers
 pub mod MakerViews
+pub mod VariantFields
 pub mod ValuesAt
 pub mod Requested
 pub mod Built

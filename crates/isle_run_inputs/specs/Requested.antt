@@ -22,10 +22,18 @@ arg_types env id = option_map_or (λ (t : Term). t.arg_tys) (slice_get env.terms
 abbrev pub requested_types : Environment → List ℕ → List TypeId
 requested_types env name = option_map_or (arg_types env) (requested_term env name) []
 
+-- the type of what the first of these terms answers that calls of the callee go to
+abbrev pub first_type : Environment → List Term → Callee → Option TypeId
+first_type env terms callee = option_map (λ (t : Term). t.ret_ty) (find (λ (t : Term). goes_to callee (impure_callee env t t.kind)) terms)
+
 -- the type of what a call of an impure callee answers
 abbrev pub answer_type : Environment → Callee → Option TypeId
-answer_type env callee = option_map (λ (t : Term). t.ret_ty) (find (λ (t : Term). goes_to callee (impure_callee env t t.kind)) env.terms)
+answer_type env callee = first_type env env.terms callee
+
+-- the type of the first of these constants that has the name
+abbrev pub first_constant : Environment → List (Sym × TypeId) → List ℕ → Option TypeId
+first_constant env consts name = option_map (λ (c : Sym × TypeId). c.1) (find (λ (c : Sym × TypeId). bytes_eq name (sym_text env c.0)) consts)
 
 -- the type of the first constant that has this name
 abbrev pub constant_type : Environment → List ℕ → Option TypeId
-constant_type env name = option_map (λ (c : Sym × TypeId). c.1) (find (λ (c : Sym × TypeId). bytes_eq name (sym_text env c.0)) env.types.consts)
+constant_type env name = first_constant env env.types.consts name

@@ -66,6 +66,10 @@ put_field None fs = None
 put_field (Some f) None = None
 put_field (Some f) (Some fs) = Some (Field f.0 f.1 fs)
 
+-- a value at the type of a field, with the field's name, by what is given at each type
+abbrev pub at_field : Environment → List ℕ × TypeId → (TypeDef → Option Value) → Option (List ℕ × Value)
+at_field env f given = option_map (λ v. (f.0, v)) (option_and_then given (slice_get env.types.types f.1.0))
+
 -- a written value at a type of this definition, where it is one of the type with all that is inside it
 abbrev mutual
   pub value_in : Environment → TypeDef → Written → Option Value
@@ -76,13 +80,13 @@ abbrev mutual
   -- as many values as fields, in order, each at the type of its field
   pub fields_in : Environment → List (List ℕ × TypeId) → Writtens → Option FieldValues
   fields_in env [] NoValue = Some NoField
-  fields_in env (f ∷ more) (AValue w ws) = put_field (option_map (λ v. (f.0, v)) (option_and_then (λ d. value_in env d w) (slice_get env.types.types f.1.0))) (fields_in env more ws)
+  fields_in env (f ∷ more) (AValue w ws) = put_field (at_field env f (λ d. value_in env d w)) (fields_in env more ws)
   fields_in env [] (AValue w ws) = None
   fields_in env (f ∷ more) NoValue = None
 
 -- a written value at the type of a field, with the field's name
 abbrev pub field_in : Environment → List ℕ × TypeId → Written → Option (List ℕ × Value)
-field_in env f w = option_map (λ v. (f.0, v)) (option_and_then (λ d. value_in env d w) (slice_get env.types.types f.1.0))
+field_in env f w = at_field env f (λ d. value_in env d w)
 
 -- the value, or what is given where there is none
 abbrev pub or_misfit : Option Value → Value

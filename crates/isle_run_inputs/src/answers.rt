@@ -13,6 +13,7 @@ ghost use Rattle.isle_run_inputs.specs.AnswersAt.{result_at, answer_at, turns_at
 
 use crate::answer_types::AnswerTypes;
 use crate::constants::constants_at;
+use crate::makers::Makers;
 use crate::value::value_at_any;
 use isle_answers::{AnswerForm, Form, ResultForm};
 use isle_core::{Answer, Answers, List, OutOfMemory, TermEnv, TurnAnswers, TypeEnv, TypeId, Value};
@@ -21,15 +22,15 @@ use std::alloc::{AllocError, Global};
 // A result at the type of what its callee answers.
 fn result_at(
     alloc: Global,
-    typeenv: &TypeEnv,
+    makers: &Makers<'_>,
     ty: Option<TypeId>,
     form: &ResultForm,
 ) -> Result<Vec<Value>, AllocError>
-    ensures { IfOk result (λ vs. (env : Environment) → env.types ≡ typeenv.now → values vs.items ≡ result_at env ty (result_seen form.now)) }
+    ensures { IfOk result (λ vs. (env : Environment) → env.types ≡ makers.now → values vs.items ≡ result_at env ty (result_seen form.now)) }
 {
     match form {
         ResultForm::One(written) => {
-            let value = value_at_any(alloc, typeenv, ty, written)?;
+            let value = value_at_any(alloc, makers, ty, written)?;
             Ok(vec![in alloc; value]?)
         }
         ResultForm::Tuple(_) => Ok(Vec::new(alloc)),
@@ -39,19 +40,19 @@ fn result_at(
 // An answer at that type.
 fn answer_at(
     alloc: Global,
-    typeenv: &TypeEnv,
+    makers: &Makers<'_>,
     ty: Option<TypeId>,
     form: &AnswerForm,
 ) -> Result<Answer, AllocError>
-    ensures { IfOk result (λ a. (env : Environment) → env.types ≡ typeenv.now → answer a ≡ answer_at env ty (answer_seen form.now)) }
+    ensures { IfOk result (λ a. (env : Environment) → env.types ≡ makers.now → answer a ≡ answer_at env ty (answer_seen form.now)) }
 {
     match form {
         AnswerForm::Plain(found) => {
-            let found = result_at(alloc, typeenv, ty, found)?;
+            let found = result_at(alloc, makers, ty, found)?;
             Ok(Answer::Plain(List::new(found)))
         }
         AnswerForm::Some(found) => {
-            let found = result_at(alloc, typeenv, ty, found)?;
+            let found = result_at(alloc, makers, ty, found)?;
             Ok(Answer::Some(List::new(found)))
         }
         AnswerForm::Nothing => Ok(Answer::Nothing),
@@ -62,16 +63,16 @@ fn answer_at(
 // Answers at that type, in order.
 fn all_at(
     alloc: Global,
-    typeenv: &TypeEnv,
+    makers: &Makers<'_>,
     ty: Option<TypeId>,
     forms: &[AnswerForm],
 ) -> Result<Vec<Answer>, AllocError>
-    ensures { IfOk result (λ found. (env : Environment) → env.types ≡ typeenv.now
+    ensures { IfOk result (λ found. (env : Environment) → env.types ≡ makers.now
         → map answer found.items ≡ map (λ a. answer_at env ty (answer_seen a)) forms.now) }
 {
     let mut found = Vec::new(alloc);
     for form in forms {
-        found.push(answer_at(alloc, typeenv, ty, form)?)?;
+        found.push(answer_at(alloc, makers, ty, form)?)?;
     }
     Ok(found)
 }
@@ -79,11 +80,11 @@ fn all_at(
 // The turns that a form gives; the other forms give none.
 fn turns_of(
     alloc: Global,
-    typeenv: &TypeEnv,
+    makers: &Makers<'_>,
     types: &AnswerTypes,
     form: &Form,
 ) -> Result<Option<TurnAnswers>, AllocError>
-    ensures { IfOk result (λ t. OfTypes types.now (λ env. env.types ≡ typeenv.now → (rest : Prelude.List pure_form.Form)
+    ensures { IfOk result (λ t. OfTypes types.now (λ env. env.types ≡ makers.now → (rest : Prelude.List pure_form.Form)
         → turns_at env (form_seen form.now ∷ rest) ≡ cons_option (option_map turn_answers t) (turns_at env rest))) }
 {
     match form {
@@ -94,8 +95,8 @@ fn turns_of(
             ..
         } => {
             let ty = types.of(callee);
-            let turns = all_at(alloc, typeenv, ty, turns.as_slice())?;
-            let rest = answer_at(alloc, typeenv, ty, rest)?;
+            let turns = all_at(alloc, makers, ty, turns.as_slice())?;
+            let rest = answer_at(alloc, makers, ty, rest)?;
             Ok(Some(TurnAnswers {
                 callee: callee.copied(alloc)?,
                 turns: List::new(turns),
@@ -111,16 +112,16 @@ fn turns_of(
 // The turns that forms give, in order.
 fn all_turns(
     alloc: Global,
-    typeenv: &TypeEnv,
+    makers: &Makers<'_>,
     termenv: &TermEnv,
     forms: &[Form],
 ) -> Result<Vec<TurnAnswers>, OutOfMemory>
-    ensures { IfOk result (λ found. map turn_answers found.items ≡ turns_at (environment typeenv.now termenv.now) (forms_seen forms.now)) }
+    ensures { IfOk result (λ found. map turn_answers found.items ≡ turns_at (environment makers.now termenv.now) (forms_seen forms.now)) }
 {
-    let types = AnswerTypes::new(alloc, typeenv, termenv.terms.as_slice())?;
+    let types = AnswerTypes::new(alloc, makers.typeenv(), termenv.terms.as_slice())?;
     let mut all = Vec::new(alloc);
     for form in forms {
-        if let Some(turns) = turns_of(alloc, typeenv, &types, form)? {
+        if let Some(turns) = turns_of(alloc, makers, &types, form)? {
             all.push(turns)?;
         }
     }
@@ -138,8 +139,9 @@ pub fn answers_at(
     ensures answers { IfOk result (λ a. meaning a ≡ answers_at (environment typeenv.now termenv.now) (forms_seen forms.now)) }
     ensures counted { IfOk result (λ a. length a.consts + length a.pure + length a.turns < 2 ^ 64) }
 {
-    let consts = constants_at(alloc, typeenv, forms)?;
-    let turns = all_turns(alloc, typeenv, termenv, forms)?;
+    let makers = Makers::new(alloc, typeenv)?;
+    let consts = constants_at(alloc, &makers, forms)?;
+    let turns = all_turns(alloc, &makers, termenv, forms)?;
     Ok(Answers {
         consts: List::new(consts),
         pure: List::new(Vec::new(alloc)),

@@ -9,6 +9,7 @@ mod constants;
 mod field;
 mod made_value;
 mod maker;
+mod makers;
 mod number;
 mod places;
 mod requested;

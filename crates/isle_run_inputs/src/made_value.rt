@@ -12,9 +12,10 @@ ghost use Rattle.isle_run_inputs.specs.ValuesAt.{value_in, field_in, fields_in};
 ghost use Rattle.isle_run_inputs.specs.MakerViews.{field_seen};
 
 use crate::field::{field_at, field_count};
-use crate::maker::{Making, makes};
+use crate::maker::{Making, TypeMakers};
+use crate::makers::Makers;
 use crate::simple_value::{number_in, truth_in};
-use isle_core::{Fields, List, Text, TypeDef, TypeEnv, TypeId, Value};
+use isle_core::{Fields, List, Text, TypeId, Value};
 use isle_values::Written;
 use std::alloc::{AllocError, Global};
 
@@ -53,23 +54,22 @@ fn struct_of(
     }
 }
 
-/// Returns a written value at a type of this definition, where it is one of the type with all that is inside it.
+/// Returns a written value at this type, where it is one of the type with all that is inside it.
 #[cycle(typing)]
 #[tactic(auto, using(isle_values::proofs::Sees::sees))]
 pub fn value_in(
     alloc: Global,
-    typeenv: &TypeEnv,
-    def: &TypeDef,
+    makers: &Makers<'_>,
+    at: &TypeMakers<'_>,
     given: &Written,
 ) -> Result<Option<Value>, AllocError>
-    ensures { IfOk result (λ v. (env : Environment) → env.types ≡ typeenv.now → option_map value v ≡ value_in env def.now (written given.now)) }
+    requires { at.now.0 ≡ makers.now }
+    ensures { IfOk result (λ v. (env : Environment) → env.types ≡ makers.now → option_map value v ≡ value_in env at.now.1 (written given.now)) }
 {
     match given {
-        Written::Bool(truth) => Ok(truth_in(def, *truth)),
-        Written::Number(number) => number_in(alloc, typeenv, def, *number),
-        Written::Made(name, parts) => {
-            made_in(alloc, typeenv, def, name.as_str(), parts.as_slice())
-        }
+        Written::Bool(truth) => Ok(truth_in(at.def(), *truth)),
+        Written::Number(number) => number_in(alloc, makers.typeenv(), at.def(), *number),
+        Written::Made(name, parts) => made_in(alloc, makers, at, name.as_str(), parts.as_slice()),
     }
 }
 
@@ -77,20 +77,21 @@ pub fn value_in(
 #[cycle(typing)]
 fn made_in(
     alloc: Global,
-    typeenv: &TypeEnv,
-    def: &TypeDef,
+    makers: &Makers<'_>,
+    at: &TypeMakers<'_>,
     name: &str,
     parts: &[Written],
 ) -> Result<Option<Value>, AllocError>
-    ensures { IfOk result (λ v. (env : Environment) → env.types ≡ typeenv.now → option_map value v ≡ value_in env def.now (Made name.now (seen parts.now))) }
+    requires { at.now.0 ≡ makers.now }
+    ensures { IfOk result (λ v. (env : Environment) → env.types ≡ makers.now → option_map value v ≡ value_in env at.now.1 (Made name.now (seen parts.now))) }
 {
-    match makes(typeenv, def, name) {
+    match at.makes(name) {
         Making::Variant(ty, variant, fields) => {
-            let found = fields_in(alloc, typeenv, fields, parts)?;
+            let found = fields_in(alloc, makers, fields, parts)?;
             variant_of(alloc, ty, variant, found)
         }
         Making::Struct(ty, fields) => {
-            let found = fields_in(alloc, typeenv, fields, parts)?;
+            let found = fields_in(alloc, makers, fields, parts)?;
             struct_of(alloc, ty, found)
         }
         Making::Nothing => Ok(None),
@@ -101,11 +102,11 @@ fn made_in(
 #[cycle(typing)]
 fn fields_in(
     alloc: Global,
-    typeenv: &TypeEnv,
+    makers: &Makers<'_>,
     given: &Fields,
     parts: &[Written],
 ) -> Result<Option<Vec<(Text, Value)>>, AllocError>
-    ensures { IfOk result (λ found. (env : Environment) → env.types ≡ typeenv.now
+    ensures { IfOk result (λ found. (env : Environment) → env.types ≡ makers.now
         → option_map (λ f. fields f.items) found ≡ fields_in env (typed_fields env given.now) (seen parts.now)) }
 {
     if field_count(given) != parts.len() {
@@ -113,7 +114,7 @@ fn fields_in(
     }
     let mut found = Vec::new(alloc);
     for index in 0..parts.len() {
-        match field_in(alloc, typeenv, given, index, &parts[index])? {
+        match field_in(alloc, makers, given, index, &parts[index])? {
             Some(field) => found.push(field)?,
             None => return Ok(None),
         }
@@ -125,16 +126,16 @@ fn fields_in(
 #[cycle(typing)]
 fn field_in(
     alloc: Global,
-    typeenv: &TypeEnv,
+    makers: &Makers<'_>,
     given: &Fields,
     index: usize,
     part: &Written,
 ) -> Result<Option<(Text, Value)>, AllocError>
-    ensures { IfOk result (λ found. (env : Environment) → env.types ≡ typeenv.now
+    ensures { IfOk result (λ found. (env : Environment) → env.types ≡ makers.now
         → option_map field_seen found ≡ option_and_then (λ f. field_in env f (written part.now)) (slice_get (typed_fields env given.now) index)) }
 {
-    match field_at(alloc, typeenv, given, index)? {
-        Some((name, ty)) => match typed_in(alloc, typeenv, ty, part)? {
+    match field_at(alloc, makers.typeenv(), given, index)? {
+        Some((name, ty)) => match typed_in(alloc, makers, ty, part)? {
             Some(value) => Ok(Some((name, value))),
             None => Ok(None),
         },
@@ -146,15 +147,15 @@ fn field_in(
 #[cycle(typing)]
 pub fn typed_in(
     alloc: Global,
-    typeenv: &TypeEnv,
+    makers: &Makers<'_>,
     ty: TypeId,
     given: &Written,
 ) -> Result<Option<Value>, AllocError>
-    ensures { IfOk result (λ v. (env : Environment) → env.types ≡ typeenv.now
+    ensures { IfOk result (λ v. (env : Environment) → env.types ≡ makers.now
         → option_map value v ≡ option_and_then (λ d. value_in env d (written given.now)) (slice_get env.types.types ty.0)) }
 {
-    match typeenv.types.as_slice().get(ty.index()) {
-        Some(def) => value_in(alloc, typeenv, def, given),
+    match makers.at(ty) {
+        Some(at) => value_in(alloc, makers, at, given),
         None => Ok(None),
     }
 }

@@ -7,7 +7,8 @@ ghost use Rattle.isle_values.specs.Views.{written};
 ghost use Rattle.isle_run_inputs.specs.ValuesAt.{misfit, or_misfit, value_at, value_at_any};
 
 use crate::made_value::typed_in;
-use isle_core::{Text, TypeEnv, TypeId, Value};
+use crate::makers::Makers;
+use isle_core::{Text, TypeId, Value};
 use isle_values::Written;
 use std::alloc::{AllocError, Global};
 
@@ -32,27 +33,27 @@ fn or_misfit(alloc: Global, found: Option<Value>) -> Value
 /// Returns a written value at a type of an environment; one of another type is a value of no type.
 pub fn value_at(
     alloc: Global,
-    typeenv: &TypeEnv,
+    makers: &Makers<'_>,
     ty: TypeId,
     given: &Written,
 ) -> Result<Value, AllocError>
-    ensures { IfOk result (λ v. (env : Environment) → env.types ≡ typeenv.now → value v ≡ value_at env ty (written given.now)) }
+    ensures { IfOk result (λ v. (env : Environment) → env.types ≡ makers.now → value v ≡ value_at env ty (written given.now)) }
 {
-    let found = typed_in(alloc, typeenv, ty, given)?;
+    let found = typed_in(alloc, makers, ty, given)?;
     Ok(or_misfit(alloc, found))
 }
 
 /// Returns a written value at a type that may be missing; then none fits.
 pub fn value_at_any(
     alloc: Global,
-    typeenv: &TypeEnv,
+    makers: &Makers<'_>,
     ty: Option<TypeId>,
     given: &Written,
 ) -> Result<Value, AllocError>
-    ensures { IfOk result (λ v. (env : Environment) → env.types ≡ typeenv.now → value v ≡ value_at_any env ty (written given.now)) }
+    ensures { IfOk result (λ v. (env : Environment) → env.types ≡ makers.now → value v ≡ value_at_any env ty (written given.now)) }
 {
     match ty {
-        Some(ty) => value_at(alloc, typeenv, ty, given),
+        Some(ty) => value_at(alloc, makers, ty, given),
         None => Ok(misfit(alloc)),
     }
 }

@@ -7,4 +7,4 @@ use Rattle.isle_run_inputs.proofs.answers.all_turns.Given as goal
 
 abbrev pub invariant-loop-form : goal.invariant-loop-form
 invariant-loop-form l =
-    turns_at (environment l.fn.typeenv l.fn.termenv) (forms_seen l.fn.forms) ≡ map turn_answers l.all.items ++ turns_at (environment l.fn.typeenv l.fn.termenv) (forms_seen (drop l.form-index l.fn.forms))
+    turns_at (environment l.fn.makers l.fn.termenv) (forms_seen l.fn.forms) ≡ map turn_answers l.all.items ++ turns_at (environment l.fn.makers l.fn.termenv) (forms_seen (drop l.form-index l.fn.forms))

@@ -7,4 +7,4 @@ use Rattle.isle_run_inputs.proofs.constants.constants_at.Given as goal
 
 abbrev pub invariant-loop-form : goal.invariant-loop-form
 invariant-loop-form l =
-    (env : Environment) → env.types ≡ l.fn.typeenv → constants_at env (forms_seen l.fn.forms) ≡ map const l.found.items ++ constants_at env (forms_seen (drop l.form-index l.fn.forms))
+    (env : Environment) → env.types ≡ l.fn.makers → constants_at env (forms_seen l.fn.forms) ≡ map const l.found.items ++ constants_at env (forms_seen (drop l.form-index l.fn.forms))

@@ -1,6 +1,6 @@
 use Rattle.std.specs.Prelude.{codes}
 use Rattle.isle_core.proofs.Prefixes.{strip_is}
-use Rattle.isle_run_inputs.proofs.Makes.{part_after, part_none}
+use Rattle.isle_run_inputs.proofs.VariantPart.{part_after, part_none}
 use Rattle.isle_run_inputs.proofs.maker.variant_part.Goals as goal
 
 pub returns-in-Some : goal.returns-in-Some

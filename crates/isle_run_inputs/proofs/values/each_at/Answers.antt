@@ -3,7 +3,7 @@ use Rattle.std.specs.Prelude.{slice_get}
 use Rattle.isle_values.specs.Views.{written}
 use Rattle.isle_run_inputs.specs.ValuesAt.{value_at_any}
 use Rattle.isle_run_inputs.proofs.Rest.{got, values_more}
-use Rattle.isle_run_inputs.proofs.values.values_at.Goals as goal
+use Rattle.isle_run_inputs.proofs.values.each_at.Goals as goal
 
 pub loop-index-preserved : goal.loop-index-preserved
 loop-index-preserved c = λ env e.
