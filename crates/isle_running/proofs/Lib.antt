@@ -5,6 +5,9 @@ pub mod LastBound
 pub mod MadeFields
 pub mod Makes
 pub mod NamedValues
+pub mod ReadValues
 pub mod SourceLaws
 pub mod Tests
+pub mod UnitStructs
 pub mod ValuesApart
+pub mod ValuesIn

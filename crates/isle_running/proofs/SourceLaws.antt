@@ -10,7 +10,6 @@ use Rattle.std.proofs.lemmas.Map.Text.{btree_map_updates_str}
 use Rattle.std.proofs.lemmas.Slice.Eq.{bytes_eq-Decides}
 use denote.Ref.{Bor}
 use Rattle.isle_core.specs.declared.values.Callee.{Callee}
-use Rattle.isle_core.specs.declared.values.Callee.TheVariants.{External, Internal}
 use Rattle.isle_core.specs.declared.values.CallMade.{CallMade}
 use Rattle.isle_core.specs.declared.values.Value.{Value as CodeValue}
 use Rattle.isle_core.specs.Value.{Value, Answer, Made}
@@ -20,15 +19,15 @@ use Rattle.isle_core.specs.Terms.{goes_to}
 use Rattle.isle_core.specs.ValueViews.{values, made as made_of}
 use Rattle.isle_running.specs.declared.source.Source.{Source as CodeSource}
 use Rattle.isle_running.specs.declared.sources.Sources.{Sources}
-use Rattle.isle_running.specs.Sources.{Cases, Turns, source, answered_by, after_call, after_calls, first_turns, first_cases, at_name, at_callee, Puts, TakesAt, Takes, FindsSources}
+use Rattle.isle_running.specs.Sources.{Cases, Turns, source, answered_by, after_call, after_calls, first_turns, first_cases, at_name, at_callee, PutsAt, TakesAt, Takes, FindsSources}
 
 -- ---- at a name
 
 -- what a map has at each name behind an update at one
-put_at : (old new : BTreeMap (Bor (List ℕ)) CodeSource) (key : List ℕ) (s : CodeSource)
+pub puts_there : (old new : BTreeMap (Bor (List ℕ)) CodeSource) (key : List ℕ) (s : CodeSource)
     → UpdatesBy (λ (x y : Bor (List ℕ)). slice_cmp nat_cmp x.now y.now) (λ (k : Bor (List ℕ)). slice_cmp nat_cmp key k.now) old new (Some s)
-    → (name : List ℕ) → at_name new name ≡ cond (bytes_eq name key) (Some (source s)) (at_name old name)
-put_at old new key s updates name =
+    → PutsAt old new key s
+puts_there old new key s updates name =
     ap (option_map source) (btree_map_updates_str key old new (Some s) updates name)
     ∙ spread (bytes_eq key name)
     ∙ ap (λ b. cond b (Some (source s)) (at_name old name)) (nat_list_eq_equiv.symm key name)
@@ -37,23 +36,11 @@ put_at old new key s updates name =
     spread true = refl
     spread false = refl
 
-pub put_external : (old new : Sources) (key : Bor (List ℕ)) (name : List ℕ) (s : CodeSource) → key.now ≡ name → new.internal ≡ old.internal
-    → UpdatesBy (λ (x y : Bor (List ℕ)). slice_cmp nat_cmp x.now y.now) (λ (k : Bor (List ℕ)). slice_cmp nat_cmp key.now k.now) old.external new.external (Some s)
-    → Puts old new (External name) s
-put_external old new key name s named same updates (External other) = put_at old.external new.external key.now s updates other ∙ ap (λ k. cond (bytes_eq other k) (Some (source s)) (at_name old.external other)) named
-put_external old new key name s named same updates (Internal other) = ap (λ m. at_name m other) same
-
-pub put_internal : (old new : Sources) (key : Bor (List ℕ)) (name : List ℕ) (s : CodeSource) → key.now ≡ name → new.external ≡ old.external
-    → UpdatesBy (λ (x y : Bor (List ℕ)). slice_cmp nat_cmp x.now y.now) (λ (k : Bor (List ℕ)). slice_cmp nat_cmp key.now k.now) old.internal new.internal (Some s)
-    → Puts old new (Internal name) s
-put_internal old new key name s named same updates (Internal other) = put_at old.internal new.internal key.now s updates other ∙ ap (λ k. cond (bytes_eq other k) (Some (source s)) (at_name old.internal other)) named
-put_internal old new key name s named same updates (External other) = ap (λ m. at_name m other) same
-
 -- what it has behind a call
 pub takes_there : (old new : BTreeMap (Bor (List ℕ)) CodeSource) (name : List ℕ) (s t : CodeSource) → get_by (λ (k : Bor (List ℕ)). slice_cmp nat_cmp name k.now) old ≡ Some s → source t ≡ after_call (source s)
     → UpdatesBy (λ (x y : Bor (List ℕ)). slice_cmp nat_cmp x.now y.now) (λ (k : Bor (List ℕ)). slice_cmp nat_cmp name k.now) old new (Some t)
     → TakesAt old new name
-takes_there old new name s t there moved updates other = put_at old new name t updates other ∙ by (bytes_eq other name) refl
+takes_there old new name s t there moved updates other = puts_there old new name t updates other ∙ by (bytes_eq other name) refl
   where
     by : (b : Bool) → bytes_eq other name ≡ b → cond b (Some (source t)) (at_name old other) ≡ cond b (option_map after_call (at_name old other)) (at_name old other)
     by true e =

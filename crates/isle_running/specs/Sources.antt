@@ -50,6 +50,10 @@ abbrev pub at_callee : Sources → Callee → Option Source
 at_callee s (callee.External name) = at_name s.external name
 at_callee s (callee.Internal term) = at_name s.internal term
 
+-- this name has this one now, and others what they had
+abbrev pub PutsAt : (old new : BTreeMap (Bor (List ℕ)) CodeSource) → List ℕ → CodeSource → Type 0
+PutsAt old new put s = (name : List ℕ) → at_name new name ≡ cond (bytes_eq name put) (Some (source s)) (at_name old name)
+
 -- this callee has this one now, and others what they had
 abbrev pub Puts : (old new : Sources) → Callee → CodeSource → Type 0
 Puts old new put s = (c : Callee) → at_callee new c ≡ cond (goes_to c (Some put)) (Some (source s)) (at_callee old c)

@@ -1,6 +1,6 @@
 -- Steps of the code's run as those of the definition.
-use Rattle.std.specs.Prelude.{◌≡◌, ℕ, List, [], ◌∷◌, ◌++◌, Bool, true, false, Option, Some, None, if◌then◌else◌}
-use Rattle.isle_core.specs.Answered.{Held, Absent, a_value}
+use Rattle.std.specs.Prelude.{◌≡◌, ℕ, List, [], ◌∷◌, ◌++◌, Bool, true, false, Option, Some, None, if◌then◌else◌, option_map}
+use Rattle.isle_core.specs.Answered.{Item, Held, Absent, One, Optional, Listed, a_value}
 use Rattle.isle_core.specs.Value.{Value, Variant, Struct, FieldValues}
 use Rattle.isle_tree.specs.Program.{Body}
 use Rattle.isle_tree.specs.declared.tree.Operand.{Operand}
@@ -47,3 +47,14 @@ run_where pat held inside w env s = fitted (fit w pat held) (λ bound. after_sco
 -- how the test of two operands goes
 abbrev pub test : Around → Env → (a b : Operand) → Option Bool
 test w env a b = tested (value_in (value_of w env a)) (value_in (value_of w env b))
+
+-- what is within an option that a place holds, where something is
+abbrev pub item_within : Held → Option Item
+item_within (Optional o) = o
+item_within (One i) = None
+item_within (Listed is) = None
+item_within Absent = None
+
+-- a field of this name that a place holds, where it holds a value
+abbrev pub field_read : List ℕ → Held → Option (List ℕ × Value)
+field_read name h = option_map (λ (v : Value). (name, v)) (value_in h)

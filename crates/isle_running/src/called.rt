@@ -63,6 +63,27 @@ impl<'a> Calls<'a> {
         self.constants.value(name)
     }
 
+    // What a call would be answered now.
+    fn answer(&self, alloc: Global, callee: &Callee, args: &[Value]) -> Result<Holding, AllocError>
+        ensures { IfOk result (λ h. held h
+            ≡ answer_held (answer (meaning self.now.answers) callee.now (values args.now) (map made self.now.made))) }
+    {
+        answered(alloc, self.sources.get(callee), args)
+    }
+
+    // Notes a call as made, which takes a turn of its callee.
+    fn note(&mut self, alloc: Global, callee: &Callee, args: Vec<Value>) -> Result<(), AllocError>
+        ensures { OnOk result (self.new ≡ called_more self.old callee.now args.items) }
+    {
+        let made = CallMade {
+            callee: callee.copied(alloc)?,
+            args: List::new(args),
+        };
+        self.calls.push(made)?;
+        self.sources.take(callee);
+        Ok(())
+    }
+
     /// Makes a call, and gives what it is answered.
     pub fn call(
         &mut self,
@@ -74,13 +95,8 @@ impl<'a> Calls<'a> {
             ≡ answer_held (answer (meaning self.old.answers) callee.now (values args.items) (map made self.old.made))) }
         ensures made { OnOk result (self.new ≡ called_more self.old callee.now args.items) }
     {
-        let holding = answered(alloc, self.sources.get(callee), args.as_slice())?;
-        let made = CallMade {
-            callee: callee.copied(alloc)?,
-            args: List::new(args),
-        };
-        self.calls.push(made)?;
-        self.sources.take(callee);
+        let holding = self.answer(alloc, callee, args.as_slice())?;
+        self.note(alloc, callee, args)?;
         Ok(holding)
     }
 

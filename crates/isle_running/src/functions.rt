@@ -2,8 +2,9 @@
 
 ghost use Rattle.std.specs.Prelude.{◌≡◌, IfOk, Some, option_map};
 ghost use Rattle.isle_core.specs.ValueViews.{values, meaning, ran};
-ghost use Rattle.isle_tree.specs.Run.{function_run};
+ghost use Rattle.isle_tree.specs.Run.{ended, function_run};
 ghost use Rattle.isle_tree.specs.Views.{function, program};
+ghost use Rattle.isle_running.specs.RunViews.{flow};
 
 use crate::around::Around;
 use crate::called::Calls;
@@ -14,6 +15,19 @@ use isle_core::{Answers, List, Outcome, Value};
 use isle_scope::Table;
 use isle_tree::{Function, Program};
 use std::alloc::{AllocError, Global};
+
+// What a body's end leaves of a run, where it ends.
+fn outcome(end: Flow, frame: Frame<'_>) -> Option<Outcome>
+    ensures { option_map ran result ≡ ended (flow end frame.entry) }
+{
+    match end {
+        Flow::Ends(end) => {
+            let calls = List::new(frame.calls.into_vec());
+            Some(Outcome { end, calls })
+        }
+        Flow::Goes | Flow::Stuck => None,
+    }
+}
 
 /// Runs a function, where it has a run. The only error is want of memory.
 pub fn run_function(
@@ -30,14 +44,9 @@ pub fn run_function(
         function: f,
         args,
     };
-    let locals = Table::new(alloc);
     let calls = Calls::new(alloc, answers)?;
+    let locals = Table::new(alloc);
     let mut frame = Frame { locals, calls };
-    match run_body(alloc, &around, f.body.as_slice(), &mut frame)? {
-        Flow::Ends(end) => {
-            let calls = List::new(frame.calls.into_vec());
-            Ok(Some(Outcome { end, calls }))
-        }
-        Flow::Goes | Flow::Stuck => Ok(None),
-    }
+    let end = run_body(alloc, &around, f.body.as_slice(), &mut frame)?;
+    Ok(outcome(end, frame))
 }

@@ -1,12 +1,14 @@
 //! What places hold in a run.
 
 ghost use Rattle.std.specs.Prelude.{◌≡◌, IfOk, option_map};
+ghost use Rattle.isle_core.specs.SameInRun.{same_in_run};
 ghost use Rattle.isle_core.specs.ValueViews.{value};
 ghost use Rattle.isle_tree.specs.Run.{value_in};
-ghost use Rattle.isle_running.specs.RunViews.{held};
+ghost use Rattle.isle_running.specs.RunViews.{item, held};
+ghost use Rattle.isle_running.specs.Steps.{item_within};
 
 use isle_core::{List, Value};
-use isle_outcomes::copied;
+use isle_outcomes::{copied, same};
 use std::alloc::{AllocError, Global};
 
 /// An item: one value, or a tuple of values.
@@ -70,9 +72,9 @@ pub fn holding_copied(alloc: Global, given: &Holding) -> Result<Holding, AllocEr
     }
 }
 
-/// Returns the value that a place holds, where it is one.
-pub fn value_in(holding: &Holding) -> Option<&Value>
-    ensures { option_map (λ v. value v.now) result ≡ value_in (held holding.now) }
+/// Gives the value that a place holds, where it is one.
+pub fn value_in(holding: Holding) -> Option<Value>
+    ensures { option_map value result ≡ value_in (held holding) }
 {
     match holding {
         Holding::One(Item::Value(value)) => Some(value),
@@ -81,4 +83,21 @@ pub fn value_in(holding: &Holding) -> Option<&Value>
         | Holding::Listed(_)
         | Holding::Absent => None,
     }
+}
+
+/// Gives what is within an option that a place holds, where something is.
+pub fn item_within(holding: Holding) -> Option<Item>
+    ensures { option_map item result ≡ item_within (held holding) }
+{
+    match holding {
+        Holding::Optional(option) => option,
+        Holding::One(_) | Holding::Listed(_) | Holding::Absent => None,
+    }
+}
+
+/// Tells whether a value is equal in a run to one that is given up.
+pub fn is_equal(one: &Value, other: Value) -> bool
+    ensures { result ≡ same_in_run (value one.now) (value other) }
+{
+    same(one, &other)
 }

@@ -1,18 +1,35 @@
 //! What variants and structs make of fields.
 
 ghost use Rattle.std.specs.Prelude.{◌≡◌, IfOk, option_map};
+ghost use Rattle.isle_core.specs.ValueViews.{const};
 ghost use Rattle.isle_outcomes.specs.Fields.{fields};
-ghost use Rattle.isle_tree.specs.Run.{read_fields};
+ghost use Rattle.isle_tree.specs.Run.{read_value, read_fields};
 ghost use Rattle.isle_running.specs.RunViews.{held, locals, within};
-ghost use Rattle.isle_running.specs.Steps.{variant_held, struct_held};
+ghost use Rattle.isle_running.specs.Steps.{field_read, variant_held, struct_held};
 
 use crate::around::Around;
 use crate::frame::Frame;
-use crate::holding::{Holding, Item};
+use crate::holding::{Holding, Item, value_in};
 use crate::reading::read_value;
 use isle_core::{List, Text, Value};
 use isle_tree::Read;
 use std::alloc::{AllocError, Global};
+
+// The value that is read as a field, under its name, where it is one.
+fn read_field(
+    alloc: Global,
+    around: &Around<'_>,
+    frame: &Frame<'_>,
+    next: &(Text, Read),
+) -> Result<Option<(Text, Value)>, AllocError>
+    ensures { IfOk result (λ read. option_map const read ≡ field_read next.now.0 (read_value (within around.now frame.now) (locals frame.now.locals) next.now.1)) }
+{
+    let name = Text::copied(alloc, next.0.as_str())?;
+    match value_in(read_value(alloc, around, frame, &next.1)?) {
+        Some(value) => Ok(Some((name, value))),
+        None => Ok(None),
+    }
+}
 
 // The values that are read as fields, under their names, where all are values.
 fn read_fields(
@@ -26,14 +43,9 @@ fn read_fields(
 {
     let mut read = Vec::new(alloc);
     for next in reads {
-        match read_value(alloc, around, frame, &next.1)? {
-            Holding::One(Item::Value(value)) => {
-                read.push((Text::copied(alloc, next.0.as_str())?, value))?;
-            }
-            Holding::One(Item::Tuple(_))
-            | Holding::Absent
-            | Holding::Optional(_)
-            | Holding::Listed(_) => return Ok(None),
+        match read_field(alloc, around, frame, next)? {
+            Some(field) => read.push(field)?,
+            None => return Ok(None),
         }
     }
     Ok(Some(read))

@@ -8,7 +8,7 @@ ghost use Rattle.isle_running.specs.RunViews.{held, locals, within};
 use crate::around::Around;
 use crate::constants::{named, unnamed};
 use crate::frame::Frame;
-use crate::holding::{Holding, Item, holding_copied};
+use crate::holding::{Holding, Item, holding_copied, value_in};
 use isle_core::Value;
 use isle_outcomes::copied;
 use isle_tree::{Operand, Read};
@@ -75,12 +75,9 @@ pub fn read_values(
 {
     let mut read = Vec::new(alloc);
     for next in reads {
-        match read_value(alloc, around, frame, next)? {
-            Holding::One(Item::Value(value)) => read.push(value)?,
-            Holding::One(Item::Tuple(_))
-            | Holding::Absent
-            | Holding::Optional(_)
-            | Holding::Listed(_) => return Ok(None),
+        match value_in(read_value(alloc, around, frame, next)?) {
+            Some(value) => read.push(value)?,
+            None => return Ok(None),
         }
     }
     Ok(Some(read))

@@ -1,11 +1,11 @@
 //! The run of a function's statements.
 
-ghost use Rattle.std.specs.Prelude.{◌≡◌, IfOk, OnOk};
-ghost use Rattle.std.specs.Prelude.{Some};
+ghost use Rattle.std.specs.Prelude.{◌≡◌, Some, IfOk, OnOk};
 ghost use Rattle.isle_core.specs.Answered.{an_option};
 ghost use Rattle.isle_core.specs.Value.{GivesSome};
+ghost use Rattle.isle_core.specs.ValueViews.{value};
 ghost use Rattle.isle_tree.specs.Run as run;
-ghost use Rattle.isle_tree.specs.Run.{value_in};
+ghost use Rattle.isle_tree.specs.Run.{value_in, value_of};
 ghost use Rattle.isle_tree.specs.Views.{stmt, body};
 ghost use Rattle.isle_running.specs.RunViews.{held, locals, within, state, flow, tested};
 ghost use Rattle.isle_running.specs.declared.frame.Frame.{Frame};
@@ -16,11 +16,10 @@ use crate::around::Around;
 use crate::fit::fit;
 use crate::flow::Flow;
 use crate::frame::Frame;
-use crate::holding::{Holding, Item, value_in};
+use crate::holding::{Holding, Item, is_equal, value_in};
 use crate::making::{struct_made, variant_made};
 use crate::reading::{read_value, read_values, value_of};
-use isle_core::End;
-use isle_outcomes::same;
+use isle_core::{End, Value};
 use isle_tree::{Operand, Stmt, TCall, TExpr, TPat};
 use std::alloc::{AllocError, Global};
 
@@ -82,22 +81,19 @@ fn run_try(frame: &mut Frame<'_>, local: usize, holding: Holding) -> Result<Flow
 }
 
 // Binds a local to an option of a value.
+#[tactic(auto, using(crate::proofs::ValuesIn::on_value_in))]
 fn run_some(frame: &mut Frame<'_>, local: usize, holding: Holding) -> Result<Flow, AllocError>
     ensures runs { IfOk result (λ f. run.on_value (held holding) (λ v. run.Goes (run.bind (locals frame.old.locals) local (an_option (Some v))) (state frame.old))
         ≡ flow f frame.new) }
     ensures follows { OnOk result (Follows frame.old frame.new) }
 {
-    match holding {
-        Holding::One(Item::Value(value)) => {
-            frame
-                .locals
-                .bind(local, Holding::Optional(Some(Item::Value(value))))?;
+    match value_in(holding) {
+        Some(value) => {
+            let option = Some(Item::Value(value));
+            frame.locals.bind(local, Holding::Optional(option))?;
             Ok(Flow::Goes)
         }
-        Holding::One(Item::Tuple(_))
-        | Holding::Optional(_)
-        | Holding::Listed(_)
-        | Holding::Absent => Ok(Flow::Stuck),
+        None => Ok(Flow::Stuck),
     }
 }
 
@@ -160,15 +156,13 @@ fn ends_with(holding: Holding) -> Flow
 }
 
 // The end that gives an option of a value.
+#[tactic(auto, using(crate::proofs::ValuesIn::on_value_in))]
 fn ends_some(holding: Holding) -> Flow
     ensures { (frame : Frame) → run.on_value (held holding) (λ v. run.Ends (GivesSome v) (state frame)) ≡ flow result frame }
 {
-    match holding {
-        Holding::One(Item::Value(value)) => Flow::Ends(End::Some(value)),
-        Holding::One(Item::Tuple(_))
-        | Holding::Optional(_)
-        | Holding::Listed(_)
-        | Holding::Absent => Flow::Stuck,
+    match value_in(holding) {
+        Some(value) => Flow::Ends(End::Some(value)),
+        None => Flow::Stuck,
     }
 }
 
@@ -192,13 +186,20 @@ fn run_return(
     }
 }
 
-// How a test of two places goes on, where both have values.
-fn are_same(one: &Holding, other: &Holding) -> Option<bool>
-    ensures { result ≡ tested (value_in (held one.now)) (value_in (held other.now)) }
+// How the test of a value and an operand goes.
+fn test_value(
+    alloc: Global,
+    around: &Around<'_>,
+    frame: &Frame<'_>,
+    one: &Value,
+    b: &Operand,
+) -> Result<Option<bool>, AllocError>
+    ensures { IfOk result (λ t. t ≡ tested (Some (value one.now)) (value_in (value_of (within around.now frame.now) (locals frame.now.locals) b.now))) }
 {
-    let one = value_in(one)?;
-    let other = value_in(other)?;
-    Some(same(one, other))
+    match value_in(value_of(alloc, around, frame, b)?) {
+        Some(other) => Ok(Some(is_equal(one, other))),
+        None => Ok(None),
+    }
 }
 
 // How the test of two operands goes.
@@ -211,9 +212,10 @@ fn test(
 ) -> Result<Option<bool>, AllocError>
     ensures { IfOk result (λ t. t ≡ test (within around.now frame.now) (locals frame.now.locals) a.now b.now) }
 {
-    let one = value_of(alloc, around, frame, a)?;
-    let other = value_of(alloc, around, frame, b)?;
-    Ok(are_same(&one, &other))
+    match value_in(value_of(alloc, around, frame, a)?) {
+        Some(one) => test_value(alloc, around, frame, &one, b),
+        None => Ok(None),
+    }
 }
 
 // Runs a statement.

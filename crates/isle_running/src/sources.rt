@@ -2,7 +2,7 @@
 
 ghost use Rattle.std.specs.Prelude.{◌≡◌, [], drop, map, option_map, OnOk, IfOk};
 ghost use Rattle.isle_core.specs.ValueViews.{pure_answers, turn_answers};
-ghost use Rattle.isle_running.specs.Sources.{source, after_call, at_callee, TakesAt, Takes, Puts, FindsSources};
+ghost use Rattle.isle_running.specs.Sources.{source, after_call, at_callee, PutsAt, Puts, TakesAt, Takes, FindsSources};
 
 use crate::source::Source;
 use isle_core::{Answer, Answers, Callee};
@@ -36,6 +36,18 @@ fn after_call<'a>(given: Source<'a>) -> Source<'a>
     }
 }
 
+// Sets the answers at a name.
+fn put_at<'a>(
+    found: &mut BTreeMap<&'a str, Source<'a>>,
+    name: &'a str,
+    given: Source<'a>,
+) -> Result<(), AllocError>
+    ensures { OnOk result (PutsAt found.old found.new name.now given.entry) }
+{
+    found.insert(name, given)?;
+    Ok(())
+}
+
 // Takes a turn at a name.
 fn take_at<'a>(found: &mut BTreeMap<&'a str, Source<'a>>, name: &str)
     ensures { TakesAt found.old found.new name.now }
@@ -62,10 +74,9 @@ impl<'a> Sources<'a> {
         ensures { OnOk result (Puts self.old self.new callee.now given.entry) }
     {
         match callee {
-            Callee::External(name) => self.external.insert(name.as_str(), given)?,
-            Callee::Internal(term) => self.internal.insert(term.as_str(), given)?,
-        };
-        Ok(())
+            Callee::External(name) => put_at(&mut self.external, name.as_str(), given),
+            Callee::Internal(term) => put_at(&mut self.internal, term.as_str(), given),
+        }
     }
 
     /// Returns the answers of a callee, where it has any.

@@ -1,26 +1,11 @@
-use Rattle.std.proofs.Common.{rules, ◌≡◌, ℕ, List, length, ◌∙◌, subst}
+use Rattle.std.proofs.Common.{ℕ, List, subst}
+use Rattle.std.specs.Prelude.{IfOk}
 use Rattle.isle_core.specs.declared.values.Value.{Value as CodeValue}
 use Rattle.isle_outcomes.specs.Fields.{fields}
-use Rattle.isle_tree.specs.Run.{field_of}
-use Rattle.isle_running.specs.Steps.{BindsSo}
-use Rattle.isle_running.proofs.BoundFields.{left_more, follows_more, none_bound, cut_follows}
+use Rattle.isle_tree.specs.Run as run
+use Rattle.isle_running.specs.Steps.{FitsSo}
 use Rattle.isle_running.proofs.fields.fit_fields.Goals as goal
 
-pub loop-bind-preserved : goal.loop-bind-preserved
-loop-bind-preserved c =
-    let b = c.bind-item.result in
-    let given = c.args.given.now in
-    let binds : BindsSo b.local (field_of b.field (fields given)) c.loop-bind.frame c.bind_field.new.frame c.in_ok-bind_field.field-0 =
-    subst (λ (fs : List (List ℕ × CodeValue)). BindsSo b.local (field_of b.field (fields fs)) c.loop-bind.frame c.bind_field.new.frame c.in_ok-bind_field.field-0) c.in_ok-found.ensures c.in_ok-bind_field.ensures.binds in (
-      left_more c.args.binds.now c.loop-bind.bind-index b _ (fields given) c.args.frame.now c.loop-bind.frame c.bind_field.new.frame c.in_ok-bind_field.field-0 c.loop-bind-test.true c.bind-item.is c.loop-bind.invariant.0 binds c.if-not-branch.false,
-      c.bind_field.ensures.calls ∙ c.loop-bind.invariant.1,
-      follows_more b.local (field_of b.field (fields given)) c.args.frame.now c.loop-bind.frame c.bind_field.new.frame c.in_ok-bind_field.field-0 c.loop-bind.invariant.2 binds c.if-not-branch.false,
-    )
-
-pub returns-then-not-branch-clause-follows : goal.returns-then-not-branch-clause-follows
-returns-then-not-branch-clause-follows c =
-    let b = c.bind-item.result in
-    let bound : c.len-count.result ≡ length c.args.frame.now.locals = search rules in
-    cut_follows c.args.frame.now c.loop-bind.frame c.bind_field.new.frame c.len-count.result c.truncate.new.self c.loop-bind.invariant.2
-    (none_bound b.local (field_of b.field (fields c.in_ok-found.found)) c.loop-bind.frame c.bind_field.new.frame c.in_ok-bind_field.field-0 c.in_ok-bind_field.ensures.binds c.if-not-branch.true)
-    c.bind_field.ensures.calls bound c.truncate.ensures
+pub returns-clause-fits : goal.returns-clause-fits
+returns-clause-fits c =
+    subst (λ (fs : List (List ℕ × CodeValue)). IfOk c.bind_fields.result (FitsSo (run.fit_fields c.args.binds.now (fields fs)) c.args.frame.now c.bind_fields.new.frame)) c.in_ok-found.ensures c.bind_fields.ensures.fits

@@ -1,0 +1,26 @@
+use Rattle.std.proofs.Common.{rules, ◌≡◌, Some, None}
+use Rattle.isle_core.specs.ValueViews.{value}
+use Rattle.isle_tree.specs.Run.{value_in, read_value}
+use Rattle.isle_running.specs.RunViews.{locals, within}
+use Rattle.isle_running.proofs.ReadValues.{values_more, values_none, values_done}
+use Rattle.isle_running.proofs.reading.read_values.Goals as goal
+
+pub loop-next-preserved : goal.loop-next-preserved
+loop-next-preserved c =
+    let w = within c.args.around.now c.args.frame.now in
+    let env = locals c.args.frame.now.locals in
+    let r = c.next-item.result in
+    let read : Some (value c.in-Some.value) ≡ value_in (read_value w env r) = search rules in
+    values_more w env c.args.reads.now c.loop-next.next-index r _ c.loop-next.read.items c.loop-next-test.true c.next-item.is c.loop-next.invariant c.in-Some.value c.push.new.self.items read (search rules)
+
+pub returns-in-None : goal.returns-in-None
+returns-in-None c =
+    let w = within c.args.around.now c.args.frame.now in
+    let env = locals c.args.frame.now.locals in
+    let r = c.next-item.result in
+    let none : None ≡ value_in (read_value w env r) = search rules in
+    values_none w env c.args.reads.now c.loop-next.next-index r _ c.loop-next.read.items c.loop-next-test.true c.next-item.is c.loop-next.invariant none
+
+pub returns : goal.returns
+returns c =
+    values_done (within c.args.around.now c.args.frame.now) (locals c.args.frame.now.locals) c.args.reads.now c.loop-next.next-index c.loop-next.read.items c.loop-next-test.false c.loop-next.invariant
