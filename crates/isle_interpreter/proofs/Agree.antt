@@ -23,11 +23,11 @@ use Rattle.isle_tree.specs.declared.tree.TExpr.{TExpr}
 use Rattle.isle_tree.specs.declared.tree.TExpr.TheVariants as expr
 use Rattle.isle_tree.specs.Program.{Program, Stmt, Let, LetList, IfEq, IfLet, Match, Loop, Return, Extend, Overflow, Log, Split, Tail, Body, Done, Then, Function}
 use Rattle.isle_tree.specs.Run.{Around, State, nothing_done, one_made, Env, Flow, Goes, Ends, Leaves, Stuck, value_of, name_value, bind, read_value, read_values, field_before, read_fields, on_value, value_in, constant, are_same, fit, fitted, then_run, after_scope, run_bind, run_call, run_try, run_variant, run_struct, run_let, ends_with, run_return, run_stmt, run_body, ended, function_run}
-use Rattle.isle_interpreter.specs.Entries.{Constant, Cases, Turns, entries, IsUnanswered, IsUngiven}
+use Rattle.isle_interpreter.specs.Entries.{Constant, Cases, Turns, entries, IsUnanswered}
 use Rattle.isle_tree.specs.Calls.{expr_calls, stmt_calls, body_calls}
 use Rattle.isle_naming.specs.Names.{operand_names, read_names, reads_names, fields_names, expr_names, pattern_names, stmt_names, body_names}
 use Rattle.isle_interpreter.specs.Refusals.{AreAnswered}
-use Rattle.isle_interpreter.proofs.AnswersHold.{goes_same, both_unanswered, no_constants, no_turns, no_cases, both_ungiven, no_consts, cases_give_none, turns_give_none}
+use Rattle.isle_interpreter.proofs.AnswersHold.{goes_same, both_unanswered, no_constants, no_turns, no_cases}
 use Rattle.isle_interpreter.proofs.Answering.{by_turns, by_cases}
 
 -- what is found passes the test, and is as all are
@@ -238,13 +238,3 @@ module _ (m given : Meaning) (has : HasAnswers m given) where
     pub same_run : AreAnswered f (entries given) → ((name : List ℕ) → Contains (body_names f.body) name → const_of given name ≡ None → const_of m name ≡ None)
         → function_run p m args (Some f) ≡ function_run p given args (Some f)
     same_run some none = ap ended (same_body f.body [] nothing_done (λ callee there. same_answer callee (some callee there)) (λ name there. same_name name (none name there)))
-
--- a constant without a value has no entry
-pub no_value_given : (m : Meaning) (name : List ℕ) → const_of m name ≡ None → IsUngiven name (entries m)
-no_value_given m name e = by (find (λ (c : List ℕ × Value). bytes_eq name c.0) m.consts) refl e
-  where
-    by : (o : Option (List ℕ × Value)) → find (λ (c : List ℕ × Value). bytes_eq name c.0) m.consts ≡ o → option_map (λ (c : List ℕ × Value). c.1) o ≡ None → IsUngiven name (entries m)
-    by None f g =
-        both_ungiven name (map (λ c. Constant c.0 c.1) m.consts) (map Cases m.pure ++ map Turns m.turns) (no_consts name m.consts f)
-        (both_ungiven name (map Cases m.pure) (map Turns m.turns) (cases_give_none name m.pure) (turns_give_none name m.turns))
-    by (Some c) f g = absurd cc

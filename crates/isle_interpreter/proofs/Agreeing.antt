@@ -14,11 +14,11 @@ use Rattle.isle_printer.proofs.Bytes.{same_is, same_bytes_refl, same_bytes_sound
 use Rattle.isle_tree.specs.declared.tree.TypeItem.{TypeItem}
 use Rattle.isle_tree.specs.Program.{Program}
 use Rattle.isle_interpreter.specs.Agreed.{Known, joined, noted, agreed, FitsKnown}
-use Rattle.isle_interpreter.specs.DeclaredTypes.{Asked, Nowhere, is_foreign, is_declared, variant_by, struct_by, type_item}
+use Rattle.isle_places.specs.DeclaredTypes.{Asked, Nowhere, is_foreign, is_declared, variant_by, struct_by, type_item}
 use Rattle.isle_interpreter.specs.Entries.{FitsPlaces}
-use Rattle.isle_interpreter.specs.Places.{all_named}
-use Rattle.isle_interpreter.specs.Signatures.{IsNamed, AreAsked}
-use Rattle.isle_interpreter.proofs.NamesAt.{contains_cases, first, later, nothing_there, stands_named, named_stands}
+use Rattle.isle_places.specs.Places.{all_named}
+use Rattle.isle_interpreter.specs.Named.{IsNamed, AreAsked}
+use Rattle.isle_places.proofs.NamesAt.{contains_cases, first, later, nothing_there, stands_named, named_stands}
 
 -- ---- a value is of one type
 

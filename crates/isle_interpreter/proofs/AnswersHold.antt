@@ -2,7 +2,6 @@
 use Rattle.std.proofs.Common.{◌≡◌, ℕ, List, [], ◌∷◌, ◌++◌, length, map, Bool, true, false, Option, Some, None, refl, sym, ap, subst, append_assoc, append-nil}
 use Rattle.std.specs.Prelude.{zero, suc, find, cond, IsSomeAnd, slice_index_or}
 use Rattle.std.specs.List.{AllByRecursion}
-use Rattle.std.specs.Str.{bytes_eq}
 use Rattle.std.proofs.lemmas.Slice.Eq.{bytes_eq-Decides}
 use Rattle.isle_core.specs.declared.values.Callee.{Callee}
 use Rattle.isle_core.specs.declared.values.Callee.TheVariants.{External, Internal}
@@ -15,10 +14,11 @@ use Rattle.isle_tree.specs.declared.holds.Holds.TheVariants as holds
 use Rattle.isle_tree.specs.declared.holds.Item.{Item as ItemHeld}
 use Rattle.isle_tree.specs.declared.holds.Item.TheVariants as item
 use Rattle.isle_tree.specs.declared.tree.TypeItem.{TypeItem}
-use Rattle.isle_tree.specs.Program.{Program}
+use Rattle.isle_tree.specs.Program.{Function, Program}
 use Rattle.isle_tree.specs.WellFormed.{kind_holds, AreResults}
-use Rattle.isle_interpreter.specs.Signatures.{Signature, signature_of, AreNamed, AnswerFits}
-use Rattle.isle_interpreter.specs.Entries.{Entry, Constant, Cases, Turns, entries, IsUnanswered, IsUngiven, CaseFits, EntryFits, AreRight}
+use Rattle.isle_places.specs.Signatures.{Signature, signature_of}
+use Rattle.isle_interpreter.specs.Named.{AreNamed, AnswerFits}
+use Rattle.isle_interpreter.specs.Entries.{Entry, Constant, Cases, Turns, entries, IsUnanswered, CaseFits, EntryFits, AreRight}
 
 -- an item is what is said of it
 abbrev pub IsItem : ItemHeld → Item → Type 0
@@ -53,13 +53,13 @@ goes_same (Internal a) (External b) e = absurd cc
 
 -- ---- right entries
 
-right_front : (p : Program) (e xs ys : List Entry) → AreRight p e (xs ++ ys) → AreRight p e xs
-right_front p e [] ys h = tt
-right_front p e (x ∷ xs) ys h = (h.0, right_front p (e ++ x ∷ []) xs ys h.1)
+right_front : (p : Program) (f : Function) (m : Meaning) (e xs ys : List Entry) → AreRight p f m e (xs ++ ys) → AreRight p f m e xs
+right_front p f m e [] ys h = tt
+right_front p f m e (x ∷ xs) ys h = (h.0, right_front p f m (e ++ x ∷ []) xs ys h.1)
 
-right_rest : (p : Program) (e xs ys : List Entry) → AreRight p e (xs ++ ys) → AreRight p (e ++ xs) ys
-right_rest p e [] ys h = subst (λ fs. AreRight p fs ys) (sym (append-nil e)) h
-right_rest p e (x ∷ xs) ys h = subst (λ fs. AreRight p fs ys) (append_assoc e (x ∷ []) xs) (right_rest p (e ++ x ∷ []) xs ys h.1)
+right_rest : (p : Program) (f : Function) (m : Meaning) (e xs ys : List Entry) → AreRight p f m e (xs ++ ys) → AreRight p f m (e ++ xs) ys
+right_rest p f m e [] ys h = subst (λ fs. AreRight p f m fs ys) (sym (append-nil e)) h
+right_rest p f m e (x ∷ xs) ys h = subst (λ fs. AreRight p f m fs ys) (append_assoc e (x ∷ []) xs) (right_rest p f m (e ++ x ∷ []) xs ys h.1)
 
 turns_by : (p : Program) (callee : Callee) (t a : TurnAnswers) (tail : Option TurnAnswers) (b : Bool) → goes_to callee (Some t.callee) ≡ b → IsSomeAnd (signature_of p t.callee) (EntryFits p.types (Turns t))
     → (tail ≡ Some a → IsSomeAnd (signature_of p callee) (EntryFits p.types (Turns a))) → cond b (Some t) tail ≡ Some a → IsSomeAnd (signature_of p callee) (EntryFits p.types (Turns a))
@@ -68,11 +68,11 @@ turns_by p callee t a tail true g h go e =
     subst (λ (x : TurnAnswers). IsSomeAnd (signature_of p callee) (EntryFits p.types (Turns x))) same (subst (λ c. IsSomeAnd (signature_of p c) (EntryFits p.types (Turns t))) (goes_same callee t.callee g) h)
 turns_by p callee t a tail false g h go e = go e
 
-found_turns : (p : Program) (e : List Entry) (ts : List TurnAnswers) (callee : Callee) (a : TurnAnswers) → AreRight p e (map Turns ts) → find (λ (b : TurnAnswers). goes_to callee (Some b.callee)) ts ≡ Some a
+found_turns : (p : Program) (k : Function) (m : Meaning) (e : List Entry) (ts : List TurnAnswers) (callee : Callee) (a : TurnAnswers) → AreRight p k m e (map Turns ts) → find (λ (b : TurnAnswers). goes_to callee (Some b.callee)) ts ≡ Some a
     → IsSomeAnd (signature_of p callee) (EntryFits p.types (Turns a))
-found_turns p e [] callee a h f = absurd cc
-found_turns p e (t ∷ ts) callee a h f =
-    turns_by p callee t a (find (λ (b : TurnAnswers). goes_to callee (Some b.callee)) ts) (goes_to callee (Some t.callee)) refl h.0.1 (found_turns p (e ++ Turns t ∷ []) ts callee a h.1) f
+found_turns p k m e [] callee a h f = absurd cc
+found_turns p k m e (t ∷ ts) callee a h f =
+    turns_by p callee t a (find (λ (b : TurnAnswers). goes_to callee (Some b.callee)) ts) (goes_to callee (Some t.callee)) refl h.0.1 (found_turns p k m (e ++ Turns t ∷ []) ts callee a h.1) f
 
 cases_by : (p : Program) (callee : Callee) (t a : PureAnswers) (tail : Option PureAnswers) (b : Bool) → goes_to callee (Some t.callee) ≡ b → IsSomeAnd (signature_of p t.callee) (EntryFits p.types (Cases t))
     → (tail ≡ Some a → IsSomeAnd (signature_of p callee) (EntryFits p.types (Cases a))) → cond b (Some t) tail ≡ Some a → IsSomeAnd (signature_of p callee) (EntryFits p.types (Cases a))
@@ -81,11 +81,11 @@ cases_by p callee t a tail true g h go e =
     subst (λ (x : PureAnswers). IsSomeAnd (signature_of p callee) (EntryFits p.types (Cases x))) same (subst (λ c. IsSomeAnd (signature_of p c) (EntryFits p.types (Cases t))) (goes_same callee t.callee g) h)
 cases_by p callee t a tail false g h go e = go e
 
-found_cases : (p : Program) (e : List Entry) (ts : List PureAnswers) (callee : Callee) (a : PureAnswers) → AreRight p e (map Cases ts) → find (λ (b : PureAnswers). goes_to callee (Some b.callee)) ts ≡ Some a
+found_cases : (p : Program) (k : Function) (m : Meaning) (e : List Entry) (ts : List PureAnswers) (callee : Callee) (a : PureAnswers) → AreRight p k m e (map Cases ts) → find (λ (b : PureAnswers). goes_to callee (Some b.callee)) ts ≡ Some a
     → IsSomeAnd (signature_of p callee) (EntryFits p.types (Cases a))
-found_cases p e [] callee a h f = absurd cc
-found_cases p e (t ∷ ts) callee a h f =
-    cases_by p callee t a (find (λ (b : PureAnswers). goes_to callee (Some b.callee)) ts) (goes_to callee (Some t.callee)) refl h.0.1 (found_cases p (e ++ Cases t ∷ []) ts callee a h.1) f
+found_cases p k m e [] callee a h f = absurd cc
+found_cases p k m e (t ∷ ts) callee a h f =
+    cases_by p callee t a (find (λ (b : PureAnswers). goes_to callee (Some b.callee)) ts) (goes_to callee (Some t.callee)) refl h.0.1 (found_cases p k m (e ++ Cases t ∷ []) ts callee a h.1) f
 
 -- ---- a callee without turns and cases is unanswered
 
@@ -113,24 +113,6 @@ pub no_cases : (callee : Callee) (ts : List PureAnswers) → find (λ (b : PureA
 no_cases callee [] e = tt
 no_cases callee (t ∷ ts) e = let f = cond_none (goes_to callee (Some t.callee)) t (find (λ (b : PureAnswers). goes_to callee (Some b.callee)) ts) e in (f.0, no_cases callee ts f.1)
 
--- ---- a constant without a value isn't given
-
-pub both_ungiven : (name : List ℕ) (xs ys : List Entry) → IsUngiven name xs → IsUngiven name ys → IsUngiven name (xs ++ ys)
-both_ungiven name [] ys h k = k
-both_ungiven name (x ∷ xs) ys h k = (h.0, both_ungiven name xs ys h.1 k)
-
-pub cases_give_none : (name : List ℕ) (ts : List PureAnswers) → IsUngiven name (map Cases ts)
-cases_give_none name [] = tt
-cases_give_none name (t ∷ ts) = (refl, cases_give_none name ts)
-
-pub turns_give_none : (name : List ℕ) (ts : List TurnAnswers) → IsUngiven name (map Turns ts)
-turns_give_none name [] = tt
-turns_give_none name (t ∷ ts) = (refl, turns_give_none name ts)
-
-pub no_consts : (name : List ℕ) (cs : List (List ℕ × Value)) → find (λ (c : List ℕ × Value). bytes_eq name c.0) cs ≡ None → IsUngiven name (map (λ c. Constant c.0 c.1) cs)
-no_consts name [] e = tt
-no_consts name (c ∷ cs) e = let f = cond_none (bytes_eq name c.0) c (find (λ (c : List ℕ × Value). bytes_eq name c.0) cs) e in (f.0, no_consts name cs f.1)
-
 -- ---- answers fit
 
 index_fits : {A : Type 0} (P : A → Type 0) (xs : List A) (n : ℕ) (d : A) → AllByRecursion P xs → P d → P (slice_index_or xs n d)
@@ -147,26 +129,26 @@ case_fits types s rest test (c ∷ cs) h k = by (test c) (case_fits types s rest
     by false go = go
 
 -- an answer fits the signature of its callee
-pub answer_fits : (p : Program) (m : Meaning) (callee : Callee) (s : Signature) → AreRight p [] (entries m) → (IsUnanswered callee (entries m) → ⊥) → signature_of p callee ≡ Some s
+pub answer_fits : (p : Program) (f : Function) (m : Meaning) (callee : Callee) (s : Signature) → AreRight p f m [] (entries m) → (IsUnanswered callee (entries m) → ⊥) → signature_of p callee ≡ Some s
     → (vs : List Value) (made : List Made) → AnswerFits p.types s (answer m callee vs made)
-answer_fits p m callee s right some is vs made = by_turns (turns_of m callee) refl
+answer_fits p f m callee s right some is vs made = by_turns (turns_of m callee) refl
   where
     consts : List Entry
     consts = map (λ c. Constant c.0 c.1) m.consts
 
-    later : AreRight p consts (map Cases m.pure ++ map Turns m.turns)
-    later = right_rest p [] consts (map Cases m.pure ++ map Turns m.turns) right
+    later : AreRight p f m consts (map Cases m.pure ++ map Turns m.turns)
+    later = right_rest p f m [] consts (map Cases m.pure ++ map Turns m.turns) right
 
     by_cases : turns_of m callee ≡ None → (o : Option PureAnswers) → cases_of m callee ≡ o → AnswerFits p.types s (case_at o vs)
     by_cases t None e = absurd (some (both_unanswered callee consts (map Cases m.pure ++ map Turns m.turns) (no_constants callee m.consts) (both_unanswered callee (map Cases m.pure) (map Turns m.turns) (no_cases callee m.pure e) (no_turns callee m.turns t))))
     by_cases t (Some a) e =
-        let fit : EntryFits p.types (Cases a) s = subst (λ o. IsSomeAnd o (EntryFits p.types (Cases a))) is (found_cases p consts m.pure callee a (right_front p consts (map Cases m.pure) (map Turns m.turns) later) e) in
+        let fit : EntryFits p.types (Cases a) s = subst (λ o. IsSomeAnd o (EntryFits p.types (Cases a))) is (found_cases p f m consts m.pure callee a (right_front p f m consts (map Cases m.pure) (map Turns m.turns) later) e) in
         case_fits p.types s a.rest (λ (c : List Value × Answer). same_values c.0 vs) a.cases fit.0 fit.1
 
     by_turns : (o : Option TurnAnswers) → turns_of m callee ≡ o → AnswerFits p.types s (answer_by o m callee vs made)
     by_turns None e = by_cases e (cases_of m callee) refl
     by_turns (Some a) e =
-        let fit : EntryFits p.types (Turns a) s = subst (λ o. IsSomeAnd o (EntryFits p.types (Turns a))) is (found_turns p (consts ++ map Cases m.pure) m.turns callee a (right_rest p consts (map Cases m.pure) (map Turns m.turns) later) e) in
+        let fit : EntryFits p.types (Turns a) s = subst (λ o. IsSomeAnd o (EntryFits p.types (Turns a))) is (found_turns p f m (consts ++ map Cases m.pure) m.turns callee a (right_rest p f m consts (map Cases m.pure) (map Turns m.turns) later) e) in
         index_fits (AnswerFits p.types s) a.turns (times callee made) a.rest fit.0 fit.1
 
 -- ---- and hold what their kind says

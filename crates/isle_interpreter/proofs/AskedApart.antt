@@ -3,8 +3,8 @@ use Rattle.std.proofs.Common.{◌≡◌, ℕ, suc, ◌+◌, List, [], ◌∷◌,
 use Rattle.isle_core.specs.declared.values.Value.{Value as CodeValue}
 use Rattle.isle_outcomes.specs.Fields.{fields}
 use Rattle.isle_tree.specs.declared.tree.TypeItem.{TypeItem}
-use Rattle.isle_interpreter.specs.DeclaredTypes.{These, tuple_fields}
-use Rattle.isle_interpreter.specs.Signatures.{AreAsked}
+use Rattle.isle_places.specs.DeclaredTypes.{These, tuple_fields}
+use Rattle.isle_interpreter.specs.Named.{AreAsked}
 
 pub asked_apart : (types : List TypeItem) (named : List (List ℕ × List ℕ)) (fs : List (List ℕ × CodeValue)) → AreAsked types (These named) (fields fs) → length named ≡ length fs
 asked_apart types [] [] h = refl

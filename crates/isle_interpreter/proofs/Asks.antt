@@ -11,8 +11,8 @@ use Rattle.isle_outcomes.specs.Fields.{fields}
 use Rattle.isle_outcomes.proofs.SeesValues.{value-variant, value-struct}
 use Rattle.isle_printer.specs.Bytes.{same_bytes}
 use Rattle.isle_tree.specs.declared.tree.TypeItem.{TypeItem}
-use Rattle.isle_interpreter.specs.DeclaredTypes.{Asked, These, tuple_fields, variant_asked, struct_asked}
-use Rattle.isle_interpreter.specs.Signatures.{IsNamed, AreAsked}
+use Rattle.isle_places.specs.DeclaredTypes.{Asked, These, tuple_fields, variant_asked, struct_asked}
+use Rattle.isle_interpreter.specs.Named.{IsNamed, AreAsked}
 
 -- whether a variant is as its type asks
 pub variant_as_asked : {E : Type 0} (types : List TypeItem) (name ty variant : List ℕ) (xs ys : List (List ℕ × CodeValue)) (g : CodeValue) (a : Asked) (r : Result Bool E) → g ≡ code.Variant ty variant xs → a ≡ variant_asked types name ty variant → ys ≡ xs

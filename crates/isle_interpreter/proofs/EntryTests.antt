@@ -13,15 +13,21 @@ use Rattle.isle_tree.specs.declared.tree.Program.{Program as CodeProgram}
 use Rattle.isle_tree.specs.Program.{Function, Program}
 use Rattle.isle_tree.specs.Views.{program}
 use Rattle.isle_interpreter.specs.declared.served.Served.{Served}
-use Rattle.isle_interpreter.specs.Signatures.{Signature, signature_of}
-use Rattle.isle_interpreter.specs.Entries.{Entry, Constant, Cases, Turns, answers_for, IsUnanswered, IsUngiven, is_typed, has_constant, FitsPlaces, EntryFits, IsRightFor, IsRight, AreRight}
+use Rattle.isle_places.specs.Signatures.{Signature, signature_of}
+use Rattle.isle_interpreter.specs.Entries.{Entry, Constant, Cases, Turns, entries, answers_for, IsUnanswered, IsUngiven, is_typed, has_constant, FitsPlaces, EntryFits, IsRightFor, IsRight, AreRight}
 use Rattle.isle_naming.specs.Occurring.{occurs}
 use Rattle.isle_naming.specs.Sets.{has_name}
-use Rattle.isle_interpreter.specs.Places.{names_at, places}
-use Rattle.isle_interpreter.proofs.NamesAt.{named_there, there_named}
+use Rattle.isle_places.specs.Places.{Place, places}
 use Rattle.isle_tree.specs.Calls.{body_calls}
-use Rattle.isle_interpreter.specs.Refusals.{IsMissing, no_answers, no_value, AreAnswered, AreGiven}
-use Rattle.isle_interpreter.specs.Served.{has, is_answered, is_given, Serves}
+use Rattle.isle_interpreter.specs.Refusals.{IsWrongEntry, IsMissing, no_answers, no_value, AreAnswered, AreGiven}
+use Rattle.isle_interpreter.specs.Served.{has, is_answered, is_given, known_operand, Serves}
+use Rattle.isle_interpreter.specs.Apart.{IsApart}
+use Rattle.isle_interpreter.specs.Clashes.{FindsClashes}
+use Rattle.isle_core.specs.Meaning.{Meaning}
+use Rattle.isle_tree.specs.declared.tree.Operand.{Operand}
+use Rattle.isle_tree.specs.declared.tree.Operand.TheVariants as operand
+use Rattle.std.specs.BTreeSet.{BTreeSet}
+use denote.Ref.{Bor}
 
 unanswered : (callee : Callee) (fs : List Entry) → is_answered fs callee ≡ false → IsUnanswered callee fs
 unanswered callee [] e = tt
@@ -33,43 +39,43 @@ is_unanswered callee (f ∷ fs) h = or_from _ _ h.0 (is_unanswered callee fs h.1
 
 -- ---- one entry of a callee
 
-known : (p : Program) (earlier : List Entry) (f : Entry) (callee : Callee) → answers_for f ≡ Some callee → IsRight p earlier f → IsRightFor p earlier f callee
-known p earlier (Constant name v) callee e r = absurd cc
-known p earlier (Cases a) callee e r = let same : a.callee ≡ callee = cc in subst (IsRightFor p earlier (Cases a)) same r
-known p earlier (Turns a) callee e r = let same : a.callee ≡ callee = cc in subst (IsRightFor p earlier (Turns a)) same r
+known : (p : Program) (g : Function) (m : Meaning) (earlier : List Entry) (f : Entry) (callee : Callee) → answers_for f ≡ Some callee → IsRight p g m earlier f → IsRightFor p earlier f callee
+known p g m earlier (Constant name v) callee e r = absurd cc
+known p g m earlier (Cases a) callee e r = let same : a.callee ≡ callee = cc in subst (IsRightFor p earlier (Cases a)) same r
+known p g m earlier (Turns a) callee e r = let same : a.callee ≡ callee = cc in subst (IsRightFor p earlier (Turns a)) same r
 
-known_so : (p : Program) (earlier : List Entry) (f : Entry) (callee : Callee) → answers_for f ≡ Some callee → IsRightFor p earlier f callee → IsRight p earlier f
-known_so p earlier (Constant name v) callee e h = absurd cc
-known_so p earlier (Cases a) callee e h = let same : callee ≡ a.callee = cc in subst (IsRightFor p earlier (Cases a)) same h
-known_so p earlier (Turns a) callee e h = let same : callee ≡ a.callee = cc in subst (IsRightFor p earlier (Turns a)) same h
+known_so : (p : Program) (g : Function) (m : Meaning) (earlier : List Entry) (f : Entry) (callee : Callee) → answers_for f ≡ Some callee → IsRightFor p earlier f callee → IsRight p g m earlier f
+known_so p g m earlier (Constant name v) callee e h = absurd cc
+known_so p g m earlier (Cases a) callee e h = let same : callee ≡ a.callee = cc in subst (IsRightFor p earlier (Cases a)) same h
+known_so p g m earlier (Turns a) callee e h = let same : callee ≡ a.callee = cc in subst (IsRightFor p earlier (Turns a)) same h
 
 -- one that repeats an earlier one
-pub repeats : (p : Program) (earlier : List Entry) (f : Entry) (callee : Callee) (s : Served) → answers_for f ≡ Some callee → Serves earlier s → has s callee ≡ true → IsTrue false ↔ IsRight p earlier f
-repeats p earlier f callee s e serves there = (
+pub repeats : (p : Program) (g : Function) (m : Meaning) (earlier : List Entry) (f : Entry) (callee : Callee) (s : Served) → answers_for f ≡ Some callee → Serves earlier s → has s callee ≡ true → IsTrue false ↔ IsRight p g m earlier f
+repeats p g m earlier f callee s e serves there = (
   λ t. absurd cc,
   λ r.
-      let none : is_answered earlier callee ≡ false = is_unanswered callee earlier (known p earlier f callee e r).0 in
+      let none : is_answered earlier callee ≡ false = is_unanswered callee earlier (known p g m earlier f callee e r).0 in
       let some : is_answered earlier callee ≡ true = sym (serves.serves callee) ∙ there in
       absurd cc,
 )
 
 -- another one is right exactly if its answers fit
-pub fitting : (p : Program) (earlier : List Entry) (f : Entry) (callee : Callee) (s : Served) (of : Signature) (b : Bool) → answers_for f ≡ Some callee → Serves earlier s → has s callee ≡ false → signature_of p callee ≡ Some of
-    → IsTrue b ↔ EntryFits p.types f of → IsTrue b ↔ IsRight p earlier f
-fitting p earlier f callee s of b e serves fresh is fits = (
-  λ t. known_so p earlier f callee e (unanswered callee earlier (sym (serves.serves callee) ∙ fresh), subst (λ o. IsSomeAnd o (EntryFits p.types f)) (sym is) (fits.0 t)),
-  λ r. fits.1 (subst (λ o. IsSomeAnd o (EntryFits p.types f)) is (known p earlier f callee e r).1),
+pub fitting : (p : Program) (g : Function) (m : Meaning) (earlier : List Entry) (f : Entry) (callee : Callee) (s : Served) (of : Signature) (b : Bool) → answers_for f ≡ Some callee → Serves earlier s → has s callee ≡ false → signature_of p callee ≡ Some of
+    → IsTrue b ↔ EntryFits p.types f of → IsTrue b ↔ IsRight p g m earlier f
+fitting p g m earlier f callee s of b e serves fresh is fits = (
+  λ t. known_so p g m earlier f callee e (unanswered callee earlier (sym (serves.serves callee) ∙ fresh), subst (λ o. IsSomeAnd o (EntryFits p.types f)) (sym is) (fits.0 t)),
+  λ r. fits.1 (subst (λ o. IsSomeAnd o (EntryFits p.types f)) is (known p g m earlier f callee e r).1),
 )
 
 -- so of the test that tells it
 pub fits_right : {E : Type 0} (p : Program) (f : Entry) (callee : Callee) (s : Served) (of : Signature) (types : List TypeItem) (r : Result Bool E) → answers_for f ≡ Some callee → has s callee ≡ false → signature_of p callee ≡ Some of → types ≡ p.types
-    → IfOk r (λ b. IsTrue b ↔ EntryFits types f of) → IfOk r (λ b. (earlier : List Entry) → Serves earlier s → IsTrue b ↔ IsRight p earlier f)
-fits_right p f callee s of types (result.Ok b) e fresh is same fits = λ earlier serves. fitting p earlier f callee s of b e serves fresh is (subst (λ ts. IsTrue b ↔ EntryFits ts f of) same fits)
+    → IfOk r (λ b. IsTrue b ↔ EntryFits types f of) → IfOk r (λ b. (earlier : List Entry) (g : Function) (m : Meaning) → Serves earlier s → IsTrue b ↔ IsRight p g m earlier f)
+fits_right p f callee s of types (result.Ok b) e fresh is same fits = λ earlier g m serves. fitting p g m earlier f callee s of b e serves fresh is (subst (λ ts. IsTrue b ↔ EntryFits ts f of) same fits)
 fits_right p f callee s of types (result.Err x) e fresh is same fits = tt
 
 -- one whose callee isn't there is not right
-pub without : (p : Program) (earlier : List Entry) (f : Entry) (callee : Callee) → answers_for f ≡ Some callee → signature_of p callee ≡ None → IsTrue false ↔ IsRight p earlier f
-without p earlier f callee e is = (λ t. absurd cc, λ r. absurd (subst (λ o. IsSomeAnd o (EntryFits p.types f)) is (known p earlier f callee e r).1))
+pub without : (p : Program) (g : Function) (m : Meaning) (earlier : List Entry) (f : Entry) (callee : Callee) → answers_for f ≡ Some callee → signature_of p callee ≡ None → IsTrue false ↔ IsRight p g m earlier f
+without p g m earlier f callee e is = (λ t. absurd cc, λ r. absurd (subst (λ o. IsSomeAnd o (EntryFits p.types f)) is (known p g m earlier f callee e r).1))
 
 -- ---- one entry of a constant
 
@@ -82,8 +88,8 @@ is_ungiven name [] h = refl
 is_ungiven name (f ∷ fs) h = or_from _ _ h.0 (is_ungiven name fs h.1)
 
 -- one that repeats an earlier one
-pub given_again : (p : Program) (earlier : List Entry) (name : List ℕ) (v : Value) (s : Served) → Serves earlier s → has_name s.constants name ≡ true → IsTrue false ↔ IsRight p earlier (Constant name v)
-given_again p earlier name v s serves there = (
+pub given_again : (p : Program) (g : Function) (m : Meaning) (earlier : List Entry) (name : List ℕ) (v : Value) (s : Served) → Serves earlier s → has_name s.constants name ≡ true → IsTrue false ↔ IsRight p g m earlier (Constant name v)
+given_again p g m earlier name v s serves there = (
   λ t. absurd cc,
   λ r.
       let none : is_given earlier name ≡ false = is_ungiven name earlier r.once in
@@ -92,18 +98,38 @@ given_again p earlier name v s serves there = (
 )
 
 -- another one is right exactly if its value is of the types of its places
-pub given_right : (p : Program) (earlier : List Entry) (name : List ℕ) (v : Value) (s : Served) (b : Bool) → Serves earlier s → has_name s.constants name ≡ false → has_constant p name ≡ true → is_typed v ≡ true → IsTrue b ↔ FitsPlaces p name v
-    → IsTrue b ↔ IsRight p earlier (Constant name v)
-given_right p earlier name v s b serves fresh there typed fits = (
-  λ t. record { once = ungiven name earlier (sym (serves.given name) ∙ fresh); there = there; typed = typed; fits = fits.0 t },
+pub given_right : (p : Program) (g : Function) (m : Meaning) (earlier : List Entry) (name : List ℕ) (v : Value) (s : Served) (b : Bool) → Serves earlier s → has_name s.constants name ≡ false → has_constant p name ≡ true → IsApart p g m name → is_typed v ≡ true → IsTrue b ↔ FitsPlaces p name v
+    → IsTrue b ↔ IsRight p g m earlier (Constant name v)
+given_right p g m earlier name v s b serves fresh there apart typed fits = (
+  λ t. record { once = ungiven name earlier (sym (serves.given name) ∙ fresh); there = there; typed = typed; fits = fits.0 t; apart = apart },
   λ r. fits.1 r.fits,
 )
 
 -- so of the test that tells it
-pub given_fits : {E : Type 0} (p : Program) (name : List ℕ) (v : Value) (s : Served) (r : Result Bool E) → has_name s.constants name ≡ false → has_constant p name ≡ true → is_typed v ≡ true → IfOk r (λ b. IsTrue b ↔ FitsPlaces p name v)
-    → IfOk r (λ b. (earlier : List Entry) → Serves earlier s → IsTrue b ↔ IsRight p earlier (Constant name v))
-given_fits p name v s (result.Ok b) fresh there typed fits = λ earlier serves. given_right p earlier name v s b serves fresh there typed fits
-given_fits p name v s (result.Err x) fresh there typed fits = tt
+pub given_fits : {E : Type 0} (p : Program) (name : List ℕ) (v : Value) (s : Served) (clashing : BTreeSet (Bor (List ℕ))) (r : Result Bool E) → has_name s.constants name ≡ false → has_constant p name ≡ true → has_name clashing name ≡ false → is_typed v ≡ true
+    → IfOk r (λ b. IsTrue b ↔ FitsPlaces p name v) → IfOk r (λ b. (earlier : List Entry) (g : Function) (m : Meaning) → Serves earlier s → FindsClashes p g m clashing → IsTrue b ↔ IsRight p g m earlier (Constant name v))
+given_fits p name v s clashing (result.Ok b) fresh there alone typed fits = λ earlier g m serves finds. given_right p g m earlier name v s b serves fresh there ((finds name).0 (ap not alone)) typed fits
+given_fits p name v s clashing (result.Err x) fresh there alone typed fits = tt
+
+-- one whose value another constant of its type has too
+pub clashes_so : (p : Program) (g : Function) (m : Meaning) (earlier : List Entry) (name : List ℕ) (v : Value) (clashing : BTreeSet (Bor (List ℕ))) → FindsClashes p g m clashing → has_name clashing name ≡ true → IsTrue false ↔ IsRight p g m earlier (Constant name v)
+clashes_so p g m earlier name v clashing finds shared = (
+  λ t. absurd cc,
+  λ r. let alone : not (has_name clashing name) ≡ true = (finds name).1 r.apart in absurd cc,
+)
+
+-- ---- entries of both sorts
+
+-- what the test of an entry tells
+abbrev pub Tells : Program → Served → BTreeSet (Bor (List ℕ)) → Entry → Bool → Type 0
+Tells p s clashing e b = (earlier : List Entry) (g : Function) (m : Meaning) → Serves earlier s → FindsClashes p g m clashing → IsTrue b ↔ IsRight p g m earlier e
+
+pub tells_as : {E : Type 0} (p : Program) (s : Served) (clashing : BTreeSet (Bor (List ℕ))) (d e : Entry) (r : Result Bool E) → d ≡ e → IfOk r (Tells p s clashing d) → IfOk r (Tells p s clashing e)
+tells_as p s clashing d e r same h = subst (λ x. IfOk r (Tells p s clashing x)) same h
+
+pub tells_too : {E : Type 0} (p : Program) (s : Served) (clashing : BTreeSet (Bor (List ℕ))) (e : Entry) (r : Result Bool E) → IfOk r (λ b. (earlier : List Entry) (g : Function) (m : Meaning) → Serves earlier s → IsTrue b ↔ IsRight p g m earlier e) → IfOk r (Tells p s clashing e)
+tells_too p s clashing e (result.Ok b) h = λ earlier g m serves finds. h earlier g m serves
+tells_too p s clashing e (result.Err x) h = tt
 
 -- ---- tests
 
@@ -118,9 +144,9 @@ not_added false r e f = absurd cc
 
 -- ---- entries in order
 
-right_more : (p : Program) (earlier fs : List Entry) (f : Entry) → AreRight p earlier fs → IsRight p (earlier ++ fs) f → AreRight p earlier (fs ++ f ∷ [])
-right_more p earlier [] f h r = (subst (λ gs. IsRight p gs f) (append-nil earlier) r, tt)
-right_more p earlier (g ∷ fs) f h r = (h.0, right_more p (earlier ++ g ∷ []) fs f h.1 (subst (λ gs. IsRight p gs f) (sym (append_assoc earlier (g ∷ []) fs)) r))
+right_more : (p : Program) (g : Function) (m : Meaning) (earlier fs : List Entry) (f : Entry) → AreRight p g m earlier fs → IsRight p g m (earlier ++ fs) f → AreRight p g m earlier (fs ++ f ∷ [])
+right_more p g m earlier [] f h r = (subst (λ gs. IsRight p g m gs f) (append-nil earlier) r, tt)
+right_more p g m earlier (d ∷ fs) f h r = (h.0, right_more p g m (earlier ++ d ∷ []) fs f h.1 (subst (λ gs. IsRight p g m gs f) (sym (append_assoc earlier (d ∷ []) fs)) r))
 
 take_next : (fs : List Entry) (i : ℕ) (f : Entry) → slice_get fs i ≡ Some f → take (i + 1) fs ≡ take i fs ++ f ∷ []
 take_next [] i f e = absurd cc
@@ -128,17 +154,26 @@ take_next (g ∷ fs) zero f e = let same : g ≡ f = cc in ap (λ x. x ∷ []) s
 take_next (g ∷ fs) (suc i) f e = let more : suc i + 1 ≡ suc (i + 1) = omega arith in ap (λ n. take n (g ∷ fs)) more ∙ ap (λ xs. g ∷ xs) (take_next fs i f e)
 
 -- what is known of the entries up to one
-abbrev pub Upto : Program → List Entry → ℕ → Served → Type 0
-Upto p fs i s = AreRight p [] (take i fs) × Serves (take i fs) s
+abbrev pub Upto : Program → Function → Meaning → List Entry → ℕ → Served → Type 0
+Upto p g m fs i s = AreRight p g m [] (take i fs) × Serves (take i fs) s
 
 -- one right entry more
-pub upto_more : (p : Program) (fs : List Entry) (i : ℕ) (f : Entry) (old new : Served) (right : Bool) → slice_get fs i ≡ Some f → Upto p fs i old → right ≡ true
-    → ((earlier : List Entry) → Serves earlier old → IsTrue right ↔ IsRight p earlier f) → ((earlier : List Entry) → Serves earlier old → IsTrue right → Serves (earlier ++ f ∷ []) new) → Upto p fs (i + 1) new
-upto_more p fs i f old new right at up told is serves =
+pub upto_more : (p : Program) (g : Function) (m : Meaning) (fs : List Entry) (i : ℕ) (f : Entry) (old new : Served) (right : Bool) → slice_get fs i ≡ Some f → Upto p g m fs i old → right ≡ true
+    → ((earlier : List Entry) → Serves earlier old → IsTrue right ↔ IsRight p g m earlier f) → ((earlier : List Entry) → Serves earlier old → IsTrue right → Serves (earlier ++ f ∷ []) new) → Upto p g m fs (i + 1) new
+upto_more p g m fs i f old new right at up told is serves =
     let next = take_next fs i f at in (
-      subst (AreRight p []) (sym next) (right_more p [] (take i fs) f up.0 ((is (take i fs) up.1).0 told)),
+      subst (AreRight p g m []) (sym next) (right_more p g m [] (take i fs) f up.0 ((is (take i fs) up.1).0 told)),
       subst (λ gs. Serves gs new) (sym next) (serves (take i fs) up.1 told),
     )
+
+-- the first entry that isn't right
+pub first_wrong : (p : Program) (g : Function) (m : Meaning) (i : ℕ) (e : Entry) (right : Bool) → slice_get (entries m) i ≡ Some e → AreRight p g m [] (take i (entries m)) → right ≡ false → IsTrue right ↔ IsRight p g m (take i (entries m)) e → IsWrongEntry p g m i
+first_wrong p g m i e right at before told is = record {
+  entry = e;
+  found = at;
+  before = before;
+  wrong = λ r. let so : right ≡ true = is.1 r in absurd cc;
+}
 
 -- ---- calls
 
@@ -171,46 +206,52 @@ is_missing p f fs s serves all = let one = left fs s (body_calls f.body) serves 
 
 -- ---- names
 
--- whether a name is known
-abbrev knows : Program → Served → List ℕ × List ℕ → Bool
-knows p s x = has_name s.constants x.0 || occurs p x.0
+-- whether what stands at a place is known
+abbrev pub knows : Program → Served → Place → Bool
+knows p s x = known_operand p s x.0
 
--- what is told of names by what is kept of the program
-pub known_of : (p kept signed : CodeProgram) (f : Function) (s : Served) (told : Bool) → kept ≡ p → signed ≡ p → told ≡ list_all (knows (program kept) s) (names_at (places (program signed) f)) → told ≡ list_all (knows (program p) s) (names_at (places (program p) f))
+-- what is told of it by what is kept of the program
+pub known_of : (p kept signed : CodeProgram) (f : Function) (s : Served) (told : Bool) → kept ≡ p → signed ≡ p → told ≡ list_all (knows (program kept) s) (places (program signed) f) → told ≡ list_all (knows (program p) s) (places (program p) f)
 known_of p kept signed f s told one two e =
     e
-    ∙ ap (λ (q : CodeProgram). list_all (knows (program q) s) (names_at (places (program signed) f))) one
-    ∙ ap (λ (q : CodeProgram). list_all (knows (program p) s) (names_at (places (program q) f))) two
+    ∙ ap (λ (q : CodeProgram). list_all (knows (program q) s) (places (program signed) f)) one
+    ∙ ap (λ (q : CodeProgram). list_all (knows (program p) s) (places (program q) f)) two
 
-all_known : (p : Program) (fs : List Entry) (s : Served) (xs : List (List ℕ × List ℕ)) → Serves fs s → list_all (knows p s) xs ≡ true → AllByRecursion (λ (x : List ℕ × List ℕ). (is_given fs x.0 || occurs p x.0) ≡ true) xs
-all_known p fs s [] serves all = tt
-all_known p fs s (x ∷ xs) serves all =
-    let parts = and_parts (knows p s x) (list_all (knows p s) xs) all in
-    (ap (λ b. b || occurs p x.0) (sym (serves.given x.0)) ∙ parts.0, all_known p fs s xs serves parts.1)
+all_known : (p : Program) (s : Served) (xs : List Place) → list_all (knows p s) xs ≡ true → AllByRecursion (λ (x : Place). knows p s x ≡ true) xs
+all_known p s [] all = tt
+all_known p s (x ∷ xs) all = let parts = and_parts (knows p s x) (list_all (knows p s) xs) all in (parts.0, all_known p s xs parts.1)
 
 -- each constant in the function has an entry
-pub are_given : (p : Program) (f : Function) (fs : List Entry) (s : Served) → Serves fs s → list_all (knows p s) (names_at (places p f)) ≡ true → AreGiven p f fs
+pub are_given : (p : Program) (f : Function) (fs : List Entry) (s : Served) → Serves fs s → list_all (knows p s) (places p f) ≡ true → AreGiven p f fs
 are_given p f fs s serves all name ty there free none =
-    let some : (is_given fs name || occurs p name) ≡ true =
-    All-contains (λ (x : List ℕ × List ℕ). (is_given fs x.0 || occurs p x.0) ≡ true) (names_at (places p f)) (name, ty) (All-from_recursion (λ (x : List ℕ × List ℕ). (is_given fs x.0 || occurs p x.0) ≡ true) (names_at (places p f)) (all_known p fs s (names_at (places p f)) serves all))
-    (named_there (places p f) name ty there) in
-    let not : (is_given fs name || occurs p name) ≡ false = or_from _ _ (is_ungiven name fs none) free in
+    let some : (has_name s.constants name || occurs p name) ≡ true =
+    All-contains (λ (x : Place). knows p s x ≡ true) (places p f) (operand.Name name, ty) (All-from_recursion (λ (x : Place). knows p s x ≡ true) (places p f) (all_known p s (places p f) all)) there in
+    let not : (has_name s.constants name || occurs p name) ≡ false = or_from _ _ (serves.given name ∙ is_ungiven name fs none) free in
     absurd cc
 
 -- one of the names has no entry, and no type that occurs
-abbrev IsFree : Program → List (List ℕ × List ℕ) → List Entry → Type 0
-IsFree p xs fs = (name : List ℕ) × (ty : List ℕ) × Contains xs (name, ty) × (occurs p name ≡ false) × IsUngiven name fs
+abbrev IsFree : Program → List Place → List Entry → Type 0
+IsFree p xs fs = (name : List ℕ) × (ty : List ℕ) × Contains {X = Place} xs (operand.Name name, ty) × (occurs p name ≡ false) × IsUngiven name fs
 
-free : (p : Program) (fs : List Entry) (s : Served) (xs : List (List ℕ × List ℕ)) → Serves fs s → list_all (knows p s) xs ≡ false → IsFree p xs fs
+-- so one that isn't known
+not_known : (p : Program) (fs : List Entry) (s : Served) (o : Operand) (ty : List ℕ) (xs : List Place) → Serves fs s → known_operand p s o ≡ false → IsFree p ((o, ty) ∷ xs) fs
+not_known p fs s (operand.Name name) ty xs serves e =
+    let parts = or_parts (has_name s.constants name) (occurs p name) e in
+    (name, ty, Contains-append_left ((operand.Name name, ty) ∷ []) xs (operand.Name name, ty) (0, omega arith, refl), parts.1, ungiven name fs (sym (serves.given name) ∙ parts.0))
+not_known p fs s (operand.Local n) ty xs serves e = absurd cc
+not_known p fs s (operand.Arg n) ty xs serves e = absurd cc
+not_known p fs s (operand.Bool b) ty xs serves e = absurd cc
+not_known p fs s (operand.Int of z) ty xs serves e = absurd cc
+not_known p fs s (operand.Raw z) ty xs serves e = absurd cc
+
+free : (p : Program) (fs : List Entry) (s : Served) (xs : List Place) → Serves fs s → list_all (knows p s) xs ≡ false → IsFree p xs fs
 free p fs s [] serves all = absurd cc
 free p fs s (x ∷ xs) serves all = by (knows p s x) refl all (free p fs s xs serves)
   where
     by : (b : Bool) → knows p s x ≡ b → (b && list_all (knows p s) xs) ≡ false → (list_all (knows p s) xs ≡ false → IsFree p xs fs) → IsFree p (x ∷ xs) fs
-    by true is none others = let other = others none in (other.0, other.1, Contains-append_right (x ∷ []) xs (other.0, other.1) other.2, other.3, other.4)
-    by false is none others =
-        let parts = or_parts (has_name s.constants x.0) (occurs p x.0) is in
-        (x.0, x.1, Contains-append_left (x ∷ []) xs x (0, omega arith, refl), parts.1, ungiven x.0 fs (sym (serves.given x.0) ∙ parts.0))
+    by true is none others = let other = others none in (other.0, other.1, Contains-append_right (x ∷ []) xs (operand.Name other.0, other.1) other.2, other.3, other.4)
+    by false is none others = not_known p fs s x.0 x.1 xs serves is
 
 -- or one of them has none
-pub is_free : (p : Program) (f : Function) (fs : List Entry) (s : Served) → Serves fs s → list_all (knows p s) (names_at (places p f)) ≡ false → IsMissing p f fs
-is_free p f fs s serves all = let one = free p fs s (names_at (places p f)) serves all in no_value one.0 one.1 (there_named (places p f) one.0 one.1 one.2) one.3 one.4
+pub is_free : (p : Program) (f : Function) (fs : List Entry) (s : Served) → Serves fs s → list_all (knows p s) (places p f) ≡ false → IsMissing p f fs
+is_free p f fs s serves all = let one = free p fs s (places p f) serves all in no_value one.0 one.1 one.2 one.3 one.4

@@ -1,5 +1,5 @@
 -- A place more in the map of names.
-use Rattle.std.proofs.Common.{◌≡◌, ℕ, ◌+◌, ◌<◌, List, ◌∷◌, fold, length, drop, get_or, Bool, true, false, cond, Option, Some, refl, sym, ap, ◌∙◌}
+use Rattle.std.proofs.Common.{◌≡◌, ℕ, ◌+◌, ◌<◌, List, [], ◌∷◌, fold, length, drop, get_or, Bool, true, false, cond, Option, Some, refl, sym, ap, ◌∙◌}
 use Rattle.std.specs.Prelude.{option_map, if◌then◌else◌}
 use Rattle.std.specs.Str.{bytes_eq}
 use Rattle.std.specs.BTreeMap.{BTreeMap, get_by, UpdatesBy}
@@ -9,8 +9,11 @@ use Rattle.std.proofs.lemmas.List.{drop_more}
 use Rattle.std.proofs.lemmas.Map.Text.{btree_map_updates_str}
 use denote.Ref.{Bor}
 use Rattle.isle_printer.proofs.Bytes.{same_is, same_bytes_sound}
-use Rattle.isle_interpreter.specs.Agreed.{joined, noted, agreed, at_name}
-use Rattle.isle_interpreter.specs.ToldViews.{named}
+use Rattle.isle_interpreter.specs.Agreed.{Known, joined, noted, noted_place, agreed_at, at_name}
+use Rattle.isle_places.specs.Places.{Place, names_at}
+use Rattle.isle_places.specs.ToldViews.{placed}
+use Rattle.isle_tree.specs.declared.tree.Operand.{Operand}
+use Rattle.isle_tree.specs.declared.tree.Operand.TheVariants as operand
 
 pub note_more : (name ty : List ℕ) (key : Bor (List ℕ)) (whole : Option (Bor (List ℕ))) (old new : BTreeMap (Bor (List ℕ)) (Option (Bor (List ℕ)))) → key.now ≡ name → option_map (λ (t : Bor (List ℕ)). t.now) whole ≡ joined (at_name old name) ty
     → UpdatesBy (λ (x y : Bor (List ℕ)). slice_cmp nat_cmp x.now y.now) (λ (k : Bor (List ℕ)). slice_cmp nat_cmp key.now k.now) old new (Some whole) → (other : List ℕ) → at_name new other ≡ noted other (at_name old other) (name, ty)
@@ -26,10 +29,20 @@ note_more name ty key whole old new is made updates other =
     by false e = refl
 
 -- one of the places that are left
-pub note_step : (places : List (Bor (List ℕ) × Bor (List ℕ))) (i : ℕ) (x d : Bor (List ℕ) × Bor (List ℕ)) (old new : BTreeMap (Bor (List ℕ)) (Option (Bor (List ℕ)))) → i < length places → x ≡ get_or places i d
-    → ((other : List ℕ) → at_name new other ≡ noted other (at_name old other) (x.0.now, x.1.now)) → ((name : List ℕ) → fold (noted name) (at_name old name) (named (drop i places)) ≡ agreed name (named places))
-    → (name : List ℕ) → fold (noted name) (at_name new name) (named (drop (i + 1) places)) ≡ agreed name (named places)
+pub note_step : (places : List (Bor Operand × Bor (List ℕ))) (i : ℕ) (x d : Bor Operand × Bor (List ℕ)) (old new : BTreeMap (Bor (List ℕ)) (Option (Bor (List ℕ)))) → i < length places → x ≡ get_or places i d
+    → ((other : List ℕ) → at_name new other ≡ noted_place other (at_name old other) (x.0.now, x.1.now)) → ((name : List ℕ) → fold (noted_place name) (at_name old name) (placed (drop i places)) ≡ agreed_at name (placed places))
+    → (name : List ℕ) → fold (noted_place name) (at_name new name) (placed (drop (i + 1) places)) ≡ agreed_at name (placed places)
 note_step places i x d old new lt is more before name =
-    ap (λ k. fold (noted name) k (named (drop (i + 1) places))) (more name)
-    ∙ ap (λ xs. fold (noted name) (at_name old name) (named xs)) (sym (drop_more places i d lt ∙ ap (λ y. y ∷ drop (i + 1) places) (sym is)))
+    ap (λ k. fold (noted_place name) k (placed (drop (i + 1) places))) (more name)
+    ∙ ap (λ xs. fold (noted_place name) (at_name old name) (placed xs)) (sym (drop_more places i d lt ∙ ap (λ y. y ∷ drop (i + 1) places) (sym is)))
     ∙ before name
+
+-- of all places, as of the names that stand there
+pub agreed_named : (name : List ℕ) (known : Known) (ps : List Place) → fold (noted_place name) known ps ≡ fold (noted name) known (names_at ps)
+agreed_named name known [] = refl
+agreed_named name known ((operand.Name other, ty) ∷ ps) = agreed_named name (noted name known (other, ty)) ps
+agreed_named name known ((operand.Local n, ty) ∷ ps) = agreed_named name known ps
+agreed_named name known ((operand.Arg n, ty) ∷ ps) = agreed_named name known ps
+agreed_named name known ((operand.Bool b, ty) ∷ ps) = agreed_named name known ps
+agreed_named name known ((operand.Int of z, ty) ∷ ps) = agreed_named name known ps
+agreed_named name known ((operand.Raw z, ty) ∷ ps) = agreed_named name known ps

@@ -3,7 +3,7 @@ use Rattle.std.proofs.Common.{◌≡◌, ℕ, suc, List, [], ◌∷◌, length, 
 use Rattle.isle_core.specs.declared.values.Value.{Value as CodeValue}
 use Rattle.isle_core.specs.ValueViews.{values}
 use Rattle.isle_tree.specs.declared.tree.TypeItem.{TypeItem}
-use Rattle.isle_interpreter.specs.Signatures.{AreNamed}
+use Rattle.isle_interpreter.specs.Named.{AreNamed}
 
 pub named_apart : (types : List TypeItem) (names : List (List ℕ)) (vs : List CodeValue) → AreNamed types names (values vs) → length names ≡ length vs
 named_apart types [] [] h = refl

@@ -3,7 +3,7 @@ use Rattle.std.proofs.Common.{◌≡◌, ℕ, zero, suc, ◌+◌, List, [], ◌�
 use Rattle.std.specs.Prelude.{slice_get}
 use Rattle.isle_core.specs.Value.{Value}
 use Rattle.isle_tree.specs.declared.tree.TypeItem.{TypeItem}
-use Rattle.isle_interpreter.specs.Signatures.{IsNamed, AreNamed}
+use Rattle.isle_interpreter.specs.Named.{IsNamed, AreNamed}
 
 pub named_more : (types : List TypeItem) (i : ℕ) (names : List (List ℕ)) (vs : List Value) (name : List ℕ) (v : Value) → slice_get names i ≡ Some name → slice_get vs i ≡ Some v → AreNamed types (take i names) (take i vs) → IsNamed types name v → AreNamed types (take (suc i) names) (take (suc i) vs)
 named_more types zero (n ∷ names) (w ∷ vs) name v e f h k = let same : name ≡ n = cc in let other : v ≡ w = cc in (subst (λ x. IsNamed types n x) other (subst (λ x. IsNamed types x v) same k), tt)

@@ -11,7 +11,8 @@ use Rattle.isle_tree.specs.Program.{Function, Program}
 use Rattle.isle_tree.specs.Run.{function_of}
 use Rattle.isle_interpreter.specs.declared.run_error.RunError.{RunError}
 use Rattle.isle_interpreter.specs.declared.run_error.RunError.TheVariants as error
-use Rattle.isle_interpreter.specs.Signatures.{type_names, AreNamed}
+use Rattle.isle_places.specs.Signatures.{type_names}
+use Rattle.isle_interpreter.specs.Named.{AreNamed}
 use Rattle.isle_interpreter.specs.Entries.{Entry, entries, IsRight, AreRight}
 use Rattle.isle_interpreter.specs.Refusals.{IsWrongArg, IsWrongEntry, IsMissing, no_answers, no_value, MayRun, IsRefused, no_term, arg_count, arg_type, wrong_entry, missing}
 use Rattle.isle_interpreter.proofs.WrongNamed.{named_at, not_named}
@@ -63,21 +64,22 @@ typed_count types f args typed = named_count types (type_names f.params) args ty
 
 -- ---- entries
 
-right_at : (p : Program) (earlier fs : List Entry) (i : ℕ) (f : Entry) → AreRight p earlier fs → slice_get fs i ≡ Some f → IsRight p (earlier ++ take i fs) f
-right_at p earlier [] i f right e = absurd cc
-right_at p earlier (g ∷ fs) zero f right e =
-    let same : g ≡ f = cc in
-    subst (λ gs. IsRight p gs f) (sym (append-nil earlier)) (subst (IsRight p earlier) same right.0)
-right_at p earlier (g ∷ fs) (suc i) f right e = subst (λ gs. IsRight p gs f) (append_assoc earlier (g ∷ []) (take i fs)) (right_at p (earlier ++ g ∷ []) fs i f right.1 e)
+module _ (p : Program) (f : Function) (m : Meaning) where
+  right_at : (earlier es : List Entry) (i : ℕ) (e : Entry) → AreRight p f m earlier es → slice_get es i ≡ Some e → IsRight p f m (earlier ++ take i es) e
+  right_at earlier [] i e right is = absurd cc
+  right_at earlier (d ∷ es) zero e right is =
+      let same : d ≡ e = cc in
+      subst (λ gs. IsRight p f m gs e) (sym (append-nil earlier)) (subst (IsRight p f m earlier) same right.0)
+  right_at earlier (d ∷ es) (suc i) e right is = subst (λ gs. IsRight p f m gs e) (append_assoc earlier (d ∷ []) (take i es)) (right_at (earlier ++ d ∷ []) es i e right.1 is)
 
-not_right : (p : Program) (fs : List Entry) (i : ℕ) → IsWrongEntry p fs i → AreRight p [] fs → ⊥
-not_right p fs i w right = w.wrong (right_at p [] fs i w.entry right w.found)
+  not_right : (i : ℕ) → IsWrongEntry p f m i → AreRight p f m [] (entries m) → ⊥
+  not_right i w right = w.wrong (right_at [] (entries m) i w.entry right w.found)
 
-earlier_entry : (p : Program) (fs : List Entry) (i j : ℕ) → IsWrongEntry p fs i → IsWrongEntry p fs j → i < j → ⊥
-earlier_entry p fs i j v w lt = v.wrong (subst (λ gs. IsRight p gs v.entry) (taken_twice i j fs lt) (right_at p [] (take j fs) i v.entry w.before (get_taken i j fs lt ∙ v.found)))
+  earlier_entry : (i j : ℕ) → IsWrongEntry p f m i → IsWrongEntry p f m j → i < j → ⊥
+  earlier_entry i j v w lt = v.wrong (subst (λ gs. IsRight p f m gs v.entry) (taken_twice i j (entries m) lt) (right_at [] (take j (entries m)) i v.entry w.before (get_taken i j (entries m) lt ∙ v.found)))
 
-one_entry : (p : Program) (fs : List Entry) (i j : ℕ) → IsWrongEntry p fs i → IsWrongEntry p fs j → i ≡ j
-one_entry p fs i j v w = same_number i j (earlier_entry p fs i j v w) (earlier_entry p fs j i w v)
+  one_entry : (i j : ℕ) → IsWrongEntry p f m i → IsWrongEntry p f m j → i ≡ j
+  one_entry i j v w = same_number i j (earlier_entry i j v w) (earlier_entry j i w v)
 
 -- ---- refusals
 
@@ -100,6 +102,14 @@ module _ (p : Program) (term : List ℕ) (args : List Value) (m : Meaning) where
   not_counted : (f g : Function) → function_of term p.fns ≡ Some f → function_of term p.fns ≡ Some g → (length args ≡ length f.params → ⊥) → AreNamed p.types (type_names g.params) args → ⊥
   not_counted f g e h n typed = n (counted_as g f h e (typed_count p.types g args typed))
 
+  -- a wrong entry and entries that are right
+  not_wrong : (f g : Function) (i : ℕ) → function_of term p.fns ≡ Some f → function_of term p.fns ≡ Some g → IsWrongEntry p f m i → AreRight p g m [] (entries m) → ⊥
+  not_wrong f g i e h w right = not_right p f m i w (subst (λ (k : Function). AreRight p k m [] (entries m)) (same g f h e) right)
+
+  -- two wrong entries are one
+  one_wrong : (f g : Function) (i j : ℕ) → function_of term p.fns ≡ Some f → function_of term p.fns ≡ Some g → IsWrongEntry p f m i → IsWrongEntry p g m j → i ≡ j
+  one_wrong f g i j e h v w = one_entry p f m i j v (subst (λ (k : Function). IsWrongEntry p k m j) (same g f h e) w)
+
   -- two refusals are one
   pub one_refusal : (d e : RunError) → IsRefused p term args m d → IsRefused p term args m e → d ≡ e
   one_refusal _ _ (no_term a) (no_term b) = refl
@@ -120,12 +130,12 @@ module _ (p : Program) (term : List ℕ) (args : List Value) (m : Meaning) where
   one_refusal _ _ (wrong_entry f i e s v) (no_term b) = absurd cc
   one_refusal _ _ (wrong_entry f i e s v) (arg_count g h k) = absurd (not_counted g f h e k s)
   one_refusal _ _ (wrong_entry f i e s v) (arg_type g j h k w) = absurd (not_typed g f j h e w s)
-  one_refusal _ _ (wrong_entry f i e s v) (wrong_entry g j h t w) = ap error.BadAnswers (one_entry p (entries m) i j v w)
-  one_refusal _ _ (wrong_entry f i e s v) (missing g h t r l) = absurd (not_right p (entries m) i v r)
+  one_refusal _ _ (wrong_entry f i e s v) (wrong_entry g j h t w) = ap error.BadAnswers (one_wrong f g i j e h v w)
+  one_refusal _ _ (wrong_entry f i e s v) (missing g h t r l) = absurd (not_wrong f g i e h v r)
   one_refusal _ _ (missing f e s r l) (no_term b) = absurd cc
   one_refusal _ _ (missing f e s r l) (arg_count g h k) = absurd (not_counted g f h e k s)
   one_refusal _ _ (missing f e s r l) (arg_type g j h k w) = absurd (not_typed g f j h e w s)
-  one_refusal _ _ (missing f e s r l) (wrong_entry g j h t w) = absurd (not_right p (entries m) j w r)
+  one_refusal _ _ (missing f e s r l) (wrong_entry g j h t w) = absurd (not_wrong g f j h e w r)
   one_refusal _ _ (missing f e s r l) (missing g h t q k) = refl
 
   -- where the function may run nothing is missing
@@ -138,5 +148,5 @@ module _ (p : Program) (term : List ℕ) (args : List Value) (m : Meaning) where
   not_refused f _ may (no_term b) = let none : None ≡ Some f = sym b ∙ may.found in cc
   not_refused f _ may (arg_count g h k) = not_counted g f h may.found k may.typed
   not_refused f _ may (arg_type g j h k w) = not_typed g f j h may.found w may.typed
-  not_refused f _ may (wrong_entry g j h t w) = not_right p (entries m) j w may.right
+  not_refused f _ may (wrong_entry g j h t w) = not_wrong g f j h may.found w may.right
   not_refused f _ may (missing g h t r l) = not_missing f may (subst (λ (x : Function). IsMissing p x (entries m)) (same g f h may.found) l)

@@ -9,13 +9,14 @@ use Rattle.isle_tree.specs.Program.{Function, Program}
 use Rattle.isle_tree.specs.Run.{function_of}
 use Rattle.isle_interpreter.specs.declared.run_error.RunError.{RunError}
 use Rattle.isle_interpreter.specs.declared.run_error.RunError.TheVariants as error
-use Rattle.isle_interpreter.specs.Signatures.{type_names, AreNamed}
+use Rattle.isle_places.specs.Signatures.{type_names}
+use Rattle.isle_interpreter.specs.Named.{AreNamed}
 use Rattle.isle_interpreter.specs.Entries.{entries}
 use Rattle.isle_interpreter.specs.Judged.{IsEarly, AreBad}
 use Rattle.isle_interpreter.specs.Refusals.{IsRefused, wrong_entry, missing}
 use Rattle.isle_interpreter.proofs.OneRefusal.{one_refusal}
 
-pub bad_refused : (p : Program) (term : List ℕ) (args : List Value) (m : Meaning) (f : Function) (e : RunError) → function_of term p.fns ≡ Some f → AreNamed p.types (type_names f.params) args → AreBad p f (entries m) e
+pub bad_refused : (p : Program) (term : List ℕ) (args : List Value) (m : Meaning) (f : Function) (e : RunError) → function_of term p.fns ≡ Some f → AreNamed p.types (type_names f.params) args → AreBad p f m e
     → (e ≡ error.Memory) ⊎ IsRefused p term args m e
 bad_refused p term args m f error.Memory there typed bad = inl refl
 bad_refused p term args m f (error.BadAnswers i) there typed bad = inr (⊎_elim

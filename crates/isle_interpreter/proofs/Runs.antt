@@ -17,7 +17,8 @@ use Rattle.isle_tree.specs.declared.tree.TypeItem.{TypeItem}
 use Rattle.isle_tree.specs.Program.{Function, Program}
 use Rattle.isle_tree.specs.WellFormed.{IsTraitFn, IsFunction, IsWellFormed, IsBodyScoped, trait_fn, call_holds, kind_holds}
 use Rattle.isle_tree.specs.Run.{Around, nothing_done, ended, function_of, function_run, run}
-use Rattle.isle_interpreter.specs.Signatures.{trait_signature, signature_of, type_names, AreNamed}
+use Rattle.isle_places.specs.Signatures.{trait_signature, signature_of, type_names}
+use Rattle.isle_interpreter.specs.Named.{AreNamed}
 use Rattle.isle_interpreter.specs.Entries.{entries, IsUnanswered, AreRight}
 use Rattle.isle_tree.specs.Calls.{body_calls}
 use Rattle.isle_interpreter.specs.Refusals.{MayRun}
@@ -53,21 +54,21 @@ found_function p term (g ∷ fs) f h e = by (same_bytes term g.term) (found_func
     by false go e = go e
 
 -- a function of the trait that is called answers with its kind
-fn_answers : (p : Program) (m : Meaning) (name : List ℕ) (o : Option TraitFn) → trait_fn p.trait_fns name ≡ o → AllByRecursion IsTraitFn p.trait_fns → AreRight p [] (entries m) → (IsUnanswered (callee.External name) (entries m) → ⊥)
+fn_answers : (p : Program) (k : Function) (m : Meaning) (name : List ℕ) (o : Option TraitFn) → trait_fn p.trait_fns name ≡ o → AllByRecursion IsTraitFn p.trait_fns → AreRight p k m [] (entries m) → (IsUnanswered (callee.External name) (entries m) → ⊥)
     → (count : ℕ) (h : Holds) → call_holds o count ≡ Some h → (vs : List Value) (made : List Made) → HoldsIn h (answer_held (answer m (callee.External name) vs made))
-fn_answers p m name None e all right some count h f vs made = absurd cc
-fn_answers p m name (Some g) e all right some count h f vs made = by (length g.params == count) f
+fn_answers p k m name None e all right some count h f vs made = absurd cc
+fn_answers p k m name (Some g) e all right some count h f vs made = by (length g.params == count) f
   where
     is : signature_of p (callee.External name) ≡ Some (trait_signature g)
     is = ap (λ (o : Option TraitFn). option_map trait_signature o) e
 
     by : (b : Bool) → (if b then kind_holds g.kind else None) ≡ Some h → HoldsIn h (answer_held (answer m (callee.External name) vs made))
-    by true k = answer_holds p.types (trait_signature g) h (answer m (callee.External name) vs made) (found_fn name p.trait_fns g all e).results k (answer_fits p m (callee.External name) (trait_signature g) right some is vs made)
-    by false k = absurd cc
+    by true is_so = answer_holds p.types (trait_signature g) h (answer m (callee.External name) vs made) (found_fn name p.trait_fns g all e).results is_so (answer_fits p k m (callee.External name) (trait_signature g) right some is vs made)
+    by false is_so = absurd cc
 
-answering : (p : Program) (m : Meaning) (f : Function) → AllByRecursion IsTraitFn p.trait_fns → AreRight p [] (entries m) → ((c : Callee) → Contains (body_calls f.body) c → IsUnanswered c (entries m) → ⊥)
+answering : (p : Program) (m : Meaning) (f : Function) → AllByRecursion IsTraitFn p.trait_fns → AreRight p f m [] (entries m) → ((c : Callee) → Contains (body_calls f.body) c → IsUnanswered c (entries m) → ⊥)
     → Answering p.trait_fns m (body_calls f.body)
-answering p m f all right some (callee.External name) k count h e vs made = fn_answers p m name (trait_fn p.trait_fns name) refl all right (some (callee.External name) k) count h e vs made
+answering p m f all right some (callee.External name) k count h e vs made = fn_answers p f m name (trait_fn p.trait_fns name) refl all right (some (callee.External name) k) count h e vs made
 answering p m f all right some (callee.Internal term) k count h e vs made = absurd cc
 
 -- in a well-formed program

@@ -5,7 +5,8 @@ use Rattle.std.proofs.lemmas.List.{length-map}
 use Rattle.isle_tree.specs.declared.tree.Ty.{Ty}
 use Rattle.isle_tree.specs.declared.tree.TypeItem.{TypeItem}
 use Rattle.isle_core.specs.Value.{Value}
-use Rattle.isle_interpreter.specs.Signatures.{type_names, IsNamed, AreNamed}
+use Rattle.isle_places.specs.Signatures.{type_names}
+use Rattle.isle_interpreter.specs.Named.{IsNamed, AreNamed}
 use Rattle.isle_interpreter.specs.Refusals.{IsWrongArg}
 use Rattle.isle_interpreter.specs.FirstWrong.{IsFirstWrong}
 use Rattle.isle_core.specs.declared.values.Value.{Value as CodeValue}

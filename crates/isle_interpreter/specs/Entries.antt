@@ -11,8 +11,10 @@ use Rattle.isle_tree.specs.declared.tree.TypeItem.{TypeItem}
 use Rattle.isle_tree.specs.Program.{Function, Program}
 use Rattle.isle_naming.specs.Names.{function_names, is_among}
 use Rattle.isle_naming.specs.Occurring.{occurs}
-use Rattle.isle_interpreter.specs.Places.{StandsAt}
-use Rattle.isle_interpreter.specs.Signatures.{Signature, signature_of, IsNamed, AreNamed, AnswerFits}
+use Rattle.isle_places.specs.Places.{StandsAt}
+use Rattle.isle_places.specs.Signatures.{Signature, signature_of}
+use Rattle.isle_interpreter.specs.Apart.{IsApart}
+use Rattle.isle_interpreter.specs.Named.{IsNamed, AreNamed, AnswerFits}
 
 -- a constant's value, the cases of a callee, or its turns
 pub data Entry : Type 0 where
@@ -74,20 +76,22 @@ EntryFits types (Turns a) s = AllByRecursion (AnswerFits types s) a.turns × Ans
 abbrev pub IsRightFor : Program → List Entry → Entry → Callee → Type 0
 IsRightFor p earlier f callee = IsUnanswered callee earlier × IsSomeAnd (signature_of p callee) (EntryFits p.types f)
 
--- a constant behind these is right: the program has it, none of them gives it a value, and its own is of each type that its places have
-pub record IsRightConstant (p : Program) (earlier : List Entry) (name : List ℕ) (v : Value) : Type 0 where
+-- a constant behind these is right, for a run of the function under the meaning: the program has it, none of them gives it a value,
+-- its own is of each type that its places have, and no other constant of its type in the function has that value
+pub record IsRightConstant (p : Program) (f : Function) (m : Meaning) (earlier : List Entry) (name : List ℕ) (v : Value) : Type 0 where
   pub once : IsUngiven name earlier
   pub there : IsTrue (has_constant p name)
   pub typed : IsTrue (is_typed v)
   pub fits : FitsPlaces p name v
+  pub apart : IsApart p f m name
 
 -- an entry behind these is right: so a constant, or the program has its callee, none of them answers for that, and its answers fit
-abbrev pub IsRight : Program → List Entry → Entry → Type 0
-IsRight p earlier (Constant name v) = IsRightConstant p earlier name v
-IsRight p earlier (Cases a) = IsRightFor p earlier (Cases a) a.callee
-IsRight p earlier (Turns a) = IsRightFor p earlier (Turns a) a.callee
+abbrev pub IsRight : Program → Function → Meaning → List Entry → Entry → Type 0
+IsRight p f m earlier (Constant name v) = IsRightConstant p f m earlier name v
+IsRight p f m earlier (Cases a) = IsRightFor p earlier (Cases a) a.callee
+IsRight p f m earlier (Turns a) = IsRightFor p earlier (Turns a) a.callee
 
 -- each entry behind these is right
-abbrev pub AreRight : Program → (earlier later : List Entry) → Type 0
-AreRight p earlier [] = Unit {0}
-AreRight p earlier (f ∷ fs) = IsRight p earlier f × AreRight p (earlier ++ f ∷ []) fs
+abbrev pub AreRight : Program → Function → Meaning → (earlier later : List Entry) → Type 0
+AreRight p f m earlier [] = Unit {0}
+AreRight p f m earlier (e ∷ es) = IsRight p f m earlier e × AreRight p f m (earlier ++ e ∷ []) es

@@ -2,7 +2,7 @@
 use Rattle.std.specs.Prelude.{ℕ, List, Option, Some, None}
 use Rattle.isle_core.specs.Value.{Value}
 use Rattle.isle_tree.specs.declared.tree.TypeItem.{TypeItem}
-use Rattle.isle_interpreter.specs.Signatures.{AreNamed}
+use Rattle.isle_interpreter.specs.Named.{AreNamed}
 use Rattle.isle_interpreter.specs.Refusals.{IsWrongArg}
 
 -- none is wrong, or this one is the first

@@ -6,9 +6,10 @@ use Rattle.isle_tree.specs.Program.{Function, Program}
 use Rattle.isle_tree.specs.Run.{function_of}
 use Rattle.isle_interpreter.specs.declared.run_error.RunError.{RunError}
 use Rattle.isle_interpreter.specs.declared.run_error.RunError.TheVariants as error
-use Rattle.isle_interpreter.specs.Entries.{Entry, AreRight}
+use Rattle.isle_interpreter.specs.Entries.{entries, AreRight}
 use Rattle.isle_interpreter.specs.Refusals.{IsWrongEntry, IsMissing, MayRun}
-use Rattle.isle_interpreter.specs.Signatures.{type_names, AreNamed}
+use Rattle.isle_places.specs.Signatures.{type_names}
+use Rattle.isle_interpreter.specs.Named.{AreNamed}
 
 -- a refusal before any entry is looked at
 abbrev pub IsEarly : RunError → Type 0
@@ -18,21 +19,21 @@ IsEarly (error.ArgType i) = Unit {0}
 IsEarly (error.BadAnswers i) = ⊥
 IsEarly error.Memory = ⊥
 
--- why not all entries are right, or want of memory
-abbrev pub AreWrong : Program → List Entry → RunError → Type 0
-AreWrong p fs error.NoTerm = ⊥
-AreWrong p fs error.ArgCount = ⊥
-AreWrong p fs (error.ArgType i) = ⊥
-AreWrong p fs (error.BadAnswers i) = IsWrongEntry p fs i
-AreWrong p fs error.Memory = Unit {0}
+-- why not all entries are right for a run of the function, or want of memory
+abbrev pub AreWrong : Program → Function → Meaning → RunError → Type 0
+AreWrong p f m error.NoTerm = ⊥
+AreWrong p f m error.ArgCount = ⊥
+AreWrong p f m (error.ArgType i) = ⊥
+AreWrong p f m (error.BadAnswers i) = IsWrongEntry p f m i
+AreWrong p f m error.Memory = Unit {0}
 
 -- why the entries don't do for a function, or want of memory
-abbrev pub AreBad : Program → Function → List Entry → RunError → Type 0
-AreBad p f fs error.NoTerm = ⊥
-AreBad p f fs error.ArgCount = ⊥
-AreBad p f fs (error.ArgType i) = ⊥
-AreBad p f fs (error.BadAnswers i) = IsWrongEntry p fs i ⊎ (AreRight p [] fs × IsMissing p f fs × (i ≡ length fs))
-AreBad p f fs error.Memory = Unit {0}
+abbrev pub AreBad : Program → Function → Meaning → RunError → Type 0
+AreBad p f m error.NoTerm = ⊥
+AreBad p f m error.ArgCount = ⊥
+AreBad p f m (error.ArgType i) = ⊥
+AreBad p f m (error.BadAnswers i) = IsWrongEntry p f m i ⊎ (AreRight p f m [] (entries m) × IsMissing p f (entries m) × (i ≡ length (entries m)))
+AreBad p f m error.Memory = Unit {0}
 
 -- the function of the term takes the arguments
 pub record Takes (p : Program) (term : List ℕ) (args : List Value) : Type 0 where

@@ -8,10 +8,11 @@ use Rattle.isle_tree.specs.Program.{Function, Program}
 use Rattle.isle_tree.specs.Run.{function_of}
 use Rattle.isle_interpreter.specs.declared.run_error.RunError.{RunError}
 use Rattle.isle_interpreter.specs.declared.run_error.RunError.TheVariants as error
-use Rattle.isle_interpreter.specs.Signatures.{type_names, IsNamed, AreNamed}
+use Rattle.isle_places.specs.Signatures.{type_names}
+use Rattle.isle_interpreter.specs.Named.{IsNamed, AreNamed}
 use Rattle.isle_interpreter.specs.Entries.{Entry, entries, IsUnanswered, IsUngiven, IsRight, AreRight}
 use Rattle.isle_naming.specs.Occurring.{occurs}
-use Rattle.isle_interpreter.specs.Places.{StandsAt}
+use Rattle.isle_places.specs.Places.{StandsAt}
 use Rattle.isle_tree.specs.Calls.{body_calls}
 
 -- the argument of this number is the first that is no value of its parameter's type
@@ -23,12 +24,12 @@ pub record IsWrongArg (types : List TypeItem) (names : List (List ℕ)) (args : 
   pub before : AreNamed types (take i names) (take i args)
   pub wrong : IsNamed types name arg → ⊥
 
--- the entry of this number is the first wrong one
-pub record IsWrongEntry (p : Program) (fs : List Entry) (i : ℕ) : Type 0 where
+-- the entry of this number is the first wrong one, for a run of the function
+pub record IsWrongEntry (p : Program) (f : Function) (m : Meaning) (i : ℕ) : Type 0 where
   pub entry : Entry
-  pub found : slice_get fs i ≡ Some entry
-  pub before : AreRight p [] (take i fs)
-  pub wrong : IsRight p (take i fs) entry → ⊥
+  pub found : slice_get (entries m) i ≡ Some entry
+  pub before : AreRight p f m [] (take i (entries m))
+  pub wrong : IsRight p f m (take i (entries m)) entry → ⊥
 
 -- something that the function calls has no entry, or a name in it that is a constant has none: one that stands at a place whose type
 -- the program fixes, and that no type has which occurs
@@ -48,7 +49,7 @@ AreGiven p f fs = (name ty : List ℕ) → StandsAt p f name ty → occurs p nam
 pub record MayRun (p : Program) (term : List ℕ) (args : List Value) (m : Meaning) (f : Function) : Type 0 where
   pub found : function_of term p.fns ≡ Some f
   pub typed : AreNamed p.types (type_names f.params) args
-  pub right : AreRight p [] (entries m)
+  pub right : AreRight p f m [] (entries m)
   pub answered : AreAnswered f (entries m)
   pub given : AreGiven p f (entries m)
 
@@ -58,7 +59,7 @@ pub data IsRefused (p : Program) (term : List ℕ) (args : List Value) (m : Mean
   arg_count : (f : Function) → function_of term p.fns ≡ Some f → length args ≢ length f.params → IsRefused p term args m error.ArgCount
   arg_type : (f : Function) (i : ℕ) → function_of term p.fns ≡ Some f → length args ≡ length f.params → IsWrongArg p.types (type_names f.params) args i
       → IsRefused p term args m (error.ArgType i)
-  wrong_entry : (f : Function) (i : ℕ) → function_of term p.fns ≡ Some f → AreNamed p.types (type_names f.params) args → IsWrongEntry p (entries m) i
+  wrong_entry : (f : Function) (i : ℕ) → function_of term p.fns ≡ Some f → AreNamed p.types (type_names f.params) args → IsWrongEntry p f m i
       → IsRefused p term args m (error.BadAnswers i)
-  missing : (f : Function) → function_of term p.fns ≡ Some f → AreNamed p.types (type_names f.params) args → AreRight p [] (entries m) → IsMissing p f (entries m)
+  missing : (f : Function) → function_of term p.fns ≡ Some f → AreNamed p.types (type_names f.params) args → AreRight p f m [] (entries m) → IsMissing p f (entries m)
       → IsRefused p term args m (error.BadAnswers (length (entries m)))

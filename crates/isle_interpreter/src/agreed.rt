@@ -2,13 +2,12 @@
 
 ghost use Rattle.std.specs.Prelude.{◌≡◌, ℕ, List, IfOk, OnOk, option_map};
 ghost use Rattle.isle_tree.specs.Views.{program};
-ghost use Rattle.isle_interpreter.specs.Agreed.{at_name, agreed, joined, noted};
-ghost use Rattle.isle_interpreter.specs.Places.{all_named};
-ghost use Rattle.isle_interpreter.specs.ToldViews.{named};
+ghost use Rattle.isle_interpreter.specs.Agreed.{at_name, agreed, agreed_at, joined, noted, noted_place};
+ghost use Rattle.isle_places.specs.Places.{all_named};
+ghost use Rattle.isle_places.specs.ToldViews.{placed};
 
-use crate::placing::push_places;
-use crate::signatures::Signatures;
-use isle_tree::Function;
+use isle_places::{Signatures, push_places};
+use isle_tree::{Function, Operand};
 use std::alloc::{AllocError, Global};
 use std::collections::BTreeMap;
 
@@ -36,16 +35,34 @@ fn note<'s>(
     Ok(())
 }
 
+// Notes a place, where a name stands there.
+fn note_place<'s>(
+    types: &mut BTreeMap<&'s str, Option<&'s str>>,
+    operand: &'s Operand,
+    ty: &'s str,
+) -> Result<(), AllocError>
+    ensures { OnOk result ((other : List ℕ) → at_name types.new other ≡ noted_place other (at_name types.old other) (operand.now, ty.now)) }
+{
+    match operand {
+        Operand::Name(name) => note(types, name.as_str(), ty),
+        Operand::Local(_)
+        | Operand::Arg(_)
+        | Operand::Bool(_)
+        | Operand::Int(..)
+        | Operand::Raw(_) => Ok(()),
+    }
+}
+
 // The map of the names at places.
 fn by_name<'s>(
     alloc: Global,
-    places: &[(&'s str, &'s str)],
+    places: &[(&'s Operand, &'s str)],
 ) -> Result<BTreeMap<&'s str, Option<&'s str>>, AllocError>
-    ensures { IfOk result (λ found. (name : List ℕ) → at_name found name ≡ agreed name (named places.now)) }
+    ensures { IfOk result (λ found. (name : List ℕ) → at_name found name ≡ agreed_at name (placed places.now)) }
 {
     let mut found = BTreeMap::new(alloc);
     for place in places {
-        note(&mut found, place.0, place.1)?;
+        note_place(&mut found, place.0, place.1)?;
     }
     Ok(found)
 }

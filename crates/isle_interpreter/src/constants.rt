@@ -7,11 +7,10 @@ ghost use Rattle.isle_naming.specs.Occurring.{occurs};
 ghost use Rattle.isle_interpreter.specs.Entries.{has_constant, FitsPlaces};
 
 use crate::agreed::agreed_types;
-use crate::signatures::Signatures;
 use crate::typed::is_named;
-use crate::types::Types;
 use isle_core::Value;
 use isle_naming::{occurring, standing};
+use isle_places::{Signatures, Types};
 use isle_tree::Program;
 use std::alloc::{AllocError, Global};
 use std::collections::{BTreeMap, BTreeSet};
@@ -36,7 +35,7 @@ impl<'s> Model for Constants<'s> {
     ghost use Rattle.isle_naming.specs.Occurring.{occurs};
     ghost use Rattle.isle_naming.specs.Sets.{has_name};
     ghost use Rattle.isle_interpreter.specs.Agreed.{at_name, agreed};
-    ghost use Rattle.isle_interpreter.specs.Places.{all_named};
+    ghost use Rattle.isle_places.specs.Places.{all_named};
 
     ghost Value = { Program };
 

@@ -4,11 +4,11 @@ ghost use Rattle.std.specs.Prelude.{◌≡◌, ◌+◌, ◌<◌, ◌↔◌, leng
 ghost use Rattle.isle_core.specs.ValueViews.{pure_answers, turn_answers, meaning};
 ghost use Rattle.isle_interpreter.specs.Entries.{Cases, Turns, entries, EntryFits};
 ghost use Rattle.isle_interpreter.specs.EntryViews.{entry};
-ghost use Rattle.isle_interpreter.specs.SignatureViews.{signature};
+ghost use Rattle.isle_places.specs.SignatureViews.{signature};
 
-use crate::signatures::Signature;
-use crate::types::Types;
+use crate::values::{gives, takes};
 use isle_core::{Answers, PureAnswers, Text, TurnAnswers, Value};
+use isle_places::{Signature, Types};
 use std::alloc::{AllocError, Global};
 
 /// A constant's value, the cases of a callee, or its turns.
@@ -46,14 +46,14 @@ fn cases_fit(
     ensures { IfOk result (λ fit. IsTrue fit ↔ EntryFits types.now (Cases (pure_answers given.now)) (signature of.now)) }
 {
     for case in given.cases.as_slice() {
-        if !of.takes(alloc, types, case.0.as_slice())? {
+        if !takes(alloc, types, of, case.0.as_slice())? {
             return Ok(false);
         }
-        if !of.gives(alloc, types, &case.1)? {
+        if !gives(alloc, types, of, &case.1)? {
             return Ok(false);
         }
     }
-    of.gives(alloc, types, &given.rest)
+    gives(alloc, types, of, &given.rest)
 }
 
 // Whether the turns of a callee fit its signature.
@@ -66,11 +66,11 @@ fn turns_fit(
     ensures { IfOk result (λ fit. IsTrue fit ↔ EntryFits types.now (Turns (turn_answers given.now)) (signature of.now)) }
 {
     for turn in given.turns.as_slice() {
-        if !of.gives(alloc, types, turn)? {
+        if !gives(alloc, types, of, turn)? {
             return Ok(false);
         }
     }
-    of.gives(alloc, types, &given.rest)
+    gives(alloc, types, of, &given.rest)
 }
 
 impl<'a> Entry<'a> {

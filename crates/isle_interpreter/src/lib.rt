@@ -2,27 +2,20 @@
 #![tactic(auto)]
 
 mod agreed;
-mod asked;
-mod binding;
+mod clashes;
 mod constants;
 mod entries;
 mod entry;
-mod field_types;
 mod fitting;
 mod functions;
-mod numbered;
-mod places;
-mod placing;
+mod holders;
+mod keys;
 mod run_error;
 mod served;
-mod signatures;
 mod standing;
 mod taking;
 mod term;
-mod terms;
-mod told;
 mod typed;
-mod types;
 mod values;
 mod whole;
 mod within;

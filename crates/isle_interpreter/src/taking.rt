@@ -7,14 +7,15 @@ ghost use Rattle.isle_tree.specs.Run.{function_of};
 ghost use Rattle.isle_tree.specs.Views.{function, program};
 ghost use Rattle.isle_interpreter.specs.Judged.{IsEarly};
 ghost use Rattle.isle_interpreter.specs.Refusals.{IsRefused};
-ghost use Rattle.isle_interpreter.specs.Signatures.{type_names, AreNamed};
+ghost use Rattle.isle_places.specs.Signatures.{type_names};
+ghost use Rattle.isle_interpreter.specs.Named.{AreNamed};
 ghost use Rattle.isle_interpreter.specs.declared.run_error.RunError.TheVariants.{Memory};
 
 use crate::functions::function_of;
 use crate::run_error::RunError;
-use crate::types::Types;
 use crate::values::first_wrong;
 use isle_core::Value;
+use isle_places::Types;
 use isle_tree::{Function, Program};
 use std::alloc::Global;
 

@@ -35,7 +35,8 @@ pub fn takes(alloc: Global, p: &Program, term: &str, args: &[Value]) -> Result<(
 ///
 /// The errors in the order in which they are asked: the program has no function of the term; it takes another number of
 /// arguments; the first argument that is no value of its parameter's type; the first entry of the answers that is wrong, or
-/// the number of all entries where something that the function calls, or a constant that stands in it, has none. Beside these, want of memory.
+/// the number of all entries where something that the function calls, or a constant in it at a place whose type the program
+/// fixes, has none. Beside these, want of memory.
 pub fn run_term(
     alloc: Global,
     p: &Program,

@@ -4,15 +4,13 @@ ghost use Rattle.std.specs.Prelude.{◌≡◌, ◌↔◌, IsTrue, IfOk, Some};
 ghost use Rattle.isle_core.specs.HasType.{IsReduced};
 ghost use Rattle.isle_core.specs.ValueViews.{value};
 ghost use Rattle.isle_outcomes.specs.Fields.{fields};
-ghost use Rattle.isle_interpreter.specs.AskedViews.{asked as asked_of};
-ghost use Rattle.isle_interpreter.specs.DeclaredTypes.{These, tuple_fields};
-ghost use Rattle.isle_interpreter.specs.Signatures.{IsNamed, AreAsked};
+ghost use Rattle.isle_places.specs.AskedViews.{asked as asked_of};
+ghost use Rattle.isle_places.specs.DeclaredTypes.{These, tuple_fields};
+ghost use Rattle.isle_interpreter.specs.Named.{IsNamed, AreAsked};
 ghost use Rattle.isle_spelling.specs.Literal.{type_named};
 
-use crate::asked::{Asked, struct_asked, takes_opaque, variant_asked};
-use crate::numbered::is_numbered;
-use crate::types::Types;
 use isle_core::{IntType, Text, Value};
+use isle_places::{Asked, Types, is_numbered, struct_asked, takes_opaque, variant_asked};
 use isle_spelling::{int_type_named, is_same};
 use isle_tree::TFields;
 use std::alloc::{AllocError, Global};
@@ -60,17 +58,20 @@ pub fn is_named(
 fn are_asked(
     alloc: Global,
     types: &Types<'_>,
-    asked: Asked<'_>,
+    asked: Asked<'_, '_>,
     given: &[(Text, Value)],
 ) -> Result<bool, AllocError>
     ensures { IfOk result (λ are. IsTrue are ↔ AreAsked types.now (asked_of asked.entry) (fields given.now)) }
 {
-    match asked {
-        Asked::Nowhere => Ok(false),
-        Asked::Anything => Ok(true),
-        Asked::Fields(TFields::Unit) => are_these(alloc, types, &[], given),
-        Asked::Fields(TFields::Named(named)) => { are_these(alloc, types, named.as_slice(), given) }
-        Asked::Fields(TFields::Tuple(tys)) => are_parts(alloc, types, tys.as_slice(), given),
+    let fields = match asked {
+        Asked::Nowhere => return Ok(false),
+        Asked::Anything => return Ok(true),
+        Asked::Fields(fields) => fields.in_order(),
+    };
+    match fields {
+        TFields::Unit => are_these(alloc, types, &[], given),
+        TFields::Named(named) => are_these(alloc, types, named.as_slice(), given),
+        TFields::Tuple(tys) => are_parts(alloc, types, tys.as_slice(), given),
     }
 }
 

@@ -2,12 +2,14 @@
 
 ghost use Rattle.std.specs.Prelude.{◌≡◌, ◌↔◌, ℕ, List, length, IsTrue, IfOk};
 ghost use Rattle.isle_core.specs.ValueViews.{values, answer};
-ghost use Rattle.isle_interpreter.specs.Signatures.{type_names, AreNamed, AnswerFits};
+ghost use Rattle.isle_places.specs.Signatures.{type_names};
+ghost use Rattle.isle_interpreter.specs.Named.{AreNamed, AnswerFits};
 ghost use Rattle.isle_interpreter.specs.FirstWrong.{IsFirstWrong};
+ghost use Rattle.isle_places.specs.SignatureViews.{signature};
 
 use crate::typed::is_named;
-use crate::types::Types;
 use isle_core::{Answer, ReturnKind, Text, Value};
+use isle_places::{Signature, Types};
 use isle_tree::Ty;
 use std::alloc::{AllocError, Global};
 
@@ -32,9 +34,9 @@ fn are_named(
     Ok(true)
 }
 
-/// Tells whether an answer is of the kind, with values of the types of these names. The only error is want of memory.
+// Whether an answer is of the kind, with values of the types of these names.
 #[tactic(auto, using(isle_outcomes::proofs::SeesValues::sees_values))]
-pub fn answer_fits(
+fn answer_fits(
     alloc: Global,
     types: &Types<'_>,
     results: &[Text],
@@ -74,4 +76,31 @@ pub fn first_wrong(
         }
     }
     Ok(None)
+}
+
+/// Tells whether these are as many values as the function takes, each of its parameter's type. The only error is want of memory.
+pub fn takes(
+    alloc: Global,
+    types: &Types<'_>,
+    of: &Signature<'_>,
+    args: &[Value],
+) -> Result<bool, AllocError>
+    ensures { IfOk result (λ takes. IsTrue takes ↔ AreNamed types.now (signature of.now).params (values args.now)) }
+{
+    if args.len() != of.params.len() {
+        return Ok(false);
+    }
+    Ok(first_wrong(alloc, types, of.params, args)?.is_none())
+}
+
+/// Tells whether the function can answer so. The only error is want of memory.
+pub fn gives(
+    alloc: Global,
+    types: &Types<'_>,
+    of: &Signature<'_>,
+    given: &Answer,
+) -> Result<bool, AllocError>
+    ensures { IfOk result (λ gives. IsTrue gives ↔ AnswerFits types.now (signature of.now) (answer given.now)) }
+{
+    answer_fits(alloc, types, of.results, of.kind, given)
 }

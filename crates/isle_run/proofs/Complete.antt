@@ -22,7 +22,8 @@ use Rattle.isle_tree.specs.Program.{Program}
 use Rattle.isle_interpreter.specs.Entries.{Turns, answers_for, gives}
 use Rattle.isle_interpreter.specs.Refusals as refusal
 use Rattle.isle_interpreter.specs.Refusals.{MayRun, IsRefused}
-use Rattle.isle_interpreter.specs.Signatures.{type_names, AreNamed}
+use Rattle.isle_places.specs.Signatures.{type_names}
+use Rattle.isle_interpreter.specs.Named.{AreNamed}
 use Rattle.isle_interpreter.specs.declared.run_error.RunError.TheVariants as error
 use Rattle.isle_interpreter.proofs.OneRefusal.{not_refused}
 use Rattle.isle_simulation.specs.TypeTexts.{parameter, type_text}
@@ -110,7 +111,7 @@ module _ (options : CodegenOptions) (files : Files) (term : List ℕ) (ws : Writ
   may = record {
     found = the_function.found;
     typed = named;
-    right = all_right options files c.env names p conforms (constants_at c.env c.forms) (turns_at c.env c.forms) c.constants wanted.stand wanted.fit c.right;
+    right = all_right options files c.env names p conforms the_function.function answers (constants_at c.env c.forms) (turns_at c.env c.forms) c.constants wanted.stand wanted.fit (wanted.apart the_function.function the_function.found) c.right;
     answered = λ callee k none.
         c.answered callee (the_function.block.calls callee k)
         (answered_back callee (turns_at c.env c.forms) (all_back (λ f. goes_to callee (answers_for f) ≡ false) (as_entries (constants_at c.env c.forms)) (map Turns (turns_at c.env c.forms)) none));

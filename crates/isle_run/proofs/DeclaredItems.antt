@@ -1,7 +1,7 @@
 -- The declared type of a name is that of the one type that is emitted under it.
 use Rattle.std.proofs.Common.{◌≡◌, ℕ, zero, suc, List, [], ◌∷◌, Bool, true, false, cond, Option, Some, None, refl, sym, ap, ◌∙◌, subst}
-use Rattle.std.specs.Prelude.{◌||◌, filter_map, is_some, slice_get}
-use Rattle.std.specs.List.{AllByRecursion, IsDistinct, cons_option, list_any}
+use Rattle.std.specs.Prelude.{filter_map, slice_get}
+use Rattle.std.specs.List.{AllByRecursion, IsDistinct, cons_option}
 use Rattle.std.specs.Str.{bytes_eq}
 use Rattle.std.proofs.lemmas.Option.{same_Some}
 use Rattle.std.proofs.lemmas.Slice.Eq.{bytes_eq-Decides}
@@ -11,8 +11,7 @@ use Rattle.isle_core.specs.declared.types.TypeEnv.{TypeEnv}
 use Rattle.isle_tree.specs.declared.tree.TypeItem.{TypeItem}
 use Rattle.isle_items.specs.TypeItems.{type_item, items_in}
 use Rattle.isle_items.specs.LawfulNames.{emitted_name, emitted_names}
-use Rattle.isle_interpreter.specs.DeclaredTypes as asked
-use Rattle.isle_interpreter.specs.DeclaredTypes.{is_declared}
+use Rattle.isle_places.specs.DeclaredTypes as asked
 
 -- ---- two names
 
@@ -89,17 +88,3 @@ found_item types (x ∷ ds) zero d distinct at =
 found_item types (x ∷ ds) (suc i) d distinct at =
     other_item types (emitted_name types d) x (filter_map (type_item types) ds) (apart (emitted_name types x) (emitted_name types d) (name_at (λ y. bytes_eq (emitted_name types x) y ≡ false) types ds i d distinct.0 at))
     ∙ found_item types ds i d distinct.1 at
-
--- ---- names that no type has
-
-none_same : (name : List ℕ) (names : List (List ℕ)) → list_any (bytes_eq name) names ≡ false → AllByRecursion (λ y. bytes_eq name y ≡ false) names
-none_same name [] e = tt
-none_same name (y ∷ names) e = by (bytes_eq name y) refl e (none_same name names)
-  where
-    by : (b : Bool) → bytes_eq name y ≡ b → (b || list_any (bytes_eq name) names) ≡ false → (list_any (bytes_eq name) names ≡ false → AllByRecursion (λ z. bytes_eq name z ≡ false) names) → AllByRecursion (λ z. bytes_eq name z ≡ false) (y ∷ names)
-    by true is h more = absurd cc
-    by false is h more = (is, more h)
-
--- no type is declared under such a name
-pub undeclared : (types : TypeEnv) (name : List ℕ) → list_any (bytes_eq name) (emitted_names types types.types) ≡ false → is_declared (items_in types) name ≡ false
-undeclared types name e = ap is_some (none_found types name types.types (none_same name (emitted_names types types.types) e))

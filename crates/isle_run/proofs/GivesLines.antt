@@ -25,7 +25,8 @@ use Rattle.isle_run_inputs.specs.ValuesAt.{misfit, values_at}
 use Rattle.isle_run_inputs.proofs.HaveTypes.{Matched, have_types}
 use Rattle.isle_outcomes.specs.Lines.{run_lines}
 use Rattle.isle_interpreter.specs.Refusals.{MayRun}
-use Rattle.isle_interpreter.specs.Signatures.{type_names, IsNamed, AreNamed}
+use Rattle.isle_places.specs.Signatures.{type_names}
+use Rattle.isle_interpreter.specs.Named.{IsNamed, AreNamed}
 use Rattle.isle_codegen.specs.Checked.{IsChecked}
 use Rattle.isle_run.specs.Conforming.{Conforms}
 use Rattle.isle_run.specs.LeftOut.{leave_out}

@@ -35,25 +35,12 @@ use Rattle.isle_simulation.specs.TypeTexts.{def_text, type_text}
 use Rattle.isle_items.specs.TypeItems.{text_at, fields_shape, variant_item, type_item, items_in}
 use Rattle.isle_items.specs.LawfulNames.{IsLawfulType, emitted_name, AreLawful}
 use Rattle.isle_items.proofs.ListLaws.{all_at}
-use Rattle.isle_interpreter.specs.DeclaredTypes as asked
-use Rattle.isle_interpreter.specs.DeclaredTypes.{Asked, These, Anything, Nowhere, is_foreign, is_declared, field_types, of_variant, body_variant, variant_by, variant_asked, struct_by, struct_asked, foreign_asked, takes_opaque}
+use Rattle.isle_places.specs.DeclaredTypes as asked
+use Rattle.isle_places.specs.DeclaredTypes.{Asked, These, Anything, Nowhere, is_foreign, is_declared, field_types, of_fields, body_variant, variant_by, variant_asked, struct_by, struct_asked, foreign_asked, takes_opaque}
+use Rattle.isle_interpreter.proofs.ValueKeys.{named_again}
 use Rattle.isle_interpreter.specs.Entries.{is_typed}
-use Rattle.isle_interpreter.specs.Signatures.{IsNamed, AreAsked, AreNamed, AnswerFits}
+use Rattle.isle_interpreter.specs.Named.{IsNamed, AreAsked, AreNamed, AnswerFits}
 use Rattle.isle_run.proofs.DeclaredItems.{same_def, found_item}
-
-named_again : (ty : IntType) → type_named (type_name ty) ≡ Some ty
-named_again U8 = refl
-named_again U16 = refl
-named_again U32 = refl
-named_again U64 = refl
-named_again U128 = refl
-named_again USize = refl
-named_again I8 = refl
-named_again I16 = refl
-named_again I32 = refl
-named_again I64 = refl
-named_again I128 = refl
-named_again ISize = refl
 
 -- each builtin type is among the types
 abbrev pub HasBuiltins : TypeEnv → Type 0
@@ -222,7 +209,7 @@ module _ (env : Environment) (has_rules : Bool) (lawful : AreLawful has_rules en
   shape_of variants variant = option_map (λ (v : VariantDef). typed_fields env v.fields) (find (λ (v : VariantDef). bytes_eq variant (sym_text env v.name)) variants)
 
   variant_there : (variants : List VariantDef) (variant : List ℕ) (fs : FieldValues) (o : Option VariantDef) → AskedSo fs → AreFieldsOf env (option_map (λ (v : VariantDef). typed_fields env v.fields) o) fs
-      → AreAsked items (of_variant (option_map (variant_item env.types) o)) fs
+      → AreAsked items (of_fields (option_map (λ (x : List ℕ × TFields). x.1) (option_map (variant_item env.types) o))) fs
   variant_there variants variant fs None all h = absurd h
   variant_there variants variant fs (Some v) all h = subst (λ known. AreAsked items (These known) fs) (sym (shape_asked v.fields)) (all (typed_fields env v.fields) h)
 
@@ -235,7 +222,7 @@ module _ (env : Environment) (has_rules : Bool) (lawful : AreLawful has_rules en
   enum_asks i name false is_nodebug variants pos variant fs at all h =
       let d = def.Enum name false is_nodebug variants pos in
       subst (λ o. AreAsked items (variant_by o (sym_text env name) variant) fs) (sym (item_is i d at))
-      (subst (λ o. AreAsked items (of_variant o) fs) (sym (found_made (λ (v : List ℕ × TFields). bytes_eq variant v.0) (variant_item env.types) variants))
+      (subst (λ (o : Option (List ℕ × TFields)). AreAsked items (of_fields (option_map (λ (x : List ℕ × TFields). x.1) o)) fs) (sym (found_made (λ (v : List ℕ × TFields). bytes_eq variant v.0) (variant_item env.types) variants))
       (variant_there variants variant fs (find (λ (v : VariantDef). bytes_eq variant (sym_text env v.name)) variants) all h))
 
   -- a name that is the type's, or a name to which nothing belongs

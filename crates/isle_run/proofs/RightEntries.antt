@@ -10,15 +10,17 @@ use Rattle.isle_core.specs.declared.types.Term.{Term}
 use Rattle.isle_core.specs.declared.values.Callee.{Callee}
 use Rattle.isle_core.specs.Calling.{kind_of}
 use Rattle.isle_core.specs.Lawful.{Fits}
-use Rattle.isle_core.specs.Meaning.{TurnAnswers}
+use Rattle.isle_core.specs.Meaning.{TurnAnswers, Meaning}
 use Rattle.isle_core.specs.Rule.{Environment}
 use Rattle.isle_core.specs.Terms.{sym_text, with_rules}
 use Rattle.isle_core.specs.Value.{Value, Answer}
 use Rattle.isle_tree.specs.declared.tree.TraitFn.{TraitFn}
-use Rattle.isle_tree.specs.Program.{Program}
+use Rattle.isle_tree.specs.Program.{Function, Program}
 use Rattle.isle_tree.specs.WellFormed.{trait_fn, fn_names}
+use Rattle.isle_interpreter.specs.Apart.{IsApart}
 use Rattle.isle_interpreter.specs.Entries.{Entry, Constant, Turns, IsUnanswered, IsUngiven, EntryFits, has_constant, FitsPlaces, IsRight, AreRight}
-use Rattle.isle_interpreter.specs.Signatures.{Signature, trait_signature, term_signature, signature_of, AnswerFits}
+use Rattle.isle_places.specs.Signatures.{Signature, trait_signature, term_signature, signature_of}
+use Rattle.isle_interpreter.specs.Named.{AnswerFits}
 use Rattle.isle_interpreter.proofs.AnswersHold.{no_constants, both_unanswered}
 use Rattle.isle_simulation.specs.TypeTexts.{type_text}
 use Rattle.isle_simulation.specs.TraitFns.{constructor_fn, trait_fns_of}
@@ -69,7 +71,7 @@ given_back name (c ∷ consts) h = (h.0, given_back name consts h.1)
 some_with : {A : Type 0} (P : A → Type 0) (o : Option A) (x : A) → o ≡ Some x → P x → IsSomeAnd o P
 some_with P o x e h = subst (λ z. IsSomeAnd z P) (sym e) h
 
-module _ (options : CodegenOptions) (files : Files) (env : Environment) (names : HasLawfulNames env) (p : Program) (conforms : Conforms options files env p) where
+module _ (options : CodegenOptions) (files : Files) (env : Environment) (names : HasLawfulNames env) (p : Program) (conforms : Conforms options files env p) (f : Function) (m : Meaning) where
   -- ---- turns
 
   -- each answer fits such a signature
@@ -109,7 +111,7 @@ module _ (options : CodegenOptions) (files : Files) (env : Environment) (names :
       some_same : (a b : Term) → Some a ≡ Some b → a ≡ b
       some_same a b e = cc
 
-  turns_right : (consts : List (List ℕ × Value)) (earlier : List TurnAnswers) (a : TurnAnswers) → AreRightTurns env earlier a → IsRight p (as_entries consts ++ map Turns earlier) (Turns a)
+  turns_right : (consts : List (List ℕ × Value)) (earlier : List TurnAnswers) (a : TurnAnswers) → AreRightTurns env earlier a → IsRight p f m (as_entries consts ++ map Turns earlier) (Turns a)
   turns_right consts earlier a h =
       let s = served_signature a.callee h.term h.served in (
         both_unanswered a.callee (as_entries consts) (map Turns earlier) (no_constants a.callee consts) (unanswered a.callee earlier h.first),
@@ -117,31 +119,37 @@ module _ (options : CodegenOptions) (files : Files) (env : Environment) (names :
             (subst (λ types. AllByRecursion (AnswerFits types s.0) a.turns × AnswerFits types s.0 a.rest) (sym conforms.frame.types) (all_fit h.term s.0 a.turns s.2 h.turns, fits_signature h.term s.0 a.rest s.2 h.rest)),
       )
 
-  all_turns : (consts : List (List ℕ × Value)) (earlier later : List TurnAnswers) → AllRight env earlier later → AreRight p (as_entries consts ++ map Turns earlier) (map Turns later)
+  all_turns : (consts : List (List ℕ × Value)) (earlier later : List TurnAnswers) → AllRight env earlier later → AreRight p f m (as_entries consts ++ map Turns earlier) (map Turns later)
   all_turns consts earlier [] h = tt
   all_turns consts earlier (a ∷ later) h = (
     turns_right consts earlier a h.0,
-    subst (λ fs. AreRight p fs (map Turns later)) (ap (λ fs. as_entries consts ++ fs) (map-append Turns earlier (a ∷ [])) ∙ sym (append_assoc (as_entries consts) (map Turns earlier) (Turns a ∷ [])))
+    subst (λ fs. AreRight p f m fs (map Turns later)) (ap (λ fs. as_entries consts ++ fs) (map-append Turns earlier (a ∷ [])) ∙ sym (append_assoc (as_entries consts) (map Turns earlier) (Turns a ∷ [])))
         (all_turns consts (earlier ++ a ∷ []) later h.1),
   )
 
   -- ---- constants
 
-  constant_right : (earlier : List (List ℕ × Value)) (c : List ℕ × Value) → IsRightConstant env earlier c → has_constant p c.0 ≡ true → FitsPlaces p c.0 c.1 → IsRight p (as_entries earlier) (Constant c.0 c.1)
-  constant_right earlier c h stands fits = record { once = ungiven c.0 earlier h.first; there = stands; typed = value_typed env names.has_rules names.lawful names.builtins c.1 h.ty h.typed; fits = fits }
+  constant_right : (earlier : List (List ℕ × Value)) (c : List ℕ × Value) → IsRightConstant env earlier c → has_constant p c.0 ≡ true → FitsPlaces p c.0 c.1 → IsApart p f m c.0 → IsRight p f m (as_entries earlier) (Constant c.0 c.1)
+  constant_right earlier c h stands fits apart = record {
+    once = ungiven c.0 earlier h.first;
+    there = stands;
+    typed = value_typed env names.has_rules names.lawful names.builtins c.1 h.ty h.typed;
+    fits = fits;
+    apart = apart;
+  }
 
   -- constants in front of what is right behind them all
-  constants_right : (earlier later : List (List ℕ × Value)) (rest : List Entry) → AreRightConstants env earlier later → AllByRecursion (λ (c : List ℕ × Value). has_constant p c.0 ≡ true) later → AllByRecursion (λ (c : List ℕ × Value). FitsPlaces p c.0 c.1) later → AreRight p (as_entries (earlier ++ later)) rest
-      → AreRight p (as_entries earlier) (as_entries later ++ rest)
-  constants_right earlier [] rest h stand fit right = subst (λ cs. AreRight p (as_entries cs) rest) (append-nil earlier) right
-  constants_right earlier (c ∷ later) rest h stand fit right = (
-    constant_right earlier c h.0 stand.0 fit.0,
-    subst (λ fs. AreRight p fs (as_entries later ++ rest)) (map-append (λ (x : List ℕ × Value). Constant x.0 x.1) earlier (c ∷ []))
-        (constants_right (earlier ++ c ∷ []) later rest h.1 stand.1 fit.1 (subst (λ cs. AreRight p (as_entries cs) rest) (sym (append_assoc earlier (c ∷ []) later)) right)),
+  constants_right : (earlier later : List (List ℕ × Value)) (rest : List Entry) → AreRightConstants env earlier later → AllByRecursion (λ (c : List ℕ × Value). has_constant p c.0 ≡ true) later → AllByRecursion (λ (c : List ℕ × Value). FitsPlaces p c.0 c.1) later → AllByRecursion (λ (c : List ℕ × Value). IsApart p f m c.0) later → AreRight p f m (as_entries (earlier ++ later)) rest
+      → AreRight p f m (as_entries earlier) (as_entries later ++ rest)
+  constants_right earlier [] rest h stand fit apart right = subst (λ cs. AreRight p f m (as_entries cs) rest) (append-nil earlier) right
+  constants_right earlier (c ∷ later) rest h stand fit apart right = (
+    constant_right earlier c h.0 stand.0 fit.0 apart.0,
+    subst (λ fs. AreRight p f m fs (as_entries later ++ rest)) (map-append (λ (x : List ℕ × Value). Constant x.0 x.1) earlier (c ∷ []))
+        (constants_right (earlier ++ c ∷ []) later rest h.1 stand.1 fit.1 apart.1 (subst (λ cs. AreRight p f m (as_entries cs) rest) (sym (append_assoc earlier (c ∷ []) later)) right)),
   )
 
   -- all entries
-  pub all_right : (consts : List (List ℕ × Value)) (turns : List TurnAnswers) → AreRightConstants env [] consts → AllByRecursion (λ (c : List ℕ × Value). has_constant p c.0 ≡ true) consts → AllByRecursion (λ (c : List ℕ × Value). FitsPlaces p c.0 c.1) consts → AllRight env [] turns
-      → AreRight p [] (as_entries consts ++ map Turns turns)
-  all_right consts turns constants stand fit right =
-      constants_right [] consts (map Turns turns) constants stand fit (subst (λ fs. AreRight p fs (map Turns turns)) (append-nil (as_entries consts)) (all_turns consts [] turns right))
+  pub all_right : (consts : List (List ℕ × Value)) (turns : List TurnAnswers) → AreRightConstants env [] consts → AllByRecursion (λ (c : List ℕ × Value). has_constant p c.0 ≡ true) consts → AllByRecursion (λ (c : List ℕ × Value). FitsPlaces p c.0 c.1) consts → AllByRecursion (λ (c : List ℕ × Value). IsApart p f m c.0) consts → AllRight env [] turns
+      → AreRight p f m [] (as_entries consts ++ map Turns turns)
+  all_right consts turns constants stand fit apart right =
+      constants_right [] consts (map Turns turns) constants stand fit apart (subst (λ fs. AreRight p f m fs (map Turns turns)) (append-nil (as_entries consts)) (all_turns consts [] turns right))

@@ -24,8 +24,9 @@ use Rattle.isle_simulation.specs.TraitFns.{func_of}
 use Rattle.isle_tree.specs.Program.{Function, Program}
 use Rattle.isle_tree.specs.Run.{function_of}
 use Rattle.isle_naming.specs.Occurring.{occurs}
+use Rattle.isle_interpreter.specs.Apart.{IsApart}
 use Rattle.isle_interpreter.specs.Entries.{has_constant, FitsPlaces}
-use Rattle.isle_interpreter.specs.Places.{StandsAt}
+use Rattle.isle_places.specs.Places.{StandsAt}
 use Rattle.isle_run_inputs.specs.Requested.{requested_term, constant_type}
 use Rattle.isle_run_inputs.specs.Built.{are_built}
 use Rattle.isle_run_inputs.specs.AnswersAt.{constants_at, turns_at, answers_at}
@@ -75,11 +76,12 @@ AreRightConstants env earlier [] = Unit {0}
 AreRightConstants env earlier (c ∷ more) = IsRightConstant env earlier c × AreRightConstants env (earlier ++ c ∷ []) more
 
 -- the constants with values are those that a program wants for a run of the term: each of them stands in a function of it, and has a
--- value of each type that its places there have; and each that stands in the term's function is one of them, by the program and by
--- the source
+-- value of each type that its places there have, which no other constant of its type in the term's function has; and each that stands
+-- in the term's function is one of them, by the program and by the source
 pub record AreWanted (a : Attempt) (m : Meaning) : Type 0 where
   pub stand : AllByRecursion (λ (c : List ℕ × Value). has_constant a.program c.0 ≡ true) m.consts
   pub fit : AllByRecursion (λ (c : List ℕ × Value). FitsPlaces a.program c.0 c.1) m.consts
+  pub apart : (f : Function) → function_of a.term a.program.fns ≡ Some f → AllByRecursion (λ (c : List ℕ × Value). IsApart a.program f m c.0) m.consts
   pub given : (f : Function) → function_of a.term a.program.fns ≡ Some f → (name ty : List ℕ) → StandsAt a.program f name ty → occurs a.program name ≡ false → HasNoValue name m.consts → ⊥
   pub kept : leave_out a m ≡ false
 

@@ -1,7 +1,7 @@
 use Rattle.std.proofs.Common.{◌≡◌, ℕ, List, drop, fold}
-use Rattle.isle_interpreter.specs.Agreed.{noted, at_name, agreed}
-use Rattle.isle_interpreter.specs.ToldViews.{named}
+use Rattle.isle_interpreter.specs.Agreed.{noted_place, at_name, agreed_at}
+use Rattle.isle_places.specs.ToldViews.{placed}
 use Rattle.isle_interpreter.proofs.agreed.by_name.Given as goal
 
 abbrev pub invariant-loop-place : goal.invariant-loop-place
-invariant-loop-place l = (name : List ℕ) → fold (noted name) (at_name l.found name) (named (drop l.place-index l.places)) ≡ agreed name (named l.places)
+invariant-loop-place l = (name : List ℕ) → fold (noted_place name) (at_name l.found name) (placed (drop l.place-index l.places)) ≡ agreed_at name (placed l.places)

@@ -3,7 +3,7 @@ use Rattle.std.specs.Prelude.{◌↔◌}
 use Rattle.std.specs.List.{AllByRecursion}
 use Rattle.isle_core.specs.ValueViews.{case}
 use Rattle.isle_interpreter.specs.Entries.{CaseFits}
-use Rattle.isle_interpreter.specs.SignatureViews.{signature}
+use Rattle.isle_places.specs.SignatureViews.{signature}
 use Rattle.isle_interpreter.proofs.entry.cases_fit.Given as goal
 
 abbrev pub invariant-loop-case : goal.invariant-loop-case

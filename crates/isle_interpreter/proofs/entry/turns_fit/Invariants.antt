@@ -2,8 +2,8 @@ use Rattle.std.proofs.Common.{map, drop}
 use Rattle.std.specs.Prelude.{◌↔◌}
 use Rattle.std.specs.List.{AllByRecursion}
 use Rattle.isle_core.specs.ValueViews.{answer}
-use Rattle.isle_interpreter.specs.Signatures.{AnswerFits}
-use Rattle.isle_interpreter.specs.SignatureViews.{signature}
+use Rattle.isle_interpreter.specs.Named.{AnswerFits}
+use Rattle.isle_places.specs.SignatureViews.{signature}
 use Rattle.isle_interpreter.proofs.entry.turns_fit.Given as goal
 
 abbrev pub invariant-loop-turn : goal.invariant-loop-turn

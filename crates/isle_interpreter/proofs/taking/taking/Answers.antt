@@ -4,7 +4,7 @@ use Rattle.std.proofs.lemmas.List.{length-map}
 use Rattle.isle_core.specs.ValueViews.{value, values}
 use Rattle.isle_tree.specs.Run.{function_of}
 use Rattle.isle_tree.specs.Views.{function}
-use Rattle.isle_interpreter.specs.Signatures.{type_names}
+use Rattle.isle_places.specs.Signatures.{type_names}
 use Rattle.isle_interpreter.specs.Refusals.{IsWrongArg, no_term, arg_count, arg_type}
 use Rattle.isle_interpreter.proofs.taking.taking.Goals as goal
 

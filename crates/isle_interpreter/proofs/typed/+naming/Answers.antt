@@ -2,9 +2,9 @@ use Rattle.std.proofs.Common.{rules, arith, ◌≡◌, ◌<◌, length}
 use Rattle.std.specs.Fmt.{decimal}
 use Rattle.isle_outcomes.specs.Fields.{fields}
 use Rattle.isle_printer.specs.Bytes.{same_bytes}
-use Rattle.isle_interpreter.specs.AskedViews.{asked as asked_of}
-use Rattle.isle_interpreter.specs.DeclaredTypes.{These, tuple_fields, variant_asked, struct_asked}
-use Rattle.isle_interpreter.specs.Signatures.{AreAsked}
+use Rattle.isle_places.specs.AskedViews.{asked as asked_of}
+use Rattle.isle_places.specs.DeclaredTypes.{These, tuple_fields, variant_asked, struct_asked}
+use Rattle.isle_interpreter.specs.Named.{AreAsked}
 use Rattle.isle_interpreter.proofs.Asks.{variant_as_asked, struct_as_asked, misnumbered}
 use Rattle.isle_interpreter.proofs.typed.+naming.Goals as goal
 

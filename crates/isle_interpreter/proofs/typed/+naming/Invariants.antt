@@ -1,8 +1,8 @@
 use Rattle.std.proofs.Common.{◌≡◌, ◌+◌, ◌*◌, length, drop}
 use Rattle.std.specs.Prelude.{◌↔◌}
 use Rattle.isle_outcomes.specs.Fields.{fields}
-use Rattle.isle_interpreter.specs.DeclaredTypes.{These, tuple_fields}
-use Rattle.isle_interpreter.specs.Signatures.{AreAsked}
+use Rattle.isle_places.specs.DeclaredTypes.{These, tuple_fields}
+use Rattle.isle_interpreter.specs.Named.{AreAsked}
 use Rattle.isle_interpreter.proofs.typed.+naming.Given as goal
 
 abbrev pub invariant-are_these-loop-index : goal.invariant-are_these-loop-index

@@ -1,7 +1,7 @@
 use Rattle.std.proofs.Common.{◌≡◌, length, drop}
 use Rattle.std.specs.Prelude.{◌↔◌}
 use Rattle.isle_core.specs.ValueViews.{values}
-use Rattle.isle_interpreter.specs.Signatures.{AreNamed}
+use Rattle.isle_interpreter.specs.Named.{AreNamed}
 use Rattle.isle_interpreter.proofs.values.are_named.Given as goal
 
 abbrev pub invariant-loop-index : goal.invariant-loop-index

@@ -2,7 +2,8 @@ use Rattle.std.proofs.Common.{rules, arith, ◌≡◌, ◌<◌, Some, length, re
 use Rattle.std.specs.Prelude.{slice_get}
 use Rattle.std.proofs.lemmas.Option.{slice_get_read, slice_get-map}
 use Rattle.isle_core.specs.ValueViews.{value, values}
-use Rattle.isle_interpreter.specs.Signatures.{type_names, IsNamed}
+use Rattle.isle_places.specs.Signatures.{type_names}
+use Rattle.isle_interpreter.specs.Named.{IsNamed}
 use Rattle.isle_interpreter.proofs.NamedMore.{named_next}
 use Rattle.isle_interpreter.proofs.values.first_wrong.Goals as goal
 

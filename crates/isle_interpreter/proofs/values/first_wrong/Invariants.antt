@@ -1,6 +1,7 @@
 use Rattle.std.proofs.Common.{◌≡◌, length, take}
 use Rattle.isle_core.specs.ValueViews.{values}
-use Rattle.isle_interpreter.specs.Signatures.{type_names, AreNamed}
+use Rattle.isle_places.specs.Signatures.{type_names}
+use Rattle.isle_interpreter.specs.Named.{AreNamed}
 use Rattle.isle_interpreter.proofs.values.first_wrong.Given as goal
 
 abbrev pub invariant-loop-index : goal.invariant-loop-index

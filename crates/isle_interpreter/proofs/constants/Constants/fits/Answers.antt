@@ -2,7 +2,7 @@ use Rattle.std.proofs.Common.{rules, ◌≡◌, Some, None}
 use Rattle.isle_core.specs.ValueViews.{value}
 use Rattle.isle_tree.specs.Views.{program}
 use Rattle.isle_interpreter.specs.Agreed.{at_name, agreed}
-use Rattle.isle_interpreter.specs.Places.{all_named}
+use Rattle.isle_places.specs.Places.{all_named}
 use Rattle.isle_interpreter.proofs.Agreeing.{none_fits, several_fit, one_fits}
 use Rattle.isle_interpreter.proofs.constants.Constants.fits.Goals as goal
 

@@ -1,6 +1,0 @@
-use Rattle.std.proofs.Common.{drop}
-use Rattle.isle_interpreter.specs.Types.{FindsItems}
-use Rattle.isle_interpreter.proofs.types.by_name.Given as goal
-
-abbrev pub invariant-loop-index : goal.invariant-loop-index
-invariant-loop-index l = FindsItems (drop l.index l.fn.items) l.found

@@ -1,0 +1,7 @@
+pub mod FindItems
+pub mod FindTerms
+pub mod NumberedFields
+pub mod PlacesAt
+pub mod NamesAt
+pub mod PlacedStatements
+pub mod ToldLaws

@@ -1,0 +1,31 @@
+//! Names that are numbers.
+
+ghost use Rattle.std.specs.Prelude.{◌≡◌, ◌^◌, ◌<◌, ℕ, IfOk, Some};
+ghost use Rattle.std.specs.Fmt.{decimal};
+ghost use Rattle.isle_printer.specs.Bytes.{same_bytes};
+
+use isle_core::Text;
+use isle_spelling::is_same;
+use std::alloc::{AllocError, Global};
+
+// The text of a number.
+fn numbered(alloc: Global, index: usize) -> Result<Text, AllocError>
+    ensures { IfOk result (λ text. text ≡ decimal index) }
+{
+    Ok(Text::new(format!(in alloc; "{index}")?))
+}
+
+/// Tells whether a name is this number. The only error is want of memory.
+pub fn is_numbered(alloc: Global, name: &str, index: usize) -> Result<bool, AllocError>
+    ensures { IfOk result (λ is. is ≡ same_bytes name.now (decimal index)) }
+{
+    let text = numbered(alloc, index)?;
+    Ok(is_same(name, text.as_str()))
+}
+
+/// Returns the only number that a name may be.
+pub fn number_of(name: &str) -> Option<usize>
+    ensures { (index : ℕ) → index < 2 ^ 64 → name.now ≡ decimal index → result ≡ Some index }
+{
+    name.parse::<usize>().ok()
+}

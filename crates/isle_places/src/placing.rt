@@ -1,0 +1,166 @@
+//! The places in statements, and those in functions.
+
+ghost use Rattle.std.specs.Prelude.{◌≡◌, ◌++◌, [], ◌∷◌, OnOk};
+ghost use Rattle.isle_tree.specs.Views.{function, program, stmt, body};
+ghost use Rattle.isle_places.specs.Places.{places, arm_places, stmt_places, body_places, told_after};
+ghost use Rattle.isle_places.specs.Told.{Untold};
+ghost use Rattle.isle_places.specs.ToldViews.{tells, placed};
+
+use crate::binding::bind_pattern;
+use crate::places::{push_at, push_both, push_call, push_computed, push_pattern, push_returned};
+use crate::signatures::Signatures;
+use crate::told::{Told, expr_told, operand_of, operand_told};
+use isle_scope::Table;
+use isle_tree::{Function, Operand, Read, Stmt, TPat};
+use std::alloc::{AllocError, Global};
+
+// Appends the places of a pattern, of what it is held against, and in the statements behind it.
+#[cycle(placing)]
+fn push_arm<'s>(
+    alloc: Global,
+    signatures: &'s Signatures<'_>,
+    f: &'s Function,
+    bound: &mut Table<Told<'s>>,
+    found: &mut Vec<(&'s Operand, &'s str)>,
+    pat: &'s TPat,
+    read: &'s Read,
+    inside: &'s [Stmt],
+) -> Result<(), AllocError>
+    ensures more { OnOk result (placed found.new.items
+        ≡ placed found.old.items ++ arm_places (program signatures.now) (function f.now) (tells bound.old) pat.now read.now (body inside.now)) }
+    ensures kept { OnOk result (tells bound.new ≡ tells bound.old) }
+{
+    let count = bound.len();
+    push_pattern(f, bound, found, pat, read)?;
+    let held = operand_told(f, bound, operand_of(read));
+    bind_pattern(alloc, signatures, bound, pat, held)?;
+    push_body(alloc, signatures, f, bound, found, inside)?;
+    bound.truncate(count);
+    Ok(())
+}
+
+// Appends the places in a loop over items, whose types are not told.
+#[cycle(placing)]
+fn push_loop<'s>(
+    alloc: Global,
+    signatures: &'s Signatures<'_>,
+    f: &'s Function,
+    bound: &mut Table<Told<'s>>,
+    found: &mut Vec<(&'s Operand, &'s str)>,
+    item: usize,
+    inside: &'s [Stmt],
+) -> Result<(), AllocError>
+    ensures more { OnOk result (placed found.new.items
+        ≡ placed found.old.items ++ body_places (program signatures.now) (function f.now) (tells bound.old ++ (item, Untold) ∷ []) (body inside.now)) }
+    ensures kept { OnOk result (tells bound.new ≡ tells bound.old) }
+{
+    let count = bound.len();
+    bound.bind(item, Told::Untold)?;
+    push_body(alloc, signatures, f, bound, found, inside)?;
+    bound.truncate(count);
+    Ok(())
+}
+
+// Appends the places in a statement; its own local is bound after it.
+#[cycle(placing)]
+#[tactic(auto, using(isle_tree::proofs::Sees::sees))]
+fn push_statement<'s>(
+    alloc: Global,
+    signatures: &'s Signatures<'_>,
+    f: &'s Function,
+    bound: &mut Table<Told<'s>>,
+    found: &mut Vec<(&'s Operand, &'s str)>,
+    statement: &'s Stmt,
+) -> Result<(), AllocError>
+    ensures more { OnOk result (placed found.new.items
+        ≡ placed found.old.items ++ stmt_places (program signatures.now) (function f.now) (tells bound.old) (stmt statement.now)) }
+    ensures after { OnOk result (tells bound.new ≡ told_after (program signatures.now) (function f.now) (tells bound.old) (stmt statement.now)) }
+{
+    match statement {
+        Stmt::Let(local, computed) => {
+            push_computed(alloc, signatures, found, computed)?;
+            let held = expr_told(signatures, f, bound, computed);
+            bound.bind(*local, held)
+        }
+        Stmt::LetList { local, call } => {
+            push_call(signatures, found, call)?;
+            bound.bind(*local, Told::Untold)
+        }
+        Stmt::IfEq(a, b, inside) => {
+            push_both(f, bound, found, a, b)?;
+            push_body(alloc, signatures, f, bound, found, inside.as_slice())
+        }
+        Stmt::IfLet(pat, read, inside) => {
+            push_arm(
+                alloc,
+                signatures,
+                f,
+                bound,
+                found,
+                pat,
+                read,
+                inside.as_slice(),
+            )
+        }
+        Stmt::Match(read, arms) => {
+            for arm in arms.as_slice() {
+                push_arm(
+                    alloc,
+                    signatures,
+                    f,
+                    bound,
+                    found,
+                    &arm.0,
+                    read,
+                    arm.1.as_slice(),
+                )?;
+            }
+            Ok(())
+        }
+        Stmt::Loop { item, body, .. } => {
+            push_loop(alloc, signatures, f, bound, found, *item, body.as_slice())
+        }
+        Stmt::Split { body, .. } => {
+            push_body(alloc, signatures, f, bound, found, body.as_slice())
+        }
+        Stmt::Return(computed) => push_returned(alloc, signatures, f, found, computed),
+        Stmt::Extend(read) => { push_at(found, operand_of(read), Told::AValue(f.result.as_str())) }
+        Stmt::Overflow { .. } | Stmt::Log { .. } | Stmt::Tail(_) => Ok(()),
+    }
+}
+
+// Appends the places in statements in order, and leaves what they bound.
+#[cycle(placing)]
+fn push_body<'s>(
+    alloc: Global,
+    signatures: &'s Signatures<'_>,
+    f: &'s Function,
+    bound: &mut Table<Told<'s>>,
+    found: &mut Vec<(&'s Operand, &'s str)>,
+    statements: &'s [Stmt],
+) -> Result<(), AllocError>
+    ensures more { OnOk result (placed found.new.items
+        ≡ placed found.old.items ++ body_places (program signatures.now) (function f.now) (tells bound.old) (body statements.now)) }
+    ensures kept { OnOk result (tells bound.new ≡ tells bound.old) }
+{
+    let count = bound.len();
+    for statement in statements {
+        push_statement(alloc, signatures, f, bound, found, statement)?;
+    }
+    bound.truncate(count);
+    Ok(())
+}
+
+/// Appends what stands in a function at places whose types the program fixes, with these types, in order. The only error is
+/// want of memory.
+pub fn push_places<'s>(
+    alloc: Global,
+    signatures: &'s Signatures<'_>,
+    found: &mut Vec<(&'s Operand, &'s str)>,
+    f: &'s Function,
+) -> Result<(), AllocError>
+    ensures { OnOk result (placed found.new.items ≡ placed found.old.items ++ places (program signatures.now) (function f.now)) }
+{
+    let mut bound = Table::new(alloc);
+    push_body(alloc, signatures, f, &mut bound, found, f.body.as_slice())
+}

@@ -1,0 +1,122 @@
+//! What the functions of a program take and answer.
+
+ghost use Rattle.std.specs.Prelude.{◌≡◌, IfOk, option_map};
+ghost use Rattle.isle_tree.specs.Views.{function, program};
+ghost use Rattle.isle_places.specs.Signatures.{trait_signature, term_signature, signature_of};
+ghost use Rattle.isle_places.specs.SignatureViews.{signature};
+ghost use Rattle.isle_places.specs.Told.{answer_told};
+ghost use Rattle.isle_places.specs.ToldViews.{told};
+
+use crate::terms::Terms;
+use crate::told::Told;
+use crate::types::Types;
+use isle_core::{Callee, ReturnKind, Text};
+use isle_tree::{Callees, Function, Program, TraitFn, Ty};
+use std::alloc::{AllocError, Global};
+use std::marker::Model;
+use std::slice;
+
+/// What a function takes, what its answers hold, and how it answers.
+#[derive(Drop)]
+pub struct Signature<'p> {
+    pub params: &'p [Ty],
+    pub results: &'p [Text],
+    pub kind: ReturnKind,
+}
+
+impl<'p> Signature<'p> {
+    // That of a function of the trait.
+    fn of_trait(f: &'p TraitFn) -> Signature<'p>
+        ensures { signature result ≡ trait_signature f.now }
+    {
+        Signature {
+            params: f.params.as_slice(),
+            results: f.results.as_slice(),
+            kind: f.kind,
+        }
+    }
+
+    // That of a term's function.
+    fn of_term(f: &'p Function) -> Signature<'p>
+        ensures { signature result ≡ term_signature (function f.now) }
+    {
+        Signature {
+            params: f.params.as_slice(),
+            results: slice::from_ref(&f.result),
+            kind: f.kind,
+        }
+    }
+
+    /// Returns what is told of what a call of the function gives.
+    pub fn answer_told(&self) -> Told<'p>
+        ensures { told result ≡ answer_told (signature self.now).kind (signature self.now).results }
+    {
+        let ty = match self.results {
+            [ty] => ty.as_str(),
+            _ => return Told::Untold,
+        };
+        match self.kind {
+            ReturnKind::Plain => Told::AValue(ty),
+            ReturnKind::Option => Told::AnOption(ty),
+            ReturnKind::Iterator => Told::Untold,
+        }
+    }
+}
+
+/// The functions of a program, each found by what a call goes to, and its types.
+#[derive(Drop)]
+pub struct Signatures<'p> {
+    program: &'p Program,
+    callees: Callees<'p>,
+    terms: Terms<'p>,
+    types: Types<'p>,
+}
+
+impl<'p> Model for Signatures<'p> {
+    ghost use Rattle.std.specs.Prelude.{◌≡◌};
+    ghost use Rattle.std.specs.Coded.{codes};
+    ghost use Rattle.isle_tree.specs.contracts.tree.Stmt as e;
+    ghost use Rattle.isle_tree.specs.declared.tree.Program.{Program};
+
+    ghost Value = { Program };
+
+    ghost coded = { Prim.hlevel (codes, e.the_row.coded) };
+
+    ghost view = { λ s. s.program.now };
+
+    ghost invariant = { λ s. (s.callees ≡ s.program.now.trait_fns) × (s.terms ≡ s.program.now.fns) × (s.types ≡ s.program.now.types) };
+}
+
+impl<'p> Signatures<'p> {
+    /// Finds the functions of a program by their names. The only error is want of memory.
+    pub fn new(alloc: Global, p: &'p Program) -> Result<Signatures<'p>, AllocError>
+        ensures { IfOk result (λ s. s ≡ p.now) }
+    {
+        let callees = Callees::new(alloc, p.trait_fns.as_slice())?;
+        let terms = Terms::new(alloc, p.fns.as_slice())?;
+        let types = Types::new(alloc, p.types.as_slice())?;
+        Ok(Signatures {
+            program: p,
+            callees,
+            terms,
+            types,
+        })
+    }
+
+    /// Returns the types of the program.
+    pub fn types(&self) -> &Types<'p>
+        ensures { result.now ≡ self.now.types }
+    {
+        &self.types
+    }
+
+    /// Returns the signature of what is called, where the program has it.
+    pub fn of(&self, callee: &Callee) -> Option<Signature<'_>>
+        ensures { option_map signature result ≡ signature_of (program self.now) callee.now }
+    {
+        match callee {
+            Callee::External(name) => self.callees.named(name.as_str()).map(Signature::of_trait),
+            Callee::Internal(term) => self.terms.named(term.as_str()).map(Signature::of_term),
+        }
+    }
+}

@@ -1,0 +1,102 @@
+//! What is told of the types of operands, locals and what is computed.
+
+ghost use Rattle.std.specs.Prelude.{◌≡◌, slice_get};
+ghost use Rattle.isle_tree.specs.Views.{function, program};
+ghost use Rattle.isle_places.specs.Told as told_of;
+ghost use Rattle.isle_places.specs.ToldViews.{told, tells};
+
+use crate::signatures::Signatures;
+use isle_scope::Table;
+use isle_tree::{Function, Operand, Read, TExpr, Ty};
+
+/// A value of the type of this name, an option of one, or something whose type isn't told.
+#[derive(Clone, Copy)]
+pub enum Told<'s> {
+    AValue(&'s str),
+    AnOption(&'s str),
+    Untold,
+}
+
+/// Returns what is told of what is within an option.
+pub fn within<'s>(of: Told<'s>) -> Told<'s>
+    ensures { told result ≡ told_of.within (told of.entry) }
+{
+    match of {
+        Told::AnOption(ty) => Told::AValue(ty),
+        Told::AValue(_) | Told::Untold => Told::Untold,
+    }
+}
+
+// What is told of an option of a value.
+fn option_of<'s>(of: Told<'s>) -> Told<'s>
+    ensures { told result ≡ told_of.option_of (told of.entry) }
+{
+    match of {
+        Told::AValue(ty) => Told::AnOption(ty),
+        Told::AnOption(_) | Told::Untold => Told::Untold,
+    }
+}
+
+/// Returns the operand of a read.
+pub fn operand_of(read: &Read) -> &Operand
+    ensures { result.now ≡ told_of.operand_of read.now }
+{
+    match read {
+        Read::Plain(operand) | Read::Borrow(operand) | Read::Clone(operand) => operand,
+    }
+}
+
+/// Returns what is told of a parameter.
+pub fn param_told<'s>(params: &'s [Ty], index: usize) -> Told<'s>
+    ensures { told result ≡ told_of.param_told (slice_get params.now index) }
+{
+    match params.get(index) {
+        Some(ty) => Told::AValue(ty.name.as_str()),
+        None => Told::Untold,
+    }
+}
+
+// What is told of a local.
+fn local_told<'s>(bound: &Table<Told<'s>>, local: usize) -> Told<'s>
+    ensures { told result ≡ told_of.look_told (tells bound.now) local }
+{
+    match bound.get(local) {
+        Some(found) => *found,
+        None => Told::Untold,
+    }
+}
+
+/// Returns what is told of an operand.
+pub fn operand_told<'s>(f: &'s Function, bound: &Table<Told<'s>>, operand: &Operand) -> Told<'s>
+    ensures { told result ≡ told_of.operand_told (function f.now) (tells bound.now) operand.now }
+{
+    match operand {
+        Operand::Local(local) => local_told(bound, *local),
+        Operand::Arg(index) => param_told(f.params.as_slice(), *index),
+        Operand::Bool(_) => Told::AValue("bool"),
+        Operand::Int(ty, _) => Told::AValue(ty.name()),
+        Operand::Raw(_) | Operand::Name(_) => Told::Untold,
+    }
+}
+
+/// Returns what is told of what is computed.
+pub fn expr_told<'s>(
+    signatures: &'s Signatures<'_>,
+    f: &'s Function,
+    bound: &Table<Told<'s>>,
+    computed: &'s TExpr,
+) -> Told<'s>
+    ensures { told result ≡ told_of.expr_told (program signatures.now) (function f.now) (tells bound.now) computed.now }
+{
+    match computed {
+        TExpr::Read(read) => operand_told(f, bound, operand_of(read)),
+        TExpr::Call { call, .. } => match signatures.of(&call.callee) {
+            Some(signature) => signature.answer_told(),
+            None => Told::Untold,
+        },
+        TExpr::Variant { ty, .. } | TExpr::Struct { ty, .. } => Told::AValue(ty.as_str()),
+        TExpr::Some(read) => option_of(operand_told(f, bound, operand_of(read))),
+        TExpr::Try { source, .. } => within(operand_told(f, bound, source)),
+        TExpr::Tuple(..) => Told::Untold,
+    }
+}
