@@ -95,12 +95,6 @@ built_patterns env few (ty ∷ tys) (p ∷ ps) h = (built_pattern env few ty p h
 built_patterns env few [] (p ∷ ps) h = absurd h
 built_patterns env few (ty ∷ tys) [] h = absurd h
 
-as_many : (env : Environment) (tys : List TypeId) (ps : List Pattern) → ArePatternsOf env tys ps → length ps ≡ length tys
-as_many env [] [] h = refl
-as_many env (ty ∷ tys) (p ∷ ps) h = ap suc (as_many env tys ps h.1)
-as_many env [] (p ∷ ps) h = absurd h
-as_many env (ty ∷ tys) [] h = absurd h
-
 -- ---- rules
 
 -- the rules are built
@@ -133,10 +127,6 @@ typed_terms defs env h k d lt = let t = typed_rules defs env h k d lt in built_t
 
 -- ---- the rules of a term
 
--- they have as many patterns as the term has arguments
-pub typed_args : (defs : List Def) (env : Environment) (id : TermId) (t : Term) → Typed defs env → slice_get env.terms id.0 ≡ Some t → All (λ (r : Rule). length r.args ≡ length t.arg_tys) (rules_of env id)
-typed_args defs env id t h at k d lt = as_many env t.arg_tys _ (typed_of defs env id t h at k d lt).args
-
--- and patterns of its types
+-- they have patterns of its types
 pub typed_patterns : (defs : List Def) (env : Environment) (id : TermId) (t : Term) → Typed defs env → slice_get env.terms id.0 ≡ Some t → All (FitsTerm env t) (rules_of env id)
 typed_patterns defs env id t h at k d lt = (typed_of defs env id t h at k d lt).args

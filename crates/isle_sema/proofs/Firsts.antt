@@ -5,6 +5,7 @@ use Rattle.std.specs.List.{list_any, cons_option}
 use Rattle.std.proofs.lemmas.Bool.{or_parts, or_from}
 use Rattle.std.proofs.lemmas.List.{append-nil}
 use Rattle.isle_ast.specs.Tree.{Def}
+use Rattle.isle_types.proofs.BeforeLaws.{grown}
 use Rattle.isle_sema.specs.Fault.{or_later}
 
 -- ---- tests in order
@@ -44,15 +45,6 @@ any_parts test (x ∷ xs) ys h =
 
 -- ---- a definition more
 
-grown_by : {A B : Type 0} (g : A → B) (o : Option A) (xs ys : List A) (zs : List B) → map g ys ≡ map g xs ++ zs → map g (cons_option o ys) ≡ map g (cons_option o xs) ++ zs
-grown_by g None xs ys zs h = h
-grown_by g (Some a) xs ys zs h = ap (λ more. g a ∷ more) h
-
--- what definitions are, with one more
-pub grown : {A B : Type 0} (f : Def → Option A) (g : A → B) (ds : List Def) (d : Def) → map g (filter_map f (ds ++ d ∷ [])) ≡ map g (filter_map f ds) ++ map g (cons_option (f d) [])
-grown f g [] d = refl
-grown f g (x ∷ ds) d = grown_by g (f x) (filter_map f ds) (filter_map f (ds ++ d ∷ [])) (map g (cons_option (f d) [])) (grown f g ds d)
-
--- with one more of another kind
+-- what definitions are, with one more of another kind
 pub unchanged : {A B : Type 0} (f : Def → Option A) (g : A → B) (ds : List Def) (d : Def) → f d ≡ None → map g (filter_map f (ds ++ d ∷ [])) ≡ map g (filter_map f ds)
 unchanged f g ds d none = grown f g ds d ∙ ap (λ o. map g (filter_map f ds) ++ map g (cons_option o [])) none ∙ append-nil (map g (filter_map f ds))

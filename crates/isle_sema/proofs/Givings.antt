@@ -10,11 +10,6 @@ use Rattle.isle_core.specs.RuleViews.{rule as elaborated_rule, environment}
 use Rattle.isle_ast.specs.Tree.{Def}
 use Rattle.isle_declarations.specs.Signatures.{Signature, signatures, externs, rule_defs}
 use Rattle.isle_declarations.specs.Terms.{terms}
-use Rattle.isle_ast.specs.declared.tree.Def.{Def as CodeDef}
-use Rattle.isle_ast.specs.Views.{defs as seen}
-use Rattle.isle_declarations.specs.DeclaredTypes.{made_of}
-use Rattle.isle_types.specs.declared.before.Before.{Before}
-use Rattle.isle_types.specs.Gathered.{IsBefore}
 use Rattle.isle_types.specs.Fault.{type_fault}
 use Rattle.isle_types.specs.TypeEnvironment.{type_env_of}
 use Rattle.isle_declarations.specs.Heads.{terms_of, extern_terms}
@@ -99,7 +94,7 @@ headless_untyped ds h env t = both h (kept t).parts.heads
 
 -- nor those whose terms have no types
 pub unmade_untyped : (ds : List Def) → None ≡ terms_pass (whole_of ds) (terms ds) → (env : Environment) → Typed ds env → ⊥
-unmade_untyped ds none env t = let bad : None ≡ Some env = ap (λ o. option_and_then (λ (made : List Term). option_map (env_over (type_env_of ds) made) (rules_pass (whole_of ds) 0 (rule_defs ds))) o) none ∙ t.given in cc
+unmade_untyped ds none env t = let bad : None ≡ Some env = ap (λ o. option_and_then (λ (typed : List Term). option_map (env_over (type_env_of ds) typed) (rules_pass (whole_of ds) 0 (rule_defs ds))) o) none ∙ t.given in cc
 
 pub untaken_untyped : (ds : List Def) → None ≡ taken_rules (whole_of ds) 0 (rule_defs ds) → (env : Environment) → Typed ds env → ⊥
 untaken_untyped ds h env t = let k = kept t in let bad : None ≡ Some k.rules = h ∙ k.taken in cc
@@ -135,10 +130,3 @@ given_typed ds t built types parts given rules none =
 -- terms over the types of definitions
 pub over_types : {ds : List Def} {types : TypeEnv} (t : TermEnv) → types ≡ type_env_of ds → Typed ds (environment (type_env_of ds) t) → TypedOnly ds (environment types t)
 over_types {ds = ds} t is typed = typed_only (subst (λ (ts : TypeEnv). Typed ds (environment ts t)) (sym is) typed)
-
--- what is known of definitions is known of the same
-pub same_before : {ds es : List CodeDef} {before : Before} → es ≡ ds → IsBefore (seen ds) before → IsBefore (seen es) before
-same_before {before = before} is h = subst (λ (xs : List CodeDef). IsBefore (seen xs) before) (sym is) h
-
-pub same_made : {ds es : List CodeDef} {made : List (List (List ℕ))} → es ≡ ds → made ≡ map made_of (seen ds) → made ≡ map made_of (seen es)
-same_made is h = h ∙ ap (λ (xs : List CodeDef). map made_of (seen xs)) (sym is)

@@ -44,60 +44,34 @@ pub called_judged : (w : Whole) (s : Signature) (c : Called) (j : Judged) (expec
     }
     ≡ judge w j (CalledAt expected (Some s) count)
 called_judged w s c j expected count nodes differs other more h =
-    let put : ℕ → Bool → Bool → Bool → Option TypeId → Bool → Bool → Bool → Judged = λ n made external ruled ty partial pure multi. record {
+    let put : ℕ → Bool → Bool → Bool → Bool → Bool → Bool → Bool → ℕ → Judged = λ n made external ruled differs partial pure multi nodes. record {
       untaken = j.untaken;
       mistaken = j.mistaken;
       misplaced = j.misplaced;
       undeclared = j.undeclared;
       met_otherwise = j.met_otherwise;
       unknown = (not (count == n) || not (made || external || ruled)) || j.unknown;
-      mistyped = differ ty expected || j.mistyped;
+      mistyped = differs || j.mistyped;
       partial = partial || j.partial;
       impure = not pure || j.impure;
       multi = multi || j.multi;
       ruled = ruled || j.ruled;
-      nodes = min (j.nodes + 1) (2 ^ 64 - 1);
+      nodes = nodes;
     } in
     let long : length c.args.now ≡ length s.args = sym (length-map c.args.now Some) ∙ ap length (sym h.args) ∙ length-map s.args (type_named w.defs) in
     let made = is_made s.origin in
     let external = is_some (func_named (externs w.defs) s.term) in
     let ruled = has_rule (rule_defs w.defs) s.term in
-    ap (λ b. record {
-      untaken = j.untaken;
-      mistaken = j.mistaken;
-      misplaced = j.misplaced;
-      undeclared = j.undeclared;
-      met_otherwise = j.met_otherwise;
-      unknown = (not (count == length c.args.now) || not (c.made || c.external || c.ruled)) || j.unknown;
-      mistyped = b || j.mistyped;
-      partial = c.partial || j.partial;
-      impure = not c.pure || j.impure;
-      multi = c.multi || j.multi;
-      ruled = c.ruled || j.ruled;
-      nodes = nodes;
-    }) other
-    ∙ ap (λ n. record {
-      untaken = j.untaken;
-      mistaken = j.mistaken;
-      misplaced = j.misplaced;
-      undeclared = j.undeclared;
-      met_otherwise = j.met_otherwise;
-      unknown = (not (count == length c.args.now) || not (c.made || c.external || c.ruled)) || j.unknown;
-      mistyped = differ (Some c.ret) expected || j.mistyped;
-      partial = c.partial || j.partial;
-      impure = not c.pure || j.impure;
-      multi = c.multi || j.multi;
-      ruled = c.ruled || j.ruled;
-      nodes = n;
-    }) more
-    ∙ ap (λ n. put n c.made c.external c.ruled (Some c.ret) c.partial c.pure c.multi) long
-    ∙ ap (λ b. put (length s.args) b c.external c.ruled (Some c.ret) c.partial c.pure c.multi) (sym h.made)
-    ∙ ap (λ b. put (length s.args) made b c.ruled (Some c.ret) c.partial c.pure c.multi) (sym h.external)
-    ∙ ap (λ b. put (length s.args) made external b (Some c.ret) c.partial c.pure c.multi) (sym h.ruled)
-    ∙ ap (λ ty. put (length s.args) made external ruled ty c.partial c.pure c.multi) (sym h.ret)
-    ∙ ap (λ b. put (length s.args) made external ruled (type_named w.defs s.ret) b c.pure c.multi) (sym h.partial)
-    ∙ ap (λ b. put (length s.args) made external ruled (type_named w.defs s.ret) s.partial b c.multi) (sym h.pure)
-    ∙ ap (λ b. put (length s.args) made external ruled (type_named w.defs s.ret) s.partial s.pure b) (sym h.multi)
+    let other_type = differ (type_named w.defs s.ret) expected in
+    ap (λ n. put n c.made c.external c.ruled differs c.partial c.pure c.multi nodes) long
+    ∙ ap (λ b. put (length s.args) b c.external c.ruled differs c.partial c.pure c.multi nodes) (sym h.made)
+    ∙ ap (λ b. put (length s.args) made b c.ruled differs c.partial c.pure c.multi nodes) (sym h.external)
+    ∙ ap (λ b. put (length s.args) made external b differs c.partial c.pure c.multi nodes) (sym h.ruled)
+    ∙ ap (λ b. put (length s.args) made external ruled b c.partial c.pure c.multi nodes) (other ∙ ap (λ ty. differ ty expected) (sym h.ret))
+    ∙ ap (λ b. put (length s.args) made external ruled other_type b c.pure c.multi nodes) (sym h.partial)
+    ∙ ap (λ b. put (length s.args) made external ruled other_type s.partial b c.multi nodes) (sym h.pure)
+    ∙ ap (λ b. put (length s.args) made external ruled other_type s.partial s.pure b nodes) (sym h.multi)
+    ∙ ap (put (length s.args) made external ruled other_type s.partial s.pure s.multi) more
 
 -- a term in a pattern, by what is known of it
 pub taken_judged : (w : Whole) (s : Signature) (c : Called) (j : Judged) (expected : Option TypeId) (count nodes : ℕ) (differs : Bool) → differs ≡ differ (Some c.ret) expected → nodes ≡ min (j.nodes + 1) (2 ^ 64 - 1) → IsCalled w s c

@@ -35,12 +35,10 @@ use Rattle.isle_declarations.specs.declared.terms.Origin.{Origin}
 use Rattle.isle_declarations.specs.declared.terms.Origin.TheVariants as origin
 use Rattle.isle_declarations.specs.DeclaredTypes.{Constant, constants}
 use Rattle.isle_declarations.specs.DeclaredTypes as declared
-use Rattle.isle_declarations.specs.Heads.{terms_of}
 use Rattle.isle_declarations.specs.Names.{def_names}
 use Rattle.isle_declarations.specs.Signatures.{Signature, term_named}
 use Rattle.isle_declarations.specs.Symbols.{index_of, number_or, symbols, sym_of}
 use Rattle.isle_declarations.specs.Terms.{variant_signatures, body_signatures, terms, is_made}
-use Rattle.isle_declarations.proofs.LookUps.{at_place, named_at}
 use Rattle.isle_declarations.proofs.SymbolLaws.{stands, index_below, same_number}
 use Rattle.isle_types.specs.Builtins.{builtins, builtin_names, type_id}
 use Rattle.isle_types.specs.Fault.{type_fault}
@@ -53,6 +51,7 @@ use Rattle.isle_sema.specs.TypeNames.{type_named}
 use Rattle.isle_sema.specs.Whole.{Whole, termed, constant_type}
 use Rattle.isle_sema.proofs.MadeTerms.{first_there, term_made, made_of, term_is, types_are, all_at}
 use Rattle.isle_sema.proofs.NamesApart.{types_apart, place_is}
+use Rattle.isle_sema.proofs.RuleRoots.{signature_at}
 use Rattle.isle_sema.proofs.TypedParts.{IsTypedIn}
 
 -- ---- types of fields
@@ -221,20 +220,13 @@ of_making ret ty (origin.Variant number) made same = same
 of_making ret ty origin.Struct made same = same
 of_making ret ty origin.Declared made same = absurd cc
 
-number_is : (sigs : List Signature) (name : List ℕ) (number : TermId) → term_named sigs name ≡ Some number → index_of (terms_of sigs) name ≡ Some number.0
-number_is sigs name number h = by (index_of (terms_of sigs) name) h
-  where
-    by : (o : Option ℕ) → option_map (λ (n : ℕ). let id : TermId = record { 0 = n } in id) o ≡ Some number → o ≡ Some number.0
-    by None e = absurd cc
-    by (Some n) e = ap (λ (id : TermId). Some id.0) (same_Some (record { 0 = n }) number e)
-
 -- ---- the laws
 
 -- a made term makes its result's type, and its arguments are the fields
 pub made_form : (defs : List Def) (env : Environment) (name : List ℕ) (s : Signature) (number : TermId) (ty : TypeId) → IsTypedIn defs env → type_fault defs ≡ None → termed (whole_of defs) name ≡ Some s → term_named (terms defs) name ≡ Some number → is_made s.origin ≡ true
     → type_named defs s.ret ≡ Some ty → IsOfMaking ty (making env number) × (tys : List TypeId) × (option_map (form_types env) (form env (making env number)) ≡ Some tys) × (map (type_named defs) s.args ≡ map Some tys)
 made_form defs env name s number ty g none is numbered made ret =
-    let at : slice_get (terms defs) number.0 ≡ Some s = sym (named_at (terms defs) name ∙ ap (at_place (terms defs)) (number_is (terms defs) name number numbered)) ∙ is in
+    let at = signature_at (whole_of defs) name s number is numbered in
     let m = term_made (whole_of defs) (terms defs) env.terms number.0 s g.terms at in
     let t = m.term in
     let k = term_is (whole_of defs) s t m.made in
@@ -309,8 +301,8 @@ constant_there xs None ty h = absurd cc
 constant_there xs (Some n) ty h = (n, refl)
 
 -- a constant's type is that of its symbol
-pub constant_typed : (defs : List Def) (env : Environment) (name : List ℕ) (ty : TypeId) → env.types ≡ type_env_of defs → type_fault defs ≡ None → constant_type (whole_of defs) name ≡ Some ty → const_type env (sym_of env.types.syms name) ≡ Some ty
-constant_typed defs env name ty types none h =
+pub constant_typed : (defs : List Def) (env : Environment) (name : List ℕ) (ty : TypeId) → env.types ≡ type_env_of defs → constant_type (whole_of defs) name ≡ Some ty → const_type env (sym_of env.types.syms name) ≡ Some ty
+constant_typed defs env name ty types h =
     let syms = symbols defs in
     let names = map (λ (c : Constant). c.name) (constants defs) in
     let all = map (constant_in defs) (constants defs) in

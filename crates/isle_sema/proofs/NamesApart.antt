@@ -28,9 +28,9 @@ use Rattle.isle_types.specs.Builtins.{builtin_names}
 use Rattle.isle_types.specs.Fault.{fault_after, type_row, type_fault}
 use Rattle.isle_types.specs.TypeNames.{declared_names, type_names}
 use Rattle.isle_types.specs.TypeRows.{on, type_repeats, field_repeats, field_type_missing, many_fields, made_term_repeats, constant_misfit}
-use Rattle.isle_types.proofs.BeforeLaws.{made_more}
+use Rattle.isle_types.proofs.BeforeLaws.{grown, made_more}
 use Rattle.isle_types.proofs.SymbolsApart.{nowhere, all_first, all_last}
-use Rattle.isle_sema.proofs.Firsts.{grown, later_none}
+use Rattle.isle_sema.proofs.Firsts.{later_none}
 use Rattle.isle_sema.proofs.MadeTerms.{all_at}
 use Rattle.isle_sema.proofs.TermFaults.{is_made_twice}
 

@@ -55,7 +55,3 @@ rule_made w i r x h = by (term_named (terms w.defs) r.term) (patterns_of w r).tr
     by (Some term) (Some args) (Some iflets) (Some rhs) t p c s k =
         let is = same_Some (rule_from w i r term args iflets rhs) x k in
         record { root = t ∙ ap (λ (y : Rule). Some y.root_term) is; args = p ∙ ap (λ (y : Rule). Some y.args) is; iflets = c ∙ ap (λ (y : Rule). Some y.iflets) is; rhs = s ∙ ap (λ (y : Rule). Some y.rhs) is; pos = ap (λ (y : Rule). y.pos) is }
-
--- a rule's root is the place of its head
-pub root_is : (w : Whole) (i : ℕ) (r : RuleDef) (x : Rule) → rule_pass w i r ≡ Some x → index_of (terms_of (terms w.defs)) r.term ≡ Some x.root_term.0
-root_is w i r x h = place_of (terms w.defs) r.term x.root_term (rule_made w i r x h).root

@@ -135,10 +135,6 @@ all_before (x ∷ xs) es = AnExpr x (all_before xs es)
 abbrev pub exprs_before : List Expr → Option Exprs → Option Exprs
 exprs_before xs o = option_map (all_before xs) o
 
-nothing_before : (o : Option Exprs) → o ≡ exprs_before [] o
-nothing_before None = refl
-nothing_before (Some r) = refl
-
 all_more : (xs : List Expr) (x : Expr) (es : Exprs) → all_before xs (AnExpr x es) ≡ all_before (xs ++ x ∷ []) es
 all_more [] x es = refl
 all_more (first ∷ xs) x es = ap (AnExpr first) (all_more xs x es)

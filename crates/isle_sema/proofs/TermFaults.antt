@@ -1,5 +1,5 @@
 -- The rows of declarations, external constructors and heads are kept where the code takes them.
-use Rattle.std.proofs.Common.{◌≡◌, ℕ, Bool, true, false, cond, List, length, [], ◌∷◌, ◌++◌, Some, None, refl, sym, ap, ◌∙◌}
+use Rattle.std.proofs.Common.{◌≡◌, ℕ, Bool, true, false, cond, List, length, [], ◌∷◌, ◌++◌, Some, None, refl, sym, subst}
 use Rattle.std.specs.Prelude.{◌&&◌, ◌||◌, not, is_some, nat_le}
 use Rattle.std.specs.List.{list_all, list_any}
 use Rattle.std.proofs.lemmas.Bool.{or_parts, or_from, and_parts}
@@ -16,10 +16,11 @@ use Rattle.isle_sema.specs.BuiltForm.{is_built_form}
 use Rattle.isle_sema.specs.Tests.{has_undeclared}
 use Rattle.isle_types.specs.declared.row.Row.TheVariants as row
 use Rattle.isle_types.specs.declared.row.Row.{Row}
+use Rattle.isle_types.proofs.BeforeLaws.{grown}
 use Rattle.isle_sema.specs.Whole.{Whole}
 use Rattle.isle_sema.specs.Fault.{OfTerms, OfExtractors, broken_in, fault_after}
 use Rattle.isle_sema.specs.Environment.{whole_of}
-use Rattle.isle_sema.proofs.Firsts.{first_none, none_first, later_none, none_later, grown, unchanged}
+use Rattle.isle_sema.proofs.Firsts.{first_none, none_first, later_none, none_later, unchanged}
 
 -- ---- extractors
 
@@ -56,15 +57,32 @@ has_too_many s = not (nat_le (length s.args) 256)
 abbrev pub is_headless : List Def → RuleDef → Bool
 is_headless all r = not (is_some (signature_named (signatures all) r.term)) || is_some (func_named (externs all) r.term)
 
+-- each test of declarations, external constructors and rules, which follow declarations and external constructors of these terms
+pub record AreTested (all : List Def) (names external : List (List ℕ)) (sigs : List Signature) (xs : List Extern) (rules : List RuleDef) : Type 0 where
+  pub apart : repeats_after names (terms_of sigs) ≡ false
+  pub unmade : list_any (is_made_twice all) sigs ≡ false
+  pub typed : list_any (names_no_type all) sigs ≡ false
+  pub few : list_any has_too_many sigs ≡ false
+  pub externs_apart : repeats_after external (extern_terms xs) ≡ false
+  pub known : has_undeclared (signatures all) xs ≡ false
+  pub heads : list_any (is_headless all) rules ≡ false
+
 -- each test of these definitions, which follow those
-pub record TermParts (all before ds : List Def) : Type 0 where
-  pub apart : repeats_after (terms_of (signatures before)) (terms_of (signatures ds)) ≡ false
-  pub unmade : list_any (is_made_twice all) (signatures ds) ≡ false
-  pub typed : list_any (names_no_type all) (signatures ds) ≡ false
-  pub few : list_any has_too_many (signatures ds) ≡ false
-  pub externs_apart : repeats_after (extern_terms (externs before)) (extern_terms (externs ds)) ≡ false
-  pub known : has_undeclared (signatures all) (externs ds) ≡ false
-  pub heads : list_any (is_headless all) (rule_defs ds) ≡ false
+abbrev pub TermParts : (all before ds : List Def) → Type 0
+TermParts all before ds = AreTested all (terms_of (signatures before)) (extern_terms (externs before)) (signatures ds) (externs ds) (rule_defs ds)
+
+-- the tests after other names that are the same
+same_tests : {all : List Def} {names more external further : List (List ℕ)} {sigs : List Signature} {xs : List Extern} {rules : List RuleDef} → names ≡ more → external ≡ further → AreTested all names external sigs xs rules → AreTested all more further sigs xs rules
+same_tests {all = all} {names = names} {more = more} {external = external} {further = further} {sigs = sigs} {xs = xs} {rules = rules} e f h =
+    subst (λ ns. AreTested all ns further sigs xs rules) e (subst (λ ns. AreTested all names ns sigs xs rules) f h)
+
+-- the names of declarations are those before one that declares nothing
+undeclared : (before : List Def) (d : Def) → signature_of d ≡ None → terms_of (signatures (before ++ d ∷ [])) ≡ terms_of (signatures before)
+undeclared before d none = unchanged signature_of (λ (s : Signature). s.term) before d none
+
+-- so are those of external constructors
+not_external : (before : List Def) (d : Def) → extern_of d ≡ None → extern_terms (externs (before ++ d ∷ [])) ≡ extern_terms (externs before)
+not_external before d none = unchanged extern_of (λ (x : Extern). x.term) before d none
 
 -- the tests of a declaration
 decl_kept : (a b c d : Bool)
@@ -94,35 +112,37 @@ terms_kept all before [] f h = record { apart = refl; unmade = refl; typed = ref
 terms_kept all before (tree.Decl term pure multi partial recursive args ret pos ∷ ds) f h =
     let d = tree.Decl term pure multi partial recursive args ret pos in
     let s : Signature = record { term = term; pure = pure; multi = multi; partial = partial; recursive = recursive; args = args; ret = ret; pos = pos; origin = origin.Declared } in
+    let names = terms_of (signatures before) in
+    let external = extern_terms (externs before) in
     let g = and_parts (is_built_form d) (list_all is_built_form ds) f in
     let l = later_none (λ (r : Row). (r, pos)) (broken_in OfTerms (record { whole = whole_of all; before = before }) d) (fault_after OfTerms (whole_of all) (before ++ d ∷ []) ds) h in
-    let n = decl_kept (is_some (index_of (terms_of (signatures before)) term) || is_made_twice all s) (names_no_type all s) (has_too_many s) (multi && partial) l.0 in
-    let k = or_parts (is_some (index_of (terms_of (signatures before)) term)) (is_made_twice all s) n.0 in
-    let rest = terms_kept all (before ++ d ∷ []) ds g.1 l.1 in
+    let n = decl_kept (is_some (index_of names term) || is_made_twice all s) (names_no_type all s) (has_too_many s) (multi && partial) l.0 in
+    let k = or_parts (is_some (index_of names term)) (is_made_twice all s) n.0 in
+    let rest : AreTested all (names ++ term ∷ []) external (signatures ds) (externs ds) (rule_defs ds) = same_tests (grown signature_of (λ (x : Signature). x.term) before d) (not_external before d refl) (terms_kept all (before ++ d ∷ []) ds g.1 l.1) in
     record {
-      apart = or_from (is_some (index_of (terms_of (signatures before)) term)) (repeats_after (terms_of (signatures before) ++ term ∷ []) (terms_of (signatures ds))) k.0
-          (ap (λ ns. repeats_after ns (terms_of (signatures ds))) (sym (grown signature_of (λ (x : Signature). x.term) before d)) ∙ rest.apart);
+      apart = or_from (is_some (index_of names term)) (repeats_after (names ++ term ∷ []) (terms_of (signatures ds))) k.0 rest.apart;
       unmade = or_from (is_made_twice all s) (list_any (is_made_twice all) (signatures ds)) k.1 rest.unmade;
       typed = or_from (names_no_type all s) (list_any (names_no_type all) (signatures ds)) n.1 rest.typed;
       few = or_from (has_too_many s) (list_any has_too_many (signatures ds)) n.2 rest.few;
-      externs_apart = ap (λ ns. repeats_after ns (extern_terms (externs ds))) (sym (unchanged extern_of (λ (x : Extern). x.term) before d refl)) ∙ rest.externs_apart;
+      externs_apart = rest.externs_apart;
       known = rest.known;
       heads = rest.heads;
     }
 terms_kept all before (tree.ExternConstructor term func pos ∷ ds) f h =
     let d = tree.ExternConstructor term func pos in
+    let names = terms_of (signatures before) in
+    let external = extern_terms (externs before) in
     let l = later_none (λ (r : Row). (r, pos)) (broken_in OfTerms (record { whole = whole_of all; before = before }) d) (fault_after OfTerms (whole_of all) (before ++ d ∷ []) ds) h in
-    let again = is_some (index_of (extern_terms (externs before)) term) in
+    let again = is_some (index_of external term) in
     let k = first_none (not (is_some (signature_named (signatures all) term))) row.TermUndeclared (cond again (Some row.SecondOfTerm) None) l.0 in
     let m = first_none again row.SecondOfTerm None k.1 in
-    let rest = terms_kept all (before ++ d ∷ []) ds f l.1 in
+    let rest : AreTested all names (external ++ term ∷ []) (signatures ds) (externs ds) (rule_defs ds) = same_tests (undeclared before d refl) (grown extern_of (λ (x : Extern). x.term) before d) (terms_kept all (before ++ d ∷ []) ds f l.1) in
     record {
-      apart = ap (λ ns. repeats_after ns (terms_of (signatures ds))) (sym (unchanged signature_of (λ (x : Signature). x.term) before d refl)) ∙ rest.apart;
+      apart = rest.apart;
       unmade = rest.unmade;
       typed = rest.typed;
       few = rest.few;
-      externs_apart = or_from again (repeats_after (extern_terms (externs before) ++ term ∷ []) (extern_terms (externs ds))) m.0
-          (ap (λ ns. repeats_after ns (extern_terms (externs ds))) (sym (grown extern_of (λ (x : Extern). x.term) before d)) ∙ rest.externs_apart);
+      externs_apart = or_from again (repeats_after (external ++ term ∷ []) (extern_terms (externs ds))) m.0 rest.externs_apart;
       known = or_from (not (is_some (signature_named (signatures all) term))) (has_undeclared (signatures all) (externs ds)) k.0 rest.known;
       heads = rest.heads;
     }
@@ -132,55 +152,28 @@ terms_kept all before (tree.Rule name prio term args iflets rhs pos ∷ ds) f h 
     let g = and_parts (is_built_form d) (list_all is_built_form ds) f in
     let l = later_none (λ (r : Row). (r, pos)) (broken_in OfTerms (record { whole = whole_of all; before = before }) d) (fault_after OfTerms (whole_of all) (before ++ d ∷ []) ds) h in
     let k = first_none (is_headless all r) row.HeadMisfit None l.0 in
-    let rest = terms_kept all (before ++ d ∷ []) ds g.1 l.1 in
+    let rest : TermParts all before ds = same_tests (undeclared before d refl) (not_external before d refl) (terms_kept all (before ++ d ∷ []) ds g.1 l.1) in
     record {
-      apart = ap (λ ns. repeats_after ns (terms_of (signatures ds))) (sym (unchanged signature_of (λ (x : Signature). x.term) before d refl)) ∙ rest.apart;
+      apart = rest.apart;
       unmade = rest.unmade;
       typed = rest.typed;
       few = rest.few;
-      externs_apart = ap (λ ns. repeats_after ns (extern_terms (externs ds))) (sym (unchanged extern_of (λ (x : Extern). x.term) before d refl)) ∙ rest.externs_apart;
+      externs_apart = rest.externs_apart;
       known = rest.known;
       heads = or_from (is_headless all r) (list_any (is_headless all) (rule_defs ds)) k.0 rest.heads;
     }
 terms_kept all before (tree.TypeDecl name is_extern is_nodebug body pos ∷ ds) f h =
     let d = tree.TypeDecl name is_extern is_nodebug body pos in
-    let rest = terms_kept all (before ++ d ∷ []) ds f h in
-    record {
-      apart = ap (λ ns. repeats_after ns (terms_of (signatures ds))) (sym (unchanged signature_of (λ (x : Signature). x.term) before d refl)) ∙ rest.apart;
-      unmade = rest.unmade;
-      typed = rest.typed;
-      few = rest.few;
-      externs_apart = ap (λ ns. repeats_after ns (extern_terms (externs ds))) (sym (unchanged extern_of (λ (x : Extern). x.term) before d refl)) ∙ rest.externs_apart;
-      known = rest.known;
-      heads = rest.heads;
-    }
+    same_tests (undeclared before d refl) (not_external before d refl) (terms_kept all (before ++ d ∷ []) ds f h)
 terms_kept all before (tree.ExternExtractor term func infallible pos ∷ ds) f h = absurd cc
 terms_kept all before (tree.ExternConst name ty pos ∷ ds) f h =
     let d = tree.ExternConst name ty pos in
-    let rest = terms_kept all (before ++ d ∷ []) ds f h in
-    record {
-      apart = ap (λ ns. repeats_after ns (terms_of (signatures ds))) (sym (unchanged signature_of (λ (x : Signature). x.term) before d refl)) ∙ rest.apart;
-      unmade = rest.unmade;
-      typed = rest.typed;
-      few = rest.few;
-      externs_apart = ap (λ ns. repeats_after ns (extern_terms (externs ds))) (sym (unchanged extern_of (λ (x : Extern). x.term) before d refl)) ∙ rest.externs_apart;
-      known = rest.known;
-      heads = rest.heads;
-    }
+    same_tests (undeclared before d refl) (not_external before d refl) (terms_kept all (before ++ d ∷ []) ds f h)
 terms_kept all before (tree.Extractor term params template pos ∷ ds) f h = absurd cc
 terms_kept all before (tree.Converter from to term pos ∷ ds) f h = absurd cc
 terms_kept all before (tree.Passed head items pos ∷ ds) f h =
     let d = tree.Passed head items pos in
-    let rest = terms_kept all (before ++ d ∷ []) ds f h in
-    record {
-      apart = ap (λ ns. repeats_after ns (terms_of (signatures ds))) (sym (unchanged signature_of (λ (x : Signature). x.term) before d refl)) ∙ rest.apart;
-      unmade = rest.unmade;
-      typed = rest.typed;
-      few = rest.few;
-      externs_apart = ap (λ ns. repeats_after ns (extern_terms (externs ds))) (sym (unchanged extern_of (λ (x : Extern). x.term) before d refl)) ∙ rest.externs_apart;
-      known = rest.known;
-      heads = rest.heads;
-    }
+    same_tests (undeclared before d refl) (not_external before d refl) (terms_kept all (before ++ d ∷ []) ds f h)
 
 -- and where each fails, the rows are kept
 pub terms_none : (all before ds : List Def) → list_all is_built_form ds ≡ true → TermParts all before ds → fault_after OfTerms (whole_of all) before ds ≡ None
@@ -188,88 +181,44 @@ terms_none all before [] f p = refl
 terms_none all before (tree.Decl term pure multi partial recursive args ret pos ∷ ds) f p =
     let d = tree.Decl term pure multi partial recursive args ret pos in
     let s : Signature = record { term = term; pure = pure; multi = multi; partial = partial; recursive = recursive; args = args; ret = ret; pos = pos; origin = origin.Declared } in
+    let names = terms_of (signatures before) in
     let g = and_parts (is_built_form d) (list_all is_built_form ds) f in
-    let again = is_some (index_of (terms_of (signatures before)) term) in
-    let a = or_parts again (repeats_after (terms_of (signatures before) ++ term ∷ []) (terms_of (signatures ds))) p.apart in
+    let again = is_some (index_of names term) in
+    let a = or_parts again (repeats_after (names ++ term ∷ []) (terms_of (signatures ds))) p.apart in
     let u = or_parts (is_made_twice all s) (list_any (is_made_twice all) (signatures ds)) p.unmade in
     let t = or_parts (names_no_type all s) (list_any (names_no_type all) (signatures ds)) p.typed in
     let m = or_parts (has_too_many s) (list_any has_too_many (signatures ds)) p.few in
-    let rest = terms_none all (before ++ d ∷ []) ds g.1 (record {
-      apart = ap (λ ns. repeats_after ns (terms_of (signatures ds))) (grown signature_of (λ (x : Signature). x.term) before d) ∙ a.1;
-      unmade = u.1;
-      typed = t.1;
-      few = m.1;
-      externs_apart = ap (λ ns. repeats_after ns (extern_terms (externs ds))) (unchanged extern_of (λ (x : Extern). x.term) before d refl) ∙ p.externs_apart;
-      known = p.known;
-      heads = p.heads;
-    }) in
+    let rest : AreTested all (names ++ term ∷ []) (extern_terms (externs before)) (signatures ds) (externs ds) (rule_defs ds) = record { apart = a.1; unmade = u.1; typed = t.1; few = m.1; externs_apart = p.externs_apart; known = p.known; heads = p.heads } in
     none_later (λ (r : Row). (r, pos)) (broken_in OfTerms (record { whole = whole_of all; before = before }) d) (fault_after OfTerms (whole_of all) (before ++ d ∷ []) ds)
-    (decl_from (again || is_made_twice all s) (names_no_type all s) (has_too_many s) (multi && partial) (or_from again (is_made_twice all s) a.0 u.0) t.0 m.0 (single pure multi recursive partial g.0)) rest
+    (decl_from (again || is_made_twice all s) (names_no_type all s) (has_too_many s) (multi && partial) (or_from again (is_made_twice all s) a.0 u.0) t.0 m.0 (single pure multi recursive partial g.0))
+    (terms_none all (before ++ d ∷ []) ds g.1 (same_tests (sym (grown signature_of (λ (x : Signature). x.term) before d)) (sym (not_external before d refl)) rest))
 terms_none all before (tree.ExternConstructor term func pos ∷ ds) f p =
     let d = tree.ExternConstructor term func pos in
-    let again = is_some (index_of (extern_terms (externs before)) term) in
-    let a = or_parts again (repeats_after (extern_terms (externs before) ++ term ∷ []) (extern_terms (externs ds))) p.externs_apart in
+    let external = extern_terms (externs before) in
+    let again = is_some (index_of external term) in
+    let a = or_parts again (repeats_after (external ++ term ∷ []) (extern_terms (externs ds))) p.externs_apart in
     let k = or_parts (not (is_some (signature_named (signatures all) term))) (has_undeclared (signatures all) (externs ds)) p.known in
-    let rest = terms_none all (before ++ d ∷ []) ds f (record {
-      apart = ap (λ ns. repeats_after ns (terms_of (signatures ds))) (unchanged signature_of (λ (x : Signature). x.term) before d refl) ∙ p.apart;
-      unmade = p.unmade;
-      typed = p.typed;
-      few = p.few;
-      externs_apart = ap (λ ns. repeats_after ns (extern_terms (externs ds))) (grown extern_of (λ (x : Extern). x.term) before d) ∙ a.1;
-      known = k.1;
-      heads = p.heads;
-    }) in
+    let rest : AreTested all (terms_of (signatures before)) (external ++ term ∷ []) (signatures ds) (externs ds) (rule_defs ds) = record { apart = p.apart; unmade = p.unmade; typed = p.typed; few = p.few; externs_apart = a.1; known = k.1; heads = p.heads } in
     none_later (λ (r : Row). (r, pos)) (broken_in OfTerms (record { whole = whole_of all; before = before }) d) (fault_after OfTerms (whole_of all) (before ++ d ∷ []) ds)
-    (none_first (not (is_some (signature_named (signatures all) term))) row.TermUndeclared (cond again (Some row.SecondOfTerm) None) k.0 (none_first again row.SecondOfTerm None a.0 refl)) rest
+    (none_first (not (is_some (signature_named (signatures all) term))) row.TermUndeclared (cond again (Some row.SecondOfTerm) None) k.0 (none_first again row.SecondOfTerm None a.0 refl))
+    (terms_none all (before ++ d ∷ []) ds f (same_tests (sym (undeclared before d refl)) (sym (grown extern_of (λ (x : Extern). x.term) before d)) rest))
 terms_none all before (tree.Rule name prio term args iflets rhs pos ∷ ds) f p =
     let d = tree.Rule name prio term args iflets rhs pos in
     let r : RuleDef = record { name = name; prio = prio; term = term; args = args; iflets = iflets; rhs = rhs; pos = pos } in
     let g = and_parts (is_built_form d) (list_all is_built_form ds) f in
     let k = or_parts (is_headless all r) (list_any (is_headless all) (rule_defs ds)) p.heads in
-    let rest = terms_none all (before ++ d ∷ []) ds g.1 (record {
-      apart = ap (λ ns. repeats_after ns (terms_of (signatures ds))) (unchanged signature_of (λ (x : Signature). x.term) before d refl) ∙ p.apart;
-      unmade = p.unmade;
-      typed = p.typed;
-      few = p.few;
-      externs_apart = ap (λ ns. repeats_after ns (extern_terms (externs ds))) (unchanged extern_of (λ (x : Extern). x.term) before d refl) ∙ p.externs_apart;
-      known = p.known;
-      heads = k.1;
-    }) in
-    none_later (λ (r : Row). (r, pos)) (broken_in OfTerms (record { whole = whole_of all; before = before }) d) (fault_after OfTerms (whole_of all) (before ++ d ∷ []) ds)
-    (none_first (is_headless all r) row.HeadMisfit None k.0 refl) rest
+    let rest : TermParts all before ds = record { apart = p.apart; unmade = p.unmade; typed = p.typed; few = p.few; externs_apart = p.externs_apart; known = p.known; heads = k.1 } in
+    none_later (λ (r : Row). (r, pos)) (broken_in OfTerms (record { whole = whole_of all; before = before }) d) (fault_after OfTerms (whole_of all) (before ++ d ∷ []) ds) (none_first (is_headless all r) row.HeadMisfit None k.0 refl)
+    (terms_none all (before ++ d ∷ []) ds g.1 (same_tests (sym (undeclared before d refl)) (sym (not_external before d refl)) rest))
 terms_none all before (tree.TypeDecl name is_extern is_nodebug body pos ∷ ds) f p =
     let d = tree.TypeDecl name is_extern is_nodebug body pos in
-    terms_none all (before ++ d ∷ []) ds f (record {
-      apart = ap (λ ns. repeats_after ns (terms_of (signatures ds))) (unchanged signature_of (λ (x : Signature). x.term) before d refl) ∙ p.apart;
-      unmade = p.unmade;
-      typed = p.typed;
-      few = p.few;
-      externs_apart = ap (λ ns. repeats_after ns (extern_terms (externs ds))) (unchanged extern_of (λ (x : Extern). x.term) before d refl) ∙ p.externs_apart;
-      known = p.known;
-      heads = p.heads;
-    })
+    terms_none all (before ++ d ∷ []) ds f (same_tests (sym (undeclared before d refl)) (sym (not_external before d refl)) p)
 terms_none all before (tree.ExternExtractor term func infallible pos ∷ ds) f p = absurd cc
 terms_none all before (tree.ExternConst name ty pos ∷ ds) f p =
     let d = tree.ExternConst name ty pos in
-    terms_none all (before ++ d ∷ []) ds f (record {
-      apart = ap (λ ns. repeats_after ns (terms_of (signatures ds))) (unchanged signature_of (λ (x : Signature). x.term) before d refl) ∙ p.apart;
-      unmade = p.unmade;
-      typed = p.typed;
-      few = p.few;
-      externs_apart = ap (λ ns. repeats_after ns (extern_terms (externs ds))) (unchanged extern_of (λ (x : Extern). x.term) before d refl) ∙ p.externs_apart;
-      known = p.known;
-      heads = p.heads;
-    })
+    terms_none all (before ++ d ∷ []) ds f (same_tests (sym (undeclared before d refl)) (sym (not_external before d refl)) p)
 terms_none all before (tree.Extractor term params template pos ∷ ds) f p = absurd cc
 terms_none all before (tree.Converter from to term pos ∷ ds) f p = absurd cc
 terms_none all before (tree.Passed head items pos ∷ ds) f p =
     let d = tree.Passed head items pos in
-    terms_none all (before ++ d ∷ []) ds f (record {
-      apart = ap (λ ns. repeats_after ns (terms_of (signatures ds))) (unchanged signature_of (λ (x : Signature). x.term) before d refl) ∙ p.apart;
-      unmade = p.unmade;
-      typed = p.typed;
-      few = p.few;
-      externs_apart = ap (λ ns. repeats_after ns (extern_terms (externs ds))) (unchanged extern_of (λ (x : Extern). x.term) before d refl) ∙ p.externs_apart;
-      known = p.known;
-      heads = p.heads;
-    })
+    terms_none all (before ++ d ∷ []) ds f (same_tests (sym (undeclared before d refl)) (sym (not_external before d refl)) p)

@@ -4,6 +4,7 @@ use Rattle.std.specs.Prelude.{is_some, option_map, drop, slice_get}
 use Rattle.std.proofs.lemmas.Option.{same_Some, slice_get-map, slice_get-get_or}
 use Rattle.isle_ast.specs.Tree.{Def}
 use Rattle.std.proofs.lemmas.List.{drop_more}
+use Rattle.isle_core.specs.declared.TypeId.{TypeId}
 use Rattle.isle_core.specs.declared.types.Term.{Term}
 use Rattle.isle_declarations.specs.declared.terms.TermDef.{TermDef}
 use Rattle.isle_declarations.specs.TermViews.{term_def}
@@ -17,7 +18,8 @@ use Rattle.isle_declarations.proofs.TermNames.{are_terms_among}
 use Rattle.isle_declarations.proofs.NumberLaws.{has_head}
 use Rattle.isle_sema.specs.Whole.{Whole}
 use Rattle.isle_sema.specs.PatternPass.{tree_before}
-use Rattle.isle_sema.specs.Environment.{constructor_of, constructor_named, term_pass, terms_pass}
+use Rattle.isle_sema.specs.TypeNames.{type_named}
+use Rattle.isle_sema.specs.Environment.{types_named, constructor_of, constructor_named, term_pass, terms_pass}
 use Rattle.isle_sema.proofs.Steps.{before, one_before}
 
 no_func : (number : List ℕ → ℕ) (o : Option (List ℕ)) → None ≡ option_map number o → None ≡ o
@@ -31,18 +33,34 @@ inside w name rule ruled none at is =
     ap (constructor_of w.types.syms None) (sym is ∙ ap is_some at ∙ has_head (rule_defs w.defs) name)
     ∙ ap (λ o. constructor_of w.types.syms o (has_rule (rule_defs w.defs) name)) (no_func (λ (func : List ℕ). number_or (index_of w.types.syms func)) (func_named (externs w.defs) name) none)
 
+-- ---- what is left
+
+-- the items from a place on are the one there and those behind it
+pub next_is : {A : Type 0} (xs : List A) (i : ℕ) (x d : A) → i < length xs → x ≡ get_or xs i d → drop i xs ≡ x ∷ drop (i + 1) xs
+next_is xs i x d lt is = drop_more xs i d lt ∙ ap (λ y. y ∷ drop (i + 1) xs) (sym is)
+
+-- one type more
+pub type_more : (defs : List Def) (types more : List TypeId) (name : List ℕ) (ty : TypeId) (left rest : List (List ℕ)) (all : Option (List TypeId)) → left ≡ name ∷ rest → more ≡ types ++ ty ∷ [] → Some ty ≡ type_named defs name
+    → all ≡ before types (types_named defs left) → all ≡ before more (types_named defs rest)
+type_more defs types more name ty left rest all is added one h =
+    h ∙ ap (λ names. before types (types_named defs names)) is ∙ ap (λ o. before types (tree_before o (types_named defs rest))) (sym one) ∙ one_before types ty (types_named defs rest) ∙ ap (λ tys. before tys (types_named defs rest)) (sym added)
+
+-- a type that is not declared
+pub type_none : (defs : List Def) (types : List TypeId) (name : List ℕ) (left rest : List (List ℕ)) (all : Option (List TypeId)) → left ≡ name ∷ rest → None ≡ type_named defs name → all ≡ before types (types_named defs left) → None ≡ all
+type_none defs types name left rest all is none h = sym (h ∙ ap (λ names. before types (types_named defs names)) is ∙ ap (λ o. before types (tree_before o (types_named defs rest))) (sym none))
+
 -- one term more
 pub term_more : (w : Whole) (sigs : List TermDef) (i : ℕ) (made more : List Term) (s d : TermDef) (t : Term) (all : Option (List Term)) → i < length sigs → s ≡ get_or sigs i d → more ≡ made ++ t ∷ [] → Some t ≡ term_pass w (term_def s)
     → all ≡ before made (terms_pass w (map term_def (drop i sigs))) → all ≡ before more (terms_pass w (map term_def (drop (i + 1) sigs)))
 term_more w sigs i made more s d t all lt is added one h =
     let rest = terms_pass w (map term_def (drop (i + 1) sigs)) in
-    h ∙ ap (λ xs. before made (terms_pass w (map term_def xs))) (drop_more sigs i d lt ∙ ap (λ y. y ∷ drop (i + 1) sigs) (sym is)) ∙ ap (λ o. before made (tree_before o rest)) (sym one) ∙ one_before made t rest ∙ ap (λ ys. before ys rest) (sym added)
+    h ∙ ap (λ xs. before made (terms_pass w (map term_def xs))) (next_is sigs i s d lt is) ∙ ap (λ o. before made (tree_before o rest)) (sym one) ∙ one_before made t rest ∙ ap (λ ys. before ys rest) (sym added)
 
 -- a term whose types are not all declared
 pub term_none : (w : Whole) (ts : List TermDef) (i : ℕ) (made : List Term) (t d : TermDef) (all : Option (List Term)) → i < length ts → t ≡ get_or ts i d → None ≡ term_pass w (term_def t) → all ≡ before made (terms_pass w (map term_def (drop i ts))) → None ≡ all
 term_none w ts i made t d all lt is none h =
     let rest = terms_pass w (map term_def (drop (i + 1) ts)) in
-    sym (h ∙ ap (λ xs. before made (terms_pass w (map term_def xs))) (drop_more ts i d lt ∙ ap (λ y. y ∷ drop (i + 1) ts) (sym is)) ∙ ap (λ o. before made (tree_before o rest)) (sym none))
+    sym (h ∙ ap (λ xs. before made (terms_pass w (map term_def xs))) (next_is ts i t d lt is) ∙ ap (λ o. before made (tree_before o rest)) (sym none))
 
 -- the name of a term is a symbol
 pub named_here : (defs : List Def) (ts : List TermDef) (i : ℕ) (t d : TermDef) → map term_def ts ≡ terms defs → i < length ts → t ≡ get_or ts i d → is_some (index_of (symbols defs) t.term.now) ≡ true

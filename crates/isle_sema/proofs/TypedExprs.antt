@@ -203,7 +203,7 @@ mutual
       let m = mapped (λ (t : TypeId). core_expr.ConstPrim t (sym_of (type_env_of defs).syms name)) (constant_type w name) x h in
       let typed = (or_parts (is_mistyped w (ConstantAt false (Some ty) (constant_type w name))) false kept.typed).0 in
       let is : m.from ≡ ty = same_type m.from ty (ap (λ o. differ o (Some ty)) (sym m.there) ∙ typed) in
-      let known = constant_typed defs env name m.from over.given.types over.given.types_kept m.there in
+      let known = constant_typed defs env name m.from over.given.types m.there in
       let at : const_type env (sym_of (type_env_of defs).syms name) ≡ Some ty = ap (λ (ts : TypeEnv). const_type env (sym_of ts.syms name)) (sym over.given.types) ∙ known ∙ ap Some is in
       subst (IsExprOf env allowed vars ty) m.is (is, at)
   expr_typed defs env allowed scope vars ty (tree.Let ls inner) x over h kept ruled = absurd cc

@@ -19,7 +19,6 @@ use Rattle.isle_core.specs.declared.types.TypeEnv.{TypeEnv}
 use Rattle.isle_core.specs.Calling.{kind_of, may_be_nothing}
 use Rattle.isle_core.specs.Constants.{const_type}
 use Rattle.isle_core.specs.Rule.{Rule, IfLet, Environment, rules_of}
-use Rattle.isle_core.specs.TypedParts.{HasTypedNames}
 use Rattle.isle_ast.specs.Tree as tree
 use Rattle.isle_ast.specs.Tree.{Pattern, Def}
 use Rattle.isle_ast.specs.Views.{patterns_of as seen_patterns}
@@ -35,7 +34,6 @@ use Rattle.isle_declarations.specs.declared.terms.Origin.TheVariants as origin
 use Rattle.isle_declarations.proofs.LookUps.{at_place, named_at}
 use Rattle.isle_declarations.proofs.SymbolLaws.{index_below}
 use Rattle.isle_types.specs.TypeRows.{on}
-use Rattle.isle_types.proofs.SoundTypes.{typed_names as types_have_names}
 use Rattle.isle_sema.specs.Calls.{calls_ruled}
 use Rattle.isle_sema.specs.Scope.{variable}
 use Rattle.isle_sema.specs.Site.{Site, NotBuiltAt}
@@ -60,14 +58,9 @@ use Rattle.isle_sema.proofs.RuleRoots.{place_of, signature_at, rule_made}
 use Rattle.isle_sema.proofs.TypedExprs.{AreKept, IsOver, expr_typed}
 use Rattle.isle_sema.proofs.TypedParts.{IsTypedIn, typed_in}
 use Rattle.isle_sema.proofs.TypedPatterns.{KnowsTerms, AreTakenWell, patterns_typed, numbers_apart, variable_stands}
-use Rattle.isle_sema.proofs.TypedTerms.{IsPlainTerm, plain_terms}
+use Rattle.isle_sema.proofs.TypedTerms.{IsPlainTerm, plain_terms, is_there}
 
 -- ---- what a rule's term is
-
-is_there : {A : Type 0} (xs : List A) (n : ℕ) → n < length xs → (x : A) × (slice_get xs n ≡ Some x)
-is_there [] n lt = absurd (omega arith)
-is_there (x ∷ xs) zero lt = (x, refl)
-is_there (x ∷ xs) (suc n) lt = is_there xs n (omega arith)
 
 -- a term that has a number is there
 signature_there : (w : Whole) (name : List ℕ) (term : TermId) → term_named (terms w.defs) name ≡ Some term → (s : Signature) × (termed w name ≡ Some s)
@@ -129,7 +122,7 @@ counted (p ∷ ps) = ap suc (counted ps)
 knows : (defs : List Def) (env : Environment) → IsTypedIn defs env → KnowsTerms defs env
 knows defs env g = record {
   made = λ name s number ty is at made ret. made_form defs env name s number ty g g.types_kept is at made ret;
-  constant = λ name ty h. ap (λ (ts : TypeEnv). const_type env (sym_of ts.syms name)) (sym g.types) ∙ constant_typed defs env name ty g.types g.types_kept h;
+  constant = λ name ty h. ap (λ (ts : TypeEnv). const_type env (sym_of ts.syms name)) (sym g.types) ∙ constant_typed defs env name ty g.types h;
 }
 
 rule_typed : (defs : List Def) (env : Environment) (i : ℕ) (r : RuleDef) (x : Rule) → IsTypedIn defs env → IsRuleBuilt r → row_of (whole_of defs) r ≡ None → calls_ruled (rule_defs defs) r.rhs ≡ false → rule_pass (whole_of defs) i r ≡ Some x → IsTypedRule env x
@@ -200,10 +193,6 @@ pub typed_rules : (defs : List Def) (env : Environment) → Typed defs env → A
 typed_rules defs env t =
     let g = typed_in t in
     All-from_recursion (IsTypedRule env) env.rules (rules_typed defs env 0 (rule_defs defs) env.rules g (rules_built defs g.built) (none_fault (whole_of defs) [] defs g.rules_kept) g.unruled g.rules)
-
--- its names are typed
-pub names_typed : (defs : List Def) (env : Environment) → Typed defs env → HasTypedNames env
-names_typed defs env t = let g = typed_in t in types_have_names defs env g.types g.types_kept
 
 -- ---- the rules of a term
 

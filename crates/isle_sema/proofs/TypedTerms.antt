@@ -154,7 +154,8 @@ ids_below : (n count end : ℕ) → n + count ≤ end → AllByRecursion (λ (id
 ids_below n zero end le = tt
 ids_below n (suc count) end le = (omega arith, ids_below (n + 1) count end (omega arith))
 
-is_there : {A : Type 0} (xs : List A) (n : ℕ) → n < length xs → (x : A) × (slice_get xs n ≡ Some x)
+-- an item below the length is there
+pub is_there : {A : Type 0} (xs : List A) (n : ℕ) → n < length xs → (x : A) × (slice_get xs n ≡ Some x)
 is_there [] n lt = absurd (omega arith)
 is_there (x ∷ xs) zero lt = (x, refl)
 is_there (x ∷ xs) (suc n) lt = is_there xs n (omega arith)

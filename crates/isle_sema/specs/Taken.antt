@@ -1,9 +1,7 @@
 -- The rules that are taken: they break no row, call no term that has a rule, and have a tree.
 use Rattle.std.specs.Prelude.{ℕ, ◌+◌, List, [], ◌∷◌, Bool, ◌||◌, Option, Some, None, is_some, if◌then◌else◌}
 use Rattle.std.specs.List.{list_any}
-use Rattle.isle_core.specs.declared.types.TermEnv.{TermEnv}
-use Rattle.isle_core.specs.Rule.{Rule as CoreRule, Environment}
-use Rattle.isle_core.specs.RuleViews.{environment}
+use Rattle.isle_core.specs.Rule.{Rule as CoreRule}
 use Rattle.isle_ast.specs.Tree.{Def, Rule}
 use Rattle.isle_declarations.specs.Signatures.{RuleDef}
 use Rattle.isle_types.specs.declared.row.Row.{Row}
@@ -12,8 +10,6 @@ use Rattle.isle_sema.specs.PatternPass.{tree_before}
 use Rattle.isle_sema.specs.RulePass.{right_side_of, rule_pass}
 use Rattle.isle_sema.specs.Fault.{OfRules, broken_in}
 use Rattle.isle_sema.specs.Judging.{is_ruled_call}
-use Rattle.isle_types.specs.TypeEnvironment.{type_env_of}
-use Rattle.isle_sema.specs.Typing.{Typed}
 
 -- the definition that a rule is
 abbrev pub def_of : RuleDef → Def
@@ -35,8 +31,3 @@ taken_rule w i r = if is_some (row_of w r) || calls_rule w r then None else rule
 abbrev pub taken_rules : Whole → ℕ → List RuleDef → Option (List CoreRule)
 taken_rules w i [] = Some []
 taken_rules w i (r ∷ rs) = tree_before (taken_rule w i r) (taken_rules w (i + 1) rs)
-
--- the terms and rules of definitions, or nothing where they give no environment
-abbrev pub IsTermEnvOf : List Def → Option TermEnv → Type 0
-IsTermEnvOf defs None = (env : Environment) → Typed defs env → ⊥
-IsTermEnvOf defs (Some t) = Typed defs (environment (type_env_of defs) t)

@@ -4,7 +4,7 @@ ghost use Rattle.std.specs.Prelude.{◌≡◌, IfOk, Some, [], map, option_map};
 ghost use Rattle.isle_core.specs.RuleViews.{rule as elaborated_rule, pattern as elaborated_pattern, expr as elaborated_expr};
 ghost use Rattle.isle_ast.specs.Views.{defs as seen_defs};
 ghost use Rattle.isle_declarations.specs.Symbols.{index_of};
-ghost use Rattle.isle_declarations.specs.Collected.{rule as seen};
+ghost use Rattle.isle_declarations.specs.Collected.{rule as seen, AreRules};
 ghost use Rattle.isle_declarations.specs.Signatures.{rule_defs};
 ghost use Rattle.isle_sema.specs.RulePass.{rule_from};
 ghost use Rattle.isle_sema.specs.Known.{whole, IsHead};
@@ -93,11 +93,15 @@ fn rule_at(
     }
 }
 
-/// Returns the rules, numbered in order: nothing where one is not taken.
-pub fn rules_at(alloc: Global, known: &Known) -> Result<Option<Vec<Rule>>, AllocError>
+/// Returns these rules of the definitions, numbered in order: nothing where one is not taken.
+pub fn rules_at(
+    alloc: Global,
+    known: &Known,
+    given: &[RuleDef],
+) -> Result<Option<Vec<Rule>>, AllocError>
+    requires { AreRules (seen_defs known.now) given.now }
     ensures { IfOk result (λ rules. option_map (λ rs. map elaborated_rule rs.items) rules ≡ taken_rules (whole known.now) 0 (rule_defs (seen_defs known.now))) }
 {
-    let given = known.rules();
     let mut rules = Vec::with_capacity(alloc, given.len())?;
     for (number, rule) in given.iter().enumerate() {
         match rule_at(alloc, known, number, rule)? {

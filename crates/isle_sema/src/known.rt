@@ -4,13 +4,12 @@ ghost use Rattle.std.specs.Prelude.{◌≡◌, ℕ, List, Option, Some, map};
 ghost use Rattle.isle_declarations.specs.Signatures.{Signature};
 ghost use Rattle.isle_ast.specs.Views.{defs as seen};
 ghost use Rattle.isle_declarations.specs.Symbols.{index_of, symbols, sym_of};
-ghost use Rattle.isle_declarations.specs.Collected.{AreRules};
 ghost use Rattle.isle_declarations.specs.Terms.{is_made};
 ghost use Rattle.isle_sema.specs.Whole.{Whole, termed, arg_types, constant_type};
 ghost use Rattle.isle_sema.specs.Known.{whole, MayBeCalled};
 
 use isle_core::{Sym, Term, TermId, Text, TypeEnv, TypeId};
-use isle_declarations::{Declarations, Origin, RuleDef, Terms};
+use isle_declarations::{Declarations, Origin, Terms};
 use isle_types::Before;
 use std::marker::Model;
 
@@ -103,20 +102,6 @@ impl<'s, 'd> Known<'s, 'd> {
         }
     }
 
-    /// Returns the number of a name.
-    pub fn number(&self, name: &Text) -> Option<usize>
-        ensures { result ≡ index_of (symbols (seen self.now)) name.now }
-    {
-        self.declarations.number(name)
-    }
-
-    /// Returns the rules.
-    pub fn rules(&self) -> &'s [RuleDef<'d>]
-        ensures { AreRules (seen self.now) result.now }
-    {
-        self.declarations.rules()
-    }
-
     /// Returns the term of the name of this number.
     pub fn at(&self, number: usize) -> Option<Called<'s>>
         ensures { (name : List ℕ) → index_of (symbols (seen self.now)) name ≡ Some number → MayBeCalled (whole self.now) (termed (whole self.now) name) result }
@@ -141,7 +126,7 @@ impl<'s, 'd> Known<'s, 'd> {
     pub fn called(&self, name: &Text) -> Option<Called<'s>>
         ensures { MayBeCalled (whole self.now) (termed (whole self.now) name.now) result }
     {
-        match self.number(name) {
+        match self.declarations.number(name) {
             Some(number) => self.at(number),
             None => None,
         }

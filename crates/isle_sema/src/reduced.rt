@@ -36,7 +36,7 @@ fn low_64(n: i128) -> u64
 }
 
 // The number of the type that a number wraps to, u128 as its 128 signed bits.
-#[tactic(auto, using(crate::proofs::ReducedLaws::reduced_is))]
+#[tactic(auto, using(crate::proofs::ReducedLaws::reduced_is), unfolding(isle_core::specs::Int::wrapped))]
 fn reduced(ty: IntType, n: i128) -> i128
     ensures { result ≡ reduced ty n }
 {

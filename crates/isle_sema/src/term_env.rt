@@ -1,24 +1,27 @@
 //! The terms and rules of definitions.
 
-ghost use Rattle.std.specs.Prelude.{◌≡◌, IfOk, None, true, map, option_map};
-ghost use Rattle.std.specs.List.{list_all, list_any};
-ghost use Rattle.isle_core.specs.RuleViews.{rule as elaborated_rule};
+ghost use Rattle.std.specs.Prelude.{◌≡◌, IfOk, IfErr, None, map, option_map};
+ghost use Rattle.std.specs.List.{list_any};
+ghost use Rattle.isle_core.specs.RuleViews.{rule as elaborated_rule, environment};
 ghost use Rattle.isle_ast.specs.Views.{defs as seen};
 ghost use Rattle.isle_declarations.specs.Signatures.{signatures, externs, rule_defs};
-ghost use Rattle.isle_sema.specs.Language.{is_built_def};
 ghost use Rattle.isle_declarations.specs.DeclaredTypes.{made_of};
 ghost use Rattle.isle_types.specs.Fault.{type_fault};
 ghost use Rattle.isle_types.specs.Gathered.{IsBefore};
 ghost use Rattle.isle_types.specs.TypeEnvironment.{type_env_of};
 ghost use Rattle.isle_sema.specs.KnownOf.{AreKnown};
 ghost use Rattle.isle_sema.specs.Known.{whole};
-ghost use Rattle.isle_sema.specs.Taken.{taken_rules, IsTermEnvOf};
+ghost use Rattle.isle_sema.specs.Taken.{taken_rules};
 ghost use Rattle.isle_sema.specs.Tests.{has_undeclared, is_headless};
+ghost use Rattle.isle_sema.specs.Typing.{TypedOnly, SomeTyped, IsUntyped};
 
+use crate::bound_once::any_binds_twice;
 use crate::elaborated_rules::rules_at;
 use crate::elaborated_terms::terms_of;
 use crate::known::Known;
+use crate::language::are_built_forms;
 use crate::signature_faults::are_misdeclared;
+use crate::typing::EnvError;
 use isle_core::{List, Rule, Term, TermEnv, Text, TypeEnv};
 use isle_declarations::{Declarations, Terms, terms_of as gathered_terms};
 use isle_types::Before;
@@ -70,47 +73,53 @@ fn rules_of<'d>(
         terms,
         typed,
     };
-    rules_at(alloc, &known)
+    rules_at(alloc, &known, declarations.rules())
 }
 
-/// Returns the terms and rules of definitions, whose types make these: nothing where they break a row of the typing table, or
-/// are not built.
+/// Returns the terms and rules of definitions, whose types make these: `NotYet` comes where they are not all of forms that are
+/// built, or break a row of the typing table.
 pub fn term_env<'d>(
     alloc: Global,
     declarations: &Declarations<'d>,
     before: &Before<'d>,
     types: &TypeEnv,
     made: &'d [List<Text>],
-) -> Result<Option<TermEnv>, AllocError>
-    requires built { list_all is_built_def (seen declarations.now) ≡ true }
+) -> Result<TermEnv, EnvError>
     requires sound { type_fault (seen declarations.now) ≡ None }
     requires before { IsBefore (seen declarations.now) before.now }
     requires types { types.now ≡ type_env_of (seen declarations.now) }
     requires made { made.now ≡ map made_of (seen declarations.now) }
-    ensures { IfOk result (λ found. IsTermEnvOf (seen declarations.now) found) }
+    ensures ok { IfOk result (λ terms. TypedOnly (seen declarations.now) (environment types.now terms)) }
+    ensures err { IfErr result (λ e. IsUntyped (SomeTyped (seen declarations.now)) e (seen declarations.now)) }
 {
+    if !are_built_forms(declarations.defs()) {
+        return Err(EnvError::NotYet);
+    }
+    if any_binds_twice(alloc, declarations)? {
+        return Err(EnvError::NotYet);
+    }
     if are_misdeclared(declarations, before) {
-        return Ok(None);
+        return Err(EnvError::NotYet);
     }
     if declarations.any_repeat() {
-        return Ok(None);
+        return Err(EnvError::NotYet);
     }
     if has_undeclared(declarations) {
-        return Ok(None);
+        return Err(EnvError::NotYet);
     }
     if has_misfit_head(declarations) {
-        return Ok(None);
+        return Err(EnvError::NotYet);
     }
     let terms = gathered_terms(alloc, declarations, made)?;
     let Some(typed) = terms_of(alloc, declarations, before, &terms)? else {
-        return Ok(None);
+        return Err(EnvError::NotYet);
     };
     let Some(rules) = rules_of(alloc, declarations, before, types, &terms, typed.as_slice())? else {
-        return Ok(None);
+        return Err(EnvError::NotYet);
     };
-    Ok(Some(TermEnv {
+    Ok(TermEnv {
         terms: List::new(typed),
         rules: List::new(rules),
         converters: List::new(Vec::new(alloc)),
-    }))
+    })
 }

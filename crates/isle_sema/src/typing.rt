@@ -5,11 +5,8 @@ ghost use Rattle.isle_declarations.specs.DeclaredTypes.{made_of};
 ghost use Rattle.isle_types.specs.Fault.{type_fault};
 ghost use Rattle.isle_types.specs.Gathered.{IsBefore};
 ghost use Rattle.isle_types.specs.TypeEnvironment.{type_env_of};
-ghost use Rattle.isle_sema.specs.Taken.{IsTermEnvOf};
 ghost use Rattle.isle_sema.specs.Typing.{TypesFrom, TypedOnly, SomeTypes, SomeTyped, IsUntyped};
 
-use crate::bound_once::any_binds_twice;
-use crate::language::are_built_forms;
 use crate::term_env::term_env;
 use isle_ast::Def;
 use isle_core::{Error, List, OutOfMemory, TermEnv, Text, TypeEnv};
@@ -49,27 +46,56 @@ impl From<OutOfMemory> for EnvError {
     }
 }
 
-// The terms and rules of definitions: nothing where they are not all of forms that are built, or one is wrong.
-fn built_terms<'d>(
+// The types and constants of definitions that declare this.
+fn built_types<'k, 'd>(
+    alloc: Global,
+    declarations: &'k Declarations<'d>,
+    before: &'k Before<'d>,
+) -> Result<TypeEnv, EnvError>
+    requires sound { type_fault (seen declarations.now) ≡ None }
+    requires before { IsBefore (seen declarations.now) before.now }
+    ensures ok { IfOk result (λ env. TypesFrom (seen declarations.now) env) }
+    ensures err { IfErr result (λ e. IsUntyped (SomeTypes (seen declarations.now)) e (seen declarations.now)) }
+{
+    Ok(type_env(alloc, declarations, before)?)
+}
+
+// The environment of definitions that declare this.
+fn built_env<'d>(
     alloc: Global,
     declarations: &Declarations<'d>,
     before: &Before<'d>,
-    types: &TypeEnv,
     made: &'d [List<Text>],
-) -> Result<Option<TermEnv>, AllocError>
+) -> Result<(TypeEnv, TermEnv), EnvError>
     requires sound { type_fault (seen declarations.now) ≡ None }
     requires before { IsBefore (seen declarations.now) before.now }
-    requires types { types.now ≡ type_env_of (seen declarations.now) }
     requires made { made.now ≡ map made_of (seen declarations.now) }
-    ensures { IfOk result (λ found. IsTermEnvOf (seen declarations.now) found) }
+    ensures ok { IfOk result (λ envs. TypedOnly (seen declarations.now) (environment envs.0 envs.1)) }
+    ensures err { IfErr result (λ e. IsUntyped (SomeTyped (seen declarations.now)) e (seen declarations.now)) }
 {
-    if !are_built_forms(declarations.defs()) {
-        return Ok(None);
+    let types = type_env(alloc, declarations, before)?;
+    let terms = term_env(alloc, declarations, before, &types, made)?;
+    Ok((types, terms))
+}
+
+// What definitions declare whose types make these terms, where none of their types and constants is wrong.
+fn gathered<'d>(
+    alloc: Global,
+    defs: &'d [Def],
+    made: &'d [List<Text>],
+) -> Result<(Declarations<'d>, Before<'d>), EnvError>
+    requires { made.now ≡ map made_of (seen defs.now) }
+    ensures declarations { IfOk result (λ found. found.0 ≡ defs.now) }
+    ensures sound { IfOk result (λ found. type_fault (seen found.0) ≡ None) }
+    ensures before { IfOk result (λ found. IsBefore (seen found.0) found.1) }
+    ensures made { IfOk result (λ found. made.now ≡ map made_of (seen found.0)) }
+    ensures no_types { IfErr result (λ e. IsUntyped (SomeTypes (seen defs.now)) e (seen defs.now)) }
+    ensures no_terms { IfErr result (λ e. IsUntyped (SomeTyped (seen defs.now)) e (seen defs.now)) }
+{
+    match check_types(alloc, defs, made)? {
+        Ok(before) => Ok((Declarations::gather(alloc, defs, made)?, before)),
+        Err(error) => Err(EnvError::Typing(error)),
     }
-    if any_binds_twice(alloc, declarations)? {
-        return Ok(None);
-    }
-    term_env(alloc, declarations, before, types, made)
 }
 
 /// Types the definitions' symbols, types and constants, of all forms (`specs/Typing.antt`). `Typing` comes exactly where one of
@@ -80,49 +106,30 @@ pub fn type_env_from_ast(alloc: Global, defs: &[Def]) -> Result<TypeEnv, EnvErro
     ensures err { IfErr result (λ e. IsUntyped (SomeTypes (seen defs.now)) e (seen defs.now)) }
 {
     let made = made_each(alloc, defs)?;
-    let before = match check_types(alloc, defs, made.as_slice())? {
-        Ok(before) => before,
-        Err(error) => return Err(EnvError::Typing(error)),
-    };
-    let declarations = Declarations::gather(alloc, defs, made.as_slice())?;
-    Ok(type_env(alloc, &declarations, &before)?)
+    let found = gathered(alloc, defs, made.as_slice())?;
+    built_types(alloc, &found.0, &found.1)
 }
 
 /// Types the terms, rules and converters of the definitions, whose types are given (`specs/Typing.antt`). `NotYet` comes where
-/// they are not all of forms that are built, a rule calls a term without an external constructor, or a definition is wrong;
-/// beside it only want of memory.
+/// they are not all of forms that are built, a rule calls a term that has rules, or a definition is wrong; beside it only want
+/// of memory.
 pub fn term_env_from_ast(alloc: Global, env: &TypeEnv, defs: &[Def]) -> Result<TermEnv, EnvError>
     requires { TypesFrom (seen defs.now) env.now }
     ensures ok { IfOk result (λ terms. TypedOnly (seen defs.now) (environment env.now terms)) }
     ensures err { IfErr result (λ e. IsUntyped (SomeTyped (seen defs.now)) e (seen defs.now)) }
 {
     let made = made_each(alloc, defs)?;
-    let before = match check_types(alloc, defs, made.as_slice())? {
-        Ok(before) => before,
-        Err(error) => return Err(EnvError::Typing(error)),
-    };
-    let declarations = Declarations::gather(alloc, defs, made.as_slice())?;
-    match built_terms(alloc, &declarations, &before, env, made.as_slice())? {
-        Some(terms) => Ok(terms),
-        None => Err(EnvError::NotYet),
-    }
+    let found = gathered(alloc, defs, made.as_slice())?;
+    term_env(alloc, &found.0, &found.1, env, made.as_slice())
 }
 
-/// Types the definitions: returns their environment, as `type_env_from_ast` and `term_env_from_ast` give it, with each name
-/// looked up once where it stands. The errors are theirs.
+/// Types the definitions: returns their environment, as `type_env_from_ast` and `term_env_from_ast` give it, with types and
+/// constants judged, and names gathered, once for both. The errors are theirs.
 pub fn env_from_ast(alloc: Global, defs: &[Def]) -> Result<(TypeEnv, TermEnv), EnvError>
     ensures ok { IfOk result (λ envs. TypedOnly (seen defs.now) (environment envs.0 envs.1)) }
     ensures err { IfErr result (λ e. IsUntyped (SomeTyped (seen defs.now)) e (seen defs.now)) }
 {
     let made = made_each(alloc, defs)?;
-    let before = match check_types(alloc, defs, made.as_slice())? {
-        Ok(before) => before,
-        Err(error) => return Err(EnvError::Typing(error)),
-    };
-    let declarations = Declarations::gather(alloc, defs, made.as_slice())?;
-    let types = type_env(alloc, &declarations, &before)?;
-    match built_terms(alloc, &declarations, &before, &types, made.as_slice())? {
-        Some(terms) => Ok((types, terms)),
-        None => Err(EnvError::NotYet),
-    }
+    let found = gathered(alloc, defs, made.as_slice())?;
+    built_env(alloc, &found.0, &found.1, made.as_slice())
 }
