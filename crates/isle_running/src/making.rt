@@ -24,9 +24,8 @@ fn read_field(
 ) -> Result<Option<(Text, Value)>, AllocError>
     ensures { IfOk result (λ read. option_map const read ≡ field_read next.now.0 (read_value (within around.now frame.now) (locals frame.now.locals) next.now.1)) }
 {
-    let name = Text::copied(alloc, next.0.as_str())?;
     match value_in(read_value(alloc, around, frame, &next.1)?) {
-        Some(value) => Ok(Some((name, value))),
+        Some(value) => Ok(Some((Text::copied(alloc, next.0.as_str())?, value))),
         None => Ok(None),
     }
 }
