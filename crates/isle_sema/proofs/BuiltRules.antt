@@ -1,10 +1,9 @@
 -- What typed rules are: built, in scope, on built terms, and of their term's types.
-use Rattle.std.proofs.Common.{◌≡◌, ℕ, suc, ◌≤◌, List, [], ◌∷◌, length, map, Option, Some, None, refl, sym, ap, ◌∙◌, subst, arith}
-use Rattle.std.specs.Prelude.{All, IsSomeAnd, option_map, get_or, slice_get}
+use Rattle.std.proofs.Common.{◌≡◌, ℕ, suc, ◌≤◌, List, [], ◌∷◌, length, Option, Some, None, refl, sym, ap, ◌∙◌, subst, arith}
+use Rattle.std.specs.Prelude.{All, option_map, get_or, slice_get}
 use Rattle.std.specs.List.{AllByRecursion}
 use Rattle.std.proofs.lemmas.List.{length-map}
 use Rattle.std.proofs.lemmas.List.Elements.{All-from_recursion}
-use Rattle.std.proofs.lemmas.Option.{same_Some}
 use Rattle.isle_core.specs.declared.TermId.{TermId}
 use Rattle.isle_core.specs.declared.TypeId.{TypeId}
 use Rattle.isle_core.specs.declared.types.Fields.{Fields}
@@ -25,7 +24,6 @@ use Rattle.isle_core.specs.TypedParts.{field_types}
 use Rattle.isle_ast.specs.Tree.{Def}
 use Rattle.isle_types.proofs.SoundTypes.{form_sound}
 use Rattle.isle_sema.specs.Typing.{Typed}
-use Rattle.isle_sema.specs.TypedRule.{all_typed}
 use Rattle.isle_sema.proofs.TypedParts.{typed_in}
 use Rattle.isle_sema.proofs.TypedRules.{typed_rules, typed_of}
 use Rattle.isle_sema.proofs.TypedSides.{built_expr, scoped_expr, built_terms}

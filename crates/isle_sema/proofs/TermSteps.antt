@@ -50,17 +50,17 @@ pub type_none : (defs : List Def) (types : List TypeId) (name : List ℕ) (left 
 type_none defs types name left rest all is none h = sym (h ∙ ap (λ names. before types (types_named defs names)) is ∙ ap (λ o. before types (tree_before o (types_named defs rest))) (sym none))
 
 -- one term more
-pub term_more : (w : Whole) (sigs : List TermDef) (i : ℕ) (made more : List Term) (s d : TermDef) (t : Term) (all : Option (List Term)) → i < length sigs → s ≡ get_or sigs i d → more ≡ made ++ t ∷ [] → Some t ≡ term_pass w (term_def s)
-    → all ≡ before made (terms_pass w (map term_def (drop i sigs))) → all ≡ before more (terms_pass w (map term_def (drop (i + 1) sigs)))
-term_more w sigs i made more s d t all lt is added one h =
+pub term_more : (w : Whole) (sigs : List TermDef) (i : ℕ) (typed more : List Term) (s d : TermDef) (t : Term) (all : Option (List Term)) → i < length sigs → s ≡ get_or sigs i d → more ≡ typed ++ t ∷ [] → Some t ≡ term_pass w (term_def s)
+    → all ≡ before typed (terms_pass w (map term_def (drop i sigs))) → all ≡ before more (terms_pass w (map term_def (drop (i + 1) sigs)))
+term_more w sigs i typed more s d t all lt is added one h =
     let rest = terms_pass w (map term_def (drop (i + 1) sigs)) in
-    h ∙ ap (λ xs. before made (terms_pass w (map term_def xs))) (next_is sigs i s d lt is) ∙ ap (λ o. before made (tree_before o rest)) (sym one) ∙ one_before made t rest ∙ ap (λ ys. before ys rest) (sym added)
+    h ∙ ap (λ xs. before typed (terms_pass w (map term_def xs))) (next_is sigs i s d lt is) ∙ ap (λ o. before typed (tree_before o rest)) (sym one) ∙ one_before typed t rest ∙ ap (λ ys. before ys rest) (sym added)
 
 -- a term whose types are not all declared
-pub term_none : (w : Whole) (ts : List TermDef) (i : ℕ) (made : List Term) (t d : TermDef) (all : Option (List Term)) → i < length ts → t ≡ get_or ts i d → None ≡ term_pass w (term_def t) → all ≡ before made (terms_pass w (map term_def (drop i ts))) → None ≡ all
-term_none w ts i made t d all lt is none h =
+pub term_none : (w : Whole) (ts : List TermDef) (i : ℕ) (typed : List Term) (t d : TermDef) (all : Option (List Term)) → i < length ts → t ≡ get_or ts i d → None ≡ term_pass w (term_def t) → all ≡ before typed (terms_pass w (map term_def (drop i ts))) → None ≡ all
+term_none w ts i typed t d all lt is none h =
     let rest = terms_pass w (map term_def (drop (i + 1) ts)) in
-    sym (h ∙ ap (λ xs. before made (terms_pass w (map term_def xs))) (next_is ts i t d lt is) ∙ ap (λ o. before made (tree_before o rest)) (sym none))
+    sym (h ∙ ap (λ xs. before typed (terms_pass w (map term_def xs))) (next_is ts i t d lt is) ∙ ap (λ o. before typed (tree_before o rest)) (sym none))
 
 -- the name of a term is a symbol
 pub named_here : (defs : List Def) (ts : List TermDef) (i : ℕ) (t d : TermDef) → map term_def ts ≡ terms defs → i < length ts → t ≡ get_or ts i d → is_some (index_of (symbols defs) t.term.now) ≡ true

@@ -1,5 +1,5 @@
 -- What typed right sides are: built, in scope, and on built terms.
-use Rattle.std.proofs.Common.{◌≡◌, ℕ, Bool, true, false, List, [], ◌∷◌, ◌++◌, Option, Some, None, refl, sym, subst, ⊎_elim}
+use Rattle.std.proofs.Common.{◌≡◌, ℕ, Bool, true, false, List, [], ◌∷◌, Option, Some, None, refl, sym, subst, ⊎_elim}
 use Rattle.std.specs.Prelude.{Contains, slice_get, IsSomeAnd}
 use Rattle.std.proofs.lemmas.List.Elements.{Contains-append_left, Contains-append_right, Contains-append_cases}
 use Rattle.isle_core.specs.declared.TypeId.{TypeId}

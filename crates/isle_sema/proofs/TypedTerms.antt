@@ -211,10 +211,10 @@ typed_types defs env i t h at =
 
 -- ---- their names
 
-names_are : (w : Whole) (sigs : List Signature) (made : List Term) → terms_pass w sigs ≡ Some made → AreAmong w.types.syms sigs → map (λ (t : Term). symbol_text w.types t.name) made ≡ terms_of sigs
-names_are w [] made h among = ap (map (λ (t : Term). symbol_text w.types t.name)) (sym (same_Some [] made h))
-names_are w (s ∷ sigs) made h among =
-    let f = first_there (term_pass w s) (terms_pass w sigs) made h in
+names_are : (w : Whole) (sigs : List Signature) (typed : List Term) → terms_pass w sigs ≡ Some typed → AreAmong w.types.syms sigs → map (λ (t : Term). symbol_text w.types t.name) typed ≡ terms_of sigs
+names_are w [] typed h among = ap (map (λ (t : Term). symbol_text w.types t.name)) (sym (same_Some [] typed h))
+names_are w (s ∷ sigs) typed h among =
+    let f = first_there (term_pass w s) (terms_pass w sigs) typed h in
     let is = term_is w s f.first f.here in
     ap (map (λ (t : Term). symbol_text w.types t.name)) f.all
     ∙ ap (λ name. name ∷ map (λ (t : Term). symbol_text w.types t.name) f.others) (ap (λ (t : Term). symbol_text w.types t.name) (sym is.is) ∙ text_of w.types.syms s.term among.0.0 among.0.1)

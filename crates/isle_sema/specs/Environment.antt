@@ -71,4 +71,4 @@ env_over types terms rules = record { types = types; terms = terms; rules = rule
 
 -- the environment of definitions, where their forms are built and their types are known
 abbrev pub env_of : List Def → Option Environment
-env_of defs = option_and_then (λ (made : List Term). option_map (env_over (type_env_of defs) made) (rules_pass (whole_of defs) 0 (rule_defs defs))) (terms_pass (whole_of defs) (terms defs))
+env_of defs = option_and_then (λ (typed : List Term). option_map (env_over (type_env_of defs) typed) (rules_pass (whole_of defs) 0 (rule_defs defs))) (terms_pass (whole_of defs) (terms defs))

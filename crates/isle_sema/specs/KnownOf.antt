@@ -14,8 +14,8 @@ use Rattle.isle_sema.specs.Environment.{terms_pass}
 use Rattle.isle_sema.specs.Known.{whole}
 
 -- the names of types and constants, the types and constants, and the terms of definitions, with their types
-pub record AreKnown (ds : List CodeDef) (names : Before) (given : TypeEnv) (found : Terms) (made : List Term) : Type 0 where
+pub record AreKnown (ds : List CodeDef) (names : Before) (given : TypeEnv) (found : Terms) (typed_terms : List Term) : Type 0 where
   pub before : IsBefore (seen ds) names
   pub types : given ≡ type_env_of (seen ds)
   pub termed : AreTerms (seen ds) found
-  pub typed : terms_pass (whole ds) (terms (seen ds)) ≡ Some made
+  pub typed : terms_pass (whole ds) (terms (seen ds)) ≡ Some typed_terms

@@ -78,7 +78,7 @@ fn built_env<'d>(
     Ok((types, terms))
 }
 
-// What definitions declare whose types make these terms, where none of their types and constants is wrong.
+// What definitions declare, whose types make these terms, where no type and no constant is wrong.
 fn gathered<'d>(
     alloc: Global,
     defs: &'d [Def],

@@ -1,4 +1,4 @@
-use Rattle.std.proofs.Common.{sym, ap, ◌∙◌, ◌++◌, cond, true, ◌+◌}
+use Rattle.std.proofs.Common.{ap, ◌∙◌, ◌++◌, cond, true, ◌+◌}
 use Rattle.isle_declarations.specs.Repeats.{repeats_after}
 use Rattle.isle_sema.proofs.MetVariables.{names_from, met_more}
 use Rattle.isle_sema.proofs.bound_once.+meeting.Goals as goal

@@ -1,4 +1,4 @@
-use Rattle.std.proofs.Common.{◌≡◌, rules, [], map, sym, ◌∙◌}
+use Rattle.std.proofs.Common.{map}
 use Rattle.isle_ast.specs.Views.{pattern, patterns_of}
 use Rattle.isle_sema.specs.VariableNames.{variables_of}
 use Rattle.isle_sema.proofs.MetVariables.{found_all}

@@ -1,4 +1,4 @@
-use Rattle.std.proofs.Common.{◌≡◌, List, map}
+use Rattle.std.proofs.Common.{◌≡◌, List}
 use Rattle.std.specs.Prelude.{drop}
 use Rattle.isle_ast.specs.Tree.{Def}
 use Rattle.isle_types.specs.Gathered.{IsBefore}

@@ -4,7 +4,7 @@ use Rattle.std.specs.Option.{option_copied}
 use Rattle.std.proofs.lemmas.Option.{slice_get-map}
 use Rattle.isle_ast.specs.declared.tree.Def.{Def}
 use Rattle.isle_ast.specs.Views.{defs as seen}
-use Rattle.isle_declarations.specs.Signatures.{Signature, externs, rule_defs}
+use Rattle.isle_declarations.specs.Signatures.{externs, rule_defs}
 use Rattle.isle_declarations.specs.Heads.{extern_terms, heads_of}
 use Rattle.isle_declarations.specs.Tables.{IsFirstPlace}
 use Rattle.isle_declarations.specs.TermViews.{term_def}

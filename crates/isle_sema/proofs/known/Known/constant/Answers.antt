@@ -1,12 +1,11 @@
 use Rattle.std.proofs.Common.{◌≡◌, rules, Some, None, List, ap, sym, ◌∙◌, subst}
-use Rattle.std.specs.Prelude.{option_map, slice_get}
+use Rattle.std.specs.Prelude.{slice_get}
 use Rattle.std.specs.Option.{option_copied}
 use Rattle.isle_ast.specs.declared.tree.Def.{Def}
 use Rattle.isle_declarations.specs.Symbols.{index_of}
 use Rattle.isle_declarations.proofs.LookUps.{got, there}
 use Rattle.isle_sema.specs.KnownOf.{AreKnown}
 use Rattle.isle_sema.specs.Known.{whole}
-use Rattle.isle_sema.specs.Whole.{constant_type}
 use Rattle.isle_sema.proofs.KnownLaws.{constant_at}
 use Rattle.isle_sema.proofs.known.Known.constant.Goals as goal
 
