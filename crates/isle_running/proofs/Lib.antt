@@ -5,6 +5,7 @@ pub mod LastBound
 pub mod MadeFields
 pub mod Makes
 pub mod NamedValues
+pub mod NotBuilt
 pub mod ReadValues
 pub mod SourceLaws
 pub mod Tests

@@ -1,9 +1,14 @@
 use Rattle.std.proofs.Common.{rules, ◌≡◌, true, false, length}
 use Rattle.isle_tree.specs.Run as run
 use Rattle.isle_tree.specs.Views.{body}
-use Rattle.isle_running.specs.RunViews.{held, within}
+use Rattle.isle_running.specs.RunViews.{held, locals, within, state}
 use Rattle.isle_running.proofs.Fits.{cut_back, cut_follows, fits_run, fits_not}
+use Rattle.isle_running.proofs.NotBuilt.{stuck}
 use Rattle.isle_running.proofs.run.+running.Goals as goal
+
+pub run_stmt-returns-in-LetList-clause-runs : goal.run_stmt-returns-in-LetList-clause-runs
+run_stmt-returns-in-LetList-clause-runs t c =
+    stuck (within c.args.around.now c.args.frame.now) (locals c.args.frame.now.locals) (state c.args.frame.now) c.args.statement.now c.in-LetList.is
 
 pub run_where-returns-in_ok-end-clause-runs : goal.run_where-returns-in_ok-end-clause-runs
 run_where-returns-in_ok-end-clause-runs t c =
