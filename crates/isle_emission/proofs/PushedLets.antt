@@ -33,7 +33,7 @@ lets_none : (s : Setting) (bound : List ℕ) (xs : List BindingId) → lets s bo
 lets_none s bound [] = refl
 lets_none s bound (x ∷ xs) = none_before (lets s (bound ++ x.0 ∷ []) xs None) (lets_none s (bound ++ x.0 ∷ []) xs) x.0 (bound_expr s bound x)
 
-grown : (first old new : List ℕ) → (more : List ℕ) × (old ≡ first ++ more) → (more : List ℕ) × (new ≡ old ++ more) → (more : List ℕ) × (new ≡ first ++ more)
+pub grown : (first old new : List ℕ) → (more : List ℕ) × (old ≡ first ++ more) → (more : List ℕ) × (new ≡ old ++ more) → (more : List ℕ) × (new ≡ first ++ more)
 grown first old new h k = (h.0 ++ k.0, k.1 ∙ ap (λ ls. ls ++ k.0) h.1 ∙ append_assoc first h.0 k.0)
 
 -- ---- lets that were pushed

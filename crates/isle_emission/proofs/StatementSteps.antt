@@ -1,5 +1,5 @@
 -- The loop that makes statements, and what one statement is made of, over plain variables.
-use Rattle.std.proofs.Common.{◌≡◌, ℕ, ◌+◌, ◌<◌, List, [], ◌∷◌, ◌++◌, length, drop, get_or, map, false, true, eqb, Option, Some, None, refl, sym, ap, ◌∙◌, append_assoc, suc, arith}
+use Rattle.std.proofs.Common.{◌≡◌, ℕ, ◌+◌, ◌<◌, List, [], ◌∷◌, ◌++◌, length, drop, get_or, map, Bool, false, true, eqb, Option, Some, None, refl, sym, ap, ◌∙◌, suc, arith}
 use Rattle.std.proofs.lemmas.Bool.{eqb-true}
 use Rattle.std.proofs.lemmas.List.{drop_more}
 use Rattle.isle_core.specs.declared.BindingId.{BindingId}
@@ -20,8 +20,8 @@ use Rattle.isle_tree.specs.Views.{stmt}
 use Rattle.isle_tree.proofs.Sees.{stmt-if_eq, stmt-if_let}
 use Rattle.isle_simulation.specs.Completed.{step_binds}
 use Rattle.isle_simulation.specs.Statements.{stmt_before, lets, if_eq, if_let, arm_stmt}
-use Rattle.isle_emission.specs.BodyOnto.{body_onto}
-use Rattle.isle_emission.specs.MadeBodies.{made_body, made_control, made_arms}
+use Rattle.isle_emission.specs.BodyOnto.{body_onto, lets_onto}
+use Rattle.isle_emission.specs.MadeBodies.{made_body, made_control, made_arms, PushesStep}
 use Rattle.isle_emission.specs.PushedLets.{PushesLets}
 use Rattle.isle_emission.proofs.Onto.{onto_pushed, onto_done, onto_none}
 
@@ -31,13 +31,10 @@ use Rattle.isle_emission.proofs.Onto.{onto_pushed, onto_done, onto_none}
 abbrev pub Steps : Setting → List ℕ → List CodeStmt → List CodeStep → Option Body → Option Body
 Steps s bound out xs end = body_onto (map stmt out) (made_body s bound (block_of (map step xs)) end)
 
--- the first of the steps that are left
-left_steps : (s : Setting) (xs : List CodeStep) (i : ℕ) (x : CodeStep) (seen : SeenStep) (bound : List ℕ) (out : List CodeStmt) (end : Option Body) → i < length xs → x ≡ get_or xs i x → step x ≡ seen
-    → body_onto (map stmt out) (made_body s bound (Step seen.0 seen.1 (block_of (map step (drop (i + 1) xs)))) end) ≡ Steps s bound out (drop i xs) end
-left_steps s xs i x seen bound out end lt item seen_x =
-    ap (λ k. body_onto (map stmt out) (made_body s bound (block_of (k ∷ map step (drop (i + 1) xs))) end)) (sym seen_x)
-    ∙ ap (λ y. Steps s bound out (y ∷ drop (i + 1) xs) end) item
-    ∙ ap (λ ys. Steps s bound out ys end) (sym (drop_more xs i x lt))
+-- the first of steps, as it is seen
+first_step : (s : Setting) (x : CodeStep) (xs : List CodeStep) (seen : SeenStep) (bound : List ℕ) (out : List CodeStmt) (end : Option Body) → step x ≡ seen
+    → body_onto (map stmt out) (made_body s bound (Step seen.0 seen.1 (block_of (map step xs))) end) ≡ Steps s bound out (x ∷ xs) end
+first_step s x xs seen bound out end seen_x = ap (λ k. body_onto (map stmt out) (made_body s bound (block_of (k ∷ map step xs)) end)) (sym seen_x)
 
 -- what a step makes after its lets, where its bindings are bound
 abbrev after_lets : Setting → (out : List CodeStmt) (bound mid : List ℕ) → SeenStep → (made : Option Stmt) (more : Block) → Option Body → Option Body
@@ -49,45 +46,55 @@ so_bound s out bound mid seen made more end at_mid is =
     ap (λ x. after_lets s out bound mid seen x more end) is
     ∙ ap (λ ls. after_lets s out bound ls seen (made_control s ls seen.1) more end) at_mid
 
-pub steps_step : (s : Setting) (xs : List CodeStep) (i : ℕ) (x : CodeStep) (seen : SeenStep) (bound mid new : List ℕ) (out lets_out pushed : List CodeStmt) (made : CodeStmt) (end : Option Body)
-    → i < length xs → x ≡ get_or xs i x → step x ≡ seen
-    → PushesLets s (step_binds s bound seen.0 seen.1) true bound mid out lets_out → Some (stmt made) ≡ made_control s mid seen.1
+pub step_made : (s : Setting) (x : CodeStep) (seen : SeenStep) (bound mid new : List ℕ) (out lets_out pushed : List CodeStmt) (made : CodeStmt)
+    → step x ≡ seen → PushesLets s (step_binds s bound seen.0 seen.1) true bound mid out lets_out → Some (stmt made) ≡ made_control s mid seen.1
     → new ≡ mid → pushed ≡ lets_out ++ made ∷ []
-    → Steps s new pushed (drop (i + 1) xs) end ≡ Steps s bound out (drop i xs) end
-steps_step s xs i x seen bound mid new out lets_out pushed made end lt item seen_x p seen_s at_new is_pushed =
-    let more = block_of (map step (drop (i + 1) xs)) in
-    ap (λ ls. Steps s ls pushed (drop (i + 1) xs) end) at_new
-    ∙ ap (λ ys. Steps s mid ys (drop (i + 1) xs) end) is_pushed
-    ∙ onto_pushed lets_out made (made_body s mid more end)
-    ∙ p.lets (stmt_before (Some (stmt made)) (made_body s mid more end))
-    ∙ so_bound s out bound mid seen (Some (stmt made)) more end (p.bound refl) seen_s
-    ∙ left_steps s xs i x seen bound out end lt item seen_x
+    → PushesStep s x true bound new out pushed
+step_made s x seen bound mid new out lets_out pushed made seen_x p seen_s at_new is_pushed = record {
+  stmts = λ xs end.
+      let more = block_of (map step xs) in
+      ap (λ ls. body_onto (map stmt pushed) (made_body s ls more end)) at_new
+      ∙ ap (λ ys. body_onto (map stmt ys) (made_body s mid more end)) is_pushed
+      ∙ onto_pushed lets_out made (made_body s mid more end)
+      ∙ p.lets (stmt_before (Some (stmt made)) (made_body s mid more end))
+      ∙ so_bound s out bound mid seen (Some (stmt made)) more end (p.bound refl) seen_s
+      ∙ first_step s x xs seen bound out end seen_x;
+  grows = (p.grows.0, at_new ∙ p.grows.1);
+}
 
 -- a step whose statement is not made
-pub steps_stop : (s : Setting) (xs : List CodeStep) (i : ℕ) (x : CodeStep) (seen : SeenStep) (bound mid : List ℕ) (out lets_out : List CodeStmt) (end : Option Body)
-    → i < length xs → x ≡ get_or xs i x → step x ≡ seen
-    → PushesLets s (step_binds s bound seen.0 seen.1) true bound mid out lets_out → None ≡ made_control s mid seen.1
-    → None ≡ Steps s bound out (drop i xs) end
-steps_stop s xs i x seen bound mid out lets_out end lt item seen_x p none =
-    let more = block_of (map step (drop (i + 1) xs)) in
-    sym (onto_none (map stmt lets_out))
-    ∙ p.lets None
-    ∙ so_bound s out bound mid seen None more end (p.bound refl) none
-    ∙ left_steps s xs i x seen bound out end lt item seen_x
+pub step_stopped : (s : Setting) (x : CodeStep) (seen : SeenStep) (bound mid new : List ℕ) (out lets_out : List CodeStmt)
+    → step x ≡ seen → PushesLets s (step_binds s bound seen.0 seen.1) true bound mid out lets_out → None ≡ made_control s mid seen.1 → new ≡ mid
+    → PushesStep s x false bound new out lets_out
+step_stopped s x seen bound mid new out lets_out seen_x p none at_new = record {
+  stmts = λ xs end.
+      sym (onto_none (map stmt lets_out))
+      ∙ p.lets None
+      ∙ so_bound s out bound mid seen None (block_of (map step xs)) end (p.bound refl) none
+      ∙ first_step s x xs seen bound out end seen_x;
+  grows = (p.grows.0, at_new ∙ p.grows.1);
+}
 
 -- a step one of whose lets is not made
-pub steps_unmade : (s : Setting) (xs : List CodeStep) (i : ℕ) (x : CodeStep) (seen : SeenStep) (bound mid : List ℕ) (out lets_out : List CodeStmt) (end : Option Body)
-    → i < length xs → x ≡ get_or xs i x → step x ≡ seen
-    → PushesLets s (step_binds s bound seen.0 seen.1) false bound mid out lets_out → None ≡ Steps s bound out (drop i xs) end
-steps_unmade s xs i x seen bound mid out lets_out end lt item seen_x p =
-    let more = block_of (map step (drop (i + 1) xs)) in
-    let after = bound_by bound (step_binds s bound seen.0 seen.1) in
-    p.lets (stmt_before (made_control s after seen.1) (made_body s after more end))
-    ∙ left_steps s xs i x seen bound out end lt item seen_x
+pub step_unmade : (s : Setting) (x : CodeStep) (seen : SeenStep) (bound mid : List ℕ) (out lets_out : List CodeStmt)
+    → step x ≡ seen → PushesLets s (step_binds s bound seen.0 seen.1) false bound mid out lets_out → PushesStep s x false bound mid out lets_out
+step_unmade s x seen bound mid out lets_out seen_x p = record {
+  stmts = λ xs end.
+      let after = bound_by bound (step_binds s bound seen.0 seen.1) in
+      p.lets (stmt_before (made_control s after seen.1) (made_body s after (block_of (map step xs)) end))
+      ∙ first_step s x xs seen bound out end seen_x;
+  grows = p.grows;
+}
 
--- locals behind locals behind those that were bound
-pub grown_twice : (first old mid new : List ℕ) → (more : List ℕ) × (old ≡ first ++ more) → (more : List ℕ) × (mid ≡ old ++ more) → new ≡ mid → (more : List ℕ) × (new ≡ first ++ more)
-grown_twice first old mid new h k is = (h.0 ++ k.0, is ∙ k.1 ∙ ap (λ ls. ls ++ k.0) h.1 ∙ append_assoc first h.0 k.0)
+-- the first of the steps that are left
+pub steps_step : (s : Setting) (xs : List CodeStep) (i : ℕ) (x : CodeStep) (made known : Bool) (bound new : List ℕ) (out after : List CodeStmt) (end : Option Body)
+    → i < length xs → x ≡ get_or xs i x → made ≡ known → PushesStep s x made bound new out after
+    → lets_onto known (map stmt after) (made_body s new (block_of (map step (drop (i + 1) xs))) end) ≡ Steps s bound out (drop i xs) end
+steps_step s xs i x made known bound new out after end lt item is p =
+    ap (λ m. lets_onto m (map stmt after) (made_body s new (block_of (map step (drop (i + 1) xs))) end)) (sym is)
+    ∙ p.stmts (drop (i + 1) xs) end
+    ∙ ap (λ y. Steps s bound out (y ∷ drop (i + 1) xs) end) item
+    ∙ ap (λ ys. Steps s bound out ys end) (sym (drop_more xs i x lt))
 
 -- ---- tests
 

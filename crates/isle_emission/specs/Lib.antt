@@ -4,6 +4,7 @@ pub mod MadeValues
 pub mod BodyOnto
 pub mod PushedLets
 pub mod MadeBodies
+pub mod Tests
 pub mod Views
 pub mod Origin
 pub mod MayEmit

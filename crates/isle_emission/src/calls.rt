@@ -1,45 +1,51 @@
 //! Calls.
 
-ghost use Rattle.std.specs.Prelude.{◌≡◌, IfOk, slice_get};
-ghost use Rattle.isle_core.specs.Calling.{calling};
+ghost use Rattle.std.specs.Prelude.{◌≡◌, IfOk, Some as Is, slice_get};
+ghost use Rattle.isle_core.specs.Calling.{calling, calling_of};
+ghost use Rattle.isle_core.specs.Terms as Terms;
 ghost use Rattle.isle_operands.specs.Contexts.{env_of};
 ghost use Rattle.isle_operands.specs.Typed.{setting_in};
 ghost use Rattle.isle_operands.specs.Views.{items_of};
 ghost use Rattle.isle_simulation.specs.Statements as Statements;
 
-use isle_core::{BindingId, Callee, ConstructorKind, List, TermId, TermKind};
+use isle_core::{BindingId, Callee, ConstructorKind, List, Term, TermId, TermKind};
 use isle_operands::{Context, Typed, is_by_ref, reads, sym_name};
 use isle_scope::Scope;
 use isle_tree::{Read, TCall, TExpr};
 use std::alloc::{AllocError, Global};
 
-// Returns what a call of the term of this number goes to: its external function, or the function of the text that its
+// Returns what a call of a term that is made so goes to: its external function, or the function of the text that its
 // rules give.
+fn callee_by(
+    alloc: Global,
+    context: &Context<'_>,
+    term: &Term,
+    constructor: &ConstructorKind,
+) -> Result<Option<Callee>, AllocError>
+    ensures { IfOk result (λ callee. callee ≡ Terms.callee_by (env_of context.now) term.now constructor.now) }
+{
+    match constructor {
+        ConstructorKind::External { func } => {
+            Ok(Some(Callee::External(sym_name(alloc, context.typeenv, *func)?)))
+        }
+        ConstructorKind::Internal => {
+            Ok(Some(Callee::Internal(sym_name(alloc, context.typeenv, term.name)?)))
+        }
+        ConstructorKind::Absent => Ok(None),
+    }
+}
+
+// Returns what a call of a term goes to.
 fn callee_of(
     alloc: Global,
     context: &Context<'_>,
-    term: TermId,
+    term: &Term,
 ) -> Result<Option<Callee>, AllocError>
-    ensures { IfOk result (λ callee. callee ≡ Statements.callee_of (calling (env_of context.now) term)) }
+    ensures { IfOk result (λ callee. callee ≡ Statements.callee_of (calling_of (env_of context.now) (Is term.now))) }
 {
-    let Some(called) = context.termenv.terms.as_slice().get(term.index()) else {
-        return Ok(None);
-    };
-    match &called.kind {
-        TermKind::Decl {
-            constructor: ConstructorKind::External { func },
-            ..
-        } => { Ok(Some(Callee::External(sym_name(alloc, context.typeenv, *func)?))) }
-        TermKind::Decl {
-            constructor: ConstructorKind::Internal,
-            ..
-        } => { Ok(Some(Callee::Internal(sym_name(alloc, context.typeenv, called.name)?))) }
-        TermKind::Decl {
-            constructor: ConstructorKind::Absent,
-            ..
-        }
-        | TermKind::Variant { .. }
-        | TermKind::Struct { .. } => Ok(None),
+    match &term.kind {
+        TermKind::Decl { constructor, .. } => callee_by(alloc, context, term, constructor),
+        TermKind::Variant { .. } | TermKind::Struct { .. } => Ok(None),
     }
 }
 
@@ -69,7 +75,7 @@ pub fn call_of(
     let Some(called) = typed.context.termenv.terms.as_slice().get(term.index()) else {
         return Ok(None);
     };
-    let callee = callee_of(alloc, &typed.context, term)?;
+    let callee = callee_of(alloc, &typed.context, called)?;
     let args = reads(alloc, typed, bound, called.arg_tys.as_slice(), parameters)?;
     let borrow = is_by_ref(typed.context.typeenv, called.ret_ty);
     Ok(call_on(borrow, callee, args))

@@ -1,13 +1,19 @@
 //! What bound locals compute: calls, the inner values of options, made values, and what is read in place.
 
 ghost use Rattle.std.specs.Prelude.{◌≡◌, IfOk};
+ghost use Rattle.isle_core.specs.Path.{at, paths_of};
+ghost use Rattle.isle_operands.specs.Contexts.{env_of, bindings_in};
 ghost use Rattle.isle_operands.specs.Typed.{setting_in};
+ghost use Rattle.isle_simulation.specs.Operands.{in_place, operand_of as operand_in};
+ghost use Rattle.isle_simulation.specs.References.{is_reference_in};
 ghost use Rattle.isle_simulation.specs.Statements as Statements;
 
 use crate::calls::call_of;
 use crate::made::made_in;
 use isle_core::{Binding, BindingId};
-use isle_operands::{Typed, in_place, is_reference, operand_of, struct_form, variant_form};
+use isle_operands::{
+    Context, Typed, in_place, is_reference, operand_of, struct_form, variant_form,
+};
 use isle_scope::Scope;
 use isle_tree::{Operand, Read, TExpr};
 use std::alloc::{AllocError, Global};
@@ -22,11 +28,35 @@ fn inner_of(as_ref: bool, source: Option<Operand>) -> Option<TExpr>
     })
 }
 
+// Makes that of the option that a binding is.
+fn inner_in(
+    alloc: Global,
+    typed: &Typed<'_>,
+    bound: &Scope,
+    source: BindingId,
+) -> Result<Option<TExpr>, AllocError>
+    ensures { IfOk result (λ e. e ≡ Statements.inner_of (is_reference_in (setting_in typed.now) source) (operand_in (setting_in typed.now).env (setting_in typed.now).bindings bound.now source)) }
+{
+    let operand = operand_of(alloc, &typed.context, bound, source)?;
+    Ok(inner_of(is_reference(typed, source), operand))
+}
+
 // Makes a read of an operand.
 fn read_of(operand: Option<Operand>) -> Option<TExpr>
     ensures { result ≡ Statements.read_of operand }
 {
     Some(TExpr::Read(Read::Plain(operand?)))
+}
+
+// Makes a read of what is read in place.
+fn read_in_place(
+    alloc: Global,
+    context: &Context<'_>,
+    binding: BindingId,
+) -> Result<Option<TExpr>, AllocError>
+    ensures { IfOk result (λ e. e ≡ Statements.read_of (in_place (env_of context.now) binding.0 (at (paths_of (bindings_in context.now)) binding))) }
+{
+    Ok(read_of(in_place(alloc, context, binding)?))
 }
 
 /// Makes what the local of a binding computes, where that is built.
@@ -47,27 +77,24 @@ pub fn bound_expr(
             term,
             parameters,
             ..
-        } => { Ok(call_of(alloc, typed, bound, *term, parameters.as_slice())?) }
-        Binding::MatchSome { source } => {
-            let operand = operand_of(alloc, context, bound, *source)?;
-            Ok(inner_of(is_reference(typed, *source), operand))
-        }
+        } => call_of(alloc, typed, bound, *term, parameters.as_slice()),
+        Binding::MatchSome { source } => inner_in(alloc, typed, bound, *source),
         Binding::MakeVariant {
             ty,
             variant,
             fields,
         } => {
             let form = variant_form(context, *ty, *variant);
-            Ok(made_in(alloc, typed, bound, form, fields.as_slice())?)
+            made_in(alloc, typed, bound, form, fields.as_slice())
         }
         Binding::MakeStruct { ty, fields } => {
             let form = struct_form(context, *ty);
-            Ok(made_in(alloc, typed, bound, form, fields.as_slice())?)
+            made_in(alloc, typed, bound, form, fields.as_slice())
         }
         Binding::Argument { .. }
         | Binding::ConstBool { .. }
         | Binding::ConstInt { .. }
-        | Binding::ConstPrim { .. } => Ok(read_of(in_place(alloc, context, binding)?)),
+        | Binding::ConstPrim { .. } => read_in_place(alloc, context, binding),
         Binding::Extractor { .. }
         | Binding::Iterator { .. }
         | Binding::MatchVariant { .. }

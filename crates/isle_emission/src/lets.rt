@@ -15,6 +15,7 @@ use isle_operands::{Context, Typed, is_bound};
 use isle_scope::Scope;
 use isle_tree::Stmt;
 use std::alloc::{AllocError, Global};
+use std::slice;
 
 // Binds a binding in its local, behind what is there, and returns whether there is something that its local computes.
 #[tactic(auto, using(isle_tree::proofs::Sees::sees))]
@@ -102,7 +103,7 @@ fn push_needed(
     if !push_each(alloc, typed, bound, depth - 1, parts, out)? {
         return Ok(false);
     }
-    Ok(push_let(alloc, typed, bound, binding, out)?)
+    push_let(alloc, typed, bound, binding, out)
 }
 
 // Does so for bindings in order, those before being bound.
@@ -136,48 +137,42 @@ fn push_needs(
     ensures { IfOk result (λ made. PushesLets (setting_in typed.now) (Completed.needs (setting_in typed.now) bound.old bindings.now) made bound.old bound.new out.old.items out.new.items) }
 {
     let depth = typed.context.bindings.len();
-    Ok(push_each(alloc, typed, bound, depth, bindings, out)?)
+    push_each(alloc, typed, bound, depth, bindings, out)
 }
 
-// Binds those that a binding is computed from.
-fn push_read_for(
-    alloc: Global,
-    typed: &Typed<'_>,
-    bound: &mut Scope,
-    binding: BindingId,
-    out: &mut Vec<Stmt>,
-) -> Result<bool, AllocError>
-    ensures { IfOk result (λ made. PushesLets (setting_in typed.now) (Completed.needs (setting_in typed.now) bound.old (Completed.read_for (slice_get (setting_in typed.now).bindings binding.0))) made bound.old bound.new out.old.items out.new.items) }
+// Returns what a binding is computed from.
+fn sources_of<'a>(binding: &'a Binding) -> &'a [BindingId]
+    ensures { result.now ≡ Completed.read_for (Is binding.now) }
 {
-    match typed.context.bindings.get(binding.index()) {
-        Some(Binding::Constructor { parameters, .. }) => {
-            Ok(push_needs(alloc, typed, bound, parameters.as_slice(), out)?)
-        }
-        Some(Binding::MatchSome { source }) => {
-            let one = [*source];
-            Ok(push_needs(alloc, typed, bound, &one, out)?)
-        }
-        Some(Binding::MakeVariant { fields, .. }) => {
-            Ok(push_needs(alloc, typed, bound, fields.as_slice(), out)?)
-        }
-        Some(Binding::MakeStruct { fields, .. }) => {
-            Ok(push_needs(alloc, typed, bound, fields.as_slice(), out)?)
-        }
-        Some(Binding::ConstBool { .. })
-        | Some(Binding::ConstInt { .. })
-        | Some(Binding::ConstPrim { .. })
-        | Some(Binding::Argument { .. })
-        | Some(Binding::Extractor { .. })
-        | Some(Binding::Iterator { .. })
-        | Some(Binding::MatchVariant { .. })
-        | Some(Binding::ExtractStruct { .. })
-        | Some(Binding::MakeSome { .. })
-        | Some(Binding::MatchTuple { .. })
-        | None => Ok(true),
+    match binding {
+        Binding::Constructor { parameters, .. } => parameters.as_slice(),
+        Binding::MatchSome { source } => slice::from_ref(source),
+        Binding::MakeVariant { fields, .. } => fields.as_slice(),
+        Binding::MakeStruct { fields, .. } => fields.as_slice(),
+        Binding::ConstBool { .. }
+        | Binding::ConstInt { .. }
+        | Binding::ConstPrim { .. }
+        | Binding::Argument { .. }
+        | Binding::Extractor { .. }
+        | Binding::Iterator { .. }
+        | Binding::MatchVariant { .. }
+        | Binding::ExtractStruct { .. }
+        | Binding::MakeSome { .. }
+        | Binding::MatchTuple { .. } => &[],
     }
 }
 
-// Binds those that a step reads after its bindings.
+// Returns those of the binding of this number.
+fn read_for<'a>(context: &Context<'a>, binding: BindingId) -> &'a [BindingId]
+    ensures { result.now ≡ Completed.read_for (slice_get (bindings_in context.now) binding.0) }
+{
+    match context.bindings.get(binding.index()) {
+        Some(of) => sources_of(of),
+        None => &[],
+    }
+}
+
+// Binds what a step reads after its bindings, behind what that needs.
 #[tactic(auto, using(isle_core::proofs::SeesBlocks::sees_blocks))]
 fn push_read_by(
     alloc: Global,
@@ -190,17 +185,12 @@ fn push_read_by(
 {
     match control {
         ControlFlow::Match { source, .. } => {
-            let one = [*source];
-            Ok(push_needs(alloc, typed, bound, &one, out)?)
+            push_needs(alloc, typed, bound, slice::from_ref(source), out)
         }
-        ControlFlow::Equal { a, b, .. } => {
-            let both = [*a, *b];
-            Ok(push_needs(alloc, typed, bound, &both, out)?)
-        }
+        ControlFlow::Equal { a, b, .. } => push_needs(alloc, typed, bound, &[*a, *b], out),
         ControlFlow::Loop { .. } => Ok(true),
         ControlFlow::Return { result, .. } => {
-            let one = [*result];
-            Ok(push_needs(alloc, typed, bound, &one, out)?)
+            push_needs(alloc, typed, bound, slice::from_ref(result), out)
         }
     }
 }
@@ -215,10 +205,11 @@ fn push_bound(
 ) -> Result<bool, AllocError>
     ensures { IfOk result (λ made. PushesLets (setting_in typed.now) (Completed.with_needs (setting_in typed.now) bound.old binding) made bound.old bound.new out.old.items out.new.items) }
 {
-    if !push_read_for(alloc, typed, bound, binding, out)? {
+    let sources = read_for(&typed.context, binding);
+    if !push_needs(alloc, typed, bound, sources, out)? {
         return Ok(false);
     }
-    Ok(push_let(alloc, typed, bound, binding, out)?)
+    push_let(alloc, typed, bound, binding, out)
 }
 
 // Binds each of a bind order, behind what it needs.
@@ -254,5 +245,5 @@ pub fn push_lets(
     if !push_binds(alloc, typed, bound, bindings, out)? {
         return Ok(false);
     }
-    Ok(push_read_by(alloc, typed, bound, control, out)?)
+    push_read_by(alloc, typed, bound, control, out)
 }

@@ -1,20 +1,26 @@
 //! The statements of a block.
 
-ghost use Rattle.std.specs.Prelude.{◌≡◌, ◌++◌, [], ◌∷◌, List as ListOf, ℕ, Some as Is, option_map, IfOk, OnOk};
+ghost use Rattle.std.specs.Prelude.{◌≡◌, ◌++◌, [], ◌∷◌, List as ListOf, ℕ, true, false, Some as Is, Option, map, option_map, IfOk, OnOk};
 ghost use Rattle.isle_core.specs.ArmPlaces.{bound_within};
+ghost use Rattle.isle_core.specs.Block.{Equal};
 ghost use Rattle.isle_core.specs.BlockViews as BlockViews;
-ghost use Rattle.isle_tree.specs.Program.{Done};
+ghost use Rattle.isle_core.specs.Calling as Calling;
+ghost use Rattle.isle_tree.specs.Program.{Body, Done};
 ghost use Rattle.isle_tree.specs.Views.{stmt};
 ghost use Rattle.isle_emission.specs.BodyOnto.{onto, stmts_of, AreMadeAs};
-ghost use Rattle.isle_emission.specs.MadeBodies.{made_body, made_control, made_arms};
+ghost use Rattle.isle_emission.specs.MadeBodies.{made_body, made_control, made_arms, PushesStep};
+ghost use Rattle.isle_emission.specs.Tests.{test_stmt};
+ghost use Rattle.isle_operands.specs.Contexts.{env_of, bindings_in};
 ghost use Rattle.isle_operands.specs.Typed.{setting_in};
 ghost use Rattle.isle_emission.specs.Views.{steps_block, match_arms};
+ghost use Rattle.isle_simulation.specs.Operands.{operand_of as operand_in, tested as tested_in};
+ghost use Rattle.isle_simulation.specs.Patterns as Patterns;
 ghost use Rattle.isle_simulation.specs.Statements as Statements;
 
 use crate::lets::push_lets;
 use crate::patterns::pattern_of;
 use isle_core::{BindingId, Block, Constraint, ControlFlow, EvalStep, List, MatchArm, ReturnKind};
-use isle_operands::{Typed, kind_of, operand_of, read_in, tested};
+use isle_operands::{Context, Typed, kind_of, operand_of, read_in, tested};
 use isle_scope::Scope;
 use isle_tree::{Operand, Read, Stmt, TExpr, TPat};
 use std::alloc::{AllocError, Global};
@@ -31,47 +37,120 @@ fn return_of(kind: ReturnKind, read: Option<Read>) -> Option<Stmt>
     }
 }
 
+// What is tested: whether two operands are equal, or whether what is read fits a pattern.
+#[derive(Drop)]
+pub enum Test {
+    Equal(Operand, Operand),
+    Fits(TPat, Read),
+}
+
 // Makes a test of two operands.
-#[tactic(auto, using(isle_tree::proofs::Sees::sees))]
-fn if_eq(a: Option<Operand>, b: Option<Operand>, inside: Option<Vec<Stmt>>) -> Option<Stmt>
-    ensures { option_map stmt result ≡ Statements.if_eq a b (onto (stmts_of inside) (Is Done)) }
+fn equal(a: Option<Operand>, b: Option<Operand>) -> Option<Test>
+    ensures { (inside : Option Body) → test_stmt result inside ≡ Statements.if_eq a b inside }
 {
-    Some(Stmt::IfEq(a?, b?, List::new(inside?)))
+    Some(Test::Equal(a?, b?))
 }
 
 // Makes a test by a pattern.
-#[tactic(auto, using(isle_tree::proofs::Sees::sees))]
-fn if_let(pat: Option<TPat>, read: Option<Read>, inside: Option<Vec<Stmt>>) -> Option<Stmt>
-    ensures { option_map stmt result ≡ Statements.if_let pat read (onto (stmts_of inside) (Is Done)) }
+fn fits(pat: Option<TPat>, read: Option<Read>) -> Option<Test>
+    ensures { (inside : Option Body) → test_stmt result inside ≡ Statements.if_let pat read inside }
 {
-    Some(Stmt::IfLet(pat?, read?, List::new(inside?)))
+    Some(Test::Fits(pat?, read?))
 }
 
-// Makes the test of a binding against a constraint.
-fn arm_stmt(
+// Makes the statement of a test, within which these statements stand.
+#[tactic(auto, using(isle_tree::proofs::Sees::sees))]
+fn test_within(test: Test, inside: Vec<Stmt>) -> Stmt
+    ensures { Is (stmt result) ≡ test_stmt (Is test) (onto (Is (map stmt inside.items)) (Is Done)) }
+{
+    match test {
+        Test::Equal(a, b) => Stmt::IfEq(a, b, List::new(inside)),
+        Test::Fits(pat, read) => Stmt::IfLet(pat, read, List::new(inside)),
+    }
+}
+
+// Does so where there are both.
+fn tested_stmt(test: Option<Test>, inside: Option<Vec<Stmt>>) -> Option<Stmt>
+    ensures { option_map stmt result ≡ test_stmt test (onto (stmts_of inside) (Is Done)) }
+{
+    Some(test_within(test?, inside?))
+}
+
+// Makes the test of two bindings.
+fn equal_test(
+    alloc: Global,
+    typed: &Typed<'_>,
+    bound: &Scope,
+    a: BindingId,
+    b: BindingId,
+) -> Result<Option<Test>, AllocError>
+    ensures { IfOk result (λ test. (inside : Option Body) → test_stmt test inside ≡ Statements.if_eq (operand_in (setting_in typed.now).env (setting_in typed.now).bindings bound.now a) (operand_in (setting_in typed.now).env (setting_in typed.now).bindings bound.now b) inside) }
+{
+    let first = operand_of(alloc, &typed.context, bound, a)?;
+    Ok(equal(first, operand_of(alloc, &typed.context, bound, b)?))
+}
+
+// Makes the test of a binding against a constant.
+fn const_test(
+    alloc: Global,
+    context: &Context<'_>,
+    bound: &Scope,
+    source: BindingId,
+    constraint: Constraint,
+) -> Result<Option<Test>, AllocError>
+    ensures { IfOk result (λ test. (inside : Option Body) → test_stmt test inside ≡ Statements.if_eq (operand_in (env_of context.now) (bindings_in context.now) bound.now source) (tested_in (env_of context.now) constraint) inside) }
+{
+    let operand = operand_of(alloc, context, bound, source)?;
+    Ok(equal(operand, tested(alloc, context, constraint)?))
+}
+
+// Makes the test of a binding by the pattern of a constraint.
+fn pattern_test(
     alloc: Global,
     typed: &Typed<'_>,
     bound: &Scope,
     source: BindingId,
     constraint: Constraint,
     places: &[Option<BindingId>],
-    inside: Option<Vec<Stmt>>,
-) -> Result<Option<Stmt>, AllocError>
-    ensures { IfOk result (λ s. option_map stmt s ≡ Statements.arm_stmt (setting_in typed.now) bound.now source constraint places.now (onto (stmts_of inside) (Is Done))) }
+) -> Result<Option<Test>, AllocError>
+    ensures { IfOk result (λ test. (inside : Option Body) → test_stmt test inside ≡ Statements.if_let (Patterns.pattern_of (setting_in typed.now).env constraint places.now) (Statements.read_in (setting_in typed.now) bound.now true source) inside) }
 {
-    let context = &typed.context;
+    let pat = pattern_of(alloc, &typed.context, constraint, places)?;
+    Ok(fits(pat, read_in(alloc, typed, bound, true, source)?))
+}
+
+// Makes the test of a binding against a constraint.
+fn arm_test(
+    alloc: Global,
+    typed: &Typed<'_>,
+    bound: &Scope,
+    source: BindingId,
+    constraint: Constraint,
+    places: &[Option<BindingId>],
+) -> Result<Option<Test>, AllocError>
+    ensures { IfOk result (λ test. (inside : Option Body) → test_stmt test inside ≡ Statements.arm_stmt (setting_in typed.now) bound.now source constraint places.now inside) }
+{
     match constraint {
         Constraint::ConstBool { .. } | Constraint::ConstInt { .. } | Constraint::ConstPrim { .. } =>
-            {
-                let operand = operand_of(alloc, context, bound, source)?;
-                Ok(if_eq(operand, tested(alloc, context, constraint)?, inside))
-            }
+            const_test(alloc, &typed.context, bound, source, constraint),
         Constraint::Variant { .. } | Constraint::Struct { .. } => {
-            let pat = pattern_of(alloc, context, constraint, places)?;
-            Ok(if_let(pat, read_in(alloc, typed, bound, true, source)?, inside))
+            pattern_test(alloc, typed, bound, source, constraint, places)
         }
         Constraint::Some => Ok(None),
     }
+}
+
+// Makes the return of a binding.
+fn return_stmt(
+    alloc: Global,
+    typed: &Typed<'_>,
+    bound: &Scope,
+    returned: BindingId,
+) -> Result<Option<Stmt>, AllocError>
+    ensures { IfOk result (λ s. option_map stmt s ≡ Statements.return_of (Calling.kind_of (setting_in typed.now).term.kind) (Statements.read_in (setting_in typed.now) bound.now false returned)) }
+{
+    let kind = kind_of(&typed.context.term.kind);
+    Ok(return_of(kind, read_in(alloc, typed, bound, false, returned)?))
 }
 
 // Binds what a place binds.
@@ -114,6 +193,28 @@ pub fn block_stmts(
     Ok(stmts)
 }
 
+// Adds the statements of a step, and returns whether they could be made.
+#[cycle(statements)]
+fn push_step(
+    alloc: Global,
+    typed: &Typed<'_>,
+    bound: &mut Scope,
+    step: &EvalStep,
+    out: &mut Vec<Stmt>,
+) -> Result<bool, AllocError>
+    ensures { IfOk result (λ made. PushesStep (setting_in typed.now) step.now made bound.old bound.new out.old.items out.new.items) }
+{
+    let binds = step.bind_order.as_slice();
+    if !push_lets(alloc, typed, bound, binds, &step.check, out)? {
+        return Ok(false);
+    }
+    let Some(made) = control_stmt(alloc, typed, bound, &step.check)? else {
+        return Ok(false);
+    };
+    out.push(made)?;
+    Ok(true)
+}
+
 // Makes the statements of steps in order.
 #[cycle(statements)]
 #[tactic(auto, using(isle_core::proofs::SeesBlocks::sees_blocks))]
@@ -128,14 +229,9 @@ fn step_stmts(
 {
     let mut out = Vec::new(alloc);
     for step in steps {
-        let binds = step.bind_order.as_slice();
-        if !push_lets(alloc, typed, bound, binds, &step.check, &mut out)? {
+        if !push_step(alloc, typed, bound, step, &mut out)? {
             return Ok(None);
         }
-        let Some(made) = control_stmt(alloc, typed, bound, &step.check)? else {
-            return Ok(None);
-        };
-        out.push(made)?;
     }
     Ok(Some(out))
 }
@@ -154,20 +250,29 @@ fn control_stmt(
 {
     match control {
         ControlFlow::Match { source, arms } => {
-            Ok(arms_stmt(alloc, typed, bound, *source, arms.as_slice())?)
+            arms_stmt(alloc, typed, bound, *source, arms.as_slice())
         }
-        ControlFlow::Equal { a, b, body } => {
-            let a = operand_of(alloc, &typed.context, bound, *a)?;
-            let b = operand_of(alloc, &typed.context, bound, *b)?;
-            let inside = block_stmts(alloc, typed, bound, body)?;
-            Ok(if_eq(a, b, inside))
-        }
+        ControlFlow::Equal { a, b, body } => equal_stmt(alloc, typed, bound, *a, *b, body),
         ControlFlow::Loop { .. } => Ok(None),
-        ControlFlow::Return { result, .. } => {
-            let kind = kind_of(&typed.context.term.kind);
-            Ok(return_of(kind, read_in(alloc, typed, bound, false, *result)?))
-        }
+        ControlFlow::Return { result, .. } => return_stmt(alloc, typed, bound, *result),
     }
+}
+
+// Makes the test of two bindings, within which a block stands.
+#[cycle(statements)]
+fn equal_stmt(
+    alloc: Global,
+    typed: &Typed<'_>,
+    bound: &mut Scope,
+    a: BindingId,
+    b: BindingId,
+    body: &Block,
+) -> Result<Option<Stmt>, AllocError>
+    ensures stmt { IfOk result (λ s. option_map stmt s ≡ made_control (setting_in typed.now) bound.old (Equal a b (BlockViews.block body.now))) }
+    ensures bound { OnOk result (bound.new ≡ bound.old) }
+{
+    let inside = block_stmts(alloc, typed, bound, body)?;
+    Ok(tested_stmt(equal_test(alloc, typed, bound, a, b)?, inside))
 }
 
 // Makes the statements of an arm, within which its places are bound.
@@ -208,5 +313,6 @@ fn arms_stmt(
     let arm = &arms[0];
     let places = arm.bindings.as_slice();
     let inside = arm_stmts(alloc, typed, bound, places, &arm.body)?;
-    Ok(arm_stmt(alloc, typed, bound, source, arm.constraint, places, inside)?)
+    let test = arm_test(alloc, typed, bound, source, arm.constraint, places)?;
+    Ok(tested_stmt(test, inside))
 }

@@ -1,6 +1,7 @@
 use Rattle.std.proofs.Common.{rules, arith, ◌≡◌, ◌-◌, suc, [], ◌∷◌, true, false, drop, refl, sym, ap, ◌∙◌}
 use Rattle.std.specs.Prelude.{option_map}
 use Rattle.std.proofs.lemmas.List.{drop_all}
+use Rattle.std.proofs.lemmas.Result.{IfOk-weaker}
 use Rattle.isle_operands.specs.Typed.{setting_in}
 use Rattle.isle_simulation.specs.Completed.{needed, each_needed}
 use Rattle.isle_emission.proofs.NeededLets.{needed_parts}
@@ -50,7 +51,9 @@ push_needed-returns t c =
     let less = c.args.depth - 1 in
     let is : c.args.depth ≡ suc less = omega (arith, c.if-depth-eq0.false) in
     let yes' : c.in_ok-push_each.field-0 ≡ true = search rules in
-    so_named
+    IfOk-weaker c.push_let.result _ _
+    (λ made last. so_named
     (needed_parts s c.args.depth less c.args.bound.now c.args.binding c.in-Some.parts.now is (sym c.is_bound.ensures ∙ c.if-is_bound.false) (ap (option_map (λ parts. parts.now)) (sym c.in-Some.is) ∙ c.local_parts.ensures))
-    (pushed_then s (each_needed (needed s less) c.args.bound.now c.in-Some.parts.now) (c.args.binding ∷ []) c.in_ok-push_let.field-0 c.args.bound.now c.push_each.new.bound c.push_let.new.bound c.args.out.now.items c.push_each.new.out.items c.push_let.new.out.items
-    (so_made yes' c.in_ok-push_each.ensures) c.in_ok-push_let.ensures)
+    (pushed_then s (each_needed (needed s less) c.args.bound.now c.in-Some.parts.now) (c.args.binding ∷ []) made c.args.bound.now c.push_each.new.bound c.push_let.new.bound c.args.out.now.items c.push_each.new.out.items c.push_let.new.out.items
+    (so_made yes' c.in_ok-push_each.ensures) last))
+    c.push_let.ensures

@@ -1,4 +1,5 @@
 use Rattle.std.proofs.Common.{rules, ◌≡◌, true, false}
+use Rattle.std.proofs.lemmas.Result.{IfOk-weaker}
 use Rattle.isle_core.specs.Bindable.{bound_by}
 use Rattle.isle_core.specs.BlockViews.{control}
 use Rattle.isle_operands.specs.Typed.{setting_in}
@@ -18,5 +19,7 @@ returns c =
     let s = setting_in c.args.typed.now in
     let binds = completed_binds s c.args.bound.now c.args.bindings.now in
     let yes' : c.in_ok-push_binds.field-0 ≡ true = search rules in
-    pushed_after s binds (λ ls. needs s ls (read_by (control c.args.control.now))) c.in_ok-push_read_by.field-0 c.args.bound.now c.push_binds.new.bound c.push_read_by.new.bound
-    c.args.out.now.items c.push_binds.new.out.items c.push_read_by.new.out.items (so_made yes' c.in_ok-push_binds.ensures) c.in_ok-push_read_by.ensures
+    IfOk-weaker c.push_read_by.result _ _
+    (λ made last. pushed_after s binds (λ ls. needs s ls (read_by (control c.args.control.now))) made c.args.bound.now c.push_binds.new.bound c.push_read_by.new.bound
+    c.args.out.now.items c.push_binds.new.out.items c.push_read_by.new.out.items (so_made yes' c.in_ok-push_binds.ensures) last)
+    c.push_read_by.ensures
