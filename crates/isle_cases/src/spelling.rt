@@ -56,6 +56,14 @@ fn hex(digit: u8) -> Result<u8, Slip> {
     }
 }
 
+// The number of the first turn, and that behind the last one.
+fn turns(count: &str) -> Result<(usize, usize), Slip> {
+    match count.split_once("..") {
+        Some((from, to)) => Ok((number(from)?, number(to)?)),
+        None => Ok((0, number(count)?)),
+    }
+}
+
 // Appends what a `COUNT{..}` or `FROM..TO{..}` repeats, and what stands behind it.
 fn push_often(alloc: Global, bytes: &mut Vec<u8>, piece: &str) -> Result<(), Slip> {
     let Some((count, behind)) = piece.split_once('{') else {
@@ -64,10 +72,7 @@ fn push_often(alloc: Global, bytes: &mut Vec<u8>, piece: &str) -> Result<(), Sli
     let Some((inner, rest)) = behind.split_once('}') else {
         return Err(Slip::Escape);
     };
-    let (from, to) = match count.split_once("..") {
-        Some((from, to)) => (number(from)?, number(to)?),
-        None => (0, number(count)?),
-    };
+    let (from, to) = turns(count)?;
     match inner.as_bytes() {
         [byte] if *byte != b'#' => {
             let run = vec![in alloc; *byte; to.saturating_sub(from)]?;
@@ -93,21 +98,31 @@ fn push_turns(
     Ok(())
 }
 
+// How far above a turn's number a number is, and what stands behind that.
+fn above(piece: &[u8]) -> (usize, &[u8]) {
+    match piece {
+        [b'+', digit @ b'1'..=b'9', rest @ ..] => (usize::from(*digit - b'0'), rest),
+        rest => (0, rest),
+    }
+}
+
+// Appends the number of a turn, or one above it, and what stands behind that.
+fn push_number(alloc: Global, bytes: &mut Vec<u8>, piece: &[u8], turn: usize) -> Result<(), Slip> {
+    let (above, rest) = above(piece);
+    let number = turn.saturating_add(above);
+    bytes.extend_from_slice(format!(in alloc; "{number}")?.as_bytes())?;
+    bytes.extend_from_slice(rest)?;
+    Ok(())
+}
+
 // Appends one turn: a `#` is its number, and `#+1` to `#+9` a number above it.
 fn push_turn(alloc: Global, bytes: &mut Vec<u8>, inner: &str, turn: usize) -> Result<(), Slip> {
     for (place, piece) in inner.split('#').enumerate() {
-        let (above, rest) = match piece.as_bytes() {
-            [b'+', digit @ b'1'..=b'9', rest @ ..] if place > 0 => (
-                usize::from(*digit - b'0'),
-                rest,
-            ),
-            rest => (0, rest),
-        };
         if place > 0 {
-            let number = turn.saturating_add(above);
-            bytes.extend_from_slice(format!(in alloc; "{number}")?.as_bytes())?;
+            push_number(alloc, bytes, piece.as_bytes(), turn)?;
+        } else {
+            bytes.extend_from_slice(piece.as_bytes())?;
         }
-        bytes.extend_from_slice(rest)?;
     }
     Ok(())
 }
