@@ -1,5 +1,5 @@
 -- What holds of an emitted function.
-use Rattle.std.proofs.Common.{◌≡◌, ℕ, zero, suc, [], ◌∷◌, get_or, slice_get, List, Option, Some, None, subst}
+use Rattle.std.proofs.Common.{◌≡◌, ◌<◌, ℕ, zero, suc, [], ◌∷◌, length, get_or, slice_get, List, Option, Some, None, subst, sym, arith}
 use Rattle.std.specs.Prelude.{IsSomeAnd}
 use Rattle.isle_core.specs.declared.types.Term.{Term}
 use Rattle.isle_core.specs.Setting.{Setting, setting}
@@ -17,6 +17,18 @@ pub at_item : {A : Type 0} (xs : List A) (i : ℕ) (x : A) (P Q : A → Type 0) 
 at_item [] i x P Q h is q = absurd h
 at_item (y ∷ ys) zero x P Q h is q = subst Q is q
 at_item (y ∷ ys) (suc i) x P Q h is q = at_item ys i x P Q h is q
+
+-- an item of which something is so is there
+pub in_range : {A : Type 0} (xs : List A) (i : ℕ) (P : A → Type 0) → IsSomeAnd (slice_get xs i) P → i < length xs
+in_range [] i P h = absurd h
+in_range (y ∷ ys) zero P h = omega arith
+in_range (y ∷ ys) (suc i) P h = let lt = in_range ys i P h in omega arith
+
+-- and it is so of the item that was read
+pub of_item : {A : Type 0} (xs : List A) (i : ℕ) (x : A) (P : A → Type 0) → IsSomeAnd (slice_get xs i) P → x ≡ get_or xs i x → P x
+of_item [] i x P h is = absurd h
+of_item (y ∷ ys) zero x P h is = subst P (sym is) h
+of_item (y ∷ ys) (suc i) x P h is = of_item ys i x P h is
 
 -- what is so of an item by two facts
 both : {A : Type 0} (o : Option A) (P Q R : A → Type 0) → ((x : A) → P x → Q x → R x) → IsSomeAnd o P → IsSomeAnd o Q → IsSomeAnd o R

@@ -1,5 +1,5 @@
 -- The loops over the fields of made values and of patterns, over plain variables.
-use Rattle.std.proofs.Common.{◌≡◌, ℕ, zero, suc, ◌+◌, ◌<◌, List, [], ◌∷◌, ◌++◌, length, drop, get_or, true, false, Option, Some, None, refl, sym, ap, ◌∙◌, append_assoc, arith}
+use Rattle.std.proofs.Common.{◌≡◌, ℕ, zero, suc, ◌+◌, ◌<◌, List, [], ◌∷◌, ◌++◌, length, drop, get_or, Bool, true, false, Option, Some, None, refl, sym, ap, ◌∙◌, append_assoc, arith}
 use Rattle.std.specs.Prelude.{slice_get, option_map}
 use Rattle.std.proofs.lemmas.List.{drop_more}
 use Rattle.std.proofs.Math.Seq.{drop-nil}
@@ -12,12 +12,8 @@ use Rattle.isle_tree.specs.declared.tree.TBind.{TBind}
 use Rattle.isle_simulation.specs.Patterns.{bind_before, field_binds, leaves_out}
 use Rattle.isle_simulation.specs.References.{is_declared}
 use Rattle.isle_simulation.specs.Statements.{read_in, field_before, field_reads}
-use Rattle.isle_emission.specs.Binds.{bind_of, field_bind, onto_made, is_left_out}
-
--- items before others that may not be there
-abbrev pub onto_items : {A : Type 0} → List A → Option (List A) → Option (List A)
-onto_items xs None = None
-onto_items xs (Some others) = Some (xs ++ others)
+use Rattle.isle_emission.specs.Binds.{bind_of, field_bind, onto_made, IsBoundAt, is_left_out}
+use Rattle.isle_emission.specs.MadeValues.{reads_onto, IsReadAt}
 
 next : (i : ℕ) → suc i ≡ i + 1
 next i = omega arith
@@ -53,33 +49,48 @@ fields_apart s bound (f ∷ fs) [] h = refl
 fields_apart s bound (f ∷ fs) (b ∷ bs) h =
     none_before f.0 (read_in s bound false b) ∙ ap (field_before f.0 (read_in s bound false b)) (fields_apart s bound fs bs (λ e. h (ap suc e)))
 
--- the first of those that are left
-first_left : (s : Setting) (bound : List ℕ) (fields : List (List ℕ × TypeId)) (parts : List BindingId) (i : ℕ) (f : List ℕ × TypeId) (b d : BindingId) (out : List (List ℕ × Read)) (r : Option Read)
-    → Some f ≡ slice_get fields i → i < length parts → b ≡ get_or parts i d → r ≡ read_in s bound false b
-    → onto_items out (field_before f.0 r (field_reads s bound (drop (i + 1) fields) (drop (i + 1) parts))) ≡ onto_items out (field_reads s bound (drop i fields) (drop i parts))
-first_left s bound fields parts i f b d out r is_f lt is_b is =
-    ap (λ x. onto_items out (field_before f.0 x (field_reads s bound (drop (i + 1) fields) (drop (i + 1) parts)))) is
-    ∙ ap (λ x. onto_items out (field_reads s bound (f ∷ drop (i + 1) fields) (x ∷ drop (i + 1) parts))) is_b
-    ∙ ap (λ fs. onto_items out (field_reads s bound fs (get_or parts i d ∷ drop (i + 1) parts))) (sym (at_place fields i f (sym is_f)))
-    ∙ ap (λ ys. onto_items out (field_reads s bound (drop i fields) ys)) (sym (drop_more parts i d lt))
+-- the first of the fields that are left
+first_left : (s : Setting) (bound : List ℕ) (fields : List (List ℕ × TypeId)) (i : ℕ) (f : List ℕ × TypeId) (part : BindingId) (out : List (List ℕ × Read)) (r : Option Read) (parts : List BindingId)
+    → Some f ≡ slice_get fields i → r ≡ read_in s bound false part
+    → reads_onto true out (field_before f.0 r (field_reads s bound (drop (i + 1) fields) parts)) ≡ reads_onto true out (field_reads s bound (drop i fields) (part ∷ parts))
+first_left s bound fields i f part out r parts is_f is =
+    ap (λ x. reads_onto true out (field_before f.0 x (field_reads s bound (drop (i + 1) fields) parts))) is
+    ∙ ap (λ fs. reads_onto true out (field_reads s bound fs (part ∷ parts))) (sym (at_place fields i f (sym is_f)))
 
-one_more : (name : List ℕ) (out : List (List ℕ × Read)) (r : Read) (others : Option (List (List ℕ × Read))) → onto_items (out ++ (name, r) ∷ []) others ≡ onto_items out (field_before name (Some r) others)
+one_more : (name : List ℕ) (out : List (List ℕ × Read)) (r : Read) (others : Option (List (List ℕ × Read))) → reads_onto true (out ++ (name, r) ∷ []) others ≡ reads_onto true out (field_before name (Some r) others)
 one_more name out r None = refl
 one_more name out r (Some others) = ap Some (append_assoc out ((name, r) ∷ []) others)
 
-pub fields_step : (s : Setting) (bound : List ℕ) (fields : List (List ℕ × TypeId)) (parts : List BindingId) (i : ℕ) (f : List ℕ × TypeId) (b d : BindingId) (out new : List (List ℕ × Read)) (r : Read)
-    → Some f ≡ slice_get fields i → i < length parts → b ≡ get_or parts i d → Some r ≡ read_in s bound false b → new ≡ out ++ (f.0, r) ∷ []
-    → onto_items new (field_reads s bound (drop (i + 1) fields) (drop (i + 1) parts)) ≡ onto_items out (field_reads s bound (drop i fields) (drop i parts))
-fields_step s bound fields parts i f b d out new r is_f lt is_b is pushed =
-    ap (λ xs. onto_items xs (field_reads s bound (drop (i + 1) fields) (drop (i + 1) parts))) pushed
-    ∙ one_more f.0 out r (field_reads s bound (drop (i + 1) fields) (drop (i + 1) parts))
-    ∙ first_left s bound fields parts i f b d out (Some r) is_f lt is_b is
+pub read_there : (s : Setting) (bound : List ℕ) (fields : List (List ℕ × TypeId)) (i : ℕ) (f : List ℕ × TypeId) (part : BindingId) (out new : List (List ℕ × Read)) (r : Read)
+    → Some f ≡ slice_get fields i → Some r ≡ read_in s bound false part → new ≡ out ++ (f.0, r) ∷ [] → IsReadAt s bound fields i part true out new
+read_there s bound fields i f part out new r is_f is pushed = λ parts.
+    ap (λ xs. reads_onto true xs (field_reads s bound (drop (i + 1) fields) parts)) pushed
+    ∙ one_more f.0 out r (field_reads s bound (drop (i + 1) fields) parts)
+    ∙ first_left s bound fields i f part out (Some r) parts is_f is
 
 -- a part that isn't read
-pub fields_stop : (s : Setting) (bound : List ℕ) (fields : List (List ℕ × TypeId)) (parts : List BindingId) (i : ℕ) (f : List ℕ × TypeId) (b d : BindingId) (out : List (List ℕ × Read))
-    → Some f ≡ slice_get fields i → i < length parts → b ≡ get_or parts i d → None ≡ read_in s bound false b
-    → None ≡ onto_items out (field_reads s bound (drop i fields) (drop i parts))
-fields_stop s bound fields parts i f b d out is_f lt is_b is = first_left s bound fields parts i f b d out None is_f lt is_b is
+pub read_stopped : (s : Setting) (bound : List ℕ) (fields : List (List ℕ × TypeId)) (i : ℕ) (f : List ℕ × TypeId) (part : BindingId) (out : List (List ℕ × Read))
+    → Some f ≡ slice_get fields i → None ≡ read_in s bound false part → IsReadAt s bound fields i part false out out
+read_stopped s bound fields i f part out is_f is = λ parts. first_left s bound fields i f part out None parts is_f is
+
+none_left : {A : Type 0} (xs : List A) (i : ℕ) → None ≡ slice_get xs i → drop i xs ≡ []
+none_left [] i e = drop-nil i
+none_left (x ∷ xs) zero e = absurd cc
+none_left (x ∷ xs) (suc i) e = none_left xs i e
+
+-- a part without a field
+pub read_beyond : (s : Setting) (bound : List ℕ) (fields : List (List ℕ × TypeId)) (i : ℕ) (part : BindingId) (out : List (List ℕ × Read)) → None ≡ slice_get fields i → IsReadAt s bound fields i part false out out
+read_beyond s bound fields i part out none = λ parts. ap (λ fs. reads_onto true out (field_reads s bound fs (part ∷ parts))) (sym (none_left fields i none))
+
+-- one part more
+pub reads_step : (s : Setting) (bound : List ℕ) (fields : List (List ℕ × TypeId)) (parts : List BindingId) (i : ℕ) (part d : BindingId) (made known : Bool) (out new : List (List ℕ × Read))
+    → i < length parts → part ≡ get_or parts i d → made ≡ known → IsReadAt s bound fields i part made out new
+    → reads_onto known new (field_reads s bound (drop (i + 1) fields) (drop (i + 1) parts)) ≡ reads_onto true out (field_reads s bound (drop i fields) (drop i parts))
+reads_step s bound fields parts i part d made known out new lt item as_known is =
+    ap (λ m. reads_onto m new (field_reads s bound (drop (i + 1) fields) (drop (i + 1) parts))) (sym as_known)
+    ∙ is (drop (i + 1) parts)
+    ∙ ap (λ p. reads_onto true out (field_reads s bound (drop i fields) (p ∷ drop (i + 1) parts))) item
+    ∙ ap (λ ps. reads_onto true out (field_reads s bound (drop i fields) ps)) (sym (drop_more parts i d lt))
 
 -- ---- patterns
 
@@ -124,12 +135,12 @@ bind_there env (f ∷ fields) zero local lt e = cc
 bind_there env (f ∷ fields) (suc i) local lt e = bind_there env fields i local (omega (arith, lt)) e
 
 -- one place more
-pub binds_step : (env : Environment) (fields : List (List ℕ × TypeId)) (places : List (Option BindingId)) (i : ℕ) (place d : Option BindingId) (old new : List TBind)
-    → i < length places → place ≡ get_or places i d
-    → ((more : List (Option BindingId)) → onto_made true new (field_binds env (drop (i + 1) fields) more) ≡ onto_made true old (field_binds env (drop i fields) (place ∷ more)))
-    → onto_made true new (field_binds env (drop (i + 1) fields) (drop (i + 1) places)) ≡ onto_made true old (field_binds env (drop i fields) (drop i places))
-binds_step env fields places i place d old new lt item is =
-    is (drop (i + 1) places)
+pub binds_step : (env : Environment) (fields : List (List ℕ × TypeId)) (places : List (Option BindingId)) (i : ℕ) (place d : Option BindingId) (made known : Bool) (old new : List TBind)
+    → i < length places → place ≡ get_or places i d → made ≡ known → IsBoundAt env fields i place made old new
+    → onto_made known new (field_binds env (drop (i + 1) fields) (drop (i + 1) places)) ≡ onto_made true old (field_binds env (drop i fields) (drop i places))
+binds_step env fields places i place d made known old new lt item as_known is =
+    ap (λ m. onto_made m new (field_binds env (drop (i + 1) fields) (drop (i + 1) places))) (sym as_known)
+    ∙ is (drop (i + 1) places)
     ∙ ap (λ p. onto_made true old (field_binds env (drop i fields) (p ∷ drop (i + 1) places))) item
     ∙ ap (λ ps. onto_made true old (field_binds env (drop i fields) ps)) (sym (drop_more places i d lt))
 

@@ -3,16 +3,16 @@ use Rattle.std.proofs.Common.{◌≡◌, ℕ, zero, suc, ◌+◌, List, [], ◌�
 use Rattle.std.specs.Prelude.{option_map}
 use Rattle.isle_core.specs.declared.blocks.EvalStep.{EvalStep as CodeStep}
 use Rattle.isle_core.specs.declared.files.Files.{Files}
+use Rattle.isle_core.specs.declared.types.Term.{Term}
 use Rattle.isle_core.specs.Block.{Block}
 use Rattle.isle_core.specs.BlockViews.{block_of, step}
-use Rattle.isle_core.specs.Setting.{Setting}
+use Rattle.isle_core.specs.Rule.{Environment}
 use Rattle.isle_tree.specs.declared.tree.Stmt.{Stmt as CodeStmt}
-use Rattle.isle_tree.specs.Program.{Tail, Body, Done}
+use Rattle.isle_tree.specs.Program.{Tail, Done}
 use Rattle.isle_tree.specs.Views.{stmt, body}
 use Rattle.isle_emission.specs.BodyOnto.{body_onto}
-use Rattle.isle_emission.specs.MadeBodies.{made_body}
 use Rattle.isle_simulation.specs.Statements.{stmt_before}
-use Rattle.isle_simulation.specs.TermFunction.{is_return, ends_in_return, mark_in, tail_body, root_body}
+use Rattle.isle_simulation.specs.TermFunction.{is_return, ends_in_return, mark_in, tail_body, tail_in}
 use Rattle.isle_emission.proofs.Onto.{onto_pushed, onto_done}
 
 pub one_less : (n : ℕ) → false ≡ eqb n 0 → (n - 1) + 1 ≡ n
@@ -27,36 +27,32 @@ ends_at (y ∷ []) (suc i) x n is = absurd (omega (arith, n))
 ends_at (y ∷ z ∷ ys) zero x n is = absurd (omega (arith, n))
 ends_at (y ∷ z ∷ ys) (suc i) x n is = ends_at (z ∷ ys) i x (omega (arith, n)) is
 
-pub root_ended : (files : Files) (s : Setting) (b : Block) (ss : List CodeStmt)
-    → ends_in_return b ≡ true → ((end : Option Body) → body_onto (map stmt ss) end ≡ made_body s [] b end) → Some (body ss) ≡ root_body files s b
-root_ended files s b ss ends is =
-    sym (onto_done (map stmt ss)) ∙ is (Some Done) ∙ ap (λ e. made_body s [] b (Some (cond e Done (tail_body (mark_in files s.env s.term))))) (sym ends)
+-- what stands behind the statements of a block: nothing where it ends in a result
+pub root_ended : (files : Files) (env : Environment) (t : Term) (b : Block) (ss : List CodeStmt) → ends_in_return b ≡ true → Some (body ss) ≡ body_onto (map stmt ss) (Some (tail_in files env t b))
+root_ended files env t b ss ends =
+    sym (onto_done (map stmt ss)) ∙ ap (λ e. body_onto (map stmt ss) (Some (cond e Done (tail_body (mark_in files env t))))) (sym ends)
 
 -- after a block that goes on stands the tail
-pub root_open : (files : Files) (s : Setting) (b : Block) (ss new : List CodeStmt) (last : CodeStmt)
-    → ends_in_return b ≡ false → ((end : Option Body) → body_onto (map stmt ss) end ≡ made_body s [] b end) → Some (stmt last) ≡ option_map Tail (mark_in files s.env s.term) → new ≡ ss ++ last ∷ []
-    → Some (body new) ≡ root_body files s b
-root_open files s b ss new last ends is is_last pushed =
+pub root_open : (files : Files) (env : Environment) (t : Term) (b : Block) (ss new : List CodeStmt) (last : CodeStmt)
+    → ends_in_return b ≡ false → Some (stmt last) ≡ option_map Tail (mark_in files env t) → new ≡ ss ++ last ∷ [] → Some (body new) ≡ body_onto (map stmt ss) (Some (tail_in files env t b))
+root_open files env t b ss new last ends is_last pushed =
     ap (λ xs. Some (body xs)) pushed
     ∙ sym (onto_done (map stmt (ss ++ last ∷ [])))
     ∙ onto_pushed ss last (Some Done)
-    ∙ ap (body_onto (map stmt ss)) (tail_last (mark_in files s.env s.term) is_last)
-    ∙ is (Some (tail_body (mark_in files s.env s.term)))
-    ∙ ap (λ e. made_body s [] b (Some (cond e Done (tail_body (mark_in files s.env s.term))))) (sym ends)
+    ∙ ap (body_onto (map stmt ss)) (tail_last (mark_in files env t) is_last)
+    ∙ ap (λ e. body_onto (map stmt ss) (Some (cond e Done (tail_body (mark_in files env t))))) (sym ends)
   where
     tail_last : (mark : Option (Option (List ℕ × List ℕ))) → Some (stmt last) ≡ option_map Tail mark → stmt_before (Some (stmt last)) (Some Done) ≡ Some (tail_body mark)
     tail_last (Some m) e = ap (λ o. stmt_before o (Some Done)) e
     tail_last None e = cc
 
 -- or none, where the kind has none
-pub root_bare : (files : Files) (s : Setting) (b : Block) (ss : List CodeStmt)
-    → ends_in_return b ≡ false → ((end : Option Body) → body_onto (map stmt ss) end ≡ made_body s [] b end) → None ≡ option_map Tail (mark_in files s.env s.term)
-    → Some (body ss) ≡ root_body files s b
-root_bare files s b ss ends is none =
+pub root_bare : (files : Files) (env : Environment) (t : Term) (b : Block) (ss : List CodeStmt)
+    → ends_in_return b ≡ false → None ≡ option_map Tail (mark_in files env t) → Some (body ss) ≡ body_onto (map stmt ss) (Some (tail_in files env t b))
+root_bare files env t b ss ends none =
     sym (onto_done (map stmt ss))
-    ∙ is (Some Done)
-    ∙ ap (λ t. made_body s [] b (Some t)) (no_tail (mark_in files s.env s.term) none)
-    ∙ ap (λ e. made_body s [] b (Some (cond e Done (tail_body (mark_in files s.env s.term))))) (sym ends)
+    ∙ ap (λ x. body_onto (map stmt ss) (Some x)) (no_tail (mark_in files env t) none)
+    ∙ ap (λ e. body_onto (map stmt ss) (Some (cond e Done (tail_body (mark_in files env t))))) (sym ends)
   where
     no_tail : (mark : Option (Option (List ℕ × List ℕ))) → None ≡ option_map Tail mark → Done ≡ tail_body mark
     no_tail None e = refl

@@ -122,17 +122,3 @@ one_arm s bound source i r [] x seen one item seen_x is is_i = absurd (unlike on
 one_arm s bound source i r (y ∷ []) x seen one item seen_x is is_i =
     is ∙ ap (arm_stmt s bound source seen.0 seen.1) is_i ∙ ap (λ k. made_arms s bound source (arms_of (k ∷ []))) (sym seen_x ∙ ap arm item)
 one_arm s bound source i r (y ∷ z ∷ xs) x seen one item seen_x is is_i = let bad : suc (suc (length xs)) ≡ 1 = eqb-true (length (y ∷ z ∷ xs)) 1 one in absurd (omega (arith, bad))
-
--- ---- places
-
--- one place more
-within_more : (bound : List ℕ) (p : Option BindingId) (ps : List (Option BindingId)) → bound_within (bound_within bound (p ∷ [])) ps ≡ bound_within bound (p ∷ ps)
-within_more bound None ps = refl
-within_more bound (Some b) ps = refl
-
-pub within_step : (ps : List (Option BindingId)) (i : ℕ) (p d : Option BindingId) (old new : List ℕ) → i < length ps → p ≡ get_or ps i d → new ≡ bound_within old (p ∷ []) → bound_within new (drop (i + 1) ps) ≡ bound_within old (drop i ps)
-within_step ps i p d old new lt item is =
-    ap (λ ls. bound_within ls (drop (i + 1) ps)) is
-    ∙ within_more old p (drop (i + 1) ps)
-    ∙ ap (λ x. bound_within old (x ∷ drop (i + 1) ps)) item
-    ∙ ap (bound_within old) (sym (drop_more ps i d lt))

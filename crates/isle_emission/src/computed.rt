@@ -1,6 +1,6 @@
 //! What bound locals compute: calls, the inner values of options, made values, and what is read in place.
 
-ghost use Rattle.std.specs.Prelude.{◌≡◌, IfOk};
+ghost use Rattle.std.specs.Prelude.{◌≡◌, Some as Is, IfOk};
 ghost use Rattle.isle_core.specs.Path.{at, paths_of};
 ghost use Rattle.isle_operands.specs.Contexts.{env_of, bindings_in};
 ghost use Rattle.isle_operands.specs.Typed.{setting_in};
@@ -59,20 +59,18 @@ fn read_in_place(
     Ok(read_of(in_place(alloc, context, binding)?))
 }
 
-/// Makes what the local of a binding computes, where that is built.
-pub fn bound_expr(
+// Makes what the local of a binding of this number computes, where that is built.
+fn expr_of(
     alloc: Global,
     typed: &Typed<'_>,
     bound: &Scope,
-    binding: BindingId,
+    number: BindingId,
+    binding: &Binding,
 ) -> Result<Option<TExpr>, AllocError>
-    ensures { IfOk result (λ e. e ≡ Statements.bound_expr (setting_in typed.now) bound.now binding) }
+    ensures { IfOk result (λ e. e ≡ Statements.computed (setting_in typed.now) bound.now number (Is binding.now)) }
 {
     let context = &typed.context;
-    let Some(of) = context.bindings.get(binding.index()) else {
-        return Ok(None);
-    };
-    match of {
+    match binding {
         Binding::Constructor {
             term,
             parameters,
@@ -94,12 +92,27 @@ pub fn bound_expr(
         Binding::Argument { .. }
         | Binding::ConstBool { .. }
         | Binding::ConstInt { .. }
-        | Binding::ConstPrim { .. } => read_in_place(alloc, context, binding),
+        | Binding::ConstPrim { .. } => read_in_place(alloc, context, number),
         Binding::Extractor { .. }
         | Binding::Iterator { .. }
         | Binding::MatchVariant { .. }
         | Binding::ExtractStruct { .. }
         | Binding::MakeSome { .. }
         | Binding::MatchTuple { .. } => Ok(None),
+    }
+}
+
+/// Makes what the local of a binding computes, where that is built.
+pub fn bound_expr(
+    alloc: Global,
+    typed: &Typed<'_>,
+    bound: &Scope,
+    binding: BindingId,
+) -> Result<Option<TExpr>, AllocError>
+    ensures { IfOk result (λ e. e ≡ Statements.bound_expr (setting_in typed.now) bound.now binding) }
+{
+    match typed.context.bindings.get(binding.index()) {
+        Some(of) => expr_of(alloc, typed, bound, binding, of),
+        None => Ok(None),
     }
 }

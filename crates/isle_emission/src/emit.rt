@@ -3,24 +3,68 @@
 ghost use Rattle.std.specs.Prelude.{◌≡◌, map, option_map, IfOk};
 ghost use Rattle.isle_core.specs.BlockViews as BlockViews;
 ghost use Rattle.isle_core.specs.Places.{LiesIn};
+ghost use Rattle.isle_core.specs.Terms.{sym_text};
 ghost use Rattle.isle_tree.specs.Views as Views;
-ghost use Rattle.isle_operands.specs.Contexts.{setting_of};
+ghost use Rattle.isle_operands.specs.Contexts.{env_of, setting_of};
 ghost use Rattle.isle_core.specs.LineStarts.{starts_of};
 ghost use Rattle.isle_emission.specs.Built.{IsBuilt};
 ghost use Rattle.isle_emission.specs.EmittedTerm.{IsGiven, IsWellFormedIn, HasBlockShape, RunsAsItsBlock};
 ghost use Rattle.isle_emission.specs.MayEmit.{MayEmitTerm};
 ghost use Rattle.isle_emission.specs.Origin.{origin};
+ghost use Rattle.isle_emission.specs.Views.{body_in};
 ghost use Rattle.isle_simulation.specs.TermFunction as TermFunction;
+ghost use Rattle.isle_simulation.specs.TypeTexts.{type_text, parameter};
 
 use crate::root::root_stmts;
 use isle_core::{
-    Block, CodegenOptions, Files, LineStarts, List, OutOfMemory, RuleSet, TermEnv, TermId, TypeEnv,
+    Block, CodegenOptions, Files, LineStarts, List, OutOfMemory, RuleSet, TermEnv, TermId, Text,
+    TypeEnv,
 };
 use isle_operands::{
     ConstTypes, Context, Typed, binding_types, kind_of, params, sym_name, ty_name,
 };
-use isle_tree::Function;
-use std::alloc::Global;
+use isle_tree::{Function, Stmt, Ty};
+use std::alloc::{AllocError, Global};
+
+// Makes the name, the parameters and the result of a term's function.
+fn head(alloc: Global, context: &Context<'_>) -> Result<(Text, Vec<Ty>, Text), AllocError>
+    ensures name { IfOk result (λ head. head.0 ≡ sym_text (env_of context.now) context.now.term.now.name) }
+    ensures params { IfOk result (λ head. head.1.items ≡ map (parameter (env_of context.now)) context.now.term.now.arg_tys) }
+    ensures result { IfOk result (λ head. head.2 ≡ type_text (env_of context.now) context.now.term.now.ret_ty) }
+{
+    let term = context.term;
+    let name = sym_name(alloc, context.typeenv, term.name)?;
+    let params = params(
+        alloc,
+        context.typeenv,
+        context.termenv,
+        term.arg_tys.as_slice(),
+    )?;
+    let result = ty_name(alloc, context.typeenv, term.ret_ty)?;
+    Ok((name, params, result))
+}
+
+// Makes its statements, with the types of the bindings.
+fn term_stmts(
+    alloc: Global,
+    files: &Files,
+    starts: &LineStarts,
+    consts: &ConstTypes<'_>,
+    context: &Context<'_>,
+    block: &Block,
+) -> Result<Option<Vec<Stmt>>, OutOfMemory>
+    requires starts { starts.now ≡ map starts_of files.now.file_texts }
+    requires consts { consts.now ≡ context.now.typeenv.now.consts }
+    requires place { LiesIn files.now context.now.term.now.decl_pos }
+    ensures { IfOk result (λ stmts. body_in stmts ≡ TermFunction.root_body files.now (setting_of context.now) (BlockViews.block block.now)) }
+{
+    let types = binding_types(alloc, context, consts)?;
+    let typed = Typed {
+        context: *context,
+        types: types.as_slice(),
+    };
+    root_stmts(alloc, files, starts, &typed, block)
+}
 
 /// Makes the function of a term from its context and its block, where its forms are built. The table is that of the files,
 /// and the constants are those of the context. Fails for want of memory alone.
@@ -37,28 +81,15 @@ pub fn term_function(
     requires place { LiesIn files.now context.now.term.now.decl_pos }
     ensures { IfOk result (λ f. option_map Views.function f ≡ TermFunction.term_function files.now (setting_of context.now) (BlockViews.block block.now)) }
 {
-    let term = context.term;
-    let name = sym_name(alloc, context.typeenv, term.name)?;
-    let params = params(
-        alloc,
-        context.typeenv,
-        context.termenv,
-        term.arg_tys.as_slice(),
-    )?;
-    let result = ty_name(alloc, context.typeenv, term.ret_ty)?;
-    let types = binding_types(alloc, context, consts)?;
-    let typed = Typed {
-        context: *context,
-        types: types.as_slice(),
-    };
-    let Some(body) = root_stmts(alloc, files, starts, &typed, block)? else {
+    let Some(body) = term_stmts(alloc, files, starts, consts, context, block)? else {
         return Ok(None);
     };
+    let (term, params, result) = head(alloc, context)?;
     Ok(Some(Function {
-        term: name,
+        term,
         params: List::new(params),
         result,
-        kind: kind_of(&term.kind),
+        kind: kind_of(&context.term.kind),
         body: List::new(body),
     }))
 }

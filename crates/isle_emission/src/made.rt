@@ -15,6 +15,28 @@ use isle_scope::Scope;
 use isle_tree::{Operand, Read, TExpr};
 use std::alloc::{AllocError, Global};
 
+// Adds the read of a part as it is put into the field of this number, and returns whether it could be made.
+fn push_read(
+    alloc: Global,
+    typed: &Typed<'_>,
+    bound: &Scope,
+    fields: &Fields,
+    index: usize,
+    part: BindingId,
+    reads: &mut Vec<(Text, Read)>,
+) -> Result<bool, AllocError>
+    ensures { IfOk result (λ made. MadeValues.IsReadAt (setting_in typed.now) bound.now (typed_fields (setting_in typed.now).env fields.now) index part made reads.old.items reads.new.items) }
+{
+    let Some((name, _)) = field_at(alloc, &typed.context, fields, index)? else {
+        return Ok(false);
+    };
+    let Some(read) = read_in(alloc, typed, bound, false, part)? else {
+        return Ok(false);
+    };
+    reads.push((name, read))?;
+    Ok(true)
+}
+
 // Makes the reads of bindings as they are put into these fields, in order, where there is a field for each of them.
 fn field_reads(
     alloc: Global,
@@ -30,13 +52,9 @@ fn field_reads(
     }
     let mut reads = Vec::new(alloc);
     for index in 0..parts.len() {
-        let Some((name, _)) = field_at(alloc, &typed.context, fields, index)? else {
+        if !push_read(alloc, typed, bound, fields, index, parts[index], &mut reads)? {
             return Ok(None);
-        };
-        let Some(read) = read_in(alloc, typed, bound, false, parts[index])? else {
-            return Ok(None);
-        };
-        reads.push((name, read))?;
+        }
     }
     Ok(Some(reads))
 }

@@ -104,6 +104,36 @@ fn leaves_out(fields: &Fields, places: &[Option<BindingId>]) -> bool
     false
 }
 
+// Makes the pattern of a form that binds these fields, others being left out or not.
+fn pattern_with(
+    alloc: Global,
+    context: &Context<'_>,
+    form: &Form<'_>,
+    more: bool,
+    binds: Vec<TBind>,
+) -> Result<TPat, AllocError>
+    ensures { IfOk result (λ pat. pat ≡ Patterns.pattern_named (env_of context.now) (form_seen form.now).ty (form_seen form.now).variant more binds.items) }
+{
+    let ty = sym_name(alloc, context.typeenv, form.ty)?;
+    match form.variant {
+        Some(variant) => {
+            Ok(TPat::Variant {
+                ty,
+                variant: sym_name(alloc, context.typeenv, variant)?,
+                binds: List::new(binds),
+                more,
+            })
+        }
+        None => {
+            Ok(TPat::Struct {
+                ty,
+                binds: List::new(binds),
+                more,
+            })
+        }
+    }
+}
+
 // Makes the pattern of a form, where there is one and a field for each place.
 fn form_pattern(
     alloc: Global,
@@ -120,20 +150,7 @@ fn form_pattern(
         return Ok(None);
     };
     let more = leaves_out(form.fields, places);
-    let ty = sym_name(alloc, context.typeenv, form.ty)?;
-    let binds = List::new(binds);
-    match form.variant {
-        Some(name) => {
-            let variant = sym_name(alloc, context.typeenv, name)?;
-            Ok(Some(TPat::Variant {
-                ty,
-                variant,
-                binds,
-                more,
-            }))
-        }
-        None => Ok(Some(TPat::Struct { ty, binds, more })),
-    }
+    Ok(Some(pattern_with(alloc, context, &form, more, binds)?))
 }
 
 /// Makes the pattern of a constraint on a variant or a struct; the others have none.

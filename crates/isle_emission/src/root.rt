@@ -1,14 +1,15 @@
 //! The statements of a term's function.
 
-ghost use Rattle.std.specs.Prelude.{◌≡◌, map, option_map, IfOk};
+ghost use Rattle.std.specs.Prelude.{◌≡◌, Some as Is, map, option_map, IfOk};
 ghost use Rattle.isle_core.specs.BlockViews as BlockViews;
 ghost use Rattle.isle_core.specs.Places.{LiesIn};
 ghost use Rattle.isle_tree.specs.Program.{Tail};
-ghost use Rattle.isle_tree.specs.Views.{stmt};
+ghost use Rattle.isle_tree.specs.Views.{stmt, body};
 ghost use Rattle.isle_operands.specs.Contexts.{env_of};
 ghost use Rattle.isle_operands.specs.Typed.{setting_in};
 ghost use Rattle.isle_core.specs.LineStarts.{starts_of};
 ghost use Rattle.isle_simulation.specs.TermFunction as TermFunction;
+ghost use Rattle.isle_emission.specs.BodyOnto.{body_onto};
 ghost use Rattle.isle_emission.specs.Views.{body_in};
 
 use crate::statements::block_stmts;
@@ -64,6 +65,29 @@ fn ends_in_return(block: &Block) -> bool
     is_return(&steps[steps.len() - 1].check)
 }
 
+// Adds the tail behind the statements of a block, where the block can end without a result.
+fn with_tail(
+    alloc: Global,
+    files: &Files,
+    starts: &LineStarts,
+    context: &Context<'_>,
+    block: &Block,
+    mut stmts: Vec<Stmt>,
+) -> Result<Vec<Stmt>, OutOfMemory>
+    requires starts { starts.now ≡ map starts_of files.now.file_texts }
+    requires place { LiesIn files.now context.now.term.now.decl_pos }
+    ensures { IfOk result (λ all. Is (body all.items) ≡ body_onto (map stmt stmts.items) (Is (TermFunction.tail_in files.now (env_of context.now) context.now.term.now (BlockViews.block block.now)))) }
+{
+    if ends_in_return(block) {
+        return Ok(stmts);
+    }
+    let Some(last) = tail(alloc, files, starts, context)? else {
+        return Ok(stmts);
+    };
+    stmts.push(last)?;
+    Ok(stmts)
+}
+
 /// Makes the statements of a term's function, where its forms are built: those of its block, and the tail where the block
 /// can end without a result.
 pub fn root_stmts(
@@ -78,15 +102,8 @@ pub fn root_stmts(
     ensures { IfOk result (λ stmts. body_in stmts ≡ TermFunction.root_body files.now (setting_in typed.now) (BlockViews.block block.now)) }
 {
     let mut bound = Scope::new(alloc);
-    let Some(mut stmts) = block_stmts(alloc, typed, &mut bound, block)? else {
+    let Some(stmts) = block_stmts(alloc, typed, &mut bound, block)? else {
         return Ok(None);
     };
-    if ends_in_return(block) {
-        return Ok(Some(stmts));
-    }
-    let Some(last) = tail(alloc, files, starts, &typed.context)? else {
-        return Ok(Some(stmts));
-    };
-    stmts.push(last)?;
-    Ok(Some(stmts))
+    Ok(Some(with_tail(alloc, files, starts, &typed.context, block, stmts)?))
 }

@@ -37,7 +37,7 @@ fn return_of(kind: ReturnKind, read: Option<Read>) -> Option<Stmt>
     }
 }
 
-// What is tested: whether two operands are equal, or whether what is read fits a pattern.
+/// What is tested: whether two operands are equal, or whether what is read fits a pattern.
 #[derive(Drop)]
 pub enum Test {
     Equal(Operand, Operand),

@@ -1,11 +1,27 @@
-use Rattle.std.proofs.Common.{◌≡◌, Some, None, get_or, sym, ap, ◌∙◌}
+use Rattle.std.proofs.Common.{◌≡◌, ◌<◌, length, Some, None, get_or, sym, ap, ◌∙◌, arith}
 use Rattle.std.specs.Prelude.{option_map}
+use Rattle.isle_core.specs.declared.types.Term.{Term}
 use Rattle.isle_core.specs.Setting.{setting}
 use Rattle.isle_tree.specs.Views.{function}
+use Rattle.isle_emission.specs.MayEmit.{MayEmit}
 use Rattle.isle_emission.specs.Origin.{origin}
 use Rattle.isle_simulation.specs.TermFunction.{term_function}
-use Rattle.isle_emission.proofs.EmittedLaws.{at_item, is_made, is_well_formed, is_shaped, is_run}
+use Rattle.isle_emission.proofs.EmittedLaws.{in_range, of_item, at_item, is_made, is_well_formed, is_shaped, is_run}
 use Rattle.isle_emission.proofs.emit.emit_term.Goals as goal
+
+pub bounds-as_slice-index : goal.bounds-as_slice-index
+bounds-as_slice-index c =
+    let lt : c.args.term.0 < length c.args.termenv.now.terms = in_range c.args.termenv.now.terms c.args.term.0 _ c.requires.term in
+    omega (arith, lt, ap length c.as_slice.ensures)
+
+pub term_function-requires-clause-place : goal.term_function-requires-clause-place
+term_function-requires-clause-place c =
+    let terms = c.args.termenv.now.terms in
+    let x = c.index-as_slice-index.result in
+    let is : x ≡ get_or terms c.args.term.0 x = c.index-as_slice-index.is ∙ ap (λ xs. get_or xs c.index.result x) c.as_slice.ensures ∙ ap (λ i. get_or terms i x) c.index.ensures in
+    let o = origin c.args.files.now c.args.typeenv.now c.args.termenv.now c.args.term c.args.rules.now c.args.block.now in
+    let may = of_item terms c.args.term.0 x (λ (u : Term). MayEmit o.files (setting o.env u o.bindings) o.block) c.requires.term is in
+    may.declared
 
 pub unreachable-requires : goal.unreachable-requires
 unreachable-requires c =
