@@ -1,7 +1,7 @@
 use isle_core::{Boxed, List, Pos, Text};
 
 /// A definition, in the grammar's shape. Parts that repeat stand in the text's order.
-#[derive(Debug, Drop)]
+#[derive(Debug)]
 pub enum Def {
     TypeDecl {
         name: Text,
@@ -66,12 +66,90 @@ pub enum Def {
     },
 }
 
+impl Drop for Def {
+    // Gives up what the variant holds, in one call wherever a value is dropped.
+    fn drop(self) {
+        match self {
+            Def::TypeDecl {
+                name: _name,
+                is_extern: _is_extern,
+                is_nodebug: _is_nodebug,
+                body: _body,
+                pos: _pos,
+            } => {}
+            Def::Decl {
+                term: _term,
+                pure: _pure,
+                multi: _multi,
+                partial: _partial,
+                recursive: _recursive,
+                args: _args,
+                ret: _ret,
+                pos: _pos,
+            } => {}
+            Def::ExternConstructor {
+                term: _term,
+                func: _func,
+                pos: _pos,
+            } => {}
+            Def::ExternExtractor {
+                term: _term,
+                func: _func,
+                infallible: _infallible,
+                pos: _pos,
+            } => {}
+            Def::ExternConst {
+                name: _name,
+                ty: _ty,
+                pos: _pos,
+            } => {}
+            Def::Extractor {
+                term: _term,
+                params: _params,
+                template: _template,
+                pos: _pos,
+            } => {}
+            Def::Converter {
+                from: _from,
+                to: _to,
+                term: _term,
+                pos: _pos,
+            } => {}
+            Def::Rule {
+                name: _name,
+                prio: _prio,
+                term: _term,
+                args: _args,
+                iflets: _iflets,
+                rhs: _rhs,
+                pos: _pos,
+            } => {}
+            Def::Passed {
+                head: _head,
+                items: _items,
+                pos: _pos,
+            } => {}
+        }
+    }
+}
+
 /// What a type is declared as.
-#[derive(Debug, Drop)]
+#[derive(Debug)]
 pub enum AstBody {
     Primitive(Text),
     Enum(List<AstVariant>),
     Struct(AstFields),
+}
+
+impl Drop for AstBody {
+    // Gives up what the variant holds, in one call wherever a value is dropped.
+    fn drop(self) {
+        match self {
+            AstBody::Primitive(_part0) => {}
+            AstBody::Enum(_part0) => {}
+            AstBody::Struct(_part0) => {}
+        }
+    }
 }
 
 /// A variant of an enum.
@@ -82,15 +160,26 @@ pub struct AstVariant {
 }
 
 /// The fields of a variant or a struct: names with types, or types.
-#[derive(Debug, Drop)]
+#[derive(Debug)]
 pub enum AstFields {
     Unit,
     Named(List<(Text, Text)>),
     Tuple(List<Text>),
 }
 
+impl Drop for AstFields {
+    // Gives up what the variant holds, in one call wherever a value is dropped.
+    fn drop(self) {
+        match self {
+            AstFields::Unit => {}
+            AstFields::Named(_part0) => {}
+            AstFields::Tuple(_part0) => {}
+        }
+    }
+}
+
 /// A pattern.
-#[derive(Debug, Drop)]
+#[derive(Debug)]
 pub enum AstPattern {
     Int(i128),
     Bool(bool),
@@ -103,9 +192,25 @@ pub enum AstPattern {
     Term(Text, List<AstPattern>),
 }
 
+impl Drop for AstPattern {
+    // Gives up what the variant holds, in one call wherever a value is dropped.
+    fn drop(self) {
+        match self {
+            AstPattern::Int(_part0) => {}
+            AstPattern::Bool(_part0) => {}
+            AstPattern::Const(_part0) => {}
+            AstPattern::Wildcard => {}
+            AstPattern::Var(_part0) => {}
+            AstPattern::Bind(_part0, _part1) => {}
+            AstPattern::And(_part0) => {}
+            AstPattern::Term(_part0, _part1) => {}
+        }
+    }
+}
+
 /// An expression.
 #[cycle(expr)]
-#[derive(Debug, Drop)]
+#[derive(Debug)]
 pub enum AstExpr {
     Int(i128),
     Bool(bool),
@@ -118,11 +223,36 @@ pub enum AstExpr {
 
 /// A variable of a `let`, with its type and its value.
 #[cycle(expr)]
-#[derive(Debug, Drop)]
+#[derive(Debug)]
 pub struct AstLet {
     pub var: Text,
     pub ty: Text,
     pub val: AstExpr,
+}
+
+impl Drop for AstExpr {
+    #[cycle(dropping)]
+    fn drop(self) {
+        match self {
+            AstExpr::Int(_part0) => {}
+            AstExpr::Bool(_part0) => {}
+            AstExpr::Const(_part0) => {}
+            AstExpr::Var(_part0) => {}
+            AstExpr::Let(_part0, _part1) => {}
+            AstExpr::Term(_part0, _part1) => {}
+        }
+    }
+}
+
+impl Drop for AstLet {
+    #[cycle(dropping)]
+    fn drop(self) {
+        let AstLet {
+            var: _var,
+            ty: _ty,
+            val: _val,
+        } = self;
+    }
 }
 
 /// A condition of a rule. An `(if E)` has the pattern `Wildcard`.
@@ -133,11 +263,24 @@ pub struct AstIfLet {
 }
 
 /// What may stand in a list that is passed over.
-#[derive(Debug, Drop)]
+#[derive(Debug)]
 pub enum AstAny {
     Word(Text),
     At,
     Less,
     Greater,
     List(List<AstAny>),
+}
+
+impl Drop for AstAny {
+    // Gives up what the variant holds, in one call wherever a value is dropped.
+    fn drop(self) {
+        match self {
+            AstAny::Word(_part0) => {}
+            AstAny::At => {}
+            AstAny::Less => {}
+            AstAny::Greater => {}
+            AstAny::List(_part0) => {}
+        }
+    }
 }

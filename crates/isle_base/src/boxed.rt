@@ -4,9 +4,16 @@ use std::alloc::{AllocError, Global};
 use std::marker::Model;
 
 /// A `Box` that contracts see as its value.
-#[derive(Debug, Drop)]
+#[derive(Debug)]
 pub struct Boxed<T> {
     inner: Box<T>,
+}
+
+impl<T: Drop> Drop for Boxed<T> {
+    // One call wherever one is dropped.
+    fn drop(self) {
+        let Boxed { inner: _inner } = self;
+    }
 }
 
 impl<T> Model for Boxed<T> {

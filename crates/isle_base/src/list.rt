@@ -3,9 +3,16 @@ ghost use Rattle.std.specs.Prelude.{◌≡◌};
 use std::marker::Model;
 
 /// A `Vec` that contracts see as the list of its items.
-#[derive(Debug, Drop)]
+#[derive(Debug)]
 pub struct List<T> {
     items: Vec<T>,
+}
+
+impl<T: Drop> Drop for List<T> {
+    // One call wherever one is dropped.
+    fn drop(self) {
+        let List { items: _items } = self;
+    }
 }
 
 impl<T> Model for List<T> {

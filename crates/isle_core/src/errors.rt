@@ -13,7 +13,7 @@ use isle_outside::OutOfMemory;
 use std::alloc::Global;
 
 /// A fault in the definitions, with its place.
-#[derive(Debug, Drop)]
+#[derive(Debug)]
 pub enum Error {
     ParseError { msg: Text, span: Span },
     /// The row is that of the typing table.
@@ -23,6 +23,39 @@ pub enum Error {
     OverlapError { msg: Text, rules: List<Span> },
     ShadowedError { shadowed: Span, mask: Span },
     RecursionError { msg: Text, span: Span },
+}
+
+impl Drop for Error {
+    // Gives up what the variant holds, in one call wherever a value is dropped.
+    fn drop(self) {
+        match self {
+            Error::ParseError {
+                msg: _msg,
+                span: _span,
+            } => {}
+            Error::TypeError {
+                row: _row,
+                msg: _msg,
+                span: _span,
+            } => {}
+            Error::UnreachableError {
+                msg: _msg,
+                span: _span,
+            } => {}
+            Error::OverlapError {
+                msg: _msg,
+                rules: _rules,
+            } => {}
+            Error::ShadowedError {
+                shadowed: _shadowed,
+                mask: _mask,
+            } => {}
+            Error::RecursionError {
+                msg: _msg,
+                span: _span,
+            } => {}
+        }
+    }
 }
 
 impl Error {

@@ -2,7 +2,7 @@ use crate::position::Pos;
 use isle_base::{BindingId, List, Sym, TermId, TupleIndex, TypeId, VariantId};
 
 /// A value that a rule speaks of, by the values that it comes from.
-#[derive(Debug, Drop)]
+#[derive(Debug)]
 pub enum Binding {
     ConstBool {
         val: bool,
@@ -59,6 +59,52 @@ pub enum Binding {
         source: BindingId,
         field: TupleIndex,
     },
+}
+
+impl Drop for Binding {
+    // Gives up what the variant holds, in one call wherever a value is dropped.
+    fn drop(self) {
+        match self {
+            Binding::ConstBool { val: _val, ty: _ty } => {}
+            Binding::ConstInt { val: _val, ty: _ty } => {}
+            Binding::ConstPrim { val: _val } => {}
+            Binding::Argument { index: _index } => {}
+            Binding::Extractor {
+                term: _term,
+                parameter: _parameter,
+            } => {}
+            Binding::Constructor {
+                term: _term,
+                parameters: _parameters,
+                instance: _instance,
+            } => {}
+            Binding::Iterator { source: _source } => {}
+            Binding::MakeVariant {
+                ty: _ty,
+                variant: _variant,
+                fields: _fields,
+            } => {}
+            Binding::MakeStruct {
+                ty: _ty,
+                fields: _fields,
+            } => {}
+            Binding::MatchVariant {
+                source: _source,
+                variant: _variant,
+                field: _field,
+            } => {}
+            Binding::ExtractStruct {
+                source: _source,
+                field: _field,
+            } => {}
+            Binding::MakeSome { inner: _inner } => {}
+            Binding::MatchSome { source: _source } => {}
+            Binding::MatchTuple {
+                source: _source,
+                field: _field,
+            } => {}
+        }
+    }
 }
 
 /// A test of one binding.

@@ -2,7 +2,7 @@ use crate::position::Pos;
 use isle_base::{Boxed, List, RuleId, Sym, TermId, TypeId, VarId};
 
 /// An elaborated pattern: templates are substituted, converters inserted, integers of builtin types reduced.
-#[derive(Debug, Drop)]
+#[derive(Debug)]
 pub enum Pattern {
     BindPattern(TypeId, VarId, Boxed<Pattern>),
     Var(TypeId, VarId),
@@ -14,9 +14,25 @@ pub enum Pattern {
     And(TypeId, List<Pattern>),
 }
 
+impl Drop for Pattern {
+    // Gives up what the variant holds, in one call wherever a value is dropped.
+    fn drop(self) {
+        match self {
+            Pattern::BindPattern(_part0, _part1, _part2) => {}
+            Pattern::Var(_part0, _part1) => {}
+            Pattern::ConstBool(_part0) => {}
+            Pattern::ConstInt(_part0, _part1) => {}
+            Pattern::ConstPrim(_part0, _part1) => {}
+            Pattern::Term(_part0, _part1, _part2) => {}
+            Pattern::Wildcard(_part0) => {}
+            Pattern::And(_part0, _part1) => {}
+        }
+    }
+}
+
 /// A variable of a `let` with its value.
 #[cycle(expr)]
-#[derive(Debug, Drop)]
+#[derive(Debug)]
 pub struct LetBinding {
     pub var: VarId,
     pub ty: TypeId,
@@ -25,7 +41,7 @@ pub struct LetBinding {
 
 /// An elaborated expression.
 #[cycle(expr)]
-#[derive(Debug, Drop)]
+#[derive(Debug)]
 pub enum Expr {
     Term(TypeId, TermId, List<Expr>),
     Var(TypeId, VarId),
@@ -33,6 +49,31 @@ pub enum Expr {
     ConstInt(TypeId, i128),
     ConstPrim(TypeId, Sym),
     Let(TypeId, List<LetBinding>, Boxed<Expr>),
+}
+
+impl Drop for LetBinding {
+    #[cycle(dropping)]
+    fn drop(self) {
+        let LetBinding {
+            var: _var,
+            ty: _ty,
+            val: _val,
+        } = self;
+    }
+}
+
+impl Drop for Expr {
+    #[cycle(dropping)]
+    fn drop(self) {
+        match self {
+            Expr::Term(_ty, _term, _args) => {}
+            Expr::Var(_ty, _var) => {}
+            Expr::ConstBool(_truth) => {}
+            Expr::ConstInt(_ty, _number) => {}
+            Expr::ConstPrim(_ty, _name) => {}
+            Expr::Let(_ty, _bindings, _inner) => {}
+        }
+    }
 }
 
 /// A condition of a rule: the expression's value is matched.

@@ -33,11 +33,22 @@ pub struct Field {
 }
 
 /// The fields of a variant or a struct.
-#[derive(Debug, Drop)]
+#[derive(Debug)]
 pub enum Fields {
     Unit,
     Struct(List<Field>),
     Tuple(List<TypeId>),
+}
+
+impl Drop for Fields {
+    // Gives up what the variant holds, in one call wherever a value is dropped.
+    fn drop(self) {
+        match self {
+            Fields::Unit => {}
+            Fields::Struct(_part0) => {}
+            Fields::Tuple(_part0) => {}
+        }
+    }
 }
 
 /// A variant of an enum.
@@ -48,7 +59,7 @@ pub struct Variant {
 }
 
 /// A type: built in, or declared at its position.
-#[derive(Debug, Drop)]
+#[derive(Debug)]
 pub enum TypeDef {
     Builtin(BuiltinType),
     Primitive {
@@ -70,6 +81,34 @@ pub enum TypeDef {
         fields: Fields,
         pos: Pos,
     },
+}
+
+impl Drop for TypeDef {
+    // Gives up what the variant holds, in one call wherever a value is dropped.
+    fn drop(self) {
+        match self {
+            TypeDef::Builtin(_part0) => {}
+            TypeDef::Primitive {
+                name: _name,
+                rust: _rust,
+                pos: _pos,
+            } => {}
+            TypeDef::Enum {
+                name: _name,
+                is_extern: _is_extern,
+                is_nodebug: _is_nodebug,
+                variants: _variants,
+                pos: _pos,
+            } => {}
+            TypeDef::Struct {
+                name: _name,
+                is_extern: _is_extern,
+                is_nodebug: _is_nodebug,
+                fields: _fields,
+                pos: _pos,
+            } => {}
+        }
+    }
 }
 
 /// The symbols, types and constants of a list of definitions.
@@ -117,7 +156,7 @@ pub enum ExtractorKind {
 }
 
 /// What a term is: made by a variant or a struct, or declared.
-#[derive(Debug, Drop)]
+#[derive(Debug)]
 pub enum TermKind {
     Variant {
         ty: TypeId,
@@ -134,6 +173,27 @@ pub enum TermKind {
         constructor: ConstructorKind,
         extractor: ExtractorKind,
     },
+}
+
+impl Drop for TermKind {
+    // Gives up what the variant holds, in one call wherever a value is dropped.
+    fn drop(self) {
+        match self {
+            TermKind::Variant {
+                ty: _ty,
+                variant: _variant,
+            } => {}
+            TermKind::Struct { ty: _ty } => {}
+            TermKind::Decl {
+                pure: _pure,
+                multi: _multi,
+                partial: _partial,
+                recursive: _recursive,
+                constructor: _constructor,
+                extractor: _extractor,
+            } => {}
+        }
+    }
 }
 
 /// A term with its types.

@@ -2,14 +2,24 @@ use crate::types::IntType;
 use isle_base::{List, Text};
 
 /// What a call goes to: `C::F`, or the function of a term.
-#[derive(Debug, Drop)]
+#[derive(Debug)]
 pub enum Callee {
     External(Text),
     Internal(Text),
 }
 
+impl Drop for Callee {
+    // Gives up what the variant holds, in one call wherever a value is dropped.
+    fn drop(self) {
+        match self {
+            Callee::External(_part0) => {}
+            Callee::Internal(_part0) => {}
+        }
+    }
+}
+
 /// A value of a run.
-#[derive(Debug, Drop)]
+#[derive(Debug)]
 pub enum Value {
     Bool(bool),
     /// `u128` is held as its 128 signed bits.
@@ -22,13 +32,38 @@ pub enum Value {
     Struct(Text, List<(Text, Value)>),
 }
 
+impl Drop for Value {
+    // Gives up what the variant holds, in one call wherever a value is dropped.
+    fn drop(self) {
+        match self {
+            Value::Bool(_part0) => {}
+            Value::Int(_part0, _part1) => {}
+            Value::Opaque(_part0, _part1) => {}
+            Value::Variant(_part0, _part1, _part2) => {}
+            Value::Struct(_part0, _part1) => {}
+        }
+    }
+}
+
 /// What a call answers. The lists hold the results of one answer.
-#[derive(Debug, Drop)]
+#[derive(Debug)]
 pub enum Answer {
     Plain(List<Value>),
     Some(List<Value>),
     Nothing,
     List(List<List<Value>>),
+}
+
+impl Drop for Answer {
+    // Gives up what the variant holds, in one call wherever a value is dropped.
+    fn drop(self) {
+        match self {
+            Answer::Plain(_part0) => {}
+            Answer::Some(_part0) => {}
+            Answer::Nothing => {}
+            Answer::List(_part0) => {}
+        }
+    }
 }
 
 /// The answers of an extractor or a pure term: the first case with these arguments, or else the rest.
@@ -65,13 +100,26 @@ pub struct CallMade {
 }
 
 /// How a run ends.
-#[derive(Debug, Drop)]
+#[derive(Debug)]
 pub enum End {
     Value(Value),
     Some(Value),
     Nothing,
     Unreachable,
     List(List<Value>),
+}
+
+impl Drop for End {
+    // Gives up what the variant holds, in one call wherever a value is dropped.
+    fn drop(self) {
+        match self {
+            End::Value(_part0) => {}
+            End::Some(_part0) => {}
+            End::Nothing => {}
+            End::Unreachable => {}
+            End::List(_part0) => {}
+        }
+    }
 }
 
 /// How a run ends, and the calls made in order.

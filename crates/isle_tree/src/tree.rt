@@ -17,18 +17,39 @@ pub struct TraitFn {
 }
 
 /// The fields of a variant or a struct: names and types.
-#[derive(Debug, Drop)]
+#[derive(Debug)]
 pub enum TFields {
     Unit,
     Named(List<(Text, Text)>),
     Tuple(List<Text>),
 }
 
+impl Drop for TFields {
+    // Gives up what the variant holds, in one call wherever a value is dropped.
+    fn drop(self) {
+        match self {
+            TFields::Unit => {}
+            TFields::Named(_part0) => {}
+            TFields::Tuple(_part0) => {}
+        }
+    }
+}
+
 /// What a type is made of: variants, or fields.
-#[derive(Debug, Drop)]
+#[derive(Debug)]
 pub enum TypeBody {
     Enum(List<(Text, TFields)>),
     Struct(TFields),
+}
+
+impl Drop for TypeBody {
+    // Gives up what the variant holds, in one call wherever a value is dropped.
+    fn drop(self) {
+        match self {
+            TypeBody::Enum(_part0) => {}
+            TypeBody::Struct(_part0) => {}
+        }
+    }
 }
 
 /// A type of the program.
@@ -59,7 +80,7 @@ pub struct Program {
 }
 
 /// What stands for a value.
-#[derive(Debug, Drop)]
+#[derive(Debug)]
 pub enum Operand {
     Local(usize),
     Arg(usize),
@@ -71,12 +92,37 @@ pub enum Operand {
     Name(Text),
 }
 
+impl Drop for Operand {
+    // Gives up what the variant holds, in one call wherever a value is dropped.
+    fn drop(self) {
+        match self {
+            Operand::Local(_part0) => {}
+            Operand::Arg(_part0) => {}
+            Operand::Bool(_part0) => {}
+            Operand::Int(_part0, _part1) => {}
+            Operand::Raw(_part0) => {}
+            Operand::Name(_part0) => {}
+        }
+    }
+}
+
 /// How an operand is read.
-#[derive(Debug, Drop)]
+#[derive(Debug)]
 pub enum Read {
     Plain(Operand),
     Borrow(Operand),
     Clone(Operand),
+}
+
+impl Drop for Read {
+    // Gives up what the variant holds, in one call wherever a value is dropped.
+    fn drop(self) {
+        match self {
+            Read::Plain(_part0) => {}
+            Read::Borrow(_part0) => {}
+            Read::Clone(_part0) => {}
+        }
+    }
 }
 
 /// A call with its arguments behind `ctx`.
@@ -87,7 +133,7 @@ pub struct TCall {
 }
 
 /// What a `let` or a `return` computes.
-#[derive(Debug, Drop)]
+#[derive(Debug)]
 pub enum TExpr {
     Read(Read),
     Call {
@@ -111,6 +157,34 @@ pub enum TExpr {
     Tuple(Operand, usize),
 }
 
+impl Drop for TExpr {
+    // Gives up what the variant holds, in one call wherever a value is dropped.
+    fn drop(self) {
+        match self {
+            TExpr::Read(_part0) => {}
+            TExpr::Call {
+                borrow: _borrow,
+                call: _call,
+            } => {}
+            TExpr::Variant {
+                ty: _ty,
+                variant: _variant,
+                fields: _fields,
+            } => {}
+            TExpr::Struct {
+                ty: _ty,
+                fields: _fields,
+            } => {}
+            TExpr::Some(_part0) => {}
+            TExpr::Try {
+                source: _source,
+                as_ref: _as_ref,
+            } => {}
+            TExpr::Tuple(_part0, _part1) => {}
+        }
+    }
+}
+
 /// A field that a pattern binds to a local.
 #[derive(Debug, Drop)]
 pub struct TBind {
@@ -120,7 +194,7 @@ pub struct TBind {
 }
 
 /// A pattern. `more` says that fields are left out.
-#[derive(Debug, Drop)]
+#[derive(Debug)]
 pub enum TPat {
     Const(Operand),
     Variant {
@@ -137,8 +211,29 @@ pub enum TPat {
     Some(Option<usize>),
 }
 
+impl Drop for TPat {
+    // Gives up what the variant holds, in one call wherever a value is dropped.
+    fn drop(self) {
+        match self {
+            TPat::Const(_part0) => {}
+            TPat::Variant {
+                ty: _ty,
+                variant: _variant,
+                binds: _binds,
+                more: _more,
+            } => {}
+            TPat::Struct {
+                ty: _ty,
+                binds: _binds,
+                more: _more,
+            } => {}
+            TPat::Some(_part0) => {}
+        }
+    }
+}
+
 /// A statement.
-#[derive(Debug, Drop)]
+#[derive(Debug)]
 pub enum Stmt {
     Let(usize, TExpr),
     LetList {
@@ -170,4 +265,37 @@ pub enum Stmt {
     },
     /// `None`, or the marked `unreachable!` of a term at a place.
     Tail(Option<(Text, Text)>),
+}
+
+impl Drop for Stmt {
+    // Gives up what the variant holds, in one call wherever a value is dropped.
+    fn drop(self) {
+        match self {
+            Stmt::Let(_part0, _part1) => {}
+            Stmt::LetList {
+                local: _local,
+                call: _call,
+            } => {}
+            Stmt::IfEq(_part0, _part1, _part2) => {}
+            Stmt::IfLet(_part0, _part1, _part2) => {}
+            Stmt::Match(_part0, _part1) => {}
+            Stmt::Loop {
+                list: _list,
+                item: _item,
+                body: _body,
+            } => {}
+            Stmt::Return(_part0) => {}
+            Stmt::Extend(_part0) => {}
+            Stmt::Overflow { inside: _inside } => {}
+            Stmt::Log {
+                term: _term,
+                place: _place,
+            } => {}
+            Stmt::Split {
+                body: _body,
+                inside: _inside,
+            } => {}
+            Stmt::Tail(_part0) => {}
+        }
+    }
 }
