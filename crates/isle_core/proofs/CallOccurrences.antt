@@ -4,18 +4,19 @@ use Rattle.std.specs.Prelude.{Contains}
 use Rattle.std.proofs.lemmas.List.{append-nil, append_assoc}
 use Rattle.isle_base.specs.declared.ids.TermId.{TermId}
 use Rattle.isle_core.specs.Meaning.{Meaning}
-use Rattle.isle_core.specs.Calling.{Calling, ByTurns, ByCases, NoCall, calling, instance_of, one_more, impure, impure_all}
+use Rattle.isle_core.specs.Calling.{Calling, ByTurns, ByCases, NoCall, calling, instance_of, one_more, impure, impure_all, impure_bindings}
 use Rattle.isle_core.specs.Expr as expr
-use Rattle.isle_core.specs.Expr.{Expr, Exprs, NoExpr, AnExpr}
+use Rattle.isle_core.specs.Expr.{Expr, Exprs, NoExpr, AnExpr, LetBindings, NoBinding, ABinding}
 use Rattle.isle_core.specs.Path.{Path, Called, MadeVariant, MadeStruct, Paths}
-use Rattle.isle_core.specs.OrderedCalls.{if_ordered, calls, calls_all}
+use Rattle.isle_core.specs.OrderedCalls.{if_ordered, calls, calls_all, calls_bindings}
+use Rattle.isle_core.specs.Match.{with}
 use Rattle.isle_core.specs.Making.{Making, MakesVariant, MakesStruct, MakesNothing, making}
-use Rattle.isle_core.specs.RightSide.{term_path, paths}
+use Rattle.isle_core.specs.RightSide.{term_path, path, paths, let_places}
 use Rattle.isle_core.specs.Tests.{Places}
 use Rattle.isle_core.specs.StandsFor.{AreFirsts, no_more, again, first}
 use Rattle.isle_core.specs.Rule.{Environment}
 use Rattle.isle_core.proofs.Contained.{contained_cases, none_contained}
-use Rattle.isle_core.proofs.TurnKinds.{TakesTurns, TermTakes, CallsByTurns, AllCallByTurns}
+use Rattle.isle_core.proofs.TurnKinds.{TakesTurns, TermTakes, CallsByTurns, AllCallByTurns, BindingsCallByTurns}
 
 -- the occurrence of a call
 abbrev pub occurrence : Path → ℕ
@@ -55,16 +56,30 @@ none_rising n more r = subst (λ j. AreRising j more) same r
     same = omega arith
 
 mutual
-  calls_rising : (e : Expr) (env : Environment) (m : Meaning) (places : Places) (n : ℕ) (more : List Path) → CallsByTurns env m places e → AreRising (n + impure env e) more → AreRising n (calls env e places n ++ more)
+  calls_rising : (e : Expr) (env : Environment) (m : Meaning) (places : Places) (n : ℕ) (more : List Path) → CallsByTurns env m places n e → AreRising (n + impure env e) more → AreRising n (calls env e places n ++ more)
   calls_rising (expr.Var ty x) env m places n more t r = none_rising n more r
   calls_rising (expr.ConstBool c) env m places n more t r = none_rising n more r
   calls_rising (expr.ConstInt ty k) env m places n more t r = none_rising n more r
   calls_rising (expr.Term ty term es) env m places n more t r =
       making_rising (making env term) (calling env term) m n (impure_all env es) term (paths env es places n) (calls_all env es places n) more t.0 (λ after s. all_calls_rising es env m places n after t.1 s) r
   calls_rising (expr.ConstPrim ty name) env m places n more t r = none_rising n more r
-  calls_rising (expr.Let ty bindings inner) env m places n more t r = absurd t
+  calls_rising (expr.Let ty bs inner) env m places n more t r =
+      let n1 = n + impure_bindings env bs in
+      let mid = let_places env bs places n in
+      let assoc : n + (impure_bindings env bs + impure env inner) ≡ n + impure_bindings env bs + impure env inner = omega arith in
+      subst (AreRising n) (sym (append_assoc (calls_bindings env bs places n) (calls env inner mid n1) more))
+      (bindings_rising bs env m places n (calls env inner mid n1 ++ more) t.0 (calls_rising inner env m mid n1 more t.1 (subst (λ j. AreRising j more) assoc r)))
 
-  all_calls_rising : (es : Exprs) (env : Environment) (m : Meaning) (places : Places) (n : ℕ) (more : List Path) → AllCallByTurns env m places es → AreRising (n + impure_all env es) more → AreRising n (calls_all env es places n ++ more)
+  bindings_rising : (bs : LetBindings) (env : Environment) (m : Meaning) (places : Places) (n : ℕ) (more : List Path) → BindingsCallByTurns env m places n bs → AreRising (n + impure_bindings env bs) more → AreRising n (calls_bindings env bs places n ++ more)
+  bindings_rising NoBinding env m places n more t r = none_rising n more r
+  bindings_rising (ABinding x ty e bs) env m places n more t r =
+      let n1 = n + impure env e in
+      let mid = with places x.0 (path env e places n) in
+      let assoc : n + (impure env e + impure_bindings env bs) ≡ n + impure env e + impure_bindings env bs = omega arith in
+      subst (AreRising n) (sym (append_assoc (calls env e places n) (calls_bindings env bs mid n1) more))
+      (calls_rising e env m places n (calls_bindings env bs mid n1 ++ more) t.0 (bindings_rising bs env m mid n1 more t.1 (subst (λ j. AreRising j more) assoc r)))
+
+  all_calls_rising : (es : Exprs) (env : Environment) (m : Meaning) (places : Places) (n : ℕ) (more : List Path) → AllCallByTurns env m places n es → AreRising (n + impure_all env es) more → AreRising n (calls_all env es places n ++ more)
   all_calls_rising NoExpr env m places n more t r = none_rising n more r
   all_calls_rising (AnExpr e es) env m places n more t r =
       let n1 = n + impure env e in
@@ -73,7 +88,7 @@ mutual
       (calls_rising e env m places n (calls_all env es places n1 ++ more) t.0 (all_calls_rising es env m places n1 more t.1 (subst (λ j. AreRising j more) assoc r)))
 
 -- the calls of an expression behind n impure ones have the occurrences from n + 1 on
-pub calls_are_rising : (e : Expr) (env : Environment) (m : Meaning) (places : Places) (n : ℕ) → CallsByTurns env m places e → AreRising n (calls env e places n)
+pub calls_are_rising : (e : Expr) (env : Environment) (m : Meaning) (places : Places) (n : ℕ) → CallsByTurns env m places n e → AreRising n (calls env e places n)
 calls_are_rising e env m places n t = subst (AreRising n) (append-nil (calls env e places n)) (calls_rising e env m places n [] t tt)
 
 -- the paths seen have occurrences up to n

@@ -15,22 +15,22 @@ use Rattle.isle_core.specs.Making.{Making, MakesVariant, MakesStruct, MakesNothi
 use Rattle.isle_core.specs.Form.{made_value}
 use Rattle.isle_core.specs.Meaning.{Meaning, turn}
 use Rattle.isle_core.specs.Answered.{Held, a_value, answer_held}
-use Rattle.isle_core.specs.Calling.{Calling, ByTurns, ByCases, NoCall, calling, may_be_nothing, is_fallible, instance_of, one_more, impure, impure_all}
+use Rattle.isle_core.specs.Calling.{Calling, ByTurns, ByCases, NoCall, calling, may_be_nothing, is_fallible, instance_of, one_more, impure, impure_all, impure_bindings}
 use Rattle.isle_core.specs.Expr as expr
-use Rattle.isle_core.specs.Expr.{Expr, Exprs, NoExpr, AnExpr}
+use Rattle.isle_core.specs.Expr.{Expr, Exprs, NoExpr, AnExpr, LetBindings, NoBinding, ABinding}
 use Rattle.isle_core.specs.Match.{Names, with}
-use Rattle.isle_core.specs.Eval.{Evaluated, Answered, Failed, EvaluatedAll, AllAnswered, OneFailed, named, then_all, before, then_one, answered, called_with, made_or_called, evaluated, evaluated_all}
+use Rattle.isle_core.specs.Eval.{Evaluated, Answered, Failed, EvaluatedAll, AllAnswered, OneFailed, Bound, AllBound, NotBound, named, then_all, before, then_one, then_bind, then_within, answered, called_with, made_or_called, evaluated, evaluated_all, bound}
 use Rattle.isle_core.specs.Outcome.{Failure}
 use Rattle.isle_core.specs.Path.{Path, ConstPrim, Called, MadeVariant, MadeStruct, Paths, APath}
-use Rattle.isle_core.specs.OrderedCalls.{if_ordered, calls, calls_all}
-use Rattle.isle_core.specs.RightSide.{path_or, term_path, answer_path, path, paths}
+use Rattle.isle_core.specs.OrderedCalls.{if_ordered, calls, calls_all, calls_bindings}
+use Rattle.isle_core.specs.RightSide.{path_or, term_path, answer_path, path, paths, let_places}
 use Rattle.isle_core.specs.Tests.{Places}
 use Rattle.isle_core.specs.ValueAt.{Known, held as held_value, held_of, made_held, inner_held, value_before, call_held, value_at, values_at}
 use Rattle.isle_core.specs.CallRun.{Went, Goes, Ends, then_go, take_turn, make_call, check_call, unless_nothing, run_call, run_calls}
 use Rattle.isle_core.specs.Rule.{Environment}
-use Rattle.isle_core.proofs.PatternTests.{StandsAt, Agree}
-use Rattle.isle_core.proofs.TurnKinds.{IsOfKind, TakesTurns, TermTakes, IsPlaced, CallsByTurns, AllCallByTurns}
-use Rattle.isle_core.proofs.KnownAnswers.{IsUpTo, Kept, Fresh, kept_on, kept_self, fresh_more, stable, PlacesUpTo, places_more, agree_still, path_up_to}
+use Rattle.isle_core.proofs.PatternTests.{StandsAt, Agree, with_agrees}
+use Rattle.isle_core.proofs.TurnKinds.{IsOfKind, TakesTurns, TermTakes, IsPlaced, CallsByTurns, AllCallByTurns, BindingsCallByTurns}
+use Rattle.isle_core.proofs.KnownAnswers.{IsUpTo, Kept, Fresh, kept_on, kept_self, fresh_more, stable, PlacesUpTo, places_more, agree_still, path_up_to, with_up_to, let_up_to}
 
 -- ---- evaluation against calls
 
@@ -59,6 +59,19 @@ FollowsAll env m args n n' known ps (AllAnswered vs made) (Goes known' made') = 
 FollowsAll env m args n n' known ps (OneFailed made) (Ends o) = o ≡ record { result = Failure; calls = made }
 FollowsAll env m args n n' known ps (AllAnswered vs made) (Ends o) = ⊥
 FollowsAll env m args n n' known ps (OneFailed made) (Goes known' made') = ⊥
+
+-- names that were reached stand at their places, and no call but the next ones was made
+pub record ReachedNames (env : Environment) (m : Meaning) (args : List Value) (n n' : ℕ) (known known' : Known) (names : Names) (places : Places) : Type 0 where
+  pub agree : Agree (value_at env m args known') names places
+  pub kept : Kept n known known'
+  pub fresh : Fresh n' known'
+
+-- so of the values of a `let`
+abbrev pub FollowsBound : Environment → Meaning → List Value → ℕ → ℕ → Known → Places → Bound → Went → Type 0
+FollowsBound env m args n n' known places (AllBound names made) (Goes known' made') = ReachedNames env m args n n' known known' names places × (made' ≡ made)
+FollowsBound env m args n n' known places (NotBound made) (Ends o) = o ≡ record { result = Failure; calls = made }
+FollowsBound env m args n n' known places (AllBound names made) (Ends o) = ⊥
+FollowsBound env m args n n' known places (NotBound made) (Goes known' made') = ⊥
 
 -- ---- calls one after the other
 
@@ -117,6 +130,28 @@ first_follows env m args n n1 n2 known p ps (Answered v made) (Goes known' made'
 first_follows env m args n n1 n2 known p ps (Failed made) (Ends o) go run le b h k = h
 first_follows env m args n n1 n2 known p ps (Answered v made) (Ends o) go run le b h k = absurd h
 first_follows env m args n n1 n2 known p ps (Failed made) (Goes known' made') go run le b h k = absurd h
+
+-- one value of a `let`, then the others
+bound_back : (env : Environment) (m : Meaning) (args : List Value) (n n1 n2 : ℕ) (known known' : Known) (places : Places) (r : Bound) (f : Went) → n ≤ n1 → Kept n known known' → FollowsBound env m args n1 n2 known' places r f → FollowsBound env m args n n2 known places r f
+bound_back env m args n n1 n2 known known' places (AllBound names made) (Goes known'' made') le k h = (record { agree = h.0.agree; kept = kept_on n n1 known known' known'' le k h.0.kept; fresh = h.0.fresh }, h.1)
+bound_back env m args n n1 n2 known known' places (NotBound made) (Ends o) le k h = h
+bound_back env m args n n1 n2 known known' places (AllBound names made) (Ends o) le k h = absurd h
+bound_back env m args n n1 n2 known known' places (NotBound made) (Goes known'' made') le k h = absurd h
+
+bind_follows : (env : Environment) (m : Meaning) (args : List Value) (n n1 n2 : ℕ) (known : Known) (p : Path) (places : Places) (r : Evaluated) (f : Went) (go : Value → List Made → Bound) (run : Known → List Made → Went) → n ≤ n1 → Follows env m args n n1 known p r f
+    → ((v : Value) (known' : Known) (made : List Made) → Reached env m args n n1 known known' p v → FollowsBound env m args n1 n2 known' places (go v made) (run known' made)) → FollowsBound env m args n n2 known places (then_bind r go) (then_go f run)
+bind_follows env m args n n1 n2 known p places (Answered v made) (Goes known' made') go run le h k = bound_back env m args n n1 n2 known known' places (go v made) (run known' made') le h.0.kept (rw h.1 (k v known' made h.0))
+bind_follows env m args n n1 n2 known p places (Failed made) (Ends o) go run le h k = h
+bind_follows env m args n n1 n2 known p places (Answered v made) (Ends o) go run le h k = absurd h
+bind_follows env m args n n1 n2 known p places (Failed made) (Goes known' made') go run le h k = absurd h
+
+-- all values of a `let`, then what it gives
+within_follows : (env : Environment) (m : Meaning) (args : List Value) (n n1 n2 : ℕ) (known : Known) (places : Places) (q : Path) (r : Bound) (f : Went) (go : Names → List Made → Evaluated) (run : Known → List Made → Went) → n ≤ n1 → FollowsBound env m args n n1 known places r f
+    → ((names : Names) (known' : Known) (made : List Made) → ReachedNames env m args n n1 known known' names places → Follows env m args n1 n2 known' q (go names made) (run known' made)) → Follows env m args n n2 known q (then_within r go) (then_go f run)
+within_follows env m args n n1 n2 known places q (AllBound names made) (Goes known' made') go run le h k = follows_back env m args n n1 n2 known known' q (go names made) (run known' made') le h.0.kept (rw h.1 (k names known' made h.0))
+within_follows env m args n n1 n2 known places q (NotBound made) (Ends o) go run le h k = h
+within_follows env m args n n1 n2 known places q (AllBound names made) (Ends o) go run le h k = absurd h
+within_follows env m args n n1 n2 known places q (NotBound made) (Goes known' made') go run le h k = absurd h
 
 -- ---- a call
 
@@ -214,7 +249,7 @@ var_follows env m args n n' known made o None le fr i h = absurd i
 
 mutual
   -- the calls of an expression do what its evaluation does
-  pub expr_follows : (e : Expr) (env : Environment) (m : Meaning) (args : List Value) (n : ℕ) (known : Known) (names : Names) (places : Places) (made : List Made) → CallsByTurns env m places e → Agree (value_at env m args known) names places → PlacesUpTo n places → Fresh n known
+  pub expr_follows : (e : Expr) (env : Environment) (m : Meaning) (args : List Value) (n : ℕ) (known : Known) (names : Names) (places : Places) (made : List Made) → CallsByTurns env m places n e → Agree (value_at env m args known) names places → PlacesUpTo n places → Fresh n known
       → Follows env m args n (n + impure env e) known (path env e places n) (evaluated env m e names made) (run_calls env m args (calls env e places n) known made)
   expr_follows (expr.Var ty x) env m args n known names places made t a b fr = var_follows env m args n (n + 0) known made (names x.0) (places x.0) (omega arith) fr t (a.by x.0)
   expr_follows (expr.ConstBool c) env m args n known names places made t a b fr = (record { held = refl; kept = kept_self n known; fresh = fresh_more n (n + 0) known (omega arith) fr }, refl)
@@ -222,10 +257,20 @@ mutual
   expr_follows (expr.Term ty term es) env m args n known names places made t a b fr =
       making_follows (making env term) (calling env term) env m args n (impure_all env es) known made term (paths env es places n) (calls_all env es places n) (evaluated_all env m es names made) refl t.0 (exprs_follow es env m args n known names places made t.1 a b fr)
   expr_follows (expr.ConstPrim ty name) env m args n known names places made t a b fr = const_follows env m args n (n + 0) known made (ConstPrim name) (const_of m (sym_text env name)) (omega arith) fr t (λ known'. refl)
-  expr_follows (expr.Let ty bindings inner) env m args n known names places made t a b fr = absurd t
+  expr_follows (expr.Let ty bs inner) env m args n known names places made t a b fr =
+      let n1 = n + impure_bindings env bs in
+      let mid = let_places env bs places n in
+      let p = path env inner mid n1 in
+      let le : n ≤ n + impure_bindings env bs = omega arith in
+      let assoc : n + impure_bindings env bs + impure env inner ≡ n + (impure_bindings env bs + impure env inner) = omega arith in
+      subst (λ f. Follows env m args n (n + (impure_bindings env bs + impure env inner)) known p (evaluated env m (expr.Let ty bs inner) names made) f) (sym (run_append env m args (calls_bindings env bs places n) (calls env inner mid n1) known made))
+      (within_follows env m args n n1 (n + (impure_bindings env bs + impure env inner)) known mid p (bound env m bs names made) (run_calls env m args (calls_bindings env bs places n) known made) (evaluated env m inner) (run_calls env m args (calls env inner mid n1)) le
+      (bindings_follow bs env m args n known names places made t.0 a b fr)
+      (λ names' known' made' h. subst (λ k. Follows env m args n1 k known' p (evaluated env m inner names' made') (run_calls env m args (calls env inner mid n1) known' made')) assoc
+      (expr_follows inner env m args n1 known' names' mid made' t.1 h.agree (let_up_to bs env places n b) h.fresh)))
 
   -- so of expressions in order
-  pub exprs_follow : (es : Exprs) (env : Environment) (m : Meaning) (args : List Value) (n : ℕ) (known : Known) (names : Names) (places : Places) (made : List Made) → AllCallByTurns env m places es → Agree (value_at env m args known) names places → PlacesUpTo n places → Fresh n known
+  pub exprs_follow : (es : Exprs) (env : Environment) (m : Meaning) (args : List Value) (n : ℕ) (known : Known) (names : Names) (places : Places) (made : List Made) → AllCallByTurns env m places n es → Agree (value_at env m args known) names places → PlacesUpTo n places → Fresh n known
       → FollowsAll env m args n (n + impure_all env es) known (paths env es places n) (evaluated_all env m es names made) (run_calls env m args (calls_all env es places n) known made)
   exprs_follow NoExpr env m args n known names places made t a b fr = (record { held = refl; kept = kept_self n known; fresh = fresh_more n (n + 0) known (omega arith) fr }, refl)
   exprs_follow (AnExpr e es) env m args n known names places made t a b fr =
@@ -239,3 +284,19 @@ mutual
       (expr_follows e env m args n known names places made t.0 a b fr)
       (λ v known' made' h. subst (λ k. FollowsAll env m args n1 k known' (paths env es places n1) (evaluated_all env m es names made') (run_calls env m args (calls_all env es places n1) known' made')) assoc
       (exprs_follow es env m args n1 known' names places made' t.1 (agree_still env m args n known known' names places b h.kept a) (places_more places n n1 le b) h.fresh)))
+
+  -- so of the values of a `let`
+  pub bindings_follow : (bs : LetBindings) (env : Environment) (m : Meaning) (args : List Value) (n : ℕ) (known : Known) (names : Names) (places : Places) (made : List Made) → BindingsCallByTurns env m places n bs → Agree (value_at env m args known) names places → PlacesUpTo n places → Fresh n known
+      → FollowsBound env m args n (n + impure_bindings env bs) known (let_places env bs places n) (bound env m bs names made) (run_calls env m args (calls_bindings env bs places n) known made)
+  bindings_follow NoBinding env m args n known names places made t a b fr = (record { agree = a; kept = kept_self n known; fresh = fresh_more n (n + 0) known (omega arith) fr }, refl)
+  bindings_follow (ABinding x ty e more) env m args n known names places made t a b fr =
+      let n1 = n + impure env e in
+      let p = path env e places n in
+      let mid = with places x.0 p in
+      let le : n ≤ n + impure env e = omega arith in
+      let assoc : n + impure env e + impure_bindings env more ≡ n + (impure env e + impure_bindings env more) = omega arith in
+      subst (λ f. FollowsBound env m args n (n + (impure env e + impure_bindings env more)) known (let_places env more mid n1) (bound env m (ABinding x ty e more) names made) f) (sym (run_append env m args (calls env e places n) (calls_bindings env more mid n1) known made))
+      (bind_follows env m args n n1 (n + (impure env e + impure_bindings env more)) known p (let_places env more mid n1) (evaluated env m e names made) (run_calls env m args (calls env e places n) known made) (λ v made'. bound env m more (with names x.0 v) made') (run_calls env m args (calls_bindings env more mid n1)) le
+      (expr_follows e env m args n known names places made t.0 a b fr)
+      (λ v known' made' h. subst (λ k. FollowsBound env m args n1 k known' (let_places env more mid n1) (bound env m more (with names x.0 v) made') (run_calls env m args (calls_bindings env more mid n1) known' made')) assoc
+      (bindings_follow more env m args n1 known' (with names x.0 v) mid made' t.1 (with_agrees (value_at env m args known') names places x.0 v p h.held (agree_still env m args n known known' names places b h.kept a)) (with_up_to n1 x.0 p places (path_up_to e env places n b) (places_more places n n1 le b)) h.fresh)))

@@ -13,10 +13,10 @@ use Rattle.isle_core.specs.Value.{Value, Made}
 use Rattle.isle_core.specs.Answered.{AValue, ATuple, Held, Absent, One, Optional, Listed, answer_held}
 use Rattle.isle_core.specs.Meaning.{Meaning, turn, case}
 use Rattle.isle_core.specs.Calling.{Calling, ByTurns, ByCases, NoCall, calling, calling_of, calling_by, pure_callee, kind_of}
-use Rattle.isle_core.specs.Match.{Names}
+use Rattle.isle_core.specs.Match.{Names, with}
 use Rattle.isle_core.specs.Expr as expr
-use Rattle.isle_core.specs.Expr.{Expr, Exprs, NoExpr, AnExpr}
-use Rattle.isle_core.specs.Eval.{Evaluated, Answered, Failed, EvaluatedAll, AllAnswered, OneFailed, named, answered, then_all, before, then_one, called_with, made_or_called, evaluated, evaluated_all}
+use Rattle.isle_core.specs.Expr.{Expr, Exprs, NoExpr, AnExpr, LetBindings, NoBinding, ABinding}
+use Rattle.isle_core.specs.Eval.{Evaluated, Answered, Failed, EvaluatedAll, AllAnswered, OneFailed, Bound, AllBound, NotBound, named, answered, then_all, before, then_one, then_bind, then_within, called_with, made_or_called, evaluated, evaluated_all, bound}
 use Rattle.isle_core.specs.HighestMatch.{highest_match, given_by, outcome_of}
 use Rattle.isle_core.specs.Outcome.{prescription_of}
 use Rattle.isle_core.specs.Having.{const_of}
@@ -78,6 +78,10 @@ calls_in_all : EvaluatedAll → List Made
 calls_in_all (AllAnswered vs made) = made
 calls_in_all (OneFailed made) = made
 
+calls_in_bound : Bound → List Made
+calls_in_bound (AllBound names made) = made
+calls_in_bound (NotBound made) = made
+
 named_impure : (env : Environment) (o : Option Value) (made : List Made) → AreImpure env made → AreImpure env (calls_in (named o made))
 unfolding calls_in
 named_impure env None made h = h
@@ -120,15 +124,26 @@ unfolding calls_in_all
 before_impure env v (AllAnswered vs made) h = h
 before_impure env v (OneFailed made) h = h
 
+bind_impure : (env : Environment) (r : Evaluated) (go : Value → List Made → Bound) → AreImpure env (calls_in r) → ((v : Value) (made : List Made) → AreImpure env made → AreImpure env (calls_in_bound (go v made))) → AreImpure env (calls_in_bound (then_bind r go))
+unfolding calls_in calls_in_bound
+bind_impure env (Answered v made) go h k = k v made h
+bind_impure env (Failed made) go h k = h
+
+within_impure : (env : Environment) (r : Bound) (go : Names → List Made → Evaluated) → AreImpure env (calls_in_bound r) → ((names : Names) (made : List Made) → AreImpure env made → AreImpure env (calls_in (go names made))) → AreImpure env (calls_in (then_within r go))
+unfolding calls_in calls_in_bound
+within_impure env (AllBound names made) go h k = k names made h
+within_impure env (NotBound made) go h k = h
+
 mutual
-  unfolding calls_in calls_in_all
+  unfolding calls_in calls_in_all calls_in_bound
 
   expr_impure : (e : Expr) (env : Environment) (m : Meaning) (names : Names) (made : List Made) → AreImpure env made → AreImpure env (calls_in (evaluated env m e names made))
   expr_impure (expr.Var ty x) env m names made h = named_impure env (names x.0) made h
   expr_impure (expr.ConstBool b) env m names made h = h
   expr_impure (expr.ConstInt ty n) env m names made h = h
   expr_impure (expr.ConstPrim ty name) env m names made h = named_impure env (const_of m (sym_text env name)) made h
-  expr_impure (expr.Let ty bindings inner) env m names made h = h
+  expr_impure (expr.Let ty bs inner) env m names made h =
+      within_impure env (bound env m bs names made) (evaluated env m inner) (bindings_impure bs env m names made h) (λ names' calls k. expr_impure inner env m names' calls k)
   expr_impure (expr.Term ty term es) env m names made h =
       then_impure env (evaluated_all env m es names made) (made_or_called env m (making env term) (calling env term)) (exprs_impure es env m names made h)
       (λ vs calls k. made_impure env m (making env term) (calling env term) vs calls (turned_impure env term) k)
@@ -138,6 +153,11 @@ mutual
   exprs_impure (AnExpr e es) env m names made h =
       all_impure env (evaluated env m e names made) (λ v calls. before v (evaluated_all env m es names calls)) (expr_impure e env m names made h)
       (λ v calls k. before_impure env v (evaluated_all env m es names calls) (exprs_impure es env m names calls k))
+
+  bindings_impure : (bs : LetBindings) (env : Environment) (m : Meaning) (names : Names) (made : List Made) → AreImpure env made → AreImpure env (calls_in_bound (bound env m bs names made))
+  bindings_impure NoBinding env m names made h = h
+  bindings_impure (ABinding x ty e more) env m names made h =
+      bind_impure env (evaluated env m e names made) (λ v calls. bound env m more (with names x.0 v) calls) (expr_impure e env m names made h) (λ v calls k. bindings_impure more env m (with names x.0 v) calls k)
 
 prescribed_impure : (env : Environment) (r : Evaluated) → AreImpure env (calls_in r) → AreImpure env (prescription_of r).calls
 unfolding calls_in

@@ -2,12 +2,13 @@
 use Rattle.std.proofs.Common.{◌≡◌, ℕ, suc, List, [], ◌∷◌, Bool, true, false, cond, eqb, Option, Some, None, refl, sym, ap, ◌∙◌}
 use Rattle.std.proofs.lemmas.Bool.{eqb-true}
 use Rattle.isle_core.specs.Making.{Making, making}
-use Rattle.isle_core.specs.Pattern.{Pattern, Patterns, NoPattern, APattern, Var, Term}
+use Rattle.isle_core.specs.Pattern.{Pattern, Patterns, NoPattern, APattern, Var, Term, BindPattern, And}
 use Rattle.isle_core.specs.Path.{Path, Arg}
-use Rattle.isle_core.specs.Tests.{Places, met_after, field_path, after, after_parts, args_after}
+use Rattle.isle_core.specs.Tests.{Places, met_after, field_path, after, after_parts, after_each, args_after}
 use Rattle.isle_core.specs.Rule.{Environment}
 
-met_keeps : (o : Option Path) (x y : ℕ) (p q : Path) (places : Places) → places x ≡ o → places y ≡ Some q → met_after o x p places y ≡ Some q
+-- so behind a variable
+pub met_keeps : (o : Option Path) (x y : ℕ) (p q : Path) (places : Places) → places x ≡ o → places y ≡ Some q → met_after o x p places y ≡ Some q
 met_keeps (Some r) x y p q places e h = h
 met_keeps None x y p q places e h = pick (eqb x y) refl
   where
@@ -20,7 +21,14 @@ mutual
   pub after_keeps : (r : Pattern) (env : Environment) (p : Path) (places : Places) (y : ℕ) (q : Path) → places y ≡ Some q → after env r p places y ≡ Some q
   after_keeps (Var ty x) env p places y q h = met_keeps (places x.0) x.0 y p q places refl h
   after_keeps (Term ty term rs) env p places y q h = parts_keep rs env (making env term) 0 p places y q h
+  after_keeps (BindPattern ty x r) env p places y q h = after_keeps r env p (met_after (places x.0) x.0 p places) y q (met_keeps (places x.0) x.0 y p q places refl h)
+  after_keeps (And ty rs) env p places y q h = each_keep rs env p places y q h
   after_keeps r env p places y q h = h
+
+  -- and behind several on one path
+  pub each_keep : (rs : Patterns) (env : Environment) (p : Path) (places : Places) (y : ℕ) (q : Path) → places y ≡ Some q → after_each env rs p places y ≡ Some q
+  each_keep NoPattern env p places y q h = h
+  each_keep (APattern r rs) env p places y q h = each_keep rs env p (after env r p places) y q (after_keeps r env p places y q h)
 
   -- and behind parts
   pub parts_keep : (rs : Patterns) (env : Environment) (made : Making) (i : ℕ) (p : Path) (places : Places) (y : ℕ) (q : Path) → places y ≡ Some q → after_parts env made rs i p places y ≡ Some q

@@ -2,17 +2,17 @@
 use Rattle.std.proofs.Common.{◌≡◌, ℕ, suc, ◌+◌, ◌<◌, ◌≤◌, List, [], ◌∷◌, Bool, true, false, cond, eqb, Option, Some, None, refl, ap, ◌∙◌, arith}
 use Rattle.isle_core.specs.Value.{Value}
 use Rattle.isle_core.specs.Meaning.{Meaning}
-use Rattle.isle_core.specs.Calling.{Calling, ByTurns, ByCases, NoCall, calling, is_fallible, instance_of, one_more, impure, impure_all}
+use Rattle.isle_core.specs.Calling.{Calling, ByTurns, ByCases, NoCall, calling, is_fallible, instance_of, one_more, impure, impure_all, impure_bindings}
 use Rattle.isle_core.specs.Making.{Making, MakesVariant, MakesStruct, MakesNothing, making}
 use Rattle.isle_base.specs.declared.ids.TermId.{TermId}
 use Rattle.isle_core.specs.Pattern as pattern
 use Rattle.isle_core.specs.Pattern.{Pattern, Patterns, NoPattern, APattern, Var}
 use Rattle.isle_core.specs.Expr as expr
-use Rattle.isle_core.specs.Expr.{Expr, Exprs, NoExpr, AnExpr}
-use Rattle.isle_core.specs.Match.{Names}
+use Rattle.isle_core.specs.Expr.{Expr, Exprs, NoExpr, AnExpr, LetBindings, NoBinding, ABinding}
+use Rattle.isle_core.specs.Match.{Names, with}
 use Rattle.isle_core.specs.Path.{Path, Arg, Called, Inner, MadeVariant, MadeStruct, VariantField, StructField, Paths, NoPath, APath}
-use Rattle.isle_core.specs.RightSide.{path_or, term_path, call_path, answer_path, path, paths}
-use Rattle.isle_core.specs.Tests.{Places, no_places, met_after, field_path, after, after_parts, args_after}
+use Rattle.isle_core.specs.RightSide.{path_or, term_path, call_path, answer_path, path, paths, let_places}
+use Rattle.isle_core.specs.Tests.{Places, no_places, met_after, field_path, after, after_parts, after_each, args_after}
 use Rattle.isle_core.specs.ValueAt.{Known, nothing_known, made_held, field_held, inner_held, value_before, call_held, value_at, values_at}
 use Rattle.isle_core.specs.Rule.{Environment}
 use Rattle.isle_core.proofs.PatternTests.{StandsAt, Agree}
@@ -120,8 +120,12 @@ place_with : (b : Bool) (n : ℕ) (p : Path) (o : Option Path) → IsUpTo n p �
 place_with true n p o h k = h
 place_with false n p o h k = k
 
+-- and so do they behind one more
+pub with_up_to : (n x : ℕ) (p : Path) (places : Places) → IsUpTo n p → PlacesUpTo n places → PlacesUpTo n (with places x p)
+with_up_to n x p places h b = record { by = λ y. place_with (eqb x y) n p (places y) h (b.by y) }
+
 met_up_to : (o : Option Path) (n x : ℕ) (p : Path) (places : Places) → IsUpTo n p → PlacesUpTo n places → PlacesUpTo n (met_after o x p places)
-met_up_to None n x p places h b = record { by = λ y. place_with (eqb x y) n p (places y) h (b.by y) }
+met_up_to None n x p places h b = with_up_to n x p places h b
 met_up_to (Some q) n x p places h b = b
 
 field_up_to : (made : Making) (n i : ℕ) (p : Path) → IsUpTo n p → IsUpTo n (field_path made i p)
@@ -133,7 +137,13 @@ mutual
   after_up_to : (q : Pattern) (env : Environment) (n : ℕ) (p : Path) (places : Places) → IsUpTo n p → PlacesUpTo n places → PlacesUpTo n (after env q p places)
   after_up_to (Var ty x) env n p places h b = met_up_to (places x.0) n x.0 p places h b
   after_up_to (pattern.Term ty term qs) env n p places h b = parts_up_to qs env (making env term) n 0 p places h b
+  after_up_to (pattern.BindPattern ty x q) env n p places h b = after_up_to q env n p (met_after (places x.0) x.0 p places) h (met_up_to (places x.0) n x.0 p places h b)
+  after_up_to (pattern.And ty qs) env n p places h b = each_up_to qs env n p places h b
   after_up_to q env n p places h b = b
+
+  each_up_to : (qs : Patterns) (env : Environment) (n : ℕ) (p : Path) (places : Places) → IsUpTo n p → PlacesUpTo n places → PlacesUpTo n (after_each env qs p places)
+  each_up_to NoPattern env n p places h b = b
+  each_up_to (APattern q qs) env n p places h b = each_up_to qs env n p (after env q p places) h (after_up_to q env n p places h b)
 
   parts_up_to : (qs : Patterns) (env : Environment) (made : Making) (n i : ℕ) (p : Path) (places : Places) → IsUpTo n p → PlacesUpTo n places → PlacesUpTo n (after_parts env made qs i p places)
   parts_up_to NoPattern env made n i p places h b = b
@@ -200,6 +210,11 @@ mutual
       let low : k ≤ one_more c k = less_one c k in
       answer_up_to c (n + one_more c (impure_all env es)) (call_path env term (paths env es places n) k)
       (made_up_to (making env term) (n + one_more c (impure_all env es)) term (paths env es places n) (instance_of c k) (omega arith) (all_up_to_more (paths env es places n) k (n + one_more c (impure_all env es)) (omega arith) (paths_up_to es env places n b)))
+  path_up_to (expr.Let ty bindings inner) env places n b =
+      let n1 = n + impure_bindings env bindings in
+      let mid = let_places env bindings places n in
+      let le : n + impure_bindings env bindings + impure env inner ≤ n + (impure_bindings env bindings + impure env inner) = omega arith in
+      up_to_more (path env inner mid n1) (n1 + impure env inner) (n + (impure_bindings env bindings + impure env inner)) le (path_up_to inner env mid n1 (let_up_to bindings env places n b))
   path_up_to e env places n b = tt
 
   -- so of expressions in order
@@ -213,3 +228,14 @@ mutual
         up_to_more (path env e places n) n1 (n + (impure env e + impure_all env es)) le1 (path_up_to e env places n b),
         all_up_to_more (paths env es places n1) (n1 + impure_all env es) (n + (impure env e + impure_all env es)) assoc (paths_up_to es env places n1 (places_more places n n1 le b)),
       )
+
+  -- so behind the variables of a `let`
+  pub let_up_to : (bs : LetBindings) (env : Environment) (places : Places) (n : ℕ) → PlacesUpTo n places → PlacesUpTo (n + impure_bindings env bs) (let_places env bs places n)
+  let_up_to NoBinding env places n b = places_more places n (n + 0) (omega arith) b
+  let_up_to (ABinding x ty e more) env places n b =
+      let n1 = n + impure env e in
+      let p = path env e places n in
+      let le : n ≤ n + impure env e = omega arith in
+      let assoc : n + impure env e + impure_bindings env more ≤ n + (impure env e + impure_bindings env more) = omega arith in
+      places_more (let_places env more (with places x.0 p) n1) (n1 + impure_bindings env more) (n + (impure env e + impure_bindings env more)) assoc
+      (let_up_to more env (with places x.0 p) n1 (with_up_to n1 x.0 p places (path_up_to e env places n b) (places_more places n n1 le b)))

@@ -8,13 +8,14 @@ pub mod OutcomeOf
 pub mod MadeParts
 pub mod PatternTests
 pub mod Within
-pub mod NotTrivial
+pub mod PlacedWithin
 pub mod KeptPlaces
 pub mod TurnKinds
 pub mod KnownAnswers
 pub mod CallsFollow
 pub mod CallOccurrences
 pub mod OpenedPaths
+pub mod ExprPaths
 pub mod PlacedVariables
 pub mod ScopeLaws
 pub mod SetMeans

@@ -4,8 +4,8 @@ use Rattle.std.specs.List.{AllByRecursion}
 use Rattle.isle_core.specs.Making.{Making, MakesVariant, MakesStruct, MakesNothing, making}
 use Rattle.isle_core.specs.Path.{Path, Nowhere, Arg, VariantField, StructField}
 use Rattle.isle_core.specs.Pattern.{Pattern, Patterns, NoPattern, APattern, Var, ConstBool, ConstInt, ConstPrim, Wildcard, Term, BindPattern, And}
-use Rattle.isle_core.specs.RulePaths.{pattern_paths, parts_paths, args_paths}
-use Rattle.isle_core.specs.Tests.{Places, met_after, field_path, after, after_parts, args_after}
+use Rattle.isle_core.specs.RulePaths.{pattern_paths, parts_paths, each_paths, args_paths}
+use Rattle.isle_core.specs.Tests.{Places, met_after, field_path, after, after_parts, after_each, args_after}
 use Rattle.isle_core.specs.Rule.{Environment}
 
 -- an argument or a field, or nowhere
@@ -42,7 +42,13 @@ mutual
   after_opened : (q : Pattern) (env : Environment) (p : Path) (places : Places) → IsOpened p → AreOpened places → AreOpened (after env q p places)
   after_opened (Var ty x) env p places h a = met_opened (places x.0) x.0 p places h a
   after_opened (Term ty term qs) env p places h a = parts_opened qs env (making env term) 0 p places a
+  after_opened (BindPattern ty x q) env p places h a = after_opened q env p (met_after (places x.0) x.0 p places) h (met_opened (places x.0) x.0 p places h a)
+  after_opened (And ty qs) env p places h a = each_opened qs env p places h a
   after_opened q env p places h a = a
+
+  each_opened : (qs : Patterns) (env : Environment) (p : Path) (places : Places) → IsOpened p → AreOpened places → AreOpened (after_each env qs p places)
+  each_opened NoPattern env p places h a = a
+  each_opened (APattern q qs) env p places h a = each_opened qs env p (after env q p places) h (after_opened q env p places h a)
 
   parts_opened : (qs : Patterns) (env : Environment) (mk : Making) (i : ℕ) (p : Path) (places : Places) → AreOpened places → AreOpened (after_parts env mk qs i p places)
   parts_opened NoPattern env mk i p places a = a
@@ -65,8 +71,12 @@ mutual
   pattern_opens (ConstInt ty n) env p = tt
   pattern_opens (ConstPrim ty name) env p = tt
   pattern_opens (Wildcard ty) env p = tt
-  pattern_opens (BindPattern ty x q) env p = tt
-  pattern_opens (And ty qs) env p = tt
+  pattern_opens (BindPattern ty x q) env p = pattern_opens q env p
+  pattern_opens (And ty qs) env p = each_open qs env p
+
+  each_open : (qs : Patterns) (env : Environment) (p : Path) → AllByRecursion IsOpened (each_paths env qs p)
+  each_open NoPattern env p = tt
+  each_open (APattern q qs) env p = all_append (pattern_paths env q p) (each_paths env qs p) (pattern_opens q env p) (each_open qs env p)
 
   parts_open : (qs : Patterns) (env : Environment) (mk : Making) (i : ℕ) (p : Path) → AllByRecursion IsOpened (parts_paths env mk qs i p)
   parts_open NoPattern env mk i p = tt

@@ -15,12 +15,12 @@ use Rattle.isle_core.specs.Having.{const_of}
 use Rattle.isle_core.specs.Making.{Making, MakesVariant, MakesStruct, MakesNothing, making}
 use Rattle.isle_core.specs.Pattern as pattern
 use Rattle.isle_core.specs.Pattern.{Pattern, Patterns, NoPattern, APattern, Var, ConstBool, ConstInt, ConstPrim, Wildcard, BindPattern, And}
-use Rattle.isle_core.specs.PatternType.{AreVariantsApart, IsOfMaking, IsPatternOf, ArePartsOf, ArePatternsOf}
+use Rattle.isle_core.specs.PatternType.{AreVariantsApart, IsOfMaking, IsPatternOf, ArePartsOf, AreEachOf, ArePatternsOf}
 use Rattle.isle_core.specs.Terms.{sym_text}
 use Rattle.isle_core.proofs.MadeParts.{made_parts}
-use Rattle.isle_core.specs.Match.{Names, no_names, with, if_holds, met, equals_const, matches, matches_parts, matches_all}
+use Rattle.isle_core.specs.Match.{Names, no_names, with, if_holds, met, equals_const, matches, matches_parts, matches_each, matches_all}
 use Rattle.isle_core.specs.Path.{Path, Arg, VariantField, StructField}
-use Rattle.isle_core.specs.Tests.{Places, no_places, met_tests, met_after, made_test, field_path, tests, parts_tests, after, after_parts, args_tests, args_after}
+use Rattle.isle_core.specs.Tests.{Places, no_places, met_tests, met_after, made_test, field_path, tests, parts_tests, each_tests, after, after_parts, after_each, args_tests, args_after}
 use Rattle.isle_core.specs.ValueAt.{Held, a_value, held, field_held, is_one, is_value, is_const, meets, equal_held, holds, all_hold}
 use Rattle.isle_core.specs.Rule.{Environment}
 
@@ -56,7 +56,8 @@ stands_with : (val : Values) (b : Bool) (v : Value) (p : Path) (o : Option Value
 stands_with val true v p o q e h = e
 stands_with val false v p o q e h = h
 
-with_agrees : (val : Values) (names : Names) (places : Places) (x : ℕ) (v : Value) (p : Path) → val p ≡ a_value v → Agree val names places → Agree val (with names x v) (with places x p)
+-- so behind one name more
+pub with_agrees : (val : Values) (names : Names) (places : Places) (x : ℕ) (v : Value) (p : Path) → val p ≡ a_value v → Agree val names places → Agree val (with names x v) (with places x p)
 with_agrees val names places x v p e a = record { by = λ k. stands_with val (eqb x k) v p (names k) (places k) e (a.by k) }
 
 from_zero : (j : ℕ) → j + 0 ≡ j
@@ -128,8 +129,23 @@ module _ (env : Environment) (m : Meaning) (val : Values) (apart : AreVariantsAp
         let typed = made_parts env ty (making env term) v apart h.1 t is in
         parts_both ps (making env term) at 0 (parts v) typed.tys names places (parts_given env (form env (making env term)) ps typed.tys typed.is h.2) typed.types
         (λ j. ap (λ n. val (field_path (making env term) n at)) (from_zero j) ∙ field_stands val ty (making env term) v j at fields h.1 e) a)
-    pattern_both (BindPattern of x p) at v ty names places h t e a = absurd h
-    pattern_both (And of ps) at v ty names places h t e a = absurd h
+    pattern_both (BindPattern of x p) at v ty names places h t e a =
+        let mid = met_after (places x.0) x.0 at places in
+        subst (λ b. Both val (matches env m (BindPattern of x p) v names) b (after env p at mid)) (sym (list_all-append (holds env m val) (met_tests (places x.0) at) (tests env p at mid)))
+        (both_then val (met (names x.0) x.0 v names) (all_hold env m val (met_tests (places x.0) at)) (all_hold env m val (tests env p at mid)) mid (after env p at mid) (matches env m p v)
+        (met_both env m val (names x.0) (places x.0) x.0 v at names places (a.by x.0) e a)
+        (λ names' a'. pattern_both p at v ty names' mid h.1 t e a'))
+    pattern_both (And of ps) at v ty names places h t e a = each_both ps at v ty names places h.1 t e a
+
+    -- each of several patterns against one value
+    pub each_both : (ps : Patterns) (at : Path) (v : Value) (ty : TypeId) (names : Names) (places : Places) → AreEachOf env ty ps → HasType env v ty → val at ≡ a_value v → Agree val names places
+        → Both val (matches_each env m ps v names) (all_hold env m val (each_tests env ps at places)) (after_each env ps at places)
+    each_both NoPattern at v ty names places h t e a = (refl, a)
+    each_both (APattern p ps) at v ty names places h t e a =
+        subst (λ b. Both val (matches_each env m (APattern p ps) v names) b (after_each env (APattern p ps) at places)) (sym (list_all-append (holds env m val) (tests env p at places) (each_tests env ps at (after env p at places))))
+        (both_then val (matches env m p v names) (all_hold env m val (tests env p at places)) (all_hold env m val (each_tests env ps at (after env p at places))) (after env p at places) (after_each env (APattern p ps) at places) (matches_each env m ps v)
+        (pattern_both p at v ty names places h.0 t e a)
+        (λ names' a'. each_both ps at v ty names' (after env p at places) h.1 t e a'))
 
     -- parts against the fields from the i-th on
     pub parts_both : (ps : Patterns) (mk : Making) (at : Path) (i : ℕ) (vs : List Value) (tys : List TypeId) (names : Names) (places : Places) → ArePartsOf env (Some tys) ps → HaveTypes env vs tys

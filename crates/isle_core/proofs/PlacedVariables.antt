@@ -10,7 +10,7 @@ use Rattle.isle_core.specs.Making.{Making, making}
 use Rattle.isle_core.specs.Pattern.{Pattern, Patterns, NoPattern, APattern, Var, ConstBool, ConstInt, ConstPrim, Wildcard, Term, BindPattern, And}
 use Rattle.isle_core.specs.Scope.{variables, variables_within, all_variables}
 use Rattle.isle_core.specs.Path.{Path, Arg}
-use Rattle.isle_core.specs.Tests.{Places, met_after, field_path, after, after_parts, args_after}
+use Rattle.isle_core.specs.Tests.{Places, met_after, field_path, after, after_parts, after_each, args_after}
 use Rattle.isle_core.proofs.Contained.{contained_cases, none_contained}
 use Rattle.isle_core.proofs.TurnKinds.{IsPlaced}
 use Rattle.isle_core.specs.Rule.{Environment}
@@ -27,7 +27,13 @@ mutual
   after_keeps : (q : Pattern) (env : Environment) (p : Path) (places : Places) (y : ℕ) → IsPlaced (places y) → IsPlaced (after env q p places y)
   after_keeps (Var ty x) env p places y h = met_keeps (places x.0) x.0 p places y h
   after_keeps (Term ty term qs) env p places y h = parts_keep qs env (making env term) 0 p places y h
+  after_keeps (BindPattern ty x q) env p places y h = after_keeps q env p (met_after (places x.0) x.0 p places) y (met_keeps (places x.0) x.0 p places y h)
+  after_keeps (And ty qs) env p places y h = each_keep qs env p places y h
   after_keeps q env p places y h = h
+
+  each_keep : (qs : Patterns) (env : Environment) (p : Path) (places : Places) (y : ℕ) → IsPlaced (places y) → IsPlaced (after_each env qs p places y)
+  each_keep NoPattern env p places y h = h
+  each_keep (APattern q qs) env p places y h = each_keep qs env p (after env q p places) y (after_keeps q env p places y h)
 
   parts_keep : (qs : Patterns) (env : Environment) (made : Making) (i : ℕ) (p : Path) (places : Places) (y : ℕ) → IsPlaced (places y) → IsPlaced (after_parts env made qs i p places y)
   parts_keep NoPattern env made i p places y h = h
@@ -54,8 +60,16 @@ mutual
   pattern_places (ConstInt ty n) env terms p places x b c = absurd (none_contained x c)
   pattern_places (ConstPrim ty name) env terms p places x b c = absurd (none_contained x c)
   pattern_places (Wildcard ty) env terms p places x b c = absurd (none_contained x c)
-  pattern_places (BindPattern ty y q) env terms p places x b c = absurd b
-  pattern_places (And ty qs) env terms p places x b c = absurd b
+  pattern_places (BindPattern ty y q) env terms p places x b c =
+      let mid = met_after (places y.0) y.0 p places in
+      ⊎_elim (λ e. after_keeps q env p mid x (subst (λ k. IsPlaced (mid k)) e (met_places (places y.0) y.0 p places refl))) (λ d. pattern_places q env terms p mid x b d) (contained_cases y.0 (variables q) x c)
+  pattern_places (And ty qs) env terms p places x b c = each_place qs env terms p places x b c
+
+  each_place : (qs : Patterns) (env : Environment) (terms : List CodeTerm) (p : Path) (places : Places) (x : ℕ) → AreBuiltPatterns terms qs → Contains (variables_within qs) x → IsPlaced (after_each env qs p places x)
+  each_place NoPattern env terms p places x b c = absurd (none_contained x c)
+  each_place (APattern q qs) env terms p places x b c =
+      ⊎_elim (λ d. each_keep qs env p (after env q p places) x (pattern_places q env terms p places x b.0 d))
+      (λ d. each_place qs env terms p (after env q p places) x b.1 d) (Contains-append_cases (variables q) (variables_within qs) x c)
 
   parts_place : (qs : Patterns) (env : Environment) (terms : List CodeTerm) (made : Making) (i : ℕ) (p : Path) (places : Places) (x : ℕ) → AreBuiltPatterns terms qs → Contains (variables_within qs) x → IsPlaced (after_parts env made qs i p places x)
   parts_place NoPattern env terms made i p places x b c = absurd (none_contained x c)

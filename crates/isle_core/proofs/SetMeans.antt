@@ -17,11 +17,11 @@ use Rattle.isle_core.specs.HighestMatch.{better, or_later, highest_match, given_
 use Rattle.isle_core.specs.Path.{Path, Arg, at}
 use Rattle.isle_core.specs.OrderedCalls.{rule_calls}
 use Rattle.isle_core.specs.RightSide.{rule_result}
-use Rattle.isle_core.specs.Tests.{no_places, args_tests, args_after, iflets_tests, rule_tests, rule_places}
-use Rattle.isle_core.specs.ValueAt.{Known, nothing_known, value_at, holds, all_hold}
+use Rattle.isle_core.specs.Tests.{Test, Is, Equal, Never, no_places, args_tests, args_after, iflets_tests, rule_tests, rule_places}
+use Rattle.isle_core.specs.ValueAt.{Item, AValue, ATuple, Held, Absent, One, Optional, Listed, Known, nothing_known, value_at, equal_values, equal_item, equal_items, equal_held, holds, all_hold}
 use Rattle.isle_core.specs.CallRun.{Went, Goes, Ends, then_go, returns, run_calls}
 use Rattle.isle_core.specs.RuleSet.{flat_tests, flat_holds, gave, flat_run, higher, highest, given, set_outcome}
-use Rattle.isle_core.specs.StandsFor.{IsFlat, AreFlat}
+use Rattle.isle_core.specs.StandsFor.{IsTrivial, IsFlat, AreFlat}
 use Rattle.isle_core.specs.HasType.{HaveTypes}
 use Rattle.isle_core.specs.OccurringConstants.{expr_constants, args_constants, iflets_constants, rule_constants, rules_constants}
 use Rattle.isle_core.specs.PatternType.{AreVariantsApart, ArePatternsOf}
@@ -29,7 +29,7 @@ use Rattle.isle_base.specs.declared.ids.TypeId.{TypeId}
 use Rattle.isle_core.specs.CalledTerms.{extracted_in, called_in_iflets, called_by, called_in, called}
 use Rattle.isle_core.specs.BuiltRule.{IsBuiltPattern, IsBuiltRule, CallsBuiltTerms}
 use Rattle.isle_core.specs.Rule.{Environment, IfLet, Rule}
-use Rattle.isle_core.proofs.NotTrivial.{no_trivial}
+use Rattle.isle_core.proofs.SameValueLaws.{same_value-self}
 use Rattle.isle_core.proofs.PatternTests.{HoldsFields, Agree, Both, none_agrees, patterns_both}
 use Rattle.isle_core.proofs.TurnKinds.{CallsByTurns, Supplies, supplies_less, calls_by_turns}
 use Rattle.isle_core.proofs.PlacedVariables.{args_placed}
@@ -52,13 +52,37 @@ all_at p xs e x c = All-contains (λ y. p y ≡ true) xs x (AllPass-from_list_al
 all_from : {A : Type 0} (p : A → Bool) (xs : List A) → ((x : A) → Contains xs x → p x ≡ true) → list_all p xs ≡ true
 all_from p xs h = list_all-from_AllPass p xs (λ k d lt. h (get_or xs k d) (Contains-get_or xs k d lt))
 
-all_same : {A : Type 0} (p : A → Bool) (xs ys : List A) → ((x : A) → Contains xs x → Contains ys x) → ((x : A) → Contains ys x → Contains xs x) → list_all p xs ≡ list_all p ys
-all_same p xs ys h k = iff_same (list_all p xs) (list_all p ys) (λ e. all_from p ys (λ x c. all_at p xs e x (k x c))) (λ e. all_from p xs (λ x c. all_at p ys e x (h x c)))
+equal_values-self : (vs : List Value) → equal_values vs vs ≡ true
+equal_values-self [] = refl
+equal_values-self (v ∷ vs) = rw (same_value-self v) (equal_values-self vs)
 
-flat_same : (env : Environment) (m : Meaning) (args : List Value) (ps : List Path) (r : Rule) (n : ℕ) (f : FlatRule) → IsBuiltRule env.terms r → IsFlat env ps r n f → flat_holds env m args ps f ≡ all_hold env m (value_at env m args nothing_known) (rule_tests env r)
-flat_same env m args ps r n f b h =
-    all_same (holds env m (value_at env m args nothing_known)) (flat_tests ps f) (rule_tests env r) (λ t c. (h.no_other t c).0)
-    (λ t c. ⊎_elim (λ d. d) (λ e. absurd (no_trivial env r t b c e)) (h.tested t c))
+equal_item-self : (i : Item) → equal_item i i ≡ true
+equal_item-self (AValue v) = same_value-self v
+equal_item-self (ATuple vs) = equal_values-self vs
+
+equal_items-self : (is : List Item) → equal_items is is ≡ true
+equal_items-self [] = refl
+equal_items-self (i ∷ is) = rw (equal_item-self i) (equal_items-self is)
+
+equal_held-self : (h : Held) → equal_held h h ≡ true
+equal_held-self Absent = refl
+equal_held-self (One i) = equal_item-self i
+equal_held-self (Optional None) = refl
+equal_held-self (Optional (Some i)) = equal_item-self i
+equal_held-self (Listed is) = equal_items-self is
+
+-- a path holds what it holds itself
+trivial_holds : (env : Environment) (m : Meaning) (val : Path → Held) (t : Test) → IsTrivial t → holds env m val t ≡ true
+trivial_holds env m val (Is p c) e = absurd e
+trivial_holds env m val (Equal p q) e = subst (λ x. equal_held (val p) (val x) ≡ true) e (equal_held-self (val p))
+trivial_holds env m val Never e = absurd e
+
+flat_same : (env : Environment) (m : Meaning) (args : List Value) (ps : List Path) (r : Rule) (n : ℕ) (f : FlatRule) → IsFlat env ps r n f → flat_holds env m args ps f ≡ all_hold env m (value_at env m args nothing_known) (rule_tests env r)
+flat_same env m args ps r n f h =
+    let val = value_at env m args nothing_known in
+    iff_same (list_all (holds env m val) (flat_tests ps f)) (list_all (holds env m val) (rule_tests env r))
+    (λ e. all_from (holds env m val) (rule_tests env r) (λ t c. ⊎_elim (λ d. all_at (holds env m val) (flat_tests ps f) e t d) (λ k. trivial_holds env m val t k) (h.tested t c)))
+    (λ e. all_from (holds env m val) (flat_tests ps f) (λ t c. all_at (holds env m val) (rule_tests env r) e t (h.no_other t c).0))
 
 -- ---- one rule
 
@@ -88,11 +112,11 @@ rule_both env m args tys r apart none h t =
 
 -- a rule's calls take turns
 abbrev RuleByTurns : Environment → Meaning → Rule → Type 0
-RuleByTurns env m r = CallsByTurns env m (rule_places env r) r.rhs
+RuleByTurns env m r = (n : ℕ) → CallsByTurns env m (rule_places env r) n r.rhs
 
 rule_by_turns : (env : Environment) (m : Meaning) (r : Rule) → IsBuiltRule env.terms r → IsScopedRule r → CallsBuiltTerms env.terms r → Supplies env m (called_in env r) (rule_constants r) → RuleByTurns env m r
-rule_by_turns env m r b v i h =
-    calls_by_turns r.rhs env m (all_variables r.args) (rule_places env r) (λ x c. args_placed env env.terms r.args 0 no_places x (recursion_from_All (IsBuiltPattern env.terms) r.args b.args) c) b.rhs (rhs_in_scope env.terms r b v) i
+rule_by_turns env m r b v i h n =
+    calls_by_turns r.rhs env m (all_variables r.args) (rule_places env r) n (λ x c. args_placed env env.terms r.args 0 no_places x (recursion_from_All (IsBuiltPattern env.terms) r.args b.args) c) b.rhs (rhs_in_scope env.terms r b v) i
     (supplies_less env m (called_in env r) (called_by env r.rhs) (rule_constants r) (expr_constants r.rhs) (λ o k. Contains-append_right (extracted_in env r.args ++ called_in_iflets env r.iflets) (called_by env r.rhs) o k)
     (λ c k. Contains-append_right (args_constants r.args ++ iflets_constants r.iflets) (expr_constants r.rhs) c k) h)
 
@@ -106,10 +130,10 @@ follows_returns env m args n n' known p (Failed made) (Goes known' made') h = ab
 flat_gives : (env : Environment) (m : Meaning) (args : List Value) (ps : List Path) (r : Rule) (n : ℕ) (f : FlatRule) (names : Names) → RuleByTurns env m r → IsFlat env ps r n f → Agree (value_at env m args nothing_known) names (rule_places env r)
     → flat_run env m args ps f ≡ Ends (prescription_of (evaluated env m r.rhs names []))
 flat_gives env m args ps r n f names t h a =
-    ap (λ cs. then_go (run_calls env m args cs nothing_known []) (returns env m args (at ps f.result))) (rising_firsts n (rule_calls env r n) (map (at ps) f.ordered) (calls_are_rising r.rhs env m (rule_places env r) n t) h.ordered)
+    ap (λ cs. then_go (run_calls env m args cs nothing_known []) (returns env m args (at ps f.result))) (rising_firsts n (rule_calls env r n) (map (at ps) f.ordered) (calls_are_rising r.rhs env m (rule_places env r) n (t n)) h.ordered)
     ∙ ap (λ p. then_go (run_calls env m args (rule_calls env r n) nothing_known []) (returns env m args p)) h.result
     ∙ follows_returns env m args n (n + impure env r.rhs) nothing_known (rule_result env r n) (evaluated env m r.rhs names []) (run_calls env m args (rule_calls env r n) nothing_known [])
-    (expr_follows r.rhs env m args n nothing_known names (rule_places env r) [] t a (args_up_to env r.args n 0 no_places (none_up_to n)) (nothing_fresh n))
+    (expr_follows r.rhs env m args n nothing_known names (rule_places env r) [] (t n) a (args_up_to env r.args n 0 no_places (none_up_to n)) (nothing_fresh n))
 
 -- ---- the highest
 
@@ -166,7 +190,7 @@ highest_alike (r ∷ rs) (f ∷ fs) env m args tys ps n apart t met h =
     let val = value_at env m args nothing_known in
     alike_more env m args ps r n f (flat_holds env m args ps f) (rule_names env m args r) (highest (flat_holds env m args ps) fs) (highest_match env m args rs)
     (rule_by_turns env m r met.built.0 met.scoped.0 met.terms.0 (first_served env m r rs met.served)) h.0
-    (subst (λ x. Both val (rule_names env m args r) x (rule_places env r)) (sym (flat_same env m args ps r n f met.built.0 h.0)) (rule_both env m args tys r apart met.built.0.iflets met.typed.0 t))
+    (subst (λ x. Both val (rule_names env m args r) x (rule_places env r)) (sym (flat_same env m args ps r n f h.0)) (rule_both env m args tys r apart met.built.0.iflets met.typed.0 t))
     (highest_alike rs fs env m args tys ps (n + impure env r.rhs) apart t (rest_met env m tys r rs met) h.1)
 highest_alike [] (f ∷ fs) env m args tys ps n apart t met h = absurd h
 highest_alike (r ∷ rs) [] env m args tys ps n apart t met h = absurd h

@@ -1,9 +1,10 @@
 -- A lawful impure term is answered by turns of its kind.
-use Rattle.std.proofs.Common.{◌≡◌, ℕ, zero, suc, List, [], ◌∷◌, false, Option, Some, None, refl, sym, subst, cond}
+use Rattle.std.proofs.Common.{◌≡◌, ⊎_elim, ℕ, zero, suc, ◌+◌, List, [], ◌∷◌, ◌++◌, Bool, true, false, cond, eqb, Option, Some, None, T, refl, sym, subst}
+use Rattle.std.proofs.Math.Dec.{eqb_refl}
 use Rattle.std.specs.Prelude.{IsSomeAnd, IsSome, All, slice_get, slice_index_or, Contains}
 use Rattle.std.specs.List.{AllByRecursion}
-use Rattle.std.proofs.lemmas.List.Elements.{recursion_from_All, Contains-append_left, Contains-append_right}
-use Rattle.isle_core.proofs.Contained.{head_contained}
+use Rattle.std.proofs.lemmas.List.Elements.{recursion_from_All, Contains-append_left, Contains-append_right, Contains-append_cases}
+use Rattle.isle_core.proofs.Contained.{head_contained, contained_cases, none_contained}
 use Rattle.isle_base.specs.declared.ids.TermId.{TermId}
 use Rattle.isle_base.specs.declared.ids.TypeId.{TypeId}
 use Rattle.isle_core.specs.declared.types.Term.{Term}
@@ -17,20 +18,22 @@ use Rattle.isle_core.specs.declared.types.ReturnKind.TheVariants as return_kind
 use Rattle.isle_core.specs.Value.{Value, Answer, Plain, Found, Nothing, Several, Made}
 use Rattle.isle_core.specs.Meaning.{Meaning, TurnAnswers, turns_of, turn_at, times, turn}
 use Rattle.isle_core.specs.Answered.{AValue, ATuple, Held, Absent, One, Optional, Listed, a_value, an_option, answer_held}
-use Rattle.isle_core.specs.Calling.{Calling, ByTurns, NoCall, kind_of, kind_by, pure_callee, calling_by, calling_of, calling}
+use Rattle.isle_core.specs.Calling.{Calling, ByTurns, NoCall, kind_of, kind_by, pure_callee, calling_by, calling_of, calling, impure, impure_bindings}
 use Rattle.isle_core.specs.Terms.{sym_text, impure_callee}
 use Rattle.isle_core.specs.HasType.{HasType}
 use Rattle.isle_core.specs.Lawful.{Fits, all_turns, CallingFits, CalledTermFits}
-use Rattle.isle_core.specs.CalledTerms.{Constructor, CalledTerm, is_made_kind, is_made_term, is_made, unless_made, called_by, called_by_all}
-use Rattle.isle_core.specs.BuiltRule.{IsBuiltExpr, AreBuiltExprs, IsBuiltKind, HasBuiltTerms, AllHaveBuiltTerms}
+use Rattle.isle_core.specs.CalledTerms.{Constructor, CalledTerm, is_made_kind, is_made_term, is_made, unless_made, called_by, called_by_all, called_by_bindings}
+use Rattle.isle_core.specs.BuiltRule.{IsBuiltExpr, AreBuiltExprs, AreBuiltBindings, IsBuiltKind, HasBuiltTerms, AllHaveBuiltTerms, BindingsHaveBuiltTerms}
 use Rattle.isle_base.specs.declared.ids.Sym.{Sym}
 use Rattle.isle_core.specs.Having.{const_of}
 use Rattle.isle_core.specs.Making.{Making, MakesVariant, MakesStruct, MakesNothing, making_kind, making_of, making}
-use Rattle.isle_core.specs.OccurringConstants.{TypedConstant, Named, expr_constants, exprs_constants}
-use Rattle.isle_core.specs.Scope.{IsInScope, AreInScope}
+use Rattle.isle_core.specs.OccurringConstants.{TypedConstant, Named, expr_constants, exprs_constants, bindings_constants}
+use Rattle.isle_core.specs.Scope.{IsInScope, AreInScope, AreLetsInScope, let_scope}
 use Rattle.isle_core.specs.Expr as expr
-use Rattle.isle_core.specs.Expr.{Expr, Exprs, NoExpr, AnExpr}
+use Rattle.isle_core.specs.Expr.{Expr, Exprs, NoExpr, AnExpr, LetBindings, NoBinding, ABinding}
 use Rattle.isle_core.specs.Path.{Path}
+use Rattle.isle_core.specs.Match.{with}
+use Rattle.isle_core.specs.RightSide.{path, let_places}
 use Rattle.isle_core.specs.Tests.{Places}
 use Rattle.isle_core.specs.Rule.{Environment}
 
@@ -150,20 +153,46 @@ abbrev pub IsPlaced : Option Path → Type 0
 IsPlaced None = ⊥
 IsPlaced (Some p) = Unit {0}
 
--- a built expression whose variables have paths, whose named constants have values and whose calls take turns
+-- a built expression behind n impure calls, whose variables have paths, whose named constants have values and whose calls take turns
 abbrev mutual
-  pub CallsByTurns : Environment → Meaning → Places → Expr → Type 0
-  CallsByTurns env m places (expr.Var ty x) = IsPlaced (places x.0)
-  CallsByTurns env m places (expr.ConstBool b) = Unit {0}
-  CallsByTurns env m places (expr.ConstInt ty n) = Unit {0}
-  CallsByTurns env m places (expr.ConstPrim ty name) = IsSome (const_of m (sym_text env name))
-  CallsByTurns env m places (expr.Term ty term es) = TermTakes m (making env term) (calling env term) × AllCallByTurns env m places es
-  CallsByTurns env m places (expr.Let ty bindings inner) = ⊥
+  pub CallsByTurns : Environment → Meaning → Places → ℕ → Expr → Type 0
+  CallsByTurns env m places n (expr.Var ty x) = IsPlaced (places x.0)
+  CallsByTurns env m places n (expr.ConstBool b) = Unit {0}
+  CallsByTurns env m places n (expr.ConstInt ty k) = Unit {0}
+  CallsByTurns env m places n (expr.ConstPrim ty name) = IsSome (const_of m (sym_text env name))
+  CallsByTurns env m places n (expr.Term ty term es) = TermTakes m (making env term) (calling env term) × AllCallByTurns env m places n es
+  CallsByTurns env m places n (expr.Let ty bs inner) = BindingsCallByTurns env m places n bs × CallsByTurns env m (let_places env bs places n) (n + impure_bindings env bs) inner
 
   -- so of expressions in order
-  pub AllCallByTurns : Environment → Meaning → Places → Exprs → Type 0
-  AllCallByTurns env m places NoExpr = Unit {0}
-  AllCallByTurns env m places (AnExpr e es) = CallsByTurns env m places e × AllCallByTurns env m places es
+  pub AllCallByTurns : Environment → Meaning → Places → ℕ → Exprs → Type 0
+  AllCallByTurns env m places n NoExpr = Unit {0}
+  AllCallByTurns env m places n (AnExpr e es) = CallsByTurns env m places n e × AllCallByTurns env m places (n + impure env e) es
+
+  -- so of the values of a `let`
+  pub BindingsCallByTurns : Environment → Meaning → Places → ℕ → LetBindings → Type 0
+  BindingsCallByTurns env m places n NoBinding = Unit {0}
+  BindingsCallByTurns env m places n (ABinding x ty e more) = CallsByTurns env m places n e × BindingsCallByTurns env m (with places x.0 (path env e places n)) (n + impure env e) more
+
+picked_true : (b : Bool) (p : Path) (o : Option Path) → T b → IsPlaced (cond b (Some p) o)
+picked_true true p o t = tt
+picked_true false p o t = absurd t
+
+picked_old : (b : Bool) (p : Path) (o : Option Path) → IsPlaced o → IsPlaced (cond b (Some p) o)
+picked_old true p o h = tt
+picked_old false p o h = h
+
+-- one variable more has a path
+with_placed : (scope : List ℕ) (places : Places) (x : ℕ) (p : Path) → ((y : ℕ) → Contains scope y → IsPlaced (places y)) → (y : ℕ) → Contains (scope ++ x ∷ []) y → IsPlaced (with places x p y)
+with_placed scope places x p h y c = ⊎_elim
+    (λ d. picked_old (eqb x y) p (places y) (h y d))
+    (λ d. ⊎_elim (λ (e : x ≡ y). subst (λ k. IsPlaced (with places x p k)) e (picked_true (eqb x x) p (places x) (eqb_refl x))) (λ k. absurd (none_contained y k)) (contained_cases x [] y d))
+    (Contains-append_cases scope (x ∷ []) y c)
+
+-- those of a `let` do
+let_placed : (bs : LetBindings) (env : Environment) (scope : List ℕ) (places : Places) (n : ℕ) → ((y : ℕ) → Contains scope y → IsPlaced (places y)) → (y : ℕ) → Contains (let_scope scope bs) y → IsPlaced (let_places env bs places n y)
+let_placed NoBinding env scope places n h y c = h y c
+let_placed (ABinding x ty e more) env scope places n h y c =
+    let_placed more env (scope ++ x.0 ∷ []) (with places x.0 (path env e places n)) (n + impure env e) (with_placed scope places x.0 (path env e places n) h) y c
 
 -- the meaning answers what is called among these terms, and each name among these constants has a value
 pub record Supplies (env : Environment) (m : Meaning) (terms : List CalledTerm) (constants : List TypedConstant) : Type 0 where
@@ -177,28 +206,47 @@ supplies_less env m terms others constants those f g s = record { answers = λ o
 
 mutual
   -- terms that are answered lawfully take turns or are made
-  pub calls_by_turns : (e : Expr) (env : Environment) (m : Meaning) (scope : List ℕ) (places : Places) → ((x : ℕ) → Contains scope x → IsPlaced (places x))
-      → IsBuiltExpr e → IsInScope scope e → HasBuiltTerms env.terms e → Supplies env m (called_by env e) (expr_constants e) → CallsByTurns env m places e
-  calls_by_turns (expr.Var ty x) env m scope places p b v i h = p x.0 v
-  calls_by_turns (expr.ConstBool c) env m scope places p b v i h = tt
-  calls_by_turns (expr.ConstInt ty n) env m scope places p b v i h = tt
-  calls_by_turns (expr.ConstPrim ty name) env m scope places p b v i h = h.named ty name (head_contained (ty, Named name) [])
-  calls_by_turns (expr.Term ty term es) env m scope places p b v i h =
+  pub calls_by_turns : (e : Expr) (env : Environment) (m : Meaning) (scope : List ℕ) (places : Places) (n : ℕ) → ((x : ℕ) → Contains scope x → IsPlaced (places x))
+      → IsBuiltExpr e → IsInScope scope e → HasBuiltTerms env.terms e → Supplies env m (called_by env e) (expr_constants e) → CallsByTurns env m places n e
+  calls_by_turns (expr.Var ty x) env m scope places n p b v i h = p x.0 v
+  calls_by_turns (expr.ConstBool c) env m scope places n p b v i h = tt
+  calls_by_turns (expr.ConstInt ty k) env m scope places n p b v i h = tt
+  calls_by_turns (expr.ConstPrim ty name) env m scope places n p b v i h = h.named ty name (head_contained (ty, Named name) [])
+  calls_by_turns (expr.Term ty term es) env m scope places n p b v i h =
       let o : CalledTerm = record { term = term; role = Constructor } in (
         term_takes env m (slice_get env.terms term.0) i.0 (λ e. h.answers o (Contains-append_right (called_by_all env es) (unless_made env Constructor term) o (called_here env term e))),
-        all_call_by_turns es env m scope places p b v i.1 (supplies_less env m (called_by env (expr.Term ty term es)) (called_by_all env es) (exprs_constants es) (exprs_constants es) (λ q k. Contains-append_left (called_by_all env es) (unless_made env Constructor term) q k) (λ c k. k) h),
+        all_call_by_turns es env m scope places n p b v i.1 (supplies_less env m (called_by env (expr.Term ty term es)) (called_by_all env es) (exprs_constants es) (exprs_constants es) (λ q k. Contains-append_left (called_by_all env es) (unless_made env Constructor term) q k) (λ c k. k) h),
       )
-  calls_by_turns (expr.Let ty bindings inner) env m scope places p b v i h = absurd b
+  calls_by_turns (expr.Let ty bs inner) env m scope places n p b v i h =
+      let e = expr.Let ty bs inner in (
+        bindings_call_by_turns bs env m scope places n p b.0 v.0 i.0
+            (supplies_less env m (called_by env e) (called_by_bindings env bs) (expr_constants e) (bindings_constants bs) (λ o k. Contains-append_left (called_by_bindings env bs) (called_by env inner) o k) (λ c k. Contains-append_left (bindings_constants bs) (expr_constants inner) c k) h),
+        calls_by_turns inner env m (let_scope scope bs) (let_places env bs places n) (n + impure_bindings env bs) (let_placed bs env scope places n p) b.1 v.1 i.1
+            (supplies_less env m (called_by env e) (called_by env inner) (expr_constants e) (expr_constants inner) (λ o k. Contains-append_right (called_by_bindings env bs) (called_by env inner) o k) (λ c k. Contains-append_right (bindings_constants bs) (expr_constants inner) c k) h),
+      )
 
   -- so of expressions in order
-  pub all_call_by_turns : (es : Exprs) (env : Environment) (m : Meaning) (scope : List ℕ) (places : Places) → ((x : ℕ) → Contains scope x → IsPlaced (places x))
-      → AreBuiltExprs es → AreInScope scope es → AllHaveBuiltTerms env.terms es → Supplies env m (called_by_all env es) (exprs_constants es) → AllCallByTurns env m places es
-  all_call_by_turns NoExpr env m scope places p b v i h = tt
-  all_call_by_turns (AnExpr e es) env m scope places p b v i h =
+  pub all_call_by_turns : (es : Exprs) (env : Environment) (m : Meaning) (scope : List ℕ) (places : Places) (n : ℕ) → ((x : ℕ) → Contains scope x → IsPlaced (places x))
+      → AreBuiltExprs es → AreInScope scope es → AllHaveBuiltTerms env.terms es → Supplies env m (called_by_all env es) (exprs_constants es) → AllCallByTurns env m places n es
+  all_call_by_turns NoExpr env m scope places n p b v i h = tt
+  all_call_by_turns (AnExpr e es) env m scope places n p b v i h =
       let terms = called_by_all env (AnExpr e es) in
       let constants = exprs_constants (AnExpr e es) in (
-        calls_by_turns e env m scope places p b.0 v.0 i.0
+        calls_by_turns e env m scope places n p b.0 v.0 i.0
             (supplies_less env m terms (called_by env e) constants (expr_constants e) (λ o k. Contains-append_left (called_by env e) (called_by_all env es) o k) (λ c k. Contains-append_left (expr_constants e) (exprs_constants es) c k) h),
-        all_call_by_turns es env m scope places p b.1 v.1 i.1
+        all_call_by_turns es env m scope places (n + impure env e) p b.1 v.1 i.1
             (supplies_less env m terms (called_by_all env es) constants (exprs_constants es) (λ o k. Contains-append_right (called_by env e) (called_by_all env es) o k) (λ c k. Contains-append_right (expr_constants e) (exprs_constants es) c k) h),
+      )
+
+  -- so of the values of a `let`
+  pub bindings_call_by_turns : (bs : LetBindings) (env : Environment) (m : Meaning) (scope : List ℕ) (places : Places) (n : ℕ) → ((x : ℕ) → Contains scope x → IsPlaced (places x))
+      → AreBuiltBindings bs → AreLetsInScope scope bs → BindingsHaveBuiltTerms env.terms bs → Supplies env m (called_by_bindings env bs) (bindings_constants bs) → BindingsCallByTurns env m places n bs
+  bindings_call_by_turns NoBinding env m scope places n p b v i h = tt
+  bindings_call_by_turns (ABinding x ty e more) env m scope places n p b v i h =
+      let terms = called_by_bindings env (ABinding x ty e more) in
+      let constants = bindings_constants (ABinding x ty e more) in (
+        calls_by_turns e env m scope places n p b.0 v.0 i.0
+            (supplies_less env m terms (called_by env e) constants (expr_constants e) (λ o k. Contains-append_left (called_by env e) (called_by_bindings env more) o k) (λ c k. Contains-append_left (expr_constants e) (bindings_constants more) c k) h),
+        bindings_call_by_turns more env m (scope ++ x.0 ∷ []) (with places x.0 (path env e places n)) (n + impure env e) (with_placed scope places x.0 (path env e places n) p) b.1 v.1 i.1
+            (supplies_less env m terms (called_by_bindings env more) constants (bindings_constants more) (λ o k. Contains-append_right (called_by env e) (called_by_bindings env more) o k) (λ c k. Contains-append_right (expr_constants e) (bindings_constants more) c k) h),
       )

@@ -8,7 +8,7 @@ use Rattle.isle_core.specs.Pattern as pattern
 use Rattle.isle_core.specs.Making.{Making, MakesVariant, MakesStruct, MakesNothing, making_in}
 use Rattle.isle_core.specs.Pattern.{Pattern, Patterns, NoPattern, APattern}
 use Rattle.isle_core.specs.Expr as expr
-use Rattle.isle_core.specs.Expr.{Expr, Exprs, NoExpr, AnExpr}
+use Rattle.isle_core.specs.Expr.{Expr, Exprs, NoExpr, AnExpr, LetBindings, NoBinding, ABinding}
 use Rattle.isle_core.specs.Rule.{Rule}
 
 -- a made term
@@ -22,7 +22,7 @@ abbrev pub count : Patterns → ℕ
 count NoPattern = 0
 count (APattern p ps) = suc (count ps)
 
--- a variable, a constant, `_`, or a made term of at most 256 such patterns
+-- a variable, a constant, `_`, `@`, `and`, or a made term of at most 256 such patterns
 abbrev mutual
   pub IsBuiltPattern : List Term → Pattern → Type 0
   IsBuiltPattern terms (pattern.Var ty x) = Unit {0}
@@ -31,15 +31,15 @@ abbrev mutual
   IsBuiltPattern terms (pattern.ConstPrim ty name) = Unit {0}
   IsBuiltPattern terms (pattern.Wildcard ty) = Unit {0}
   IsBuiltPattern terms (pattern.Term of term ps) = IsMaking (making_in terms term) × (count ps ≤ 256) × AreBuiltPatterns terms ps
-  IsBuiltPattern terms (pattern.BindPattern of x q) = ⊥
-  IsBuiltPattern terms (pattern.And of ps) = ⊥
+  IsBuiltPattern terms (pattern.BindPattern of x q) = IsBuiltPattern terms q
+  IsBuiltPattern terms (pattern.And of ps) = AreBuiltPatterns terms ps
 
   -- so of patterns in order
   pub AreBuiltPatterns : List Term → Patterns → Type 0
   AreBuiltPatterns terms NoPattern = Unit {0}
   AreBuiltPatterns terms (APattern p ps) = IsBuiltPattern terms p × AreBuiltPatterns terms ps
 
--- a variable, a constant, or a term on such expressions
+-- a variable, a constant, a term on such expressions, or a `let` of such
 abbrev mutual
   pub IsBuiltExpr : Expr → Type 0
   IsBuiltExpr (expr.Var ty x) = Unit {0}
@@ -47,12 +47,17 @@ abbrev mutual
   IsBuiltExpr (expr.ConstInt ty n) = Unit {0}
   IsBuiltExpr (expr.Term ty term es) = AreBuiltExprs es
   IsBuiltExpr (expr.ConstPrim of name) = Unit {0}
-  IsBuiltExpr (expr.Let of bindings inner) = ⊥
+  IsBuiltExpr (expr.Let of bindings inner) = AreBuiltBindings bindings × IsBuiltExpr inner
 
   -- so of expressions in order
   pub AreBuiltExprs : Exprs → Type 0
   AreBuiltExprs NoExpr = Unit {0}
   AreBuiltExprs (AnExpr e es) = IsBuiltExpr e × AreBuiltExprs es
+
+  -- so of the values of a `let`
+  pub AreBuiltBindings : LetBindings → Type 0
+  AreBuiltBindings NoBinding = Unit {0}
+  AreBuiltBindings (ABinding x ty e more) = IsBuiltExpr e × AreBuiltBindings more
 
 -- a rule without conditions, of such patterns and such a right side
 pub record IsBuiltRule (terms : List Term) (r : Rule) : Type 0 where
@@ -80,12 +85,17 @@ abbrev mutual
   HasBuiltTerms terms (expr.ConstBool b) = Unit {0}
   HasBuiltTerms terms (expr.ConstInt of n) = Unit {0}
   HasBuiltTerms terms (expr.ConstPrim of name) = Unit {0}
-  HasBuiltTerms terms (expr.Let of bindings inner) = Unit {0}
+  HasBuiltTerms terms (expr.Let of bindings inner) = BindingsHaveBuiltTerms terms bindings × HasBuiltTerms terms inner
 
   -- so of expressions in order
   pub AllHaveBuiltTerms : List Term → Exprs → Type 0
   AllHaveBuiltTerms terms NoExpr = Unit {0}
   AllHaveBuiltTerms terms (AnExpr e es) = HasBuiltTerms terms e × AllHaveBuiltTerms terms es
+
+  -- so of the values of a `let`
+  pub BindingsHaveBuiltTerms : List Term → LetBindings → Type 0
+  BindingsHaveBuiltTerms terms NoBinding = Unit {0}
+  BindingsHaveBuiltTerms terms (ABinding x ty e more) = HasBuiltTerms terms e × BindingsHaveBuiltTerms terms more
 
 -- so of a rule's right side
 abbrev pub CallsBuiltTerms : List Term → Rule → Type 0

@@ -11,7 +11,7 @@ use Rattle.isle_core.specs.declared.values.Callee.TheVariants.{External}
 use Rattle.isle_core.specs.declared.types.ReturnKind.{ReturnKind}
 use Rattle.isle_core.specs.declared.types.ReturnKind.TheVariants as return_kind
 use Rattle.isle_core.specs.Expr as expr
-use Rattle.isle_core.specs.Expr.{Expr, Exprs, NoExpr, AnExpr}
+use Rattle.isle_core.specs.Expr.{Expr, Exprs, NoExpr, AnExpr, LetBindings, NoBinding, ABinding}
 use Rattle.isle_core.specs.Rule.{Environment}
 use Rattle.isle_core.specs.Terms.{sym_text, callee_by, impure_callee}
 
@@ -130,7 +130,7 @@ one_more (ByTurns callee kind) n = suc n
 one_more (ByCases callee kind) n = n
 one_more NoCall n = n
 
--- how many impure calls an expression makes; those of a `let` are not built
+-- how many impure calls an expression makes
 abbrev mutual
   pub impure : Environment → Expr → ℕ
   impure env (expr.Term ty term es) = one_more (calling env term) (impure_all env es)
@@ -138,8 +138,12 @@ abbrev mutual
   impure env (expr.ConstBool b) = 0
   impure env (expr.ConstInt ty n) = 0
   impure env (expr.ConstPrim ty name) = 0
-  impure env (expr.Let ty bindings inner) = 0
+  impure env (expr.Let ty bindings inner) = impure_bindings env bindings + impure env inner
 
   pub impure_all : Environment → Exprs → ℕ
   impure_all env NoExpr = 0
   impure_all env (AnExpr e es) = impure env e + impure_all env es
+
+  pub impure_bindings : Environment → LetBindings → ℕ
+  impure_bindings env NoBinding = 0
+  impure_bindings env (ABinding x ty e more) = impure env e + impure_bindings env more

@@ -5,12 +5,12 @@ use Rattle.isle_core.specs.Constants.{int_value}
 use Rattle.isle_core.specs.Meaning.{Meaning, turn, case}
 use Rattle.isle_core.specs.Answered.{AValue, ATuple, Held, Absent, One, Optional, Listed, answer_held}
 use Rattle.isle_core.specs.Calling.{Calling, ByTurns, ByCases, NoCall, calling}
-use Rattle.isle_core.specs.Expr.{Expr, Exprs, NoExpr, AnExpr, Term, Var, ConstBool, ConstInt, ConstPrim, Let}
+use Rattle.isle_core.specs.Expr.{Expr, Exprs, NoExpr, AnExpr, LetBindings, NoBinding, ABinding, Term, Var, ConstBool, ConstInt, ConstPrim, Let}
 use Rattle.isle_core.specs.Having.{const_of}
 use Rattle.isle_core.specs.Terms.{sym_text}
 use Rattle.isle_core.specs.Making.{Making, MakesVariant, MakesStruct, MakesNothing, making}
 use Rattle.isle_core.specs.Form.{made_value}
-use Rattle.isle_core.specs.Match.{Names, matches}
+use Rattle.isle_core.specs.Match.{Names, with, matches}
 use Rattle.isle_core.specs.Rule.{Environment, IfLet}
 
 -- a value or a failure, and all impure calls so far
@@ -66,7 +66,22 @@ made_or_called env m (MakesVariant ty variant) c vs made = Answered (made_value 
 made_or_called env m (MakesStruct ty) c vs made = Answered (made_value env (MakesStruct ty) vs) made
 made_or_called env m MakesNothing c vs made = called_with m c vs made
 
--- the evaluation of an expression, after the calls made before, arguments first; a `let` is not built
+-- the names with those of a `let`, or a failure of one of its values, and all impure calls so far
+pub data Bound : Type 0 where
+  AllBound : Names → List Made → Bound
+  NotBound : List Made → Bound
+
+-- what follows a value of a `let`; behind a failure nothing does
+abbrev pub then_bind : Evaluated → (Value → List Made → Bound) → Bound
+then_bind (Answered v made) go = go v made
+then_bind (Failed made) go = NotBound made
+
+-- what follows all values of a `let`; behind a failure nothing does
+abbrev pub then_within : Bound → (Names → List Made → Evaluated) → Evaluated
+then_within (AllBound names made) go = go names made
+then_within (NotBound made) go = Failed made
+
+-- the evaluation of an expression, after the calls made before: arguments first, and each value of a `let` in order
 abbrev mutual
   pub evaluated : Environment → Meaning → Expr → Names → List Made → Evaluated
   evaluated env m (ConstBool b) names made = Answered (Truth b) made
@@ -74,12 +89,17 @@ abbrev mutual
   evaluated env m (Var ty x) names made = named (names x.0) made
   evaluated env m (Term ty term es) names made = then_one (evaluated_all env m es names made) (made_or_called env m (making env term) (calling env term))
   evaluated env m (ConstPrim ty name) names made = named (const_of m (sym_text env name)) made
-  evaluated env m (Let ty bindings inner) names made = Failed made
+  evaluated env m (Let ty bindings inner) names made = then_within (bound env m bindings names made) (evaluated env m inner)
 
   -- from left to right
   pub evaluated_all : Environment → Meaning → Exprs → Names → List Made → EvaluatedAll
   evaluated_all env m NoExpr names made = AllAnswered [] made
   evaluated_all env m (AnExpr e es) names made = then_all (evaluated env m e names made) (λ v calls. before v (evaluated_all env m es names calls))
+
+  -- each variable has the value of its expression, used or not
+  pub bound : Environment → Meaning → LetBindings → Names → List Made → Bound
+  bound env m NoBinding names made = AllBound names made
+  bound env m (ABinding x ty e more) names made = then_bind (evaluated env m e names made) (λ v calls. bound env m more (with names x.0 v) calls)
 
 -- the value, where there is one
 abbrev pub value_of : Evaluated → Option Value

@@ -37,8 +37,8 @@ abbrev pub equals_const : Option Value → Value → Names → Option Names
 equals_const None v names = None
 equals_const (Some w) v names = if_holds (same_value v w) names
 
--- the names with those that the pattern binds, where it matches; a made term's parts match the fields of what it makes. Terms
--- that are extracted, and `@` and `and`, are not built
+-- the names with those that the pattern binds, where it matches; a made term's parts match the fields of what it makes, `x @ P` binds x
+-- before it matches P, and each part of `and` matches the value. Terms that are extracted are not built
 abbrev mutual
   pub matches : Environment → Meaning → Pattern → Value → Names → Option Names
   matches env m (Var ty x) v names = met (names x.0) x.0 v names
@@ -47,8 +47,8 @@ abbrev mutual
   matches env m (ConstPrim ty name) v names = equals_const (const_of m (sym_text env name)) v names
   matches env m (Wildcard ty) v names = Some names
   matches env m (Term ty term ps) v names = if is_made_by env (making env term) v then matches_parts env m ps (parts v) names else None
-  matches env m (BindPattern ty x p) v names = None
-  matches env m (And ty ps) v names = None
+  matches env m (BindPattern ty x p) v names = option_and_then (matches env m p v) (met (names x.0) x.0 v names)
+  matches env m (And ty ps) v names = matches_each env m ps v names
 
   -- parts against as many values, in order
   pub matches_parts : Environment → Meaning → Patterns → List Value → Names → Option Names
@@ -56,6 +56,11 @@ abbrev mutual
   matches_parts env m (APattern p ps) (v ∷ vs) names = option_and_then (matches_parts env m ps vs) (matches env m p v names)
   matches_parts env m NoPattern (v ∷ vs) names = None
   matches_parts env m (APattern p ps) [] names = None
+
+  -- each of several patterns against one value, in order
+  pub matches_each : Environment → Meaning → Patterns → Value → Names → Option Names
+  matches_each env m NoPattern v names = Some names
+  matches_each env m (APattern p ps) v names = option_and_then (matches_each env m ps v) (matches env m p v names)
 
 -- patterns against as many values, in order
 abbrev pub matches_all : Environment → Meaning → List Pattern → List Value → Names → Option Names

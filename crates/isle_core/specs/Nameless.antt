@@ -1,5 +1,5 @@
 -- Values without the type names of their opaque numbers: a run doesn't know those names.
-use Rattle.std.specs.Prelude.{List, [], Option, map, option_map}
+use Rattle.std.specs.Prelude.{[], map, option_map}
 use Rattle.isle_core.specs.Answered.{Item, AValue, ATuple, Held, Absent, One, Optional, Listed}
 use Rattle.isle_core.specs.Value.{Value, Truth, Int, Opaque, Variant, Struct, FieldValues, NoField, Field, Made, End, Gives, GivesSome, GivesNone, IsUnreachable, GivesList, Ran}
 

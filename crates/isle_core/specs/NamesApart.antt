@@ -1,5 +1,5 @@
 -- What names of an environment don't share, so that runs can tell by names what is made and what is constant.
-use Rattle.std.specs.Prelude.{◌≡◌, ℕ, List, Option, Some, IsSomeAnd, slice_get}
+use Rattle.std.specs.Prelude.{◌≡◌, ℕ, List, Some, IsSomeAnd, slice_get}
 use Rattle.isle_base.specs.declared.ids.Sym.{Sym}
 use Rattle.isle_base.specs.declared.ids.TypeId.{TypeId}
 use Rattle.isle_core.specs.declared.types.TypeDef.{TypeDef}

@@ -51,8 +51,8 @@ abbrev mutual
   IsPatternOf env ty (pattern.ConstPrim of name) = (of ≡ ty) × (const_type env name ≡ Some ty)
   IsPatternOf env ty (pattern.Wildcard of) = of ≡ ty
   IsPatternOf env ty (pattern.Term of term ps) = (of ≡ ty) × IsOfMaking ty (making env term) × ArePartsOf env (option_map (form_types env) (form env (making env term))) ps
-  IsPatternOf env ty (pattern.BindPattern of x p) = ⊥
-  IsPatternOf env ty (pattern.And of ps) = ⊥
+  IsPatternOf env ty (pattern.BindPattern of x p) = (of ≡ ty) × IsPatternOf env ty p
+  IsPatternOf env ty (pattern.And of ps) = (of ≡ ty) × AreEachOf env ty ps
 
   -- as many patterns as types, each for values of its type
   pub ArePartsOf : Environment → Option (List TypeId) → Patterns → Type 0
@@ -61,6 +61,11 @@ abbrev mutual
   ArePartsOf env (Some []) (APattern p ps) = ⊥
   ArePartsOf env (Some (ty ∷ tys)) NoPattern = ⊥
   ArePartsOf env None ps = ⊥
+
+  -- each for values of one type
+  pub AreEachOf : Environment → TypeId → Patterns → Type 0
+  AreEachOf env ty NoPattern = Unit {0}
+  AreEachOf env ty (APattern p ps) = IsPatternOf env ty p × AreEachOf env ty ps
 
 -- so of the patterns of arguments
 abbrev pub ArePatternsOf : Environment → List TypeId → List Pattern → Type 0

@@ -3,8 +3,9 @@ use Rattle.std.specs.Prelude.{ℕ, ◌+◌, Option, Some, None, if◌then◌else
 use Rattle.isle_base.specs.declared.ids.TermId.{TermId}
 use Rattle.isle_base.specs.declared.ids.TypeId.{TypeId}
 use Rattle.isle_core.specs.Expr as expr
-use Rattle.isle_core.specs.Expr.{Expr, Exprs, NoExpr, AnExpr}
-use Rattle.isle_core.specs.Calling.{Calling, calling, is_fallible, instance_of, impure, impure_all}
+use Rattle.isle_core.specs.Expr.{Expr, Exprs, NoExpr, AnExpr, LetBindings, NoBinding, ABinding}
+use Rattle.isle_core.specs.Calling.{Calling, calling, is_fallible, instance_of, impure, impure_all, impure_bindings}
+use Rattle.isle_core.specs.Match.{with}
 use Rattle.isle_core.specs.Making.{Making, MakesVariant, MakesStruct, MakesNothing, making}
 use Rattle.isle_core.specs.Path.{Path, Nowhere, ConstBool, ConstInt, ConstPrim, Called, MadeVariant, MadeStruct, Inner, Paths, NoPath, APath}
 use Rattle.isle_core.specs.Rule.{Environment, Rule}
@@ -33,7 +34,7 @@ call_path env term ps n = term_path (making env term) term ps (instance_of (call
 abbrev pub answer_path : Calling → Path → Path
 answer_path c p = if is_fallible c then Inner p else p
 
--- the path of an expression's value, after n impure calls of the rules; a `let`, which is not built, stands nowhere
+-- the path of an expression's value, after n impure calls of the rules
 abbrev mutual
   pub path : Environment → Expr → Places → ℕ → Path
   path env (expr.ConstBool b) places n = ConstBool bool_type b
@@ -41,12 +42,17 @@ abbrev mutual
   path env (expr.Var ty x) places n = path_or (places x.0)
   path env (expr.Term ty term es) places n = answer_path (calling env term) (call_path env term (paths env es places n) (n + impure_all env es))
   path env (expr.ConstPrim ty name) places n = ConstPrim name
-  path env (expr.Let ty bindings inner) places n = Nowhere
+  path env (expr.Let ty bindings inner) places n = path env inner (let_places env bindings places n) (n + impure_bindings env bindings)
 
   -- of expressions in order
   pub paths : Environment → Exprs → Places → ℕ → Paths
   paths env NoExpr places n = NoPath
   paths env (AnExpr e es) places n = APath (path env e places n) (paths env es places (n + impure env e))
+
+  -- the paths of variables after those of a `let`
+  pub let_places : Environment → LetBindings → Places → ℕ → Places
+  let_places env NoBinding places n = places
+  let_places env (ABinding x ty e more) places n = let_places env more (with places x.0 (path env e places n)) (n + impure env e)
 
 -- the path of a rule's result
 abbrev pub rule_result : Environment → Rule → ℕ → Path

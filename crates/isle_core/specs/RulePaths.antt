@@ -1,13 +1,14 @@
 -- The paths that rules speak of.
 use Rattle.std.specs.Prelude.{ℕ, suc, ◌+◌, List, [], ◌∷◌, ◌++◌, if◌then◌else◌}
 use Rattle.isle_core.specs.Expr as expr
-use Rattle.isle_core.specs.Expr.{Expr, Exprs, NoExpr, AnExpr}
-use Rattle.isle_core.specs.Calling.{Calling, calling, is_fallible, impure, impure_all}
+use Rattle.isle_core.specs.Expr.{Expr, Exprs, NoExpr, AnExpr, LetBindings, NoBinding, ABinding}
+use Rattle.isle_core.specs.Calling.{Calling, calling, is_fallible, impure, impure_all, impure_bindings}
+use Rattle.isle_core.specs.Match.{with}
 use Rattle.isle_core.specs.Making.{Making, making}
-use Rattle.isle_core.specs.Path.{Path, Nowhere, Arg, ConstBool, ConstInt, ConstPrim, Inner}
+use Rattle.isle_core.specs.Path.{Path, Arg, ConstBool, ConstInt, ConstPrim, Inner}
 use Rattle.isle_core.specs.Pattern as pattern
 use Rattle.isle_core.specs.Pattern.{Pattern, Patterns, NoPattern, APattern}
-use Rattle.isle_core.specs.RightSide.{bool_type, path_or, call_path, paths}
+use Rattle.isle_core.specs.RightSide.{bool_type, path_or, call_path, path, paths, let_places}
 use Rattle.isle_core.specs.Rule.{Environment, Rule}
 use Rattle.isle_core.specs.Tests.{Places, field_path, rule_places}
 
@@ -15,7 +16,7 @@ use Rattle.isle_core.specs.Tests.{Places, field_path, rule_places}
 abbrev pub with_inner : Calling → Path → List Path
 with_inner c p = if is_fallible c then p ∷ Inner p ∷ [] else p ∷ []
 
--- the paths of an expression and of all within it; a `let`, which is not built, stands nowhere, where no binding is
+-- the paths of an expression and of all within it
 abbrev mutual
   pub expr_paths : Environment → Expr → Places → ℕ → List Path
   expr_paths env (expr.Term ty term es) places n = exprs_paths env es places n ++ with_inner (calling env term) (call_path env term (paths env es places n) (n + impure_all env es))
@@ -23,11 +24,16 @@ abbrev mutual
   expr_paths env (expr.ConstInt ty k) places n = ConstInt ty k ∷ []
   expr_paths env (expr.Var ty x) places n = path_or (places x.0) ∷ []
   expr_paths env (expr.ConstPrim ty name) places n = ConstPrim name ∷ []
-  expr_paths env (expr.Let ty bindings inner) places n = Nowhere ∷ []
+  expr_paths env (expr.Let ty bindings inner) places n = bindings_paths env bindings places n ++ expr_paths env inner (let_places env bindings places n) (n + impure_bindings env bindings)
 
   pub exprs_paths : Environment → Exprs → Places → ℕ → List Path
   exprs_paths env NoExpr places n = []
   exprs_paths env (AnExpr e es) places n = expr_paths env e places n ++ exprs_paths env es places (n + impure env e)
+
+  -- of the values of a `let`
+  pub bindings_paths : Environment → LetBindings → Places → ℕ → List Path
+  bindings_paths env NoBinding places n = []
+  bindings_paths env (ABinding x ty e more) places n = expr_paths env e places n ++ bindings_paths env more (with places x.0 (path env e places n)) (n + impure env e)
 
 -- the paths of the fields that a pattern on a path takes apart, and of those within them, used or not
 abbrev mutual
@@ -38,13 +44,18 @@ abbrev mutual
   pattern_paths env (pattern.ConstInt ty k) p = []
   pattern_paths env (pattern.ConstPrim ty name) p = []
   pattern_paths env (pattern.Wildcard ty) p = []
-  pattern_paths env (pattern.BindPattern ty x q) p = []
-  pattern_paths env (pattern.And ty qs) p = []
+  pattern_paths env (pattern.BindPattern ty x q) p = pattern_paths env q p
+  pattern_paths env (pattern.And ty qs) p = each_paths env qs p
 
   -- of the parts of what is made, from the i-th on
   pub parts_paths : Environment → Making → Patterns → ℕ → Path → List Path
   parts_paths env made NoPattern i p = []
   parts_paths env made (APattern q qs) i p = field_path made i p ∷ pattern_paths env q (field_path made i p) ++ parts_paths env made qs (suc i) p
+
+  -- of several patterns on one path
+  pub each_paths : Environment → Patterns → Path → List Path
+  each_paths env NoPattern p = []
+  each_paths env (APattern q qs) p = pattern_paths env q p ++ each_paths env qs p
 
 -- the paths of the arguments from the i-th on, and of what their patterns take apart
 abbrev pub args_paths : Environment → List Pattern → ℕ → List Path

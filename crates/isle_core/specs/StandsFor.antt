@@ -29,14 +29,14 @@ pub data AreFirsts {A : Type 0} : List A → List A → List A → Type 0 where
   again : (seen : List A) (x : A) (xs ys : List A) → Contains seen x → AreFirsts seen xs ys → AreFirsts seen (x ∷ xs) ys
   first : (seen : List A) (x : A) (xs ys : List A) → (Contains seen x → ⊥) → AreFirsts (x ∷ seen) xs ys → AreFirsts seen (x ∷ xs) (x ∷ ys)
 
--- a flat rule has the rule's tests but the trivial ones, each once, its constraints in order, its priority, its position, its
+-- a flat rule has the rule's tests but the trivial ones, each once, its constraints in the order in which they stand first, its priority, its position, its
 -- calls of terms that answer several times, its calls in order, each once, and its result, after n impure calls of the rules
 -- before
 pub record IsFlat (env : Environment) (ps : List Path) (r : Rule) (n : ℕ) (f : FlatRule) : Type 0 where
   pub tested : (t : Test) → Contains (rule_tests env r) t → Contains (flat_tests ps f) t ⊎ IsTrivial t
   pub no_other : (t : Test) → Contains (flat_tests ps f) t → Contains (rule_tests env r) t × (IsTrivial t → ⊥)
   pub once : EachOnce (flat_tests ps f)
-  pub constraints : map (is_test ps) f.constraints ≡ filter is_constraint (rule_tests env r)
+  pub constraints : AreFirsts [] (filter is_constraint (rule_tests env r)) (map (is_test ps) f.constraints)
   pub prio : f.prio ≡ r.prio
   pub pos : f.pos ≡ r.pos
   pub iterators : AreFirsts [] (rule_iterators env r n) (map (at ps) f.iterators)

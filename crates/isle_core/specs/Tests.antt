@@ -52,7 +52,7 @@ field_path (MakesVariant ty variant) i p = VariantField variant i p
 field_path (MakesStruct ty) i p = StructField i p
 field_path MakesNothing i p = Nowhere
 
--- the paths of variables after a pattern on a path; one that is not built never holds, and places none
+-- the paths of variables after a pattern on a path
 abbrev mutual
   pub after : Environment → Pattern → Path → Places → Places
   after env (pattern.Var ty x) p places = met_after (places x.0) x.0 p places
@@ -61,15 +61,20 @@ abbrev mutual
   after env (pattern.ConstPrim ty name) p places = places
   after env (pattern.Wildcard ty) p places = places
   after env (pattern.Term ty term qs) p places = after_parts env (making env term) qs 0 p places
-  after env (pattern.BindPattern ty x q) p places = places
-  after env (pattern.And ty qs) p places = places
+  after env (pattern.BindPattern ty x q) p places = after env q p (met_after (places x.0) x.0 p places)
+  after env (pattern.And ty qs) p places = after_each env qs p places
 
   -- after the parts of what is made, from the i-th on
   pub after_parts : Environment → Making → Patterns → ℕ → Path → Places → Places
   after_parts env made NoPattern i p places = places
   after_parts env made (APattern q qs) i p places = after_parts env made qs (suc i) p (after env q (field_path made i p) places)
 
--- the tests that a pattern puts on the path that it is matched against; terms that are extracted, and `@` and `and`, are not built
+  -- after several patterns on one path
+  pub after_each : Environment → Patterns → Path → Places → Places
+  after_each env NoPattern p places = places
+  after_each env (APattern q qs) p places = after_each env qs p (after env q p places)
+
+-- the tests that a pattern puts on the path that it is matched against; terms that are extracted are not built
 abbrev mutual
   pub tests : Environment → Pattern → Path → Places → List Test
   tests env (pattern.Var ty x) p places = met_tests (places x.0) p
@@ -78,13 +83,18 @@ abbrev mutual
   tests env (pattern.ConstPrim ty name) p places = Is p (constraint.ConstPrim name) ∷ []
   tests env (pattern.Wildcard ty) p places = []
   tests env (pattern.Term ty term qs) p places = made_test (making env term) p ∷ parts_tests env (making env term) qs 0 p places
-  tests env (pattern.BindPattern ty x q) p places = Never ∷ []
-  tests env (pattern.And ty qs) p places = Never ∷ []
+  tests env (pattern.BindPattern ty x q) p places = met_tests (places x.0) p ++ tests env q p (met_after (places x.0) x.0 p places)
+  tests env (pattern.And ty qs) p places = each_tests env qs p places
 
   -- those of the parts of what is made, from the i-th on
   pub parts_tests : Environment → Making → Patterns → ℕ → Path → Places → List Test
   parts_tests env made NoPattern i p places = []
   parts_tests env made (APattern q qs) i p places = tests env q (field_path made i p) places ++ parts_tests env made qs (suc i) p (after env q (field_path made i p) places)
+
+  -- those of several patterns on one path
+  pub each_tests : Environment → Patterns → Path → Places → List Test
+  each_tests env NoPattern p places = []
+  each_tests env (APattern q qs) p places = tests env q p places ++ each_tests env qs p (after env q p places)
 
 -- the tests of patterns on the arguments from the i-th on
 abbrev pub args_tests : Environment → List Pattern → ℕ → Places → List Test
