@@ -8,15 +8,16 @@ use Rattle.isle_core.specs.declared.TermId.{TermId}
 use Rattle.isle_core.specs.declared.types.Term.{Term}
 use Rattle.isle_core.specs.declared.values.Callee.{Callee}
 use Rattle.isle_core.specs.Expr as expr
-use Rattle.isle_core.specs.Expr.{Expr, Exprs, NoExpr, AnExpr}
+use Rattle.isle_core.specs.Expr.{Expr, Exprs, NoExpr, AnExpr, LetBindings, NoBinding, ABinding}
 use Rattle.isle_core.specs.Path.{Path, Paths, Called}
-use Rattle.isle_core.specs.Calling.{Calling, ByTurns, NoCall, calling, instance_of, one_more, impure, impure_all}
-use Rattle.isle_core.specs.OrderedCalls.{calls, calls_all, if_ordered, rule_calls}
+use Rattle.isle_core.specs.Calling.{Calling, ByTurns, NoCall, calling, instance_of, one_more, impure, impure_all, impure_bindings}
+use Rattle.isle_core.specs.OrderedCalls.{calls, calls_all, calls_bindings, if_ordered, rule_calls}
 use Rattle.isle_core.specs.Making.{Making, MakesNothing, making}
-use Rattle.isle_core.specs.RightSide.{term_path, paths}
+use Rattle.isle_core.specs.RightSide.{term_path, path, paths, let_places}
+use Rattle.isle_core.specs.Match.{with}
 use Rattle.isle_core.specs.Tests.{Places, rule_places}
 use Rattle.isle_core.specs.StandsFor.{EachOnce, AreFirsts, no_more, first}
-use Rattle.isle_core.specs.BuiltRule.{IsBuiltExpr, AreBuiltExprs, HasBuiltTerms, AllHaveBuiltTerms}
+use Rattle.isle_core.specs.BuiltRule.{IsBuiltExpr, AreBuiltExprs, AreBuiltBindings, HasBuiltTerms, AllHaveBuiltTerms, BindingsHaveBuiltTerms}
 use Rattle.isle_core.specs.Rule.{Environment, Rule}
 use Rattle.isle_core.proofs.Contained.{head_contained, tail_contained, contained_cases, none_contained}
 use Rattle.isle_rulesets.proofs.PlacedPaths.{append_once}
@@ -125,7 +126,18 @@ mutual
   expr_calls env terms places (expr.ConstBool v) n same b h = no_calls n
   expr_calls env terms places (expr.ConstInt ty v) n same b h = no_calls n
   expr_calls env terms places (expr.ConstPrim ty name) n same b h = no_calls n
-  expr_calls env terms places (expr.Let ty bindings inner) n same b h = absurd b
+  expr_calls env terms places (expr.Let ty bs inner) n same b h =
+      let mid = n + impure_bindings env bs in
+      subst (λ k. AreCalls n k (calls env (expr.Let ty bs inner) places n)) (assoc n (impure_bindings env bs) (impure env inner))
+      (then_calls n mid (mid + impure env inner) (calls_bindings env bs places n) (calls env inner (let_places env bs places n) mid) (bindings_calls env terms places bs n same b.0 h.0) (expr_calls env terms (let_places env bs places n) inner mid same b.1 h.1))
+
+  bindings_calls : (env : Environment) (terms : List Term) (places : Places) (bs : LetBindings) (n : ℕ) → env.terms ≡ terms → AreBuiltBindings bs → BindingsHaveBuiltTerms terms bs → AreCalls n (n + impure_bindings env bs) (calls_bindings env bs places n)
+  bindings_calls env terms places NoBinding n same b h = no_calls n
+  bindings_calls env terms places (ABinding x ty e bs) n same b h =
+      let next = with places x.0 (path env e places n) in
+      let mid = n + impure env e in
+      subst (λ k. AreCalls n k (calls_bindings env (ABinding x ty e bs) places n)) (assoc n (impure env e) (impure_bindings env bs))
+      (then_calls n mid (mid + impure_bindings env bs) (calls env e places n) (calls_bindings env bs next mid) (expr_calls env terms places e n same b.0 h.0) (bindings_calls env terms next bs mid same b.1 h.1))
 
   exprs_calls : (env : Environment) (terms : List Term) (places : Places) (es : Exprs) (n : ℕ) → env.terms ≡ terms → AreBuiltExprs es → AllHaveBuiltTerms terms es → AreCalls n (n + impure_all env es) (calls_all env es places n)
   exprs_calls env terms places NoExpr n same b h = no_calls n

@@ -2,10 +2,13 @@ pub mod PlacedPaths
 pub mod KeyLaws
 pub mod NumberingLaws
 pub mod PatternTestLaws
-pub mod RuleTests
+pub mod FirstLaws
 pub mod VariablePlaces
+pub mod RuleTests
 pub mod CallLaws
 pub mod RightSideLaws
+pub mod LetLaws
+pub mod FlatTests
 pub mod CallsOnce
 pub mod NoIterators
 pub mod RuleSetLaws

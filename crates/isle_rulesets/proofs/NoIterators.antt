@@ -1,5 +1,5 @@
 -- A rule of the built forms calls no term that answers several times.
-use Rattle.std.proofs.Common.{◌≡◌, ℕ, suc, ◌+◌, List, [], ◌∷◌, ◌++◌, Bool, true, false, cond, Option, Some, None, refl, sym, ap, ◌∙◌, subst}
+use Rattle.std.proofs.Common.{◌≡◌, ℕ, suc, ◌+◌, List, [], ◌∷◌, ◌++◌, Bool, true, false, cond, eqb, Option, Some, None, refl, sym, ap, ◌∙◌, subst}
 use Rattle.std.specs.Prelude.{IsSomeAnd, filter, slice_get}
 use Rattle.std.proofs.lemmas.List.Elements.{filter-append, recursion_from_All}
 use Rattle.isle_core.specs.declared.TermId.{TermId}
@@ -8,18 +8,19 @@ use Rattle.isle_core.specs.declared.types.TermKind.{TermKind}
 use Rattle.isle_core.specs.declared.types.TermKind.TheVariants as kind
 use Rattle.isle_core.specs.declared.types.ConstructorKind.TheVariants as constructor
 use Rattle.isle_core.specs.Expr as expr
-use Rattle.isle_core.specs.Expr.{Expr, Exprs, NoExpr, AnExpr}
+use Rattle.isle_core.specs.Expr.{Expr, Exprs, NoExpr, AnExpr, LetBindings, NoBinding, ABinding}
 use Rattle.isle_core.specs.Making.{Making, MakesVariant, MakesStruct, MakesNothing, making}
 use Rattle.isle_core.specs.Pattern as pattern
 use Rattle.isle_core.specs.Pattern.{Pattern, Patterns, NoPattern, APattern}
 use Rattle.isle_core.specs.Path.{Path, Paths, Arg, VariantField, StructField}
-use Rattle.isle_core.specs.Calling.{calling, calling_of, calling_by, kind_of, pure_callee, answers_often, is_fallible, impure, impure_all}
+use Rattle.isle_core.specs.Calling.{calling, calling_of, calling_by, kind_of, pure_callee, answers_often, is_fallible, impure, impure_all, impure_bindings}
 use Rattle.isle_core.specs.Terms.{impure_callee}
 use Rattle.isle_core.specs.Tests.{Places, field_path, rule_places}
-use Rattle.isle_core.specs.RightSide.{path_or, term_path, call_path, paths}
-use Rattle.isle_core.specs.RulePaths.{pattern_paths, parts_paths, args_paths, with_inner, expr_paths, exprs_paths}
+use Rattle.isle_core.specs.RightSide.{path_or, term_path, answer_path, call_path, path, paths, let_places}
+use Rattle.isle_core.specs.Match.{with}
+use Rattle.isle_core.specs.RulePaths.{pattern_paths, parts_paths, each_paths, args_paths, with_inner, expr_paths, exprs_paths, bindings_paths}
 use Rattle.isle_core.specs.Iterators.{calls_multi, rule_iterators}
-use Rattle.isle_core.specs.BuiltRule.{IsBuiltPattern, IsBuiltExpr, AreBuiltExprs, IsBuiltRule, IsBuiltKind, HasBuiltTerms, AllHaveBuiltTerms, CallsBuiltTerms}
+use Rattle.isle_core.specs.BuiltRule.{IsBuiltPattern, IsBuiltRule, IsBuiltKind, HasBuiltTerms, AllHaveBuiltTerms, BindingsHaveBuiltTerms, CallsBuiltTerms}
 use Rattle.isle_core.specs.Rule.{Environment, Rule}
 use Rattle.isle_rulesets.proofs.VariablePlaces.{IsWithinArg, place_within}
 
@@ -61,9 +62,12 @@ skipped : (env : Environment) (p : Path) (ps : List Path) → calls_multi env p 
 skipped env p ps e = ap (λ b. cond b (p ∷ filter (calls_multi env) ps) (filter (calls_multi env) ps)) e
 
 -- no variable is one
-variable_none : (env : Environment) (o : Option Path) → ((p : Path) → o ≡ Some p → IsWithinArg p) → filter (calls_multi env) (path_or o ∷ []) ≡ []
-variable_none env None h = refl
-variable_none env (Some p) h = skipped env p [] (within_none env p (h p refl))
+variable_plain : (env : Environment) (o : Option Path) → ((p : Path) → o ≡ Some p → calls_multi env p ≡ false) → calls_multi env (path_or o) ≡ false
+variable_plain env None h = refl
+variable_plain env (Some p) h = h p refl
+
+variable_none : (env : Environment) (o : Option Path) → ((p : Path) → o ≡ Some p → calls_multi env p ≡ false) → filter (calls_multi env) (path_or o ∷ []) ≡ []
+variable_none env o h = skipped env (path_or o) [] (variable_plain env o h)
 
 -- nothing in front of nothing
 none_both : (env : Environment) (ps qs : List Path) → filter (calls_multi env) ps ≡ [] → filter (calls_multi env) qs ≡ [] → filter (calls_multi env) (ps ++ qs) ≡ []
@@ -83,8 +87,12 @@ mutual
   pattern_none (pattern.ConstInt ty v) env p = refl
   pattern_none (pattern.ConstPrim ty name) env p = refl
   pattern_none (pattern.Wildcard ty) env p = refl
-  pattern_none (pattern.BindPattern ty x q) env p = refl
-  pattern_none (pattern.And ty qs) env p = refl
+  pattern_none (pattern.BindPattern ty x q) env p = pattern_none q env p
+  pattern_none (pattern.And ty qs) env p = each_none qs env p
+
+  each_none : (qs : Patterns) (env : Environment) (p : Path) → filter (calls_multi env) (each_paths env qs p) ≡ []
+  each_none NoPattern env p = refl
+  each_none (APattern q qs) env p = none_both env (pattern_paths env q p) (each_paths env qs p) (pattern_none q env p) (each_none qs env p)
 
   parts_none : (qs : Patterns) (env : Environment) (mk : Making) (i : ℕ) (p : Path) → filter (calls_multi env) (parts_paths env mk qs i p) ≡ []
   parts_none NoPattern env mk i p = refl
@@ -97,28 +105,69 @@ args_none : (env : Environment) (qs : List Pattern) (i : ℕ) → filter (calls_
 args_none env [] i = refl
 args_none env (q ∷ qs) i = none_both env (pattern_paths env q (Arg i)) (args_paths env qs (suc i)) (pattern_none q env (Arg i)) (args_none env qs (suc i))
 
--- the places of variables are within arguments
-abbrev ArePlaced : Places → Type 0
-ArePlaced places = (x : ℕ) (p : Path) → places x ≡ Some p → IsWithinArg p
+-- no variable stands at one
+abbrev ArePlain : Environment → Places → Type 0
+ArePlain env places = (x : ℕ) (p : Path) → places x ≡ Some p → calls_multi env p ≡ false
+
+some_plain : (env : Environment) (b : Bool) (q : Path) (o : Option Path) (p : Path) → calls_multi env q ≡ false → (o ≡ Some p → calls_multi env p ≡ false) → cond b (Some q) o ≡ Some p → calls_multi env p ≡ false
+some_plain env true q o p h k e = subst (λ r. calls_multi env r ≡ false) (some_same q p e) h
+  where
+    some_same : (a b : Path) → Some a ≡ Some b → a ≡ b
+    some_same a b e' = cc
+some_plain env false q o p h k e = k e
+
+with_plain : (env : Environment) (places : Places) (x : ℕ) (q : Path) → ArePlain env places → calls_multi env q ≡ false → ArePlain env (with places x q)
+with_plain env places x q w h y p e = some_plain env (eqb x y) q (places y) p h (w y p) e
+
+-- the value of a term is none
+answer_none : (env : Environment) (mk : Making) (term : TermId) (ps : Paths) (n : ℕ) (fallible : Bool) → is_fallible (calling env term) ≡ fallible → answers_often (calling env term) ≡ false → calls_multi env (answer_path (calling env term) (term_path mk term ps n)) ≡ false
+answer_none env mk term ps n true e h = rw e refl
+answer_none env (MakesVariant ty variant) term ps n false e h = rw e refl
+answer_none env (MakesStruct ty) term ps n false e h = rw e refl
+answer_none env MakesNothing term ps n false e h = rw e h
+
+-- nor is that of an expression
+mutual
+  value_none : (e : Expr) (env : Environment) (terms : List Term) (places : Places) (n : ℕ) → env.terms ≡ terms → ArePlain env places → HasBuiltTerms terms e → calls_multi env (path env e places n) ≡ false
+  value_none (expr.Var ty x) env terms places n same w i = variable_plain env (places x.0) (w x.0)
+  value_none (expr.ConstBool v) env terms places n same w i = refl
+  value_none (expr.ConstInt ty v) env terms places n same w i = refl
+  value_none (expr.ConstPrim ty name) env terms places n same w i = refl
+  value_none (expr.Term ty term es) env terms places n same w i = answer_none env (making env term) term (paths env es places n) _ (is_fallible (calling env term)) refl (called_once env terms term same i.0)
+  value_none (expr.Let ty bs inner) env terms places n same w i = value_none inner env terms (let_places env bs places n) (n + impure_bindings env bs) same (lets_plain bs env terms places n same w i.0) i.1
+
+  lets_plain : (bs : LetBindings) (env : Environment) (terms : List Term) (places : Places) (n : ℕ) → env.terms ≡ terms → ArePlain env places → BindingsHaveBuiltTerms terms bs → ArePlain env (let_places env bs places n)
+  lets_plain NoBinding env terms places n same w i = w
+  lets_plain (ABinding x ty e bs) env terms places n same w i =
+      lets_plain bs env terms (with places x.0 (path env e places n)) (n + impure env e) same (with_plain env places x.0 (path env e places n) w (value_none e env terms places n same w i.0)) i.1
 
 mutual
-  expr_none : (e : Expr) (env : Environment) (terms : List Term) (places : Places) (n : ℕ) → env.terms ≡ terms → ArePlaced places → IsBuiltExpr e → HasBuiltTerms terms e → filter (calls_multi env) (expr_paths env e places n) ≡ []
-  expr_none (expr.Var ty x) env terms places n same w b i = variable_none env (places x.0) (w x.0)
-  expr_none (expr.ConstBool v) env terms places n same w b i = refl
-  expr_none (expr.ConstInt ty v) env terms places n same w b i = refl
-  expr_none (expr.ConstPrim ty name) env terms places n same w b i = refl
-  expr_none (expr.Term ty term es) env terms places n same w b i =
-      none_both env (exprs_paths env es places n) (with_inner (calling env term) (call_path env term (paths env es places n) (n + impure_all env es))) (exprs_none es env terms places n same w b i.1)
+  expr_none : (e : Expr) (env : Environment) (terms : List Term) (places : Places) (n : ℕ) → env.terms ≡ terms → ArePlain env places → HasBuiltTerms terms e → filter (calls_multi env) (expr_paths env e places n) ≡ []
+  expr_none (expr.Var ty x) env terms places n same w i = variable_none env (places x.0) (w x.0)
+  expr_none (expr.ConstBool v) env terms places n same w i = refl
+  expr_none (expr.ConstInt ty v) env terms places n same w i = refl
+  expr_none (expr.ConstPrim ty name) env terms places n same w i = refl
+  expr_none (expr.Term ty term es) env terms places n same w i =
+      none_both env (exprs_paths env es places n) (with_inner (calling env term) (call_path env term (paths env es places n) (n + impure_all env es))) (exprs_none es env terms places n same w i.1)
       (call_none env (making env term) term (paths env es places n) _ (is_fallible (calling env term)) refl (called_once env terms term same i.0))
-  expr_none (expr.Let ty bindings inner) env terms places n same w b i = absurd b
+  expr_none (expr.Let ty bs inner) env terms places n same w i =
+      none_both env (bindings_paths env bs places n) (expr_paths env inner (let_places env bs places n) (n + impure_bindings env bs)) (bindings_none bs env terms places n same w i.0)
+      (expr_none inner env terms (let_places env bs places n) (n + impure_bindings env bs) same (lets_plain bs env terms places n same w i.0) i.1)
 
-  exprs_none : (es : Exprs) (env : Environment) (terms : List Term) (places : Places) (n : ℕ) → env.terms ≡ terms → ArePlaced places → AreBuiltExprs es → AllHaveBuiltTerms terms es → filter (calls_multi env) (exprs_paths env es places n) ≡ []
-  exprs_none NoExpr env terms places n same w b i = refl
-  exprs_none (AnExpr e es) env terms places n same w b i =
-      none_both env (expr_paths env e places n) (exprs_paths env es places (n + impure env e)) (expr_none e env terms places n same w b.0 i.0) (exprs_none es env terms places (n + impure env e) same w b.1 i.1)
+  bindings_none : (bs : LetBindings) (env : Environment) (terms : List Term) (places : Places) (n : ℕ) → env.terms ≡ terms → ArePlain env places → BindingsHaveBuiltTerms terms bs → filter (calls_multi env) (bindings_paths env bs places n) ≡ []
+  bindings_none NoBinding env terms places n same w i = refl
+  bindings_none (ABinding x ty e bs) env terms places n same w i =
+      let next = with places x.0 (path env e places n) in
+      none_both env (expr_paths env e places n) (bindings_paths env bs next (n + impure env e)) (expr_none e env terms places n same w i.0)
+      (bindings_none bs env terms next (n + impure env e) same (with_plain env places x.0 (path env e places n) w (value_none e env terms places n same w i.0)) i.1)
+
+  exprs_none : (es : Exprs) (env : Environment) (terms : List Term) (places : Places) (n : ℕ) → env.terms ≡ terms → ArePlain env places → AllHaveBuiltTerms terms es → filter (calls_multi env) (exprs_paths env es places n) ≡ []
+  exprs_none NoExpr env terms places n same w i = refl
+  exprs_none (AnExpr e es) env terms places n same w i =
+      none_both env (expr_paths env e places n) (exprs_paths env es places (n + impure env e)) (expr_none e env terms places n same w i.0) (exprs_none es env terms places (n + impure env e) same w i.1)
 
 -- none in a rule
 pub none_in_rule : (env : Environment) (terms : List Term) (r : Rule) (n : ℕ) → env.terms ≡ terms → IsBuiltRule env.terms r → CallsBuiltTerms terms r → rule_iterators env r n ≡ []
 none_in_rule env terms r n same b i =
     none_both env (args_paths env r.args 0) (expr_paths env r.rhs (rule_places env r) n) (args_none env r.args 0)
-    (expr_none r.rhs env terms (rule_places env r) n same (λ x p e. place_within env r.args x p (recursion_from_All (IsBuiltPattern env.terms) r.args b.args) e) b.rhs i)
+    (expr_none r.rhs env terms (rule_places env r) n same (λ x p e. within_none env p (place_within env r.args x p (recursion_from_All (IsBuiltPattern env.terms) r.args b.args) e)) i)

@@ -18,8 +18,8 @@ use Rattle.isle_core.specs.Making.{Making, making_in}
 use Rattle.isle_core.specs.Pattern as pure
 use Rattle.isle_core.specs.Pattern.{Pattern, Patterns, NoPattern, APattern}
 use Rattle.isle_core.specs.Path.{Path, Arg, at, paths_of}
-use Rattle.isle_core.specs.RulePaths.{pattern_paths, parts_paths, args_paths}
-use Rattle.isle_core.specs.Tests.{Test, Is, Places, no_places, met_tests, met_after, made_test, field_path, tests, parts_tests, after, after_parts, args_tests, args_after}
+use Rattle.isle_core.specs.RulePaths.{pattern_paths, parts_paths, each_paths, args_paths}
+use Rattle.isle_core.specs.Tests.{Test, Is, Places, no_places, met_tests, met_after, made_test, field_path, tests, parts_tests, each_tests, after, after_parts, after_each, args_tests, args_after}
 use Rattle.isle_core.specs.RuleViews.{pattern, patterns_of}
 use Rattle.isle_core.specs.Rule.{Environment}
 use Rattle.isle_core.specs.BuiltRule.{IsBuiltPattern, AreBuiltPatterns, count}
@@ -30,7 +30,7 @@ use Rattle.isle_rulesets.specs.declared.made.Made.TheVariants as made
 use Rattle.isle_rulesets.specs.Keys.{key_path, IsThere, HasParts}
 use Rattle.isle_rulesets.specs.Made.{making_of, constraint_of, field_key}
 use Rattle.isle_rulesets.specs.Numbering.{Numbered, Extends, Joins, Numbers}
-use Rattle.isle_rulesets.specs.PatternTests.{HasTests, Reads, Takes, TakesParts, TakesMade, TakesArguments, NumbersPatterns}
+use Rattle.isle_rulesets.specs.PatternTests.{HasTests, Reads, Takes, TakesEach, TakesParts, TakesMade, TakesArguments, NumbersPatterns}
 use Rattle.isle_rulesets.proofs.PlacedPaths.{extends_self, extends_more, at_kept, contains_there, contains_kept}
 
 -- ---- paths that join
@@ -111,6 +111,24 @@ takes_prim r terms n d e q b ty v is h = takes_test r terms n d e q b (constrain
 
 pub takes_wildcard : (terms : List Term) (n : Numbered) (d : PatternTests) (q : Pattern) (b : BindingId) (ty : TypeId) → q ≡ pure.Wildcard ty → TakesIn terms n n d d q b
 takes_wildcard terms n d q b ty is env same p there = subst (λ s. Reads n n d d (pattern_paths env s p) (after env s p) (tests env s p)) (sym is) (reads_self n d)
+
+-- a variable that is met, and then what stands behind the `@`
+pub takes_bind : {T E : Type 0} (r : Result T E) (terms : List Term) (old new : Numbered) (d mid e : PatternTests) (q : Pattern) (b : BindingId) (ty : TypeId) (x : VarId) (inner : Pattern) → q ≡ pure.BindPattern ty x inner
+    → Steps d mid b (λ p places. met_after (places x.0) x.0 p places) (λ p places. met_tests (places x.0) p) → OnOk r (TakesIn terms old new mid e inner b) → OnOk r (TakesIn terms old new d e q b)
+takes_bind (Err o) terms old new d mid e q b ty x inner is h k = tt
+takes_bind (Ok o) terms old new d mid e q b ty x inner is h k =
+    subst (λ s. TakesIn terms old new d e s b) (sym is)
+    (λ env same p there.
+    reads_then old old new d mid e [] (pattern_paths env inner p) (λ places. met_after (places x.0) x.0 p places) (after env inner p) (λ places. met_tests (places x.0) p) (tests env inner p)
+    (reads_step old d mid b p (λ r places. met_after (places x.0) x.0 r places) (λ r places. met_tests (places x.0) r) there h) (k env same p there))
+
+-- what the code says of several patterns on one path
+abbrev pub TakesEachIn : List Term → Numbered → Numbered → PatternTests → PatternTests → Patterns → BindingId → Type 0
+TakesEachIn terms old new d e qs b = (env : Environment) → env.terms ≡ terms → TakesEach env old new d e qs b
+
+pub takes_and : {T E : Type 0} (r : Result T E) (terms : List Term) (old new : Numbered) (d e : PatternTests) (q : Pattern) (b : BindingId) (ty : TypeId) (qs : Patterns) → q ≡ pure.And ty qs → OnOk r (TakesEachIn terms old new d e qs b) → OnOk r (TakesIn terms old new d e q b)
+takes_and (Err o) terms old new d e q b ty qs is h = tt
+takes_and (Ok o) terms old new d e q b ty qs is h = subst (λ s. TakesIn terms old new d e s b) (sym is) h
 
 -- what the code says of what a term makes
 abbrev pub TakesMadeIn : List Term → Numbered → Numbered → PatternTests → PatternTests → Making → Patterns → BindingId → Type 0
@@ -200,6 +218,37 @@ pub made_all : (terms : List Term) (old now : Numbered) (d e : PatternTests) (m 
     → TakesMadeIn terms old now d e (making_of m) all b
 made_all terms old now d e m all parts n b le so env same p there =
     so.whole env same p there now e (subst (λ qs. TakesParts env now now e e (making_of m) qs n p) (sym (ap (λ qs. patterns_of (map pattern qs)) (drop_all n parts le))) (reads_self now e))
+
+-- ---- several patterns on one path
+
+-- wherever the rest of the patterns is taken, all were
+pub record EachSoFar (terms : List Term) (old now : Numbered) (d e : PatternTests) (all rest : Patterns) (b : BindingId) : Type 0 where
+  pub extends : Extends (paths_of old.bindings) (paths_of now.bindings)
+  pub whole : (env : Environment) → env.terms ≡ terms → (p : Path) → slice_get (paths_of old.bindings) b.0 ≡ Some p → (new : Numbered) (f : PatternTests) → Reads now new e f (each_paths env rest p) (after_each env rest p) (each_tests env rest p)
+      → Reads old new d f (each_paths env all p) (after_each env all p) (each_tests env all p)
+
+-- before the first
+pub each_first : (terms : List Term) (n : Numbered) (d : PatternTests) (all : Patterns) (b : BindingId) → EachSoFar terms n n d d all all b
+each_first terms n d all b = record { extends = extends_self (paths_of n.bindings); whole = λ env same p there new f g. g }
+
+-- behind one pattern more
+each_more : (terms : List Term) (old now new : Numbered) (d e f : PatternTests) (all : Patterns) (q : Pattern) (rest : Patterns) (b : BindingId) → IsThere (paths_of old.bindings) b → EachSoFar terms old now d e all (APattern q rest) b → TakesIn terms now new e f q b → EachSoFar terms old new d f all rest b
+each_more terms old now new d e f all q rest b there so t = record {
+  extends = extends_more (paths_of old.bindings) (paths_of now.bindings) (paths_of new.bindings) so.extends (t (env_of terms) refl there.0 (so.extends.kept b.0 there.0 there.1)).joins.extends;
+  whole = λ env same p stands last g h. so.whole env same p stands last g
+      (reads_then now new last e f g (pattern_paths env q p) (each_paths env rest p) (after env q p) (after_each env rest p) (tests env q p) (each_tests env rest p) (t env same p (so.extends.kept b.0 p stands)) h);
+}
+
+-- behind the next pattern of the code's list
+pub each_next : (terms : List Term) (old now new : Numbered) (d e f : PatternTests) (all : Patterns) (parts : List CodePattern) (n : ℕ) (x : CodePattern) (b : BindingId) → n < length parts → x ≡ get_or parts n x → IsThere (paths_of old.bindings) b
+    → EachSoFar terms old now d e all (left_parts parts n) b → TakesIn terms now new e f (pattern x) b → EachSoFar terms old new d f all (left_parts parts (n + 1)) b
+each_next terms old now new d e f all parts n x b lt is there so t =
+    each_more terms old now new d e f all (pattern x) (left_parts parts (n + 1)) b there (subst (λ qs. EachSoFar terms old now d e all qs b) (left_more parts n x lt is) so) t
+
+-- behind the last one
+pub each_all : (terms : List Term) (old now : Numbered) (d e : PatternTests) (all : Patterns) (parts : List CodePattern) (n : ℕ) (b : BindingId) → length parts ≤ n → EachSoFar terms old now d e all (left_parts parts n) b → TakesEachIn terms old now d e all b
+each_all terms old now d e all parts n b le so env same p there =
+    so.whole env same p there now e (subst (λ qs. Reads now now e e (each_paths env qs p) (after_each env qs p) (each_tests env qs p)) (sym (ap (λ qs. patterns_of (map pattern qs)) (drop_all n parts le))) (reads_self now e))
 
 -- ---- arguments
 

@@ -2,8 +2,6 @@
 use Rattle.std.proofs.Common.{◌≡◌, inl, inr, ⊎_elim, ℕ, zero, suc, ◌<◌, ◌≤◌, ◌+◌, ℤ, List, [], ◌∷◌, ◌++◌, length, map, take, get_or, if◌then◌else◌, Bool, true, false, Option, Some, None, Result, Ok, Err, refl, sym, ap, ◌∙◌, subst, arith, append_assoc, append-nil}
 use Rattle.std.specs.Prelude.{Contains, IsSomeAnd, IfOk, slice_get}
 use Rattle.std.specs.List.{AllByRecursion}
-use Rattle.std.specs.Ordering.{nat_cmp}
-use Rattle.std.specs.BTreeMap.{BTreeMap, get}
 use Rattle.std.proofs.lemmas.List.{map_more, map-append, length-map, get_or-map, take_all}
 use Rattle.std.proofs.lemmas.List.Elements.{Contains-append_left, Contains-append_right, Contains-append_cases}
 use Rattle.std.proofs.lemmas.Option.{slice_get-get_or}
@@ -34,6 +32,8 @@ use Rattle.isle_core.specs.RightSide.{path as path_of, paths, path_or, bool_type
 use Rattle.isle_core.specs.RulePaths.{expr_paths, exprs_paths, with_inner}
 use Rattle.isle_core.specs.Tests.{Places}
 use Rattle.isle_core.specs.Rule.{Environment}
+use Rattle.isle_core.specs.Scope.{IsInScope, AreInScope}
+use Rattle.isle_scope.specs.Table.{held}
 use Rattle.isle_core.proofs.Contained.{head_contained, contained_cases, none_contained}
 use Rattle.isle_rulesets.specs.declared.made.Made.{Made}
 use Rattle.isle_rulesets.specs.declared.made.Made.TheVariants as made
@@ -41,13 +41,13 @@ use Rattle.isle_rulesets.specs.Keys.{key_path, IsThere, HasParts}
 use Rattle.isle_rulesets.specs.Made.{making_of, whole_key}
 use Rattle.isle_rulesets.specs.Numbering.{Numbered, Extends, Numbers, next_call, Calls}
 use Rattle.isle_rulesets.specs.PatternTests.{path_at}
-use Rattle.isle_rulesets.specs.RightSides.{StandsAt, Stand, AreThere, IsKnown, AreKnown, Grows, NumbersExpr, NumbersTerm, AllAt, NumbersExprs}
+use Rattle.isle_rulesets.specs.RightSides.{Variables, StandsAt, Stand, AreThere, Grows, NumbersExpr, NumbersTerm, AllAt, NumbersExprs, Given, AllGiven}
 use Rattle.isle_rulesets.proofs.PlacedPaths.{extends_self, extends_more, at_get, at_kept, contains_there, contains_kept, there_kept}
 use Rattle.isle_rulesets.proofs.PatternTestLaws.{env_of}
 
 -- ---- one step after another
 
-grows_self : (n : Numbered) (bs : List BindingId) → Grows n n bs bs [] [] 0
+pub grows_self : (n : Numbered) (bs : List BindingId) → Grows n n bs bs [] [] 0
 grows_self n bs = record {
   extends = extends_self (paths_of n.bindings);
   only = λ p c. inl c;
@@ -56,7 +56,7 @@ grows_self n bs = record {
   calls = omega arith;
 }
 
-grows_then : (a b c : Numbered) (xs ys zs : List BindingId) (ps qs cs ds : List Path) (k l : ℕ) → Grows a b xs ys ps cs k → Grows b c ys zs qs ds l → Grows a c xs zs (ps ++ qs) (cs ++ ds) (k + l)
+pub grows_then : (a b c : Numbered) (xs ys zs : List BindingId) (ps qs cs ds : List Path) (k l : ℕ) → Grows a b xs ys ps cs k → Grows b c ys zs qs ds l → Grows a c xs zs (ps ++ qs) (cs ++ ds) (k + l)
 grows_then a b c xs ys zs ps qs cs ds k l g h = record {
   extends = extends_more (paths_of a.bindings) (paths_of b.bindings) (paths_of c.bindings) g.extends h.extends;
   only = λ p d. ⊎_elim (λ e. ⊎_elim (λ f. inl f) (λ f. inr (Contains-append_left ps qs p f)) (g.only p e)) (λ e. inr (Contains-append_right ps qs p e)) (h.only p d);
@@ -82,23 +82,15 @@ gives_key old new bs p b h = record {
     zero_more : old.calls ≡ old.calls + 0
     zero_more = omega arith
 
--- what the code says of an expression's numbering
-abbrev pub Given : List Term → BTreeMap ℕ BindingId → Numbered → Numbered → List BindingId → List BindingId → Expr → BindingId → Type 0
-Given terms variables old new before after e b = (env : Environment) (places : Places) → env.terms ≡ terms → Stand (paths_of old.bindings) variables places → NumbersExpr env places old new before after e b
-
--- what the code says of expressions in order
-abbrev pub AllGiven : List Term → BTreeMap ℕ BindingId → Numbered → Numbered → List BindingId → List BindingId → Exprs → List BindingId → Type 0
-AllGiven terms variables old new before after es bs = (env : Environment) (places : Places) → env.terms ≡ terms → Stand (paths_of old.bindings) variables places → NumbersExprs env places old new before after es bs
-
-pub given_bool : {E : Type 0} (r : Result BindingId E) (terms : List Term) (variables : BTreeMap ℕ BindingId) (old new : Numbered) (bs : List BindingId) (e : Expr) (v : Bool) → e ≡ expr.ConstBool v → IfOk r (Numbers old new (path.ConstBool bool_type v)) → IfOk r (Given terms variables old new bs bs e)
+pub given_bool : {E : Type 0} (r : Result BindingId E) (terms : List Term) (variables : Variables) (old new : Numbered) (bs : List BindingId) (e : Expr) (v : Bool) → e ≡ expr.ConstBool v → IfOk r (Numbers old new (path.ConstBool bool_type v)) → IfOk r (Given terms variables old new bs bs e)
 given_bool (Err x) terms variables old new bs e v is h = tt
 given_bool (Ok b) terms variables old new bs e v is h = λ env places t s. subst (λ d. NumbersExpr env places old new bs bs d b) (sym is) (record { grows = gives_key old new bs (path.ConstBool bool_type v) b h; found = h.found })
 
-pub given_int : {E : Type 0} (r : Result BindingId E) (terms : List Term) (variables : BTreeMap ℕ BindingId) (old new : Numbered) (bs : List BindingId) (e : Expr) (ty : TypeId) (n : ℤ) → e ≡ expr.ConstInt ty n → IfOk r (Numbers old new (path.ConstInt ty n)) → IfOk r (Given terms variables old new bs bs e)
+pub given_int : {E : Type 0} (r : Result BindingId E) (terms : List Term) (variables : Variables) (old new : Numbered) (bs : List BindingId) (e : Expr) (ty : TypeId) (n : ℤ) → e ≡ expr.ConstInt ty n → IfOk r (Numbers old new (path.ConstInt ty n)) → IfOk r (Given terms variables old new bs bs e)
 given_int (Err x) terms variables old new bs e ty n is h = tt
 given_int (Ok b) terms variables old new bs e ty n is h = λ env places t s. subst (λ d. NumbersExpr env places old new bs bs d b) (sym is) (record { grows = gives_key old new bs (path.ConstInt ty n) b h; found = h.found })
 
-pub given_prim : {E : Type 0} (r : Result BindingId E) (terms : List Term) (variables : BTreeMap ℕ BindingId) (old new : Numbered) (bs : List BindingId) (e : Expr) (ty : TypeId) (name : Sym) → e ≡ expr.ConstPrim ty name → IfOk r (Numbers old new (path.ConstPrim name)) → IfOk r (Given terms variables old new bs bs e)
+pub given_prim : {E : Type 0} (r : Result BindingId E) (terms : List Term) (variables : Variables) (old new : Numbered) (bs : List BindingId) (e : Expr) (ty : TypeId) (name : Sym) → e ≡ expr.ConstPrim ty name → IfOk r (Numbers old new (path.ConstPrim name)) → IfOk r (Given terms variables old new bs bs e)
 given_prim (Err x) terms variables old new bs e ty name is h = tt
 given_prim (Ok b) terms variables old new bs e ty name is h = λ env places t s. subst (λ d. NumbersExpr env places old new bs bs d b) (sym is) (record { grows = gives_key old new bs (path.ConstPrim name) b h; found = h.found })
 
@@ -110,7 +102,7 @@ var_there ps (Some c) (Some p) b e h = subst (λ (x : BindingId). slice_get ps x
 var_there ps None q b e h = cc
 var_there ps (Some c) None b e h = absurd h
 
-pub given_var : (terms : List Term) (variables : BTreeMap ℕ BindingId) (n : Numbered) (bs : List BindingId) (e : Expr) (ty : TypeId) (x : VarId) (b : BindingId) → e ≡ expr.Var ty x → get nat_cmp variables x.0 ≡ Some b → Given terms variables n n bs bs e b
+pub given_var : (terms : List Term) (variables : Variables) (n : Numbered) (bs : List BindingId) (e : Expr) (ty : TypeId) (x : VarId) (b : BindingId) → e ≡ expr.Var ty x → held variables x.0 ≡ Some b → Given terms variables n n bs bs e b
 given_var terms variables n bs e ty x b is got env places t s = subst (λ d. NumbersExpr env places n n bs bs d b) (sym is) (record {
   grows = gives_key n n bs p b (record { found = there; extends = extends_self (paths_of n.bindings); only = λ q c. inl c; calls = refl });
   found = there;
@@ -120,7 +112,7 @@ given_var terms variables n bs e ty x b is got env places t s = subst (λ d. Num
     p = path_or (places x.0)
 
     there : slice_get (paths_of n.bindings) b.0 ≡ Some (path_or (places x.0))
-    there = var_there (paths_of n.bindings) (get nat_cmp variables x.0) (places x.0) b got (s.by x.0)
+    there = var_there (paths_of n.bindings) (held variables x.0) (places x.0) b got (s.by x.0)
 
 -- ---- calls
 
@@ -289,7 +281,7 @@ call_given old new before after terms term t partial bs call value h called here
     all false c q d = ⊎_elim (λ e. subst (Contains (paths_of new.bindings)) e (contains_there (paths_of new.bindings) call.0 p c.found)) (λ n. absurd (none_contained q n)) (contained_cases p [] q d)
 
 -- a call behind its arguments, where it was added
-pub given_call : {E : Type 0} (r : Result BindingId E) (terms : List Term) (variables : BTreeMap ℕ BindingId) (old mid new : Numbered) (before middle after : List BindingId) (e : Expr) (ty : TypeId) (term : TermId) (es : Exprs) (bs : List BindingId) → e ≡ expr.Term ty term es
+pub given_call : {E : Type 0} (r : Result BindingId E) (terms : List Term) (variables : Variables) (old mid new : Numbered) (before middle after : List BindingId) (e : Expr) (ty : TypeId) (term : TermId) (es : Exprs) (bs : List BindingId) → e ≡ expr.Term ty term es
     → AllGiven terms variables old mid before middle es bs
     → IfOk r (λ b. (env : Environment) → env.terms ≡ terms → NumbersTerm mid new middle after (calling env term) (call_path env term (at_all (paths_of mid.bindings) bs) mid.calls) b) → IfOk r (Given terms variables old new before after e)
 given_call (Err x) terms variables old mid new before middle after e ty term es bs is g h = tt
@@ -305,7 +297,7 @@ impure_push env (x ∷ es) e = ap (λ n. impure env x + n) (impure_push env es e
     assoc : (a b c : ℕ) → a + (b + c) ≡ (a + b) + c
     assoc a b c = omega arith
 
-behind : (n k l : ℕ) → (n + k) + l ≡ n + (k + l)
+pub behind : (n k l : ℕ) → (n + k) + l ≡ n + (k + l)
 behind n k l = omega arith
 
 calls_push : (env : Environment) (places : Places) (es : List Expr) (e : Expr) (n : ℕ) → calls_all env (exprs_of (es ++ e ∷ [])) places n ≡ calls_all env (exprs_of es) places n ++ calls_of env e places (n + impure_all env (exprs_of es))
@@ -359,8 +351,8 @@ gives_push env places old mid new before middle after es e bs b g h = record {
     n : ℕ
     n = old.calls + impure_all env (exprs_of es)
 
-pub stand_kept : (ps qs : List Path) (variables : BTreeMap ℕ BindingId) (places : Places) → Extends ps qs → Stand ps variables places → Stand qs variables places
-stand_kept ps qs variables places x s = record { by = λ y. kept (get nat_cmp variables y) (places y) (s.by y) }
+pub stand_kept : (ps qs : List Path) (variables : Variables) (places : Places) → Extends ps qs → Stand ps variables places → Stand qs variables places
+stand_kept ps qs variables places x s = record { by = λ y. kept (held variables y) (places y) (s.by y) }
   where
     kept : (o : Option BindingId) (q : Option Path) → StandsAt ps o q → StandsAt qs o q
     kept None None h = tt
@@ -369,7 +361,7 @@ stand_kept ps qs variables places x s = record { by = λ y. kept (get nat_cmp va
     kept (Some b) None h = absurd h
 
 -- the next expression of the code's list
-pub given_more : (terms : List Term) (variables : BTreeMap ℕ BindingId) (old mid new : Numbered) (before middle after : List BindingId) (es : List CodeExpr) (i : ℕ) (x : CodeExpr) (bs items : List BindingId) (b : BindingId) → i < length es → x ≡ get_or es i x
+pub given_more : (terms : List Term) (variables : Variables) (old mid new : Numbered) (before middle after : List BindingId) (es : List CodeExpr) (i : ℕ) (x : CodeExpr) (bs items : List BindingId) (b : BindingId) → i < length es → x ≡ get_or es i x
     → AllGiven terms variables old mid before middle (exprs_of (map seen (take i es))) bs → Given terms variables mid new middle after (seen x) b → items ≡ bs ++ b ∷ []
     → AllGiven terms variables old new before after (exprs_of (map seen (take (i + 1) es))) items
 given_more terms variables old mid new before middle after es i x bs items b lt is g h more env places t s =
@@ -379,17 +371,17 @@ given_more terms variables old mid new before middle after es i x bs items b lt 
     (gives_push env places old mid new before middle after (map seen (take i es)) (seen x) bs b first (h env places t (stand_kept (paths_of old.bindings) (paths_of mid.bindings) variables places first.grows.extends s))))
 
 -- behind the last one
-pub given_over : (terms : List Term) (variables : BTreeMap ℕ BindingId) (old new : Numbered) (before after : List BindingId) (es : List CodeExpr) (i : ℕ) (bs : List BindingId) → length es ≤ i
+pub given_over : (terms : List Term) (variables : Variables) (old new : Numbered) (before after : List BindingId) (es : List CodeExpr) (i : ℕ) (bs : List BindingId) → length es ≤ i
     → AllGiven terms variables old new before after (exprs_of (map seen (take i es))) bs → AllGiven terms variables old new before after (exprs_of (map seen es)) bs
 given_over terms variables old new before after es i bs le h = subst (λ xs. AllGiven terms variables old new before after (exprs_of (map seen xs)) bs) (take_all i es le) h
 
-known_in : (variables : BTreeMap ℕ BindingId) (es : List Expr) (i : ℕ) (e : Expr) → AreKnown variables (exprs_of es) → slice_get es i ≡ Some e → IsKnown variables e
-known_in variables [] i e h k = cc
-known_in variables (x ∷ es) zero e h k = subst (IsKnown variables) (some_same x e k) h.0
+known_in : (scope : List ℕ) (es : List Expr) (i : ℕ) (e : Expr) → AreInScope scope (exprs_of es) → slice_get es i ≡ Some e → IsInScope scope e
+known_in scope [] i e h k = cc
+known_in scope (x ∷ es) zero e h k = subst (IsInScope scope) (some_same x e k) h.0
   where
     some_same : (x y : Expr) → Some x ≡ Some y → x ≡ y
     some_same x y e' = cc
-known_in variables (x ∷ es) (suc i) e h k = known_in variables es i e h.1 k
+known_in scope (x ∷ es) (suc i) e h k = known_in scope es i e h.1 k
 
 terms_in : (terms : List Term) (es : List Expr) (i : ℕ) (e : Expr) → AllHaveBuiltTerms terms (exprs_of es) → slice_get es i ≡ Some e → HasBuiltTerms terms e
 terms_in terms [] i e h k = cc
@@ -406,8 +398,8 @@ seen_at es i x lt is = slice_get-get_or (map seen es) i (seen x) within ∙ ap S
     within = omega (arith, length-map es seen)
 
 -- an expression of the code's list
-pub known_at : (variables : BTreeMap ℕ BindingId) (es : List CodeExpr) (i : ℕ) (x : CodeExpr) → AreKnown variables (exprs_of (map seen es)) → i < length es → x ≡ get_or es i x → IsKnown variables (seen x)
-known_at variables es i x h lt is = known_in variables (map seen es) i (seen x) h (seen_at es i x lt is)
+pub known_at : (scope : List ℕ) (es : List CodeExpr) (i : ℕ) (x : CodeExpr) → AreInScope scope (exprs_of (map seen es)) → i < length es → x ≡ get_or es i x → IsInScope scope (seen x)
+known_at scope es i x h lt is = known_in scope (map seen es) i (seen x) h (seen_at es i x lt is)
 
 pub terms_at : (terms : List Term) (es : List CodeExpr) (i : ℕ) (x : CodeExpr) → AllHaveBuiltTerms terms (exprs_of (map seen es)) → i < length es → x ≡ get_or es i x → HasBuiltTerms terms (seen x)
 terms_at terms es i x h lt is = terms_in terms (map seen es) i (seen x) h (seen_at es i x lt is)
@@ -415,15 +407,15 @@ terms_at terms es i x h lt is = terms_in terms (map seen es) i (seen x) h (seen_
 -- ---- the numbers of variables
 
 -- the paths at these numbers
-abbrev places_of : List Path → BTreeMap ℕ BindingId → Places
-places_of ps variables x = path_at ps (get nat_cmp variables x)
+abbrev pub places_of : List Path → Variables → Places
+places_of ps variables x = path_at ps (held variables x)
 
 stands_there : (ps : List Path) (o : Option BindingId) → ((b : BindingId) → o ≡ Some b → IsThere ps b) → StandsAt ps o (path_at ps o)
 stands_there ps None h = tt
 stands_there ps (Some b) h = let there = h b refl in there.1 ∙ ap Some (sym (at_get ps b.0 there.0 there.1))
 
-there_stand : (ps : List Path) (variables : BTreeMap ℕ BindingId) → AreThere ps variables → Stand ps variables (places_of ps variables)
-there_stand ps variables h = record { by = λ x. stands_there ps (get nat_cmp variables x) (h.by x) }
+pub there_stand : (ps : List Path) (variables : Variables) → AreThere ps variables → Stand ps variables (places_of ps variables)
+there_stand ps variables h = record { by = λ x. stands_there ps (held variables x) (h.by x) }
 
 there_by : (ps : List Path) (o : Option BindingId) (q : Option Path) (b : BindingId) → StandsAt ps o q → o ≡ Some b → IsThere ps b
 there_by ps None q b s e = cc
@@ -434,17 +426,17 @@ there_by ps (Some c) (Some p) b s e = (p, subst (λ (d : BindingId). slice_get p
 there_by ps (Some c) None b s e = absurd s
 
 -- numbers that stand for paths are there
-pub stand_there : (ps : List Path) (variables : BTreeMap ℕ BindingId) (places : Places) → Stand ps variables places → AreThere ps variables
-stand_there ps variables places s = record { by = λ x b e. there_by ps (get nat_cmp variables x) (places x) b (s.by x) e }
+pub stand_there : (ps : List Path) (variables : Variables) (places : Places) → Stand ps variables places → AreThere ps variables
+stand_there ps variables places s = record { by = λ x b e. there_by ps (held variables x) (places x) b (s.by x) e }
 
 -- so behind expressions
-pub there_behind : (terms : List Term) (variables : BTreeMap ℕ BindingId) (old new : Numbered) (before after : List BindingId) (es : Exprs) (bs : List BindingId) → AreThere (paths_of old.bindings) variables → AllGiven terms variables old new before after es bs → AreThere (paths_of new.bindings) variables
+pub there_behind : (terms : List Term) (variables : Variables) (old new : Numbered) (before after : List BindingId) (es : Exprs) (bs : List BindingId) → AreThere (paths_of old.bindings) variables → AllGiven terms variables old new before after es bs → AreThere (paths_of new.bindings) variables
 there_behind terms variables old new before after es bs h g =
     let more = (g (env_of terms) (places_of (paths_of old.bindings) variables) refl (there_stand (paths_of old.bindings) variables h)).grows.extends in
     record { by = λ x b e. there_kept (paths_of old.bindings) (paths_of new.bindings) b more (h.by x b e) }
 
 -- the numbers of expressions are there
-pub numbers_there : (terms : List Term) (variables : BTreeMap ℕ BindingId) (old new : Numbered) (before after : List BindingId) (es : Exprs) (bs : List BindingId) → AreThere (paths_of old.bindings) variables → AllGiven terms variables old new before after es bs → AllByRecursion (IsThere (paths_of new.bindings)) bs
+pub numbers_there : (terms : List Term) (variables : Variables) (old new : Numbered) (before after : List BindingId) (es : Exprs) (bs : List BindingId) → AreThere (paths_of old.bindings) variables → AllGiven terms variables old new before after es bs → AllByRecursion (IsThere (paths_of new.bindings)) bs
 numbers_there terms variables old new before after es bs h g =
     let places = places_of (paths_of old.bindings) variables in
     let n = g (env_of terms) places refl (there_stand (paths_of old.bindings) variables h) in

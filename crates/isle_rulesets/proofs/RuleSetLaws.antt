@@ -1,8 +1,6 @@
 -- Rules become a rule set that stands for them.
-use Rattle.std.proofs.Common.{◌≡◌, inl, inr, ⊎_elim, ℕ, zero, suc, ◌<◌, ◌≤◌, ◌+◌, List, [], ◌∷◌, ◌++◌, length, map, take, get_or, Option, Some, None, refl, sym, ap, ◌∙◌, subst, arith, append_assoc, append-nil, Bor}
-use Rattle.std.specs.Prelude.{◌↔◌, Contains, All, IsSome, filter, slice_get}
-use Rattle.std.specs.Ordering.{nat_cmp}
-use Rattle.std.specs.BTreeMap.{get}
+use Rattle.std.proofs.Common.{◌≡◌, inl, inr, ⊎_elim, ℕ, ◌<◌, ◌≤◌, ◌+◌, List, [], ◌∷◌, ◌++◌, length, map, take, get_or, Option, Some, None, refl, sym, ap, ◌∙◌, subst, arith, append_assoc, append-nil, Bor}
+use Rattle.std.specs.Prelude.{◌↔◌, Contains, All, IsSome, filter}
 use Rattle.std.proofs.lemmas.List.{map_more, length-map, get_or-map, take_all}
 use Rattle.std.specs.List.{AllByRecursion}
 use Rattle.std.proofs.lemmas.List.Elements.{recursion_from_All, Contains-append_left, Contains-append_right, Contains-append_cases}
@@ -14,33 +12,35 @@ use Rattle.isle_core.specs.declared.rules.Rule.{Rule as CodeRule}
 use Rattle.isle_core.specs.declared.types.Term.{Term}
 use Rattle.isle_core.specs.Pattern.{Pattern}
 use Rattle.isle_core.specs.Expr as expr
-use Rattle.isle_core.specs.Expr.{Expr, Exprs, NoExpr, AnExpr}
+use Rattle.isle_core.specs.Expr.{Expr, Exprs, NoExpr, AnExpr, LetBindings, NoBinding, ABinding}
 use Rattle.isle_core.specs.Path.{Path, Nowhere, at, paths_of}
 use Rattle.isle_core.specs.Calling.{impure}
 use Rattle.isle_core.specs.OrderedCalls.{rule_calls}
 use Rattle.isle_core.specs.RulePaths.{args_paths, expr_paths, rule_paths}
-use Rattle.isle_core.specs.Tests.{is_constraint, no_places, args_tests, args_after, rule_places, rule_tests}
-use Rattle.isle_core.specs.RuleSet.{is_test, equal_test, flat_tests}
+use Rattle.isle_core.specs.Tests.{Test, is_constraint, no_places, args_after, rule_places, rule_tests}
 use Rattle.isle_core.specs.RuleViews.{rule, rules}
 use Rattle.isle_core.specs.RulePaths.{rules_paths}
 use Rattle.isle_core.specs.StandsFor.{EachOnce, AreFirsts, no_more, IsFlat, AreFlat, StandsFor}
-use Rattle.isle_core.specs.BuiltRule.{IsBuiltExpr, AreBuiltExprs, IsBuiltRule, IsBuiltPattern, CallsBuiltTerms}
+use Rattle.isle_core.specs.BuiltRule.{IsBuiltRule, IsBuiltPattern, CallsBuiltTerms}
 use Rattle.isle_core.specs.Rule.{Environment, Rule}
-use Rattle.isle_core.proofs.NotTrivial.{no_trivial}
 use Rattle.isle_core.proofs.PlacedVariables.{args_placed}
 use Rattle.isle_core.proofs.SetMeans.{without_iflets}
 use Rattle.isle_core.proofs.TurnKinds.{IsPlaced}
-use Rattle.isle_core.specs.Scope.{all_variables, IsInScope, AreInScope, IsScopedRule}
+use Rattle.isle_core.specs.Scope.{all_variables, let_scope, IsInScope, AreInScope, AreLetsInScope, IsScopedRule}
+use Rattle.isle_scope.specs.Table.{held}
 use Rattle.isle_rulesets.specs.declared.pattern_tests.PatternTests.{PatternTests}
 use Rattle.isle_rulesets.specs.Numbering.{Numbered, Extends}
-use Rattle.isle_rulesets.specs.PatternTests.{path_at, NumbersPatterns}
-use Rattle.isle_rulesets.specs.RightSides.{StandsAt, Stand, AreThere, IsKnown, AreKnown, NumbersExpr}
+use Rattle.isle_rulesets.specs.PatternTests.{is_equality, path_at, NumbersPatterns}
+use Rattle.isle_rulesets.specs.Firsts.{are_two}
+use Rattle.isle_rulesets.specs.RightSides.{names, StandsAt, Stand, AreThere, NumbersExpr, Given}
 use Rattle.isle_rulesets.specs.FlatRules.{Adds, rules_impure, Covers}
 use Rattle.isle_rulesets.proofs.PlacedPaths.{extends_self, extends_more, at_get, contains_kept}
 use Rattle.isle_rulesets.proofs.PatternTestLaws.{env_of}
-use Rattle.isle_rulesets.proofs.RuleTests.{rule_can, rule_once, parted, parted_keeps, parted_from, parted_once}
+use Rattle.isle_rulesets.proofs.RuleTests.{Stands, rule_stands}
+use Rattle.isle_rulesets.proofs.FlatTests.{at_there, constraints_first, tests_kept, tests_from, tests_once}
+use Rattle.isle_rulesets.proofs.LetLaws.{held_named}
 use Rattle.isle_rulesets.proofs.VariablePlaces.{place_within, somewhere}
-use Rattle.isle_rulesets.proofs.RightSideLaws.{Given, stand_there}
+use Rattle.isle_rulesets.proofs.RightSideLaws.{stand_there}
 use Rattle.isle_rulesets.proofs.CallsOnce.{rule_firsts}
 use Rattle.isle_rulesets.proofs.NoIterators.{none_in_rule}
 
@@ -51,25 +51,37 @@ is_there ps o None e h = absurd h
 is_there ps None (Some p) e h = cc
 is_there ps (Some b) (Some p) e h = refl
 
--- an expression that is built and in scope has numbers for its variables
+one_wider : (old new : List ℕ) (y : ℕ) → ((x : ℕ) → Contains old x → Contains new x) → (x : ℕ) → Contains (old ++ y ∷ []) x → Contains (new ++ y ∷ []) x
+one_wider old new y f x c = ⊎_elim (λ d. Contains-append_left new (y ∷ []) x (f x d)) (λ d. Contains-append_right new (y ∷ []) x d) (Contains-append_cases old (y ∷ []) x c)
+
+-- a wider scope
 mutual
-  pub expr_known : (e : Expr) (terms : List Term) (old new : Numbered) (args : List Pattern) (d : PatternTests) → NumbersPatterns (env_of terms) old new args d → AllByRecursion (IsBuiltPattern terms) args → IsBuiltExpr e → IsInScope (all_variables args) e → IsKnown d.variables e
-  expr_known (expr.Var ty x) terms old new args d h a b k =
-      is_there (paths_of new.bindings) (get nat_cmp d.variables x.0) (args_after (env_of terms) args 0 no_places x.0) ((h.tests (paths_of new.bindings) (extends_self (paths_of new.bindings))).knows.by x.0) (args_placed (env_of terms) terms args 0 no_places x.0 a k)
-  expr_known (expr.ConstBool v) terms old new args d h a b k = tt
-  expr_known (expr.ConstInt ty v) terms old new args d h a b k = tt
-  expr_known (expr.ConstPrim ty name) terms old new args d h a b k = tt
-  expr_known (expr.Term ty term es) terms old new args d h a b k = exprs_known es terms old new args d h a b k
-  expr_known (expr.Let ty bindings inner) terms old new args d h a b k = absurd b
+  scope_wider : (e : Expr) (old new : List ℕ) → ((x : ℕ) → Contains old x → Contains new x) → IsInScope old e → IsInScope new e
+  scope_wider (expr.Var ty x) old new f h = f x.0 h
+  scope_wider (expr.ConstBool v) old new f h = tt
+  scope_wider (expr.ConstInt ty v) old new f h = tt
+  scope_wider (expr.ConstPrim ty name) old new f h = tt
+  scope_wider (expr.Term ty term es) old new f h = all_wider es old new f h
+  scope_wider (expr.Let ty bs inner) old new f h = (lets_wider bs old new f h.0, scope_wider inner (let_scope old bs) (let_scope new bs) (let_wider bs old new f) h.1)
 
-  exprs_known : (es : Exprs) (terms : List Term) (old new : Numbered) (args : List Pattern) (d : PatternTests) → NumbersPatterns (env_of terms) old new args d → AllByRecursion (IsBuiltPattern terms) args → AreBuiltExprs es → AreInScope (all_variables args) es → AreKnown d.variables es
-  exprs_known NoExpr terms old new args d h a b k = tt
-  exprs_known (AnExpr e es) terms old new args d h a b k = (expr_known e terms old new args d h a b.0 k.0, exprs_known es terms old new args d h a b.1 k.1)
+  all_wider : (es : Exprs) (old new : List ℕ) → ((x : ℕ) → Contains old x → Contains new x) → AreInScope old es → AreInScope new es
+  all_wider NoExpr old new f h = tt
+  all_wider (AnExpr e es) old new f h = (scope_wider e old new f h.0, all_wider es old new f h.1)
 
-at_there : (ps : List Path) (b : ℕ) (p : Path) → (p ≡ Nowhere → ⊥) → get_or ps b Nowhere ≡ p → slice_get ps b ≡ Some p
-at_there [] b p h e = absurd (h (sym e))
-at_there (q ∷ ps) zero p h e = ap Some e
-at_there (q ∷ ps) (suc b) p h e = at_there ps b p h e
+  lets_wider : (bs : LetBindings) (old new : List ℕ) → ((x : ℕ) → Contains old x → Contains new x) → AreLetsInScope old bs → AreLetsInScope new bs
+  lets_wider NoBinding old new f h = tt
+  lets_wider (ABinding x ty e bs) old new f h = (scope_wider e old new f h.0, lets_wider bs (old ++ x.0 ∷ []) (new ++ x.0 ∷ []) (one_wider old new x.0 f) h.1)
+
+  let_wider : (bs : LetBindings) (old new : List ℕ) → ((x : ℕ) → Contains old x → Contains new x) → (x : ℕ) → Contains (let_scope old bs) x → Contains (let_scope new bs) x
+  let_wider NoBinding old new f = f
+  let_wider (ABinding x ty e bs) old new f = let_wider bs (old ++ x.0 ∷ []) (new ++ x.0 ∷ []) (one_wider old new x.0 f)
+
+-- what is in scope of a rule's patterns has numbers for its variables
+pub expr_known : (e : Expr) (terms : List Term) (old new : Numbered) (args : List Pattern) (d : PatternTests) → NumbersPatterns (env_of terms) old new args d → AllByRecursion (IsBuiltPattern terms) args → IsInScope (all_variables args) e → IsInScope (names d.variables) e
+expr_known e terms old new args d h a k =
+    scope_wider e (all_variables args) (names d.variables)
+    (λ x c. held_named d.variables x
+    (is_there (paths_of new.bindings) (held d.variables x) (args_after (env_of terms) args 0 no_places x) ((h.tests (paths_of new.bindings) (extends_self (paths_of new.bindings))).knows.by x) (args_placed (env_of terms) terms args 0 no_places x a c))) k
 
 var_stands : (ps : List Path) (o : Option BindingId) (q : Option Path) → path_at ps o ≡ q → ((p : Path) → q ≡ Some p → p ≡ Nowhere → ⊥) → StandsAt ps o q
 var_stands ps None None e h = tt
@@ -83,7 +95,7 @@ var_stands ps (Some b) None e h = cc
 -- the variables' numbers stand for their paths
 tests_stand : (env : Environment) (old new : Numbered) (args : List Pattern) (d : PatternTests) → AllByRecursion (IsBuiltPattern env.terms) args → NumbersPatterns env old new args d → Stand (paths_of new.bindings) d.variables (args_after env args 0 no_places)
 tests_stand env old new args d a h = record {
-  by = λ x. var_stands (paths_of new.bindings) (get nat_cmp d.variables x) (args_after env args 0 no_places x) ((h.tests (paths_of new.bindings) (extends_self (paths_of new.bindings))).knows.by x) (λ p e. somewhere p (place_within env args x p a e));
+  by = λ x. var_stands (paths_of new.bindings) (held d.variables x) (args_after env args 0 no_places x) ((h.tests (paths_of new.bindings) (extends_self (paths_of new.bindings))).knows.by x) (λ p e. somewhere p (place_within env args x p a e));
 }
 
 -- a path stands at the number of each variable
@@ -92,10 +104,10 @@ tests_there terms old new args d a h = stand_there (paths_of new.bindings) d.var
 
 -- ---- a rule
 
--- a flat rule of a pattern tests, calls and a result
+-- a flat rule of the first ones of a pattern's tests, calls and a result
 pub record IsMade (r : Rule) (d : PatternTests) (calls : List BindingId) (b : BindingId) (f : FlatRule) : Type 0 where
-  pub constraints : f.constraints ≡ d.constraints.items
-  pub equals : f.equals ≡ d.equals.items
+  pub constraints : AreFirsts [] d.constraints.items f.constraints
+  pub equals : AreFirsts [] (filter are_two d.equals.items) f.equals
   pub prio : f.prio ≡ r.prio
   pub pos : f.pos ≡ r.pos
   pub iterators : f.iterators ≡ []
@@ -109,7 +121,7 @@ rule_added terms old mid new r d none calls b f built bound built_terms numbered
   only = λ p c. ⊎_elim (λ k. ⊎_elim (λ x. inl x) (λ x. inr (Contains-append_left (args_paths env r.args 0) (expr_paths env r.rhs (rule_places env r) old.calls) p x)) (h.joins.only p k))
       (λ k. inr (Contains-append_right (args_paths env r.args 0) (expr_paths env r.rhs (rule_places env r) old.calls) p k)) (g.grows.only p c);
   all = λ p c. ⊎_elim (λ k. contains_kept (paths_of mid.bindings) (paths_of new.bindings) p g.grows.extends (h.joins.all p k)) (λ k. g.grows.all p k) (Contains-append_cases (args_paths env r.args 0) (expr_paths env r.rhs (rule_places env r) old.calls) p c);
-  flat = λ ps x. flat ps x;
+  flat = λ ps x once. flat ps x once;
   calls = g.grows.calls;
 }
   where
@@ -125,18 +137,19 @@ rule_added terms old mid new r d none calls b f built bound built_terms numbered
         let second = subst (λ ms. NumbersExpr env (rule_places env r) mid new ms calls r.rhs b) start first in
         subst (λ n. NumbersExpr env (rule_places env r) (record { bindings = mid.bindings; calls = n }) new [] calls r.rhs b) h.joins.calls second
 
-    flat : (ps : List Path) → Extends (paths_of new.bindings) ps → IsFlat env ps r old.calls f
-    flat ps x =
+    flat : (ps : List Path) → Extends (paths_of new.bindings) ps → EachOnce ps → IsFlat env ps r old.calls f
+    flat ps x once =
         let dr = h.tests ps (extends_more (paths_of mid.bindings) (paths_of new.bindings) ps g.grows.extends x) in
-        let ts = args_tests env r.args 0 no_places in
-        let tests : flat_tests ps f ≡ parted (rule_tests env r) =
-        ap (λ cs. map (is_test ps) cs ++ map (equal_test ps) f.equals) is.constraints ∙ ap (λ es. map (is_test ps) d.constraints.items ++ map (equal_test ps) es) is.equals
-        ∙ ap (λ ts. ts ++ map (equal_test ps) d.equals.items) dr.constraints ∙ ap (λ us. filter is_constraint ts ++ us) dr.equals ∙ ap parted (sym (without_iflets env r built.iflets)) in
+        let ts = rule_tests env r in
+        let plain = sym (without_iflets env r built.iflets) in
+        let cs = dr.constraints ∙ ap (filter is_constraint) plain in
+        let es = dr.equals ∙ ap (filter is_equality) plain in
+        let stand : (t : Test) → Contains ts t → Stands t = λ t c. rule_stands env r t built_env c in
         record {
-          tested = λ t c. inl (subst (λ ts. Contains ts t) (sym tests) (parted_keeps (rule_tests env r) t (rule_can env r t built_env c) c));
-          no_other = λ t c. let k = parted_from (rule_tests env r) t (subst (λ ts. Contains ts t) tests c) in (k, no_trivial env r t built_env k);
-          once = subst EachOnce (sym tests) (parted_once (rule_tests env r) (rule_once env r built_env));
-          constraints = ap (map (is_test ps)) is.constraints ∙ dr.constraints ∙ ap (filter is_constraint) (sym (without_iflets env r built.iflets));
+          tested = tests_kept ps once ts stand d.constraints.items f.constraints d.equals.items f.equals cs es is.constraints is.equals;
+          no_other = tests_from ps once ts stand d.constraints.items f.constraints d.equals.items f.equals cs es is.constraints is.equals;
+          once = tests_once ps once ts stand d.constraints.items f.constraints d.equals.items f.equals cs es is.constraints is.equals;
+          constraints = constraints_first ps once ts stand d.constraints.items f.constraints cs is.constraints;
           prio = is.prio;
           pos = is.pos;
           iterators = subst (λ qs. AreFirsts [] qs (map (at ps) f.iterators)) (sym (none_in_rule env terms r old.calls same built_env built_terms)) (subst (λ bs. AreFirsts [] [] (map (at ps) bs)) (sym is.iterators) (no_more []));
@@ -175,7 +188,7 @@ covers_push : (env : Environment) (old new : Numbered) (rs : List Rule) (fs : Li
 covers_push env old new rs fs r f h a = record {
   only = λ p c. subst (λ ps. Contains ps p) (sym paths) (⊎_elim (λ k. Contains-append_left (rules_paths env rs 0) (rule_paths env r old.calls) p (h.only p k)) (λ k. Contains-append_right (rules_paths env rs 0) (rule_paths env r old.calls) p k) (a.only p c));
   all = λ p c. ⊎_elim (λ k. contains_kept (paths_of old.bindings) (paths_of new.bindings) p a.extends (h.all p k)) (λ k. a.all p k) (Contains-append_cases (rules_paths env rs 0) (rule_paths env r old.calls) p (subst (λ ps. Contains ps p) paths c));
-  flat = λ ps x. flat_push env ps rs fs r f 0 (h.flat ps (extends_more (paths_of old.bindings) (paths_of new.bindings) ps a.extends x)) (subst (λ m. IsFlat env ps r m f) from_none (a.flat ps x));
+  flat = λ ps x once. flat_push env ps rs fs r f 0 (h.flat ps (extends_more (paths_of old.bindings) (paths_of new.bindings) ps a.extends x) once) (subst (λ m. IsFlat env ps r m f) from_none (a.flat ps x once));
   calls = a.calls ∙ ap (λ n. n + impure env r.rhs) h.calls ∙ sym (impure_push env rs r);
 }
   where
@@ -190,7 +203,7 @@ covers_push env old new rs fs r f h a = record {
 
 -- no rule
 pub covers_none : (env : Environment) → Covers env (record { bindings = []; calls = 0 }) [] []
-covers_none env = record { only = λ p c. c; all = λ p c. c; flat = λ ps x. tt; calls = refl }
+covers_none env = record { only = λ p c. c; all = λ p c. c; flat = λ ps x once. tt; calls = refl }
 
 -- so for each environment of these terms
 abbrev pub CoversIn : List Term → Numbered → List Rule → List FlatRule → Type 0
@@ -215,7 +228,7 @@ covers_stands terms s bs n rs fs covers once are is is_fs env same =
     record {
       once = subst (λ x. EachOnce (paths_of x)) (sym is) once;
       paths = λ p. subst (λ x. Contains (paths_of x) p ↔ Contains (rules_paths env rs 0) p) (sym is_bs) (h.only p, h.all p);
-      flat = subst (λ x. AreFlat env (paths_of s.bindings) rs 0 x) (sym is_fs) (subst (λ x. AreFlat env (paths_of x) rs 0 fs) (sym is_bs) (h.flat (paths_of n.bindings) (extends_self (paths_of n.bindings))));
+      flat = subst (λ x. AreFlat env (paths_of s.bindings) rs 0 x) (sym is_fs) (subst (λ x. AreFlat env (paths_of x) rs 0 fs) (sym is_bs) (h.flat (paths_of n.bindings) (extends_self (paths_of n.bindings)) (subst (λ x. EachOnce (paths_of x)) are once)));
     }
 
 -- a rule of a list of rules of a kind

@@ -6,7 +6,7 @@ use Rattle.isle_core.specs.Pattern.{Pattern}
 use Rattle.isle_core.specs.Path.{Path, Nowhere, Arg}
 use Rattle.isle_core.specs.Tests.{Places, no_places, after, args_after}
 use Rattle.isle_core.specs.Rule.{Environment}
-use Rattle.isle_core.proofs.NotTrivial.{after_old}
+use Rattle.isle_core.proofs.PlacedWithin.{after_old}
 use Rattle.isle_core.proofs.Within.{IsWithin}
 
 -- a path within some argument

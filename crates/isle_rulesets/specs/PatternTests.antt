@@ -1,15 +1,14 @@
 -- What a rule tests, as bindings tell it.
 use Rattle.std.specs.Prelude.{◌≡◌, ℕ, List, ◌∷◌, ◌++◌, Bool, true, false, Option, Some, None, map, filter, slice_get}
-use Rattle.std.specs.Ordering.{nat_cmp}
-use Rattle.std.specs.BTreeMap.{BTreeMap, get}
 use Rattle.isle_core.specs.declared.BindingId.{BindingId}
 use Rattle.isle_core.specs.Making.{Making}
 use Rattle.isle_core.specs.Pattern.{Pattern, Patterns}
 use Rattle.isle_core.specs.Path.{Path, at, paths_of}
-use Rattle.isle_core.specs.RulePaths.{pattern_paths, parts_paths, args_paths}
-use Rattle.isle_core.specs.Tests.{Test, Is, Equal, Never, is_constraint, Places, no_places, made_test, tests, parts_tests, after, after_parts, args_tests, args_after}
+use Rattle.isle_core.specs.RulePaths.{pattern_paths, parts_paths, each_paths, args_paths}
+use Rattle.isle_core.specs.Tests.{Test, Is, Equal, Never, is_constraint, Places, no_places, made_test, tests, parts_tests, each_tests, after, after_parts, after_each, args_tests, args_after}
 use Rattle.isle_core.specs.RuleSet.{is_test, equal_test}
 use Rattle.isle_core.specs.Rule.{Environment}
+use Rattle.isle_scope.specs.Table.{held}
 use Rattle.isle_rulesets.specs.declared.pattern_tests.PatternTests.{PatternTests}
 use Rattle.isle_rulesets.specs.Numbering.{Extends, Joins, Numbered}
 
@@ -25,8 +24,8 @@ path_at ps None = None
 path_at ps (Some b) = Some (at ps b)
 
 -- each variable's number stands for its path
-pub record Knows (ps : List Path) (places : Places) (variables : BTreeMap ℕ BindingId) : Type 0 where
-  pub by : (x : ℕ) → path_at ps (get nat_cmp variables x) ≡ places x
+pub record Knows (ps : List Path) (places : Places) (variables : List (ℕ × BindingId)) : Type 0 where
+  pub by : (x : ℕ) → path_at ps (held variables x) ≡ places x
 
 -- what is gathered knows the variables, and has these tests, where bindings have these paths
 pub record HasTests (ps : List Path) (places : Places) (ts : List Test) (d : PatternTests) : Type 0 where
@@ -46,6 +45,10 @@ pub record Reads (old new : Numbered) (d e : PatternTests) (ps : List Path) (beh
 -- what a pattern takes apart is numbered, and its tests on the path of a number were gathered
 abbrev pub Takes : Environment → Numbered → Numbered → PatternTests → PatternTests → Pattern → BindingId → Type 0
 Takes env old new d e q source = (p : Path) → slice_get (paths_of old.bindings) source.0 ≡ Some p → Reads old new d e (pattern_paths env q p) (after env q p) (tests env q p)
+
+-- so of several patterns on that path
+abbrev pub TakesEach : Environment → Numbered → Numbered → PatternTests → PatternTests → Patterns → BindingId → Type 0
+TakesEach env old new d e qs source = (p : Path) → slice_get (paths_of old.bindings) source.0 ≡ Some p → Reads old new d e (each_paths env qs p) (after_each env qs p) (each_tests env qs p)
 
 -- so of the parts of what is made, from the i-th on
 abbrev pub TakesParts : Environment → Numbered → Numbered → PatternTests → PatternTests → Making → Patterns → ℕ → Path → Type 0

@@ -1,19 +1,33 @@
 -- How the right side of a rule is numbered.
-use Rattle.std.specs.Prelude.{◌≡◌, ◌⊎◌, ℕ, ◌+◌, List, [], ◌∷◌, ◌++◌, Option, Some, None, IsSome, map, slice_get, Contains}
-use Rattle.std.specs.Ordering.{nat_cmp}
-use Rattle.std.specs.BTreeMap.{BTreeMap, get}
+use Rattle.std.specs.Prelude.{◌≡◌, ◌⊎◌, ℕ, ◌+◌, List, [], ◌∷◌, ◌++◌, Option, Some, None, map, slice_get, Contains}
 use Rattle.isle_core.specs.declared.BindingId.{BindingId}
-use Rattle.isle_core.specs.Expr as expr
-use Rattle.isle_core.specs.Expr.{Expr, Exprs, NoExpr, AnExpr}
+use Rattle.isle_core.specs.declared.types.Term.{Term}
+use Rattle.isle_core.specs.declared.rules.LetBinding.{LetBinding}
+use Rattle.isle_core.specs.Expr.{Expr, Exprs, LetBindings}
+use Rattle.isle_core.specs.RuleViews.{SeenBinding, expr}
 use Rattle.isle_core.specs.Path.{Path, Paths, NoPath, APath, at, paths_of}
-use Rattle.isle_core.specs.Calling.{Calling, one_more, impure, impure_all}
-use Rattle.isle_core.specs.OrderedCalls.{calls, calls_all, if_ordered}
-use Rattle.isle_core.specs.RightSide.{path, paths, answer_path}
-use Rattle.isle_core.specs.RulePaths.{expr_paths, exprs_paths, with_inner}
+use Rattle.isle_core.specs.Calling.{Calling, one_more, impure, impure_all, impure_bindings}
+use Rattle.isle_core.specs.OrderedCalls.{calls, calls_all, calls_bindings, if_ordered}
+use Rattle.isle_core.specs.RightSide.{path, paths, answer_path, let_places}
+use Rattle.isle_core.specs.RulePaths.{expr_paths, exprs_paths, bindings_paths, with_inner}
+use Rattle.isle_core.specs.Scope.{let_scope}
 use Rattle.isle_core.specs.Tests.{Places}
 use Rattle.isle_core.specs.Rule.{Environment}
+use Rattle.isle_scope.specs.Table.{held}
 use Rattle.isle_rulesets.specs.Keys.{IsThere}
 use Rattle.isle_rulesets.specs.Numbering.{Numbered, Extends}
+
+-- variables with their numbers, in the order in which they were bound
+abbrev pub Variables : Type 0
+Variables = List (ℕ × BindingId)
+
+-- the variables that have numbers
+abbrev pub names : Variables → List ℕ
+names variables = map (λ (b : ℕ × BindingId). b.0) variables
+
+-- a variable of a `let` with its type and its value
+abbrev pub bound : LetBinding → SeenBinding
+bound b = (b.var, b.ty, expr b.val)
 
 -- a variable's number stands for its path
 abbrev pub StandsAt : List Path → Option BindingId → Option Path → Type 0
@@ -23,27 +37,12 @@ StandsAt ps None (Some p) = ⊥
 StandsAt ps (Some b) None = ⊥
 
 -- so of each variable
-pub record Stand (ps : List Path) (variables : BTreeMap ℕ BindingId) (places : Places) : Type 0 where
-  pub by : (x : ℕ) → StandsAt ps (get nat_cmp variables x) (places x)
+pub record Stand (ps : List Path) (variables : Variables) (places : Places) : Type 0 where
+  pub by : (x : ℕ) → StandsAt ps (held variables x) (places x)
 
 -- a path stands at the number of each variable
-pub record AreThere (ps : List Path) (variables : BTreeMap ℕ BindingId) : Type 0 where
-  pub by : (x : ℕ) (b : BindingId) → get nat_cmp variables x ≡ Some b → IsThere ps b
-
--- each variable of an expression of built forms has a number
-abbrev mutual
-  pub IsKnown : BTreeMap ℕ BindingId → Expr → Type 0
-  IsKnown variables (expr.Var ty x) = IsSome (get nat_cmp variables x.0)
-  IsKnown variables (expr.ConstBool b) = Unit {0}
-  IsKnown variables (expr.ConstInt ty n) = Unit {0}
-  IsKnown variables (expr.Term ty term es) = AreKnown variables es
-  IsKnown variables (expr.ConstPrim of name) = Unit {0}
-  IsKnown variables (expr.Let of bindings inner) = ⊥
-
-  -- so of expressions in order
-  pub AreKnown : BTreeMap ℕ BindingId → Exprs → Type 0
-  AreKnown variables NoExpr = Unit {0}
-  AreKnown variables (AnExpr e es) = IsKnown variables e × AreKnown variables es
+pub record AreThere (ps : List Path) (variables : Variables) : Type 0 where
+  pub by : (x : ℕ) (b : BindingId) → held variables x ≡ Some b → IsThere ps b
 
 -- these paths are numbered and nothing else was, and these calls, of which so many count, stand in order behind those before
 pub record Grows (old new : Numbered) (before after : List BindingId) (ps cs : List Path) (more : ℕ) : Type 0 where
@@ -74,3 +73,25 @@ AllAt ps (b ∷ bs) NoPath = ⊥
 pub record NumbersExprs (env : Environment) (places : Places) (old new : Numbered) (before after : List BindingId) (es : Exprs) (bs : List BindingId) : Type 0 where
   pub grows : Grows old new before after (exprs_paths env es places old.calls) (calls_all env es places old.calls) (impure_all env es)
   pub found : AllAt (paths_of new.bindings) bs (paths env es places old.calls)
+
+-- the values of a `let` were numbered in order, and behind them the variables have these numbers
+pub record NumbersLets (env : Environment) (places : Places) (variables : Variables) (old new : Numbered) (before after : List BindingId) (bs : LetBindings) : Type 0 where
+  pub grows : Grows old new before after (bindings_paths env bs places old.calls) (calls_bindings env bs places old.calls) (impure_bindings env bs)
+  pub stand : Stand (paths_of new.bindings) variables (let_places env bs places old.calls)
+
+-- ---- for each environment of these terms, and wherever the variables stand
+
+-- an expression was numbered
+abbrev pub Given : List Term → Variables → Numbered → Numbered → List BindingId → List BindingId → Expr → BindingId → Type 0
+Given terms variables old new before after e b = (env : Environment) (places : Places) → env.terms ≡ terms → Stand (paths_of old.bindings) variables places → NumbersExpr env places old new before after e b
+
+-- so of expressions in order
+abbrev pub AllGiven : List Term → Variables → Numbered → Numbered → List BindingId → List BindingId → Exprs → List BindingId → Type 0
+AllGiven terms variables old new before after es bs = (env : Environment) (places : Places) → env.terms ≡ terms → Stand (paths_of old.bindings) variables places → NumbersExprs env places old new before after es bs
+
+-- the variables of a `let` joined those before, with the numbers of their values
+pub record Binds (terms : List Term) (variables then : Variables) (old new : Numbered) (before after : List BindingId) (bs : LetBindings) : Type 0 where
+  pub more : Variables
+  pub longer : then ≡ variables ++ more
+  pub known : names then ≡ let_scope (names variables) bs
+  pub numbers : (env : Environment) (places : Places) → env.terms ≡ terms → Stand (paths_of old.bindings) variables places → NumbersLets env places then old new before after bs

@@ -6,9 +6,10 @@ ghost use Rattle.isle_core.specs.StandsFor.{StandsFor};
 ghost use Rattle.isle_core.specs.Rule.{Environment};
 ghost use Rattle.isle_rulesets.specs.FlatRules.{Adds};
 
+use crate::firsts::{first_constraints, first_equals};
 use crate::numbering::Numbering;
-use crate::pattern_tests::{PatternTests, number_arguments};
-use crate::right_side::{Scope, number_expr};
+use crate::pattern_tests::number_arguments;
+use crate::right_side::number_expr;
 use isle_core::{FlatRule, List, Rule, RuleSet, Term};
 use std::alloc::{AllocError, Global};
 
@@ -24,18 +25,18 @@ fn flat_rule(
     requires terms { CallsBuiltTerms terms.now (seen rule.now) }
     ensures { IfOk result (λ f. (env : Environment) → env.terms ≡ terms.now → Adds env numbering.old numbering.new (seen rule.now) f) }
 {
-    let pattern_tests = number_arguments(alloc, terms, numbering, rule.args.as_slice())?;
-    let scope = Scope {
-        terms,
-        variables: &pattern_tests.variables,
-    };
+    let mut pattern_tests = number_arguments(alloc, terms, numbering, rule.args.as_slice())?;
     let mut ordered = Vec::new(alloc);
-    let result = number_expr(alloc, &scope, numbering, &mut ordered, &rule.rhs)?;
-    let PatternTests {
-        constraints,
-        equals,
-        ..
-    } = pattern_tests;
+    let result = number_expr(
+        alloc,
+        terms,
+        &mut pattern_tests.variables,
+        numbering,
+        &mut ordered,
+        &rule.rhs,
+    )?;
+    let constraints = first_constraints(alloc, pattern_tests.constraints.as_slice())?;
+    let equals = first_equals(alloc, pattern_tests.equals.as_slice())?;
     Ok(FlatRule {
         pos: rule.pos,
         constraints: List::new(constraints),

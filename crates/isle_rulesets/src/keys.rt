@@ -6,7 +6,7 @@ use isle_core::{Binding, BindingId, Sym, TupleIndex, TypeId, VariantId};
 use std::alloc::{AllocError, Global};
 
 /// What tells a binding from the others.
-#[derive(PartialEq, Eq, PartialOrd, Ord, Drop)]
+#[derive(PartialEq, Eq, PartialOrd, Ord)]
 pub enum Key {
     Argument(usize),
     ConstBool(bool),
@@ -30,6 +30,36 @@ pub enum Key {
         ty: TypeId,
         fields: Parts,
     },
+}
+
+impl Drop for Key {
+    // Gives up what the variant holds, in one call wherever a value is dropped.
+    fn drop(self) {
+        match self {
+            Key::Argument(_part0) => {}
+            Key::ConstBool(_part0) => {}
+            Key::ConstInt(_part0, _part1) => {}
+            Key::ConstPrim(_part0) => {}
+            Key::MatchVariant {
+                source: _source,
+                variant: _variant,
+                field: _field,
+            } => {}
+            Key::ExtractStruct {
+                source: _source,
+                field: _field,
+            } => {}
+            Key::MakeVariant {
+                ty: _ty,
+                variant: _variant,
+                fields: _fields,
+            } => {}
+            Key::MakeStruct {
+                ty: _ty,
+                fields: _fields,
+            } => {}
+        }
+    }
 }
 
 impl Key {

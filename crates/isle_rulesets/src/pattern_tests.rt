@@ -6,21 +6,21 @@ ghost use Rattle.isle_core.specs.Rule.{Environment};
 ghost use Rattle.isle_core.specs.Making.{making_in};
 ghost use Rattle.isle_core.specs.BuiltRule.{IsMaking, IsBuiltPattern, AreBuiltPatterns, count};
 ghost use Rattle.isle_rulesets.specs.Keys.{IsThere};
-ghost use Rattle.isle_rulesets.specs.PatternTests.{HasTests, Takes, TakesMade, NumbersPatterns};
+ghost use Rattle.isle_rulesets.specs.PatternTests.{HasTests, Takes, TakesEach, TakesMade, NumbersPatterns};
 
 use crate::keys::Key;
 use crate::made::made_by;
 use crate::numbering::Numbering;
 use isle_core::{BindingId, Constraint, Pattern, Term, TermId, TupleIndex, VarId};
+use isle_scope::Table;
 use std::alloc::{AllocError, Global};
-use std::collections::BTreeMap;
 
-/// What a rule tests, and the binding of each of its variables.
+/// What a rule tests, as often as its patterns say so, and the binding of each of its variables.
 #[derive(Drop)]
 pub struct PatternTests {
     pub constraints: Vec<(BindingId, Constraint)>,
     pub equals: Vec<(BindingId, BindingId)>,
-    pub variables: BTreeMap<usize, BindingId>,
+    pub variables: Table<BindingId>,
 }
 
 impl PatternTests {
@@ -31,38 +31,36 @@ impl PatternTests {
         PatternTests {
             constraints: Vec::new(alloc),
             equals: Vec::new(alloc),
-            variables: BTreeMap::new(alloc),
+            variables: Table::new(alloc),
         }
     }
 }
 
 // A variable: its first occurrence binds, a later one tests equality.
 fn bind_or_equate(
-    pattern_tests: &mut PatternTests,
+    tests: &mut PatternTests,
     var: VarId,
     argument: BindingId,
 ) -> Result<(), AllocError>
-    ensures { OnOk result ((ps : List Path) (places : Places) (ts : List Test) → HasTests ps places ts pattern_tests.old
-        → HasTests ps (met_after (places var.0) var.0 (at ps argument) places) (ts ++ met_tests (places var.0) (at ps argument)) pattern_tests.new) }
+    ensures { OnOk result ((ps : List Path) (places : Places) (ts : List Test) → HasTests ps places ts tests.old
+        → HasTests ps (met_after (places var.0) var.0 (at ps argument) places) (ts ++ met_tests (places var.0) (at ps argument)) tests.new) }
 {
-    match pattern_tests.variables.get(&var.index()) {
-        Some(first) => pattern_tests.equals.push((*first, argument))?,
-        None => {
-            pattern_tests.variables.insert(var.index(), argument)?;
-        }
+    match tests.variables.get(var.index()) {
+        Some(first) => tests.equals.push((*first, argument))?,
+        None => tests.variables.bind(var.index(), argument)?,
     }
     Ok(())
 }
 
 // A constraint on the path of a number.
 fn constrain(
-    pattern_tests: &mut PatternTests,
+    tests: &mut PatternTests,
     source: BindingId,
     constraint: Constraint,
 ) -> Result<(), AllocError>
-    ensures { OnOk result ((ps : List Path) (places : Places) (ts : List Test) → HasTests ps places ts pattern_tests.old → HasTests ps places (ts ++ Is (at ps source) constraint ∷ []) pattern_tests.new) }
+    ensures { OnOk result ((ps : List Path) (places : Places) (ts : List Test) → HasTests ps places ts tests.old → HasTests ps places (ts ++ Is (at ps source) constraint ∷ []) tests.new) }
 {
-    pattern_tests.constraints.push((source, constraint))?;
+    tests.constraints.push((source, constraint))?;
     Ok(())
 }
 
@@ -72,41 +70,59 @@ fn number_pattern(
     alloc: Global,
     terms: &[Term],
     numbering: &mut Numbering,
-    pattern_tests: &mut PatternTests,
+    tests: &mut PatternTests,
     pattern: &Pattern,
     source: BindingId,
 ) -> Result<(), AllocError>
     requires built { IsBuiltPattern terms.now (seen pattern.now) }
     requires there { IsThere (paths_of numbering.old.bindings) source }
-    ensures { OnOk result ((env : Environment) → env.terms ≡ terms.now → Takes env numbering.old numbering.new pattern_tests.old pattern_tests.new (seen pattern.now) source) }
+    ensures { OnOk result ((env : Environment) → env.terms ≡ terms.now → Takes env numbering.old numbering.new tests.old tests.new (seen pattern.now) source) }
 {
     match pattern {
-        Pattern::Var(_, var) => bind_or_equate(pattern_tests, *var, source),
-        Pattern::ConstBool(val) => {
-            constrain(pattern_tests, source, Constraint::ConstBool { val: *val })
-        }
+        Pattern::Var(_, var) => bind_or_equate(tests, *var, source),
+        Pattern::ConstBool(val) => constrain(tests, source, Constraint::ConstBool { val: *val }),
         Pattern::ConstInt(ty, val) => {
-            constrain(
-                pattern_tests,
-                source,
-                Constraint::ConstInt { val: *val, ty: *ty },
-            )
+            constrain(tests, source, Constraint::ConstInt { val: *val, ty: *ty })
         }
-        Pattern::ConstPrim(_, val) => {
-            constrain(pattern_tests, source, Constraint::ConstPrim { val: *val })
-        }
+        Pattern::ConstPrim(_, val) => constrain(tests, source, Constraint::ConstPrim { val: *val }),
         Pattern::Wildcard(_) => Ok(()),
         Pattern::Term(_, term, parts) => number_made(
             alloc,
             terms,
             numbering,
-            pattern_tests,
+            tests,
             *term,
             parts.as_slice(),
             source,
         ),
-        Pattern::BindPattern(..) | Pattern::And(..) => unreachable!(),
+        Pattern::BindPattern(_, var, inner) => {
+            bind_or_equate(tests, *var, source)?;
+            number_pattern(alloc, terms, numbering, tests, inner.get(), source)
+        }
+        Pattern::And(_, parts) => {
+            number_each(alloc, terms, numbering, tests, parts.as_slice(), source)
+        }
     }
+}
+
+// The tests of several patterns on one numbered path, and the numbers of what they take apart.
+#[cycle(pattern)]
+fn number_each(
+    alloc: Global,
+    terms: &[Term],
+    numbering: &mut Numbering,
+    tests: &mut PatternTests,
+    parts: &[Pattern],
+    source: BindingId,
+) -> Result<(), AllocError>
+    requires built { AreBuiltPatterns terms.now (patterns_of (map seen parts.now)) }
+    requires there { IsThere (paths_of numbering.old.bindings) source }
+    ensures { OnOk result ((env : Environment) → env.terms ≡ terms.now → TakesEach env numbering.old numbering.new tests.old tests.new (patterns_of (map seen parts.now)) source) }
+{
+    for part in parts {
+        number_pattern(alloc, terms, numbering, tests, part, source)?;
+    }
+    Ok(())
 }
 
 // The tests of a made term's pattern, and the numbers of all its fields.
@@ -115,7 +131,7 @@ fn number_made(
     alloc: Global,
     terms: &[Term],
     numbering: &mut Numbering,
-    pattern_tests: &mut PatternTests,
+    tests: &mut PatternTests,
     term: TermId,
     parts: &[Pattern],
     source: BindingId,
@@ -124,16 +140,16 @@ fn number_made(
     requires few { count (patterns_of (map seen parts.now)) ≤ 256 }
     requires built { AreBuiltPatterns terms.now (patterns_of (map seen parts.now)) }
     requires there { IsThere (paths_of numbering.old.bindings) source }
-    ensures { OnOk result ((env : Environment) → env.terms ≡ terms.now → TakesMade env numbering.old numbering.new pattern_tests.old pattern_tests.new (making_in terms.now term) (patterns_of (map seen parts.now)) source) }
+    ensures { OnOk result ((env : Environment) → env.terms ≡ terms.now → TakesMade env numbering.old numbering.new tests.old tests.new (making_in terms.now term) (patterns_of (map seen parts.now)) source) }
 {
     let Some(made) = made_by(terms, term) else {
         unreachable!()
     };
-    constrain(pattern_tests, source, made.constraint())?;
+    constrain(tests, source, made.constraint())?;
     for (index, part) in parts.iter().enumerate() {
         let field = TupleIndex(index as u8);
         let number = numbering.intern(alloc, made.field(source, field))?;
-        number_pattern(alloc, terms, numbering, pattern_tests, part, number)?;
+        number_pattern(alloc, terms, numbering, tests, part, number)?;
     }
     Ok(())
 }
@@ -149,17 +165,10 @@ pub fn number_arguments(
     requires { All (IsBuiltPattern terms.now) (map seen patterns.now) }
     ensures { IfOk result (λ d. (env : Environment) → env.terms ≡ terms.now → NumbersPatterns env numbering.old numbering.new (map seen patterns.now) d) }
 {
-    let mut pattern_tests = PatternTests::new(alloc);
+    let mut tests = PatternTests::new(alloc);
     for (index, pattern) in patterns.iter().enumerate() {
         let argument = numbering.intern(alloc, Key::Argument(index))?;
-        number_pattern(
-            alloc,
-            terms,
-            numbering,
-            &mut pattern_tests,
-            pattern,
-            argument,
-        )?;
+        number_pattern(alloc, terms, numbering, &mut tests, pattern, argument)?;
     }
-    Ok(pattern_tests)
+    Ok(tests)
 }

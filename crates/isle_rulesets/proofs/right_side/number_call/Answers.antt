@@ -4,5 +4,5 @@ use Rattle.isle_rulesets.proofs.right_side.number_call.Goals as goal
 
 pub returns : goal.returns
 returns c =
-    call_given c.args.numbering.now c.call.new.self c.args.ordered.now.items c.push.new.self.items c.args.scope.now.terms.now c.args.term c.index-scope-index.result c.is_partial-is_partial.result c.args.parameters.items c.in_ok-call.call.number c.in_ok-call.call.value
+    call_given c.args.numbering.now c.call.new.self c.args.ordered.now.items c.push.new.self.items c.args.terms.now c.args.term c.index-terms-index.result c.is_partial-is_partial.result c.args.parameters.items c.in_ok-call.call.number c.in_ok-call.call.value
     c.requires.kind c.requires.called (search rules) (search rules) (search rules) c.in_ok-push.ensures.items

@@ -14,6 +14,6 @@ intern-requires c = subst (HasParts (paths_of c.args.numbering.now.bindings)) (s
 
 pub returns-in-Some : goal.returns-in-Some
 returns-in-Some c =
-    let makes : making_in c.args.scope.now.terms.now c.args.term ≡ making_of c.in-Some.made = sym c.made_by.ensures ∙ ap seen c.in-Some.is in
-    made_given c.intern.result c.args.scope.now.terms.now c.args.term c.in-Some.made c.args.arguments.items c.args.numbering.now c.intern.new.self c.args.ordered.now.items makes
+    let makes : making_in c.args.terms.now c.args.term ≡ making_of c.in-Some.made = sym c.made_by.ensures ∙ ap seen c.in-Some.is in
+    made_given c.intern.result c.args.terms.now c.args.term c.in-Some.made c.args.arguments.items c.args.numbering.now c.intern.new.self c.args.ordered.now.items makes
     (subst (λ k. IfOk c.intern.result (Numbers c.args.numbering.now c.intern.new.self (key_path (paths_of c.args.numbering.now.bindings) k))) (c.whole.ensures ∙ ap (whole_key c.in-Some.made) c.new.ensures) c.intern.ensures)
