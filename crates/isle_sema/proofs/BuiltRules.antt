@@ -17,7 +17,7 @@ use Rattle.isle_core.specs.HasType.{tuple_fields, typed_fields}
 use Rattle.isle_core.specs.Making.{Making, MakesVariant, MakesStruct, MakesNothing, making}
 use Rattle.isle_core.specs.Pattern as pattern
 use Rattle.isle_core.specs.Pattern.{Pattern, Patterns, NoPattern, APattern}
-use Rattle.isle_core.specs.PatternType.{IsOfMaking, IsPatternOf, ArePartsOf, ArePatternsOf, FitsTerm}
+use Rattle.isle_core.specs.PatternType.{IsOfMaking, IsPatternOf, ArePartsOf, AreEachOf, ArePatternsOf, FitsTerm}
 use Rattle.isle_core.specs.Rule.{Rule, Environment, rules_of}
 use Rattle.isle_core.specs.Scope.{all_variables, iflets_scope, IsInScope, AreIfLetsInScope, IsScopedRule}
 use Rattle.isle_core.specs.TypedParts.{field_types}
@@ -77,8 +77,12 @@ mutual
   built_pattern env few ty (pattern.Wildcard of) h = tt
   built_pattern env few ty (pattern.Term of term ps) h =
       (is_making ty (making env term) h.1, parts_few env (making env term) ps (form env (making env term)) few refl h.2, built_parts env few (option_map (form_types env) (form env (making env term))) ps h.2)
-  built_pattern env few ty (pattern.BindPattern of x p) h = absurd h
-  built_pattern env few ty (pattern.And of ps) h = absurd h
+  built_pattern env few ty (pattern.BindPattern of x p) h = built_pattern env few ty p h.1
+  built_pattern env few ty (pattern.And of ps) h = built_each env few ty ps h.1
+
+  built_each : (env : Environment) (few : AreFormsFew env) (ty : TypeId) (ps : Patterns) → AreEachOf env ty ps → AreBuiltPatterns env.terms ps
+  built_each env few ty NoPattern h = tt
+  built_each env few ty (APattern p ps) h = (built_pattern env few ty p h.0, built_each env few ty ps h.1)
 
   built_parts : (env : Environment) (few : AreFormsFew env) (o : Option (List TypeId)) (ps : Patterns) → ArePartsOf env o ps → AreBuiltPatterns env.terms ps
   built_parts env few (Some []) NoPattern h = tt

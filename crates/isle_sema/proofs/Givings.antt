@@ -15,8 +15,8 @@ use Rattle.isle_types.specs.TypeEnvironment.{type_env_of}
 use Rattle.isle_declarations.specs.Heads.{terms_of, extern_terms}
 use Rattle.isle_declarations.specs.Repeats.{repeats}
 use Rattle.isle_sema.specs.Language.{is_built_def, rules_call_ruled}
-use Rattle.isle_sema.specs.Tests.{binds_twice, is_misdeclared, has_undeclared}
-use Rattle.isle_sema.specs.BuiltForm.{is_built_form}
+use Rattle.isle_sema.specs.Tests.{is_misdeclared, has_undeclared}
+use Rattle.isle_sema.specs.Language.{is_built_def}
 use Rattle.isle_sema.specs.RulePass.{rules_pass}
 use Rattle.isle_sema.specs.Fault.{OfTypes, OfTerms, OfExtractors, OfRules, or_later, fault_in}
 use Rattle.isle_sema.specs.Environment.{whole_of, env_over, terms_pass}
@@ -25,7 +25,7 @@ use Rattle.isle_sema.specs.Typing.{Typed, TypedOnly}
 use Rattle.isle_sema.proofs.TypedOnce.{typed_only}
 use Rattle.isle_declarations.specs.Tables.{any_repeat}
 use Rattle.isle_sema.specs.Taken.{taken_rules}
-use Rattle.isle_sema.proofs.BuiltForms.{both, forms_of, unformed, bound_twice, rules_built}
+use Rattle.isle_sema.proofs.BuiltForms.{both, rules_built}
 use Rattle.isle_sema.proofs.Firsts.{none_stages}
 use Rattle.isle_sema.proofs.TypedParts.{typed_in}
 use Rattle.isle_sema.proofs.TermFaults.{names_no_type, is_made_twice, has_too_many, extractors_none, is_headless, TermParts, terms_kept, terms_none}
@@ -63,18 +63,14 @@ kept {ds = ds} {env = env} t =
     let g = typed_in t in
     let w = whole_of ds in
     record {
-      parts = terms_kept ds [] ds (forms_of ds g.built) g.terms_kept;
+      parts = terms_kept ds [] ds g.built g.terms_kept;
       rules = env.rules;
       taken = are_taken w 0 (rule_defs ds) env.rules (rules_built ds g.built) (record { kept = none_fault w [] ds g.rules_kept; calls = g.unruled; trees = g.rules });
     }
 
 -- definitions of other forms give none
-pub unformed_untyped : (ds : List Def) → list_all is_built_form ds ≡ false → (env : Environment) → Typed ds env → ⊥
-unformed_untyped ds h env t = unformed ds h (typed_in t).built
-
--- nor do those that bind a variable twice
-pub twice_untyped : (ds : List Def) → list_any binds_twice (rule_defs ds) ≡ true → (env : Environment) → Typed ds env → ⊥
-twice_untyped ds h env t = bound_twice ds h (typed_in t).built
+pub unformed_untyped : (ds : List Def) → list_all is_built_def ds ≡ false → (env : Environment) → Typed ds env → ⊥
+unformed_untyped ds h env t = both (typed_in t).built h
 
 pub misdeclared_untyped : (ds : List Def) → list_any (is_misdeclared ds) (signatures ds) ≡ true → (env : Environment) → Typed ds env → ⊥
 misdeclared_untyped ds h env t =
@@ -114,13 +110,12 @@ pub given_typed : (ds : List Def) (t : TermEnv) → list_all is_built_def ds ≡
     → taken_rules (whole_of ds) 0 (rule_defs ds) ≡ Some (map elaborated_rule t.rules) → t.converters ≡ [] → Typed ds (environment (type_env_of ds) t)
 given_typed ds t built types parts given rules none =
     let w = whole_of ds in
-    let forms = forms_of ds built in
     let k = taken_are w 0 (rule_defs ds) (map elaborated_rule t.rules) (rules_built ds built) rules in
     record {
       built = and_from (list_all is_built_def ds) (not (rules_call_ruled (rule_defs ds) (rule_defs ds))) built (ap not k.calls);
       sound =
           none_stages (fault_in OfTypes w) (or_later (fault_in OfTerms w) (or_later (fault_in OfExtractors w) (fault_in OfRules w))) types
-          (none_stages (fault_in OfTerms w) (or_later (fault_in OfExtractors w) (fault_in OfRules w)) (terms_none ds [] ds forms parts) (none_stages (fault_in OfExtractors w) (fault_in OfRules w) (extractors_none w [] ds forms) (fault_none w [] ds k.kept)));
+          (none_stages (fault_in OfTerms w) (or_later (fault_in OfExtractors w) (fault_in OfRules w)) (terms_none ds [] ds built parts) (none_stages (fault_in OfExtractors w) (fault_in OfRules w) (extractors_none w [] ds built) (fault_none w [] ds k.kept)));
       given =
           ap (λ o. option_and_then (λ (ts : List Term). option_map (env_over (type_env_of ds) ts) (rules_pass w 0 (rule_defs ds))) o) given
           ∙ ap (λ o. option_map (env_over (type_env_of ds) t.terms) o) k.trees

@@ -1,5 +1,5 @@
 -- What is judged of parts, one after the other, is what the rows say of all.
-use Rattle.std.proofs.Common.{◌≡◌, ℕ, ◌+◌, ◌-◌, ◌^◌, ◌≤◌, Bool, true, false, cond, List, [], ◌∷◌, ◌++◌, length, map, Option, Some, None, refl, sym, ap, ◌∙◌, arith}
+use Rattle.std.proofs.Common.{◌≡◌, ℕ, ◌+◌, ◌-◌, ◌^◌, ◌≤◌, Bool, true, false, cond, List, [], ◌∷◌, ◌++◌, length, map, Option, Some, None, refl, sym, ap, ◌∙◌, subst, arith}
 use Rattle.std.specs.Prelude.{◌==◌, ◌&&◌, ◌||◌, not, is_some, min, nat_le}
 use Rattle.std.specs.List.{list_any}
 use Rattle.std.proofs.Math.Nat.{min-le_right}
@@ -20,11 +20,16 @@ use Rattle.isle_types.specs.declared.row.Row.{Row}
 use Rattle.isle_types.specs.TypeRows.{on}
 use Rattle.isle_sema.specs.RulePass.{patterns_of, right_side_of, sites_of}
 use Rattle.isle_sema.specs.RuleRows.{differ, is_untaken, is_mistaken, is_misplaced, is_undeclared, is_met_otherwise, is_unknown, is_mistyped}
-use Rattle.isle_sema.specs.Known.{IsCalled}
+use Rattle.isle_sema.specs.Known.{IsCalled, MayBeCalled}
 use Rattle.isle_sema.specs.Judging.{is_ruled_call, is_partial_call, is_impure_call, is_multi_call, unjudged, judge, judge_all, lowest}
 use Rattle.isle_sema.specs.Taken.{row_of}
 
 -- ---- a call
+
+-- where the code knows a term, there is one
+pub when_called : (w : Whole) (old new : Judged) (site : Option Signature → Site) (s : Option Signature) (o : Option Called) (c : Called) → o ≡ Some c → MayBeCalled w s o → ((x : Signature) → IsCalled w x c → new ≡ judge w old (site (Some x))) → new ≡ judge w old (site s)
+when_called w old new site None o c is h k = absurd (subst (MayBeCalled w None) is h)
+when_called w old new site (Some x) o c is h k = k x (subst (MayBeCalled w (Some x)) is h)
 
 -- a call of a declared term, by what is known of it
 pub called_judged : (w : Whole) (s : Signature) (c : Called) (j : Judged) (expected : Option TypeId) (count nodes : ℕ) (differs : Bool) → differs ≡ differ (Some c.ret) expected → nodes ≡ min (j.nodes + 1) (2 ^ 64 - 1) → IsCalled w s c

@@ -4,12 +4,14 @@ pub mod Firsts
 pub mod KnownLaws
 pub mod TermFaults
 pub mod BuiltForms
-pub mod MetVariables
+pub mod BuiltParts
 pub mod FormSteps
 pub mod CallLaws
 pub mod ReducedLaws
 pub mod VariableLaws
+pub mod LocalLaws
 pub mod Steps
+pub mod LetSteps
 pub mod TermSteps
 pub mod Placing
 pub mod Judgements
@@ -23,6 +25,8 @@ pub mod NamesApart
 pub mod MadeForms
 pub mod TypedPatterns
 pub mod RuleRoots
+pub mod VariableTypes
+pub mod BoundPatterns
 pub mod RulePlaces
 pub mod TypedSides
 pub mod TypedExprs

@@ -2,7 +2,7 @@
 use Rattle.std.proofs.Common.{◌≡◌, ℕ, zero, suc, ◌+◌, ◌≤◌, length, arith, Bool, true, false, cond, List, [], ◌∷◌, ◌++◌, map, Option, Some, None, refl, sym, ap, ◌∙◌}
 use Rattle.std.specs.Prelude.{◌||◌, is_some, option_map, option_and_then, slice_get}
 use Rattle.std.specs.List.{AllByRecursion, list_any}
-use Rattle.std.proofs.lemmas.List.{length-map}
+use Rattle.std.proofs.lemmas.List.{length-map, append-nil}
 use Rattle.std.proofs.lemmas.List.Folds.{list_any-append}
 use Rattle.std.proofs.lemmas.Bool.{or_parts, or_from, and_parts}
 use Rattle.isle_core.specs.declared.TermId.{TermId}
@@ -13,17 +13,19 @@ use Rattle.isle_core.specs.Rule.{Rule as CoreRule, IfLet as CoreIfLet}
 use Rattle.isle_ast.specs.declared.tree.AstIfLet.{AstIfLet}
 use Rattle.isle_ast.specs.Views.{iflet, patterns_of as seen_patterns}
 use Rattle.isle_ast.specs.Tree as tree
-use Rattle.isle_ast.specs.Tree.{Expr, Exprs, NoExpr, AnExpr, IfLet, Def}
+use Rattle.isle_ast.specs.Tree.{Expr, Exprs, NoExpr, AnExpr, Lets, NoLet, ALet, IfLet, Def}
 use Rattle.isle_declarations.specs.Terms.{terms}
 use Rattle.isle_declarations.specs.Signatures.{Signature, RuleDef, rule_defs, has_rule, signature_named, term_named}
-use Rattle.isle_sema.specs.Calls.{count_of, calls_ruled, any_calls_ruled}
-use Rattle.isle_sema.specs.Language.{is_built_expr, are_built_exprs}
+use Rattle.isle_sema.specs.Calls.{count_of, calls_ruled, any_calls_ruled, lets_call_ruled}
+use Rattle.isle_sema.specs.Language.{is_built_expr, are_built_exprs, are_built_lets}
 use Rattle.isle_types.specs.declared.row.Row.{Row}
+use Rattle.isle_sema.specs.Locals.{Local, Bound, of_patterns, bound_local, locals_of}
 use Rattle.isle_sema.specs.Scope.{Scope}
 use Rattle.isle_sema.specs.Site.{Site, NotBuiltAt}
+use Rattle.isle_sema.specs.TypeNames.{type_named}
 use Rattle.isle_sema.specs.Whole.{Whole, termed, arg_types, ret_type}
 use Rattle.isle_sema.specs.PatternPass.{PatternsPass, patterns_pass, first_expected, later_expected}
-use Rattle.isle_sema.specs.ExprPass.{ExprPass, expr_pass, exprs_pass}
+use Rattle.isle_sema.specs.ExprPass.{ExprPass, expr_pass, exprs_pass, lets_pass}
 use Rattle.isle_sema.specs.RulePass.{patterns_of, right_side_of, conditions_of, rule_from, rule_pass, rules_pass}
 use Rattle.isle_sema.specs.RuleRows.{is_unknown, is_call_misfit}
 use Rattle.isle_types.specs.TypeRows.{on}
@@ -101,37 +103,58 @@ split_any test xs ys = list_any-append test xs ys
 
 mutual
   -- an expression whose names are known calls a term that has a rule where one of its parts does
-  pub calls_here : (w : Whole) (scope : Scope) (expected : Option TypeId) (e : Expr) → is_built_expr e ≡ true → list_any (is_unknown w) (expr_pass w scope expected e).sites ≡ false
-      → list_any (is_ruled_call w) (expr_pass w scope expected e).sites ≡ calls_ruled (rule_defs w.defs) e
-  calls_here w scope expected (tree.Number n) built h = refl
-  calls_here w scope expected (tree.Fact b) built h = refl
-  calls_here w scope expected (tree.Name name) built h = refl
-  calls_here w scope expected (tree.Constant name) built h = refl
-  calls_here w scope expected (tree.Let ls inner) built h = absurd cc
-  calls_here w scope expected (tree.Call name es) built h =
-      let sites = (exprs_pass w scope (arg_types w (termed w name)) es).sites in
+  pub calls_here : (w : Whole) (locals : List Local) (next : ℕ) (expected : Option TypeId) (e : Expr) → is_built_expr e ≡ true → list_any (is_unknown w) (expr_pass w locals next expected e).sites ≡ false
+      → list_any (is_ruled_call w) (expr_pass w locals next expected e).sites ≡ calls_ruled (rule_defs w.defs) e
+  calls_here w locals next expected (tree.Number n) built h = refl
+  calls_here w locals next expected (tree.Fact b) built h = refl
+  calls_here w locals next expected (tree.Name name) built h = refl
+  calls_here w locals next expected (tree.Constant name) built h = refl
+  calls_here w locals next expected (tree.Let ls inner) built h =
+      let b = and_parts (are_built_lets ls) (is_built_expr inner) built in
+      let bound = lets_pass w locals next ls in
+      let rest = (expr_pass w bound.locals bound.next expected inner).sites in
+      let k = any_parts (is_unknown w) bound.sites rest h in
+      split_any (is_ruled_call w) bound.sites rest
+      ∙ both_are (list_any (is_ruled_call w) bound.sites) (list_any (is_ruled_call w) rest) (lets_call_ruled (rule_defs w.defs) ls) (calls_ruled (rule_defs w.defs) inner)
+      (calls_let w locals next ls b.0 k.0) (calls_here w bound.locals bound.next expected inner b.1 k.1)
+  calls_here w locals next expected (tree.Call name es) built h =
+      let sites = (exprs_pass w locals next (arg_types w (termed w name)) es).sites in
       let k = or_parts (is_call_misfit w (termed w name) (count_of es)) (list_any (is_unknown w) sites) h in
       both_are (on (termed w name) (λ (s : Signature). has_rule (rule_defs w.defs) s.term)) (list_any (is_ruled_call w) sites) (has_rule (rule_defs w.defs) name) (any_calls_ruled (rule_defs w.defs) es)
-      (ruled_at w name (termed w name) (count_of es) refl k.0) (calls_in w scope (arg_types w (termed w name)) es built k.1)
+      (ruled_at w name (termed w name) (count_of es) refl k.0) (calls_in w locals next (arg_types w (termed w name)) es built k.1)
 
-  calls_in : (w : Whole) (scope : Scope) (expected : List (Option TypeId)) (es : Exprs) → are_built_exprs es ≡ true → list_any (is_unknown w) (exprs_pass w scope expected es).sites ≡ false
-      → list_any (is_ruled_call w) (exprs_pass w scope expected es).sites ≡ any_calls_ruled (rule_defs w.defs) es
-  calls_in w scope expected NoExpr built h = refl
-  calls_in w scope expected (AnExpr e es) built h =
+  calls_in : (w : Whole) (locals : List Local) (next : ℕ) (expected : List (Option TypeId)) (es : Exprs) → are_built_exprs es ≡ true → list_any (is_unknown w) (exprs_pass w locals next expected es).sites ≡ false
+      → list_any (is_ruled_call w) (exprs_pass w locals next expected es).sites ≡ any_calls_ruled (rule_defs w.defs) es
+  calls_in w locals next expected NoExpr built h = refl
+  calls_in w locals next expected (AnExpr e es) built h =
       let b = and_parts (is_built_expr e) (are_built_exprs es) built in
-      let first = (expr_pass w scope (first_expected expected) e).sites in
-      let rest = (exprs_pass w scope (later_expected expected) es).sites in
+      let one = expr_pass w locals next (first_expected expected) e in
+      let first = one.sites in
+      let rest = (exprs_pass w locals one.next (later_expected expected) es).sites in
       let k = any_parts (is_unknown w) first rest h in
       split_any (is_ruled_call w) first rest
       ∙ both_are (list_any (is_ruled_call w) first) (list_any (is_ruled_call w) rest) (calls_ruled (rule_defs w.defs) e) (any_calls_ruled (rule_defs w.defs) es)
-      (calls_here w scope (first_expected expected) e b.0 k.0) (calls_in w scope (later_expected expected) es b.1 k.1)
+      (calls_here w locals next (first_expected expected) e b.0 k.0) (calls_in w locals one.next (later_expected expected) es b.1 k.1)
+
+  calls_let : (w : Whole) (locals : List Local) (next : ℕ) (ls : Lets) → are_built_lets ls ≡ true → list_any (is_unknown w) (lets_pass w locals next ls).sites ≡ false → list_any (is_ruled_call w) (lets_pass w locals next ls).sites ≡ lets_call_ruled (rule_defs w.defs) ls
+  calls_let w locals next NoLet built h = refl
+  calls_let w locals next (ALet var ty e ls) built h =
+      let b = and_parts (is_built_expr e) (are_built_lets ls) built in
+      let of = type_named w.defs ty in
+      let value = expr_pass w locals (suc next) of e in
+      let more = bound_local locals var of next in
+      let rest = (lets_pass w more value.next ls).sites in
+      let k = any_parts (is_unknown w) value.sites rest h in
+      split_any (is_ruled_call w) value.sites rest
+      ∙ both_are (list_any (is_ruled_call w) value.sites) (list_any (is_ruled_call w) rest) (calls_ruled (rule_defs w.defs) e) (lets_call_ruled (rule_defs w.defs) ls)
+      (calls_here w locals (suc next) of e b.0 k.0) (calls_let w more value.next ls b.1 k.1)
 
 -- the same of a rule that breaks no row
 rule_calls : (w : Whole) (r : RuleDef) → is_built_expr r.rhs ≡ true → is_broken w r ≡ false → calls_rule w r ≡ calls_ruled (rule_defs w.defs) r.rhs
 rule_calls w r built h =
     let known = all_known w r (none_is (row_of w r) h) in
     let right = any_parts (is_unknown w) (patterns_of w r).sites (map (λ (c : IfLet). NotBuiltAt) r.iflets ++ (right_side_of w r).sites) known in
-    calls_here w (patterns_of w r).scope _ r.rhs built (any_parts (is_unknown w) (map (λ (c : IfLet). NotBuiltAt) r.iflets) (right_side_of w r).sites right.1).1
+    calls_here w (of_patterns (patterns_of w r).scope) (length (patterns_of w r).scope) _ r.rhs built (any_parts (is_unknown w) (map (λ (c : IfLet). NotBuiltAt) r.iflets) (right_side_of w r).sites right.1).1
 
 -- ---- what the code knows of a rule
 
@@ -160,15 +183,17 @@ number_is sigs name = by (signature_named sigs name) refl
     by (Some s) e = ap (term_named sigs) (named_is sigs name s e)
 
 -- what is elaborated at the types of a declared head are both sides of the rule
-pub sides_are : (w : Whole) (r : RuleDef) (own : Called) (sides : Sides) (old vars : Scope) (before first : Judged) → IsHead w r.term own → old ≡ [] → before ≡ unjudged → first ≡ unjudged
-    → ArePatternsAt w own.args.now (seen_patterns r.args) old vars before sides.left sides.args → IsExprAt w vars (Some own.ret) r.rhs first sides.right sides.rhs → AreSides w r sides
-sides_are w r own sides old vars before first h none start again ps e =
+pub sides_are : (w : Whole) (r : RuleDef) (own : Called) (sides : Sides) (old vars : Scope) (bound last : Bound) (before first : Judged) → IsHead w r.term own → old ≡ [] → before ≡ unjudged → bound ≡ record { patterns = vars; lets = []; next = length vars } → first ≡ unjudged
+    → ArePatternsAt w own.args.now (seen_patterns r.args) old vars before sides.left sides.args → IsExprAt w (Some own.ret) r.rhs bound last first sides.right sides.rhs → AreSides w r sides
+sides_are w r own sides old vars bound last before first h none start begun again ps e =
     let is = h.there in
     let patterns : patterns_pass w (map Some own.args.now) old (seen_patterns r.args) ≡ patterns_of w r =
     ap (λ (scope : Scope). patterns_pass w (map Some own.args.now) scope (seen_patterns r.args)) none ∙ ap (λ os. patterns_pass w os [] (seen_patterns r.args)) (sym h.called.args) ∙ ap (λ o. patterns_pass w (arg_types w o) [] (seen_patterns r.args)) (sym is) in
-    let right : expr_pass w vars (Some own.ret) r.rhs ≡ right_side_of w r =
-    ap (λ (scope : Scope). expr_pass w scope (Some own.ret) r.rhs) (ps.scope ∙ ap (λ (p : PatternsPass). p.scope) patterns) ∙ ap (λ ty. expr_pass w (patterns_of w r).scope ty r.rhs) (sym h.called.ret)
-    ∙ ap (λ o. expr_pass w (patterns_of w r).scope (ret_type w o) r.rhs) (sym is) in
+    let own_side : Option TypeId → ExprPass = λ ty. expr_pass w (of_patterns (patterns_of w r).scope) (length (patterns_of w r).scope) ty r.rhs in
+    let right : expr_pass w (locals_of bound) bound.next (Some own.ret) r.rhs ≡ right_side_of w r =
+    ap (λ (b : Bound). expr_pass w (locals_of b) b.next (Some own.ret) r.rhs) begun
+    ∙ ap (λ (ls : List Local). expr_pass w ls (length vars) (Some own.ret) r.rhs) (append-nil (of_patterns vars))
+    ∙ ap (λ (scope : Scope). expr_pass w (of_patterns scope) (length scope) (Some own.ret) r.rhs) (ps.scope ∙ ap (λ (p : PatternsPass). p.scope) patterns) ∙ ap own_side (sym h.called.ret) ∙ ap (λ o. own_side (ret_type w o)) (sym is) in
     record {
       trees = ps.trees ∙ ap (λ (p : PatternsPass). p.trees) patterns;
       tree = e.tree ∙ ap (λ (x : ExprPass). x.tree) right;

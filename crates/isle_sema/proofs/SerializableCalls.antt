@@ -1,6 +1,7 @@
 -- The calls of typed right sides are ready for a block.
-use Rattle.std.proofs.Common.{◌≡◌, ⊎_elim, ℕ, suc, ◌+◌, ◌≤◌, List, [], ◌∷◌, ◌++◌, map, Bool, true, false, Option, Some, None, refl, sym, ap, ◌∙◌, subst, arith}
+use Rattle.std.proofs.Common.{◌≡◌, ⊎_elim, ℕ, suc, ◌+◌, ◌≤◌, List, [], ◌∷◌, ◌++◌, map, Bool, true, false, cond, Option, Some, None, refl, sym, ap, ◌∙◌, subst, arith}
 use Rattle.std.specs.Prelude.{Contains, IsSomeAnd, IsTrue, option_map, slice_get}
+use Rattle.std.proofs.lemmas.Bool.{eq-eqb, ne_eqb}
 use Rattle.std.proofs.lemmas.List.{append-nil, append_assoc}
 use Rattle.std.proofs.lemmas.List.Elements.{Contains-append_left, Contains-append_right}
 use Rattle.std.proofs.lemmas.Option.{same_Some}
@@ -19,23 +20,24 @@ use Rattle.isle_core.specs.declared.values.Callee.TheVariants.{External}
 use Rattle.isle_core.specs.ExternalCall.{IsCall}
 use Rattle.isle_core.specs.Occurrences.{occurrence, occurrence_at, occurrences}
 use Rattle.isle_core.specs.PathType.{IsPathOf, ArePathsOf}
-use Rattle.isle_core.specs.Calling.{Calling, ByTurns, ByCases, NoCall, calling, calling_of, calling_by, pure_callee, kind_of, may_be_nothing, AnswersOnce, is_fallible, instance_of, one_more, impure, impure_all}
+use Rattle.isle_core.specs.Calling.{Calling, ByTurns, ByCases, NoCall, calling, calling_of, calling_by, pure_callee, kind_of, may_be_nothing, AnswersOnce, is_fallible, instance_of, one_more, impure, impure_all, impure_bindings}
 use Rattle.isle_core.specs.Expr as expr
-use Rattle.isle_core.specs.Expr.{Expr, Exprs, NoExpr, AnExpr}
+use Rattle.isle_core.specs.Expr.{Expr, Exprs, NoExpr, AnExpr, LetBindings, NoBinding, ABinding}
+use Rattle.isle_core.specs.Match.{with}
 use Rattle.isle_core.specs.Form.{form, form_types}
 use Rattle.isle_core.specs.Path.{Path, Called, Inner, Paths, at}
 use Rattle.isle_core.specs.Serializable.{StandsOn, AllStandOn, AreSerializableCalls}
 use Rattle.isle_core.specs.Rule.{Environment}
 use Rattle.isle_core.specs.StandsFor.{EachOnce}
 use Rattle.isle_core.specs.Terms.{sym_text, impure_callee}
-use Rattle.isle_core.specs.OrderedCalls.{if_ordered, calls, calls_all}
+use Rattle.isle_core.specs.OrderedCalls.{if_ordered, calls, calls_all, calls_bindings}
 use Rattle.isle_core.specs.Making.{Making, MakesVariant, MakesStruct, MakesNothing, making_kind, making_of, making}
-use Rattle.isle_core.specs.RightSide.{path_or, term_path, call_path, answer_path, path, paths as all_paths}
-use Rattle.isle_core.specs.RulePaths.{with_inner, expr_paths, exprs_paths}
+use Rattle.isle_core.specs.RightSide.{path_or, term_path, call_path, answer_path, path, paths as all_paths, let_places}
+use Rattle.isle_core.specs.RulePaths.{with_inner, expr_paths, exprs_paths, bindings_paths}
 use Rattle.isle_core.specs.Tests.{Test, Places}
 use Rattle.isle_core.proofs.CallOccurrences.{AreRising, occurrence as occurrence_of}
 use Rattle.isle_core.proofs.Contained.{head_contained, tail_contained, contained_cases, none_contained}
-use Rattle.isle_sema.specs.TypedRule.{IsMadeOf, IsTermKind, IsExprOf, AreExprsOf}
+use Rattle.isle_sema.specs.TypedRule.{IsMadeOf, let_variables, IsNew, IsTermKind, IsExprOf, AreExprsOf, AreBindingsOf}
 use Rattle.isle_sema.proofs.TestablePatterns.{ArePlacedAs}
 
 -- ---- terms of right sides
@@ -64,9 +66,53 @@ served_kind env allowed c k h = absurd h
 served : (env : Environment) (allowed : Bool) (term : TermId) (c : Term) → slice_get env.terms term.0 ≡ Some c → IsTermKind env allowed c c.kind → IsServed env allowed c (making env term) (calling env term)
 served env allowed term c there h = subst (λ o. IsServed env allowed c (making_of o) (calling_of env o)) (sym there) (served_kind env allowed c c.kind h)
 
+-- ---- where variables stand
+
+-- each of these paths is one of those
+abbrev pub Among : List Path → List Path → Type 0
+Among xs ys = (p : Path) → Contains xs p → Contains ys p
+
+-- where a variable stands is of its type
+pub record IsTypedPlace (env : Environment) (t : Term) (o : Option Path) (ty : TypeId) : Type 0 where
+  pub path : Path
+  pub is : o ≡ Some path
+  pub typed : IsPathOf env t path ty
+
+-- so of each variable with its type
+abbrev pub AreTypedPlaces : Environment → Term → List (TypeId × ℕ) → Places → Type 0
+AreTypedPlaces env t vars places = (ty : TypeId) (x : ℕ) → Contains vars (ty, x) → IsTypedPlace env t (places x) ty
+
+-- where a variable stands may be read behind these tests wherever these calls were made
+pub record IsStandingPlace (tests : List Test) (done : List Path) (o : Option Path) : Type 0 where
+  pub path : Path
+  pub is : o ≡ Some path
+  pub stands : (later : List Path) → Among done later → StandsOn tests later path
+
+-- so of each variable
+abbrev pub AreStandingPlaces : (tests : List Test) (done : List Path) → List (TypeId × ℕ) → Places → Type 0
+AreStandingPlaces tests done vars places = (ty : TypeId) (x : ℕ) → Contains vars (ty, x) → IsStandingPlace tests done (places x)
+
+-- variables of patterns
+pub typed_places : (env : Environment) (t : Term) (tests : List Test) (vars : List (TypeId × ℕ)) (places : Places) → ArePlacedAs env t tests vars places → AreTypedPlaces env t vars places
+typed_places env t tests vars places h ty x c = let k = h ty x c in record { path = k.path; is = k.is; typed = k.typed }
+
+pub standing_places : (env : Environment) (t : Term) (tests : List Test) (done : List Path) (vars : List (TypeId × ℕ)) (places : Places) → ArePlacedAs env t tests vars places → AreStandingPlaces tests done vars places
+standing_places env t tests done vars places h ty x c = let k = h ty x c in record { path = k.path; is = k.is; stands = λ later a. k.stands later }
+
+-- where more calls were made
+later_places : (tests : List Test) (done later : List Path) (vars : List (TypeId × ℕ)) (places : Places) → Among done later → AreStandingPlaces tests done vars places → AreStandingPlaces tests later vars places
+later_places tests done later vars places a h ty x c = let k = h ty x c in record { path = k.path; is = k.is; stands = λ more b. k.stands more (λ p d. b p (a p d)) }
+
+-- what holds of a new variable's path, and of where each other stands, holds of all
+with_place : (P : TypeId → Option Path → Type 0) (vars : List (TypeId × ℕ)) (places : Places) (x : ℕ) (of : TypeId) (p : Path) → IsNew vars x → P of (Some p) → ((ty : TypeId) (y : ℕ) → Contains vars (ty, y) → P ty (places y))
+    → (ty : TypeId) (y : ℕ) → Contains ((of, x) ∷ vars) (ty, y) → P ty (with places x p y)
+with_place P vars places x of p new h k ty y c =
+    ⊎_elim (λ (e : (of, x) ≡ (ty, y)). subst (λ (v : TypeId × ℕ). P v.0 (with places x p v.1)) e (subst (λ b. P of (cond b (Some p) (places x))) (sym (eq-eqb x x refl)) h))
+    (λ d. subst (λ b. P ty (cond b (Some p) (places y))) (sym (ne_eqb x y (λ e. new ty (subst (λ z. Contains vars (ty, z)) (sym e) d)))) (k ty y d)) (contained_cases (of, x) vars (ty, y) c)
+
 -- ---- paths of right sides
 
-module _ (env : Environment) (t : Term) (allowed : Bool) (vars : List (TypeId × ℕ)) (tests : List Test) (places : Places) (placed : ArePlacedAs env t tests vars places) where
+module _ (env : Environment) (t : Term) (allowed : Bool) (tests : List Test) where
   -- the answer of an external term has its type
   answer_typed : (kind : ReturnKind) → AnswersOnce kind → (term : TermId) (c : Term) (name : List ℕ) (ps : Paths) (k : ℕ) (ty : TypeId) → calling env term ≡ ByTurns (External name) kind → slice_get env.terms term.0 ≡ Some c → c.ret_ty ≡ ty → ArePathsOf env t ps c.arg_tys
       → IsPathOf env t (answer_path (ByTurns (External name) kind) (Called term ps k)) ty
@@ -90,28 +136,32 @@ module _ (env : Environment) (t : Term) (allowed : Bool) (vars : List (TypeId ×
 
   mutual
     -- the path of a typed expression has its type
-    pub path_typed : (e : Expr) (n : ℕ) (ty : TypeId) → IsExprOf env allowed vars ty e → IsPathOf env t (path env e places n) ty
-    path_typed (expr.Var of x) n ty h = let k = placed ty x.0 h.1 in subst (λ o. IsPathOf env t (path_or o) ty) (sym k.is) k.typed
-    path_typed (expr.ConstBool b) n ty h = h
-    path_typed (expr.ConstInt of v) n ty h = h
-    path_typed (expr.ConstPrim of name) n ty h = h.1
-    path_typed (expr.Term of term es) n ty h =
+    pub path_typed : (vars : List (TypeId × ℕ)) (places : Places) → AreTypedPlaces env t vars places → (e : Expr) (n : ℕ) (ty : TypeId) → IsExprOf env allowed vars ty e → IsPathOf env t (path env e places n) ty
+    path_typed vars places placed (expr.Var of x) n ty h = let k = placed ty x.0 h.1 in subst (λ o. IsPathOf env t (path_or o) ty) (sym k.is) k.typed
+    path_typed vars places placed (expr.ConstBool b) n ty h = h
+    path_typed vars places placed (expr.ConstInt of v) n ty h = h
+    path_typed vars places placed (expr.ConstPrim of name) n ty h = h.1
+    path_typed vars places placed (expr.Term of term es) n ty h =
         let c = some_of (slice_get env.terms term.0) _ h.1 in
-        term_typed term c.0 (all_paths env es places n) (instance_of (calling env term) (n + impure_all env es)) ty (served env allowed term c.0 c.1 c.2.0) refl c.1 c.2.1 (paths_typed es n c.0.arg_tys c.2.2)
-    path_typed (expr.Let of bindings inner) n ty h = absurd h
+        term_typed term c.0 (all_paths env es places n) (instance_of (calling env term) (n + impure_all env es)) ty (served env allowed term c.0 c.1 c.2.0) refl c.1 c.2.1 (paths_typed vars places placed es n c.0.arg_tys c.2.2)
+    path_typed vars places placed (expr.Let of bindings inner) n ty h = path_typed (let_variables vars bindings) (let_places env bindings places n) (let_typed vars places placed bindings n h.1) inner (n + impure_bindings env bindings) ty h.2
 
     -- so of expressions in order
-    paths_typed : (es : Exprs) (n : ℕ) (tys : List TypeId) → AreExprsOf env allowed vars tys es → ArePathsOf env t (all_paths env es places n) tys
-    paths_typed NoExpr n [] h = tt
-    paths_typed (AnExpr e es) n (ty ∷ tys) h = (path_typed e n ty h.0, paths_typed es (n + impure env e) tys h.1)
-    paths_typed NoExpr n (ty ∷ tys) h = absurd h
-    paths_typed (AnExpr e es) n [] h = absurd h
+    paths_typed : (vars : List (TypeId × ℕ)) (places : Places) → AreTypedPlaces env t vars places → (es : Exprs) (n : ℕ) (tys : List TypeId) → AreExprsOf env allowed vars tys es → ArePathsOf env t (all_paths env es places n) tys
+    paths_typed vars places placed NoExpr n [] h = tt
+    paths_typed vars places placed (AnExpr e es) n (ty ∷ tys) h = (path_typed vars places placed e n ty h.0, paths_typed vars places placed es (n + impure env e) tys h.1)
+    paths_typed vars places placed NoExpr n (ty ∷ tys) h = absurd h
+    paths_typed vars places placed (AnExpr e es) n [] h = absurd h
+
+    -- so of where the variables of a `let` stand
+    pub let_typed : (vars : List (TypeId × ℕ)) (places : Places) → AreTypedPlaces env t vars places → (bs : LetBindings) (n : ℕ) → AreBindingsOf env allowed vars bs → AreTypedPlaces env t (let_variables vars bs) (let_places env bs places n)
+    let_typed vars places placed NoBinding n h = placed
+    let_typed vars places placed (ABinding x of e bs) n h =
+        let p = path env e places n in
+        let_typed ((of, x.0) ∷ vars) (with places x.0 p)
+        (with_place (λ ty o. IsTypedPlace env t o ty) vars places x.0 of p h.0 (record { path = p; is = refl; typed = path_typed vars places placed e n of h.1 }) placed) bs (n + impure env e) h.2
 
   -- ---- they stand on their calls
-
-  -- each of these paths is one of those
-  abbrev Among : List Path → List Path → Type 0
-  Among xs ys = (p : Path) → Contains xs p → Contains ys p
 
   -- an answer stands on its call
   stands_by : (kind : ReturnKind) (callee : Callee) (done : List Path) (term : TermId) (ps : Paths) (k : ℕ) → Contains done (Called term ps k) → StandsOn tests done (answer_path (ByTurns callee kind) (Called term ps k))
@@ -127,28 +177,46 @@ module _ (env : Environment) (t : Term) (allowed : Bool) (vars : List (TypeId ×
 
   mutual
     -- the value of a typed expression stands on the calls within it
-    pub path_stands : (e : Expr) (n : ℕ) (ty : TypeId) (done : List Path) → IsExprOf env allowed vars ty e → Among (calls env e places n) done → StandsOn tests done (path env e places n)
-    path_stands (expr.Var of x) n ty done h a = let k = placed ty x.0 h.1 in subst (λ o. StandsOn tests done (path_or o)) (sym k.is) (k.stands done)
-    path_stands (expr.ConstBool b) n ty done h a = tt
-    path_stands (expr.ConstInt of v) n ty done h a = tt
-    path_stands (expr.ConstPrim of name) n ty done h a = tt
-    path_stands (expr.Term of term es) n ty done h a =
+    pub path_stands : (vars : List (TypeId × ℕ)) (places : Places) (done : List Path) → AreStandingPlaces tests done vars places → (e : Expr) (n : ℕ) (ty : TypeId) → IsExprOf env allowed vars ty e → Among (calls env e places n) done → StandsOn tests done (path env e places n)
+    path_stands vars places done placed (expr.Var of x) n ty h a = let k = placed ty x.0 h.1 in subst (λ o. StandsOn tests done (path_or o)) (sym k.is) (k.stands done (λ p c. c))
+    path_stands vars places done placed (expr.ConstBool b) n ty h a = tt
+    path_stands vars places done placed (expr.ConstInt of v) n ty h a = tt
+    path_stands vars places done placed (expr.ConstPrim of name) n ty h a = tt
+    path_stands vars places done placed (expr.Term of term es) n ty h a =
         let c = some_of (slice_get env.terms term.0) _ h.1 in
         let last = if_ordered (calling env term) (call_path env term (all_paths env es places n) (n + impure_all env es)) in
         term_stands term c.0 done (all_paths env es places n) (instance_of (calling env term) (n + impure_all env es)) (served env allowed term c.0 c.1 c.2.0)
-        (paths_stand es n c.0.arg_tys done c.2.2 (λ p d. a p (Contains-append_left (calls_all env es places n) last p d))) (λ p d. a p (Contains-append_right (calls_all env es places n) last p d))
-    path_stands (expr.Let of bindings inner) n ty done h a = absurd h
+        (paths_stand vars places done placed es n c.0.arg_tys c.2.2 (λ p d. a p (Contains-append_left (calls_all env es places n) last p d))) (λ p d. a p (Contains-append_right (calls_all env es places n) last p d))
+    path_stands vars places done placed (expr.Let of bindings inner) n ty h a =
+        let mid = let_places env bindings places n in
+        let m = n + impure_bindings env bindings in
+        path_stands (let_variables vars bindings) mid done (let_stands vars places done placed bindings n h.1 (λ p c. a p (Contains-append_left (calls_bindings env bindings places n) (calls env inner mid m) p c))) inner m ty h.2
+        (λ p c. a p (Contains-append_right (calls_bindings env bindings places n) (calls env inner mid m) p c))
 
     -- so of expressions in order
-    paths_stand : (es : Exprs) (n : ℕ) (tys : List TypeId) (done : List Path) → AreExprsOf env allowed vars tys es → Among (calls_all env es places n) done → AllStandOn tests done (all_paths env es places n)
-    paths_stand NoExpr n [] done h a = tt
-    paths_stand (AnExpr e es) n (ty ∷ tys) done h a =
+    paths_stand : (vars : List (TypeId × ℕ)) (places : Places) (done : List Path) → AreStandingPlaces tests done vars places → (es : Exprs) (n : ℕ) (tys : List TypeId) → AreExprsOf env allowed vars tys es → Among (calls_all env es places n) done
+        → AllStandOn tests done (all_paths env es places n)
+    paths_stand vars places done placed NoExpr n [] h a = tt
+    paths_stand vars places done placed (AnExpr e es) n (ty ∷ tys) h a =
         let n1 = n + impure env e in (
-          path_stands e n ty done h.0 (λ p c. a p (Contains-append_left (calls env e places n) (calls_all env es places n1) p c)),
-          paths_stand es n1 tys done h.1 (λ p c. a p (Contains-append_right (calls env e places n) (calls_all env es places n1) p c)),
+          path_stands vars places done placed e n ty h.0 (λ p c. a p (Contains-append_left (calls env e places n) (calls_all env es places n1) p c)),
+          paths_stand vars places done placed es n1 tys h.1 (λ p c. a p (Contains-append_right (calls env e places n) (calls_all env es places n1) p c)),
         )
-    paths_stand NoExpr n (ty ∷ tys) done h a = absurd h
-    paths_stand (AnExpr e es) n [] done h a = absurd h
+    paths_stand vars places done placed NoExpr n (ty ∷ tys) h a = absurd h
+    paths_stand vars places done placed (AnExpr e es) n [] h a = absurd h
+
+    -- so of where the variables of a `let` stand
+    let_stands : (vars : List (TypeId × ℕ)) (places : Places) (done : List Path) → AreStandingPlaces tests done vars places → (bs : LetBindings) (n : ℕ) → AreBindingsOf env allowed vars bs → Among (calls_bindings env bs places n) done
+        → AreStandingPlaces tests done (let_variables vars bs) (let_places env bs places n)
+    let_stands vars places done placed NoBinding n h a = placed
+    let_stands vars places done placed (ABinding x of e bs) n h a =
+        let p = path env e places n in
+        let n1 = n + impure env e in
+        let rest = calls_bindings env bs (with places x.0 p) n1 in
+        let_stands ((of, x.0) ∷ vars) (with places x.0 p) done
+        (with_place (λ ty o. IsStandingPlace tests done o) vars places x.0 of p h.0
+        (record { path = p; is = refl; stands = λ later b. path_stands vars places later (later_places tests done later vars places b placed) e n of h.1 (λ q c. b q (a q (Contains-append_left (calls env e places n) rest q c))) }) placed) bs n1 h.2
+        (λ q c. a q (Contains-append_right (calls env e places n) rest q c))
 
   -- ---- the calls are ready
 
@@ -192,35 +260,60 @@ module _ (env : Environment) (t : Term) (allowed : Bool) (vars : List (TypeId ×
 
   mutual
     -- the calls of a typed expression
-    pub calls_serializable : (e : Expr) (n : ℕ) (ty : TypeId) (ps done : List Path) → IsExprOf env allowed vars ty e → allowed ≡ may_be_nothing (kind_of t.kind) → InnersFit ps → Among (expr_paths env e places n) ps → AreSerializableCalls env t tests ps done (calls env e places n)
-    calls_serializable (expr.Var of x) n ty ps done h same fit a = tt
-    calls_serializable (expr.ConstBool b) n ty ps done h same fit a = tt
-    calls_serializable (expr.ConstInt of v) n ty ps done h same fit a = tt
-    calls_serializable (expr.ConstPrim of name) n ty ps done h same fit a = tt
-    calls_serializable (expr.Term of term es) n ty ps done h same fit a =
+    pub calls_serializable : (vars : List (TypeId × ℕ)) (places : Places) (ps done : List Path) → AreTypedPlaces env t vars places → AreStandingPlaces tests done vars places → (e : Expr) (n : ℕ) (ty : TypeId) → IsExprOf env allowed vars ty e
+        → allowed ≡ may_be_nothing (kind_of t.kind) → InnersFit ps → Among (expr_paths env e places n) ps → AreSerializableCalls env t tests ps done (calls env e places n)
+    calls_serializable vars places ps done typed placed (expr.Var of x) n ty h same fit a = tt
+    calls_serializable vars places ps done typed placed (expr.ConstBool b) n ty h same fit a = tt
+    calls_serializable vars places ps done typed placed (expr.ConstInt of v) n ty h same fit a = tt
+    calls_serializable vars places ps done typed placed (expr.ConstPrim of name) n ty h same fit a = tt
+    calls_serializable vars places ps done typed placed (expr.Term of term es) n ty h same fit a =
         let c = some_of (slice_get env.terms term.0) _ h.1 in
         let qs = all_paths env es places n in
         let q = call_path env term qs (n + impure_all env es) in
         serializable_more ps done (calls_all env es places n) (if_ordered (calling env term) q)
-        (all_calls_serializable es n c.0.arg_tys ps done c.2.2 same fit (λ p d. a p (Contains-append_left (exprs_paths env es places n) (with_inner (calling env term) q) p d)))
-        (λ later among made. term_serializable ps later term c.0 qs (instance_of (calling env term) (n + impure_all env es)) (served env allowed term c.0 c.1 c.2.0) refl c.1 (paths_typed es n c.0.arg_tys c.2.2) (paths_stand es n c.0.arg_tys later c.2.2 made) same fit
-        (λ p d. a p (Contains-append_right (exprs_paths env es places n) (with_inner (calling env term) q) p d)))
-    calls_serializable (expr.Let of bindings inner) n ty ps done h same fit a = absurd h
+        (all_calls_serializable vars places ps done typed placed es n c.0.arg_tys c.2.2 same fit (λ p d. a p (Contains-append_left (exprs_paths env es places n) (with_inner (calling env term) q) p d)))
+        (λ later among made. term_serializable ps later term c.0 qs (instance_of (calling env term) (n + impure_all env es)) (served env allowed term c.0 c.1 c.2.0) refl c.1 (paths_typed vars places typed es n c.0.arg_tys c.2.2)
+        (paths_stand vars places later (later_places tests done later vars places among placed) es n c.0.arg_tys c.2.2 made) same fit (λ p d. a p (Contains-append_right (exprs_paths env es places n) (with_inner (calling env term) q) p d)))
+    calls_serializable vars places ps done typed placed (expr.Let of bindings inner) n ty h same fit a =
+        let mid = let_places env bindings places n in
+        let m = n + impure_bindings env bindings in
+        let others = expr_paths env inner mid m in
+        serializable_more ps done (calls_bindings env bindings places n) (calls env inner mid m)
+        (let_calls_serializable vars places ps done typed placed bindings n h.1 same fit (λ p c. a p (Contains-append_left (bindings_paths env bindings places n) others p c)))
+        (λ later among made. calls_serializable (let_variables vars bindings) mid ps later (let_typed vars places typed bindings n h.1) (let_stands vars places later (later_places tests done later vars places among placed) bindings n h.1 made) inner m ty h.2 same fit
+        (λ p c. a p (Contains-append_right (bindings_paths env bindings places n) others p c)))
 
     -- those of expressions in order
-    all_calls_serializable : (es : Exprs) (n : ℕ) (tys : List TypeId) (ps done : List Path) → AreExprsOf env allowed vars tys es → allowed ≡ may_be_nothing (kind_of t.kind) → InnersFit ps → Among (exprs_paths env es places n) ps → AreSerializableCalls env t tests ps done (calls_all env es places n)
-    all_calls_serializable NoExpr n [] ps done h same fit a = tt
-    all_calls_serializable (AnExpr e es) n (ty ∷ tys) ps done h same fit a =
+    all_calls_serializable : (vars : List (TypeId × ℕ)) (places : Places) (ps done : List Path) → AreTypedPlaces env t vars places → AreStandingPlaces tests done vars places → (es : Exprs) (n : ℕ) (tys : List TypeId) → AreExprsOf env allowed vars tys es
+        → allowed ≡ may_be_nothing (kind_of t.kind) → InnersFit ps → Among (exprs_paths env es places n) ps → AreSerializableCalls env t tests ps done (calls_all env es places n)
+    all_calls_serializable vars places ps done typed placed NoExpr n [] h same fit a = tt
+    all_calls_serializable vars places ps done typed placed (AnExpr e es) n (ty ∷ tys) h same fit a =
         let n1 = n + impure env e in
         serializable_more ps done (calls env e places n) (calls_all env es places n1)
-        (calls_serializable e n ty ps done h.0 same fit (λ p c. a p (Contains-append_left (expr_paths env e places n) (exprs_paths env es places n1) p c)))
-        (λ later among made. all_calls_serializable es n1 tys ps later h.1 same fit (λ p c. a p (Contains-append_right (expr_paths env e places n) (exprs_paths env es places n1) p c)))
-    all_calls_serializable NoExpr n (ty ∷ tys) ps done h same fit a = absurd h
-    all_calls_serializable (AnExpr e es) n [] ps done h same fit a = absurd h
+        (calls_serializable vars places ps done typed placed e n ty h.0 same fit (λ p c. a p (Contains-append_left (expr_paths env e places n) (exprs_paths env es places n1) p c)))
+        (λ later among made. all_calls_serializable vars places ps later typed (later_places tests done later vars places among placed) es n1 tys h.1 same fit (λ p c. a p (Contains-append_right (expr_paths env e places n) (exprs_paths env es places n1) p c)))
+    all_calls_serializable vars places ps done typed placed NoExpr n (ty ∷ tys) h same fit a = absurd h
+    all_calls_serializable vars places ps done typed placed (AnExpr e es) n [] h same fit a = absurd h
+
+    -- those of the values of a `let`
+    let_calls_serializable : (vars : List (TypeId × ℕ)) (places : Places) (ps done : List Path) → AreTypedPlaces env t vars places → AreStandingPlaces tests done vars places → (bs : LetBindings) (n : ℕ) → AreBindingsOf env allowed vars bs
+        → allowed ≡ may_be_nothing (kind_of t.kind) → InnersFit ps → Among (bindings_paths env bs places n) ps → AreSerializableCalls env t tests ps done (calls_bindings env bs places n)
+    let_calls_serializable vars places ps done typed placed NoBinding n h same fit a = tt
+    let_calls_serializable vars places ps done typed placed (ABinding x of e bs) n h same fit a =
+        let p = path env e places n in
+        let mid = with places x.0 p in
+        let n1 = n + impure env e in
+        serializable_more ps done (calls env e places n) (calls_bindings env bs mid n1)
+        (calls_serializable vars places ps done typed placed e n of h.1 same fit (λ q c. a q (Contains-append_left (expr_paths env e places n) (bindings_paths env bs mid n1) q c)))
+        (λ later among made. let_calls_serializable ((of, x.0) ∷ vars) mid ps later
+        (with_place (λ ty o. IsTypedPlace env t o ty) vars places x.0 of p h.0 (record { path = p; is = refl; typed = path_typed vars places typed e n of h.1 }) typed)
+        (with_place (λ ty o. IsStandingPlace tests later o) vars places x.0 of p h.0
+        (record { path = p; is = refl; stands = λ more b. path_stands vars places more (later_places tests done more vars places (λ q d. b q (among q d)) placed) e n of h.1 (λ q d. b q (made q d)) }) (later_places tests done later vars places among placed)) bs n1 h.2 same fit
+        (λ q c. a q (Contains-append_right (expr_paths env e places n) (bindings_paths env bs mid n1) q c)))
 
 -- ---- their occurrences rise
 
-module _ (env : Environment) (allowed : Bool) (vars : List (TypeId × ℕ)) (places : Places) where
+module _ (env : Environment) (allowed : Bool) where
   -- the call of a typed term, if it is called, behind those of its arguments
   term_rises : {mk : Making} {d : Calling} (n k : ℕ) (term : TermId) (c : Term) (qs : Paths) (cs more : List Path) → IsServed env allowed c mk d → ((after : List Path) → AreRising (n + k) after → AreRising n (cs ++ after)) → AreRising (n + one_more d k) more
       → AreRising n ((cs ++ if_ordered d (term_path mk term qs (instance_of d (n + k)))) ++ more)
@@ -237,30 +330,45 @@ module _ (env : Environment) (allowed : Bool) (vars : List (TypeId × ℕ)) (pla
 
   mutual
     -- the calls of a typed expression, and those behind it
-    calls_rise : (e : Expr) (n : ℕ) (ty : TypeId) (more : List Path) → IsExprOf env allowed vars ty e → AreRising (n + impure env e) more → AreRising n (calls env e places n ++ more)
-    calls_rise (expr.Var of x) n ty more h r = none_rises n more r
-    calls_rise (expr.ConstBool b) n ty more h r = none_rises n more r
-    calls_rise (expr.ConstInt of v) n ty more h r = none_rises n more r
-    calls_rise (expr.ConstPrim of name) n ty more h r = none_rises n more r
-    calls_rise (expr.Term of term es) n ty more h r =
+    calls_rise : (vars : List (TypeId × ℕ)) (places : Places) (e : Expr) (n : ℕ) (ty : TypeId) (more : List Path) → IsExprOf env allowed vars ty e → AreRising (n + impure env e) more → AreRising n (calls env e places n ++ more)
+    calls_rise vars places (expr.Var of x) n ty more h r = none_rises n more r
+    calls_rise vars places (expr.ConstBool b) n ty more h r = none_rises n more r
+    calls_rise vars places (expr.ConstInt of v) n ty more h r = none_rises n more r
+    calls_rise vars places (expr.ConstPrim of name) n ty more h r = none_rises n more r
+    calls_rise vars places (expr.Term of term es) n ty more h r =
         let c = some_of (slice_get env.terms term.0) _ h.1 in
-        term_rises n (impure_all env es) term c.0 (all_paths env es places n) (calls_all env es places n) more (served env allowed term c.0 c.1 c.2.0) (λ after s. all_calls_rise es n c.0.arg_tys after c.2.2 s) r
-    calls_rise (expr.Let of bindings inner) n ty more h r = absurd h
+        term_rises n (impure_all env es) term c.0 (all_paths env es places n) (calls_all env es places n) more (served env allowed term c.0 c.1 c.2.0) (λ after s. all_calls_rise vars places es n c.0.arg_tys after c.2.2 s) r
+    calls_rise vars places (expr.Let of bindings inner) n ty more h r =
+        let mid = let_places env bindings places n in
+        let m = n + impure_bindings env bindings in
+        let assoc : n + (impure_bindings env bindings + impure env inner) ≡ m + impure env inner = omega arith in
+        subst (AreRising n) (sym (append_assoc (calls_bindings env bindings places n) (calls env inner mid m) more))
+        (let_calls_rise vars places bindings n (calls env inner mid m ++ more) h.1 (calls_rise (let_variables vars bindings) mid inner m ty more h.2 (subst (λ j. AreRising j more) assoc r)))
 
     -- those of expressions in order
-    all_calls_rise : (es : Exprs) (n : ℕ) (tys : List TypeId) (more : List Path) → AreExprsOf env allowed vars tys es → AreRising (n + impure_all env es) more → AreRising n (calls_all env es places n ++ more)
-    all_calls_rise NoExpr n [] more h r = none_rises n more r
-    all_calls_rise (AnExpr e es) n (ty ∷ tys) more h r =
+    all_calls_rise : (vars : List (TypeId × ℕ)) (places : Places) (es : Exprs) (n : ℕ) (tys : List TypeId) (more : List Path) → AreExprsOf env allowed vars tys es → AreRising (n + impure_all env es) more → AreRising n (calls_all env es places n ++ more)
+    all_calls_rise vars places NoExpr n [] more h r = none_rises n more r
+    all_calls_rise vars places (AnExpr e es) n (ty ∷ tys) more h r =
         let n1 = n + impure env e in
         let assoc : n + (impure env e + impure_all env es) ≡ n + impure env e + impure_all env es = omega arith in
         subst (AreRising n) (sym (append_assoc (calls env e places n) (calls_all env es places n1) more))
-        (calls_rise e n ty (calls_all env es places n1 ++ more) h.0 (all_calls_rise es n1 tys more h.1 (subst (λ j. AreRising j more) assoc r)))
-    all_calls_rise NoExpr n (ty ∷ tys) more h r = absurd h
-    all_calls_rise (AnExpr e es) n [] more h r = absurd h
+        (calls_rise vars places e n ty (calls_all env es places n1 ++ more) h.0 (all_calls_rise vars places es n1 tys more h.1 (subst (λ j. AreRising j more) assoc r)))
+    all_calls_rise vars places NoExpr n (ty ∷ tys) more h r = absurd h
+    all_calls_rise vars places (AnExpr e es) n [] more h r = absurd h
+
+    -- those of the values of a `let`
+    let_calls_rise : (vars : List (TypeId × ℕ)) (places : Places) (bs : LetBindings) (n : ℕ) (more : List Path) → AreBindingsOf env allowed vars bs → AreRising (n + impure_bindings env bs) more → AreRising n (calls_bindings env bs places n ++ more)
+    let_calls_rise vars places NoBinding n more h r = none_rises n more r
+    let_calls_rise vars places (ABinding x of e bs) n more h r =
+        let n1 = n + impure env e in
+        let mid = with places x.0 (path env e places n) in
+        let assoc : n + (impure env e + impure_bindings env bs) ≡ n + impure env e + impure_bindings env bs = omega arith in
+        subst (AreRising n) (sym (append_assoc (calls env e places n) (calls_bindings env bs mid n1) more))
+        (calls_rise vars places e n of (calls_bindings env bs mid n1 ++ more) h.1 (let_calls_rise ((of, x.0) ∷ vars) mid bs n1 more h.2 (subst (λ j. AreRising j more) assoc r)))
 
   -- the calls of a typed expression rise
-  pub expr_rises : (e : Expr) (n : ℕ) (ty : TypeId) → IsExprOf env allowed vars ty e → AreRising n (calls env e places n)
-  expr_rises e n ty h = subst (AreRising n) (append-nil (calls env e places n)) (calls_rise e n ty [] h tt)
+  pub expr_rises : (vars : List (TypeId × ℕ)) (places : Places) (e : Expr) (n : ℕ) (ty : TypeId) → IsExprOf env allowed vars ty e → AreRising n (calls env e places n)
+  expr_rises vars places e n ty h = subst (AreRising n) (append-nil (calls env e places n)) (calls_rise vars places e n ty [] h tt)
 
 -- ---- each occurrence once
 

@@ -1,6 +1,6 @@
 -- Rules whose parts have the types of their term are ready for a block.
-use Rattle.std.proofs.Common.{◌≡◌, ⊎_elim, ℕ, ◌+◌, Bool, true, false, cond, List, [], ◌∷◌, ◌++◌, map, Option, Some, None, refl, sym, ◌∙◌, subst}
-use Rattle.std.specs.Prelude.{All, Contains, slice_get}
+use Rattle.std.proofs.Common.{◌≡◌, ◌⊎◌, inl, inr, ⊎_elim, ℕ, ◌+◌, Bool, true, false, cond, eqb, List, [], ◌∷◌, ◌++◌, map, Option, Some, None, refl, sym, subst}
+use Rattle.std.specs.Prelude.{All, Contains, filter, slice_get}
 use Rattle.std.specs.List.{AllByRecursion}
 use Rattle.std.proofs.lemmas.List.Elements.{recursion_from_All, Contains-append_left, Contains-append_right, Contains-append_cases}
 use Rattle.isle_core.specs.declared.BindingId.{BindingId}
@@ -10,30 +10,33 @@ use Rattle.isle_core.specs.declared.rule_sets.Constraint.{Constraint}
 use Rattle.isle_core.specs.declared.rule_sets.FlatRule.{FlatRule}
 use Rattle.isle_core.specs.declared.rule_sets.RuleSet.{RuleSet}
 use Rattle.isle_core.specs.declared.types.Term.{Term}
+use Rattle.isle_core.specs.ConstraintType.{IsConstraintOf}
+use Rattle.isle_core.specs.Match.{with}
 use Rattle.isle_core.specs.PathType.{IsPathOf}
-use Rattle.isle_core.specs.Calling.{calling, kind_of, may_be_nothing, is_fallible, instance_of, impure, impure_all}
+use Rattle.isle_core.specs.Calling.{calling, kind_of, may_be_nothing, is_fallible, instance_of, impure, impure_all, impure_bindings}
 use Rattle.isle_core.specs.Expr as expr
-use Rattle.isle_core.specs.Expr.{Expr, Exprs, NoExpr, AnExpr}
+use Rattle.isle_core.specs.Expr.{Expr, Exprs, NoExpr, AnExpr, LetBindings, NoBinding, ABinding}
 use Rattle.isle_core.specs.Making.{Making, MakesVariant, MakesStruct, MakesNothing, making}
 use Rattle.isle_core.specs.Path as path_form
 use Rattle.isle_core.specs.Path.{Path, Nowhere, Called, Inner, MadeVariant, MadeStruct, Paths, at, paths_of}
-use Rattle.isle_core.specs.Serializable.{StandsOn, AreSerializableCalls, AreTestable, constraint_tests, IsFieldPath, IsSerializableRule, IsSerializable}
+use Rattle.isle_core.specs.Serializable.{StandsOn, AreSerializableCalls, IsTestable, AreTestable, AreComparable, constraint_tests, IsFieldPath, IsSerializableRule, IsSerializable}
 use Rattle.isle_core.specs.Rule.{Rule, Environment, rules_of}
 use Rattle.isle_core.specs.RuleSet.{is_test, equal_test}
-use Rattle.isle_core.specs.StandsFor.{IsFlat, AreFlat, StandsFor}
+use Rattle.isle_core.specs.StandsFor.{AreFirsts, no_more, again, first, IsFlat, AreFlat, StandsFor}
 use Rattle.isle_core.specs.OrderedCalls.{rule_calls}
-use Rattle.isle_core.specs.RightSide.{path, paths as all_paths, path_or, term_path, call_path}
-use Rattle.isle_core.specs.RulePaths.{args_paths, with_inner, expr_paths, exprs_paths, rule_paths, rules_paths}
-use Rattle.isle_core.specs.Tests.{Test, Places, no_places, args_tests, rule_tests, rule_places}
+use Rattle.isle_core.specs.RightSide.{path, paths as all_paths, path_or, term_path, call_path, answer_path, let_places}
+use Rattle.isle_core.specs.RulePaths.{args_paths, with_inner, expr_paths, exprs_paths, bindings_paths, rule_paths, rules_paths}
+use Rattle.isle_core.specs.Tests.{Test, Is, Equal, Never, is_constraint, Places, no_places, args_tests, rule_tests, rule_places}
 use Rattle.isle_core.proofs.CallOccurrences.{AreRising, rising_firsts}
 use Rattle.isle_core.proofs.Contained.{head_contained, tail_contained, contained_cases, none_contained}
+use Rattle.isle_core.proofs.ListLaws.{filter_keeps}
 use Rattle.isle_core.proofs.OpenedPaths.{IsOpened, IsOpenedPlace, AreOpened, args_opened, args_open}
 use Rattle.isle_core.proofs.SetMeans.{without_iflets}
 use Rattle.isle_ast.specs.Tree.{Def}
-use Rattle.isle_sema.specs.TypedRule.{IsExprOf, AreExprsOf, all_typed, IsRuleOf}
+use Rattle.isle_sema.specs.TypedRule.{let_variables, IsExprOf, AreExprsOf, AreBindingsOf, all_typed, IsRuleOf}
 use Rattle.isle_sema.specs.Typing.{Typed}
-use Rattle.isle_sema.proofs.TestablePatterns.{AreTestableAt, are_constraints, none_equal, rule_testable, ArePlacedAs, rule_placed, AreFieldsTyped, no_fields, one_field, both_fields, rule_fields}
-use Rattle.isle_sema.proofs.SerializableCalls.{some_of, path_typed, path_stands, calls_serializable, expr_rises, ordered_once}
+use Rattle.isle_sema.proofs.TestablePatterns.{AreAlso, stands_still, IsTestableAt, AreTestableAt, constraints_testable, rule_testable, HasConstraints, rule_placed, AreComparableAt, rule_compares, AreFieldsTyped, no_fields, one_field, both_fields, rule_fields}
+use Rattle.isle_sema.proofs.SerializableCalls.{some_of, AreTypedPlaces, typed_places, standing_places, path_typed, let_typed, path_stands, calls_serializable, expr_rises, ordered_once}
 use Rattle.isle_sema.proofs.TypedRules.{typed_of}
 
 -- ---- inner values
@@ -90,22 +93,76 @@ term_fallible env MakesNothing term ps j = call_fallible env term ps j (is_falli
 term_fallible env (MakesVariant ty variant) term ps j = made_fallible env (is_fallible (calling env term)) (MadeVariant ty variant ps) (λ other qs k e. cc) (λ other qs k e. cc)
 term_fallible env (MakesStruct ty) term ps j = made_fallible env (is_fallible (calling env term)) (MadeStruct ty ps) (λ other qs k e. cc) (λ other qs k e. cc)
 
+-- one of these paths alone
+among_fallible : (env : Environment) (xs : List Path) (p : Path) → Contains xs p → Fallible env xs → Fallible env (p ∷ [])
+among_fallible env xs p among h term qs k c = ⊎_elim (λ e. h term qs k (subst (Contains xs) e among)) (λ d. absurd (none_contained (Inner (Called term qs k)) d)) (contained_cases p [] (Inner (Called term qs k)) c)
+
+-- a call's value is the call or its inner value
+answer_among : (b : Bool) (p : Path) → Contains (cond b (p ∷ Inner p ∷ []) (p ∷ [])) (cond b (Inner p) p)
+answer_among true p = tail_contained p (Inner p ∷ []) (Inner p) (head_contained (Inner p) [])
+answer_among false p = head_contained p []
+
+-- so of where each variable stands
+abbrev AreFalliblePlaces : Environment → Places → Type 0
+AreFalliblePlaces env places = (x : ℕ) → Fallible env (path_or (places x) ∷ [])
+
+-- of arguments and fields it is so
+opened_places : (env : Environment) (places : Places) → AreOpened places → AreFalliblePlaces env places
+opened_places env places h x = one_fallible env (path_or (places x)) (place_apart (places x) (h x))
+
+-- of one variable more
+with_fallible : (env : Environment) (b : Bool) (p : Path) (o : Option Path) → Fallible env (p ∷ []) → Fallible env (path_or o ∷ []) → Fallible env (path_or (cond b (Some p) o) ∷ [])
+with_fallible env true p o h k = h
+with_fallible env false p o h k = k
+
+mutual
+  -- the value of an expression
+  path_fallible : (e : Expr) (env : Environment) (places : Places) (n : ℕ) → AreFalliblePlaces env places → Fallible env (path env e places n ∷ [])
+  path_fallible (expr.Var of x) env places n h = h x.0
+  path_fallible (expr.ConstBool b) env places n h = one_fallible env _ (λ term qs k e. cc)
+  path_fallible (expr.ConstInt of v) env places n h = one_fallible env _ (λ term qs k e. cc)
+  path_fallible (expr.ConstPrim of name) env places n h = one_fallible env (path_form.ConstPrim name) (λ term qs k e. cc)
+  path_fallible (expr.Term of term es) env places n h =
+      let ps = all_paths env es places n in
+      let j = instance_of (calling env term) (n + impure_all env es) in
+      let p = term_path (making env term) term ps j in
+      among_fallible env (with_inner (calling env term) p) (answer_path (calling env term) p) (answer_among (is_fallible (calling env term)) p) (term_fallible env (making env term) term ps j)
+  path_fallible (expr.Let of bindings inner) env places n h = path_fallible inner env (let_places env bindings places n) (n + impure_bindings env bindings) (let_fallible bindings env places n h)
+
+  -- where variables stand behind those of a `let`
+  let_fallible : (bs : LetBindings) (env : Environment) (places : Places) (n : ℕ) → AreFalliblePlaces env places → AreFalliblePlaces env (let_places env bs places n)
+  let_fallible NoBinding env places n h = h
+  let_fallible (ABinding x ty e more) env places n h =
+      let p = path env e places n in
+      let_fallible more env (with places x.0 p) (n + impure env e) (λ y. with_fallible env (eqb x.0 y) p (places y) (path_fallible e env places n h) (h y))
+
 mutual
   -- the paths of an expression
-  expr_fallible : (e : Expr) (env : Environment) (places : Places) (n : ℕ) → AreOpened places → Fallible env (expr_paths env e places n)
-  expr_fallible (expr.Var of x) env places n h = one_fallible env (path_or (places x.0)) (place_apart (places x.0) (h x.0))
+  expr_fallible : (e : Expr) (env : Environment) (places : Places) (n : ℕ) → AreFalliblePlaces env places → Fallible env (expr_paths env e places n)
+  expr_fallible (expr.Var of x) env places n h = h x.0
   expr_fallible (expr.ConstBool b) env places n h = one_fallible env _ (λ term qs k e. cc)
   expr_fallible (expr.ConstInt of v) env places n h = one_fallible env _ (λ term qs k e. cc)
   expr_fallible (expr.Term of term es) env places n h =
       both_fallible env (exprs_paths env es places n) (with_inner (calling env term) (call_path env term (all_paths env es places n) (n + impure_all env es))) (exprs_fallible es env places n h)
       (term_fallible env (making env term) term (all_paths env es places n) (instance_of (calling env term) (n + impure_all env es)))
   expr_fallible (expr.ConstPrim of name) env places n h = one_fallible env (path_form.ConstPrim name) (λ term qs k e. cc)
-  expr_fallible (expr.Let of bindings inner) env places n h = one_fallible env Nowhere (λ term qs k e. cc)
+  expr_fallible (expr.Let of bindings inner) env places n h =
+      let mid = let_places env bindings places n in
+      both_fallible env (bindings_paths env bindings places n) (expr_paths env inner mid (n + impure_bindings env bindings)) (bindings_fallible bindings env places n h) (expr_fallible inner env mid (n + impure_bindings env bindings) (let_fallible bindings env places n h))
 
   -- those of expressions in order
-  exprs_fallible : (es : Exprs) (env : Environment) (places : Places) (n : ℕ) → AreOpened places → Fallible env (exprs_paths env es places n)
+  exprs_fallible : (es : Exprs) (env : Environment) (places : Places) (n : ℕ) → AreFalliblePlaces env places → Fallible env (exprs_paths env es places n)
   exprs_fallible NoExpr env places n h term qs k c = absurd (none_contained (Inner (Called term qs k)) c)
   exprs_fallible (AnExpr e es) env places n h term qs k c = both_fallible env (expr_paths env e places n) (exprs_paths env es places (n + impure env e)) (expr_fallible e env places n h) (exprs_fallible es env places (n + impure env e) h) term qs k c
+
+  -- those of the values of a `let`
+  bindings_fallible : (bs : LetBindings) (env : Environment) (places : Places) (n : ℕ) → AreFalliblePlaces env places → Fallible env (bindings_paths env bs places n)
+  bindings_fallible NoBinding env places n h term qs k c = absurd (none_contained (Inner (Called term qs k)) c)
+  bindings_fallible (ABinding x ty e more) env places n h term qs k c =
+      let p = path env e places n in
+      let mid = with places x.0 p in
+      both_fallible env (expr_paths env e places n) (bindings_paths env more mid (n + impure env e)) (expr_fallible e env places n h)
+      (bindings_fallible more env mid (n + impure env e) (λ y. with_fallible env (eqb x.0 y) p (places y) (path_fallible e env places n h) (h y))) term qs k c
 
 -- arguments and fields
 opened_fallible : (env : Environment) (ps : List Path) → AllByRecursion IsOpened ps → Fallible env ps
@@ -117,7 +174,7 @@ rules_fallible : (rules : List Rule) (env : Environment) (n : ℕ) → Fallible 
 rules_fallible [] env n term qs k c = absurd (none_contained (Inner (Called term qs k)) c)
 rules_fallible (r ∷ rules) env n term qs k c =
     both_fallible env (rule_paths env r n) (rules_paths env rules (n + impure env r.rhs))
-    (both_fallible env (args_paths env r.args 0) (expr_paths env r.rhs (rule_places env r) n) (opened_fallible env (args_paths env r.args 0) (args_open env r.args 0)) (expr_fallible r.rhs env (rule_places env r) n (args_opened env r.args 0 no_places (λ z. tt))))
+    (both_fallible env (args_paths env r.args 0) (expr_paths env r.rhs (rule_places env r) n) (opened_fallible env (args_paths env r.args 0) (args_open env r.args 0)) (expr_fallible r.rhs env (rule_places env r) n (opened_places env (rule_places env r) (args_opened env r.args 0 no_places (λ z. tt)))))
     (rules_fallible rules env (n + impure env r.rhs)) term qs k c
 
 -- ---- fields
@@ -134,26 +191,38 @@ module _ (env : Environment) (t : Term) where
   inner_fields true p h = one_field env t p (Inner p ∷ []) (λ f. absurd (h f)) (one_field env t (Inner p) [] (λ f. absurd f) (no_fields env t))
   inner_fields false p h = one_field env t p [] (λ f. absurd (h f)) (no_fields env t)
 
-  module _ (allowed : Bool) (vars : List (TypeId × ℕ)) (tests : List Test) (places : Places) (placed : ArePlacedAs env t tests vars places) where
+  module _ (allowed : Bool) (tests : List Test) where
     mutual
       -- those of a typed right side
-      expr_fields : (e : Expr) (n : ℕ) (ty : TypeId) → IsExprOf env allowed vars ty e → AreFieldsTyped env t (expr_paths env e places n)
-      expr_fields (expr.Var of x) n ty h = one_field env t (path_or (places x.0)) [] (λ f. let k = placed ty x.0 h.1 in (ty, subst (λ o. IsPathOf env t (path_or o) ty) (sym k.is) k.typed)) (no_fields env t)
-      expr_fields (expr.ConstBool b) n ty h = one_field env t _ [] (λ f. absurd f) (no_fields env t)
-      expr_fields (expr.ConstInt of v) n ty h = one_field env t _ [] (λ f. absurd f) (no_fields env t)
-      expr_fields (expr.ConstPrim of name) n ty h = one_field env t (path_form.ConstPrim name) [] (λ f. absurd f) (no_fields env t)
-      expr_fields (expr.Term of term es) n ty h =
+      expr_fields : (vars : List (TypeId × ℕ)) (places : Places) → AreTypedPlaces env t vars places → (e : Expr) (n : ℕ) (ty : TypeId) → IsExprOf env allowed vars ty e → AreFieldsTyped env t (expr_paths env e places n)
+      expr_fields vars places placed (expr.Var of x) n ty h = one_field env t (path_or (places x.0)) [] (λ f. let k = placed ty x.0 h.1 in (ty, subst (λ o. IsPathOf env t (path_or o) ty) (sym k.is) k.typed)) (no_fields env t)
+      expr_fields vars places placed (expr.ConstBool b) n ty h = one_field env t _ [] (λ f. absurd f) (no_fields env t)
+      expr_fields vars places placed (expr.ConstInt of v) n ty h = one_field env t _ [] (λ f. absurd f) (no_fields env t)
+      expr_fields vars places placed (expr.ConstPrim of name) n ty h = one_field env t (path_form.ConstPrim name) [] (λ f. absurd f) (no_fields env t)
+      expr_fields vars places placed (expr.Term of term es) n ty h =
           let c = some_of (slice_get env.terms term.0) _ h.1 in
           let ps = all_paths env es places n in
-          both_fields env t (exprs_paths env es places n) (with_inner (calling env term) (call_path env term ps (n + impure_all env es))) (exprs_fields es n c.0.arg_tys c.2.2)
+          both_fields env t (exprs_paths env es places n) (with_inner (calling env term) (call_path env term ps (n + impure_all env es))) (exprs_fields vars places placed es n c.0.arg_tys c.2.2)
           (inner_fields (is_fallible (calling env term)) (call_path env term ps (n + impure_all env es)) (term_no_field (making env term) term ps (instance_of (calling env term) (n + impure_all env es))))
-      expr_fields (expr.Let of bindings inner) n ty h = absurd h
+      expr_fields vars places placed (expr.Let of bindings inner) n ty h =
+          let mid = let_places env bindings places n in
+          let m = n + impure_bindings env bindings in
+          both_fields env t (bindings_paths env bindings places n) (expr_paths env inner mid m) (bindings_fields vars places placed bindings n h.1) (expr_fields (let_variables vars bindings) mid (let_typed env t allowed tests vars places placed bindings n h.1) inner m ty h.2)
 
       -- those of expressions in order
-      exprs_fields : (es : Exprs) (n : ℕ) (tys : List TypeId) → AreExprsOf env allowed vars tys es → AreFieldsTyped env t (exprs_paths env es places n)
-      exprs_fields NoExpr n tys h = no_fields env t
-      exprs_fields (AnExpr e es) n (ty ∷ tys) h = both_fields env t (expr_paths env e places n) (exprs_paths env es places (n + impure env e)) (expr_fields e n ty h.0) (exprs_fields es (n + impure env e) tys h.1)
-      exprs_fields (AnExpr e es) n [] h = absurd h
+      exprs_fields : (vars : List (TypeId × ℕ)) (places : Places) → AreTypedPlaces env t vars places → (es : Exprs) (n : ℕ) (tys : List TypeId) → AreExprsOf env allowed vars tys es → AreFieldsTyped env t (exprs_paths env es places n)
+      exprs_fields vars places placed NoExpr n tys h = no_fields env t
+      exprs_fields vars places placed (AnExpr e es) n (ty ∷ tys) h =
+          both_fields env t (expr_paths env e places n) (exprs_paths env es places (n + impure env e)) (expr_fields vars places placed e n ty h.0) (exprs_fields vars places placed es (n + impure env e) tys h.1)
+      exprs_fields vars places placed (AnExpr e es) n [] h = absurd h
+
+      -- those of the values of a `let`
+      bindings_fields : (vars : List (TypeId × ℕ)) (places : Places) → AreTypedPlaces env t vars places → (bs : LetBindings) (n : ℕ) → AreBindingsOf env allowed vars bs → AreFieldsTyped env t (bindings_paths env bs places n)
+      bindings_fields vars places placed NoBinding n h = no_fields env t
+      bindings_fields vars places placed (ABinding x of e bs) n h =
+          let mid = with places x.0 (path env e places n) in
+          both_fields env t (expr_paths env e places n) (bindings_paths env bs mid (n + impure env e)) (expr_fields vars places placed e n of h.1)
+          (bindings_fields ((of, x.0) ∷ vars) mid (let_typed env t allowed tests vars places placed (ABinding x of e NoBinding) n (h.0, h.1, tt)) bs (n + impure env e) h.2)
 
   -- those of rules of a term
   rules_fields : (rs : List Rule) (n : ℕ) → AllByRecursion (IsRuleOf env t) rs → AreFieldsTyped env t (rules_paths env rs n)
@@ -163,7 +232,7 @@ module _ (env : Environment) (t : Term) where
       let tests = args_tests env r.args 0 no_places in
       both_fields env t (rule_paths env r n) (rules_paths env rs (n + impure env r.rhs))
       (both_fields env t (args_paths env r.args 0) (expr_paths env r.rhs places n) (rule_fields env t r.args h.0.args)
-      (expr_fields (may_be_nothing (kind_of t.kind)) (all_typed r.args) tests places (rule_placed env t tests r.args h.0.args h.0.once (λ y c. c)) r.rhs n t.ret_ty h.0.rhs))
+      (expr_fields (may_be_nothing (kind_of t.kind)) tests (all_typed r.args) places (typed_places env t tests (all_typed r.args) places (rule_placed env t tests r.args h.0.args h.0.variables (λ y e c. c))) r.rhs n t.ret_ty h.0.rhs))
       (rules_fields rs (n + impure env r.rhs) h.1)
 
 -- ---- rule sets
@@ -178,12 +247,51 @@ contained_map : {A B : Type 0} (f : A → B) (xs : List A) (x : A) → Contains 
 contained_map f [] x c = absurd (none_contained x c)
 contained_map f (y ∷ xs) x c = ⊎_elim (λ (s : y ≡ x). subst (λ z. Contains (map f (y ∷ xs)) (f z)) s (head_contained (f y) (map f xs))) (λ d. tail_contained (f y) (map f xs) (f x) (contained_map f xs x d)) (contained_cases y xs x c)
 
--- constraints of bindings, whose tests are ready
-testable : (env : Environment) (t : Term) (ps : List Path) (before : List Test) (cs : List (BindingId × Constraint)) → AreTestableAt env t before (map (is_test ps) cs) → AreTestable env t ps before cs
-testable env t ps before [] h = tt
-testable env t ps before (c ∷ cs) h = (record { ty = h.0.ty; path = h.0.path; stands = h.0.stands; constraint = h.0.constraint }, testable env t ps (is_test ps c ∷ before) cs h.1)
+-- what is among items was seen before, or is among their firsts
+firsts_hold : {A : Type 0} {seen xs ys : List A} (x : A) → AreFirsts seen xs ys → Contains xs x → Contains seen x ⊎ Contains ys x
+firsts_hold x (no_more seen) c = absurd (none_contained x c)
+firsts_hold x (again seen y xs ys s more) c = ⊎_elim (λ (e : y ≡ x). inl (subst (Contains seen) e s)) (λ d. firsts_hold x more d) (contained_cases y xs x c)
+firsts_hold x (first seen y xs ys new more) c =
+    ⊎_elim (λ (e : y ≡ x). inr (subst (Contains (y ∷ ys)) e (head_contained y ys)))
+    (λ d. ⊎_elim (λ s. ⊎_elim (λ (e : y ≡ x). inr (subst (Contains (y ∷ ys)) e (head_contained y ys))) (λ k. inl k) (contained_cases y seen x s)) (λ k. inr (tail_contained y ys x k)) (firsts_hold x more d))
+    (contained_cases y xs x c)
+
+-- a constraint is the test of its binding's path
+is_same : (p q : Path) (c d : Constraint) → Is p c ≡ Is q d → (p ≡ q) × (c ≡ d)
+is_same p q c d e = (cc, cc)
+
+-- a ready test of a binding's path
+test_ready : (env : Environment) (t : Term) (ps : List Path) (before seen : List Test) (p : Path) (c : Constraint) (b : BindingId × Constraint) → Is p c ≡ is_test ps b → AreAlso before seen → IsTestableAt env t before p c → IsTestable env t ps seen b
+test_ready env t ps before seen p c b e a h =
+    let s = is_same p (at ps b.0) c b.1 e in
+    record { ty = h.ty; path = subst (λ q. IsPathOf env t q h.ty) s.0 h.path; stands = subst (StandsOn seen []) s.0 (stands_still p before seen [] a h.stands); constraint = subst (λ d. IsConstraintOf env d h.ty) s.1 h.constraint }
+
+-- the head and the rest of equal lists
+list_same : {A : Type 0} (x y : A) (xs ys : List A) → x ∷ xs ≡ y ∷ ys → (x ≡ y) × (xs ≡ ys)
+list_same x y xs ys e = (cc, cc)
+
+-- constraints of bindings are ready that are the firsts of tests which are: what is behind others was seen behind them
+testable : {seen xs ys : List Test} (env : Environment) (t : Term) (ps : List Path) → AreFirsts seen xs ys → (before : List Test) (cs : List (BindingId × Constraint)) → AreTestableAt env t before xs → ys ≡ map (is_test ps) cs → AreAlso before seen → AreTestable env t ps seen cs
+testable env t ps (no_more seen) before [] h e a = tt
+testable env t ps (no_more seen) before (b ∷ cs) h e a = absurd cc
+testable env t ps (again seen (Is p c) xs ys s more) before cs h e a = testable env t ps more (Is p c ∷ before) cs h.1 e (λ y d. ⊎_elim (λ (k : Is p c ≡ y). subst (Contains seen) k s) (a y) (contained_cases (Is p c) before y d))
+testable env t ps (again seen (Equal p q) xs ys s more) before cs h e a = testable env t ps more before cs h e a
+testable env t ps (again seen Never xs ys s more) before cs h e a = testable env t ps more before cs h e a
+testable env t ps (first seen (Is p c) xs ys new more) before [] h e a = absurd cc
+testable env t ps (first seen (Is p c) xs ys new more) before (b ∷ cs) h e a =
+    let k = list_same (Is p c) (is_test ps b) ys (map (is_test ps) cs) e in
+    let still : AreAlso (Is p c ∷ before) (Is p c ∷ seen) = λ y d. ⊎_elim (λ (j : Is p c ≡ y). subst (Contains (Is p c ∷ seen)) j (head_contained (Is p c) seen)) (λ j. tail_contained (Is p c) seen y (a y j)) (contained_cases (Is p c) before y d) in
+    (test_ready env t ps before seen p c b k.0 a h.0, subst (λ x. AreTestable env t ps (x ∷ seen) cs) k.0 (testable env t ps more (Is p c ∷ before) cs h.1 k.1 still))
+testable env t ps (first seen (Equal p q) xs ys new more) before [] h e a = absurd cc
+testable env t ps (first seen (Equal p q) xs ys new more) before (b ∷ cs) h e a = absurd cc
+testable env t ps (first seen Never xs ys new more) before [] h e a = absurd cc
+testable env t ps (first seen Never xs ys new more) before (b ∷ cs) h e a = absurd cc
 
 module _ (env : Environment) (t : Term) (ps : List Path) (fit : Fallible env ps) where
+  -- an equality of bindings whose paths may be compared is ready
+  compared : (qs : List Path) (tests : List Test) (e : BindingId × BindingId) → AreComparableAt env t tests (at qs e.0) (at qs e.1) → AreComparable env t qs tests e
+  compared qs tests e k = record { ty = k.ty; left = k.left; left_stands = k.left_stands; right = k.right; right_stands = k.right_stands }
+
   -- a flat rule that is a typed rule is ready
   flat_serializable : (r : Rule) (n : ℕ) (f : FlatRule) → IsFlat env ps r n f → IsRuleOf env t r → ((p : Path) → Contains (rule_paths env r n) p → Contains ps p) → IsSerializableRule env t ps f
   flat_serializable r n f flat h among =
@@ -191,20 +299,23 @@ module _ (env : Environment) (t : Term) (ps : List Path) (fit : Fallible env ps)
       let vars = all_typed r.args in
       let places = rule_places env r in
       let tests = constraint_tests ps f in
-      let none : rule_tests env r ≡ args_tests env r.args 0 no_places = without_iflets env r h.iflets in
-      let ready : AreTestableAt env t [] (rule_tests env r) = subst (AreTestableAt env t []) (sym none) (rule_testable env t r.args h.args h.once) in
-      let tested : tests ≡ rule_tests env r = flat.constraints ∙ are_constraints env t [] (rule_tests env r) ready in
-      let placed = rule_placed env t tests r.args h.args h.once (λ y c. subst (λ ts. Contains ts y) (sym (tested ∙ none)) c) in
+      let put = args_tests env r.args 0 no_places in
+      let none : rule_tests env r ≡ put = without_iflets env r h.iflets in
+      let firsts : AreFirsts [] (filter is_constraint put) tests = subst (λ ts. AreFirsts [] (filter is_constraint ts) tests) none flat.constraints in
+      let ready : AreTestableAt env t [] (filter is_constraint put) = constraints_testable env t [] put (rule_testable env t r.args h.args) in
+      let tested : HasConstraints tests put = λ y e c. ⊎_elim (λ d. absurd (none_contained y d)) (λ d. d) (firsts_hold y firsts (filter_keeps is_constraint put y c e)) in
+      let placed = rule_placed env t tests r.args h.args h.variables tested in
+      let typed = typed_places env t tests vars places placed in
       let rises = expr_rises env allowed vars places r.rhs n t.ret_ty h.rhs in
       let same : map (at ps) f.ordered ≡ rule_calls env r n = rising_firsts n (rule_calls env r n) (map (at ps) f.ordered) rises flat.ordered in
       record {
-        constraints = testable env t ps [] f.constraints (subst (AreTestableAt env t []) (sym tested) ready);
-        equals = each _ f.equals (λ e c. absurd (none_equal env t [] (rule_tests env r) (at ps e.0) (at ps e.1) ready
-            (flat.no_other (equal_test ps e) (Contains-append_right (map (is_test ps) f.constraints) (map (equal_test ps) f.equals) (equal_test ps e) (contained_map (equal_test ps) f.equals e c))).0));
-        calls = subst (AreSerializableCalls env t tests ps []) (sym same) (calls_serializable env t allowed vars tests places placed r.rhs n t.ret_ty ps [] h.rhs refl fit (λ p c. among p (Contains-append_right (args_paths env r.args 0) (expr_paths env r.rhs places n) p c)));
+        constraints = testable env t ps firsts [] f.constraints ready refl (λ y c. c);
+        equals = each _ f.equals (λ e c. compared ps tests e (rule_compares env t tests r.args h.args h.variables tested (at ps e.0) (at ps e.1)
+            (subst (λ ts. Contains ts (equal_test ps e)) none (flat.no_other (equal_test ps e) (Contains-append_right (map (is_test ps) f.constraints) (map (equal_test ps) f.equals) (equal_test ps e) (contained_map (equal_test ps) f.equals e c))).0)));
+        calls = subst (AreSerializableCalls env t tests ps []) (sym same) (calls_serializable env t allowed tests vars places ps [] typed (standing_places env t tests [] vars places placed) r.rhs n t.ret_ty h.rhs refl fit (λ p c. among p (Contains-append_right (args_paths env r.args 0) (expr_paths env r.rhs places n) p c)));
         once = ordered_once env ps f.ordered n (subst (AreRising n) (sym same) rises);
-        result = subst (λ p. IsPathOf env t p t.ret_ty) (sym flat.result) (path_typed env t allowed vars tests places placed r.rhs n t.ret_ty h.rhs);
-        stands = subst (StandsOn tests (map (at ps) f.ordered)) (sym flat.result) (subst (λ done. StandsOn tests done (path env r.rhs places n)) (sym same) (path_stands env t allowed vars tests places placed r.rhs n t.ret_ty (rule_calls env r n) h.rhs (λ p c. c)));
+        result = subst (λ p. IsPathOf env t p t.ret_ty) (sym flat.result) (path_typed env t allowed tests vars places typed r.rhs n t.ret_ty h.rhs);
+        stands = subst (StandsOn tests (map (at ps) f.ordered)) (sym flat.result) (subst (λ done. StandsOn tests done (path env r.rhs places n)) (sym same) (path_stands env t allowed tests vars places (rule_calls env r n) (standing_places env t tests (rule_calls env r n) vars places placed) r.rhs n t.ret_ty h.rhs (λ p c. c)));
       }
 
   -- so of rules in order

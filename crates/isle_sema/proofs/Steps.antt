@@ -1,6 +1,7 @@
 -- Patterns and expressions that are passed one after the other: what is left.
-use Rattle.std.proofs.Common.{◌≡◌, ℕ, zero, suc, ◌+◌, ◌<◌, ◌≤◌, Bool, true, false, cond, List, [], ◌∷◌, ◌++◌, length, map, get_or, Option, Some, None, refl, sym, ap, ◌∙◌, arith}
+use Rattle.std.proofs.Common.{◌≡◌, ℕ, zero, suc, ◌+◌, ◌<◌, ◌≤◌, Bool, true, false, cond, List, [], ◌∷◌, ◌++◌, length, map, get_or, Option, Some, None, refl, sym, ap, ◌∙◌, subst, arith}
 use Rattle.std.specs.Prelude.{drop, option_map, slice_get}
+use Rattle.std.specs.Global.{Vec}
 use Rattle.std.proofs.lemmas.List.{drop_all, drop_more, map-append, append_assoc, append-nil}
 use Rattle.std.proofs.lemmas.List.Sums.{fold-append}
 use Rattle.isle_core.specs.declared.TypeId.{TypeId}
@@ -18,6 +19,8 @@ use Rattle.isle_ast.specs.Views.{pattern, patterns_of as seen_patterns, expr, ex
 use Rattle.isle_declarations.specs.declared.collected.RuleDef.{RuleDef as CodeRuleDef}
 use Rattle.isle_sema.specs.declared.judged.Judged.{Judged}
 use Rattle.isle_declarations.specs.Collected.{rule as seen_rule}
+use Rattle.isle_sema.specs.ElaboratedAt.{expr_trees, IsExprAt, AreExprsAt}
+use Rattle.isle_sema.specs.Locals.{Local, Bound, locals_of}
 use Rattle.isle_sema.specs.Scope.{Scope}
 use Rattle.isle_sema.specs.Whole.{Whole}
 use Rattle.isle_sema.specs.Environment.{whole_of}
@@ -25,6 +28,7 @@ use Rattle.isle_sema.specs.PatternPass.{PatternPass, PatternsPass, pattern_pass,
 use Rattle.isle_sema.specs.ExprPass.{ExprPass, ExprsPass, expr_pass, exprs_pass, expr_before}
 use Rattle.isle_sema.specs.Judging.{judge, judge_all}
 use Rattle.isle_sema.specs.Taken.{taken_rule, taken_rules}
+use Rattle.isle_sema.proofs.LocalLaws.{kept_locals}
 
 -- ---- expected types
 
@@ -148,40 +152,66 @@ one_expr xs x None = refl
 one_expr xs x (Some r) = ap Some (all_more xs x r)
 
 -- the expressions from the i-th on
-abbrev pub exprs_left : List Def → List TypeId → Scope → List AstExpr → ℕ → ExprsPass
-exprs_left defs tys vars es i = exprs_pass (whole_of defs) vars (map Some (drop i tys)) (seen_exprs (map expr (drop i es)))
+abbrev pub exprs_left : List Def → List TypeId → List Local → ℕ → List AstExpr → ℕ → ExprsPass
+exprs_left defs tys locals next es i = exprs_pass (whole_of defs) locals next (map Some (drop i tys)) (seen_exprs (map expr (drop i es)))
 
 -- what all expressions come to is what was made and what is left
 pub record ExprsMade (defs : List Def) (all left : ExprsPass) (first now : Judged) (typed : List CodeExpr) (complete : Bool) : Type 0 where
   pub trees : all.trees ≡ cond complete (exprs_before (map elaborated_expr typed) left.trees) None
+  pub next : all.next ≡ left.next
   pub sites : judge_all (whole_of defs) first all.sites ≡ judge_all (whole_of defs) now left.sites
 
 -- an expression and the rest
 abbrev exprs_joined : ExprPass → ExprsPass → ExprsPass
-exprs_joined first rest = record { trees = expr_before first.tree rest.trees; sites = first.sites ++ rest.sites }
+exprs_joined first rest = record { trees = expr_before first.tree rest.trees; next = rest.next; sites = first.sites ++ rest.sites }
 
-exprs_are : (defs : List Def) (tys : List TypeId) (vars : Scope) (es : List AstExpr) (i : ℕ) (e d : AstExpr) (expected : Option TypeId) → i < length es → e ≡ get_or es i d → expected ≡ slice_get tys i
-    → exprs_left defs tys vars es i ≡ exprs_joined (expr_pass (whole_of defs) vars expected (expr e)) (exprs_left defs tys vars es (i + 1))
-exprs_are defs tys vars es i e d expected lt is at =
+exprs_are : (defs : List Def) (tys : List TypeId) (locals : List Local) (next : ℕ) (es : List AstExpr) (i : ℕ) (e d : AstExpr) (expected : Option TypeId) → i < length es → e ≡ get_or es i d → expected ≡ slice_get tys i
+    → exprs_left defs tys locals next es i ≡ exprs_joined (expr_pass (whole_of defs) locals next expected (expr e)) (exprs_left defs tys locals (expr_pass (whole_of defs) locals next expected (expr e)).next es (i + 1))
+exprs_are defs tys locals next es i e d expected lt is at =
     let w = whole_of defs in
     let others = seen_exprs (map expr (drop (i + 1) es)) in
-    ap (λ xs. exprs_pass w vars (map Some (drop i tys)) (seen_exprs (map expr xs))) (drop_more es i d lt ∙ ap (λ y. y ∷ drop (i + 1) es) (sym is))
-    ∙ ap (λ ty. exprs_joined (expr_pass w vars ty (expr e)) (exprs_pass w vars (later_expected (map Some (drop i tys))) others)) (first_got tys i ∙ sym at)
-    ∙ ap (λ os. exprs_joined (expr_pass w vars expected (expr e)) (exprs_pass w vars os others)) (later_got tys i)
+    ap (λ xs. exprs_pass w locals next (map Some (drop i tys)) (seen_exprs (map expr xs))) (drop_more es i d lt ∙ ap (λ y. y ∷ drop (i + 1) es) (sym is))
+    ∙ ap (λ ty. exprs_joined (expr_pass w locals next ty (expr e)) (exprs_pass w locals (expr_pass w locals next ty (expr e)).next (later_expected (map Some (drop i tys))) others)) (first_got tys i ∙ sym at)
+    ∙ ap (λ os. exprs_joined (expr_pass w locals next expected (expr e)) (exprs_pass w locals (expr_pass w locals next expected (expr e)).next os others)) (later_got tys i)
+
+-- the same at the variables that are in scope, which stay
+pub record AreExprsMade (defs : List Def) (tys : List TypeId) (es : List AstExpr) (i : ℕ) (start now : Bound) (first judged : Judged) (typed : List CodeExpr) (complete : Bool) : Type 0 where
+  pub made : ExprsMade defs (exprs_pass (whole_of defs) (locals_of start) start.next (map Some tys) (seen_exprs (map expr es))) (exprs_left defs tys (locals_of start) now.next es i) first judged typed complete
+  pub patterns : now.patterns ≡ start.patterns
+  pub lets : now.lets ≡ start.lets
+
+-- before the first
+pub exprs_begin : (defs : List Def) (tys : List TypeId) (es : List AstExpr) (start : Bound) (first : Judged) → AreExprsMade defs tys es 0 start start first first [] true
+exprs_begin defs tys es start first =
+    record { made = record { trees = none_before (exprs_pass (whole_of defs) (locals_of start) start.next (map Some tys) (seen_exprs (map expr es))).trees; next = refl; sites = refl }; patterns = refl; lets = refl }
+  where
+    none_before : (o : Option Exprs) → o ≡ exprs_before [] o
+    none_before None = refl
+    none_before (Some es) = refl
 
 -- one expression more
-pub exprs_more : (defs : List Def) (tys : List TypeId) (vars : Scope) (es : List AstExpr) (i : ℕ) (first now next : Judged) (typed more : List CodeExpr) (complete after : Bool) (e d : AstExpr) (expected : Option TypeId) (all : ExprsPass)
-    → i < length es → e ≡ get_or es i d → expected ≡ slice_get tys i → next ≡ judge_all (whole_of defs) now (expr_pass (whole_of defs) vars expected (expr e)).sites
-    → ((rest : Option Exprs) → cond complete (exprs_before (map elaborated_expr typed) (expr_before (expr_pass (whole_of defs) vars expected (expr e)).tree rest)) None ≡ cond after (exprs_before (map elaborated_expr more) rest) None)
-    → ExprsMade defs all (exprs_left defs tys vars es i) first now typed complete → ExprsMade defs all (exprs_left defs tys vars es (i + 1)) first next more after
-exprs_more defs tys vars es i first now next typed more complete after e d expected all lt is at sites tree h =
+pub exprs_more : (defs : List Def) (tys : List TypeId) (es : List AstExpr) (i : ℕ) (start now new : Bound) (first judged after : Judged) (typed more : List CodeExpr) (complete whole : Bool) (e d : AstExpr) (expected : Option TypeId) (found : Option CodeExpr)
+    → i < length es → e ≡ get_or es i d → expected ≡ slice_get tys i → IsExprAt (whole_of defs) expected (expr e) now new judged after found
+    → ((rest : Option Exprs) → cond complete (exprs_before (map elaborated_expr typed) (expr_before (option_map elaborated_expr found) rest)) None ≡ cond whole (exprs_before (map elaborated_expr more) rest) None)
+    → AreExprsMade defs tys es i start now first judged typed complete → AreExprsMade defs tys es (i + 1) start new first after more whole
+exprs_more defs tys es i start now new first judged after typed more complete whole e d expected found lt is at k tree h =
     let w = whole_of defs in
-    let one = expr_pass w vars expected (expr e) in
-    let rest = exprs_left defs tys vars es (i + 1) in
-    let step = exprs_are defs tys vars es i e d expected lt is at in
+    let same = kept_locals start now h.patterns h.lets in
+    let one = expr_pass w (locals_of start) now.next expected (expr e) in
+    let rest = exprs_left defs tys (locals_of start) one.next es (i + 1) in
+    let step = exprs_are defs tys (locals_of start) now.next es i e d expected lt is at in
+    let tree_is : one.tree ≡ option_map elaborated_expr found = sym (k.tree ∙ ap (λ (ls : List Local). (expr_pass w ls now.next expected (expr e)).tree) same) in
+    let sites : after ≡ judge_all w judged one.sites = k.sites ∙ ap (λ (ls : List Local). judge_all w judged (expr_pass w ls now.next expected (expr e)).sites) same in
+    let made : ExprsMade defs (exprs_pass w (locals_of start) start.next (map Some tys) (seen_exprs (map expr es))) rest first after more whole = record {
+      trees = h.made.trees ∙ ap (λ (x : ExprsPass). cond complete (exprs_before (map elaborated_expr typed) x.trees) None) step ∙ ap (λ o. cond complete (exprs_before (map elaborated_expr typed) (expr_before o rest.trees)) None) tree_is ∙ tree rest.trees;
+      next = h.made.next ∙ ap (λ (x : ExprsPass). x.next) step;
+      sites = h.made.sites ∙ ap (λ (x : ExprsPass). judge_all w judged x.sites) step ∙ fold-append (judge w) judged one.sites rest.sites ∙ ap (λ (j : Judged). judge_all w j rest.sites) (sym sites);
+    } in
+    let moved : one.next ≡ new.next = sym (k.next ∙ ap (λ (ls : List Local). (expr_pass w ls now.next expected (expr e)).next) same) in
     record {
-      trees = h.trees ∙ ap (λ (x : ExprsPass). cond complete (exprs_before (map elaborated_expr typed) x.trees) None) step ∙ tree rest.trees;
-      sites = h.sites ∙ ap (λ (x : ExprsPass). judge_all w now x.sites) step ∙ fold-append (judge w) now one.sites rest.sites ∙ ap (λ (j : Judged). judge_all w j rest.sites) (sym sites);
+      made = subst (λ n. ExprsMade defs (exprs_pass w (locals_of start) start.next (map Some tys) (seen_exprs (map expr es))) (exprs_left defs tys (locals_of start) n es (i + 1)) first after more whole) moved made;
+      patterns = k.patterns ∙ h.patterns;
+      lets = k.lets ∙ h.lets;
     }
 
 -- an expression with a tree
@@ -197,13 +227,18 @@ pub expr_missing : (typed : List CodeExpr) (complete : Bool) (o : Option Expr) �
 expr_missing typed complete o is rest = ap (λ y. cond complete (exprs_before (map elaborated_expr typed) (expr_before y rest)) None) (sym is) ∙ nothing_there complete (exprs_before (map elaborated_expr typed) (expr_before None rest)) refl
 
 -- after the last
-pub exprs_all : (defs : List Def) (tys : List TypeId) (vars : Scope) (es : List AstExpr) (i : ℕ) (first now : Judged) (typed : List CodeExpr) (complete : Bool) (all : ExprsPass) → length es ≤ i
-    → ExprsMade defs all (exprs_left defs tys vars es i) first now typed complete → (all.trees ≡ cond complete (Some (exprs_of (map elaborated_expr typed))) None) × (judge_all (whole_of defs) first all.sites ≡ now)
-exprs_all defs tys vars es i first now typed complete all le h =
-    let none : exprs_left defs tys vars es i ≡ record { trees = Some NoExpr; sites = [] } = ap (λ xs. exprs_pass (whole_of defs) vars (map Some (drop i tys)) (seen_exprs (map expr xs))) (drop_all i es le) in (
-      h.trees ∙ ap (λ (x : ExprsPass). cond complete (exprs_before (map elaborated_expr typed) x.trees) None) none ∙ ap (λ xs. cond complete (Some xs) None) (all_end (map elaborated_expr typed)),
-      h.sites ∙ ap (λ (x : ExprsPass). judge_all (whole_of defs) now x.sites) none,
-    )
+pub exprs_all : (defs : List Def) (tys : List TypeId) (es : List AstExpr) (i : ℕ) (start now : Bound) (first judged : Judged) (typed : List CodeExpr) (complete : Bool) (found : Option (Vec CodeExpr)) → length es ≤ i
+    → expr_trees found ≡ cond complete (Some (exprs_of (map elaborated_expr typed))) None → AreExprsMade defs tys es i start now first judged typed complete → AreExprsAt (whole_of defs) tys (seen_exprs (map expr es)) start now first judged found
+exprs_all defs tys es i start now first judged typed complete found le is h =
+    let none : exprs_left defs tys (locals_of start) now.next es i ≡ record { trees = Some NoExpr; next = now.next; sites = [] } =
+    ap (λ xs. exprs_pass (whole_of defs) (locals_of start) now.next (map Some (drop i tys)) (seen_exprs (map expr xs))) (drop_all i es le) in
+    record {
+      trees = is ∙ sym (h.made.trees ∙ ap (λ (x : ExprsPass). cond complete (exprs_before (map elaborated_expr typed) x.trees) None) none ∙ ap (λ xs. cond complete (Some xs) None) (all_end (map elaborated_expr typed)));
+      patterns = h.patterns;
+      lets = h.lets;
+      next = sym (h.made.next ∙ ap (λ (x : ExprsPass). x.next) none);
+      sites = sym (h.made.sites ∙ ap (λ (x : ExprsPass). judge_all (whole_of defs) judged x.sites) none);
+    }
 
 -- ---- rules
 

@@ -12,7 +12,7 @@ use Rattle.isle_sema.specs.TypeNames.{type_named}
 use Rattle.isle_declarations.specs.Signatures.{Signature, Extern, RuleDef, signature_of, extern_of, signatures, externs, rule_defs, signature_named, func_named}
 use Rattle.isle_declarations.specs.Heads.{terms_of, extern_terms}
 use Rattle.isle_declarations.specs.Repeats.{repeats_after}
-use Rattle.isle_sema.specs.BuiltForm.{is_built_form}
+use Rattle.isle_sema.specs.Language.{is_built_def}
 use Rattle.isle_sema.specs.Tests.{has_undeclared}
 use Rattle.isle_types.specs.declared.row.Row.TheVariants as row
 use Rattle.isle_types.specs.declared.row.Row.{Row}
@@ -25,13 +25,13 @@ use Rattle.isle_sema.proofs.Firsts.{first_none, none_first, later_none, none_lat
 -- ---- extractors
 
 -- nor one of extractors, of which none is built
-pub extractors_none : (w : Whole) (before ds : List Def) → list_all is_built_form ds ≡ true → fault_after OfExtractors w before ds ≡ None
+pub extractors_none : (w : Whole) (before ds : List Def) → list_all is_built_def ds ≡ true → fault_after OfExtractors w before ds ≡ None
 extractors_none w before [] f = refl
 extractors_none w before (tree.Decl term pure multi partial recursive args ret pos ∷ ds) f =
-    extractors_none w (before ++ tree.Decl term pure multi partial recursive args ret pos ∷ []) ds (and_parts (is_built_form (tree.Decl term pure multi partial recursive args ret pos)) (list_all is_built_form ds) f).1
+    extractors_none w (before ++ tree.Decl term pure multi partial recursive args ret pos ∷ []) ds (and_parts (is_built_def (tree.Decl term pure multi partial recursive args ret pos)) (list_all is_built_def ds) f).1
 extractors_none w before (tree.ExternConstructor term func pos ∷ ds) f = extractors_none w (before ++ tree.ExternConstructor term func pos ∷ []) ds f
 extractors_none w before (tree.Rule name prio term args iflets rhs pos ∷ ds) f =
-    extractors_none w (before ++ tree.Rule name prio term args iflets rhs pos ∷ []) ds (and_parts (is_built_form (tree.Rule name prio term args iflets rhs pos)) (list_all is_built_form ds) f).1
+    extractors_none w (before ++ tree.Rule name prio term args iflets rhs pos ∷ []) ds (and_parts (is_built_def (tree.Rule name prio term args iflets rhs pos)) (list_all is_built_def ds) f).1
 extractors_none w before (tree.TypeDecl name is_extern is_nodebug body pos ∷ ds) f = extractors_none w (before ++ tree.TypeDecl name is_extern is_nodebug body pos ∷ []) ds f
 extractors_none w before (tree.ExternExtractor term func infallible pos ∷ ds) f = absurd cc
 extractors_none w before (tree.ExternConst name ty pos ∷ ds) f = extractors_none w (before ++ tree.ExternConst name ty pos ∷ []) ds f
@@ -107,14 +107,14 @@ single false true recursive partial h = absurd cc
 single false false recursive partial h = refl
 
 -- the rows of terms are kept: each test fails
-pub terms_kept : (all before ds : List Def) → list_all is_built_form ds ≡ true → fault_after OfTerms (whole_of all) before ds ≡ None → TermParts all before ds
+pub terms_kept : (all before ds : List Def) → list_all is_built_def ds ≡ true → fault_after OfTerms (whole_of all) before ds ≡ None → TermParts all before ds
 terms_kept all before [] f h = record { apart = refl; unmade = refl; typed = refl; few = refl; externs_apart = refl; known = refl; heads = refl }
 terms_kept all before (tree.Decl term pure multi partial recursive args ret pos ∷ ds) f h =
     let d = tree.Decl term pure multi partial recursive args ret pos in
     let s : Signature = record { term = term; pure = pure; multi = multi; partial = partial; recursive = recursive; args = args; ret = ret; pos = pos; origin = origin.Declared } in
     let names = terms_of (signatures before) in
     let external = extern_terms (externs before) in
-    let g = and_parts (is_built_form d) (list_all is_built_form ds) f in
+    let g = and_parts (is_built_def d) (list_all is_built_def ds) f in
     let l = later_none (λ (r : Row). (r, pos)) (broken_in OfTerms (record { whole = whole_of all; before = before }) d) (fault_after OfTerms (whole_of all) (before ++ d ∷ []) ds) h in
     let n = decl_kept (is_some (index_of names term) || is_made_twice all s) (names_no_type all s) (has_too_many s) (multi && partial) l.0 in
     let k = or_parts (is_some (index_of names term)) (is_made_twice all s) n.0 in
@@ -149,7 +149,7 @@ terms_kept all before (tree.ExternConstructor term func pos ∷ ds) f h =
 terms_kept all before (tree.Rule name prio term args iflets rhs pos ∷ ds) f h =
     let d = tree.Rule name prio term args iflets rhs pos in
     let r : RuleDef = record { name = name; prio = prio; term = term; args = args; iflets = iflets; rhs = rhs; pos = pos } in
-    let g = and_parts (is_built_form d) (list_all is_built_form ds) f in
+    let g = and_parts (is_built_def d) (list_all is_built_def ds) f in
     let l = later_none (λ (r : Row). (r, pos)) (broken_in OfTerms (record { whole = whole_of all; before = before }) d) (fault_after OfTerms (whole_of all) (before ++ d ∷ []) ds) h in
     let k = first_none (is_headless all r) row.HeadMisfit None l.0 in
     let rest : TermParts all before ds = same_tests (undeclared before d refl) (not_external before d refl) (terms_kept all (before ++ d ∷ []) ds g.1 l.1) in
@@ -176,13 +176,13 @@ terms_kept all before (tree.Passed head items pos ∷ ds) f h =
     same_tests (undeclared before d refl) (not_external before d refl) (terms_kept all (before ++ d ∷ []) ds f h)
 
 -- and where each fails, the rows are kept
-pub terms_none : (all before ds : List Def) → list_all is_built_form ds ≡ true → TermParts all before ds → fault_after OfTerms (whole_of all) before ds ≡ None
+pub terms_none : (all before ds : List Def) → list_all is_built_def ds ≡ true → TermParts all before ds → fault_after OfTerms (whole_of all) before ds ≡ None
 terms_none all before [] f p = refl
 terms_none all before (tree.Decl term pure multi partial recursive args ret pos ∷ ds) f p =
     let d = tree.Decl term pure multi partial recursive args ret pos in
     let s : Signature = record { term = term; pure = pure; multi = multi; partial = partial; recursive = recursive; args = args; ret = ret; pos = pos; origin = origin.Declared } in
     let names = terms_of (signatures before) in
-    let g = and_parts (is_built_form d) (list_all is_built_form ds) f in
+    let g = and_parts (is_built_def d) (list_all is_built_def ds) f in
     let again = is_some (index_of names term) in
     let a = or_parts again (repeats_after (names ++ term ∷ []) (terms_of (signatures ds))) p.apart in
     let u = or_parts (is_made_twice all s) (list_any (is_made_twice all) (signatures ds)) p.unmade in
@@ -205,7 +205,7 @@ terms_none all before (tree.ExternConstructor term func pos ∷ ds) f p =
 terms_none all before (tree.Rule name prio term args iflets rhs pos ∷ ds) f p =
     let d = tree.Rule name prio term args iflets rhs pos in
     let r : RuleDef = record { name = name; prio = prio; term = term; args = args; iflets = iflets; rhs = rhs; pos = pos } in
-    let g = and_parts (is_built_form d) (list_all is_built_form ds) f in
+    let g = and_parts (is_built_def d) (list_all is_built_def ds) f in
     let k = or_parts (is_headless all r) (list_any (is_headless all) (rule_defs ds)) p.heads in
     let rest : TermParts all before ds = record { apart = p.apart; unmade = p.unmade; typed = p.typed; few = p.few; externs_apart = p.externs_apart; known = p.known; heads = k.1 } in
     none_later (λ (r : Row). (r, pos)) (broken_in OfTerms (record { whole = whole_of all; before = before }) d) (fault_after OfTerms (whole_of all) (before ++ d ∷ []) ds) (none_first (is_headless all r) row.HeadMisfit None k.0 refl)

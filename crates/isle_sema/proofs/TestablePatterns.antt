@@ -5,87 +5,24 @@ use Rattle.std.proofs.lemmas.Bool.{eqb-true, eq-eqb}
 use Rattle.std.proofs.lemmas.List.Elements.{Contains-append_left, Contains-append_right, Contains-append_cases}
 use Rattle.std.proofs.lemmas.Option.{same_Some}
 use Rattle.isle_core.specs.declared.TypeId.{TypeId}
-use Rattle.isle_core.specs.declared.VarId.{VarId}
 use Rattle.isle_core.specs.declared.rule_sets.Constraint.{Constraint}
+use Rattle.isle_core.specs.declared.rule_sets.Constraint.TheVariants as constraint
 use Rattle.isle_core.specs.declared.types.Term.{Term}
 use Rattle.isle_core.specs.ConstraintType.{IsConstraintOf}
 use Rattle.isle_core.specs.Form.{form, form_types}
 use Rattle.isle_core.specs.Making.{Making, MakesVariant, MakesStruct, MakesNothing, making}
-use Rattle.isle_core.specs.Path.{Path, Arg}
+use Rattle.isle_core.specs.Path.{Path, Arg, Called, Inner, MadeVariant, MadeStruct, VariantField, StructField, Paths, NoPath, APath}
 use Rattle.isle_core.specs.PathType.{IsPathOf}
 use Rattle.isle_core.specs.Pattern as pattern
 use Rattle.isle_core.specs.Pattern.{Pattern, Patterns, NoPattern, APattern, Var, ConstBool, ConstInt, ConstPrim, Wildcard, BindPattern, And}
-use Rattle.isle_core.specs.PatternType.{IsOfMaking, IsPatternOf, ArePartsOf, ArePatternsOf}
+use Rattle.isle_core.specs.PatternType.{IsOfMaking, IsPatternOf, ArePartsOf, AreEachOf, ArePatternsOf}
 use Rattle.isle_core.specs.Rule.{Environment}
-use Rattle.isle_core.specs.RulePaths.{pattern_paths, parts_paths, args_paths}
-use Rattle.isle_core.specs.Scope.{variables, variables_within, all_variables}
-use Rattle.isle_core.specs.Serializable.{StandsOn, IsFieldPath}
-use Rattle.isle_core.specs.StandsFor.{EachOnce}
-use Rattle.isle_core.specs.Tests.{Test, Is, Equal, Never, is_constraint, Places, no_places, met_tests, met_after, made_test, field_path, tests, parts_tests, after, after_parts, args_tests, args_after}
+use Rattle.isle_core.specs.RulePaths.{pattern_paths, parts_paths, each_paths, args_paths}
+use Rattle.isle_core.specs.Serializable.{StandsOn, AllStandOn, IsFieldPath}
+use Rattle.isle_core.specs.Tests.{Test, Is, Equal, Never, is_constraint, Places, no_places, met_tests, met_after, made_test, field_path, tests, parts_tests, each_tests, after, after_parts, after_each, args_tests, args_after}
 use Rattle.isle_core.proofs.Contained.{head_contained, tail_contained, contained_cases, none_contained}
-use Rattle.isle_core.proofs.KeptPlaces.{parts_keep, args_keep}
-use Rattle.isle_sema.specs.TypedRule.{typed_variables, typed_within, all_typed}
-
--- ---- variables without a path
-
--- the first items of a list whose items stand once
-once_first : {A : Type 0} (xs ys : List A) → EachOnce (xs ++ ys) → EachOnce xs
-once_first [] ys h = tt
-once_first (x ∷ xs) ys h = (λ c. h.0 (Contains-append_left xs ys x c), once_first xs ys h.1)
-
--- the items behind the first ones stand once
-once_rest : {A : Type 0} (xs ys : List A) → EachOnce (xs ++ ys) → EachOnce ys
-once_rest [] ys h = h
-once_rest (x ∷ xs) ys h = once_rest xs ys h.1
-
--- and none of them is among the first ones
-once_apart : {A : Type 0} (xs ys : List A) (y : A) → EachOnce (xs ++ ys) → Contains ys y → Contains xs y → ⊥
-once_apart [] ys y h c d = none_contained y d
-once_apart (x ∷ xs) ys y h c d = ⊎_elim (λ (e : x ≡ y). h.0 (Contains-append_right xs ys x (subst (Contains ys) (sym e) c))) (once_apart xs ys y h.1 c) (contained_cases x xs y d)
-
--- different variables, none of which has a path
-pub record AreNew (places : Places) (xs : List ℕ) : Type 0 where
-  pub once : EachOnce xs
-  pub unplaced : (x : ℕ) → Contains xs x → places x ≡ None
-
--- where no variable has a path
-pub all_new : (xs : List ℕ) → EachOnce xs → AreNew no_places xs
-all_new xs h = record { once = h; unplaced = λ x c. refl }
-
--- the first of such variables
-new_first : (places : Places) (xs ys : List ℕ) → AreNew places (xs ++ ys) → AreNew places xs
-new_first places xs ys h = record { once = once_first xs ys h.once; unplaced = λ x c. h.unplaced x (Contains-append_left xs ys x c) }
-
--- a path put at one variable leaves another one where it was
-other_place : (b : Bool) (x y : ℕ) (p : Path) (o : Option Path) → eqb x y ≡ b → (x ≡ y → ⊥) → cond b (Some p) o ≡ o
-other_place true x y p o e h = absurd (h (eqb-true x y e))
-other_place false x y p o e h = refl
-
--- a variable that is met leaves another one where it was
-met_elsewhere : (o : Option Path) (x y : ℕ) (p : Path) (places : Places) → (x ≡ y → ⊥) → met_after o x p places y ≡ places y
-met_elsewhere None x y p places h = other_place (eqb x y) x y p (places y) refl h
-met_elsewhere (Some q) x y p places h = refl
-
-mutual
-  -- a variable that a pattern doesn't have stands behind it where it stood
-  after_elsewhere : (q : Pattern) (env : Environment) (p : Path) (places : Places) (y : ℕ) → (Contains (variables q) y → ⊥) → after env q p places y ≡ places y
-  after_elsewhere (Var of x) env p places y h = met_elsewhere (places x.0) x.0 y p places (λ e. h (subst (Contains (x.0 ∷ [])) e (head_contained x.0 [])))
-  after_elsewhere (pattern.Term of term qs) env p places y h = parts_elsewhere qs env (making env term) 0 p places y h
-  after_elsewhere q env p places y h = refl
-
-  -- so behind parts
-  parts_elsewhere : (qs : Patterns) (env : Environment) (mk : Making) (i : ℕ) (p : Path) (places : Places) (y : ℕ) → (Contains (variables_within qs) y → ⊥) → after_parts env mk qs i p places y ≡ places y
-  parts_elsewhere NoPattern env mk i p places y h = refl
-  parts_elsewhere (APattern q qs) env mk i p places y h =
-      let r = field_path mk i p in
-      parts_elsewhere qs env mk (suc i) p (after env q r places) y (λ c. h (Contains-append_right (variables q) (variables_within qs) y c)) ∙ after_elsewhere q env r places y (λ c. h (Contains-append_left (variables q) (variables_within qs) y c))
-
--- the variables behind a pattern have no path behind it
-new_rest : (q : Pattern) (env : Environment) (p : Path) (places : Places) (ys : List ℕ) → AreNew places (variables q ++ ys) → AreNew (after env q p places) ys
-new_rest q env p places ys h = record {
-  once = once_rest (variables q) ys h.once;
-  unplaced = λ x c. after_elsewhere q env p places x (once_apart (variables q) ys x h.once c) ∙ h.unplaced x (Contains-append_right (variables q) ys x c);
-}
+use Rattle.isle_core.proofs.KeptPlaces.{after_keeps, each_keep, parts_keep, args_keep}
+use Rattle.isle_sema.specs.TypedRule.{typed_variables, typed_within, all_typed, HaveOneType}
 
 -- ---- types of paths in order
 
@@ -137,13 +74,35 @@ field_typed env t MakesNothing p ty tys is h e k field at = absurd is
 fields_are : (env : Environment) (t : Term) (mk : Making) (p : Path) (ty : TypeId) (tys : List TypeId) → IsOfMaking ty mk → IsPathOf env t p ty → option_map (form_types env) (form env mk) ≡ Some tys → AreTyped env t (λ k. field_path mk k p) 0 tys
 fields_are env t mk p ty tys is h e = from_start env t (λ k. field_path mk k p) tys (field_typed env t mk p ty tys is h e)
 
+-- ---- what may be read
+
+-- each of these tests is one of those
+abbrev pub AreAlso : (xs ys : List Test) → Type 0
+AreAlso xs ys = (x : Test) → Contains xs x → Contains ys x
+
+mutual
+  -- what may be read behind tests may be so behind more of them
+  pub stands_still : (p : Path) (xs ys : List Test) (done : List Path) → AreAlso xs ys → StandsOn xs done p → StandsOn ys done p
+  stands_still (Called term ps instance) xs ys done a h = h
+  stands_still (Inner p) xs ys done a h = stands_still p xs ys done a h
+  stands_still (VariantField variant field q) xs ys done a h = (h.0, a (Is q (constraint.Variant h.0 variant)) h.1)
+  stands_still (StructField field q) xs ys done a h = (h.0, a (Is q (constraint.Struct h.0)) h.1)
+  stands_still (MadeVariant of variant ps) xs ys done a h = all_stand_still ps xs ys done a h
+  stands_still (MadeStruct of ps) xs ys done a h = all_stand_still ps xs ys done a h
+  stands_still p xs ys done a h = tt
+
+  -- so of each
+  all_stand_still : (ps : Paths) (xs ys : List Test) (done : List Path) → AreAlso xs ys → AllStandOn xs done ps → AllStandOn ys done ps
+  all_stand_still NoPath xs ys done a h = tt
+  all_stand_still (APath p ps) xs ys done a h = (stands_still p xs ys done a h.0, all_stand_still ps xs ys done a h.1)
+
 -- a field stands behind the test that shows it
-field_stands : (mk : Making) (tests : List Test) (done : List Path) (p : Path) (i : ℕ) → Contains tests (made_test mk p) → StandsOn tests done (field_path mk i p)
-field_stands (MakesVariant of variant) tests done p i c = (of, c)
-field_stands (MakesStruct of) tests done p i c = (of, c)
+field_stands : (mk : Making) (tests : List Test) (done : List Path) (p : Path) (i : ℕ) → (is_constraint (made_test mk p) ≡ true → Contains tests (made_test mk p)) → StandsOn tests done (field_path mk i p)
+field_stands (MakesVariant of variant) tests done p i c = (of, c refl)
+field_stands (MakesStruct of) tests done p i c = (of, c refl)
 field_stands MakesNothing tests done p i c = tt
 
--- ---- tests
+-- ---- constraints
 
 -- a constraint of the type of its path, which may be read behind these tests
 pub record IsTestableAt (env : Environment) (t : Term) (before : List Test) (p : Path) (c : Constraint) : Type 0 where
@@ -152,34 +111,32 @@ pub record IsTestableAt (env : Environment) (t : Term) (before : List Test) (p :
   pub stands : StandsOn before [] p
   pub constraint : IsConstraintOf env c ty
 
--- constraints in order, behind these tests
+-- the constraints among tests in order, behind these
 abbrev pub AreTestableAt : Environment → Term → (before : List Test) → List Test → Type 0
 AreTestableAt env t before [] = Unit {0}
 AreTestableAt env t before (Is p c ∷ ts) = IsTestableAt env t before p c × AreTestableAt env t (Is p c ∷ before) ts
-AreTestableAt env t before (Equal p q ∷ ts) = ⊥
-AreTestableAt env t before (Never ∷ ts) = ⊥
+AreTestableAt env t before (Equal p q ∷ ts) = AreTestableAt env t before ts
+AreTestableAt env t before (Never ∷ ts) = AreTestableAt env t before ts
 
--- they are constraints
-pub are_constraints : (env : Environment) (t : Term) (before ts : List Test) → AreTestableAt env t before ts → filter is_constraint ts ≡ ts
-are_constraints env t before [] h = refl
-are_constraints env t before (Is p c ∷ ts) h = ap (λ us. Is p c ∷ us) (are_constraints env t (Is p c ∷ before) ts h.1)
-are_constraints env t before (Equal p q ∷ ts) h = absurd h
-are_constraints env t before (Never ∷ ts) h = absurd h
-
--- none says that two paths are equal
-pub none_equal : (env : Environment) (t : Term) (before ts : List Test) (p q : Path) → AreTestableAt env t before ts → Contains ts (Equal p q) → ⊥
-none_equal env t before [] p q h c = none_contained (Equal p q) c
-none_equal env t before (Is r d ∷ ts) p q h c = ⊎_elim (λ (e : Is r d ≡ Equal p q). cc) (none_equal env t (Is r d ∷ before) ts p q h.1) (contained_cases (Is r d) ts (Equal p q) c)
-none_equal env t before (Equal r s ∷ ts) p q h c = absurd h
-none_equal env t before (Never ∷ ts) p q h c = absurd h
+-- so of the constraints alone
+pub constraints_testable : (env : Environment) (t : Term) (before ts : List Test) → AreTestableAt env t before ts → AreTestableAt env t before (filter is_constraint ts)
+constraints_testable env t before [] h = tt
+constraints_testable env t before (Is p c ∷ ts) h = (h.0, constraints_testable env t (Is p c ∷ before) ts h.1)
+constraints_testable env t before (Equal p q ∷ ts) h = constraints_testable env t before ts h
+constraints_testable env t before (Never ∷ ts) h = constraints_testable env t before ts h
 
 module _ (env : Environment) (t : Term) where
   -- tests behind tests
-  testable_more : (before xs ys : List Test) → AreTestableAt env t before xs → ((later : List Test) → ((x : Test) → Contains before x → Contains later x) → AreTestableAt env t later ys) → AreTestableAt env t before (xs ++ ys)
+  testable_more : (before xs ys : List Test) → AreTestableAt env t before xs → ((later : List Test) → AreAlso before later → AreTestableAt env t later ys) → AreTestableAt env t before (xs ++ ys)
   testable_more before [] ys h go = go before (λ x c. c)
   testable_more before (Is p c ∷ xs) ys h go = (h.0, testable_more (Is p c ∷ before) xs ys h.1 (λ later a. go later (λ x d. a x (tail_contained (Is p c) before x d))))
-  testable_more before (Equal p q ∷ xs) ys h go = absurd h
-  testable_more before (Never ∷ xs) ys h go = absurd h
+  testable_more before (Equal p q ∷ xs) ys h go = testable_more before xs ys h go
+  testable_more before (Never ∷ xs) ys h go = testable_more before xs ys h go
+
+  -- a variable puts no constraint
+  met_testable : (o : Option Path) (p : Path) (before : List Test) → AreTestableAt env t before (met_tests o p)
+  met_testable None p before = tt
+  met_testable (Some q) p before = tt
 
   -- the test of a made term, and those behind it
   made_testable : (mk : Making) (p : Path) (ty : TypeId) (tys : List TypeId) (before ts : List Test) → IsOfMaking ty mk → IsPathOf env t p ty → StandsOn before [] p → option_map (form_types env) (form env mk) ≡ Some tys → AreTestableAt env t (made_test mk p ∷ before) ts
@@ -189,123 +146,230 @@ module _ (env : Environment) (t : Term) where
   made_testable MakesNothing p ty tys before ts is h s e more = absurd is
 
   mutual
-    -- the tests of a typed pattern on a path of its type
-    pattern_testable : (q : Pattern) (p : Path) (ty : TypeId) (places : Places) (before : List Test) → IsPatternOf env ty q → IsPathOf env t p ty → StandsOn before [] p → AreNew places (variables q) → AreTestableAt env t before (tests env q p places)
-    pattern_testable (Var of x) p ty places before h typed s new = subst (λ o. AreTestableAt env t before (met_tests o p)) (sym (new.unplaced x.0 (head_contained x.0 []))) tt
-    pattern_testable (ConstBool b) p ty places before h typed s new = (record { ty = ty; path = typed; stands = s; constraint = h.1 }, tt)
-    pattern_testable (ConstInt of n) p ty places before h typed s new = (record { ty = ty; path = typed; stands = s; constraint = h }, tt)
-    pattern_testable (ConstPrim of name) p ty places before h typed s new = (record { ty = ty; path = typed; stands = s; constraint = h.1 }, tt)
-    pattern_testable (Wildcard of) p ty places before h typed s new = tt
-    pattern_testable (pattern.Term of term qs) p ty places before h typed s new =
+    -- the constraints of a typed pattern on a path of its type
+    pattern_testable : (q : Pattern) (p : Path) (ty : TypeId) (places : Places) (before : List Test) → IsPatternOf env ty q → IsPathOf env t p ty → StandsOn before [] p → AreTestableAt env t before (tests env q p places)
+    pattern_testable (Var of x) p ty places before h typed s = met_testable (places x.0) p before
+    pattern_testable (ConstBool b) p ty places before h typed s = (record { ty = ty; path = typed; stands = s; constraint = h.1 }, tt)
+    pattern_testable (ConstInt of n) p ty places before h typed s = (record { ty = ty; path = typed; stands = s; constraint = h }, tt)
+    pattern_testable (ConstPrim of name) p ty places before h typed s = (record { ty = ty; path = typed; stands = s; constraint = h.1 }, tt)
+    pattern_testable (Wildcard of) p ty places before h typed s = tt
+    pattern_testable (pattern.Term of term qs) p ty places before h typed s =
         let mk = making env term in
         let k = parts_there env (option_map (form_types env) (form env mk)) qs h.2 in
         made_testable mk p ty k.0 before (parts_tests env mk qs 0 p places) h.1 typed s k.1
-        (parts_testable qs mk p 0 k.0 places (made_test mk p ∷ before) k.2 (fields_are env t mk p ty k.0 h.1 typed k.1) (head_contained (made_test mk p) before) new)
-    pattern_testable (BindPattern of x q) p ty places before h typed s new = absurd h
-    pattern_testable (And of qs) p ty places before h typed s new = absurd h
+        (parts_testable qs mk p 0 k.0 places (made_test mk p ∷ before) k.2 (fields_are env t mk p ty k.0 h.1 typed k.1) (head_contained (made_test mk p) before))
+    pattern_testable (BindPattern of x q) p ty places before h typed s =
+        let mid = met_after (places x.0) x.0 p places in
+        testable_more before (met_tests (places x.0) p) (tests env q p mid) (met_testable (places x.0) p before) (λ later a. pattern_testable q p ty mid later h.1 typed (stands_still p before later [] a s))
+    pattern_testable (And of qs) p ty places before h typed s = each_testable qs p ty places before h.1 typed s
 
     -- those of parts on the fields of what shows them
-    parts_testable : (qs : Patterns) (mk : Making) (p : Path) (i : ℕ) (tys : List TypeId) (places : Places) (before : List Test) → ArePartsOf env (Some tys) qs → AreTyped env t (λ k. field_path mk k p) i tys → Contains before (made_test mk p) → AreNew places (variables_within qs)
-        → AreTestableAt env t before (parts_tests env mk qs i p places)
-    parts_testable NoPattern mk p i [] places before h typed c new = tt
-    parts_testable (APattern q qs) mk p i (ty ∷ tys) places before h typed c new =
+    parts_testable : (qs : Patterns) (mk : Making) (p : Path) (i : ℕ) (tys : List TypeId) (places : Places) (before : List Test) → ArePartsOf env (Some tys) qs → AreTyped env t (λ k. field_path mk k p) i tys → Contains before (made_test mk p) → AreTestableAt env t before (parts_tests env mk qs i p places)
+    parts_testable NoPattern mk p i tys places before h typed made = tt
+    parts_testable (APattern q qs) mk p i (ty ∷ tys) places before h typed made =
         let r = field_path mk i p in
-        testable_more before (tests env q r places) (parts_tests env mk qs (suc i) p (after env q r places))
-        (pattern_testable q r ty places before h.0 typed.0 (field_stands mk before [] p i c) (new_first places (variables q) (variables_within qs) new))
-        (λ later a. parts_testable qs mk p (suc i) tys (after env q r places) later h.1 typed.1 (a (made_test mk p) c) (new_rest q env r places (variables_within qs) new))
-    parts_testable NoPattern mk p i (ty ∷ tys) places before h typed c new = absurd h
-    parts_testable (APattern q qs) mk p i [] places before h typed c new = absurd h
+        let mid = after env q r places in
+        testable_more before (tests env q r places) (parts_tests env mk qs (suc i) p mid) (pattern_testable q r ty places before h.0 typed.0 (field_stands mk before [] p i (λ e. made)))
+        (λ later a. parts_testable qs mk p (suc i) tys mid later h.1 typed.1 (a (made_test mk p) made))
+    parts_testable (APattern q qs) mk p i [] places before h typed made = absurd h
+
+    -- those of several patterns on one path
+    each_testable : (qs : Patterns) (p : Path) (ty : TypeId) (places : Places) (before : List Test) → AreEachOf env ty qs → IsPathOf env t p ty → StandsOn before [] p → AreTestableAt env t before (each_tests env qs p places)
+    each_testable NoPattern p ty places before h typed s = tt
+    each_testable (APattern q qs) p ty places before h typed s =
+        let mid = after env q p places in
+        testable_more before (tests env q p places) (each_tests env qs p mid) (pattern_testable q p ty places before h.0 typed s) (λ later a. each_testable qs p ty mid later h.1 typed (stands_still p before later [] a s))
 
   -- those of patterns on arguments
-  args_testable : (qs : List Pattern) (i : ℕ) (tys : List TypeId) (places : Places) (before : List Test) → ArePatternsOf env tys qs → AreTyped env t Arg i tys → AreNew places (all_variables qs) → AreTestableAt env t before (args_tests env qs i places)
-  args_testable [] i [] places before h typed new = tt
-  args_testable (q ∷ qs) i (ty ∷ tys) places before h typed new =
-      testable_more before (tests env q (Arg i) places) (args_tests env qs (suc i) (after env q (Arg i) places)) (pattern_testable q (Arg i) ty places before h.0 typed.0 tt (new_first places (variables q) (all_variables qs) new))
-      (λ later a. args_testable qs (suc i) tys (after env q (Arg i) places) later h.1 typed.1 (new_rest q env (Arg i) places (all_variables qs) new))
-  args_testable [] i (ty ∷ tys) places before h typed new = absurd h
-  args_testable (q ∷ qs) i [] places before h typed new = absurd h
+  args_testable : (qs : List Pattern) (i : ℕ) (tys : List TypeId) (places : Places) (before : List Test) → ArePatternsOf env tys qs → AreTyped env t Arg i tys → AreTestableAt env t before (args_tests env qs i places)
+  args_testable [] i tys places before h typed = tt
+  args_testable (q ∷ qs) i (ty ∷ tys) places before h typed =
+      let mid = after env q (Arg i) places in
+      testable_more before (tests env q (Arg i) places) (args_tests env qs (suc i) mid) (pattern_testable q (Arg i) ty places before h.0 typed.0 tt) (λ later a. args_testable qs (suc i) tys mid later h.1 typed.1)
+  args_testable (q ∷ qs) i [] places before h typed = absurd h
 
--- the tests of patterns of a term's types are ready
-pub rule_testable : (env : Environment) (t : Term) (qs : List Pattern) → ArePatternsOf env t.arg_tys qs → EachOnce (all_variables qs) → AreTestableAt env t [] (args_tests env qs 0 no_places)
-rule_testable env t qs h once = args_testable env t qs 0 t.arg_tys no_places [] h (args_are env t) (all_new (all_variables qs) once)
+-- the constraints of patterns of a term's types are ready
+pub rule_testable : (env : Environment) (t : Term) (qs : List Pattern) → ArePatternsOf env t.arg_tys qs → AreTestableAt env t [] (args_tests env qs 0 no_places)
+rule_testable env t qs h = args_testable env t qs 0 t.arg_tys no_places [] h (args_are env t)
 
 -- ---- variables
+
+-- a path that may be read behind these tests, whatever calls were made
+abbrev pub IsStanding : (tests : List Test) → Path → Type 0
+IsStanding tests p = (done : List Path) → StandsOn tests done p
 
 -- where a variable stands is of its type, and may be read behind these tests
 pub record IsPlacedAs (env : Environment) (t : Term) (tests : List Test) (o : Option Path) (ty : TypeId) : Type 0 where
   pub path : Path
   pub is : o ≡ Some path
   pub typed : IsPathOf env t path ty
-  pub stands : (done : List Path) → StandsOn tests done path
+  pub stands : IsStanding tests path
 
 -- so of each variable with its type
 abbrev pub ArePlacedAs : Environment → Term → (tests : List Test) → List (TypeId × ℕ) → Places → Type 0
 ArePlacedAs env t tests vars places = (ty : TypeId) (x : ℕ) → Contains vars (ty, x) → IsPlacedAs env t tests (places x) ty
 
-module _ (env : Environment) (t : Term) (all : List Test) where
-  -- a variable that is met first
-  placed_here : (of ty : TypeId) (x : VarId) (p : Path) (places : Places) → of ≡ ty → IsPathOf env t p ty → ((done : List Path) → StandsOn all done p) → places x.0 ≡ None → IsPlacedAs env t all (met_after (places x.0) x.0 p places x.0) of
-  placed_here of ty x p places h typed s new = record {
-    path = p;
-    is = ap (λ o. met_after o x.0 p places x.0) new ∙ ap (λ b. cond b (Some p) (places x.0)) (eq-eqb x.0 x.0 refl);
-    typed = subst (IsPathOf env t p) (sym h) typed;
-    stands = s;
+-- a variable that has a path has one of its type, which may be read behind these tests
+abbrev AreHeld : Environment → Term → (tests : List Test) → List (TypeId × ℕ) → Places → Type 0
+AreHeld env t tests vars places = (ty : TypeId) (x : ℕ) (p : Path) → Contains vars (ty, x) → places x ≡ Some p → IsPathOf env t p ty × IsStanding tests p
+
+-- two paths of one type, which may be read behind these tests
+pub record AreComparableAt (env : Environment) (t : Term) (tests : List Test) (p q : Path) : Type 0 where
+  pub ty : TypeId
+  pub left : IsPathOf env t p ty
+  pub left_stands : StandsOn tests [] p
+  pub right : IsPathOf env t q ty
+  pub right_stands : StandsOn tests [] q
+
+-- behind patterns that put these tests: what the places hold, what the tests equate, and that the patterns' variables have paths
+record IsPassed (env : Environment) (t : Term) (all : List Test) (vars : List (TypeId × ℕ)) (ts : List Test) (xs : List (TypeId × ℕ)) (places : Places) : Type 0 where
+  held : AreHeld env t all vars places
+  equals : (p q : Path) → Contains ts (Equal p q) → AreComparableAt env t all p q
+  there : (v : TypeId × ℕ) → Contains xs v → (p : Path) × (places v.1 ≡ Some p)
+
+-- the constraints among these tests are among those
+abbrev pub HasConstraints : (all ts : List Test) → Type 0
+HasConstraints all ts = (y : Test) → is_constraint y ≡ true → Contains ts y → Contains all y
+
+-- what a term makes is tested by no equality
+made_apart : (mk : Making) (p a b : Path) → made_test mk p ≡ Equal a b → ⊥
+made_apart (MakesVariant of variant) p a b e = cc
+made_apart (MakesStruct of) p a b e = cc
+made_apart MakesNothing p a b e = cc
+
+-- what equalities equate on the left
+left_same : (p q a b : Path) → Equal p q ≡ Equal a b → p ≡ a
+left_same p q a b e = cc
+
+-- and on the right
+right_same : (p q a b : Path) → Equal p q ≡ Equal a b → q ≡ b
+right_same p q a b e = cc
+
+module _ (env : Environment) (t : Term) (all : List Test) (vars : List (TypeId × ℕ)) (one : HaveOneType vars) where
+  -- patterns that put nothing
+  none_passed : (places : Places) → AreHeld env t all vars places → IsPassed env t all vars [] [] places
+  none_passed places h = record { held = h; equals = λ p q c. absurd (none_contained (Equal p q) c); there = λ v c. absurd (none_contained v c) }
+
+  -- a test more that is no equality
+  test_passed : (y : Test) (ts : List Test) (xs : List (TypeId × ℕ)) (places : Places) → ((a b : Path) → y ≡ Equal a b → ⊥) → IsPassed env t all vars ts xs places → IsPassed env t all vars (y ∷ ts) xs places
+  test_passed y ts xs places apart k = record { held = k.held; equals = λ a b c. ⊎_elim (λ e. absurd (apart a b e)) (λ d. k.equals a b d) (contained_cases y ts (Equal a b) c); there = k.there }
+
+  -- a constraint alone
+  constraint_passed : (p : Path) (c : Constraint) (places : Places) → AreHeld env t all vars places → IsPassed env t all vars (Is p c ∷ []) [] places
+  constraint_passed p c places h = test_passed (Is p c) [] [] places (λ a b e. cc) (none_passed places h)
+
+  -- patterns behind patterns
+  both_passed : (ts us : List Test) (xs ys : List (TypeId × ℕ)) (mid later : Places) → IsPassed env t all vars ts xs mid → IsPassed env t all vars us ys later → ((x : ℕ) (p : Path) → mid x ≡ Some p → later x ≡ Some p) → IsPassed env t all vars (ts ++ us) (xs ++ ys) later
+  both_passed ts us xs ys mid later h k keeps = record {
+    held = k.held;
+    equals = λ p q c. ⊎_elim (λ d. h.equals p q d) (λ d. k.equals p q d) (Contains-append_cases ts us (Equal p q) c);
+    there = λ v c. ⊎_elim (λ d. let s = h.there v d in (s.0, keeps v.1 s.0 s.1)) (λ d. k.there v d) (Contains-append_cases xs ys v c);
   }
 
-  -- one that keeps its path
-  placed_still : (ty : TypeId) (o later : Option Path) → ((p : Path) → o ≡ Some p → later ≡ Some p) → IsPlacedAs env t all o ty → IsPlacedAs env t all later ty
-  placed_still ty o later keeps k = record { path = k.path; is = keeps k.path k.is; typed = k.typed; stands = k.stands }
+  -- where one variable more has a path, each is held
+  held_more : (of ty : TypeId) (x : ℕ) (p : Path) (places : Places) → of ≡ ty → Contains vars (of, x) → IsPathOf env t p ty → IsStanding all p → AreHeld env t all vars places → AreHeld env t all vars (met_after None x p places)
+  held_more of ty x p places is within typed s h other y q c e = pick (eqb x y) refl e
+    where
+      pick : (b : Bool) → eqb x y ≡ b → cond b (Some p) (places y) ≡ Some q → IsPathOf env t q other × IsStanding all q
+      pick true same k =
+          let there : Contains vars (of, y) = subst (λ z. Contains {X = TypeId × ℕ} vars (of, z)) (eqb-true x y same) within in
+          subst (λ r. IsPathOf env t r other × IsStanding all r) (same_Some p q k) (subst (IsPathOf env t p) (sym is ∙ one of other y there c) typed, s)
+      pick false same k = h other y q c k
+
+  -- a variable
+  met_passed : (of ty : TypeId) (x : ℕ) (p : Path) (places : Places) (o : Option Path) → places x ≡ o → of ≡ ty → Contains vars (of, x) → IsPathOf env t p ty → IsStanding all p → AreHeld env t all vars places → IsPassed env t all vars (met_tests o p) ((of, x) ∷ []) (met_after o x p places)
+  met_passed of ty x p places None at is within typed s h = record {
+    held = held_more of ty x p places is within typed s h;
+    equals = λ a b c. absurd (none_contained (Equal a b) c);
+    there = λ v c. ⊎_elim (λ (e : (of, x) ≡ v). subst (λ (w : TypeId × ℕ). (r : Path) × (met_after None x p places w.1 ≡ Some r)) e (p, ap (λ b. cond b (Some p) (places x)) (eq-eqb x x refl))) (λ d. absurd (none_contained v d)) (contained_cases {A = TypeId × ℕ} (of, x) [] v c);
+  }
+  met_passed of ty x p places (Some r) at is within typed s h =
+      let k = h of x r within at in
+      let pair : AreComparableAt env t all r p = record { ty = ty; left = subst (IsPathOf env t r) is k.0; left_stands = k.1 []; right = typed; right_stands = s [] } in
+      record {
+        held = h;
+        equals = λ a b c. ⊎_elim (λ e. subst (AreComparableAt env t all a) (right_same r p a b e) (subst (λ z. AreComparableAt env t all z p) (left_same r p a b e) pair)) (λ d. absurd (none_contained (Equal a b) d)) (contained_cases (Equal r p) [] (Equal a b) c);
+        there = λ v c. ⊎_elim (λ (e : (of, x) ≡ v). subst (λ (w : TypeId × ℕ). (z : Path) × (places w.1 ≡ Some z)) e (r, at)) (λ d. absurd (none_contained v d)) (contained_cases {A = TypeId × ℕ} (of, x) [] v c);
+      }
 
   mutual
-    -- the variables of a typed pattern on a path of its type
-    pattern_placed : (q : Pattern) (p : Path) (ty : TypeId) (places : Places) (of : TypeId) (x : ℕ) → IsPatternOf env ty q → IsPathOf env t p ty → ((done : List Path) → StandsOn all done p) → AreNew places (variables q) → ((y : Test) → Contains (tests env q p places) y → Contains all y)
-        → Contains (typed_variables q) (of, x) → IsPlacedAs env t all (after env q p places x) of
-    pattern_placed (Var ty' y) p ty places of x h typed s new among c =
-        ⊎_elim
-        (λ (e : (ty', y.0) ≡ (of, x)). subst (λ (v : TypeId × ℕ). IsPlacedAs env t all (met_after (places y.0) y.0 p places v.1) v.0) e (placed_here ty' ty y p places h typed s (new.unplaced y.0 (head_contained y.0 []))))
-        (λ d. absurd (none_contained {A = TypeId × ℕ} (of, x) d)) (contained_cases {A = TypeId × ℕ} (ty', y.0) [] (of, x) c)
-    pattern_placed (ConstBool b) p ty places of x h typed s new among c = absurd (none_contained {A = TypeId × ℕ} (of, x) c)
-    pattern_placed (ConstInt ty' n) p ty places of x h typed s new among c = absurd (none_contained {A = TypeId × ℕ} (of, x) c)
-    pattern_placed (ConstPrim ty' name) p ty places of x h typed s new among c = absurd (none_contained {A = TypeId × ℕ} (of, x) c)
-    pattern_placed (Wildcard ty') p ty places of x h typed s new among c = absurd (none_contained {A = TypeId × ℕ} (of, x) c)
-    pattern_placed (pattern.Term ty' term qs) p ty places of x h typed s new among c =
+    -- a typed pattern on a path of its type
+    pattern_passed : (q : Pattern) (p : Path) (ty : TypeId) (places : Places) → IsPatternOf env ty q → IsPathOf env t p ty → IsStanding all p → AreHeld env t all vars places → HasConstraints all (tests env q p places) → ((v : TypeId × ℕ) → Contains (typed_variables q) v → Contains vars v)
+        → IsPassed env t all vars (tests env q p places) (typed_variables q) (after env q p places)
+    pattern_passed (Var of x) p ty places h typed s held among within = met_passed of ty x.0 p places (places x.0) refl h (within (of, x.0) (head_contained {A = TypeId × ℕ} (of, x.0) [])) typed s held
+    pattern_passed (ConstBool b) p ty places h typed s held among within = constraint_passed p (constraint.ConstBool b) places held
+    pattern_passed (ConstInt of n) p ty places h typed s held among within = constraint_passed p (constraint.ConstInt n of) places held
+    pattern_passed (ConstPrim of name) p ty places h typed s held among within = constraint_passed p (constraint.ConstPrim name) places held
+    pattern_passed (Wildcard of) p ty places h typed s held among within = none_passed places held
+    pattern_passed (pattern.Term of term qs) p ty places h typed s held among within =
         let mk = making env term in
         let k = parts_there env (option_map (form_types env) (form env mk)) qs h.2 in
+        let made = made_test mk p in
         let rest = parts_tests env mk qs 0 p places in
-        parts_placed qs mk p 0 k.0 places of x k.2 (fields_are env t mk p ty k.0 h.1 typed k.1) (among (made_test mk p) (head_contained (made_test mk p) rest)) new (λ y d. among y (tail_contained (made_test mk p) rest y d)) c
-    pattern_placed (BindPattern ty' y q) p ty places of x h typed s new among c = absurd h
-    pattern_placed (And ty' qs) p ty places of x h typed s new among c = absurd h
+        test_passed made rest (typed_within qs) (after_parts env mk qs 0 p places) (made_apart mk p)
+        (parts_passed qs mk p 0 k.0 places k.2 (fields_are env t mk p ty k.0 h.1 typed k.1) (λ e. among made e (head_contained made rest)) held (λ y e c. among y e (tail_contained made rest y c)) within)
+    pattern_passed (BindPattern of x q) p ty places h typed s held among within =
+        let mid = met_after (places x.0) x.0 p places in
+        let first = met_tests (places x.0) p in
+        let m = met_passed of ty x.0 p places (places x.0) refl h.0 (within (of, x.0) (head_contained {A = TypeId × ℕ} (of, x.0) (typed_variables q))) typed s held in
+        both_passed first (tests env q p mid) ((of, x.0) ∷ []) (typed_variables q) mid (after env q p mid) m
+        (pattern_passed q p ty mid h.1 typed s m.held (λ y e c. among y e (Contains-append_right first (tests env q p mid) y c)) (λ v c. within v (tail_contained {A = TypeId × ℕ} (of, x.0) (typed_variables q) v c))) (λ y r e. after_keeps q env p mid y r e)
+    pattern_passed (And of qs) p ty places h typed s held among within = each_passed qs p ty places h.1 typed s held among within
 
-    -- those of parts on the fields of what shows them
-    parts_placed : (qs : Patterns) (mk : Making) (p : Path) (i : ℕ) (tys : List TypeId) (places : Places) (of : TypeId) (x : ℕ) → ArePartsOf env (Some tys) qs → AreTyped env t (λ k. field_path mk k p) i tys → Contains all (made_test mk p) → AreNew places (variables_within qs)
-        → ((y : Test) → Contains (parts_tests env mk qs i p places) y → Contains all y) → Contains (typed_within qs) (of, x) → IsPlacedAs env t all (after_parts env mk qs i p places x) of
-    parts_placed NoPattern mk p i tys places of x h typed made new among c = absurd (none_contained {A = TypeId × ℕ} (of, x) c)
-    parts_placed (APattern q qs) mk p i (ty ∷ tys) places of x h typed made new among c =
+    -- parts on the fields of what shows them
+    parts_passed : (qs : Patterns) (mk : Making) (p : Path) (i : ℕ) (tys : List TypeId) (places : Places) → ArePartsOf env (Some tys) qs → AreTyped env t (λ k. field_path mk k p) i tys → (is_constraint (made_test mk p) ≡ true → Contains all (made_test mk p)) → AreHeld env t all vars places
+        → HasConstraints all (parts_tests env mk qs i p places) → ((v : TypeId × ℕ) → Contains (typed_within qs) v → Contains vars v) → IsPassed env t all vars (parts_tests env mk qs i p places) (typed_within qs) (after_parts env mk qs i p places)
+    parts_passed NoPattern mk p i tys places h typed made held among within = none_passed places held
+    parts_passed (APattern q qs) mk p i (ty ∷ tys) places h typed made held among within =
         let r = field_path mk i p in
         let mid = after env q r places in
-        ⊎_elim
-        (λ d. placed_still of (mid x) (after_parts env mk qs (suc i) p mid x) (λ s e. parts_keep qs env mk (suc i) p mid x s e)
-        (pattern_placed q r ty places of x h.0 typed.0 (λ done. field_stands mk all done p i made) (new_first places (variables q) (variables_within qs) new) (λ y f. among y (Contains-append_left (tests env q r places) (parts_tests env mk qs (suc i) p mid) y f)) d))
-        (λ d. parts_placed qs mk p (suc i) tys mid of x h.1 typed.1 made (new_rest q env r places (variables_within qs) new) (λ y f. among y (Contains-append_right (tests env q r places) (parts_tests env mk qs (suc i) p mid) y f)) d)
-        (Contains-append_cases {X = TypeId × ℕ} (typed_variables q) (typed_within qs) (of, x) c)
-    parts_placed (APattern q qs) mk p i [] places of x h typed made new among c = absurd h
+        let first = tests env q r places in
+        let rest = parts_tests env mk qs (suc i) p mid in
+        let k = pattern_passed q r ty places h.0 typed.0 (λ done. field_stands mk all done p i made) held (λ y e c. among y e (Contains-append_left first rest y c)) (λ v c. within v (Contains-append_left (typed_variables q) (typed_within qs) v c)) in
+        both_passed first rest (typed_variables q) (typed_within qs) mid (after_parts env mk qs (suc i) p mid) k
+        (parts_passed qs mk p (suc i) tys mid h.1 typed.1 made k.held (λ y e c. among y e (Contains-append_right first rest y c)) (λ v c. within v (Contains-append_right (typed_variables q) (typed_within qs) v c))) (λ y s e. parts_keep qs env mk (suc i) p mid y s e)
+    parts_passed (APattern q qs) mk p i [] places h typed made held among within = absurd h
 
-  -- those of patterns on arguments
-  args_placed : (qs : List Pattern) (i : ℕ) (tys : List TypeId) (places : Places) (of : TypeId) (x : ℕ) → ArePatternsOf env tys qs → AreTyped env t Arg i tys → AreNew places (all_variables qs) → ((y : Test) → Contains (args_tests env qs i places) y → Contains all y)
-      → Contains (all_typed qs) (of, x) → IsPlacedAs env t all (args_after env qs i places x) of
-  args_placed [] i tys places of x h typed new among c = absurd (none_contained {A = TypeId × ℕ} (of, x) c)
-  args_placed (q ∷ qs) i (ty ∷ tys) places of x h typed new among c =
+    -- several patterns on one path
+    each_passed : (qs : Patterns) (p : Path) (ty : TypeId) (places : Places) → AreEachOf env ty qs → IsPathOf env t p ty → IsStanding all p → AreHeld env t all vars places → HasConstraints all (each_tests env qs p places) → ((v : TypeId × ℕ) → Contains (typed_within qs) v → Contains vars v)
+        → IsPassed env t all vars (each_tests env qs p places) (typed_within qs) (after_each env qs p places)
+    each_passed NoPattern p ty places h typed s held among within = none_passed places held
+    each_passed (APattern q qs) p ty places h typed s held among within =
+        let mid = after env q p places in
+        let first = tests env q p places in
+        let rest = each_tests env qs p mid in
+        let k = pattern_passed q p ty places h.0 typed s held (λ y e c. among y e (Contains-append_left first rest y c)) (λ v c. within v (Contains-append_left (typed_variables q) (typed_within qs) v c)) in
+        both_passed first rest (typed_variables q) (typed_within qs) mid (after_each env qs p mid) k
+        (each_passed qs p ty mid h.1 typed s k.held (λ y e c. among y e (Contains-append_right first rest y c)) (λ v c. within v (Contains-append_right (typed_variables q) (typed_within qs) v c))) (λ y r e. each_keep qs env p mid y r e)
+
+  -- patterns on arguments
+  args_passed : (qs : List Pattern) (i : ℕ) (tys : List TypeId) (places : Places) → ArePatternsOf env tys qs → AreTyped env t Arg i tys → AreHeld env t all vars places → HasConstraints all (args_tests env qs i places) → ((v : TypeId × ℕ) → Contains (all_typed qs) v → Contains vars v)
+      → IsPassed env t all vars (args_tests env qs i places) (all_typed qs) (args_after env qs i places)
+  args_passed [] i tys places h typed held among within = none_passed places held
+  args_passed (q ∷ qs) i (ty ∷ tys) places h typed held among within =
       let mid = after env q (Arg i) places in
-      ⊎_elim
-      (λ d. placed_still of (mid x) (args_after env qs (suc i) mid x) (λ s e. args_keep env qs (suc i) mid x s e)
-      (pattern_placed q (Arg i) ty places of x h.0 typed.0 (λ done. tt) (new_first places (variables q) (all_variables qs) new) (λ y f. among y (Contains-append_left (tests env q (Arg i) places) (args_tests env qs (suc i) mid) y f)) d))
-      (λ d. args_placed qs (suc i) tys mid of x h.1 typed.1 (new_rest q env (Arg i) places (all_variables qs) new) (λ y f. among y (Contains-append_right (tests env q (Arg i) places) (args_tests env qs (suc i) mid) y f)) d)
-      (Contains-append_cases {X = TypeId × ℕ} (typed_variables q) (all_typed qs) (of, x) c)
-  args_placed (q ∷ qs) i [] places of x h typed new among c = absurd h
+      let first = tests env q (Arg i) places in
+      let rest = args_tests env qs (suc i) mid in
+      let k = pattern_passed q (Arg i) ty places h.0 typed.0 (λ done. tt) held (λ y e c. among y e (Contains-append_left first rest y c)) (λ v c. within v (Contains-append_left (typed_variables q) (all_typed qs) v c)) in
+      both_passed first rest (typed_variables q) (all_typed qs) mid (args_after env qs (suc i) mid) k
+      (args_passed qs (suc i) tys mid h.1 typed.1 k.held (λ y e c. among y e (Contains-append_right first rest y c)) (λ v c. within v (Contains-append_right (typed_variables q) (all_typed qs) v c))) (λ y r e. args_keep env qs (suc i) mid y r e)
+  args_passed (q ∷ qs) i [] places h typed held among within = absurd h
 
--- the variables of patterns of a term's types stand at paths of their types
-pub rule_placed : (env : Environment) (t : Term) (all : List Test) (qs : List Pattern) → ArePatternsOf env t.arg_tys qs → EachOnce (all_variables qs) → ((y : Test) → Contains (args_tests env qs 0 no_places) y → Contains all y) → ArePlacedAs env t all (all_typed qs) (args_after env qs 0 no_places)
-rule_placed env t all qs h once among ty x c = args_placed env t all qs 0 t.arg_tys no_places ty x h (args_are env t) (all_new (all_variables qs) once) among c
+-- the patterns of a term's types, each of whose variables has one type
+rule_passed : (env : Environment) (t : Term) (all : List Test) (qs : List Pattern) → ArePatternsOf env t.arg_tys qs → HaveOneType (all_typed qs) → HasConstraints all (args_tests env qs 0 no_places) → IsPassed env t all (all_typed qs) (args_tests env qs 0 no_places) (all_typed qs) (args_after env qs 0 no_places)
+rule_passed env t all qs h one among = args_passed env t all (all_typed qs) one qs 0 t.arg_tys no_places h (args_are env t) (λ ty x p c e. absurd cc) among (λ v c. c)
+
+-- their variables stand at paths of their types
+pub rule_placed : (env : Environment) (t : Term) (all : List Test) (qs : List Pattern) → ArePatternsOf env t.arg_tys qs → HaveOneType (all_typed qs) → HasConstraints all (args_tests env qs 0 no_places) → ArePlacedAs env t all (all_typed qs) (args_after env qs 0 no_places)
+rule_placed env t all qs h one among ty x c =
+    let k = rule_passed env t all qs h one among in
+    let at = k.there (ty, x) c in
+    let held = k.held ty x at.0 c at.1 in
+    record { path = at.0; is = at.1; typed = held.0; stands = held.1 }
+
+-- and what they equate may be compared
+pub rule_compares : (env : Environment) (t : Term) (all : List Test) (qs : List Pattern) → ArePatternsOf env t.arg_tys qs → HaveOneType (all_typed qs) → HasConstraints all (args_tests env qs 0 no_places) → (p q : Path) → Contains (args_tests env qs 0 no_places) (Equal p q) → AreComparableAt env t all p q
+rule_compares env t all qs h one among p q c = (rule_passed env t all qs h one among).equals p q c
 
 -- ---- fields
 
@@ -338,8 +402,8 @@ module _ (env : Environment) (t : Term) where
         let mk = making env term in
         let k = parts_there env (option_map (form_types env) (form env mk)) qs h.2 in
         parts_fields qs mk p 0 k.0 k.2 (fields_are env t mk p ty k.0 h.1 typed k.1)
-    pattern_fields (BindPattern of x q) p ty h typed = absurd h
-    pattern_fields (And of qs) p ty h typed = absurd h
+    pattern_fields (BindPattern of x q) p ty h typed = pattern_fields q p ty h.1 typed
+    pattern_fields (And of qs) p ty h typed = each_fields qs p ty h.1 typed
 
     -- those of parts
     parts_fields : (qs : Patterns) (mk : Making) (p : Path) (i : ℕ) (tys : List TypeId) → ArePartsOf env (Some tys) qs → AreTyped env t (λ k. field_path mk k p) i tys → AreFieldsTyped env t (parts_paths env mk qs i p)
@@ -348,6 +412,11 @@ module _ (env : Environment) (t : Term) where
         let r = field_path mk i p in
         one_field env t r (pattern_paths env q r ++ parts_paths env mk qs (suc i) p) (λ f. (ty, typed.0)) (both_fields env t (pattern_paths env q r) (parts_paths env mk qs (suc i) p) (pattern_fields q r ty h.0 typed.0) (parts_fields qs mk p (suc i) tys h.1 typed.1))
     parts_fields (APattern q qs) mk p i [] h typed = absurd h
+
+    -- those of several patterns on one path
+    each_fields : (qs : Patterns) (p : Path) (ty : TypeId) → AreEachOf env ty qs → IsPathOf env t p ty → AreFieldsTyped env t (each_paths env qs p)
+    each_fields NoPattern p ty h typed = no_fields env t
+    each_fields (APattern q qs) p ty h typed = both_fields env t (pattern_paths env q p) (each_paths env qs p) (pattern_fields q p ty h.0 typed) (each_fields qs p ty h.1 typed)
 
   -- those of patterns on arguments
   args_fields : (qs : List Pattern) (i : ℕ) (tys : List TypeId) → ArePatternsOf env tys qs → AreTyped env t Arg i tys → AreFieldsTyped env t (args_paths env qs i)

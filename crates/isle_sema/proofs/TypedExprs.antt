@@ -1,7 +1,8 @@
 -- Right sides whose parts break no row have the types that are expected, and what typed ones are.
-use Rattle.std.proofs.Common.{◌≡◌, ℕ, Bool, true, false, List, [], ◌∷◌, ◌++◌, length, map, Option, Some, None, refl, sym, ap, ◌∙◌, subst, arith}
-use Rattle.std.specs.Prelude.{ℤ, ◌==◌, ◌&&◌, ◌||◌, not, IsTrue, Contains, slice_get, IsSomeAnd, is_some}
+use Rattle.std.proofs.Common.{◌≡◌, ⊎_elim, ℕ, suc, ◌<◌, ◌≤◌, Bool, true, false, cond, List, [], ◌∷◌, ◌++◌, length, map, Option, Some, None, refl, sym, ap, ◌∙◌, subst, arith}
+use Rattle.std.specs.Prelude.{ℤ, ◌==◌, ◌&&◌, ◌||◌, not, IsTrue, Contains, option_map, slice_get, IsSomeAnd, is_some}
 use Rattle.std.specs.List.{list_any}
+use Rattle.std.specs.Str.{bytes_eq}
 use Rattle.std.proofs.lemmas.Bool.{or_parts, eqb-true, not-false}
 use Rattle.std.proofs.lemmas.List.{length-map}
 use Rattle.std.proofs.lemmas.Option.{same_Some}
@@ -15,35 +16,37 @@ use Rattle.isle_core.specs.declared.types.ExtractorKind.TheVariants as extractor
 use Rattle.isle_core.specs.CalledTerms.{is_made_kind}
 use Rattle.isle_core.specs.Constants.{const_type}
 use Rattle.isle_core.specs.Expr as core_expr
-use Rattle.isle_core.specs.Expr.{Expr as CoreExpr, Exprs as CoreExprs}
+use Rattle.isle_core.specs.Expr.{Expr as CoreExpr, Exprs as CoreExprs, LetBindings, NoBinding, ABinding}
 use Rattle.isle_core.specs.Rule.{Environment}
+use Rattle.isle_core.proofs.Contained.{head_contained, tail_contained, contained_cases}
 use Rattle.isle_ast.specs.Tree as tree
-use Rattle.isle_ast.specs.Tree.{Expr, Exprs, NoExpr, AnExpr, Def}
+use Rattle.isle_ast.specs.Tree.{Expr, Exprs, NoExpr, AnExpr, Lets, NoLet, ALet, Def}
 use Rattle.isle_declarations.specs.declared.terms.Origin.{Origin}
 use Rattle.isle_declarations.specs.declared.terms.Origin.TheVariants as origin
-use Rattle.isle_declarations.specs.Symbols.{index_of, sym_of}
+use Rattle.isle_declarations.specs.Symbols.{sym_of}
 use Rattle.isle_declarations.specs.Signatures.{Signature, externs, rule_defs, func_named, has_rule, term_named}
 use Rattle.isle_declarations.specs.Terms.{terms, is_made}
 use Rattle.isle_declarations.proofs.LookUps.{named_is}
 use Rattle.isle_types.specs.TypeEnvironment.{type_env_of}
 use Rattle.isle_types.specs.TypeRows.{on}
-use Rattle.isle_sema.specs.Calls.{count_of, calls_ruled, any_calls_ruled}
+use Rattle.isle_sema.specs.Calls.{count_of, calls_ruled, any_calls_ruled, lets_call_ruled}
 use Rattle.isle_sema.specs.Reduced.{typed_integer}
-use Rattle.isle_sema.specs.Scope.{Scope, scope_names, bound_at, variable}
-use Rattle.isle_sema.specs.Site.{Site, TruthAt, ConstantAt}
+use Rattle.isle_sema.specs.Locals.{Local, local_named, local_type, typed_local, bound_local}
+use Rattle.isle_sema.specs.Site.{Site, TruthAt, ConstantAt, BoundAt}
+use Rattle.isle_sema.specs.PatternPass.{is_blank, first_expected, later_expected}
 use Rattle.isle_sema.specs.TypeNames.{type_named, takes_truths}
 use Rattle.isle_sema.specs.Whole.{Whole, termed, has_constructor, constant_type}
 use Rattle.isle_sema.specs.Whole as whole
-use Rattle.isle_sema.specs.ExprPass.{call_tree, expr_before, expr_pass, exprs_pass}
+use Rattle.isle_sema.specs.ExprPass.{LetsPass, call_tree, expr_before, expr_type, binding_tree, binding_before, let_tree, expr_pass, exprs_pass, lets_pass}
 use Rattle.isle_sema.specs.RuleRows.{differ, is_other_type, is_misplaced, is_call_misfit, is_unknown, is_mistyped}
 use Rattle.isle_sema.specs.Environment.{whole_of, constructor_of, kind_from}
 use Rattle.isle_sema.specs.Judging.{is_partial_call}
-use Rattle.isle_sema.specs.TypedRule.{IsTermKind, IsExprOf, AreExprsOf}
+use Rattle.isle_sema.specs.TypedRule.{let_variables, IsNew, IsTermKind, IsExprOf, AreExprsOf, AreBindingsOf}
 use Rattle.isle_sema.proofs.Firsts.{any_parts}
+use Rattle.isle_sema.proofs.LocalLaws.{one_named}
 use Rattle.isle_sema.proofs.MadeForms.{made_term, constant_typed}
 use Rattle.isle_sema.proofs.MadeTerms.{term_made, term_is, types_are, all_at}
 use Rattle.isle_sema.proofs.RuleRoots.{mapped, signature_at}
-use Rattle.isle_sema.proofs.ScopeLaws.{variable_is}
 use Rattle.isle_sema.proofs.TypedConstants.{integer_typed, truth_typed}
 use Rattle.isle_sema.proofs.TypedParts.{IsTypedIn}
 use Rattle.isle_sema.proofs.TypedPatterns.{same_type}
@@ -125,25 +128,31 @@ call_is (Some ty) None es x h = absurd cc
 call_is (Some ty) (Some term) None x h = absurd cc
 call_is (Some ty) (Some term) (Some es) x h = record { of = ty; number = term; args = es; of_is = refl; number_is = refl; args_are = refl; is = same_Some (core_expr.Term ty term es) x h }
 
--- what stands over a right side: the environment that definitions give, and a scope whose variables are these
-pub record IsOver (defs : List Def) (env : Environment) (scope : Scope) (vars : List (TypeId × ℕ)) : Type 0 where
+-- what stands over a right side: the environment that definitions give, and variables in scope which are these, and whose numbers are
+-- below the next one
+pub record IsOver (defs : List Def) (env : Environment) (locals : List Local) (vars : List (TypeId × ℕ)) (next : ℕ) : Type 0 where
   pub given : IsTypedIn defs env
-  pub bound : (name : List ℕ) (v : TypeId × VarId) → variable scope name ≡ Some v → Contains vars (v.0, v.1.0)
+  pub bound : (name : List ℕ) (l : Local) (ty : TypeId) → local_named locals name ≡ Some l → l.ty ≡ Some ty → Contains vars (ty, l.number)
+  pub below : (ty : TypeId) (x : ℕ) → Contains vars (ty, x) → x < next
+
+-- so where the next number is a later one
+over_later : (defs : List Def) (env : Environment) (locals : List Local) (vars : List (TypeId × ℕ)) (next later : ℕ) → next ≤ later → IsOver defs env locals vars next → IsOver defs env locals vars later
+over_later defs env locals vars next later le over = record { given = over.given; bound = over.bound; below = λ ty x c. let lt = over.below ty x c in omega (arith, lt, le) }
 
 -- the arguments of a call, where they are kept at its term's types
-abbrev ArgsTyped : (defs : List Def) (env : Environment) (allowed : Bool) (scope : Scope) (vars : List (TypeId × ℕ)) → Exprs → Type 0
-ArgsTyped defs env allowed scope vars es = (tys : List TypeId) (xs : CoreExprs) → count_of es ≡ length tys → (exprs_pass (whole_of defs) scope (map Some tys) es).trees ≡ Some xs → AreKept (whole_of defs) allowed (exprs_pass (whole_of defs) scope (map Some tys) es).sites
+abbrev ArgsTyped : (defs : List Def) (env : Environment) (allowed : Bool) (locals : List Local) (vars : List (TypeId × ℕ)) (next : ℕ) → Exprs → Type 0
+ArgsTyped defs env allowed locals vars next es = (tys : List TypeId) (xs : CoreExprs) → count_of es ≡ length tys → (exprs_pass (whole_of defs) locals next (map Some tys) es).trees ≡ Some xs → AreKept (whole_of defs) allowed (exprs_pass (whole_of defs) locals next (map Some tys) es).sites
     → AreExprsOf env allowed vars tys xs
 
-call_typed : (defs : List Def) (env : Environment) (allowed : Bool) (scope : Scope) (vars : List (TypeId × ℕ)) (ty : TypeId) (name : List ℕ) (es : Exprs) (x : CoreExpr) (o : Option Signature) → IsOver defs env scope vars → termed (whole_of defs) name ≡ o
+call_typed : (defs : List Def) (env : Environment) (allowed : Bool) (locals : List Local) (vars : List (TypeId × ℕ)) (next : ℕ) (ty : TypeId) (name : List ℕ) (es : Exprs) (x : CoreExpr) (o : Option Signature) → IsOver defs env locals vars next → termed (whole_of defs) name ≡ o
     → is_call_misfit (whole_of defs) o (count_of es) ≡ false → on o (λ (s : Signature). differ (type_named defs s.ret) (Some ty)) ≡ false → not allowed && on o (λ (s : Signature). s.partial) ≡ false → has_rule (rule_defs defs) name ≡ false
-    → call_tree (whole.ret_type (whole_of defs) o) (term_named (terms defs) name) (exprs_pass (whole_of defs) scope (whole.arg_types (whole_of defs) o) es).trees ≡ Some x
-    → AreKept (whole_of defs) allowed (exprs_pass (whole_of defs) scope (whole.arg_types (whole_of defs) o) es).sites → ArgsTyped defs env allowed scope vars es → IsExprOf env allowed vars ty x
-call_typed defs env allowed scope vars ty name es x None over is known typed partial ruled h kept args_typed = absurd cc
-call_typed defs env allowed scope vars ty name es x (Some s) over is known typed partial ruled h kept args_typed =
+    → call_tree (whole.ret_type (whole_of defs) o) (term_named (terms defs) name) (exprs_pass (whole_of defs) locals next (whole.arg_types (whole_of defs) o) es).trees ≡ Some x
+    → AreKept (whole_of defs) allowed (exprs_pass (whole_of defs) locals next (whole.arg_types (whole_of defs) o) es).sites → ArgsTyped defs env allowed locals vars next es → IsExprOf env allowed vars ty x
+call_typed defs env allowed locals vars next ty name es x None over is known typed partial ruled h kept args_typed = absurd cc
+call_typed defs env allowed locals vars next ty name es x (Some s) over is known typed partial ruled h kept args_typed =
     let w = whole_of defs in
     let k = or_parts (not (count_of es == length s.args)) (not (has_constructor w s)) known in
-    let c = call_is (type_named defs s.ret) (term_named (terms defs) name) (exprs_pass w scope (map (type_named defs) s.args) es).trees x h in
+    let c = call_is (type_named defs s.ret) (term_named (terms defs) name) (exprs_pass w locals next (map (type_named defs) s.args) es).trees x h in
     let at = signature_at w name s c.number is c.number_is in
     let m = term_made w (terms defs) env.terms c.number.0 s over.given.terms at in
     let t = term_is w s m.term m.made in
@@ -152,7 +161,7 @@ call_typed defs env allowed scope vars ty name es x (Some s) over is known typed
     let tys : map (type_named defs) s.args ≡ map Some m.term.arg_tys = types_are defs s.args m.term.arg_tys t.args in
     let count : count_of es ≡ length m.term.arg_tys =
     eqb-true (count_of es) (length s.args) (not-false (count_of es == length s.args) k.0) ∙ sym (length-map s.args (type_named defs)) ∙ ap length tys ∙ length-map m.term.arg_tys Some in
-    let takes = args_typed m.term.arg_tys c.args count (ap (λ os. (exprs_pass w scope os es).trees) (sym tys) ∙ c.args_are) (subst (λ (os : List (Option TypeId)). AreKept w allowed (exprs_pass w scope os es).sites) tys kept) in
+    let takes = args_typed m.term.arg_tys c.args count (ap (λ os. (exprs_pass w locals next os es).trees) (sym tys) ∙ c.args_are) (subst (λ (os : List (Option TypeId)). AreKept w allowed (exprs_pass w locals next os es).sites) tys kept) in
     let named : s.term ≡ name = named_is (terms defs) name s is in
     let plain = all_at IsPlainTerm (terms defs) c.number.0 s (plain_terms defs over.given.built) at in
     let made = kind_typed defs env allowed c.number.0 s m.term s.origin over.given m.there plain refl (ap (λ (u : Term). u.kind) t.is) (not-false (has_constructor w s) k.1) (ap (has_rule (rule_defs defs)) named ∙ ruled) partial in
@@ -182,23 +191,154 @@ before_is (Some x) (Some others) xs h = record { first = x; others = others; her
 number_typed : (env : Environment) (allowed : Bool) (vars : List (TypeId × ℕ)) (ty : TypeId) (types : TypeEnv) (n : ℤ) (x : CoreExpr) → env.types ≡ types → (m : TypeId × ℤ) → typed_integer types (Some ty) n ≡ Some m → core_expr.ConstInt m.0 m.1 ≡ x → IsExprOf env allowed vars ty x
 number_typed env allowed vars ty types n x same m there is = subst (IsExprOf env allowed vars ty) is (integer_typed env ty n m (ap (λ (ts : TypeEnv). typed_integer ts (Some ty) n) same ∙ there))
 
+-- ---- numbers
+
+mutual
+  -- the next number after an expression is no earlier one
+  next_grows : (w : Whole) (locals : List Local) (next : ℕ) (expected : Option TypeId) (e : Expr) → next ≤ (expr_pass w locals next expected e).next
+  next_grows w locals next expected (tree.Number n) = omega arith
+  next_grows w locals next expected (tree.Fact b) = omega arith
+  next_grows w locals next expected (tree.Name name) = omega arith
+  next_grows w locals next expected (tree.Constant name) = omega arith
+  next_grows w locals next expected (tree.Call name es) = nexts_grow w locals next (whole.arg_types w (termed w name)) es
+  next_grows w locals next expected (tree.Let ls inner) =
+      let bound = lets_pass w locals next ls in
+      let first = lets_grow w locals next ls in
+      let rest = next_grows w bound.locals bound.next expected inner in
+      omega (arith, first, rest)
+
+  nexts_grow : (w : Whole) (locals : List Local) (next : ℕ) (expected : List (Option TypeId)) (es : Exprs) → next ≤ (exprs_pass w locals next expected es).next
+  nexts_grow w locals next expected NoExpr = omega arith
+  nexts_grow w locals next expected (AnExpr e es) =
+      let one = expr_pass w locals next (first_expected expected) e in
+      let first = next_grows w locals next (first_expected expected) e in
+      let rest = nexts_grow w locals one.next (later_expected expected) es in
+      omega (arith, first, rest)
+
+  lets_grow : (w : Whole) (locals : List Local) (next : ℕ) (ls : Lets) → next ≤ (lets_pass w locals next ls).next
+  lets_grow w locals next NoLet = omega arith
+  lets_grow w locals next (ALet var ty e ls) =
+      let of = type_named w.defs ty in
+      let value = expr_pass w locals (suc next) of e in
+      let first = next_grows w locals (suc next) of e in
+      let rest = lets_grow w (bound_local locals var of next) value.next ls in
+      omega (arith, first, rest)
+
+-- ---- `let`
+
+-- the type of a typed expression
+type_is : (env : Environment) (allowed : Bool) (vars : List (TypeId × ℕ)) (ty : TypeId) (e : CoreExpr) → IsExprOf env allowed vars ty e → expr_type e ≡ ty
+type_is env allowed vars ty (core_expr.Var of x) h = h.0
+type_is env allowed vars ty (core_expr.ConstBool b) h = h.0
+type_is env allowed vars ty (core_expr.ConstInt of n) h = h.0
+type_is env allowed vars ty (core_expr.ConstPrim of name) h = h.0
+type_is env allowed vars ty (core_expr.Term of term es) h = h.0
+type_is env allowed vars ty (core_expr.Let of bs inner) h = h.0
+
+-- what the tree of a `let` is made of
+record IsLetTree (bs : Option LetBindings) (e : Option CoreExpr) (x : CoreExpr) : Type 0 where
+  bindings : LetBindings
+  inner : CoreExpr
+  bindings_are : bs ≡ Some bindings
+  inner_is : e ≡ Some inner
+  is : core_expr.Let (expr_type inner) bindings inner ≡ x
+
+let_is : (bs : Option LetBindings) (e : Option CoreExpr) (x : CoreExpr) → let_tree bs e ≡ Some x → IsLetTree bs e x
+let_is None e x h = absurd cc
+let_is (Some bs) None x h = absurd cc
+let_is (Some bs) (Some e) x h = record { bindings = bs; inner = e; bindings_are = refl; inner_is = refl; is = same_Some (core_expr.Let (expr_type e) bs e) x h }
+
+-- and what the trees of its variables are made of
+record AreLetTrees (number : ℕ) (ty : Option TypeId) (e : Option CoreExpr) (rest : Option LetBindings) (bs : LetBindings) : Type 0 where
+  of : TypeId
+  value : CoreExpr
+  others : LetBindings
+  of_is : ty ≡ Some of
+  value_is : e ≡ Some value
+  others_are : rest ≡ Some others
+  are : ABinding (record { 0 = number }) of value others ≡ bs
+
+lets_are : (number : ℕ) (ty : Option TypeId) (e : Option CoreExpr) (rest : Option LetBindings) (bs : LetBindings) → binding_before (binding_tree number ty e) rest ≡ Some bs → AreLetTrees number ty e rest bs
+lets_are number None e rest bs h = absurd cc
+lets_are number (Some of) None rest bs h = absurd cc
+lets_are number (Some of) (Some value) None bs h = absurd cc
+lets_are number (Some of) (Some value) (Some others) bs h = record { of = of; value = value; others = others; of_is = refl; value_is = refl; others_are = refl; are = same_Some (ABinding (record { 0 = number }) of value others) bs h }
+
+-- a new number is none of those below it
+new_number : (defs : List Def) (env : Environment) (locals : List Local) (vars : List (TypeId × ℕ)) (next : ℕ) → IsOver defs env locals vars next → IsNew vars next
+new_number defs env locals vars next over ty c = let lt = over.below ty next c in omega (arith, lt)
+
+-- a variable more
+over_more : (defs : List Def) (env : Environment) (locals : List Local) (vars : List (TypeId × ℕ)) (next later : ℕ) (var : List ℕ) (ty : Option TypeId) (of : TypeId) → ty ≡ Some of → suc next ≤ later → IsOver defs env locals vars next
+    → IsOver defs env (bound_local locals var ty next) ((of, next) ∷ vars) later
+over_more defs env locals vars next later var ty of is le over = record { given = over.given; bound = λ name l t found typed. by (is_blank var) name l t found typed; below = below }
+  where
+    one : Local
+    one = record { name = var; ty = ty; number = next }
+
+    new_or : (b : Bool) (name : List ℕ) (l : Local) (t : TypeId) → cond b (Some one) (local_named locals name) ≡ Some l → l.ty ≡ Some t → Contains ((of, next) ∷ vars) (t, l.number)
+    new_or false name l t found typed = tail_contained (of, next) vars (t, l.number) (over.bound name l t found typed)
+    new_or true name l t found typed =
+        let same : one ≡ l = same_Some one l found in
+        let type : of ≡ t = same_Some of t (sym is ∙ ap (λ (x : Local). x.ty) same ∙ typed) in
+        let here : (of, next) ≡ (t, l.number) = ap (λ (x : TypeId). (x, next)) type ∙ ap (λ (x : Local). (t, x.number)) same in
+        subst (Contains ((of, next) ∷ vars)) here (head_contained (of, next) vars)
+
+    by : (blank : Bool) (name : List ℕ) (l : Local) (t : TypeId) → local_named (cond blank locals (locals ++ one ∷ [])) name ≡ Some l → l.ty ≡ Some t → Contains ((of, next) ∷ vars) (t, l.number)
+    by true name l t found typed = tail_contained (of, next) vars (t, l.number) (over.bound name l t found typed)
+    by false name l t found typed = new_or (bytes_eq var name) name l t (sym (one_named locals one name) ∙ found) typed
+
+    below : (t : TypeId) (x : ℕ) → Contains ((of, next) ∷ vars) (t, x) → x < later
+    below t x c =
+        ⊎_elim (λ (e : (of, next) ≡ (t, x)). let same : next ≡ x = ap (λ (v : TypeId × ℕ). v.1) e in omega (arith, same, le)) (λ d. let lt = over.below t x d in omega (arith, lt, le)) (contained_cases (of, next) vars (t, x) c)
+
+-- ---- typed expressions
+
+-- what the type and the number of a variable come of
+record IsLocal (o : Option Local) (v : TypeId × VarId) : Type 0 where
+  local : Local
+  found : o ≡ Some local
+  typed : local.ty ≡ Some v.0
+  numbered : local.number ≡ v.1.0
+
+local_typed : (l : Local) (o : Option TypeId) (v : TypeId × VarId) → l.ty ≡ o → option_map (λ (ty : TypeId). (ty, record { 0 = l.number })) o ≡ Some v → IsLocal (Some l) v
+local_typed l None v e h = absurd cc
+local_typed l (Some ty) v e h =
+    let same = same_Some {A = TypeId × VarId} (ty, record { 0 = l.number }) v h in
+    record { local = l; found = refl; typed = e ∙ ap (λ (x : TypeId × VarId). Some x.0) same; numbered = ap (λ (x : TypeId × VarId). x.1.0) same }
+
+local_is : (found : Option Local) (v : TypeId × VarId) → typed_local found ≡ Some v → IsLocal found v
+local_is None v h = absurd cc
+local_is (Some l) v h = local_typed l l.ty v refl h
+
+-- the variables of a `let` have their types, and those behind them are in scope
+record AreTypedLets (defs : List Def) (env : Environment) (allowed : Bool) (vars : List (TypeId × ℕ)) (bs : LetBindings) (pass : LetsPass) : Type 0 where
+  typed : AreBindingsOf env allowed vars bs
+  over : IsOver defs env pass.locals (let_variables vars bs) pass.next
+
+-- what a variable of a `let` and what is behind it keep
+bound_kept : (w : Whole) (allowed : Bool) (ty : Option TypeId) (sites : List Site) → AreKept w allowed (BoundAt ty ∷ sites) → AreKept w allowed sites
+bound_kept w allowed ty sites k = record { placed = k.placed; known = k.known; typed = (or_parts (not (is_some ty)) (list_any (is_mistyped w) sites) k.typed).1; partial = k.partial }
+
 mutual
   -- an expression whose parts break no row, and which calls no term that has a rule, is of the type that is expected
-  pub expr_typed : (defs : List Def) (env : Environment) (allowed : Bool) (scope : Scope) (vars : List (TypeId × ℕ)) (ty : TypeId) (e : Expr) (x : CoreExpr) → IsOver defs env scope vars → (expr_pass (whole_of defs) scope (Some ty) e).tree ≡ Some x
-      → AreKept (whole_of defs) allowed (expr_pass (whole_of defs) scope (Some ty) e).sites → calls_ruled (rule_defs defs) e ≡ false → IsExprOf env allowed vars ty x
-  expr_typed defs env allowed scope vars ty (tree.Number n) x over h kept ruled =
+  pub expr_typed : (defs : List Def) (env : Environment) (allowed : Bool) (locals : List Local) (vars : List (TypeId × ℕ)) (next : ℕ) (ty : TypeId) (e : Expr) (x : CoreExpr) → IsOver defs env locals vars next → (expr_pass (whole_of defs) locals next (Some ty) e).tree ≡ Some x
+      → AreKept (whole_of defs) allowed (expr_pass (whole_of defs) locals next (Some ty) e).sites → calls_ruled (rule_defs defs) e ≡ false → IsExprOf env allowed vars ty x
+  expr_typed defs env allowed locals vars next ty (tree.Number n) x over h kept ruled =
       let m = mapped (λ (v : TypeId × ℤ). core_expr.ConstInt v.0 v.1) (typed_integer (type_env_of defs) (Some ty) n) x h in
       number_typed env allowed vars ty (type_env_of defs) n x over.given.types m.from m.there m.is
-  expr_typed defs env allowed scope vars ty (tree.Fact b) x over h kept ruled =
+  expr_typed defs env allowed locals vars next ty (tree.Fact b) x over h kept ruled =
       let takes = not-false (takes_truths (type_env_of defs) (Some ty)) (or_parts (is_misplaced (whole_of defs) (TruthAt (Some ty))) false kept.placed).0 in
       subst (IsExprOf env allowed vars ty) (same_Some (core_expr.ConstBool b) x h) (truth_typed defs env b ty over.given.types (ap (λ (ts : TypeEnv). takes_truths ts (Some ty)) over.given.types ∙ takes))
-  expr_typed defs env allowed scope vars ty (tree.Name name) x over h kept ruled =
-      let m = mapped (λ (v : TypeId × VarId). core_expr.Var v.0 v.1) (variable scope name) x h in
-      let v = variable_is (bound_at scope name) (index_of (scope_names scope) name) m.from m.there in
-      let typed = (or_parts (is_other_type (bound_at scope name) (Some ty)) false kept.typed).0 in
-      let is : m.from.0 ≡ ty = same_type m.from.0 ty (ap (λ o. is_other_type o (Some ty)) (sym v.bound_is) ∙ typed) in
-      subst (IsExprOf env allowed vars ty) m.is (is, subst (λ (t : TypeId). Contains vars (t, m.from.1.0)) is (over.bound name m.from m.there))
-  expr_typed defs env allowed scope vars ty (tree.Constant name) x over h kept ruled =
+  expr_typed defs env allowed locals vars next ty (tree.Name name) x over h kept ruled =
+      let m = mapped (λ (v : TypeId × VarId). core_expr.Var v.0 v.1) (typed_local (local_named locals name)) x h in
+      let v = local_is (local_named locals name) m.from m.there in
+      let typed = (or_parts (is_other_type (local_type (local_named locals name)) (Some ty)) false kept.typed).0 in
+      let bound : local_type (local_named locals name) ≡ Some (Some m.from.0) = ap local_type v.found ∙ ap Some v.typed in
+      let is : m.from.0 ≡ ty = same_type m.from.0 ty (ap (λ o. is_other_type o (Some ty)) (sym bound) ∙ typed) in
+      let there : Contains vars (m.from.0, m.from.1.0) = subst (λ n. Contains vars (m.from.0, n)) v.numbered (over.bound name v.local m.from.0 v.found v.typed) in
+      subst (IsExprOf env allowed vars ty) m.is (is, subst (λ (t : TypeId). Contains vars (t, m.from.1.0)) is there)
+  expr_typed defs env allowed locals vars next ty (tree.Constant name) x over h kept ruled =
       let w = whole_of defs in
       let m = mapped (λ (t : TypeId). core_expr.ConstPrim t (sym_of (type_env_of defs).syms name)) (constant_type w name) x h in
       let typed = (or_parts (is_mistyped w (ConstantAt false (Some ty) (constant_type w name))) false kept.typed).0 in
@@ -206,30 +346,61 @@ mutual
       let known = constant_typed defs env name m.from over.given.types m.there in
       let at : const_type env (sym_of (type_env_of defs).syms name) ≡ Some ty = ap (λ (ts : TypeEnv). const_type env (sym_of ts.syms name)) (sym over.given.types) ∙ known ∙ ap Some is in
       subst (IsExprOf env allowed vars ty) m.is (is, at)
-  expr_typed defs env allowed scope vars ty (tree.Let ls inner) x over h kept ruled = absurd cc
-  expr_typed defs env allowed scope vars ty (tree.Call name es) x over h kept ruled =
+  expr_typed defs env allowed locals vars next ty (tree.Let ls inner) x over h kept ruled =
+      let w = whole_of defs in
+      let bound = lets_pass w locals next ls in
+      let result = expr_pass w bound.locals bound.next (Some ty) inner in
+      let m = let_is bound.trees result.tree x h in
+      let k = kept_parts w allowed bound.sites result.sites (record { placed = kept.placed; known = kept.known; typed = kept.typed; partial = kept.partial }) in
+      let r = or_parts (lets_call_ruled (rule_defs defs) ls) (calls_ruled (rule_defs defs) inner) ruled in
+      let b = lets_typed defs env allowed locals vars next ls m.bindings over m.bindings_are k.0 r.0 in
+      let typed = expr_typed defs env allowed bound.locals (let_variables vars m.bindings) bound.next ty inner m.inner b.over m.inner_is k.1 r.1 in
+      subst (IsExprOf env allowed vars ty) m.is (type_is env allowed (let_variables vars m.bindings) ty m.inner typed, b.typed, typed)
+  expr_typed defs env allowed locals vars next ty (tree.Call name es) x over h kept ruled =
       let w = whole_of defs in
       let o = termed w name in
-      let sites = (exprs_pass w scope (whole.arg_types w o) es).sites in
+      let sites = (exprs_pass w locals next (whole.arg_types w o) es).sites in
       let p = or_parts false (list_any (is_misplaced w) sites) kept.placed in
       let u = or_parts (is_call_misfit w o (count_of es)) (list_any (is_unknown w) sites) kept.known in
       let t = or_parts (on o (λ (s : Signature). differ (type_named defs s.ret) (Some ty))) (list_any (is_mistyped w) sites) kept.typed in
       let q = partial_first allowed (on o (λ (s : Signature). s.partial)) sites kept.partial in
       let r = or_parts (has_rule (rule_defs defs) name) (any_calls_ruled (rule_defs defs) es) ruled in
-      call_typed defs env allowed scope vars ty name es x o over refl u.0 t.0 q.0 r.0 h (record { placed = p.1; known = u.1; typed = t.1; partial = q.1 })
-      (λ tys xs count found k. exprs_typed defs env allowed scope vars tys es xs over count found k r.1)
+      call_typed defs env allowed locals vars next ty name es x o over refl u.0 t.0 q.0 r.0 h (record { placed = p.1; known = u.1; typed = t.1; partial = q.1 })
+      (λ tys xs count found k. exprs_typed defs env allowed locals vars next tys es xs over count found k r.1)
 
   -- so of expressions in order
-  pub exprs_typed : (defs : List Def) (env : Environment) (allowed : Bool) (scope : Scope) (vars : List (TypeId × ℕ)) (tys : List TypeId) (es : Exprs) (xs : CoreExprs) → IsOver defs env scope vars → count_of es ≡ length tys
-      → (exprs_pass (whole_of defs) scope (map Some tys) es).trees ≡ Some xs → AreKept (whole_of defs) allowed (exprs_pass (whole_of defs) scope (map Some tys) es).sites → any_calls_ruled (rule_defs defs) es ≡ false → AreExprsOf env allowed vars tys xs
-  exprs_typed defs env allowed scope vars [] NoExpr xs over count h kept ruled = subst (AreExprsOf env allowed vars []) (same_Some core_expr.NoExpr xs h) tt
-  exprs_typed defs env allowed scope vars [] (AnExpr e es) xs over count h kept ruled = absurd (omega arith)
-  exprs_typed defs env allowed scope vars (ty ∷ tys) NoExpr xs over count h kept ruled = absurd (omega arith)
-  exprs_typed defs env allowed scope vars (ty ∷ tys) (AnExpr e es) xs over count h kept ruled =
+  exprs_typed : (defs : List Def) (env : Environment) (allowed : Bool) (locals : List Local) (vars : List (TypeId × ℕ)) (next : ℕ) (tys : List TypeId) (es : Exprs) (xs : CoreExprs) → IsOver defs env locals vars next → count_of es ≡ length tys
+      → (exprs_pass (whole_of defs) locals next (map Some tys) es).trees ≡ Some xs → AreKept (whole_of defs) allowed (exprs_pass (whole_of defs) locals next (map Some tys) es).sites → any_calls_ruled (rule_defs defs) es ≡ false → AreExprsOf env allowed vars tys xs
+  exprs_typed defs env allowed locals vars next [] NoExpr xs over count h kept ruled = subst (AreExprsOf env allowed vars []) (same_Some core_expr.NoExpr xs h) tt
+  exprs_typed defs env allowed locals vars next [] (AnExpr e es) xs over count h kept ruled = absurd (omega arith)
+  exprs_typed defs env allowed locals vars next (ty ∷ tys) NoExpr xs over count h kept ruled = absurd (omega arith)
+  exprs_typed defs env allowed locals vars next (ty ∷ tys) (AnExpr e es) xs over count h kept ruled =
       let w = whole_of defs in
-      let one = expr_pass w scope (Some ty) e in
-      let rest = exprs_pass w scope (map Some tys) es in
+      let one = expr_pass w locals next (Some ty) e in
+      let rest = exprs_pass w locals one.next (map Some tys) es in
       let b = before_is one.tree rest.trees xs h in
       let k = kept_parts w allowed one.sites rest.sites kept in
       let r = or_parts (calls_ruled (rule_defs defs) e) (any_calls_ruled (rule_defs defs) es) ruled in
-      subst (AreExprsOf env allowed vars (ty ∷ tys)) b.all (expr_typed defs env allowed scope vars ty e b.first over b.here k.0 r.0, exprs_typed defs env allowed scope vars tys es b.others over (omega arith) b.found k.1 r.1)
+      let later = over_later defs env locals vars next one.next (next_grows w locals next (Some ty) e) over in
+      subst (AreExprsOf env allowed vars (ty ∷ tys)) b.all (expr_typed defs env allowed locals vars next ty e b.first over b.here k.0 r.0, exprs_typed defs env allowed locals vars one.next tys es b.others later (omega arith) b.found k.1 r.1)
+
+  -- and of the variables of a `let`
+  lets_typed : (defs : List Def) (env : Environment) (allowed : Bool) (locals : List Local) (vars : List (TypeId × ℕ)) (next : ℕ) (ls : Lets) (bs : LetBindings) → IsOver defs env locals vars next → (lets_pass (whole_of defs) locals next ls).trees ≡ Some bs
+      → AreKept (whole_of defs) allowed (lets_pass (whole_of defs) locals next ls).sites → lets_call_ruled (rule_defs defs) ls ≡ false → AreTypedLets defs env allowed vars bs (lets_pass (whole_of defs) locals next ls)
+  lets_typed defs env allowed locals vars next NoLet bs over h kept ruled =
+      subst (λ (y : LetBindings). AreTypedLets defs env allowed vars y (lets_pass (whole_of defs) locals next NoLet)) (same_Some NoBinding bs h) (record { typed = tt; over = over })
+  lets_typed defs env allowed locals vars next (ALet var name e ls) bs over h kept ruled =
+      let w = whole_of defs in
+      let ty = type_named defs name in
+      let value = expr_pass w locals (suc next) ty e in
+      let more = bound_local locals var ty next in
+      let rest = lets_pass w more value.next ls in
+      let m = lets_are next ty value.tree rest.trees bs h in
+      let k = kept_parts w allowed value.sites rest.sites (bound_kept w allowed ty (value.sites ++ rest.sites) kept) in
+      let r = or_parts (calls_ruled (rule_defs defs) e) (lets_call_ruled (rule_defs defs) ls) ruled in
+      let grown = next_grows w locals (suc next) ty e in
+      let typed = expr_typed defs env allowed locals vars (suc next) m.of e m.value (over_later defs env locals vars next (suc next) (omega arith) over) (ap (λ o. (expr_pass w locals (suc next) o e).tree) (sym m.of_is) ∙ m.value_is)
+      (subst (λ o. AreKept w allowed (expr_pass w locals (suc next) o e).sites) m.of_is k.0) r.0 in
+      let others = lets_typed defs env allowed more ((m.of, next) ∷ vars) value.next ls m.others (over_more defs env locals vars next value.next var ty m.of m.of_is grown over) m.others_are k.1 r.1 in
+      subst (λ (y : LetBindings). AreTypedLets defs env allowed vars y (lets_pass w locals next (ALet var name e ls))) m.are
+      (record { typed = (new_number defs env locals vars next over, typed, others.typed); over = others.over })

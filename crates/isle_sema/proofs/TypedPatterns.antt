@@ -1,11 +1,11 @@
--- Patterns whose parts break no row have the types that are expected, and each variable stands in one of them.
-use Rattle.std.proofs.Common.{◌≡◌, ◌⊎◌, ⊎_elim, inl, inr, ℕ, ◌+◌, ◌≤◌, Bool, true, false, List, [], ◌∷◌, ◌++◌, length, map, Option, Some, None, refl, sym, ap, ◌∙◌, subst, arith}
-use Rattle.std.specs.Prelude.{ℤ, ◌==◌, not, Contains, is_some, option_map}
-use Rattle.std.specs.List.{AllByRecursion, list_any}
+-- Patterns whose parts break no row have the types that are expected, and each variable after them stands in one of them.
+use Rattle.std.proofs.Common.{◌≡◌, ◌⊎◌, ⊎_elim, inl, inr, ℕ, Bool, true, false, cond, List, [], ◌∷◌, ◌++◌, length, map, Option, Some, None, refl, sym, ap, ◌∙◌, subst, arith}
+use Rattle.std.specs.Prelude.{ℤ, ◌==◌, not, Contains, option_map}
+use Rattle.std.specs.List.{list_any}
 use Rattle.std.specs.Str.{bytes_eq}
 use Rattle.std.proofs.lemmas.Bool.{or_parts, eqb-true, not-false}
-use Rattle.std.proofs.lemmas.List.{length-append, length-map, append_assoc, append-nil}
-use Rattle.std.proofs.lemmas.List.Elements.{All-contains, All-from_recursion, Contains-append_left, Contains-append_right}
+use Rattle.std.proofs.lemmas.List.{length-map}
+use Rattle.std.proofs.lemmas.List.Elements.{Contains-append_left, Contains-append_right}
 use Rattle.std.proofs.lemmas.Option.{same_Some}
 use Rattle.std.proofs.lemmas.Slice.Eq.{bytes_eq-Decides}
 use Rattle.isle_core.specs.declared.TermId.{TermId}
@@ -17,34 +17,30 @@ use Rattle.isle_core.specs.Form.{form, form_types}
 use Rattle.isle_core.specs.Making.{making}
 use Rattle.isle_core.specs.Pattern as core_pattern
 use Rattle.isle_core.specs.Pattern.{Pattern as CorePattern}
-use Rattle.isle_core.specs.PatternType.{IsOfMaking, IsPatternOf, ArePartsOf, ArePatternsOf}
+use Rattle.isle_core.specs.PatternType.{IsOfMaking, IsPatternOf, ArePartsOf, AreEachOf, ArePatternsOf}
 use Rattle.isle_core.specs.Rule.{Environment}
 use Rattle.isle_core.specs.RuleViews.{patterns_of as core_patterns}
-use Rattle.isle_core.specs.Scope.{variables, variables_within, all_variables}
-use Rattle.isle_core.specs.StandsFor.{EachOnce}
-use Rattle.isle_core.proofs.Contained.{head_contained}
+use Rattle.isle_core.proofs.Contained.{head_contained, tail_contained}
 use Rattle.isle_ast.specs.Tree as tree
 use Rattle.isle_ast.specs.Tree.{Pattern, Patterns, NoPattern, APattern, Def}
-use Rattle.isle_declarations.specs.Repeats.{repeats_after}
 use Rattle.isle_declarations.specs.Signatures.{Signature, term_named}
 use Rattle.isle_declarations.specs.Symbols.{index_of, sym_of}
 use Rattle.isle_declarations.specs.Terms.{terms, is_made}
 use Rattle.isle_types.specs.Builtins.{type_id}
 use Rattle.isle_types.specs.TypeEnvironment.{type_env_of}
 use Rattle.isle_sema.specs.Environment.{whole_of}
-use Rattle.isle_sema.specs.PatternPass.{term_tree, count_of, first_expected, later_expected, pattern_pass, patterns_pass}
+use Rattle.isle_sema.specs.PatternPass.{PatternPass, term_tree, and_tree, is_blank, bound_tree, count_of, of_each, first_expected, later_expected, pattern_pass, patterns_pass}
 use Rattle.isle_sema.specs.Reduced.{typed_integer}
 use Rattle.isle_sema.specs.RuleRows.{differ, is_taken_misfit, is_untaken, is_mistaken, is_misplaced, is_undeclared, is_other_type, is_met_otherwise}
 use Rattle.isle_sema.specs.Scope.{Scope, scope_names, bound_at, met, variable}
-use Rattle.isle_sema.specs.Site.{Site, TruthAt, TakenAt}
+use Rattle.isle_sema.specs.Site.{Site, TruthAt, PartAt, MetAt, TakenAt}
 use Rattle.isle_sema.specs.TypedRule.{typed_variables, typed_within, all_typed}
 use Rattle.isle_sema.specs.TypeNames.{type_named, takes_truths}
-use Rattle.isle_sema.specs.VariableNames.{variable_names, variables_of}
 use Rattle.isle_sema.specs.Whole.{Whole, termed, arg_types, ret_type, constant_type}
 use Rattle.isle_sema.proofs.Firsts.{any_parts}
 use Rattle.isle_sema.proofs.MadeTerms.{first_there}
 pub use Rattle.isle_sema.proofs.RuleRoots.{IsMapped, mapped}
-use Rattle.isle_sema.proofs.ScopeLaws.{variable_is, unbound, met_new, met_again, names_more, bound_new, place_new, variable_other}
+use Rattle.isle_sema.proofs.ScopeLaws.{variable_is, met_again, bound_new, variable_other}
 use Rattle.isle_sema.proofs.TypedConstants.{integer_typed, truth_typed}
 
 -- two types that don't differ are one
@@ -52,16 +48,16 @@ pub same_type : (of ty : TypeId) → differ (Some of) (Some ty) ≡ false → of
 same_type of ty h = ap type_id (eqb-true of.0 ty.0 (not-false (of.0 == ty.0) h))
 
 -- what the tree of a made term is made of
-record IsTermTree (ty : Option TypeId) (term : Option TermId) (ps : Option (List CorePattern)) (q : CorePattern) : Type 0 where
-  of : TypeId
-  number : TermId
-  parts : List CorePattern
-  of_is : ty ≡ Some of
-  number_is : term ≡ Some number
-  parts_are : ps ≡ Some parts
-  is : core_pattern.Term of number (core_patterns parts) ≡ q
+pub record IsTermTree (ty : Option TypeId) (term : Option TermId) (ps : Option (List CorePattern)) (q : CorePattern) : Type 0 where
+  pub of : TypeId
+  pub number : TermId
+  pub parts : List CorePattern
+  pub of_is : ty ≡ Some of
+  pub number_is : term ≡ Some number
+  pub parts_are : ps ≡ Some parts
+  pub is : core_pattern.Term of number (core_patterns parts) ≡ q
 
-term_tree_is : (ty : Option TypeId) (term : Option TermId) (ps : Option (List CorePattern)) (q : CorePattern) → term_tree ty term ps ≡ Some q → IsTermTree ty term ps q
+pub term_tree_is : (ty : Option TypeId) (term : Option TermId) (ps : Option (List CorePattern)) (q : CorePattern) → term_tree ty term ps ≡ Some q → IsTermTree ty term ps q
 term_tree_is None term ps q h = absurd cc
 term_tree_is (Some ty) None ps q h = absurd cc
 term_tree_is (Some ty) (Some n) None q h = absurd cc
@@ -74,6 +70,36 @@ term_tree_is (Some ty) (Some n) (Some parts) q h = record {
   parts_are = refl;
   is = same_Some (core_pattern.Term ty n (core_patterns parts)) q h;
 }
+
+-- what the tree of `and` is made of
+pub record IsAndTree (ty : TypeId) (ps : Option (List CorePattern)) (q : CorePattern) : Type 0 where
+  pub parts : List CorePattern
+  pub parts_are : ps ≡ Some parts
+  pub is : core_pattern.And ty (core_patterns parts) ≡ q
+
+and_tree_is : (ty : TypeId) (ps : Option (List CorePattern)) (q : CorePattern) → and_tree (Some ty) ps ≡ Some q → IsAndTree ty ps q
+and_tree_is ty None q h = absurd cc
+and_tree_is ty (Some parts) q h = record { parts = parts; parts_are = refl; is = same_Some (core_pattern.And ty (core_patterns parts)) q h }
+
+-- what the tree of a variable at a pattern is made of
+pub record IsBoundTree (v : Option (TypeId × VarId)) (p : Option CorePattern) (q : CorePattern) : Type 0 where
+  pub var : TypeId × VarId
+  pub inner : CorePattern
+  pub var_is : v ≡ Some var
+  pub inner_is : p ≡ Some inner
+  pub is : core_pattern.BindPattern var.0 var.1 inner ≡ q
+
+pub bound_tree_is : (v : Option (TypeId × VarId)) (p : Option CorePattern) (q : CorePattern) → bound_tree v p ≡ Some q → IsBoundTree v p q
+bound_tree_is None p q h = absurd cc
+bound_tree_is (Some v) None q h = absurd cc
+bound_tree_is (Some v) (Some x) q h = record { var = v; inner = x; var_is = refl; inner_is = refl; is = same_Some (core_pattern.BindPattern v.0 v.1 x) q h }
+
+-- the pass over `@`, by whether its name is blank
+abbrev pub bind_pass : Whole → Option TypeId → Scope → List ℕ → Pattern → Bool → PatternPass
+bind_pass w expected scope name p blank =
+    let mid : Scope = cond blank scope (met scope name expected) in
+    let inner = pattern_pass w expected mid p in
+    record { tree = cond blank inner.tree (bound_tree (variable mid name) inner.tree); scope = inner.scope; sites = cond blank [] (MetAt expected (bound_at scope name) ∷ []) ++ inner.sites }
 
 -- ---- what is known of parts and of terms
 
@@ -151,6 +177,22 @@ term_typed defs env ty scope ps name (Some s) q knows is typed h well =
     let parts = parts_of env m.1 t.parts (typed m.1 t.parts (many ∙ long) trees sites) in
     subst (IsPatternOf env ty) t.is (same, m.0, subst (λ o. ArePartsOf env o (core_patterns t.parts)) (sym m.2) parts)
 
+-- `@` is of the type where its pattern is
+bind_typed : (defs : List Def) (env : Environment) (ty : TypeId) (scope : Scope) (name : List ℕ) (p : Pattern) (q : CorePattern) (blank : Bool)
+    → ((mid : Scope) (x : CorePattern) → (pattern_pass (whole_of defs) (Some ty) mid p).tree ≡ Some x → AreTakenWell (whole_of defs) (pattern_pass (whole_of defs) (Some ty) mid p).sites → IsPatternOf env ty x)
+    → (bind_pass (whole_of defs) (Some ty) scope name p blank).tree ≡ Some q → AreTakenWell (whole_of defs) (bind_pass (whole_of defs) (Some ty) scope name p blank).sites → IsPatternOf env ty q
+bind_typed defs env ty scope name p q true go h well = go scope q h well
+bind_typed defs env ty scope name p q false go h well =
+    let w = whole_of defs in
+    let mid = met scope name (Some ty) in
+    let inner = pattern_pass w (Some ty) mid p in
+    let b = bound_tree_is (variable mid name) inner.tree q h in
+    let k = taken_parts w (MetAt (Some ty) (bound_at scope name) ∷ []) inner.sites well in
+    subst (IsPatternOf env ty) b.is (
+      met_type scope name ty b.var (bound_at scope name) refl b.var_is (or_parts (is_other_type (bound_at scope name) (Some ty)) false k.0.again).0,
+      go mid b.inner b.inner_is k.1,
+    )
+
 mutual
   -- a pattern at this type is of it
   pattern_typed : (defs : List Def) (env : Environment) (ty : TypeId) (scope : Scope) (p : Pattern) (q : CorePattern) → KnowsTerms defs env → env.types ≡ type_env_of defs → (pattern_pass (whole_of defs) (Some ty) scope p).tree ≡ Some q
@@ -172,8 +214,24 @@ mutual
       subst (IsPatternOf env ty) m.is (same, knows.constant name ty (m.there ∙ ap Some same))
   pattern_typed defs env ty scope (tree.Term name ps) q knows types h well =
       term_typed defs env ty scope ps name (termed (whole_of defs) name) q knows refl (λ tys qs same trees sites. patterns_typed defs env tys scope ps qs knows types same trees sites) h well
-  pattern_typed defs env ty scope (tree.Bind name p) q knows types h well = absurd cc
-  pattern_typed defs env ty scope (tree.And ps) q knows types h well = absurd cc
+  pattern_typed defs env ty scope (tree.Bind name p) q knows types h well = bind_typed defs env ty scope name p q (is_blank name) (λ mid x t k. pattern_typed defs env ty mid p x knows types t k) h well
+  pattern_typed defs env ty scope (tree.And ps) q knows types h well =
+      let w = whole_of defs in
+      let parts = patterns_pass w (of_each (Some ty) ps) scope ps in
+      let a = and_tree_is ty parts.trees q h in
+      subst (IsPatternOf env ty) a.is (refl, each_typed defs env ty scope ps a.parts knows types a.parts_are (taken_parts w (PartAt ∷ []) parts.sites well).1)
+
+  -- so of each of several on one value
+  each_typed : (defs : List Def) (env : Environment) (ty : TypeId) (scope : Scope) (ps : Patterns) (qs : List CorePattern) → KnowsTerms defs env → env.types ≡ type_env_of defs
+      → (patterns_pass (whole_of defs) (of_each (Some ty) ps) scope ps).trees ≡ Some qs → AreTakenWell (whole_of defs) (patterns_pass (whole_of defs) (of_each (Some ty) ps) scope ps).sites → AreEachOf env ty (core_patterns qs)
+  each_typed defs env ty scope NoPattern qs knows types h well = subst (λ (xs : List CorePattern). AreEachOf env ty (core_patterns xs)) (same_Some [] qs h) tt
+  each_typed defs env ty scope (APattern p ps) qs knows types h well =
+      let w = whole_of defs in
+      let one = pattern_pass w (Some ty) scope p in
+      let rest = patterns_pass w (of_each (Some ty) ps) one.scope ps in
+      let f = first_there one.tree rest.trees qs h in
+      let k = taken_parts w one.sites rest.sites well in
+      subst (λ (xs : List CorePattern). AreEachOf env ty (core_patterns xs)) (sym f.all) (pattern_typed defs env ty scope p f.first knows types f.here k.0, each_typed defs env ty one.scope ps f.others knows types f.found k.1)
 
   -- patterns at these types are of them
   pub patterns_typed : (defs : List Def) (env : Environment) (tys : List TypeId) (scope : Scope) (ps : Patterns) (qs : List CorePattern) → KnowsTerms defs env → env.types ≡ type_env_of defs → count_of ps ≡ length tys
@@ -189,89 +247,35 @@ mutual
       let k = taken_parts w one.sites rest.sites well in
       subst (ArePatternsOf env (ty ∷ tys)) (sym f.all) (pattern_typed defs env ty scope p f.first knows types f.here k.0, patterns_typed defs env tys one.scope ps f.others knows types (omega arith) f.found k.1)
 
--- ---- each variable once
-
--- numbers from this one on, each once
-pub record AreFrom (n : ℕ) (ms : List ℕ) : Type 0 where
-  pub least : AllByRecursion (λ (m : ℕ). n ≤ m) ms
-  pub once : EachOnce ms
-
-less : (n : ℕ) (ms : List ℕ) → AllByRecursion (λ (m : ℕ). n + 1 ≤ m) ms → AllByRecursion (λ (m : ℕ). n ≤ m) ms
-less n [] h = tt
-less n (m ∷ ms) h = let first : n + 1 ≤ m = h.0 in (omega arith, less n ms h.1)
-
-no_more : (n : ℕ) (ms : List ℕ) → AllByRecursion (λ (m : ℕ). n + 1 ≤ m) ms → Contains ms n → ⊥
-no_more n ms h c = let bad : n + 1 ≤ n = All-contains (λ (m : ℕ). n + 1 ≤ m) ms n (All-from_recursion (λ (m : ℕ). n + 1 ≤ m) ms h) c in omega arith
-
-from_next : (n : ℕ) (ms : List ℕ) → AreFrom (n + 1) ms → AreFrom n (n ∷ ms)
-from_next n ms h = let here : n ≤ n = omega arith in record { least = (here, less n ms h.least); once = (no_more n ms h.least, h.once) }
-
--- the variables of a list's patterns, as parts of a pattern
-within_list : (qs : List CorePattern) → all_variables qs ≡ variables_within (core_patterns qs)
-within_list [] = refl
-within_list (q ∷ qs) = ap (λ ms. variables q ++ ms) (within_list qs)
-
-mutual
-  -- the variables of a pattern and those of others behind it, whose names are apart
-  numbers_of : (w : Whole) (expected : Option TypeId) (scope : Scope) (p : Pattern) (q : CorePattern) (later : List (List ℕ)) (ms : List ℕ) → (pattern_pass w expected scope p).tree ≡ Some q
-      → repeats_after (scope_names scope) (variable_names p ++ later) ≡ false
-      → (repeats_after (scope_names (pattern_pass w expected scope p).scope) later ≡ false → AreFrom (length (pattern_pass w expected scope p).scope) ms) → AreFrom (length scope) (variables q ++ ms)
-  numbers_of w expected scope (tree.Int n) q later ms h apart rest =
-      let m = mapped (λ (v : TypeId × ℤ). core_pattern.ConstInt v.0 v.1) (typed_integer w.types expected n) q h in
-      subst (λ x. AreFrom (length scope) (variables x ++ ms)) m.is (rest apart)
-  numbers_of w expected scope (tree.Truth b) q later ms h apart rest = subst (λ x. AreFrom (length scope) (variables x ++ ms)) (same_Some (core_pattern.ConstBool b) q h) (rest apart)
-  numbers_of w expected scope tree.Wildcard q later ms h apart rest =
-      let m = mapped core_pattern.Wildcard expected q h in
-      subst (λ x. AreFrom (length scope) (variables x ++ ms)) m.is (rest apart)
-  numbers_of w expected scope (tree.Var name) q later ms h apart rest =
-      let after = met scope name expected in
-      let k = or_parts (is_some (index_of (scope_names scope) name)) (repeats_after (scope_names scope ++ name ∷ []) later) apart in
-      let m = mapped (λ (v : TypeId × VarId). core_pattern.Var v.0 v.1) (variable after name) q h in
-      let v = variable_is (bound_at after name) (index_of (scope_names after) name) m.from m.there in
-      let number : m.from.1.0 ≡ length scope = same_Some m.from.1.0 (length scope) (sym v.place_is ∙ place_new scope name expected k.0) in
-      let new : after ≡ scope ++ (name, expected) ∷ [] = met_new scope name expected (unbound scope name k.0) in
-      let names : scope_names after ≡ scope_names scope ++ name ∷ [] = ap scope_names new ∙ names_more scope name expected in
-      let long : length after ≡ length scope + 1 = ap length new ∙ length-append scope ((name, expected) ∷ []) in
-      let others = rest (ap (λ ns. repeats_after ns later) names ∙ k.1) in
-      subst (λ x. AreFrom (length scope) (variables x ++ ms)) m.is (subst (λ n. AreFrom (length scope) (n ∷ ms)) (sym number) (from_next (length scope) ms (subst (λ n. AreFrom n ms) long others)))
-  numbers_of w expected scope (tree.Const name) q later ms h apart rest =
-      let m = mapped (λ (t : TypeId). core_pattern.ConstPrim t (sym_of w.types.syms name)) (constant_type w name) q h in
-      subst (λ x. AreFrom (length scope) (variables x ++ ms)) m.is (rest apart)
-  numbers_of w expected scope (tree.Term name ps) q later ms h apart rest =
-      let args = arg_types w (termed w name) in
-      let t = term_tree_is (ret_type w (termed w name)) (term_named (terms w.defs) name) (patterns_pass w args scope ps).trees q h in
-      let parts = numbers_within w args scope ps t.parts later ms t.parts_are apart rest in
-      subst (λ x. AreFrom (length scope) (variables x ++ ms)) t.is (subst (λ xs. AreFrom (length scope) (xs ++ ms)) (within_list t.parts) parts)
-  numbers_of w expected scope (tree.Bind name p) q later ms h apart rest = absurd cc
-  numbers_of w expected scope (tree.And ps) q later ms h apart rest = absurd cc
-
-  -- so of patterns
-  numbers_within : (w : Whole) (expected : List (Option TypeId)) (scope : Scope) (ps : Patterns) (qs : List CorePattern) (later : List (List ℕ)) (ms : List ℕ) → (patterns_pass w expected scope ps).trees ≡ Some qs
-      → repeats_after (scope_names scope) (variables_of ps ++ later) ≡ false
-      → (repeats_after (scope_names (patterns_pass w expected scope ps).scope) later ≡ false → AreFrom (length (patterns_pass w expected scope ps).scope) ms) → AreFrom (length scope) (all_variables qs ++ ms)
-  numbers_within w expected scope NoPattern qs later ms h apart rest = subst (λ (xs : List CorePattern). AreFrom (length scope) (all_variables xs ++ ms)) (same_Some [] qs h) (rest apart)
-  numbers_within w expected scope (APattern p ps) qs later ms h apart rest =
-      let one = pattern_pass w (first_expected expected) scope p in
-      let f = first_there one.tree (patterns_pass w (later_expected expected) one.scope ps).trees qs h in
-      let names = ap (repeats_after (scope_names scope)) (append_assoc (variable_names p) (variables_of ps) later) in
-      let numbers = numbers_of w (first_expected expected) scope p f.first (variables_of ps ++ later) (all_variables f.others ++ ms) f.here (sym names ∙ apart)
-      (λ k. numbers_within w (later_expected expected) one.scope ps f.others later ms f.found k rest) in
-      subst (λ (xs : List CorePattern). AreFrom (length scope) (all_variables xs ++ ms)) (sym f.all)
-      (subst (AreFrom (length scope)) (sym (append_assoc (variables f.first) (all_variables f.others) ms)) numbers)
-
--- the variables of patterns whose names don't repeat
-pub numbers_apart : (w : Whole) (expected : List (Option TypeId)) (scope : Scope) (ps : Patterns) (qs : List CorePattern) → (patterns_pass w expected scope ps).trees ≡ Some qs → repeats_after (scope_names scope) (variables_of ps) ≡ false
-    → AreFrom (length scope) (all_variables qs)
-numbers_apart w expected scope ps qs h apart =
-    let names = ap (repeats_after (scope_names scope)) (append-nil (variables_of ps)) in
-    subst (AreFrom (length scope)) (append-nil (all_variables qs)) (numbers_within w expected scope ps qs [] [] h (names ∙ apart) (λ k. record { least = tt; once = tt }))
-
 -- ---- where variables stand
 
 -- the variables of a list's patterns with their types, as parts of a pattern
-typed_list : (qs : List CorePattern) → all_typed qs ≡ typed_within (core_patterns qs)
+pub typed_list : (qs : List CorePattern) → all_typed qs ≡ typed_within (core_patterns qs)
 typed_list [] = refl
 typed_list (q ∷ qs) = ap (λ vars. typed_variables q ++ vars) (typed_list qs)
+
+-- so of any type
+pub any_and_tree : (expected : Option TypeId) (ps : Option (List CorePattern)) (q : CorePattern) → and_tree expected ps ≡ Some q → (ty : TypeId) × IsAndTree ty ps q
+any_and_tree None ps q h = absurd cc
+any_and_tree (Some ty) ps q h = (ty, and_tree_is ty ps q h)
+
+-- a variable after `@` is the one that it binds, stands in its pattern, or was there before
+bind_stands : (w : Whole) (expected : Option TypeId) (scope : Scope) (x : List ℕ) (p : Pattern) (q : CorePattern) (name : List ℕ) (v : TypeId × VarId) (blank : Bool)
+    → ((mid : Scope) (y : CorePattern) → (pattern_pass w expected mid p).tree ≡ Some y → variable (pattern_pass w expected mid p).scope name ≡ Some v → (variable mid name ≡ Some v) ⊎ Contains (typed_variables y) (v.0, v.1.0))
+    → (bind_pass w expected scope x p blank).tree ≡ Some q → variable (bind_pass w expected scope x p blank).scope name ≡ Some v → (variable scope name ≡ Some v) ⊎ Contains (typed_variables q) (v.0, v.1.0)
+bind_stands w expected scope x p q name v true go h at = go scope q h at
+bind_stands w expected scope x p q name v false go h at =
+    let mid = met scope x expected in
+    let b = bound_tree_is (variable mid x) (pattern_pass w expected mid p).tree q h in
+    subst (λ (y : CorePattern). (variable scope name ≡ Some v) ⊎ Contains (typed_variables y) (v.0, v.1.0)) b.is
+    (⊎_elim (λ was. by (bytes_eq x name) refl b.var b.inner b.var_is was) (λ c. inr (tail_contained (b.var.0, b.var.1.0) (typed_variables b.inner) (v.0, v.1.0) c)) (go mid b.inner b.inner_is at))
+  where
+    by : (same : Bool) → bytes_eq x name ≡ same → (var : TypeId × VarId) (inner : CorePattern) → variable (met scope x expected) x ≡ Some var → variable (met scope x expected) name ≡ Some v → (variable scope name ≡ Some v) ⊎ Contains (typed_variables (core_pattern.BindPattern var.0 var.1 inner)) (v.0, v.1.0)
+    by true e var inner is was =
+        let same : x ≡ name = (bytes_eq-Decides x name).0 e in
+        let one : var ≡ v = same_Some {A = TypeId × VarId} var v (sym is ∙ ap (variable (met scope x expected)) same ∙ was) in
+        inr (subst (λ (y : TypeId × VarId). Contains (typed_variables (core_pattern.BindPattern var.0 var.1 inner)) (y.0, y.1.0)) one (head_contained (var.0, var.1.0) (typed_variables inner)))
+    by false e var inner is was = inl (sym (variable_other scope x name expected e) ∙ was)
 
 mutual
   -- a variable after a pattern stands in it, or was there before
@@ -294,8 +298,12 @@ mutual
       let t = term_tree_is (ret_type w (termed w x)) (term_named (terms w.defs) x) (patterns_pass w args scope ps).trees q h in
       let parts = variable_stands w args scope ps t.parts name v t.parts_are at in
       subst (λ (y : CorePattern). (variable scope name ≡ Some v) ⊎ Contains (typed_variables y) (v.0, v.1.0)) t.is (subst (λ vars. (variable scope name ≡ Some v) ⊎ Contains vars (v.0, v.1.0)) (typed_list t.parts) parts)
-  stands_in w expected scope (tree.Bind x p) q name v h at = absurd cc
-  stands_in w expected scope (tree.And ps) q name v h at = absurd cc
+  stands_in w expected scope (tree.Bind x p) q name v h at = bind_stands w expected scope x p q name v (is_blank x) (λ mid y t k. stands_in w expected mid p y name v t k) h at
+  stands_in w expected scope (tree.And ps) q name v h at =
+      let parts = patterns_pass w (of_each expected ps) scope ps in
+      let a = any_and_tree expected parts.trees q h in
+      let here = variable_stands w (of_each expected ps) scope ps a.1.parts name v a.1.parts_are at in
+      subst (λ (y : CorePattern). (variable scope name ≡ Some v) ⊎ Contains (typed_variables y) (v.0, v.1.0)) a.1.is (subst (λ vars. (variable scope name ≡ Some v) ⊎ Contains vars (v.0, v.1.0)) (typed_list a.1.parts) here)
 
   -- a variable after patterns stands in one of them, or was there before
   pub variable_stands : (w : Whole) (expected : List (Option TypeId)) (scope : Scope) (ps : Patterns) (qs : List CorePattern) (name : List ℕ) (v : TypeId × VarId) → (patterns_pass w expected scope ps).trees ≡ Some qs

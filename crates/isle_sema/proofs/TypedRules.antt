@@ -35,6 +35,7 @@ use Rattle.isle_declarations.proofs.LookUps.{at_place, named_at}
 use Rattle.isle_declarations.proofs.SymbolLaws.{index_below}
 use Rattle.isle_types.specs.TypeRows.{on}
 use Rattle.isle_sema.specs.Calls.{calls_ruled}
+use Rattle.isle_sema.specs.Locals.{of_patterns}
 use Rattle.isle_sema.specs.Scope.{variable}
 use Rattle.isle_sema.specs.Site.{Site, NotBuiltAt}
 use Rattle.isle_sema.specs.TypeNames.{type_named}
@@ -51,13 +52,15 @@ use Rattle.isle_sema.specs.TypedRule.{IsExprOf, all_typed, IsRuleOf, IsTypedRule
 use Rattle.isle_sema.proofs.BuiltForms.{IsPlain, IsRuleBuilt, rules_built}
 use Rattle.isle_sema.proofs.Firsts.{any_parts}
 use Rattle.isle_sema.proofs.Judgements.{row_fails}
+use Rattle.isle_sema.proofs.LocalLaws.{pattern_variable}
 use Rattle.isle_sema.proofs.MadeForms.{made_form, constant_typed}
 use Rattle.isle_sema.proofs.MadeTerms.{first_there, term_made, term_is, types_are, all_at}
 use Rattle.isle_sema.proofs.RuleLaws.{is_broken, none_fault, none_is}
 use Rattle.isle_sema.proofs.RuleRoots.{place_of, signature_at, rule_made}
 use Rattle.isle_sema.proofs.TypedExprs.{AreKept, IsOver, expr_typed}
 use Rattle.isle_sema.proofs.TypedParts.{IsTypedIn, typed_in}
-use Rattle.isle_sema.proofs.TypedPatterns.{KnowsTerms, AreTakenWell, patterns_typed, numbers_apart, variable_stands}
+use Rattle.isle_sema.proofs.TypedPatterns.{KnowsTerms, AreTakenWell, patterns_typed, variable_stands}
+use Rattle.isle_sema.proofs.VariableTypes.{have_one_type, have_places}
 use Rattle.isle_sema.proofs.TypedTerms.{IsPlainTerm, plain_terms, is_there}
 
 -- ---- what a rule's term is
@@ -144,8 +147,9 @@ rule_typed defs env i r x g built row unruled h =
     let u = any_parts (is_unknown w) ps (cs ++ rs) f.name in
     let v = any_parts (is_mistyped w) ps (cs ++ rs) f.typing in
     let patterns : patterns_pass w (map Some t.term.arg_tys) [] (seen_patterns r.args) ≡ patterns_of w r = ap (λ os. patterns_pass w os [] (seen_patterns r.args)) (sym tys) ∙ ap (λ o. patterns_pass w (arg_types w o) [] (seen_patterns r.args)) (sym d.1) in
-    let right : expr_pass w (patterns_of w r).scope (Some t.term.ret_ty) r.rhs ≡ right_side_of w r =
-    ap (λ o. expr_pass w (patterns_of w r).scope o r.rhs) (sym is.ret) ∙ ap (λ o. expr_pass w (patterns_of w r).scope (ret_type w o) r.rhs) (sym d.1) in
+    let scope = (patterns_of w r).scope in
+    let right : expr_pass w (of_patterns scope) (length scope) (Some t.term.ret_ty) r.rhs ≡ right_side_of w r =
+    ap (λ o. expr_pass w (of_patterns scope) (length scope) o r.rhs) (sym is.ret) ∙ ap (λ o. expr_pass w (of_patterns scope) (length scope) (ret_type w o) r.rhs) (sym d.1) in
     let arity : not (length r.args == length s.args) ≡ false = ap (λ (o : Option Signature). on o (λ (y : Signature). not (length r.args == length y.args))) (sym d.1) ∙ a.0 in
     let count : count_of (seen_patterns r.args) ≡ length t.term.arg_tys =
     counted r.args ∙ eqb-true (length r.args) (length s.args) (not-false (length r.args == length s.args) arity) ∙ sym (length-map s.args (type_named defs)) ∙ ap length tys ∙ length-map t.term.arg_tys Some in
@@ -153,9 +157,11 @@ rule_typed defs env i r x g built row unruled h =
     let answers = all_at Answers (terms defs) x.root_term.0 s (made_answer defs) at in
     let allowed : may_be_nothing (kind_of t.term.kind) ≡ s.partial = kind_answers w s t.term.ret_ty s.origin t.term.kind plain answers (ap (λ (y : Term). y.kind) is.is) in
     let calls : not s.partial && list_any is_partial_call rs ≡ false = ap (λ (o : Option Signature). on o (λ (y : Signature). not y.partial && list_any is_partial_call rs)) (sym d.1) ∙ f.partial in
-    let over : IsOver defs env (patterns_of w r).scope (all_typed x.args) = record {
+    let over : IsOver defs env (of_patterns scope) (all_typed x.args) (length scope) = record {
       given = g;
-      bound = λ name y bound. ⊎_elim (λ (was : variable [] name ≡ Some y). absurd cc) (λ c. c) (variable_stands w (arg_types w (termed w r.term)) [] (seen_patterns r.args) x.args name y m.args bound);
+      bound = λ name l ty found typed. ⊎_elim (λ (was : variable [] name ≡ Some (ty, record { 0 = l.number })). absurd cc) (λ c. c)
+          (variable_stands w (arg_types w (termed w r.term)) [] (seen_patterns r.args) x.args name (ty, record { 0 = l.number }) m.args (pattern_variable scope name l ty found typed));
+      below = have_places w (arg_types w (termed w r.term)) [] (seen_patterns r.args) x.args m.args;
     } in
     let kept : AreKept w s.partial rs = record { placed = (any_parts (is_misplaced w) cs rs p.1).1; known = (any_parts (is_unknown w) cs rs u.1).1; typed = (any_parts (is_mistyped w) cs rs v.1).1; partial = calls } in
     let well : AreTakenWell w ps = record {
@@ -170,10 +176,10 @@ rule_typed defs env i r x g built row unruled h =
       root = t.there;
       typed = record {
         args = patterns_typed defs env t.term.arg_tys [] (seen_patterns r.args) x.args (knows defs env g) g.types count (ap (λ (y : PatternsPass). y.trees) patterns ∙ m.args) (subst (λ (y : PatternsPass). AreTakenWell w y.sites) (sym patterns) well);
-        once = (numbers_apart w (arg_types w (termed w r.term)) [] (seen_patterns r.args) x.args m.args built.apart).once;
+        variables = have_one_type w (arg_types w (termed w r.term)) [] (seen_patterns r.args) x.args m.args;
         iflets = no_iflets r.iflets x.iflets m.iflets;
         rhs = subst (λ b. IsExprOf env b (all_typed x.args) t.term.ret_ty x.rhs) (sym allowed)
-            (expr_typed defs env s.partial (patterns_of w r).scope (all_typed x.args) t.term.ret_ty r.rhs x.rhs over (ap (λ (y : ExprPass). y.tree) right ∙ m.rhs) (subst (λ (y : ExprPass). AreKept w s.partial y.sites) (sym right) kept) unruled);
+            (expr_typed defs env s.partial (of_patterns scope) (all_typed x.args) (length scope) t.term.ret_ty r.rhs x.rhs over (ap (λ (y : ExprPass). y.tree) right ∙ m.rhs) (subst (λ (y : ExprPass). AreKept w s.partial y.sites) (sym right) kept) unruled);
       };
     }
 

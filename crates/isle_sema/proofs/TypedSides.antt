@@ -1,5 +1,5 @@
 -- What typed right sides are: built, in scope, and on built terms.
-use Rattle.std.proofs.Common.{◌≡◌, ℕ, Bool, true, false, List, [], ◌∷◌, Option, Some, None, refl, sym, subst, ⊎_elim}
+use Rattle.std.proofs.Common.{◌≡◌, ℕ, Bool, true, false, List, [], ◌∷◌, ◌++◌, Option, Some, None, refl, sym, subst, ⊎_elim}
 use Rattle.std.specs.Prelude.{Contains, slice_get, IsSomeAnd}
 use Rattle.std.proofs.lemmas.List.Elements.{Contains-append_left, Contains-append_right, Contains-append_cases}
 use Rattle.isle_core.specs.declared.TypeId.{TypeId}
@@ -8,14 +8,14 @@ use Rattle.isle_core.specs.declared.types.TermKind.{TermKind}
 use Rattle.isle_core.specs.declared.types.TermKind.TheVariants as kind
 use Rattle.isle_core.specs.declared.types.ConstructorKind.TheVariants as constructor
 use Rattle.isle_core.specs.Expr as expr
-use Rattle.isle_core.specs.Expr.{Expr, Exprs, NoExpr, AnExpr}
+use Rattle.isle_core.specs.Expr.{Expr, Exprs, NoExpr, AnExpr, LetBindings, NoBinding, ABinding}
 use Rattle.isle_core.specs.Pattern as pattern
 use Rattle.isle_core.specs.Pattern.{Pattern, Patterns, NoPattern, APattern}
 use Rattle.isle_core.specs.Rule.{Environment}
-use Rattle.isle_core.specs.BuiltRule.{IsBuiltExpr, AreBuiltExprs, IsBuiltKind, HasBuiltTerms, AllHaveBuiltTerms}
-use Rattle.isle_core.specs.Scope.{variables, variables_within, all_variables, IsInScope, AreInScope}
+use Rattle.isle_core.specs.BuiltRule.{IsBuiltExpr, AreBuiltExprs, AreBuiltBindings, IsBuiltKind, HasBuiltTerms, AllHaveBuiltTerms, BindingsHaveBuiltTerms}
+use Rattle.isle_core.specs.Scope.{variables, variables_within, all_variables, let_scope, IsInScope, AreInScope, AreLetsInScope}
 use Rattle.isle_core.proofs.Contained.{head_contained, tail_contained, contained_cases, none_contained}
-use Rattle.isle_sema.specs.TypedRule.{typed_variables, typed_within, all_typed, IsTermKind, IsExprOf, AreExprsOf}
+use Rattle.isle_sema.specs.TypedRule.{typed_variables, typed_within, all_typed, let_variables, IsTermKind, IsExprOf, AreExprsOf, AreBindingsOf}
 
 -- the term that a typed expression is of
 pub record IsCalled (env : Environment) (allowed : Bool) (vars : List (TypeId × ℕ)) (ty : TypeId) (o : Option Term) (es : Exprs) : Type 0 where
@@ -39,13 +39,17 @@ mutual
   built_expr env allowed vars ty (expr.ConstInt of n) h = tt
   built_expr env allowed vars ty (expr.ConstPrim of name) h = tt
   built_expr env allowed vars ty (expr.Term of term es) h = let c = called env allowed vars ty (slice_get env.terms term.0) es h.1 in built_exprs env allowed vars c.term.arg_tys es c.takes
-  built_expr env allowed vars ty (expr.Let of bs e) h = absurd h
+  built_expr env allowed vars ty (expr.Let of bs e) h = (built_bindings env allowed vars bs h.1, built_expr env allowed (let_variables vars bs) ty e h.2)
 
   built_exprs : (env : Environment) (allowed : Bool) (vars : List (TypeId × ℕ)) (tys : List TypeId) (es : Exprs) → AreExprsOf env allowed vars tys es → AreBuiltExprs es
   built_exprs env allowed vars [] NoExpr h = tt
   built_exprs env allowed vars (ty ∷ tys) (AnExpr e es) h = (built_expr env allowed vars ty e h.0, built_exprs env allowed vars tys es h.1)
   built_exprs env allowed vars [] (AnExpr e es) h = absurd h
   built_exprs env allowed vars (ty ∷ tys) NoExpr h = absurd h
+
+  built_bindings : (env : Environment) (allowed : Bool) (vars : List (TypeId × ℕ)) (bs : LetBindings) → AreBindingsOf env allowed vars bs → AreBuiltBindings bs
+  built_bindings env allowed vars NoBinding h = tt
+  built_bindings env allowed vars (ABinding x of e bs) h = (built_expr env allowed vars of e h.1, built_bindings env allowed ((of, x.0) ∷ vars) bs h.2)
 
 -- ---- in scope
 
@@ -73,20 +77,38 @@ all_in_scope [] of x c = absurd (none_contained (of, x) c)
 all_in_scope (q ∷ qs) of x c =
     ⊎_elim (λ d. Contains-append_left (variables q) (all_variables qs) x (typed_in_scope q of x d)) (λ d. Contains-append_right (variables q) (all_variables qs) x (all_in_scope qs of x d)) (Contains-append_cases (typed_variables q) (all_typed qs) (of, x) c)
 
-mutual
-  pub scoped_expr : (env : Environment) (allowed : Bool) (args : List Pattern) (ty : TypeId) (e : Expr) → IsExprOf env allowed (all_typed args) ty e → IsInScope (all_variables args) e
-  scoped_expr env allowed args ty (expr.Var of x) h = all_in_scope args ty x.0 h.1
-  scoped_expr env allowed args ty (expr.ConstBool b) h = tt
-  scoped_expr env allowed args ty (expr.ConstInt of n) h = tt
-  scoped_expr env allowed args ty (expr.ConstPrim of name) h = tt
-  scoped_expr env allowed args ty (expr.Term of term es) h = let c = called env allowed (all_typed args) ty (slice_get env.terms term.0) es h.1 in scoped_exprs env allowed args c.term.arg_tys es c.takes
-  scoped_expr env allowed args ty (expr.Let of bs e) h = absurd h
+-- so of one variable more
+one_within : (vars : List (TypeId × ℕ)) (scope : List ℕ) (ty : TypeId) (x : ℕ) → ((of : TypeId) (y : ℕ) → Contains vars (of, y) → Contains scope y) → (of : TypeId) (y : ℕ) → Contains ((ty, x) ∷ vars) (of, y) → Contains (scope ++ x ∷ []) y
+one_within vars scope ty x h of y c =
+    ⊎_elim (λ (e : (ty, x) ≡ (of, y)). Contains-append_right scope (x ∷ []) y (subst (λ (v : TypeId × ℕ). Contains (x ∷ []) v.1) e (head_contained x []))) (λ d. Contains-append_left scope (x ∷ []) y (h of y d)) (contained_cases (ty, x) vars (of, y) c)
 
-  scoped_exprs : (env : Environment) (allowed : Bool) (args : List Pattern) (tys : List TypeId) (es : Exprs) → AreExprsOf env allowed (all_typed args) tys es → AreInScope (all_variables args) es
-  scoped_exprs env allowed args [] NoExpr h = tt
-  scoped_exprs env allowed args (ty ∷ tys) (AnExpr e es) h = (scoped_expr env allowed args ty e h.0, scoped_exprs env allowed args tys es h.1)
-  scoped_exprs env allowed args [] (AnExpr e es) h = absurd h
-  scoped_exprs env allowed args (ty ∷ tys) NoExpr h = absurd h
+-- and of those of a `let`
+let_within : (bs : LetBindings) (vars : List (TypeId × ℕ)) (scope : List ℕ) → ((of : TypeId) (y : ℕ) → Contains vars (of, y) → Contains scope y) → (of : TypeId) (y : ℕ) → Contains (let_variables vars bs) (of, y) → Contains (let_scope scope bs) y
+let_within NoBinding vars scope h = h
+let_within (ABinding x ty e bs) vars scope h = let_within bs ((ty, x.0) ∷ vars) (scope ++ x.0 ∷ []) (one_within vars scope ty x.0 h)
+
+mutual
+  scoped_over : (env : Environment) (allowed : Bool) (vars : List (TypeId × ℕ)) (scope : List ℕ) (ty : TypeId) (e : Expr) → ((of : TypeId) (y : ℕ) → Contains vars (of, y) → Contains scope y) → IsExprOf env allowed vars ty e → IsInScope scope e
+  scoped_over env allowed vars scope ty (expr.Var of x) k h = k ty x.0 h.1
+  scoped_over env allowed vars scope ty (expr.ConstBool b) k h = tt
+  scoped_over env allowed vars scope ty (expr.ConstInt of n) k h = tt
+  scoped_over env allowed vars scope ty (expr.ConstPrim of name) k h = tt
+  scoped_over env allowed vars scope ty (expr.Term of term es) k h = let c = called env allowed vars ty (slice_get env.terms term.0) es h.1 in scoped_exprs env allowed vars scope c.term.arg_tys es k c.takes
+  scoped_over env allowed vars scope ty (expr.Let of bs e) k h = (scoped_bindings env allowed vars scope bs k h.1, scoped_over env allowed (let_variables vars bs) (let_scope scope bs) ty e (let_within bs vars scope k) h.2)
+
+  scoped_exprs : (env : Environment) (allowed : Bool) (vars : List (TypeId × ℕ)) (scope : List ℕ) (tys : List TypeId) (es : Exprs) → ((of : TypeId) (y : ℕ) → Contains vars (of, y) → Contains scope y) → AreExprsOf env allowed vars tys es → AreInScope scope es
+  scoped_exprs env allowed vars scope [] NoExpr k h = tt
+  scoped_exprs env allowed vars scope (ty ∷ tys) (AnExpr e es) k h = (scoped_over env allowed vars scope ty e k h.0, scoped_exprs env allowed vars scope tys es k h.1)
+  scoped_exprs env allowed vars scope [] (AnExpr e es) k h = absurd h
+  scoped_exprs env allowed vars scope (ty ∷ tys) NoExpr k h = absurd h
+
+  scoped_bindings : (env : Environment) (allowed : Bool) (vars : List (TypeId × ℕ)) (scope : List ℕ) (bs : LetBindings) → ((of : TypeId) (y : ℕ) → Contains vars (of, y) → Contains scope y) → AreBindingsOf env allowed vars bs → AreLetsInScope scope bs
+  scoped_bindings env allowed vars scope NoBinding k h = tt
+  scoped_bindings env allowed vars scope (ABinding x ty e bs) k h = (scoped_over env allowed vars scope ty e k h.1, scoped_bindings env allowed ((ty, x.0) ∷ vars) (scope ++ x.0 ∷ []) bs (one_within vars scope ty x.0 k) h.2)
+
+-- a right side over the variables of patterns
+pub scoped_expr : (env : Environment) (allowed : Bool) (args : List Pattern) (ty : TypeId) (e : Expr) → IsExprOf env allowed (all_typed args) ty e → IsInScope (all_variables args) e
+scoped_expr env allowed args ty e h = scoped_over env allowed (all_typed args) (all_variables args) ty e (λ of y c. all_in_scope args of y c) h
 
 -- ---- on built terms
 
@@ -112,10 +134,14 @@ mutual
   built_terms env allowed vars ty (expr.Term of term es) h =
       let c = called env allowed vars ty (slice_get env.terms term.0) es h.1 in
       (built_at (slice_get env.terms term.0) c.term c.found (built_kind env allowed c.term c.term.kind c.takes_part), built_terms_all env allowed vars c.term.arg_tys es c.takes)
-  built_terms env allowed vars ty (expr.Let of bs e) h = absurd h
+  built_terms env allowed vars ty (expr.Let of bs e) h = (built_terms_let env allowed vars bs h.1, built_terms env allowed (let_variables vars bs) ty e h.2)
 
   built_terms_all : (env : Environment) (allowed : Bool) (vars : List (TypeId × ℕ)) (tys : List TypeId) (es : Exprs) → AreExprsOf env allowed vars tys es → AllHaveBuiltTerms env.terms es
   built_terms_all env allowed vars [] NoExpr h = tt
   built_terms_all env allowed vars (ty ∷ tys) (AnExpr e es) h = (built_terms env allowed vars ty e h.0, built_terms_all env allowed vars tys es h.1)
   built_terms_all env allowed vars [] (AnExpr e es) h = absurd h
   built_terms_all env allowed vars (ty ∷ tys) NoExpr h = absurd h
+
+  built_terms_let : (env : Environment) (allowed : Bool) (vars : List (TypeId × ℕ)) (bs : LetBindings) → AreBindingsOf env allowed vars bs → BindingsHaveBuiltTerms env.terms bs
+  built_terms_let env allowed vars NoBinding h = tt
+  built_terms_let env allowed vars (ABinding x of e bs) h = (built_terms env allowed vars of e h.1, built_terms_let env allowed ((of, x.0) ∷ vars) bs h.2)

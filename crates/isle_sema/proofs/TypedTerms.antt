@@ -44,7 +44,7 @@ use Rattle.isle_sema.specs.Environment.{whole_of, types_named, constructor_named
 use Rattle.isle_sema.specs.Language.{is_built_def}
 use Rattle.isle_sema.specs.TypeNames.{type_named}
 use Rattle.isle_sema.specs.Typing.{Typed}
-use Rattle.isle_sema.proofs.BuiltForms.{IsPlain, forms_of, plain_flags}
+use Rattle.isle_sema.proofs.BuiltForms.{IsPlain, plain_flags}
 use Rattle.isle_sema.proofs.MadeTerms.{first_there, made_of, term_is, all_at}
 use Rattle.isle_sema.proofs.NamesApart.{made_apart, terms_apart, declared_unmade}
 use Rattle.isle_sema.proofs.TermFaults.{terms_kept}
@@ -224,7 +224,7 @@ names_are w (s ∷ sigs) typed h among =
 pub typed_names : (defs : List Def) (env : Environment) → Typed defs env → IsDistinct bytes_eq (map (λ (t : Term). sym_text env t.name) env.terms)
 typed_names defs env h =
     let g = typed_in h in
-    let kept = terms_kept defs [] defs (forms_of defs g.built) g.terms_kept in
+    let kept = terms_kept defs [] defs g.built g.terms_kept in
     let apart = terms_apart defs (distinct_names (terms_of (signatures defs)) kept.apart) (made_apart defs g.types_kept) (declared_unmade defs (signatures defs) kept.unmade) in
     subst (λ (types : TypeEnv). IsDistinct bytes_eq (map (λ (t : Term). symbol_text types t.name) env.terms)) (sym g.types)
     (subst (IsDistinct bytes_eq) (sym (names_are (whole_of defs) (terms defs) env.terms g.terms (are_terms_among defs))) apart)

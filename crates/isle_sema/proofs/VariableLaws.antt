@@ -26,6 +26,13 @@ bound_place [] types name same = refl
 bound_place (x ∷ names) [] name same = absurd (omega arith)
 bound_place (x ∷ names) (ty ∷ types) name same = bound_first (bytes_eq x name) ty types (bound_at (zip names types) name) (index_of names name) (bound_place names types name (omega arith))
 
+-- there are as many as types
+pub zip_many : (names : List (List ℕ)) (types : List (Option TypeId)) → length names ≡ length types → length (zip names types) ≡ length types
+zip_many [] [] same = refl
+zip_many [] (ty ∷ types) same = absurd (omega arith)
+zip_many (x ∷ names) [] same = absurd (omega arith)
+zip_many (x ∷ names) (ty ∷ types) same = let rest = zip_many names types (omega arith) in omega (arith, rest)
+
 -- ---- one variable more
 
 zip_end : {A B : Type 0} (xs : List A) (ys : List B) (x : A) (y : B) → length xs ≡ length ys → zip (xs ++ x ∷ []) (ys ++ y ∷ []) ≡ zip xs ys ++ (x, y) ∷ []

@@ -1,20 +1,24 @@
 -- What the code gives of patterns and expressions: their trees, the variables and what the rows say are those of the pass.
-use Rattle.std.specs.Prelude.{◌≡◌, List, map, Option, Some, option_map}
+use Rattle.std.specs.Prelude.{◌≡◌, ℕ, suc, List, [], ◌∷◌, length, take, map, Option, Some, None, option_map, replicate}
 use Rattle.std.specs.Global.{Vec}
 use Rattle.isle_core.specs.declared.TypeId.{TypeId}
 use Rattle.isle_core.specs.declared.rules.Pattern.{Pattern as CodePattern}
 use Rattle.isle_core.specs.declared.rules.Expr.{Expr as CodeExpr}
+use Rattle.isle_core.specs.declared.rules.LetBinding.{LetBinding}
 use Rattle.isle_core.specs.Pattern.{Pattern as CorePattern}
-use Rattle.isle_core.specs.Expr.{Exprs as CoreExprs}
-use Rattle.isle_core.specs.RuleViews.{pattern as elaborated_pattern, expr as elaborated_expr, exprs_of}
-use Rattle.isle_ast.specs.Tree.{Pattern, Patterns, Expr, Exprs}
+use Rattle.isle_core.specs.Expr.{Exprs as CoreExprs, LetBindings}
+use Rattle.isle_core.specs.RuleViews.{pattern as elaborated_pattern, expr as elaborated_expr, exprs_of, SeenBinding, bindings_of}
+use Rattle.isle_ast.specs.Tree.{Pattern, Patterns, Expr, Exprs, Lets}
 use Rattle.isle_sema.specs.declared.judged.Judged.{Judged}
 use Rattle.isle_sema.specs.declared.sides.Sides.{Sides}
 use Rattle.isle_declarations.specs.Signatures.{RuleDef}
+use Rattle.isle_sema.specs.Locals.{Bound, locals_of, bound_local}
 use Rattle.isle_sema.specs.Scope.{Scope}
+use Rattle.isle_sema.specs.Site.{BoundAt}
+use Rattle.isle_sema.specs.TypeNames.{type_named}
 use Rattle.isle_sema.specs.Whole.{Whole}
 use Rattle.isle_sema.specs.PatternPass.{pattern_pass, patterns_pass}
-use Rattle.isle_sema.specs.ExprPass.{expr_pass, exprs_pass}
+use Rattle.isle_sema.specs.ExprPass.{binding_tree, expr_pass, exprs_pass, lets_pass}
 use Rattle.isle_sema.specs.RulePass.{patterns_of, right_side_of}
 use Rattle.isle_sema.specs.Judging.{unjudged, judge_all}
 
@@ -25,6 +29,19 @@ pattern_trees found = option_map (λ (ps : Vec CodePattern). map elaborated_patt
 -- the trees of expressions
 abbrev pub expr_trees : Option (Vec CodeExpr) → Option CoreExprs
 expr_trees found = option_map (λ (es : Vec CodeExpr). exprs_of (map elaborated_expr es.items)) found
+
+-- a variable of a `let` with its type and its value
+abbrev pub seen_binding : LetBinding → SeenBinding
+seen_binding b = (b.var, b.ty, elaborated_expr b.val)
+
+-- the trees of variables of a `let`
+abbrev pub binding_trees : Option (Vec LetBinding) → Option LetBindings
+binding_trees found = option_map (λ (bs : Vec LetBinding). bindings_of (map seen_binding bs.items)) found
+
+-- a type so many times, or none where there is none
+abbrev pub copies : Option TypeId → ℕ → List TypeId
+copies None count = []
+copies (Some ty) count = replicate count ty
 
 -- a pattern where this type is expected, from these variables to those
 pub record IsPatternAt (w : Whole) (expected : Option TypeId) (p : Pattern) (old new : Scope) (before after : Judged) (found : Option CodePattern) : Type 0 where
@@ -38,15 +55,38 @@ pub record ArePatternsAt (w : Whole) (types : List TypeId) (ps : Patterns) (old 
   pub scope : new ≡ (patterns_pass w (map Some types) old ps).scope
   pub sites : after ≡ judge_all w before (patterns_pass w (map Some types) old ps).sites
 
--- an expression where this type is expected
-pub record IsExprAt (w : Whole) (scope : Scope) (expected : Option TypeId) (e : Expr) (before after : Judged) (found : Option CodeExpr) : Type 0 where
-  pub tree : option_map elaborated_expr found ≡ (expr_pass w scope expected e).tree
-  pub sites : after ≡ judge_all w before (expr_pass w scope expected e).sites
+-- an expression where this type is expected, from these variables on; those that are in scope stay
+pub record IsExprAt (w : Whole) (expected : Option TypeId) (e : Expr) (old new : Bound) (before after : Judged) (found : Option CodeExpr) : Type 0 where
+  pub tree : option_map elaborated_expr found ≡ (expr_pass w (locals_of old) old.next expected e).tree
+  pub patterns : new.patterns ≡ old.patterns
+  pub lets : new.lets ≡ old.lets
+  pub next : new.next ≡ (expr_pass w (locals_of old) old.next expected e).next
+  pub sites : after ≡ judge_all w before (expr_pass w (locals_of old) old.next expected e).sites
 
 -- expressions where these types are expected
-pub record AreExprsAt (w : Whole) (scope : Scope) (types : List TypeId) (es : Exprs) (before after : Judged) (found : Option (Vec CodeExpr)) : Type 0 where
-  pub trees : expr_trees found ≡ (exprs_pass w scope (map Some types) es).trees
-  pub sites : after ≡ judge_all w before (exprs_pass w scope (map Some types) es).sites
+pub record AreExprsAt (w : Whole) (types : List TypeId) (es : Exprs) (old new : Bound) (before after : Judged) (found : Option (Vec CodeExpr)) : Type 0 where
+  pub trees : expr_trees found ≡ (exprs_pass w (locals_of old) old.next (map Some types) es).trees
+  pub patterns : new.patterns ≡ old.patterns
+  pub lets : new.lets ≡ old.lets
+  pub next : new.next ≡ (exprs_pass w (locals_of old) old.next (map Some types) es).next
+  pub sites : after ≡ judge_all w before (exprs_pass w (locals_of old) old.next (map Some types) es).sites
+
+-- a variable of a `let`, which joins those in scope
+pub record IsBindingAt (w : Whole) (var ty : List ℕ) (e : Expr) (old new : Bound) (before after : Judged) (found : Option LetBinding) : Type 0 where
+  pub tree : option_map seen_binding found ≡ binding_tree old.next (type_named w.defs ty) (expr_pass w (locals_of old) (suc old.next) (type_named w.defs ty) e).tree
+  pub patterns : new.patterns ≡ old.patterns
+  pub lets : new.lets ≡ bound_local old.lets var (type_named w.defs ty) old.next
+  pub next : new.next ≡ (expr_pass w (locals_of old) (suc old.next) (type_named w.defs ty) e).next
+  pub sites : after ≡ judge_all w before (BoundAt (type_named w.defs ty) ∷ (expr_pass w (locals_of old) (suc old.next) (type_named w.defs ty) e).sites)
+
+-- the variables of a `let`, which join those in scope
+pub record AreBindingsAt (w : Whole) (ls : Lets) (old new : Bound) (before after : Judged) (found : Option (Vec LetBinding)) : Type 0 where
+  pub trees : binding_trees found ≡ (lets_pass w (locals_of old) old.next ls).trees
+  pub patterns : new.patterns ≡ old.patterns
+  pub outer : take (length old.lets) new.lets ≡ old.lets
+  pub locals : locals_of new ≡ (lets_pass w (locals_of old) old.next ls).locals
+  pub next : new.next ≡ (lets_pass w (locals_of old) old.next ls).next
+  pub sites : after ≡ judge_all w before (lets_pass w (locals_of old) old.next ls).sites
 
 -- both sides of a rule
 pub record AreSides (w : Whole) (r : RuleDef) (sides : Sides) : Type 0 where

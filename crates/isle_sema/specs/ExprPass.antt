@@ -1,45 +1,53 @@
--- Expressions of rules: the expected type and the variables go in; the tree with types in it and the places that the
--- typing table judges come out.
-use Rattle.std.specs.Prelude.{ℕ, ℤ, List, [], ◌∷◌, ◌++◌, false, Option, Some, None, option_map, option_and_then}
+-- Expressions of rules: the expected type, the variables and the next number that is free go in; the tree with types in it, the
+-- next number after it and the places that the typing table judges come out.
+use Rattle.std.specs.Prelude.{ℕ, suc, ℤ, List, [], ◌∷◌, ◌++◌, false, Option, Some, None, option_map, option_and_then}
 use Rattle.isle_core.specs.declared.TermId.{TermId}
 use Rattle.isle_core.specs.declared.TypeId.{TypeId}
 use Rattle.isle_core.specs.declared.VarId.{VarId}
 use Rattle.isle_core.specs.declared.types.TypeEnv.{TypeEnv}
 use Rattle.isle_core.specs.Expr as core_expr
-use Rattle.isle_core.specs.Expr.{Expr as CoreExpr, Exprs as CoreExprs, NoExpr as CoreNoExpr, AnExpr as CoreAnExpr}
+use Rattle.isle_core.specs.Expr.{Expr as CoreExpr, Exprs as CoreExprs, NoExpr as CoreNoExpr, AnExpr as CoreAnExpr, LetBindings, NoBinding, ABinding}
+use Rattle.isle_core.specs.RightSide.{bool_type}
+use Rattle.isle_core.specs.RuleViews.{SeenBinding}
 use Rattle.isle_ast.specs.Tree as tree
-use Rattle.isle_ast.specs.Tree.{Expr, Exprs, NoExpr, AnExpr}
+use Rattle.isle_ast.specs.Tree.{Expr, Exprs, NoExpr, AnExpr, Lets, NoLet, ALet}
 use Rattle.isle_sema.specs.Reduced.{typed_integer}
 use Rattle.isle_declarations.specs.Signatures.{term_named}
 use Rattle.isle_declarations.specs.Symbols.{sym_of}
 use Rattle.isle_declarations.specs.Terms.{terms}
 use Rattle.isle_sema.specs.Calls.{count_of}
-use Rattle.isle_sema.specs.Scope.{Scope, bound_at, variable}
-use Rattle.isle_sema.specs.Site.{Site, IntegerAt, TruthAt, UsedAt, CalledAt, ConstantAt, NotBuiltAt}
+use Rattle.isle_sema.specs.Locals.{Local, local_named, local_type, typed_local, bound_local}
+use Rattle.isle_sema.specs.Site.{Site, IntegerAt, TruthAt, PartAt, UsedAt, CalledAt, ConstantAt, BoundAt}
+use Rattle.isle_sema.specs.TypeNames.{type_named}
 use Rattle.isle_sema.specs.Whole.{Whole, termed, arg_types, ret_type, constant_type}
 use Rattle.isle_sema.specs.PatternPass.{first_expected, later_expected}
 
--- an expression's tree, where its form is built and its types are known, and its parts
+-- an expression's tree, where its types are known, the next number after it, and its parts
 pub record ExprPass : Type 0 where
   pub tree : Option CoreExpr
+  pub next : ℕ
   pub sites : List Site
 
 -- expressions in order
 pub record ExprsPass : Type 0 where
   pub trees : Option CoreExprs
+  pub next : ℕ
   pub sites : List Site
 
--- a form that is not built gives no tree, and none of its parts is looked at
-abbrev pub not_built : ExprPass
-not_built = record { tree = None; sites = NotBuiltAt ∷ [] }
+-- the variables of a `let`, and those that are there behind them
+pub record LetsPass : Type 0 where
+  pub trees : Option LetBindings
+  pub locals : List Local
+  pub next : ℕ
+  pub sites : List Site
 
 -- an integer's tree, where this type is expected
 abbrev pub integer_tree : TypeEnv → Option TypeId → ℤ → Option CoreExpr
 integer_tree types expected n = option_map (λ (v : TypeId × ℤ). core_expr.ConstInt v.0 v.1) (typed_integer types expected n)
 
 -- a variable's tree, where it is bound at a type that is known
-abbrev pub variable_tree : Scope → List ℕ → Option CoreExpr
-variable_tree scope name = option_map (λ (v : TypeId × VarId). core_expr.Var v.0 v.1) (variable scope name)
+abbrev pub variable_tree : List Local → List ℕ → Option CoreExpr
+variable_tree locals name = option_map (λ (v : TypeId × VarId). core_expr.Var v.0 v.1) (typed_local (local_named locals name))
 
 -- a constant's tree, where it is declared
 abbrev pub constant_tree : TypeEnv → Option TypeId → List ℕ → Option CoreExpr
@@ -54,22 +62,61 @@ abbrev pub expr_before : Option CoreExpr → Option CoreExprs → Option CoreExp
 expr_before None es = None
 expr_before (Some e) es = option_map (CoreAnExpr e) es
 
--- an expression where this is expected; a variable has the type that it was bound at, and a call that of its term
+-- ---- `let`
+
+-- the type of an expression
+abbrev pub expr_type : CoreExpr → TypeId
+expr_type (core_expr.Term ty term es) = ty
+expr_type (core_expr.Var ty x) = ty
+expr_type (core_expr.ConstBool b) = bool_type
+expr_type (core_expr.ConstInt ty n) = ty
+expr_type (core_expr.ConstPrim ty name) = ty
+expr_type (core_expr.Let ty bindings inner) = ty
+
+-- a variable of this number with its value, where its type is declared
+abbrev pub binding_tree : ℕ → Option TypeId → Option CoreExpr → Option SeenBinding
+binding_tree number ty e = option_and_then (λ (t : TypeId). option_map (λ (v : CoreExpr). (record { 0 = number }, t, v)) e) ty
+
+-- a variable before others, where all are there
+abbrev pub binding_before : Option SeenBinding → Option LetBindings → Option LetBindings
+binding_before None bs = None
+binding_before (Some b) bs = option_map (ABinding b.0 b.1 b.2) bs
+
+-- the tree of a `let`, which has the type of its inner expression
+abbrev pub let_tree : Option LetBindings → Option CoreExpr → Option CoreExpr
+let_tree bindings inner = option_and_then (λ (bs : LetBindings). option_map (λ (e : CoreExpr). core_expr.Let (expr_type e) bs e) inner) bindings
+
+-- ---- expressions
+
+-- an expression where this is expected; a variable has the type that it was bound at, a call that of its term, and a `let` hands its own
+-- on
 abbrev mutual
-  pub expr_pass : Whole → Scope → Option TypeId → Expr → ExprPass
-  expr_pass w scope expected (tree.Number n) = record { tree = integer_tree w.types expected n; sites = IntegerAt expected ∷ [] }
-  expr_pass w scope expected (tree.Fact b) = record { tree = Some (core_expr.ConstBool b); sites = TruthAt expected ∷ [] }
-  expr_pass w scope expected (tree.Name name) = record { tree = variable_tree scope name; sites = UsedAt expected (bound_at scope name) ∷ [] }
-  expr_pass w scope expected (tree.Call name es) =
-      let args = exprs_pass w scope (arg_types w (termed w name)) es in
-      record { tree = call_tree (ret_type w (termed w name)) (term_named (terms w.defs) name) args.trees; sites = CalledAt expected (termed w name) (count_of es) ∷ args.sites }
-  expr_pass w scope expected (tree.Constant name) = record { tree = constant_tree w.types (constant_type w name) name; sites = ConstantAt false expected (constant_type w name) ∷ [] }
-  expr_pass w scope expected (tree.Let ls inner) = not_built
+  pub expr_pass : Whole → List Local → (next : ℕ) → Option TypeId → Expr → ExprPass
+  expr_pass w locals next expected (tree.Number n) = record { tree = integer_tree w.types expected n; next = next; sites = IntegerAt expected ∷ [] }
+  expr_pass w locals next expected (tree.Fact b) = record { tree = Some (core_expr.ConstBool b); next = next; sites = TruthAt expected ∷ [] }
+  expr_pass w locals next expected (tree.Name name) = record { tree = variable_tree locals name; next = next; sites = UsedAt expected (local_type (local_named locals name)) ∷ [] }
+  expr_pass w locals next expected (tree.Call name es) =
+      let args = exprs_pass w locals next (arg_types w (termed w name)) es in
+      record { tree = call_tree (ret_type w (termed w name)) (term_named (terms w.defs) name) args.trees; next = args.next; sites = CalledAt expected (termed w name) (count_of es) ∷ args.sites }
+  expr_pass w locals next expected (tree.Constant name) = record { tree = constant_tree w.types (constant_type w name) name; next = next; sites = ConstantAt false expected (constant_type w name) ∷ [] }
+  expr_pass w locals next expected (tree.Let ls inner) =
+      let bound = lets_pass w locals next ls in
+      let result = expr_pass w bound.locals bound.next expected inner in
+      record { tree = let_tree bound.trees result.tree; next = result.next; sites = PartAt ∷ bound.sites ++ result.sites }
 
   -- expressions where these are expected, beyond them nothing
-  pub exprs_pass : Whole → Scope → List (Option TypeId) → Exprs → ExprsPass
-  exprs_pass w scope expected NoExpr = record { trees = Some CoreNoExpr; sites = [] }
-  exprs_pass w scope expected (AnExpr e es) =
-      let first = expr_pass w scope (first_expected expected) e in
-      let rest = exprs_pass w scope (later_expected expected) es in
-      record { trees = expr_before first.tree rest.trees; sites = first.sites ++ rest.sites }
+  pub exprs_pass : Whole → List Local → (next : ℕ) → List (Option TypeId) → Exprs → ExprsPass
+  exprs_pass w locals next expected NoExpr = record { trees = Some CoreNoExpr; next = next; sites = [] }
+  exprs_pass w locals next expected (AnExpr e es) =
+      let first = expr_pass w locals next (first_expected expected) e in
+      let rest = exprs_pass w locals first.next (later_expected expected) es in
+      record { trees = expr_before first.tree rest.trees; next = rest.next; sites = first.sites ++ rest.sites }
+
+  -- the variables of a `let`: each has the next number, before those within its value, and its value may name those before it
+  pub lets_pass : Whole → List Local → (next : ℕ) → Lets → LetsPass
+  lets_pass w locals next NoLet = record { trees = Some NoBinding; locals = locals; next = next; sites = [] }
+  lets_pass w locals next (ALet var ty e ls) =
+      let of = type_named w.defs ty in
+      let value = expr_pass w locals (suc next) of e in
+      let rest = lets_pass w (bound_local locals var of next) value.next ls in
+      record { trees = binding_before (binding_tree next of value.tree) rest.trees; locals = rest.locals; next = rest.next; sites = BoundAt of ∷ value.sites ++ rest.sites }

@@ -1,6 +1,5 @@
 pub mod Reduced
 pub mod Calls
-pub mod VariableNames
 pub mod Language
 pub mod TypedRule
 pub mod TypeNames
@@ -8,6 +7,8 @@ pub mod Scope
 pub mod Whole
 pub mod Site
 pub mod PatternPass
+pub mod Locals
+pub mod LocalViews
 pub mod ExprPass
 pub mod RulePass
 pub mod Context
@@ -18,7 +19,6 @@ pub mod Fault
 pub mod Environment
 pub mod Typing
 pub mod Known
-pub mod BuiltForm
 pub mod Tests
 pub mod Judging
 pub mod Taken

@@ -1,6 +1,7 @@
 -- Patterns of rules from left to right: the expected type and the variables so far go in; the tree with types in it, the
 -- variables after it and the places that the typing table judges come out.
-use Rattle.std.specs.Prelude.{ℕ, suc, ℤ, List, [], ◌∷◌, ◌++◌, true, Option, Some, None, option_map, option_and_then}
+use Rattle.std.specs.Prelude.{ℕ, suc, ℤ, List, [], ◌∷◌, ◌++◌, Bool, true, Option, Some, None, if◌then◌else◌, codes, option_map, option_and_then}
+use Rattle.std.specs.Str.{bytes_eq}
 use Rattle.isle_core.specs.declared.TermId.{TermId}
 use Rattle.isle_core.specs.declared.TypeId.{TypeId}
 use Rattle.isle_core.specs.declared.VarId.{VarId}
@@ -15,7 +16,7 @@ use Rattle.isle_declarations.specs.Symbols.{sym_of}
 use Rattle.isle_declarations.specs.Terms.{terms}
 use Rattle.isle_sema.specs.Reduced.{typed_integer}
 use Rattle.isle_sema.specs.Scope.{Scope, bound_at, met, variable}
-use Rattle.isle_sema.specs.Site.{Site, IntegerAt, TruthAt, WildcardAt, MetAt, TakenAt, ConstantAt, NotBuiltAt}
+use Rattle.isle_sema.specs.Site.{Site, IntegerAt, TruthAt, PartAt, MetAt, TakenAt, ConstantAt}
 use Rattle.isle_sema.specs.Whole.{Whole, termed, arg_types, ret_type, constant_type}
 
 -- a pattern's tree, where its form is built and its types are known; the variables after it; and its parts
@@ -23,10 +24,6 @@ pub record PatternPass : Type 0 where
   pub tree : Option CorePattern
   pub scope : Scope
   pub sites : List Site
-
--- a form that is not built gives no tree, and none of its parts is looked at
-abbrev pub not_built : Scope → PatternPass
-not_built scope = record { tree = None; scope = scope; sites = NotBuiltAt ∷ [] }
 
 -- an integer's tree, where this type is expected
 abbrev pub integer_tree : TypeEnv → Option TypeId → ℤ → Option CorePattern
@@ -43,6 +40,30 @@ constant_tree types ty name = option_map (λ (t : TypeId). core_pattern.ConstPri
 -- a made term's tree, of this type, of this term, on these
 abbrev pub term_tree : Option TypeId → Option TermId → Option (List CorePattern) → Option CorePattern
 term_tree ty term ps = option_and_then (λ (t : TypeId). option_and_then (λ (n : TermId). option_map (λ (parts : List CorePattern). core_pattern.Term t n (core_patterns parts)) ps) term) ty
+
+-- the tree of `and`, of the type that is expected of each part
+abbrev pub and_tree : Option TypeId → Option (List CorePattern) → Option CorePattern
+and_tree expected ps = option_and_then (λ (t : TypeId). option_map (λ (parts : List CorePattern). core_pattern.And t (core_patterns parts)) ps) expected
+
+-- `_` names no variable
+abbrev pub is_blank : List ℕ → Bool
+is_blank name = bytes_eq name (codes "_")
+
+-- the variables after the name of `@`
+abbrev pub named : Scope → List ℕ → Option TypeId → Scope
+named scope name expected = if is_blank name then scope else met scope name expected
+
+-- what is judged of it
+abbrev pub named_sites : Scope → List ℕ → Option TypeId → List Site
+named_sites scope name expected = if is_blank name then [] else MetAt expected (bound_at scope name) ∷ []
+
+-- the tree of a variable at a pattern, where both are there
+abbrev pub bound_tree : Option (TypeId × VarId) → Option CorePattern → Option CorePattern
+bound_tree v p = option_and_then (λ (b : TypeId × VarId). option_map (core_pattern.BindPattern b.0 b.1) p) v
+
+-- the tree of `@`; behind `_` it is that of the pattern
+abbrev pub named_tree : Scope → List ℕ → Option CorePattern → Option CorePattern
+named_tree scope name p = if is_blank name then p else bound_tree (variable scope name) p
 
 -- patterns in order
 pub record PatternsPass : Type 0 where
@@ -70,19 +91,29 @@ abbrev pub count_of : Patterns → ℕ
 count_of NoPattern = 0
 count_of (APattern p ps) = suc (count_of ps)
 
--- a pattern where this is expected; a variable has the type that it was bound at, and a term that which it makes
+-- what is expected of each of several patterns on one value
+abbrev pub of_each : Option TypeId → Patterns → List (Option TypeId)
+of_each expected NoPattern = []
+of_each expected (APattern p ps) = expected ∷ of_each expected ps
+
+-- a pattern where this is expected; a variable has the type that it was bound at, a term that which it makes, and `@` and `and` hand
+-- theirs on
 abbrev mutual
   pub pattern_pass : Whole → Option TypeId → Scope → Pattern → PatternPass
   pattern_pass w expected scope (tree.Int n) = record { tree = integer_tree w.types expected n; scope = scope; sites = IntegerAt expected ∷ [] }
   pattern_pass w expected scope (tree.Truth b) = record { tree = Some (core_pattern.ConstBool b); scope = scope; sites = TruthAt expected ∷ [] }
-  pattern_pass w expected scope tree.Wildcard = record { tree = option_map core_pattern.Wildcard expected; scope = scope; sites = WildcardAt ∷ [] }
+  pattern_pass w expected scope tree.Wildcard = record { tree = option_map core_pattern.Wildcard expected; scope = scope; sites = PartAt ∷ [] }
   pattern_pass w expected scope (tree.Var name) = record { tree = variable_tree (met scope name expected) name; scope = met scope name expected; sites = MetAt expected (bound_at scope name) ∷ [] }
   pattern_pass w expected scope (tree.Const name) = record { tree = constant_tree w.types (constant_type w name) name; scope = scope; sites = ConstantAt true expected (constant_type w name) ∷ [] }
   pattern_pass w expected scope (tree.Term name ps) =
       let parts = patterns_pass w (arg_types w (termed w name)) scope ps in
       record { tree = term_tree (ret_type w (termed w name)) (term_named (terms w.defs) name) parts.trees; scope = parts.scope; sites = TakenAt expected (termed w name) (count_of ps) ∷ parts.sites }
-  pattern_pass w expected scope (tree.Bind name p) = not_built scope
-  pattern_pass w expected scope (tree.And ps) = not_built scope
+  pattern_pass w expected scope (tree.Bind name p) =
+      let inner = pattern_pass w expected (named scope name expected) p in
+      record { tree = named_tree (named scope name expected) name inner.tree; scope = inner.scope; sites = named_sites scope name expected ++ inner.sites }
+  pattern_pass w expected scope (tree.And ps) =
+      let parts = patterns_pass w (of_each expected ps) scope ps in
+      record { tree = and_tree expected parts.trees; scope = parts.scope; sites = PartAt ∷ parts.sites }
 
   -- patterns where these are expected, beyond them nothing
   pub patterns_pass : Whole → List (Option TypeId) → Scope → Patterns → PatternsPass

@@ -1,5 +1,5 @@
 -- A rule with types in it: its patterns from left to right, its conditions and its right side.
-use Rattle.std.specs.Prelude.{ℕ, ◌+◌, List, [], ◌∷◌, ◌++◌, Option, Some, None, map, option_map, option_and_then}
+use Rattle.std.specs.Prelude.{ℕ, ◌+◌, List, [], ◌∷◌, ◌++◌, Option, Some, None, length, map, option_map, option_and_then}
 use Rattle.isle_core.specs.declared.TermId.{TermId}
 use Rattle.isle_core.specs.Pattern.{Pattern as CorePattern}
 use Rattle.isle_core.specs.Expr.{Expr as CoreExpr}
@@ -9,6 +9,7 @@ use Rattle.isle_ast.specs.Views.{patterns_of as seen_patterns}
 use Rattle.isle_declarations.specs.Symbols.{sym_of}
 use Rattle.isle_declarations.specs.Signatures.{RuleDef, term_named}
 use Rattle.isle_declarations.specs.Terms.{terms}
+use Rattle.isle_sema.specs.Locals.{of_patterns}
 use Rattle.isle_sema.specs.Site.{Site, NotBuiltAt}
 use Rattle.isle_sema.specs.Whole.{Whole, termed, arg_types, ret_type}
 use Rattle.isle_sema.specs.PatternPass.{PatternsPass, patterns_pass, tree_before}
@@ -20,7 +21,7 @@ patterns_of w r = patterns_pass w (arg_types w (termed w r.term)) [] (seen_patte
 
 -- its right side, at the type that its term gives, over the variables of its patterns
 abbrev pub right_side_of : Whole → RuleDef → ExprPass
-right_side_of w r = expr_pass w (patterns_of w r).scope (ret_type w (termed w r.term)) r.rhs
+right_side_of w r = expr_pass w (of_patterns (patterns_of w r).scope) (length (patterns_of w r).scope) (ret_type w (termed w r.term)) r.rhs
 
 -- all that is judged in it
 abbrev pub sites_of : Whole → RuleDef → List Site

@@ -7,7 +7,7 @@ use Rattle.isle_declarations.specs.Signatures.{Signature, RuleDef, rule_of}
 use Rattle.isle_declarations.specs.Terms.{is_made}
 use Rattle.isle_sema.specs.TypeNames.{type_named, takes_integers, takes_truths}
 use Rattle.isle_sema.specs.Whole.{Whole, termed, has_constructor}
-use Rattle.isle_sema.specs.Site.{Site, IntegerAt, TruthAt, WildcardAt, MetAt, UsedAt, CalledAt, TakenAt, ConstantAt, NotBuiltAt}
+use Rattle.isle_sema.specs.Site.{Site, IntegerAt, TruthAt, PartAt, MetAt, UsedAt, CalledAt, TakenAt, ConstantAt, BoundAt, NotBuiltAt}
 use Rattle.isle_sema.specs.RulePass.{right_side_of, sites_of}
 use Rattle.isle_types.specs.TypeRows.{on}
 use Rattle.isle_sema.specs.Context.{Context}
@@ -27,12 +27,13 @@ is_taken_misfit (Some s) count = not (count == length s.args) || not (is_made s.
 abbrev pub is_untaken : Site → Bool
 is_untaken (IntegerAt expected) = false
 is_untaken (TruthAt expected) = false
-is_untaken WildcardAt = false
+is_untaken PartAt = false
 is_untaken (MetAt expected bound) = false
 is_untaken (UsedAt expected bound) = false
 is_untaken (CalledAt expected callee count) = false
 is_untaken (TakenAt expected callee count) = is_taken_misfit callee count
 is_untaken (ConstantAt in_pattern expected found) = false
+is_untaken (BoundAt ty) = false
 is_untaken NotBuiltAt = false
 
 -- one stands in a rule, or its head has another number of arguments than its term
@@ -43,12 +44,13 @@ pattern_term_misfit c d = on (rule_of d) (λ (r : RuleDef). on (termed c.whole r
 abbrev pub is_mistaken : Whole → Site → Bool
 is_mistaken w (IntegerAt expected) = false
 is_mistaken w (TruthAt expected) = false
-is_mistaken w WildcardAt = false
+is_mistaken w PartAt = false
 is_mistaken w (MetAt expected bound) = false
 is_mistaken w (UsedAt expected bound) = false
 is_mistaken w (CalledAt expected callee count) = false
 is_mistaken w (TakenAt expected callee count) = on callee (λ (s : Signature). differ (type_named w.defs s.ret) expected)
 is_mistaken w (ConstantAt in_pattern expected found) = in_pattern && differ found expected
+is_mistaken w (BoundAt ty) = false
 is_mistaken w NotBuiltAt = false
 
 -- one stands in a rule
@@ -59,12 +61,13 @@ pattern_type_misfit c d = on (rule_of d) (λ (r : RuleDef). list_any (is_mistake
 abbrev pub is_misplaced : Whole → Site → Bool
 is_misplaced w (IntegerAt expected) = not (takes_integers w.types expected)
 is_misplaced w (TruthAt expected) = not (takes_truths w.types expected)
-is_misplaced w WildcardAt = false
+is_misplaced w PartAt = false
 is_misplaced w (MetAt expected bound) = false
 is_misplaced w (UsedAt expected bound) = false
 is_misplaced w (CalledAt expected callee count) = false
 is_misplaced w (TakenAt expected callee count) = false
 is_misplaced w (ConstantAt in_pattern expected found) = false
+is_misplaced w (BoundAt ty) = false
 is_misplaced w NotBuiltAt = false
 
 -- one stands so in a rule
@@ -75,12 +78,13 @@ literal_misfit c d = on (rule_of d) (λ (r : RuleDef). list_any (is_misplaced c.
 abbrev pub is_undeclared : Site → Bool
 is_undeclared (IntegerAt expected) = false
 is_undeclared (TruthAt expected) = false
-is_undeclared WildcardAt = false
+is_undeclared PartAt = false
 is_undeclared (MetAt expected bound) = false
 is_undeclared (UsedAt expected bound) = false
 is_undeclared (CalledAt expected callee count) = false
 is_undeclared (TakenAt expected callee count) = false
 is_undeclared (ConstantAt in_pattern expected found) = not (is_some found)
+is_undeclared (BoundAt ty) = false
 is_undeclared NotBuiltAt = false
 
 -- one stands in a rule
@@ -96,12 +100,13 @@ is_other_type (Some ty) expected = differ ty expected
 abbrev pub is_met_otherwise : Site → Bool
 is_met_otherwise (IntegerAt expected) = false
 is_met_otherwise (TruthAt expected) = false
-is_met_otherwise WildcardAt = false
+is_met_otherwise PartAt = false
 is_met_otherwise (MetAt expected bound) = is_other_type bound expected
 is_met_otherwise (UsedAt expected bound) = false
 is_met_otherwise (CalledAt expected callee count) = false
 is_met_otherwise (TakenAt expected callee count) = false
 is_met_otherwise (ConstantAt in_pattern expected found) = false
+is_met_otherwise (BoundAt ty) = false
 is_met_otherwise NotBuiltAt = false
 
 -- a variable that is met again has another type
@@ -117,31 +122,34 @@ is_call_misfit w (Some s) count = not (count == length s.args) || not (has_const
 abbrev pub is_unknown : Whole → Site → Bool
 is_unknown w (IntegerAt expected) = false
 is_unknown w (TruthAt expected) = false
-is_unknown w WildcardAt = false
+is_unknown w PartAt = false
 is_unknown w (MetAt expected bound) = false
 is_unknown w (UsedAt expected bound) = not (is_some bound)
 is_unknown w (CalledAt expected callee count) = is_call_misfit w callee count
 is_unknown w (TakenAt expected callee count) = false
 is_unknown w (ConstantAt in_pattern expected found) = false
+is_unknown w (BoundAt ty) = false
 is_unknown w NotBuiltAt = false
 
 -- one stands in a rule
 abbrev pub expr_name_misfit : Context → Def → Bool
 expr_name_misfit c d = on (rule_of d) (λ (r : RuleDef). list_any (is_unknown c.whole) (sites_of c.whole r))
 
--- an expression's variable, constant or call that has another type than the one expected
+-- an expression's variable, constant or call that has another type than the one expected, or a variable of a `let` whose type is not
+-- declared
 abbrev pub is_mistyped : Whole → Site → Bool
 is_mistyped w (IntegerAt expected) = false
 is_mistyped w (TruthAt expected) = false
-is_mistyped w WildcardAt = false
+is_mistyped w PartAt = false
 is_mistyped w (MetAt expected bound) = false
 is_mistyped w (UsedAt expected bound) = is_other_type bound expected
 is_mistyped w (CalledAt expected callee count) = on callee (λ (s : Signature). differ (type_named w.defs s.ret) expected)
 is_mistyped w (TakenAt expected callee count) = false
 is_mistyped w (ConstantAt in_pattern expected found) = not in_pattern && differ found expected
+is_mistyped w (BoundAt ty) = not (is_some ty)
 is_mistyped w NotBuiltAt = false
 
--- one stands in a rule; `let` is not built
+-- one stands in a rule
 abbrev pub expr_type_misfit : Context → Def → Bool
 expr_type_misfit c d = on (rule_of d) (λ (r : RuleDef). list_any (is_mistyped c.whole) (sites_of c.whole r))
 
@@ -149,12 +157,13 @@ expr_type_misfit c d = on (rule_of d) (λ (r : RuleDef). list_any (is_mistyped c
 abbrev pub is_call_of : (Signature → Bool) → Site → Bool
 is_call_of test (IntegerAt expected) = false
 is_call_of test (TruthAt expected) = false
-is_call_of test WildcardAt = false
+is_call_of test PartAt = false
 is_call_of test (MetAt expected bound) = false
 is_call_of test (UsedAt expected bound) = false
 is_call_of test (CalledAt expected callee count) = on callee test
 is_call_of test (TakenAt expected callee count) = false
 is_call_of test (ConstantAt in_pattern expected found) = false
+is_call_of test (BoundAt ty) = false
 is_call_of test NotBuiltAt = false
 
 -- a right side calls a partial term in a term that is not `partial`

@@ -9,9 +9,9 @@ pub data Site : Type 0 where
   IntegerAt : (expected : Option TypeId) → Site
   -- `true` or `false`
   TruthAt : (expected : Option TypeId) → Site
-  -- a wildcard
-  WildcardAt : Site
-  -- a variable in a pattern, and the type that it was bound at before, where it was
+  -- a part that no row looks at: a wildcard, `and` or `let`
+  PartAt : Site
+  -- a variable in a pattern, also one of `@`, and the type that it was bound at before, where it was
   MetAt : (expected : Option TypeId) (bound : Option (Option TypeId)) → Site
   -- a variable in an expression, and the type that it was bound at, where it was
   UsedAt : (expected : Option TypeId) (bound : Option (Option TypeId)) → Site
@@ -21,5 +21,7 @@ pub data Site : Type 0 where
   TakenAt : (expected : Option TypeId) (callee : Option Signature) (count : ℕ) → Site
   -- a named constant in a pattern or in an expression, and its type, where it is declared
   ConstantAt : (in_pattern : Bool) (expected found : Option TypeId) → Site
-  -- a part of a form that is not built: `@`, `and`, a `let` or a condition
+  -- a variable of a `let`, and its type, where it is declared
+  BoundAt : (ty : Option TypeId) → Site
+  -- a condition, which is not built
   NotBuiltAt : Site

@@ -1,19 +1,12 @@
 -- What the code tests of declarations, external constructors and rules.
 use Rattle.std.specs.Prelude.{List, [], Bool, ◌||◌, not, is_some}
 use Rattle.std.specs.List.{list_any}
-use Rattle.isle_ast.specs.Views.{patterns_of}
-use Rattle.isle_sema.specs.VariableNames.{variables_of}
 use Rattle.isle_declarations.specs.Signatures.{Signature, Extern, RuleDef, signature_named, func_named}
 use Rattle.isle_ast.specs.Tree.{Def, Decl}
 use Rattle.isle_types.specs.declared.row.Row.TheVariants as row
 use Rattle.isle_sema.specs.Context.{Context}
 use Rattle.isle_sema.specs.Breaks.{breaks}
 use Rattle.isle_sema.specs.Environment.{whole_of}
-use Rattle.isle_declarations.specs.Repeats.{repeats}
-
--- a rule binds a variable twice
-abbrev pub binds_twice : RuleDef → Bool
-binds_twice r = repeats (variables_of (patterns_of r.args))
 
 -- the definition that a declaration is
 abbrev pub decl_of : Signature → Def

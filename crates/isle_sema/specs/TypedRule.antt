@@ -8,7 +8,7 @@ use Rattle.isle_core.specs.declared.types.ConstructorKind.TheVariants as constru
 use Rattle.isle_core.specs.Pattern as pattern
 use Rattle.isle_core.specs.Pattern.{Pattern, Patterns, NoPattern, APattern}
 use Rattle.isle_core.specs.Expr as expr
-use Rattle.isle_core.specs.Expr.{Expr, Exprs, NoExpr, AnExpr}
+use Rattle.isle_core.specs.Expr.{Expr, Exprs, NoExpr, AnExpr, LetBindings, NoBinding, ABinding}
 use Rattle.isle_core.specs.Calling.{kind_of, may_be_nothing}
 use Rattle.isle_core.specs.Constants.{int_value, const_type}
 use Rattle.isle_core.specs.Form.{form, form_types}
@@ -17,8 +17,6 @@ use Rattle.isle_core.specs.Making.{Making, MakesVariant, MakesStruct}
 use Rattle.isle_core.specs.PatternType.{IsNumeric, FitsTerm}
 use Rattle.isle_core.specs.RightSide.{bool_type}
 use Rattle.isle_core.specs.Rule.{Rule, Environment}
-use Rattle.isle_core.specs.Scope.{all_variables}
-use Rattle.isle_core.specs.StandsFor.{EachOnce}
 use Rattle.isle_core.specs.Value.{Truth}
 
 -- ---- variables
@@ -45,6 +43,15 @@ abbrev pub all_typed : List Pattern → List (TypeId × ℕ)
 all_typed [] = []
 all_typed (q ∷ qs) = typed_variables q ++ all_typed qs
 
+-- these and those of a `let`
+abbrev pub let_variables : List (TypeId × ℕ) → LetBindings → List (TypeId × ℕ)
+let_variables vars NoBinding = vars
+let_variables vars (ABinding x ty e bindings) = let_variables ((ty, x.0) ∷ vars) bindings
+
+-- none of these has this number
+abbrev pub IsNew : List (TypeId × ℕ) → ℕ → Type 0
+IsNew vars x = (ty : TypeId) → Contains vars (ty, x) → ⊥
+
 -- ---- terms
 
 -- what a term makes has this type, and has these for its fields
@@ -65,8 +72,8 @@ IsTermKind env allowed t (kind.Decl true multi partial recursive by extractor) =
 
 -- ---- right sides
 
--- an expression of the type over these variables: a constant is one of its values or declared as one, and a term gives the type,
--- on expressions of its types
+-- an expression of the type over these variables: a constant is one of its values or declared as one, a term gives the type, on
+-- expressions of its types, and a `let` has the type of its inner expression
 abbrev mutual
   pub IsExprOf : Environment → (allowed : Bool) → List (TypeId × ℕ) → TypeId → Expr → Type 0
   IsExprOf env allowed vars ty (expr.Var of x) = (of ≡ ty) × Contains vars (ty, x.0)
@@ -75,7 +82,7 @@ abbrev mutual
   IsExprOf env allowed vars ty (expr.ConstPrim of name) = (of ≡ ty) × (const_type env name ≡ Some ty)
   IsExprOf env allowed vars ty (expr.Term of term es) =
       (of ≡ ty) × IsSomeAnd (slice_get env.terms term.0) (λ (c : Term). IsTermKind env allowed c c.kind × (c.ret_ty ≡ ty) × AreExprsOf env allowed vars c.arg_tys es)
-  IsExprOf env allowed vars ty (expr.Let of bindings inner) = ⊥
+  IsExprOf env allowed vars ty (expr.Let of bindings inner) = (of ≡ ty) × AreBindingsOf env allowed vars bindings × IsExprOf env allowed (let_variables vars bindings) ty inner
 
   -- as many expressions as types, each of its type
   pub AreExprsOf : Environment → (allowed : Bool) → List (TypeId × ℕ) → List TypeId → Exprs → Type 0
@@ -84,12 +91,21 @@ abbrev mutual
   AreExprsOf env allowed vars [] (AnExpr e es) = ⊥
   AreExprsOf env allowed vars (ty ∷ tys) NoExpr = ⊥
 
+  -- each value of a `let` has the type of its variable, over those before it, and each variable has a new number
+  pub AreBindingsOf : Environment → (allowed : Bool) → List (TypeId × ℕ) → LetBindings → Type 0
+  AreBindingsOf env allowed vars NoBinding = Unit {0}
+  AreBindingsOf env allowed vars (ABinding x ty e bindings) = IsNew vars x.0 × IsExprOf env allowed vars ty e × AreBindingsOf env allowed ((ty, x.0) ∷ vars) bindings
+
 -- ---- rules
 
--- the rule's patterns and right side have the types of this term, no variable stands twice, and it has no condition
+-- each variable stands with one type
+abbrev pub HaveOneType : List (TypeId × ℕ) → Type 0
+HaveOneType vars = (ty of : TypeId) (x : ℕ) → Contains vars (ty, x) → Contains vars (of, x) → ty ≡ of
+
+-- the rule's patterns and right side have the types of this term, each of its variables has one type, and it has no condition
 pub record IsRuleOf (env : Environment) (t : Term) (r : Rule) : Type 0 where
   pub args : FitsTerm env t r
-  pub once : EachOnce (all_variables r.args)
+  pub variables : HaveOneType (all_typed r.args)
   pub iflets : r.iflets ≡ []
   pub rhs : IsExprOf env (may_be_nothing (kind_of t.kind)) (all_typed r.args) t.ret_ty r.rhs
 

@@ -4,20 +4,22 @@ ghost use Rattle.std.specs.Prelude.{◌≡◌, List, Option, IfOk, map, option_m
 ghost use Rattle.isle_ast.specs.Tree as tree;
 ghost use Rattle.isle_ast.specs.Tree.{Def};
 ghost use Rattle.isle_sema.specs.Environment.{whole_of};
-ghost use Rattle.isle_ast.specs.Views.{expr, exprs_of};
+ghost use Rattle.isle_ast.specs.Views.{expr, exprs_of, lets_of};
 ghost use Rattle.isle_core.specs.RuleViews.{expr as elaborated};
+ghost use Rattle.isle_declarations.specs.Bindings.{binding};
 ghost use Rattle.isle_declarations.specs.Signatures.{Signature};
 ghost use Rattle.isle_sema.specs.Whole.{Whole, ret_type, number_of};
 ghost use Rattle.isle_sema.specs.Known.{whole, MayBeCalled};
-ghost use Rattle.isle_sema.specs.ExprPass.{integer_tree, constant_tree, call_tree};
-ghost use Rattle.isle_sema.specs.ElaboratedAt.{expr_trees, IsExprAt, AreExprsAt};
+ghost use Rattle.isle_sema.specs.ExprPass.{integer_tree, constant_tree, call_tree, expr_type, binding_tree, let_tree};
+ghost use Rattle.isle_sema.specs.ElaboratedAt.{expr_trees, seen_binding, binding_trees, IsExprAt, AreExprsAt, IsBindingAt, AreBindingsAt};
 
 use crate::judged::Judged;
 use crate::known::{Called, Known, argument_types};
+use crate::locals::Locals;
+use crate::named_types::type_named;
 use crate::reduced::typed_integer;
-use crate::variables::Variables;
-use isle_ast::AstExpr;
-use isle_core::{Expr, List, Text, TypeEnv, TypeId, VarId};
+use isle_ast::{AstExpr, AstLet};
+use isle_core::{Boxed, Expr, LetBinding, List, Text, TypeEnv, TypeId, VarId};
 use std::alloc::{AllocError, Global};
 
 // An integer where this type is expected.
@@ -41,12 +43,12 @@ fn constant_at(known: &Known, found: Option<TypeId>, name: &Text) -> Option<Expr
 // A variable, where it is bound at a type that is known.
 #[tactic(auto, using(isle_core::proofs::SeesRules::sees))]
 fn variable_at(
-    vars: &Variables,
+    vars: &Locals,
     judged: &mut Judged,
     expected: Option<TypeId>,
     name: &Text,
 ) -> Option<Expr>
-    ensures { (defs : List Def) → IsExprAt (whole_of defs) vars.now expected (tree.Name name.now) judged.old judged.new result }
+    ensures { (defs : List Def) → IsExprAt (whole_of defs) expected (tree.Name name.now) vars.now vars.now judged.old judged.new result }
 {
     match vars.find(name) {
         Some((ty, number)) => {
@@ -72,19 +74,65 @@ fn call_of(callee: &Option<Called>, args: Option<Vec<Expr>>) -> Option<Expr>
     }
 }
 
-/// Elaborates an expression where this type is expected: gives its tree, where its form is built and its types are known
-/// (`specs/ExprPass.antt`).
+// The type of an expression.
+#[tactic(auto, using(isle_core::proofs::SeesRules::sees))]
+fn type_of(e: &Expr) -> TypeId
+    ensures { result ≡ expr_type (elaborated e.now) }
+{
+    match e {
+        Expr::Term(ty, ..)
+        | Expr::Var(ty, _)
+        | Expr::ConstInt(ty, _)
+        | Expr::ConstPrim(ty, _)
+        | Expr::Let(ty, ..) => *ty,
+        Expr::ConstBool(_) => TypeId(0),
+    }
+}
+
+// A `let` of these variables, where all are there.
+fn let_of(
+    alloc: Global,
+    bindings: Option<Vec<LetBinding>>,
+    inner: Option<Expr>,
+) -> Result<Option<Expr>, AllocError>
+    ensures { IfOk result (λ found. option_map elaborated found ≡ let_tree (binding_trees bindings) (option_map elaborated inner)) }
+{
+    let Some(bindings) = bindings else {
+        return Ok(None);
+    };
+    let Some(inner) = inner else {
+        return Ok(None);
+    };
+    let ty = type_of(&inner);
+    let inner = Boxed::new(alloc, inner)?;
+    Ok(Some(Expr::Let(ty, List::new(bindings), inner)))
+}
+
+// A variable of this number with its value, where its type is declared.
+fn binding_of(number: usize, ty: Option<TypeId>, found: Option<Expr>) -> Option<LetBinding>
+    ensures { option_map seen_binding result ≡ binding_tree number ty (option_map elaborated found) }
+{
+    let ty = ty?;
+    let val = found?;
+    Some(LetBinding {
+        var: VarId(number),
+        ty,
+        val,
+    })
+}
+
+/// Elaborates an expression where this type is expected: gives its tree, where its types are known (`specs/ExprPass.antt`).
 #[cycle(exprs)]
 #[tactic(auto, using(isle_ast::proofs::Sees::expr_sees, isle_core::proofs::SeesRules::sees))]
-pub fn expr_at(
+pub fn expr_at<'d>(
     alloc: Global,
     known: &Known,
-    vars: &Variables,
+    vars: &mut Locals<'_, 'd>,
     judged: &mut Judged,
     expected: Option<TypeId>,
-    e: &AstExpr,
+    e: &'d AstExpr,
 ) -> Result<Option<Expr>, AllocError>
-    ensures { IfOk result (λ found. IsExprAt (whole known.now) vars.now expected (expr e.now) judged.old judged.new found) }
+    ensures { IfOk result (λ found. IsExprAt (whole known.now) expected (expr e.now) vars.old vars.new judged.old judged.new found) }
 {
     match e {
         AstExpr::Int(n) => {
@@ -110,25 +158,29 @@ pub fn expr_at(
             judged.constant(false, expected, found);
             Ok(constant_at(known, found, name))
         }
-        AstExpr::Let(_, _) => {
+        AstExpr::Let(lets, inner) => {
             judged.part();
-            Ok(None)
+            let outer = vars.len();
+            let bindings = lets_at(alloc, known, vars, judged, lets.as_slice())?;
+            let found = expr_at(alloc, known, vars, judged, expected, inner.get())?;
+            vars.truncate(outer);
+            let_of(alloc, bindings, found)
         }
     }
 }
 
 // A call where this type is expected.
 #[cycle(exprs)]
-fn call_at(
+fn call_at<'d>(
     alloc: Global,
     known: &Known,
-    vars: &Variables,
+    vars: &mut Locals<'_, 'd>,
     judged: &mut Judged,
     expected: Option<TypeId>,
     name: &Text,
-    args: &[AstExpr],
+    args: &'d [AstExpr],
 ) -> Result<Option<Expr>, AllocError>
-    ensures { IfOk result (λ found. IsExprAt (whole known.now) vars.now expected (tree.Call name.now (exprs_of (map expr args.now))) judged.old judged.new found) }
+    ensures { IfOk result (λ found. IsExprAt (whole known.now) expected (tree.Call name.now (exprs_of (map expr args.now))) vars.old vars.new judged.old judged.new found) }
 {
     let callee = known.called(name);
     judged.called(expected, &callee, args.len());
@@ -138,15 +190,15 @@ fn call_at(
 
 // Expressions where these types are expected, beyond them none: their trees, where all have one.
 #[cycle(exprs)]
-fn exprs_at(
+fn exprs_at<'d>(
     alloc: Global,
     known: &Known,
-    vars: &Variables,
+    vars: &mut Locals<'_, 'd>,
     judged: &mut Judged,
     types: &[TypeId],
-    es: &[AstExpr],
+    es: &'d [AstExpr],
 ) -> Result<Option<Vec<Expr>>, AllocError>
-    ensures { IfOk result (λ found. AreExprsAt (whole known.now) vars.now types.now (exprs_of (map expr es.now)) judged.old judged.new found) }
+    ensures { IfOk result (λ found. AreExprsAt (whole known.now) types.now (exprs_of (map expr es.now)) vars.old vars.new judged.old judged.new found) }
 {
     let mut typed = Vec::with_capacity(alloc, es.len())?;
     let mut complete = true;
@@ -157,4 +209,45 @@ fn exprs_at(
         }
     }
     Ok(if complete { Some(typed) } else { None })
+}
+
+// The variables of a `let`, each with its value: their trees, where all have one.
+#[cycle(exprs)]
+fn lets_at<'d>(
+    alloc: Global,
+    known: &Known,
+    vars: &mut Locals<'_, 'd>,
+    judged: &mut Judged,
+    lets: &'d [AstLet],
+) -> Result<Option<Vec<LetBinding>>, AllocError>
+    ensures { IfOk result (λ found. AreBindingsAt (whole known.now) (lets_of (map binding lets.now)) vars.old vars.new judged.old judged.new found) }
+{
+    let mut typed = Vec::with_capacity(alloc, lets.len())?;
+    let mut complete = true;
+    for l in lets {
+        match binding_at(alloc, known, vars, judged, l)? {
+            Some(found) => typed.push(found)?,
+            None => complete = false,
+        }
+    }
+    Ok(if complete { Some(typed) } else { None })
+}
+
+// A variable of a `let` with its value.
+#[cycle(exprs)]
+fn binding_at<'d>(
+    alloc: Global,
+    known: &Known,
+    vars: &mut Locals<'_, 'd>,
+    judged: &mut Judged,
+    l: &'d AstLet,
+) -> Result<Option<LetBinding>, AllocError>
+    ensures { IfOk result (λ found. IsBindingAt (whole known.now) l.now.var l.now.ty (expr l.now.val) vars.old vars.new judged.old judged.new found) }
+{
+    let ty = type_named(known.before, &l.ty);
+    judged.bound(ty);
+    let number = vars.number()?;
+    let found = expr_at(alloc, known, vars, judged, ty, &l.val)?;
+    vars.bind(&l.var, ty, number)?;
+    Ok(binding_of(number, ty, found))
 }

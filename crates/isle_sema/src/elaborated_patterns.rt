@@ -1,21 +1,22 @@
 //! Patterns with types in them, their variables and terms as numbers.
 
-ghost use Rattle.std.specs.Prelude.{◌≡◌, Option, IfOk, map, option_map};
+ghost use Rattle.std.specs.Prelude.{◌≡◌, Option, Some, IfOk, map, option_map};
 ghost use Rattle.isle_ast.specs.Tree as tree;
 ghost use Rattle.isle_ast.specs.Views.{pattern, patterns_of};
 ghost use Rattle.isle_core.specs.RuleViews.{pattern as elaborated};
 ghost use Rattle.isle_declarations.specs.Signatures.{Signature};
 ghost use Rattle.isle_sema.specs.Whole.{Whole, ret_type, number_of, constant_type};
 ghost use Rattle.isle_sema.specs.Known.{whole, MayBeCalled};
-ghost use Rattle.isle_sema.specs.PatternPass.{integer_tree, variable_tree, constant_tree, term_tree};
-ghost use Rattle.isle_sema.specs.ElaboratedAt.{pattern_trees, IsPatternAt, ArePatternsAt};
+ghost use Rattle.isle_sema.specs.Scope.{variable};
+ghost use Rattle.isle_sema.specs.PatternPass.{integer_tree, variable_tree, constant_tree, term_tree, and_tree, is_blank, bound_tree};
+ghost use Rattle.isle_sema.specs.ElaboratedAt.{pattern_trees, copies, IsPatternAt, ArePatternsAt};
 
 use crate::judged::Judged;
 use crate::known::{Called, Known, argument_types};
 use crate::reduced::typed_integer;
 use crate::variables::Variables;
 use isle_ast::AstPattern;
-use isle_core::{List, Pattern, Text, TypeEnv, TypeId, VarId};
+use isle_core::{Boxed, List, Pattern, Text, TypeEnv, TypeId, VarId};
 use std::alloc::{AllocError, Global};
 
 // An integer where this type is expected.
@@ -27,15 +28,70 @@ fn integer_at(types: &TypeEnv, expected: Option<TypeId>, n: i128) -> Option<Patt
     Some(Pattern::ConstInt(ty, reduced))
 }
 
+// The type and the number of a variable, where it is bound at a type that is known.
+fn variable_of(vars: &Variables, name: &Text) -> Option<(TypeId, VarId)>
+    ensures { result ≡ variable vars.now name.now }
+{
+    match vars.find(name)? {
+        (Some(ty), number) => Some((ty, VarId(number))),
+        (None, _) => None,
+    }
+}
+
 // A variable, where it is bound at a type that is known.
 #[tactic(auto, using(isle_core::proofs::SeesRules::sees))]
 fn variable_at(vars: &Variables, name: &Text) -> Option<Pattern>
     ensures { option_map elaborated result ≡ variable_tree vars.now name.now }
 {
-    match vars.find(name)? {
-        (Some(ty), number) => Some(Pattern::Var(ty, VarId(number))),
-        (None, _) => None,
+    let (ty, var) = variable_of(vars, name)?;
+    Some(Pattern::Var(ty, var))
+}
+
+// A variable at a pattern, where both are there.
+#[tactic(auto, using(isle_core::proofs::SeesRules::sees))]
+fn bound_to(
+    alloc: Global,
+    var: Option<(TypeId, VarId)>,
+    inner: Option<Pattern>,
+) -> Result<Option<Pattern>, AllocError>
+    ensures { IfOk result (λ found. option_map elaborated found ≡ bound_tree var (option_map elaborated inner)) }
+{
+    let Some(inner) = inner else {
+        return Ok(None);
+    };
+    let Some((ty, var)) = var else {
+        return Ok(None);
+    };
+    Ok(Some(Pattern::BindPattern(ty, var, Boxed::new(alloc, inner)?)))
+}
+
+// Patterns that all match one value of the type that is expected, where all are there.
+#[tactic(auto, using(isle_core::proofs::SeesRules::sees))]
+fn all_of(expected: Option<TypeId>, parts: Option<Vec<Pattern>>) -> Option<Pattern>
+    ensures { option_map elaborated result ≡ and_tree expected (pattern_trees parts) }
+{
+    let parts = parts?;
+    Some(Pattern::And(expected?, List::new(parts)))
+}
+
+// The type that is expected, so many times.
+fn copies(alloc: Global, expected: Option<TypeId>, count: usize) -> Result<Vec<TypeId>, AllocError>
+    ensures { IfOk result (λ types. types.items ≡ copies expected count) }
+{
+    let mut types = Vec::new(alloc);
+    if let Some(ty) = expected {
+        for _ in 0..count {
+            types.push(ty)?;
+        }
     }
+    Ok(types)
+}
+
+// A name that names no variable.
+pub fn is_blank(name: &Text) -> bool
+    ensures { result ≡ is_blank name.now }
+{
+    name.as_str() == "_"
 }
 
 // A constant of this type, where it is declared.
@@ -101,15 +157,52 @@ fn pattern_at<'d>(
         AstPattern::Term(name, parts) => {
             term_at(alloc, known, vars, judged, expected, name, parts.as_slice())
         }
-        AstPattern::Bind(_, _) => {
-            judged.part();
-            Ok(None)
+        AstPattern::Bind(name, inner) => {
+            bind_at(alloc, known, vars, judged, expected, name, inner.get())
         }
-        AstPattern::And(_) => {
-            judged.part();
-            Ok(None)
-        }
+        AstPattern::And(parts) => { and_at(alloc, known, vars, judged, expected, parts.as_slice()) }
     }
+}
+
+// `@` where this type is expected: the variable is met before the pattern is.
+#[cycle(patterns)]
+fn bind_at<'d>(
+    alloc: Global,
+    known: &Known,
+    vars: &mut Variables<'d>,
+    judged: &mut Judged,
+    expected: Option<TypeId>,
+    name: &'d Text,
+    inner: &'d AstPattern,
+) -> Result<Option<Pattern>, AllocError>
+    ensures { IfOk result (λ found. IsPatternAt (whole known.now) expected (tree.Bind name.now (pattern inner.now)) vars.old vars.new judged.old judged.new found) }
+{
+    if is_blank(name) {
+        return pattern_at(alloc, known, vars, judged, expected, inner);
+    }
+    let bound = vars.meet(name, expected)?;
+    judged.met(expected, bound);
+    let var = variable_of(vars, name);
+    let found = pattern_at(alloc, known, vars, judged, expected, inner)?;
+    bound_to(alloc, var, found)
+}
+
+// Patterns that all match one value, where this type is expected.
+#[cycle(patterns)]
+fn and_at<'d>(
+    alloc: Global,
+    known: &Known,
+    vars: &mut Variables<'d>,
+    judged: &mut Judged,
+    expected: Option<TypeId>,
+    parts: &'d [AstPattern],
+) -> Result<Option<Pattern>, AllocError>
+    ensures { IfOk result (λ found. IsPatternAt (whole known.now) expected (tree.And (patterns_of (map pattern parts.now))) vars.old vars.new judged.old judged.new found) }
+{
+    judged.part();
+    let types = copies(alloc, expected, parts.len())?;
+    let typed = patterns_at(alloc, known, vars, judged, types.as_slice(), parts)?;
+    Ok(all_of(expected, typed))
 }
 
 // A term on patterns where this type is expected.

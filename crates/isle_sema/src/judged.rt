@@ -3,10 +3,10 @@
 ghost use Rattle.std.specs.Prelude.{◌≡◌, [], Option, Some};
 ghost use Rattle.isle_declarations.specs.Signatures.{Signature};
 ghost use Rattle.isle_sema.specs.Whole.{Whole};
-ghost use Rattle.isle_sema.specs.Site.{IntegerAt, TruthAt, WildcardAt, MetAt, UsedAt, CalledAt, TakenAt, ConstantAt, NotBuiltAt};
+ghost use Rattle.isle_sema.specs.Site.{IntegerAt, TruthAt, PartAt, MetAt, UsedAt, CalledAt, TakenAt, ConstantAt, BoundAt};
 ghost use Rattle.isle_sema.specs.RuleRows.{is_other_type};
 ghost use Rattle.isle_sema.specs.Environment.{whole_of};
-ghost use Rattle.isle_sema.specs.Known.{IsCalled, MayBeCalled};
+ghost use Rattle.isle_sema.specs.Known.{MayBeCalled};
 ghost use Rattle.isle_sema.specs.Judging.{unjudged, judge};
 
 use crate::expected::{takes_integers, takes_truths};
@@ -63,12 +63,19 @@ impl Judged {
         }
     }
 
-    /// Judges a part that no row looks at: a wildcard, or one of a form that is not built.
+    /// Judges a part that no row looks at: a wildcard, `and` or `let`.
     pub fn part(&mut self)
-        ensures wildcard { self.new ≡ judge (whole_of []) self.old WildcardAt }
-        ensures not_built { self.new ≡ judge (whole_of []) self.old NotBuiltAt }
+        ensures { self.new ≡ judge (whole_of []) self.old PartAt }
     {
         self.nodes = self.nodes.saturating_add(1);
+    }
+
+    /// Judges a variable of a `let` by its type, where it is declared.
+    pub fn bound(&mut self, ty: Option<TypeId>)
+        ensures { self.new ≡ judge (whole_of []) self.old (BoundAt ty) }
+    {
+        self.nodes = self.nodes.saturating_add(1);
+        self.mistyped = ty.is_none() | self.mistyped;
     }
 
     /// Judges an integer where this type is expected.
@@ -104,11 +111,15 @@ impl Judged {
         self.mistyped = is_other_type(bound, expected) | self.mistyped;
     }
 
-    // A call of a term that is there.
-    fn term(&mut self, expected: Option<TypeId>, callee: &Called, count: usize)
-        ensures { (w : Whole) (s : Signature) → IsCalled w s callee.now → self.new ≡ judge w self.old (CalledAt expected (Some s) count) }
+    /// Judges a call of a term on so many arguments.
+    pub fn called(&mut self, expected: Option<TypeId>, callee: &Option<Called>, count: usize)
+        ensures { (w : Whole) (s : Option Signature) → MayBeCalled w s callee.now → self.new ≡ judge w self.old (CalledAt expected s count) }
     {
         self.nodes = self.nodes.saturating_add(1);
+        let Some(callee) = callee else {
+            self.unknown = true;
+            return;
+        };
         self.unknown = (count != callee.args.len())
             | !(callee.made | callee.external | callee.ruled)
             | self.unknown;
@@ -119,39 +130,17 @@ impl Judged {
         self.ruled = callee.ruled | self.ruled;
     }
 
-    /// Judges a call of a term on so many arguments.
-    pub fn called(&mut self, expected: Option<TypeId>, callee: &Option<Called>, count: usize)
-        ensures { (w : Whole) (s : Option Signature) → MayBeCalled w s callee.now → self.new ≡ judge w self.old (CalledAt expected s count) }
-    {
-        match callee {
-            Some(callee) => self.term(expected, callee, count),
-            None => {
-                self.nodes = self.nodes.saturating_add(1);
-                self.unknown = true;
-            }
-        }
-    }
-
-    // A term in a pattern that is there.
-    fn taken_term(&mut self, expected: Option<TypeId>, callee: &Called, count: usize)
-        ensures { (w : Whole) (s : Signature) → IsCalled w s callee.now → self.new ≡ judge w self.old (TakenAt expected (Some s) count) }
-    {
-        self.nodes = self.nodes.saturating_add(1);
-        self.untaken = ((count != callee.args.len()) | !callee.made) | self.untaken;
-        self.mistaken = is_other_type(Some(Some(callee.ret)), expected) | self.mistaken;
-    }
-
     /// Judges a term in a pattern, on so many patterns.
     pub fn taken(&mut self, expected: Option<TypeId>, callee: &Option<Called>, count: usize)
         ensures { (w : Whole) (s : Option Signature) → MayBeCalled w s callee.now → self.new ≡ judge w self.old (TakenAt expected s count) }
     {
-        match callee {
-            Some(callee) => self.taken_term(expected, callee, count),
-            None => {
-                self.nodes = self.nodes.saturating_add(1);
-                self.untaken = true;
-            }
-        }
+        self.nodes = self.nodes.saturating_add(1);
+        let Some(callee) = callee else {
+            self.untaken = true;
+            return;
+        };
+        self.untaken = ((count != callee.args.len()) | !callee.made) | self.untaken;
+        self.mistaken = is_other_type(Some(Some(callee.ret)), expected) | self.mistaken;
     }
 
     /// Judges a constant of this type, where it is declared.

@@ -4,7 +4,6 @@ ghost use Rattle.std.specs.Prelude.{◌≡◌, ℕ, List, Option, Some, map};
 ghost use Rattle.isle_declarations.specs.Signatures.{Signature};
 ghost use Rattle.isle_ast.specs.Views.{defs as seen};
 ghost use Rattle.isle_declarations.specs.Symbols.{index_of, symbols, sym_of};
-ghost use Rattle.isle_declarations.specs.Terms.{is_made};
 ghost use Rattle.isle_sema.specs.Whole.{Whole, termed, arg_types, constant_type};
 ghost use Rattle.isle_sema.specs.Known.{whole, MayBeCalled};
 
@@ -54,17 +53,6 @@ impl<'s, 'd> Model for Known<'s, 'd> {
     ghost invariant = { λ k. AreKnown k.declarations.now k.before.now k.types.now k.terms.now k.typed.now };
 }
 
-// Whether a type makes a term.
-fn is_made(origin: Origin) -> bool
-    ensures { result ≡ is_made origin }
-{
-    match origin {
-        Origin::Declared => false,
-        Origin::Variant(_) => true,
-        Origin::Struct => true,
-    }
-}
-
 /// Returns the types of a term's arguments: of a term that is not there, none.
 pub fn argument_types<'s>(callee: &Option<Called<'s>>) -> &'s [TypeId]
     ensures { (w : Whole) (s : Option Signature) → MayBeCalled w s callee.now → arg_types w s ≡ map Some result.now }
@@ -109,6 +97,10 @@ impl<'s, 'd> Known<'s, 'd> {
         let place = self.terms.place(number)?;
         let term = self.typed.get(place)?;
         let given = self.terms.terms.as_slice().get(place)?;
+        let made = match given.origin {
+            Origin::Declared => false,
+            Origin::Variant(_) | Origin::Struct => true,
+        };
         Some(Called {
             term: TermId(place),
             args: term.arg_tys.as_slice(),
@@ -116,7 +108,7 @@ impl<'s, 'd> Known<'s, 'd> {
             pure: given.pure,
             multi: given.multi,
             partial: given.partial,
-            made: is_made(given.origin),
+            made,
             external: self.declarations.external(number).is_some(),
             ruled: self.declarations.rule(number).is_some(),
         })

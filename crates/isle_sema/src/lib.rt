@@ -1,7 +1,6 @@
 //! From definitions to environments: symbols, types, terms and rules.
 #![tactic(auto)]
 
-mod bound_once;
 mod elaborated_exprs;
 mod elaborated_patterns;
 mod elaborated_rules;
@@ -10,6 +9,7 @@ mod expected;
 mod judged;
 mod known;
 mod language;
+mod locals;
 mod named_types;
 mod reduced;
 mod rows;

@@ -9,6 +9,7 @@ use crate::elaborated_exprs::expr_at;
 use crate::elaborated_patterns::patterns_at;
 use crate::judged::Judged;
 use crate::known::{Called, Known};
+use crate::locals::Locals;
 use crate::variables::Variables;
 use isle_core::{Expr, Pattern};
 use isle_declarations::RuleDef;
@@ -37,7 +38,15 @@ pub fn sides_of(
     let mut left = Judged::new();
     let args = patterns_at(alloc, known, &mut vars, &mut left, own.args, given.args)?;
     let mut right = Judged::new();
-    let rhs = expr_at(alloc, known, &vars, &mut right, Some(own.ret), given.rhs)?;
+    let mut locals = Locals::new(alloc, &vars);
+    let rhs = expr_at(
+        alloc,
+        known,
+        &mut locals,
+        &mut right,
+        Some(own.ret),
+        given.rhs,
+    )?;
     Ok(Sides {
         args,
         rhs,

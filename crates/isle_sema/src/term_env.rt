@@ -15,7 +15,6 @@ ghost use Rattle.isle_sema.specs.Taken.{taken_rules};
 ghost use Rattle.isle_sema.specs.Tests.{has_undeclared, is_headless};
 ghost use Rattle.isle_sema.specs.Typing.{TypedOnly, SomeTyped, IsUntyped};
 
-use crate::bound_once::any_binds_twice;
 use crate::elaborated_rules::rules_at;
 use crate::elaborated_terms::terms_of;
 use crate::known::Known;
@@ -93,9 +92,6 @@ pub fn term_env<'d>(
     ensures err { IfErr result (λ e. IsUntyped (SomeTyped (seen declarations.now)) e (seen declarations.now)) }
 {
     if !are_built_forms(declarations.defs()) {
-        return Err(EnvError::NotYet);
-    }
-    if any_binds_twice(alloc, declarations)? {
         return Err(EnvError::NotYet);
     }
     if are_misdeclared(declarations, before) {

@@ -1,6 +1,6 @@
 //! The variables that patterns bind, with the types that they are bound at.
 
-ghost use Rattle.std.specs.Prelude.{◌≡◌, [], IfOk, OnOk, option_map};
+ghost use Rattle.std.specs.Prelude.{◌≡◌, [], IfOk, OnOk, length, option_map};
 ghost use Rattle.isle_declarations.specs.Symbols.{index_of};
 ghost use Rattle.isle_sema.specs.Scope.{scope_names, bound_at, met};
 
@@ -38,6 +38,13 @@ impl<'d> Variables<'d> {
             names: Symbols::new(alloc),
             types: Vec::new(alloc),
         }
+    }
+
+    /// Returns how many there are.
+    pub fn len(&self) -> usize
+        ensures { result ≡ length self.now }
+    {
+        self.types.len()
     }
 
     /// Returns the type that a variable is bound at and its number, where it is bound.

@@ -10,11 +10,12 @@ use Rattle.isle_declarations.specs.Signatures.{term_named}
 use Rattle.isle_declarations.specs.Terms.{terms}
 use Rattle.isle_declarations.proofs.LookUps.{got}
 use Rattle.isle_sema.specs.declared.judged.Judged.{Judged}
-use Rattle.isle_sema.specs.ElaboratedAt.{pattern_trees}
+use Rattle.isle_sema.specs.ElaboratedAt.{pattern_trees, copies}
 use Rattle.isle_sema.specs.Judging.{judge, judge_all}
 use Rattle.isle_sema.specs.Known.{whole}
-use Rattle.isle_sema.specs.PatternPass.{integer_tree, term_tree, pattern_pass, patterns_pass}
-use Rattle.isle_sema.specs.Site.{TakenAt}
+use Rattle.isle_sema.specs.PatternPass.{PatternsPass, integer_tree, term_tree, and_tree, count_of, of_each, pattern_pass, patterns_pass}
+use Rattle.isle_sema.specs.Site.{TakenAt, MetAt}
+use Rattle.isle_sema.proofs.BoundPatterns.{each_expected, bound_is}
 use Rattle.isle_sema.specs.Whole.{termed, arg_types, ret_type}
 use Rattle.isle_sema.proofs.CallLaws.{parts_counted}
 use Rattle.isle_sema.proofs.RuleLaws.{number_is}
@@ -87,3 +88,23 @@ pattern_at-returns-in-Bool t c =
       scope = ap (λ q. (pattern_pass w c.args.expected old q).scope) is;
       sites = c.truth.ensures w c.types-in-Bool.ensures ∙ ap (λ q. judge_all w c.args.judged.now (pattern_pass w c.args.expected old q).sites) is;
     }
+
+pub and_at-returns : goal.and_at-returns
+and_at-returns t c =
+    let w = whole c.args.known.now in
+    let old = c.args.vars.now in
+    let ps = patterns_of (map pattern c.args.parts.now) in
+    let types : c.as_slice.result.now ≡ copies c.args.expected (count_of ps) = c.as_slice.ensures.value ∙ c.in_ok-types.ensures ∙ ap (copies c.args.expected) (sym (parts_counted c.args.parts.now)) in
+    let same : patterns_pass w (map Some c.as_slice.result.now) old ps ≡ patterns_pass w (of_each c.args.expected ps) old ps = ap (λ tys. patterns_pass w (map Some tys) old ps) types ∙ each_expected w c.args.expected old ps in
+    record {
+      tree = c.all_of.ensures ∙ ap (and_tree c.args.expected) (c.in_ok-typed.ensures.trees ∙ ap (λ (x : PatternsPass). x.trees) same);
+      scope = c.in_ok-typed.ensures.scope ∙ ap (λ (x : PatternsPass). x.scope) same;
+      sites = c.in_ok-typed.ensures.sites ∙ ap (λ (x : PatternsPass). judge_all w c.part.new.self x.sites) same ∙ ap (λ (j : Judged). judge_all w j (patterns_pass w (of_each c.args.expected ps) old ps).sites) c.part.ensures;
+    }
+
+pub bind_at-returns : goal.bind_at-returns
+bind_at-returns t c =
+    let w = whole c.args.known.now in
+    let name = c.args.name.now in
+    bound_is c.bound_to.result w c.args.expected c.args.vars.now c.meet.new.self c.pattern_at-2.new.vars c.args.judged.now c.met.new.self c.pattern_at-2.new.judged name (pattern c.args.inner.now) c.in_ok-found.found c.is_blank.result c.is_blank.ensures c.if-is_blank.false
+    c.in_ok-bound.ensures.scope (c.met.ensures ∙ ap (λ b. judge w c.args.judged.now (MetAt c.args.expected b)) c.in_ok-bound.ensures.bound) c.in_ok-found.ensures (search rules)

@@ -6,24 +6,17 @@ use Rattle.isle_declarations.specs.Signatures.{signatures, externs, rule_defs}
 use Rattle.isle_declarations.specs.Tables.{any_repeat}
 use Rattle.isle_declarations.specs.Terms.{terms}
 use Rattle.isle_sema.specs.Environment.{whole_of, terms_pass}
-use Rattle.isle_sema.specs.BuiltForm.{is_built_form}
-use Rattle.isle_sema.specs.Tests.{binds_twice, is_misdeclared, has_undeclared, is_headless}
+use Rattle.isle_sema.specs.Language.{is_built_def}
+use Rattle.isle_sema.specs.Tests.{is_misdeclared, has_undeclared, is_headless}
 use Rattle.isle_sema.specs.Taken.{taken_rules}
-use Rattle.isle_sema.proofs.BuiltForms.{built_from}
-use Rattle.isle_sema.proofs.Givings.{unformed_untyped, twice_untyped, misdeclared_untyped, repeated_untyped, undeclared_untyped, headless_untyped, unmade_untyped, untaken_untyped, parts_of, given_typed, over_types}
+use Rattle.isle_sema.proofs.Givings.{unformed_untyped, misdeclared_untyped, repeated_untyped, undeclared_untyped, headless_untyped, unmade_untyped, untaken_untyped, parts_of, given_typed, over_types}
 use Rattle.isle_sema.proofs.term_env.term_env.Goals as goal
 
 pub returns-then-not-are_built_forms-clause-err : goal.returns-then-not-are_built_forms-clause-err
 returns-then-not-are_built_forms-clause-err c =
     let defs = seen c.args.declarations.now in
-    let other : list_all is_built_form defs ≡ false = search rules in
+    let other : list_all is_built_def defs ≡ false = search rules in
     (c.requires.sound, λ t. unformed_untyped defs other t.0 t.1)
-
-pub returns-then-branch-clause-err : goal.returns-then-branch-clause-err
-returns-then-branch-clause-err c =
-    let defs = seen c.args.declarations.now in
-    let twice : list_any binds_twice (rule_defs defs) ≡ true = search rules in
-    (c.requires.sound, λ t. twice_untyped defs twice t.0 t.1)
 
 pub returns-then-are_misdeclared-clause-err : goal.returns-then-are_misdeclared-clause-err
 returns-then-are_misdeclared-clause-err c =
@@ -64,8 +57,7 @@ returns-in_default-2-clause-err c =
 pub returns-clause-ok : goal.returns-clause-ok
 returns-clause-ok c =
     let defs = seen c.args.declarations.now in
-    let forms : list_all is_built_form defs ≡ true = search rules in
-    let once : list_any binds_twice (rule_defs defs) ≡ false = search rules in
+    let forms : list_all is_built_def defs ≡ true = search rules in
     let declared : list_any (is_misdeclared defs) (signatures defs) ≡ false = search rules in
     let apart : any_repeat defs ≡ false = search rules in
     let known : has_undeclared (signatures defs) (externs defs) ≡ false = search rules in
@@ -74,7 +66,7 @@ returns-clause-ok c =
     let given : Some (map elaborated_rule c.in-Some-2.rules.items) ≡ taken_rules (whole_of defs) 0 (rule_defs defs) = search rules in
     let items : c.new-2.result ≡ c.in-Some-2.rules.items = search rules in
     over_types _ c.requires.types
-    (given_typed defs _ (built_from defs forms once) c.requires.sound (parts_of defs declared apart known heads) (sym made) (sym (ap (λ rs. Some (map elaborated_rule rs)) items ∙ given)) (search rules))
+    (given_typed defs _ forms c.requires.sound (parts_of defs declared apart known heads) (sym made) (sym (ap (λ rs. Some (map elaborated_rule rs)) items ∙ given)) (search rules))
 
 pub rules_of-requires : goal.rules_of-requires
 rules_of-requires c =

@@ -7,6 +7,7 @@ use Rattle.isle_ast.specs.Views.{defs as seen}
 use Rattle.isle_declarations.specs.Signatures.{externs, rule_defs}
 use Rattle.isle_declarations.specs.Heads.{extern_terms, heads_of}
 use Rattle.isle_declarations.specs.Tables.{IsFirstPlace}
+use Rattle.isle_declarations.specs.Terms.{is_made}
 use Rattle.isle_declarations.specs.TermViews.{term_def}
 use Rattle.isle_declarations.proofs.LookUps.{got, there}
 use Rattle.isle_sema.specs.KnownOf.{AreKnown}
@@ -67,5 +68,6 @@ returns c =
     let all = ap (λ xs. slice_get xs c.in_ok-place.place) (sym (known.termed.seen)) in
     let items = ap (λ xs. option_map term_def (slice_get xs c.in_ok-place.place)) (sym c.as_slice.ensures.value) in
     let signature_at = all ∙ slice_get-map term_def c.self.inside.terms.now.terms.items c.in_ok-place.place ∙ items ∙ ap (option_map term_def) given in
-    known_at w c.self.inside.typed.now name c.in_ok-place.place c.in_ok-term.term.now (term_def c.in_ok-given.given.now) _ known.typed (sym (at name e) ∙ place) term signature_at refl (search rules) refl refl refl refl (sym c.is_made.ensures)
+    let made : is_made c.in_ok-given.given.now.origin ≡ c.match-given.made = search rules in
+    known_at w c.self.inside.typed.now name c.in_ok-place.place c.in_ok-term.term.now (term_def c.in_ok-given.given.now) _ known.typed (sym (at name e) ∙ place) term signature_at refl (search rules) refl refl refl refl made
     (c.is_some.ensures ∙ ap is_some (external name e)) (c.is_some-2.ensures ∙ ap is_some (ruled name e))

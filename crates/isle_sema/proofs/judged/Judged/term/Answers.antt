@@ -1,6 +1,0 @@
-use Rattle.std.proofs.Common.{rules}
-use Rattle.isle_sema.proofs.Judgements.{called_judged}
-use Rattle.isle_sema.proofs.judged.Judged.term.Goals as goal
-
-pub returns : goal.returns
-returns c = λ w s h. called_judged w s c.args.callee.now c.args.self.now c.args.expected c.args.count _ c.is_other_type.result c.is_other_type.ensures (search rules) h
