@@ -11,7 +11,7 @@ use Rattle.isle_core.specs.Pattern as pattern
 use Rattle.isle_core.specs.Pattern.{Pattern, Patterns, NoPattern, APattern}
 use Rattle.isle_core.specs.Making.{Making, MakesVariant, MakesStruct, MakesNothing, making}
 use Rattle.isle_core.specs.Path.{Path, Nowhere, Arg, at}
-use Rattle.isle_core.specs.Tests.{Is, Equal, Places, no_places, met_tests, made_test, field_path, tests, parts_tests, after, args_tests, rule_tests}
+use Rattle.isle_core.specs.Tests.{Is, Equal, Places, no_places, met_tests, met_after, made_test, field_path, tests, parts_tests, each_tests, after, args_tests, rule_tests}
 use Rattle.isle_core.specs.RuleSet.{is_test, equal_test}
 use Rattle.isle_core.specs.StandsFor.{EachOnce, IsFlat}
 use Rattle.isle_core.specs.BuiltRule.{IsMaking, IsBuiltPattern, AreBuiltPatterns, IsBuiltRule}
@@ -53,8 +53,16 @@ mutual
   pattern_somewhere (pattern.Wildcard ty) env at places p c b n h e = none_contained (Is p c) h
   pattern_somewhere (pattern.Term ty term qs) env at places p c b n h e =
       ⊎_elim (λ k. n (made_path (making env term) at p c k ∙ e)) (λ k. parts_somewhere qs env (making env term) 0 at places p c b.0 b.2 k e) (contained_cases (made_test (making env term) at) (parts_tests env (making env term) qs 0 at places) (Is p c) h)
-  pattern_somewhere (pattern.BindPattern ty x q) env at places p c b n h e = absurd b
-  pattern_somewhere (pattern.And ty qs) env at places p c b n h e = absurd b
+  pattern_somewhere (pattern.BindPattern ty x q) env at places p c b n h e =
+      let mid = met_after (places x.0) x.0 at places in
+      ⊎_elim (λ k. met_none (places x.0) at p c k) (λ k. pattern_somewhere q env at mid p c b n k e) (Contains-append_cases (met_tests (places x.0) at) (tests env q at mid) (Is p c) h)
+  pattern_somewhere (pattern.And ty qs) env at places p c b n h e = each_somewhere qs env at places p c b n h e
+
+  each_somewhere : (qs : Patterns) (env : Environment) (at : Path) (places : Places) (p : Path) (c : Constraint) → AreBuiltPatterns env.terms qs → (at ≡ Nowhere → ⊥) → Contains (each_tests env qs at places) (Is p c) → p ≡ Nowhere → ⊥
+  each_somewhere NoPattern env at places p c b n h e = none_contained (Is p c) h
+  each_somewhere (APattern q qs) env at places p c b n h e =
+      ⊎_elim (λ k. pattern_somewhere q env at places p c b.0 n k e) (λ k. each_somewhere qs env at (after env q at places) p c b.1 n k e)
+      (Contains-append_cases (tests env q at places) (each_tests env qs at (after env q at places)) (Is p c) h)
 
   parts_somewhere : (qs : Patterns) (env : Environment) (mk : Making) (i : ℕ) (at : Path) (places : Places) (p : Path) (c : Constraint) → IsMaking mk → AreBuiltPatterns env.terms qs → Contains (parts_tests env mk qs i at places) (Is p c) → p ≡ Nowhere → ⊥
   parts_somewhere NoPattern env mk i at places p c m b h e = none_contained (Is p c) h

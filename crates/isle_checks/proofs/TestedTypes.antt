@@ -16,8 +16,8 @@ use Rattle.isle_core.specs.OccurringConstants.{Constant, Truth, Number, Named, T
 use Rattle.isle_core.specs.Path.{Path, Nowhere, Arg, ConstBool, ConstInt, ConstPrim, Extracted, Called, Chosen, MadeVariant, MadeStruct, VariantField, StructField, Wrapped, Inner, Part}
 use Rattle.isle_core.specs.Pattern as pattern
 use Rattle.isle_core.specs.Pattern.{Pattern, Patterns, NoPattern, APattern}
-use Rattle.isle_core.specs.PatternType.{IsNumericDef, IsOfMaking, IsPatternOf, ArePartsOf, ArePatternsOf}
-use Rattle.isle_core.specs.Tests.{Test, Is, Places, no_places, made_test, field_path, tests, parts_tests, after, args_tests, rule_tests}
+use Rattle.isle_core.specs.PatternType.{IsNumericDef, IsOfMaking, IsPatternOf, ArePartsOf, AreEachOf, ArePatternsOf}
+use Rattle.isle_core.specs.Tests.{Test, Is, Places, no_places, met_tests, met_after, made_test, field_path, tests, parts_tests, each_tests, after, args_tests, rule_tests}
 use Rattle.isle_core.specs.Value as value
 use Rattle.isle_core.specs.Rule.{Environment, Rule}
 use Rattle.isle_core.proofs.Contained.{contained_cases, none_contained}
@@ -137,8 +137,18 @@ module _ (env : Environment) (plain : AreConstantsPlain env) (known : List Typed
         ⊎_elim (λ e. made_typed (making env term) at p ty c h.1 t e)
         (λ d. parts_typed qs (option_map (form_types env) (form env (making env term))) (making env term) at 0 places p c h.2 (λ j. ap (λ n. path_type env tys (field_path (making env term) n at)) (from_zero j) ∙ field_typed (making env term) at ty j h.1 t) k d)
         (contained_cases (made_test (making env term) at) (parts_tests env (making env term) qs 0 at places) (Is p c) is)
-    pattern_typed (pattern.BindPattern of x q) at ty places p c h t k is = absurd h
-    pattern_typed (pattern.And of qs) at ty places p c h t k is = absurd h
+    pattern_typed (pattern.BindPattern of x q) at ty places p c h t k is =
+        let mid = met_after (places x.0) x.0 at places in
+        ⊎_elim (λ d. absurd (met_none (places x.0) at p c d)) (λ d. pattern_typed q at ty mid p c h.1 t k d) (Contains-append_cases (met_tests (places x.0) at) (tests env q at mid) (Is p c) is)
+    pattern_typed (pattern.And of qs) at ty places p c h t k is = each_typed qs at ty places p c h.1 t k is
+
+    -- each of several patterns on one path
+    each_typed : (qs : Patterns) (at : Path) (ty : TypeId) (places : Places) (p : Path) (c : Constraint) → AreEachOf env ty qs → path_type env tys at ≡ Some ty → AreKnown (patterns_constants qs) → Contains (each_tests env qs at places) (Is p c) → IsTyped p c
+    each_typed NoPattern at ty places p c h t k is = absurd (none_contained (Is p c) is)
+    each_typed (APattern q qs) at ty places p c h t k is =
+        ⊎_elim (λ d. pattern_typed q at ty places p c h.0 t (λ x s. k x (Contains-append_left (pattern_constants q) (patterns_constants qs) x s)) d)
+        (λ d. each_typed qs at ty (after env q at places) p c h.1 t (λ x s. k x (Contains-append_right (pattern_constants q) (patterns_constants qs) x s)) d)
+        (Contains-append_cases (tests env q at places) (each_tests env qs at (after env q at places)) (Is p c) is)
 
     -- parts on the fields from the i-th on
     parts_typed : (qs : Patterns) (o : Option (List TypeId)) (mk : Making) (at : Path) (i : ℕ) (places : Places) (p : Path) (c : Constraint) → ArePartsOf env o qs → ((j : ℕ) → path_type env tys (field_path mk (j + i) at) ≡ option_and_then (λ ts. slice_get ts j) o) → AreKnown (patterns_constants qs)

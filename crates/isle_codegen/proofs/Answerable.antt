@@ -16,11 +16,11 @@ use Rattle.isle_core.specs.declared.types.TermKind.{TermKind}
 use Rattle.isle_core.specs.declared.types.TermKind.TheVariants as term_kind
 use Rattle.isle_core.specs.declared.values.Callee.{Callee}
 use Rattle.isle_core.specs.declared.values.Callee.TheVariants.{External, Internal}
-use Rattle.isle_core.specs.BuiltRule.{IsMaking, IsBuiltPattern, AreBuiltPatterns, IsBuiltExpr, AreBuiltExprs, IsBuiltRule, IsBuiltKind, HasBuiltTerms, AllHaveBuiltTerms, CallsBuiltTerms}
+use Rattle.isle_core.specs.BuiltRule.{IsMaking, IsBuiltPattern, AreBuiltPatterns, IsBuiltExpr, AreBuiltExprs, AreBuiltBindings, IsBuiltRule, IsBuiltKind, HasBuiltTerms, AllHaveBuiltTerms, BindingsHaveBuiltTerms, CallsBuiltTerms}
 use Rattle.isle_core.specs.Calling.{calling_of, calling_by, kind_of, kind_by, pure_callee}
-use Rattle.isle_core.specs.CalledTerms.{Role, Constructor, CalledTerm, is_made_kind, is_made_term, is_made, unless_made, called_by, called_by_all, extracted_by, extracted_by_all, extracted_in, called_in_iflets, called_in, called}
+use Rattle.isle_core.specs.CalledTerms.{Role, Constructor, CalledTerm, is_made_kind, is_made_term, is_made, unless_made, called_by, called_by_all, called_by_bindings, extracted_by, extracted_by_all, extracted_in, called_in_iflets, called_in, called}
 use Rattle.isle_core.specs.Expr as expr
-use Rattle.isle_core.specs.Expr.{Expr, Exprs, NoExpr, AnExpr}
+use Rattle.isle_core.specs.Expr.{Expr, Exprs, NoExpr, AnExpr, LetBindings, NoBinding, ABinding}
 use Rattle.isle_core.specs.HasType.{HasType}
 use Rattle.isle_core.specs.History.{Service, service_by, service_of, AreAnswerable}
 use Rattle.isle_core.specs.Lawful.{Fits, called_as, result_types}
@@ -93,11 +93,15 @@ mutual
   expr_callable env (expr.ConstInt of n) b h o c = absurd (none_contained o c)
   expr_callable env (expr.ConstPrim of name) b h o c = absurd (none_contained o c)
   expr_callable env (expr.Term of term es) b h o c = ⊎_elim (λ d. exprs_callable env es b h.1 o d) (λ d. term_callable env term o h.0 d) (Contains-append_cases (called_by_all env es) (unless_made env Constructor term) o c)
-  expr_callable env (expr.Let of bindings inner) b h o c = absurd b
+  expr_callable env (expr.Let of bs inner) b h o c = ⊎_elim (λ d. bindings_callable env bs b.0 h.0 o d) (λ d. expr_callable env inner b.1 h.1 o d) (Contains-append_cases (called_by_bindings env bs) (called_by env inner) o c)
 
   exprs_callable : (env : Environment) (es : Exprs) → AreBuiltExprs es → AllHaveBuiltTerms env.terms es → (o : CalledTerm) → Contains (called_by_all env es) o → IsCallable env o
   exprs_callable env NoExpr b h o c = absurd (none_contained o c)
   exprs_callable env (AnExpr e es) b h o c = ⊎_elim (λ d. expr_callable env e b.0 h.0 o d) (λ d. exprs_callable env es b.1 h.1 o d) (Contains-append_cases (called_by env e) (called_by_all env es) o c)
+
+  bindings_callable : (env : Environment) (bs : LetBindings) → AreBuiltBindings bs → BindingsHaveBuiltTerms env.terms bs → (o : CalledTerm) → Contains (called_by_bindings env bs) o → IsCallable env o
+  bindings_callable env NoBinding b h o c = absurd (none_contained o c)
+  bindings_callable env (ABinding x ty e more) b h o c = ⊎_elim (λ d. expr_callable env e b.0 h.0 o d) (λ d. bindings_callable env more b.1 h.1 o d) (Contains-append_cases (called_by env e) (called_by_bindings env more) o c)
 
 made_there : (o : Option Term) → IsMaking (making_of o) → is_made_term o ≡ true
 made_there None h = absurd h
@@ -117,8 +121,8 @@ mutual
   none_called env (pattern.ConstPrim of name) h = refl
   none_called env (pattern.Wildcard of) h = refl
   none_called env (pattern.Term of term ps) h = rw (made_there (slice_get env.terms term.0) h.0, none_called_all env ps h.2) refl
-  none_called env (pattern.BindPattern of x p) h = absurd h
-  none_called env (pattern.And of ps) h = absurd h
+  none_called env (pattern.BindPattern of x p) h = none_called env p h
+  none_called env (pattern.And of ps) h = none_called_all env ps h
 
   none_called_all : (env : Environment) (ps : Patterns) → AreBuiltPatterns env.terms ps → extracted_by_all env ps ≡ []
   none_called_all env NoPattern h = refl

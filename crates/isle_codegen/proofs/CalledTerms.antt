@@ -10,25 +10,23 @@ use Rattle.isle_core.specs.declared.rule_sets.Binding.TheVariants as binding
 use Rattle.isle_core.specs.declared.rule_sets.RuleSet.{RuleSet}
 use Rattle.isle_core.specs.Having.{const_of}
 use Rattle.isle_core.specs.Meaning.{Meaning}
-use Rattle.isle_core.specs.Calling.{Calling, ByTurns, ByCases, NoCall, calling, is_fallible, instance_of, impure, impure_all}
-use Rattle.isle_core.specs.Expr as expr
-use Rattle.isle_core.specs.Expr.{Expr, Exprs, NoExpr, AnExpr}
+use Rattle.isle_core.specs.Calling.{Calling, ByTurns, ByCases, NoCall, calling, is_fallible, impure}
 use Rattle.isle_core.specs.declared.types.Term.{Term}
 use Rattle.isle_core.specs.declared.types.TermKind.{TermKind}
 use Rattle.isle_core.specs.declared.types.TermKind.TheVariants as term_kind
 use Rattle.isle_core.specs.Making.{Making, MakesVariant, MakesStruct, MakesNothing, making_kind, making_of, making}
-use Rattle.isle_core.specs.Path as path
-use Rattle.isle_core.proofs.OpenedPaths.{IsOpened, IsOpenedPlace, AreOpened, args_opened, args_open}
-use Rattle.isle_core.specs.CalledTerms.{CalledTerm, Constructor, is_made_kind, is_made_term, unless_made, called_by, called_by_all, extracted_in, called_in_iflets, called_in, called}
+use Rattle.isle_core.specs.OccurringConstants.{TypedConstant, expr_constants}
+use Rattle.isle_core.proofs.OpenedPaths.{IsOpened, IsOpenedPlace, args_opened, args_open}
+use Rattle.isle_core.specs.CalledTerms.{CalledTerm, Constructor, is_made_kind, is_made_term, is_made, called_by, extracted_in, called_in_iflets, called_in, called}
 use Rattle.isle_core.specs.Lawful.{AnswersFit, IsLawful}
-use Rattle.isle_core.specs.Path.{Path, Nowhere, Called, Inner, MadeVariant, MadeStruct, Paths, paths_of}
+use Rattle.isle_core.specs.Path.{Path, Called, Inner, MadeVariant, MadeStruct, Paths, paths_of}
 use Rattle.isle_core.specs.Rule.{Environment, Rule, rules_of}
 use Rattle.isle_core.specs.RulePaths.{rules_paths}
 use Rattle.isle_core.specs.StandsFor.{StandsFor}
-use Rattle.isle_core.specs.RightSide.{path_or, term_path, call_path, paths as all_paths}
-use Rattle.isle_core.specs.RulePaths.{args_paths, with_inner, expr_paths, exprs_paths, rule_paths}
+use Rattle.isle_core.specs.RightSide.{term_path}
+use Rattle.isle_core.specs.RulePaths.{args_paths, with_inner, expr_paths, rule_paths}
 use Rattle.isle_core.specs.Tests.{Places, no_places, rule_places}
-use Rattle.isle_core.proofs.TurnKinds.{called_here}
+use Rattle.isle_core.proofs.ExprPaths.{constructed, IsPlaceSo, HoldsOfParts, expr_each}
 use Rattle.isle_core.proofs.Contained.{head_contained, tail_contained, contained_cases, none_contained}
 use Rattle.isle_core.proofs.BindingPaths.{path_before}
 use Rattle.isle_core.specs.declared.types.ReturnKind.{ReturnKind}
@@ -43,16 +41,9 @@ use Rattle.isle_codegen.proofs.NamedConstants.{rules_named, named_valued}
 
 -- ---- the calls among paths
 
--- a term as a constructor
-abbrev constructed : TermId → CalledTerm
-constructed term = record { term = term; role = Constructor }
-
 -- the calls among paths are of these terms
 abbrev AreOf : List CalledTerm → List Path → Type 0
 AreOf terms ps = (term : TermId) (qs : Paths) (k : ℕ) → Contains ps (Called term qs k) → Contains terms (constructed term)
-
-none_of : (terms : List CalledTerm) (p : Path) → ((term : TermId) (qs : Paths) (k : ℕ) → p ≡ Called term qs k → ⊥) → AreOf terms (p ∷ [])
-none_of terms p apart term qs k c = absurd (⊎_elim (λ e. apart term qs k e) (λ d. none_contained (Called term qs k) d) (contained_cases p [] (Called term qs k) c))
 
 both_of : (terms : List CalledTerm) (xs ys : List Path) → AreOf terms xs → AreOf terms ys → AreOf terms (xs ++ ys)
 both_of terms xs ys h l term qs k c = ⊎_elim (h term qs k) (l term qs k) (Contains-append_cases xs ys (Called term qs k) c)
@@ -63,27 +54,20 @@ wider terms more ps among h term qs k c = among (constructed term) (h term qs k 
 opened_apart : (p : Path) → IsOpened p → (term : TermId) (qs : Paths) (k : ℕ) → p ≡ Called term qs k → ⊥
 opened_apart p h term qs k e = subst IsOpened e h
 
-place_apart : (o : Option Path) → IsOpenedPlace o → (term : TermId) (qs : Paths) (k : ℕ) → path_or o ≡ Called term qs k → ⊥
-place_apart None h term qs k e = cc
-place_apart (Some p) h term qs k e = opened_apart p h term qs k e
-
 same_term : (a b : TermId) (ps qs : Paths) (j k : ℕ) → Called a ps j ≡ Called b qs k → a ≡ b
 same_term a b ps qs j k e = cc
 
-inner_apart : (p : Path) (b : TermId) (qs : Paths) (k : ℕ) → Inner p ≡ Called b qs k → ⊥
-inner_apart p b qs k e = cc
+-- a path that calls one of these, if it calls a term
+abbrev IsOf : List CalledTerm → Path → Type 0
+IsOf terms p = (term : TermId) (qs : Paths) (k : ℕ) → p ≡ Called term qs k → Contains terms (constructed term)
 
-call_of : (b : Bool) (terms : List CalledTerm) (term : TermId) (ps : Paths) (j : ℕ) → Contains terms (constructed term) → AreOf terms (cond b (Called term ps j ∷ Inner (Called term ps j) ∷ []) (Called term ps j ∷ []))
-call_of true terms term ps j here other qs k c =
-    ⊎_elim (λ e. subst (λ x. Contains terms (constructed x)) (same_term term other ps qs j k e) here)
-    (λ d. none_of terms (Inner (Called term ps j)) (inner_apart (Called term ps j)) other qs k d) (contained_cases (Called term ps j) (Inner (Called term ps j) ∷ []) (Called other qs k) c)
-call_of false terms term ps j here other qs k c =
-    ⊎_elim (λ e. subst (λ x. Contains terms (constructed x)) (same_term term other ps qs j k e) here) (λ d. absurd (none_contained (Called other qs k) d)) (contained_cases (Called term ps j) [] (Called other qs k) c)
+each_of : (terms : List CalledTerm) (ps : List Path) → AllByRecursion (IsOf terms) ps → AreOf terms ps
+each_of terms [] h term qs k c = absurd (none_contained (Called term qs k) c)
+each_of terms (p ∷ ps) h term qs k c = ⊎_elim (h.0 term qs k) (each_of terms ps h.1 term qs k) (contained_cases p ps (Called term qs k) c)
 
--- a made value, and its inner value, are no calls
-made_of : (b : Bool) (terms : List CalledTerm) (p : Path) → ((term : TermId) (qs : Paths) (k : ℕ) → p ≡ Called term qs k → ⊥) → AreOf terms (cond b (p ∷ Inner p ∷ []) (p ∷ []))
-made_of true terms p apart = λ other qs k c. ⊎_elim (λ e. absurd (apart other qs k e)) (λ d. none_of terms (Inner p) (inner_apart p) other qs k d) (contained_cases p (Inner p ∷ []) (Called other qs k) c)
-made_of false terms p apart = none_of terms p apart
+place_of : (terms : List CalledTerm) (o : Option Path) → IsOpenedPlace o → IsPlaceSo (IsOf terms) o
+place_of terms None h = tt
+place_of terms (Some p) h = λ term qs k e. absurd (opened_apart p h term qs k e)
 
 not_made : (o : Option Term) → making_of o ≡ MakesNothing → is_made_term o ≡ false
 not_made None e = refl
@@ -94,30 +78,26 @@ not_made (Some t) e = of_kind t.kind e
     of_kind (term_kind.Variant ty variant) h = cc
     of_kind (term_kind.Struct ty) h = cc
 
-term_of : (env : Environment) (mk : Making) (terms : List CalledTerm) (term : TermId) (ps : Paths) (j : ℕ) → making env term ≡ mk → ((t : CalledTerm) → Contains (unless_made env Constructor term) t → Contains terms t) → AreOf terms (with_inner (calling env term) (term_path mk term ps j))
-term_of env MakesNothing terms term ps j e h = call_of (is_fallible (calling env term)) terms term ps j (h (constructed term) (called_here env term (not_made (slice_get env.terms term.0) e)))
-term_of env (MakesVariant ty variant) terms term ps j e h = made_of (is_fallible (calling env term)) terms (MadeVariant ty variant ps) (λ other qs k d. cc)
-term_of env (MakesStruct ty) terms term ps j e h = made_of (is_fallible (calling env term)) terms (MadeStruct ty ps) (λ other qs k d. cc)
+-- a path and its inner value, which is no call
+inner_of : (b : Bool) (terms : List CalledTerm) (p : Path) → IsOf terms p → AllByRecursion (IsOf terms) (cond b (p ∷ Inner p ∷ []) (p ∷ []))
+inner_of true terms p h = (h, (λ term qs k e. cc, tt))
+inner_of false terms p h = (h, tt)
 
-mutual
-  expr_of : (e : Expr) (env : Environment) (places : Places) (n : ℕ) → AreOpened places → AreOf (called_by env e) (expr_paths env e places n)
-  expr_of (expr.Var of x) env places n h = none_of [] (path_or (places x.0)) (place_apart (places x.0) (h x.0))
-  expr_of (expr.ConstBool b) env places n h = none_of [] _ (λ term qs k e. cc)
-  expr_of (expr.ConstInt of v) env places n h = none_of [] _ (λ term qs k e. cc)
-  expr_of (expr.Term of term es) env places n h =
-      let own = unless_made env Constructor term in
-      both_of (called_by_all env es ++ own) (exprs_paths env es places n) (with_inner (calling env term) (call_path env term (all_paths env es places n) (n + impure_all env es)))
-      (wider (called_by_all env es) (called_by_all env es ++ own) (exprs_paths env es places n) (λ t c. Contains-append_left (called_by_all env es) own t c) (exprs_of es env places n h))
-      (term_of env (making env term) (called_by_all env es ++ own) term (all_paths env es places n) (instance_of (calling env term) (n + impure_all env es)) refl (λ t c. Contains-append_right (called_by_all env es) own t c))
-  expr_of (expr.ConstPrim of name) env places n h = none_of [] (path.ConstPrim name) (λ term qs k e. cc)
-  expr_of (expr.Let of bindings inner) env places n h = none_of (called_by env (expr.Let of bindings inner)) Nowhere (λ term qs k e. cc)
+term_of : (env : Environment) (mk : Making) (terms : List CalledTerm) (term : TermId) (ps : Paths) (j : ℕ) → making env term ≡ mk → (is_made env term ≡ false → Contains terms (constructed term)) → AllByRecursion (IsOf terms) (with_inner (calling env term) (term_path mk term ps j))
+term_of env MakesNothing terms term ps j e h =
+    inner_of (is_fallible (calling env term)) terms (Called term ps j) (λ other qs k d. subst (λ x. Contains terms (constructed x)) (same_term term other ps qs j k d) (h (not_made (slice_get env.terms term.0) e)))
+term_of env (MakesVariant ty variant) terms term ps j e h = inner_of (is_fallible (calling env term)) terms (MadeVariant ty variant ps) (λ other qs k d. cc)
+term_of env (MakesStruct ty) terms term ps j e h = inner_of (is_fallible (calling env term)) terms (MadeStruct ty ps) (λ other qs k d. cc)
 
-  exprs_of : (es : Exprs) (env : Environment) (places : Places) (n : ℕ) → AreOpened places → AreOf (called_by_all env es) (exprs_paths env es places n)
-  exprs_of NoExpr env places n h term qs k c = absurd (none_contained (Called term qs k) c)
-  exprs_of (AnExpr e es) env places n h term qs k c =
-      both_of (called_by env e ++ called_by_all env es) (expr_paths env e places n) (exprs_paths env es places (n + impure env e))
-      (wider (called_by env e) (called_by env e ++ called_by_all env es) (expr_paths env e places n) (λ t d. Contains-append_left (called_by env e) (called_by_all env es) t d) (expr_of e env places n h))
-      (wider (called_by_all env es) (called_by env e ++ called_by_all env es) (exprs_paths env es places (n + impure env e)) (λ t d. Contains-append_right (called_by env e) (called_by_all env es) t d) (exprs_of es env places (n + impure env e) h)) term qs k c
+-- what an expression's parts make calls these
+parts_of : (env : Environment) (terms : List CalledTerm) (constants : List TypedConstant) → HoldsOfParts (IsOf terms) env terms constants
+parts_of env terms constants = record {
+  nowhere = λ term qs k e. cc;
+  truth = λ b term qs k e. cc;
+  number = λ ty v term qs k e. cc;
+  named = λ ty name c term qs k e. cc;
+  term = λ term ps j h. term_of env (making env term) terms term ps j refl h;
+}
 
 opened_of : (terms : List CalledTerm) (ps : List Path) → AllByRecursion IsOpened ps → AreOf terms ps
 opened_of terms [] h term qs k c = absurd (none_contained (Called term qs k) c)
@@ -130,9 +110,9 @@ rules_of_called (r ∷ rules) env n term qs k c =
     let before = extracted_in env r.args ++ called_in_iflets env r.iflets in
     both_of all (rule_paths env r n) (rules_paths env rules (n + impure env r.rhs))
     (both_of all (args_paths env r.args 0) (expr_paths env r.rhs (rule_places env r) n) (opened_of all (args_paths env r.args 0) (args_open env r.args 0))
-    (wider (called_by env r.rhs) all (expr_paths env r.rhs (rule_places env r) n)
-    (λ t d. Contains-append_left (called_in env r) (called env rules) t (Contains-append_right before (called_by env r.rhs) t d))
-    (expr_of r.rhs env (rule_places env r) n (args_opened env r.args 0 no_places (λ z. tt)))))
+    (each_of all (expr_paths env r.rhs (rule_places env r) n)
+    (expr_each (IsOf all) env all (expr_constants r.rhs) (parts_of env all (expr_constants r.rhs)) r.rhs (rule_places env r) n (record { by = λ x. place_of all (rule_places env r x) (args_opened env r.args 0 no_places (λ z. tt) x) })
+    (λ t d. Contains-append_left (called_in env r) (called env rules) t (Contains-append_right before (called_by env r.rhs) t d)) (λ c d. d))))
     (wider (called env rules) all (rules_paths env rules (n + impure env r.rhs)) (λ t d. Contains-append_right (called_in env r) (called env rules) t d) (rules_of_called rules env (n + impure env r.rhs))) term qs k c
 
 -- ---- bindings

@@ -6,30 +6,26 @@ use Rattle.std.proofs.lemmas.List.Elements.{Contains-append_left, Contains-appen
 use Rattle.isle_core.specs.declared.Sym.{Sym}
 use Rattle.isle_core.specs.declared.TermId.{TermId}
 use Rattle.isle_core.specs.declared.TypeId.{TypeId}
-use Rattle.isle_core.specs.Calling.{calling, is_fallible, impure, impure_all, instance_of}
-use Rattle.isle_core.specs.Expr as expr
-use Rattle.isle_core.specs.Expr.{Expr, Exprs, NoExpr, AnExpr}
+use Rattle.isle_core.specs.Calling.{calling, is_fallible, impure}
 use Rattle.isle_core.specs.Having.{const_of}
 use Rattle.isle_core.specs.Lawful.{IsLawful}
 use Rattle.isle_core.specs.Making.{Making, MakesVariant, MakesStruct, MakesNothing, making}
 use Rattle.isle_core.specs.Meaning.{Meaning}
-use Rattle.isle_core.specs.OccurringConstants.{TypedConstant, Named, expr_constants, exprs_constants, args_constants, iflets_constants, rule_constants, rules_constants}
-use Rattle.isle_core.specs.Path as path
-use Rattle.isle_core.specs.Path.{Path, Nowhere, ConstPrim, Inner, Paths}
-use Rattle.isle_core.specs.RightSide.{bool_type, path_or, term_path, paths as all_paths}
+use Rattle.isle_core.specs.OccurringConstants.{TypedConstant, Named, expr_constants, args_constants, iflets_constants, rule_constants, rules_constants}
+use Rattle.isle_core.specs.CalledTerms.{CalledTerm, called_by}
+use Rattle.isle_core.specs.Path.{Path, Called, ConstPrim, Inner, MadeVariant, MadeStruct, Paths}
+use Rattle.isle_core.specs.RightSide.{term_path}
 use Rattle.isle_core.specs.Rule.{Environment, Rule, rules_of}
-use Rattle.isle_core.specs.RulePaths.{args_paths, expr_paths, exprs_paths, rule_paths, rules_paths}
+use Rattle.isle_core.specs.RulePaths.{args_paths, with_inner, expr_paths, rule_paths, rules_paths}
 use Rattle.isle_core.specs.Terms.{sym_text}
 use Rattle.isle_core.specs.Tests.{Places, no_places, rule_places}
 use Rattle.isle_core.proofs.Contained.{head_contained, contained_cases, none_contained}
-use Rattle.isle_core.proofs.OpenedPaths.{IsOpened, IsOpenedPlace, AreOpened, args_opened, args_open}
+use Rattle.isle_core.proofs.OpenedPaths.{IsOpened, IsOpenedPlace, args_opened, args_open}
+use Rattle.isle_core.proofs.ExprPaths.{IsPlaceSo, HoldsOfParts, expr_each}
 
 -- each constant among paths is named in these
 abbrev AreNamed : List TypedConstant → List Path → Type 0
 AreNamed cs ps = (name : Sym) → Contains ps (ConstPrim name) → (ty : TypeId) × Contains cs (ty, Named name)
-
-none_named : (cs : List TypedConstant) (p : Path) → ((name : Sym) → p ≡ ConstPrim name → ⊥) → AreNamed cs (p ∷ [])
-none_named cs p apart name c = absurd (⊎_elim (λ e. apart name e) (λ d. none_contained (ConstPrim name) d) (contained_cases p [] (ConstPrim name) c))
 
 both_named : (cs : List TypedConstant) (xs ys : List Path) → AreNamed cs xs → AreNamed cs ys → AreNamed cs (xs ++ ys)
 both_named cs xs ys h k name c = ⊎_elim (h name) (k name) (Contains-append_cases xs ys (ConstPrim name) c)
@@ -40,44 +36,40 @@ wider_named cs more ps among h name c = let k = h name c in (k.0, among (k.0, Na
 opened_apart : (p : Path) → IsOpened p → (name : Sym) → p ≡ ConstPrim name → ⊥
 opened_apart p h name e = subst IsOpened e h
 
-place_apart : (o : Option Path) → IsOpenedPlace o → (name : Sym) → path_or o ≡ ConstPrim name → ⊥
-place_apart None h name e = cc
-place_apart (Some p) h name e = opened_apart p h name e
-
-term_apart : (mk : Making) (term : TermId) (ps : Paths) (n : ℕ) (name : Sym) → term_path mk term ps n ≡ ConstPrim name → ⊥
-term_apart (MakesVariant ty variant) term ps n name e = cc
-term_apart (MakesStruct ty) term ps n name e = cc
-term_apart MakesNothing term ps n name e = cc
-
-inner_apart : (p : Path) (name : Sym) → Inner p ≡ ConstPrim name → ⊥
-inner_apart p name e = cc
-
-with_named : (b : Bool) (cs : List TypedConstant) (p : Path) → ((name : Sym) → p ≡ ConstPrim name → ⊥) → AreNamed cs (cond b (p ∷ Inner p ∷ []) (p ∷ []))
-with_named true cs p apart = both_named cs (p ∷ []) (Inner p ∷ []) (none_named cs p apart) (none_named cs (Inner p) (inner_apart p))
-with_named false cs p apart = none_named cs p apart
-
 one_name : (a b : Sym) → ConstPrim a ≡ ConstPrim b → a ≡ b
 one_name a b e = cc
 
-mutual
-  expr_named : (e : Expr) (env : Environment) (places : Places) (n : ℕ) → AreOpened places → AreNamed (expr_constants e) (expr_paths env e places n)
-  expr_named (expr.Var of x) env places n h = none_named [] (path_or (places x.0)) (place_apart (places x.0) (h x.0))
-  expr_named (expr.ConstBool b) env places n h = none_named (expr_constants (expr.ConstBool b)) (path.ConstBool bool_type b) (λ name e. cc)
-  expr_named (expr.ConstInt of v) env places n h = none_named (expr_constants (expr.ConstInt of v)) (path.ConstInt of v) (λ name e. cc)
-  expr_named (expr.ConstPrim of a) env places n h = λ name c.
-      ⊎_elim (λ e. (of, subst (λ x. Contains {X = TypedConstant} ((of, Named a) ∷ []) (of, Named x)) (one_name a name e) (head_contained {A = TypedConstant} (of, Named a) []))) (λ d. absurd (none_contained (ConstPrim name) d)) (contained_cases (ConstPrim a) [] (ConstPrim name) c)
-  expr_named (expr.Term of term es) env places n h =
-      both_named (exprs_constants es) (exprs_paths env es places n) _ (exprs_named es env places n h)
-      (with_named (is_fallible (calling env term)) (exprs_constants es) _ (term_apart (making env term) term (all_paths env es places n) (instance_of (calling env term) (n + impure_all env es))))
-  expr_named (expr.Let of bindings inner) env places n h = none_named (expr_constants (expr.Let of bindings inner)) Nowhere (λ name e. cc)
+-- a path that is named in these, if it is a constant's
+abbrev IsNamed : List TypedConstant → Path → Type 0
+IsNamed cs p = (name : Sym) → p ≡ ConstPrim name → (ty : TypeId) × Contains cs (ty, Named name)
 
-  exprs_named : (es : Exprs) (env : Environment) (places : Places) (n : ℕ) → AreOpened places → AreNamed (exprs_constants es) (exprs_paths env es places n)
-  exprs_named NoExpr env places n h = λ name c. absurd (none_contained (ConstPrim name) c)
-  exprs_named (AnExpr e es) env places n h =
-      let all = expr_constants e ++ exprs_constants es in
-      both_named all (expr_paths env e places n) (exprs_paths env es places (n + impure env e))
-      (wider_named (expr_constants e) all (expr_paths env e places n) (λ t d. Contains-append_left (expr_constants e) (exprs_constants es) t d) (expr_named e env places n h))
-      (wider_named (exprs_constants es) all (exprs_paths env es places (n + impure env e)) (λ t d. Contains-append_right (expr_constants e) (exprs_constants es) t d) (exprs_named es env places (n + impure env e) h))
+each_named : (cs : List TypedConstant) (ps : List Path) → AllByRecursion (IsNamed cs) ps → AreNamed cs ps
+each_named cs [] h name c = absurd (none_contained (ConstPrim name) c)
+each_named cs (p ∷ ps) h name c = ⊎_elim (h.0 name) (each_named cs ps h.1 name) (contained_cases p ps (ConstPrim name) c)
+
+place_named : (cs : List TypedConstant) (o : Option Path) → IsOpenedPlace o → IsPlaceSo (IsNamed cs) o
+place_named cs None h = tt
+place_named cs (Some p) h = λ name e. absurd (opened_apart p h name e)
+
+-- a path and its inner value, which are no constants
+inner_named : (b : Bool) (cs : List TypedConstant) (p : Path) → IsNamed cs p → AllByRecursion (IsNamed cs) (cond b (p ∷ Inner p ∷ []) (p ∷ []))
+inner_named true cs p h = (h, (λ name e. cc, tt))
+inner_named false cs p h = (h, tt)
+
+term_named : (env : Environment) (mk : Making) (cs : List TypedConstant) (term : TermId) (ps : Paths) (j : ℕ) → AllByRecursion (IsNamed cs) (with_inner (calling env term) (term_path mk term ps j))
+term_named env MakesNothing cs term ps j = inner_named (is_fallible (calling env term)) cs (Called term ps j) (λ name e. cc)
+term_named env (MakesVariant ty variant) cs term ps j = inner_named (is_fallible (calling env term)) cs (MadeVariant ty variant ps) (λ name e. cc)
+term_named env (MakesStruct ty) cs term ps j = inner_named (is_fallible (calling env term)) cs (MadeStruct ty ps) (λ name e. cc)
+
+-- what an expression's parts make is named in these
+parts_named : (env : Environment) (terms : List CalledTerm) (cs : List TypedConstant) → HoldsOfParts (IsNamed cs) env terms cs
+parts_named env terms cs = record {
+  nowhere = λ name e. cc;
+  truth = λ b name e. cc;
+  number = λ ty v name e. cc;
+  named = λ ty a c name e. (ty, subst (λ x. Contains {X = TypedConstant} cs (ty, Named x)) (one_name a name e) c);
+  term = λ term ps j h. term_named env (making env term) cs term ps j;
+}
 
 opened_named : (cs : List TypedConstant) (ps : List Path) → AllByRecursion IsOpened ps → AreNamed cs ps
 opened_named cs [] h name c = absurd (none_contained (ConstPrim name) c)
@@ -92,9 +84,9 @@ rules_named (r ∷ rules) env n =
     let rest = n + impure env r.rhs in
     both_named all (rule_paths env r n) (rules_paths env rules rest)
     (both_named all (args_paths env r.args 0) (expr_paths env r.rhs (rule_places env r) n) (opened_named all (args_paths env r.args 0) (args_open env r.args 0))
-    (wider_named (expr_constants r.rhs) all (expr_paths env r.rhs (rule_places env r) n)
-    (λ t d. Contains-append_left (rule_constants r) (rules_constants rules) t (Contains-append_right before (expr_constants r.rhs) t d))
-    (expr_named r.rhs env (rule_places env r) n (args_opened env r.args 0 no_places (λ z. tt)))))
+    (each_named all (expr_paths env r.rhs (rule_places env r) n)
+    (expr_each (IsNamed all) env (called_by env r.rhs) all (parts_named env (called_by env r.rhs) all) r.rhs (rule_places env r) n (record { by = λ x. place_named all (rule_places env r x) (args_opened env r.args 0 no_places (λ z. tt) x) }) (λ t d. d)
+    (λ t d. Contains-append_left (rule_constants r) (rules_constants rules) t (Contains-append_right before (expr_constants r.rhs) t d)))))
     (wider_named (rules_constants rules) all (rules_paths env rules rest) (λ t d. Contains-append_right (rule_constants r) (rules_constants rules) t d) (rules_named rules env rest))
 
 some_there : {A : Type 0} (o : Option A) (P : A → Type 0) → IsSomeAnd o P → IsSome o
