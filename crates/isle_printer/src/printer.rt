@@ -174,12 +174,15 @@ fn end_line(text: &mut String, last: &mut Last) -> Result<(), AllocError>
     Ok(())
 }
 
-// Four blanks for each level.
+/// How many levels a line is set in at most, so that a text nested deep grows with its tokens alone.
+const MOST_LEVELS: usize = 32;
+
+// Four blanks for each level, up to the most.
 fn pad(text: &mut String, depth: usize) -> Result<(), AllocError>
     requires { (scan (string_bytes text.old)).state ≡ Between }
     ensures { scan (string_bytes text.new) ≡ scan (string_bytes text.old) }
 {
-    for _ in 0..depth {
+    for _ in 0..depth.min(MOST_LEVELS) {
         text.push_str("    ")?;
     }
     Ok(())
@@ -310,7 +313,7 @@ impl Printer {
         Ok(())
     }
 
-    /// Begins a line, as far in as the depth says.
+    /// Begins a line, as far in as the depth says, up to 32 levels.
     pub fn line(&mut self) -> Result<(), AllocError>
         ensures { self.new ≡ self.old }
     {
@@ -330,7 +333,7 @@ impl Printer {
         Ok(())
     }
 
-    /// Begins lines four blanks further in from here on.
+    /// Begins lines four blanks further in from here on, up to 32 levels: a line deeper than that stands as far in as one of 32.
     pub fn indent(&mut self)
         ensures { self.new ≡ self.old }
     {
