@@ -286,6 +286,11 @@ called_parts : (env : Environment) (t : Term) (o : Option Term) (ps : Paths) (ty
 called_parts env t None ps ty h = absurd h
 called_parts env t (Some c) ps ty h = paths_there env t ps c.arg_tys h.1
 
+-- what an extractor takes apart
+extracted_there : (env : Environment) (t : Term) (o : Option Term) (q : Path) (ty : TypeId) → IsSomeAnd o (λ (c : Term). (c.arg_tys ≡ ty ∷ []) × IsPathOf env t q c.ret_ty) → IsThere q
+extracted_there env t None q ty h = absurd h
+extracted_there env t (Some c) q ty h = path_there env t q c.ret_ty h.1
+
 -- what a made value is made of
 made_of_parts : (env : Environment) (t : Term) (o : Option Form) (ps : Paths) → IsSomeAnd o (λ f. ArePathsOf env t ps (form_types env f)) → AreThere ps
 made_of_parts env t None ps h = absurd h
@@ -298,6 +303,7 @@ typed_parts env t (ConstBool of b) ty h = tt
 typed_parts env t (ConstInt of n) ty h = tt
 typed_parts env t (ConstPrim name) ty h = tt
 typed_parts env t (Called term ps instance) ty h = called_parts env t (slice_get env.terms term.0) ps ty h.1
+typed_parts env t (Extracted term q) ty h = extracted_there env t (slice_get env.terms term.0) q ty h.1
 typed_parts env t (Inner p) ty h = option_there env t p ty h
 typed_parts env t (MadeVariant of variant ps) ty h = made_of_parts env t (form env (MakesVariant of variant)) ps h.1
 typed_parts env t (MadeStruct of ps) ty h = made_of_parts env t (form env (MakesStruct of)) ps h.1
@@ -308,4 +314,5 @@ typed_parts env t p ty h = absurd h
 -- and so is that of an option
 pub option_parts : (env : Environment) (t : Term) (p : Path) (ty : TypeId) → IsOptionOf env t p ty → HasParts p
 option_parts env t (Called term ps instance) ty h = called_parts env t (slice_get env.terms term.0) ps ty h.1
+option_parts env t (Extracted term q) ty h = extracted_there env t (slice_get env.terms term.0) q ty h.1
 option_parts env t p ty h = absurd h

@@ -1,10 +1,10 @@
 -- A variable's place stays behind more patterns.
 use Rattle.std.proofs.Common.{◌≡◌, ℕ, suc, List, [], ◌∷◌, Bool, true, false, cond, eqb, Option, Some, None, refl, sym, ap, ◌∙◌}
 use Rattle.std.proofs.lemmas.Bool.{eqb-true}
-use Rattle.isle_core.specs.Making.{Making, making}
+use Rattle.isle_core.specs.Opening.{Opening, opening, part_path}
 use Rattle.isle_core.specs.Pattern.{Pattern, Patterns, NoPattern, APattern, Var, Term, BindPattern, And}
 use Rattle.isle_core.specs.Path.{Path, Arg}
-use Rattle.isle_core.specs.Tests.{Places, met_after, field_path, after, after_parts, after_each, args_after}
+use Rattle.isle_core.specs.Tests.{Places, met_after, after, after_parts, after_each, args_after}
 use Rattle.isle_core.specs.Rule.{Environment}
 
 -- so behind a variable
@@ -20,7 +20,7 @@ mutual
   -- so behind one pattern
   pub after_keeps : (r : Pattern) (env : Environment) (p : Path) (places : Places) (y : ℕ) (q : Path) → places y ≡ Some q → after env r p places y ≡ Some q
   after_keeps (Var ty x) env p places y q h = met_keeps (places x.0) x.0 y p q places refl h
-  after_keeps (Term ty term rs) env p places y q h = parts_keep rs env (making env term) 0 p places y q h
+  after_keeps (Term ty term rs) env p places y q h = parts_keep rs env (opening env term) 0 p places y q h
   after_keeps (BindPattern ty x r) env p places y q h = after_keeps r env p (met_after (places x.0) x.0 p places) y q (met_keeps (places x.0) x.0 y p q places refl h)
   after_keeps (And ty rs) env p places y q h = each_keep rs env p places y q h
   after_keeps r env p places y q h = h
@@ -31,9 +31,9 @@ mutual
   each_keep (APattern r rs) env p places y q h = each_keep rs env p (after env r p places) y q (after_keeps r env p places y q h)
 
   -- and behind parts
-  pub parts_keep : (rs : Patterns) (env : Environment) (made : Making) (i : ℕ) (p : Path) (places : Places) (y : ℕ) (q : Path) → places y ≡ Some q → after_parts env made rs i p places y ≡ Some q
-  parts_keep NoPattern env made i p places y q h = h
-  parts_keep (APattern r rs) env made i p places y q h = parts_keep rs env made (suc i) p (after env r (field_path made i p) places) y q (after_keeps r env (field_path made i p) places y q h)
+  pub parts_keep : (rs : Patterns) (env : Environment) (opened : Opening) (i : ℕ) (p : Path) (places : Places) (y : ℕ) (q : Path) → places y ≡ Some q → after_parts env opened rs i p places y ≡ Some q
+  parts_keep NoPattern env opened i p places y q h = h
+  parts_keep (APattern r rs) env opened i p places y q h = parts_keep rs env opened (suc i) p (after env r (part_path opened i p) places) y q (after_keeps r env (part_path opened i p) places y q h)
 
 -- a place stays behind more patterns
 pub args_keep : (env : Environment) (qs : List Pattern) (n : ℕ) (places : Places) (y : ℕ) (q : Path) → places y ≡ Some q → args_after env qs n places y ≡ Some q

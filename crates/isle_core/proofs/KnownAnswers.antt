@@ -1,8 +1,8 @@
 -- What stands at a path stays while later calls are made.
-use Rattle.std.proofs.Common.{◌≡◌, ℕ, suc, ◌+◌, ◌<◌, ◌≤◌, List, [], ◌∷◌, Bool, true, false, cond, eqb, Option, Some, None, refl, ap, ◌∙◌, arith}
+use Rattle.std.proofs.Common.{◌≡◌, ℕ, zero, suc, ◌+◌, ◌<◌, ◌≤◌, List, [], ◌∷◌, Bool, true, false, cond, eqb, Option, Some, None, refl, ap, ◌∙◌, arith}
 use Rattle.isle_core.specs.Value.{Value}
 use Rattle.isle_core.specs.Meaning.{Meaning}
-use Rattle.isle_core.specs.Calling.{Calling, ByTurns, ByCases, NoCall, calling, is_fallible, instance_of, one_more, impure, impure_all, impure_bindings}
+use Rattle.isle_core.specs.Calling.{Calling, ByTurns, ByCases, NoCall, calling, extracting, is_fallible, instance_of, one_more, impure, impure_all, impure_bindings}
 use Rattle.isle_core.specs.Making.{Making, MakesVariant, MakesStruct, MakesNothing, making}
 use Rattle.isle_base.specs.declared.ids.TermId.{TermId}
 use Rattle.isle_core.specs.Pattern as pattern
@@ -10,10 +10,11 @@ use Rattle.isle_core.specs.Pattern.{Pattern, Patterns, NoPattern, APattern, Var}
 use Rattle.isle_core.specs.Expr as expr
 use Rattle.isle_core.specs.Expr.{Expr, Exprs, NoExpr, AnExpr, LetBindings, NoBinding, ABinding}
 use Rattle.isle_core.specs.Match.{Names, with}
-use Rattle.isle_core.specs.Path.{Path, Arg, Called, Inner, MadeVariant, MadeStruct, VariantField, StructField, Paths, NoPath, APath}
+use Rattle.isle_core.specs.Opening.{Opening, AsVariant, AsStruct, ByExtractor, opening, result_path, part_path}
+use Rattle.isle_core.specs.Path.{Path, Arg, Called, Inner, MadeVariant, MadeStruct, VariantField, StructField, Extracted, Wrapped, Part, Paths, NoPath, APath}
 use Rattle.isle_core.specs.RightSide.{path_or, term_path, call_path, answer_path, path, paths, let_places}
-use Rattle.isle_core.specs.Tests.{Places, no_places, met_after, field_path, after, after_parts, after_each, args_after}
-use Rattle.isle_core.specs.ValueAt.{Known, nothing_known, made_held, field_held, inner_held, value_before, call_held, value_at, values_at}
+use Rattle.isle_core.specs.Tests.{Places, no_places, met_after, after, after_parts, after_each, args_after}
+use Rattle.isle_core.specs.ValueAt.{Known, nothing_known, made_held, field_held, inner_held, extracted_held, wrapped_held, part_held, value_before, call_held, value_at, values_at}
 use Rattle.isle_core.specs.Rule.{Environment}
 use Rattle.isle_core.proofs.PatternTests.{StandsAt, Agree}
 
@@ -28,6 +29,9 @@ abbrev mutual
   IsUpTo n (MadeStruct ty ps) = AreUpTo n ps
   IsUpTo n (VariantField variant i p) = IsUpTo n p
   IsUpTo n (StructField i p) = IsUpTo n p
+  IsUpTo n (Extracted term p) = IsUpTo n p
+  IsUpTo n (Wrapped p) = IsUpTo n p
+  IsUpTo n (Part i p) = IsUpTo n p
   IsUpTo n p = Unit {0}
 
   -- so of paths in order
@@ -44,6 +48,9 @@ mutual
   up_to_more (MadeStruct ty ps) n n' le b = all_up_to_more ps n n' le b
   up_to_more (VariantField variant i p) n n' le b = up_to_more p n n' le b
   up_to_more (StructField i p) n n' le b = up_to_more p n n' le b
+  up_to_more (Extracted term p) n n' le b = up_to_more p n n' le b
+  up_to_more (Wrapped p) n n' le b = up_to_more p n n' le b
+  up_to_more (Part i p) n n' le b = up_to_more p n n' le b
   up_to_more p n n' le b = tt
 
   -- so of paths in order
@@ -85,6 +92,9 @@ mutual
   stable (MadeStruct ty ps) env m args n known known' b k = ap (made_held env (MakesStruct ty)) (all_stable ps env m args n known known' b k)
   stable (VariantField variant i p) env m args n known known' b k = ap (field_held i) (stable p env m args n known known' b k)
   stable (StructField i p) env m args n known known' b k = ap (field_held i) (stable p env m args n known known' b k)
+  stable (Extracted term p) env m args n known known' b k = ap (extracted_held m (extracting env term)) (stable p env m args n known known' b k)
+  stable (Wrapped p) env m args n known known' b k = ap wrapped_held (stable p env m args n known known' b k)
+  stable (Part i p) env m args n known known' b k = ap (part_held i) (stable p env m args n known known' b k)
   stable p env m args n known known' b k = refl
 
   -- so of paths in order
@@ -128,15 +138,27 @@ met_up_to : (o : Option Path) (n x : ℕ) (p : Path) (places : Places) → IsUpT
 met_up_to None n x p places h b = with_up_to n x p places h b
 met_up_to (Some q) n x p places h b = b
 
-field_up_to : (made : Making) (n i : ℕ) (p : Path) → IsUpTo n p → IsUpTo n (field_path made i p)
-field_up_to (MakesVariant ty variant) n i p h = h
-field_up_to (MakesStruct ty) n i p h = h
-field_up_to MakesNothing n i p h = tt
+answer_up_to : (c : Calling) (n : ℕ) (p : Path) → IsUpTo n p → IsUpTo n (answer_path c p)
+answer_up_to c n p b = pick (is_fallible c)
+  where
+    pick : (x : Bool) → IsUpTo n (cond x (Inner p) p)
+    pick true = b
+    pick false = b
+
+result_up_to : (count n i : ℕ) (p : Path) → IsUpTo n p → IsUpTo n (result_path count i p)
+result_up_to zero n i p h = h
+result_up_to (suc zero) n i p h = h
+result_up_to (suc (suc count)) n i p h = h
+
+part_up_to : (opened : Opening) (n i : ℕ) (p : Path) → IsUpTo n p → IsUpTo n (part_path opened i p)
+part_up_to (AsVariant ty variant) n i p h = h
+part_up_to (AsStruct ty) n i p h = h
+part_up_to (ByExtractor term c count) n i p h = result_up_to count n i (answer_path c (Extracted term p)) (answer_up_to c n (Extracted term p) h)
 
 mutual
   after_up_to : (q : Pattern) (env : Environment) (n : ℕ) (p : Path) (places : Places) → IsUpTo n p → PlacesUpTo n places → PlacesUpTo n (after env q p places)
   after_up_to (Var ty x) env n p places h b = met_up_to (places x.0) n x.0 p places h b
-  after_up_to (pattern.Term ty term qs) env n p places h b = parts_up_to qs env (making env term) n 0 p places h b
+  after_up_to (pattern.Term ty term qs) env n p places h b = parts_up_to qs env (opening env term) n 0 p places h b
   after_up_to (pattern.BindPattern ty x q) env n p places h b = after_up_to q env n p (met_after (places x.0) x.0 p places) h (met_up_to (places x.0) n x.0 p places h b)
   after_up_to (pattern.And ty qs) env n p places h b = each_up_to qs env n p places h b
   after_up_to q env n p places h b = b
@@ -145,10 +167,10 @@ mutual
   each_up_to NoPattern env n p places h b = b
   each_up_to (APattern q qs) env n p places h b = each_up_to qs env n p (after env q p places) h (after_up_to q env n p places h b)
 
-  parts_up_to : (qs : Patterns) (env : Environment) (made : Making) (n i : ℕ) (p : Path) (places : Places) → IsUpTo n p → PlacesUpTo n places → PlacesUpTo n (after_parts env made qs i p places)
-  parts_up_to NoPattern env made n i p places h b = b
-  parts_up_to (APattern q qs) env made n i p places h b =
-      parts_up_to qs env made n (suc i) p (after env q (field_path made i p) places) h (after_up_to q env n (field_path made i p) places (field_up_to made n i p h) b)
+  parts_up_to : (qs : Patterns) (env : Environment) (opened : Opening) (n i : ℕ) (p : Path) (places : Places) → IsUpTo n p → PlacesUpTo n places → PlacesUpTo n (after_parts env opened qs i p places)
+  parts_up_to NoPattern env opened n i p places h b = b
+  parts_up_to (APattern q qs) env opened n i p places h b =
+      parts_up_to qs env opened n (suc i) p (after env q (part_path opened i p) places) h (after_up_to q env n (part_path opened i p) places (part_up_to opened n i p h) b)
 
 -- those of a rule's patterns stand on no call
 pub args_up_to : (env : Environment) (qs : List Pattern) (n i : ℕ) (places : Places) → PlacesUpTo n places → PlacesUpTo n (args_after env qs i places)
@@ -170,13 +192,6 @@ pub agree_still : (env : Environment) (m : Meaning) (args : List Value) (n : ℕ
 agree_still env m args n known known' names places b k a = record { by = λ x. stands_still env m args n known known' (names x) (places x) (b.by x) k (a.by x) }
 
 -- ---- the paths of expressions
-
-answer_up_to : (c : Calling) (n : ℕ) (p : Path) → IsUpTo n p → IsUpTo n (answer_path c p)
-answer_up_to c n p b = pick (is_fallible c)
-  where
-    pick : (x : Bool) → IsUpTo n (cond x (Inner p) p)
-    pick true = b
-    pick false = b
 
 made_up_to : (made : Making) (n : ℕ) (term : TermId) (ps : Paths) (k : ℕ) → k ≤ n → AreUpTo n ps → IsUpTo n (term_path made term ps k)
 made_up_to (MakesVariant ty variant) n term ps k le b = b

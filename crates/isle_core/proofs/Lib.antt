@@ -7,8 +7,6 @@ pub mod Contained
 pub mod OutcomeOf
 pub mod MadeParts
 pub mod PatternTests
-pub mod Within
-pub mod PlacedWithin
 pub mod KeptPlaces
 pub mod TurnKinds
 pub mod KnownAnswers

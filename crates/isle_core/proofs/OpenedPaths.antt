@@ -1,19 +1,28 @@
--- The variables and the paths of patterns stand at arguments and at fields.
-use Rattle.std.proofs.Common.{ℕ, suc, List, [], ◌∷◌, ◌++◌, Bool, true, false, cond, eqb, Option, Some, None}
+-- The variables and the paths of patterns stand at arguments, at fields, and at what extractors give.
+use Rattle.std.proofs.Common.{ℕ, zero, suc, List, [], ◌∷◌, ◌++◌, Bool, true, false, cond, eqb, Option, Some, None}
 use Rattle.std.specs.List.{AllByRecursion}
-use Rattle.isle_core.specs.Making.{Making, MakesVariant, MakesStruct, MakesNothing, making}
-use Rattle.isle_core.specs.Path.{Path, Nowhere, Arg, VariantField, StructField}
+use Rattle.isle_base.specs.declared.ids.TermId.{TermId}
+use Rattle.isle_core.specs.Calling.{Calling, is_fallible}
+use Rattle.isle_core.specs.Opening.{Opening, AsVariant, AsStruct, ByExtractor, opening, answer_path, result_path, part_path}
+use Rattle.isle_core.specs.Path.{Path, Arg, VariantField, StructField, Extracted, Inner, Part}
 use Rattle.isle_core.specs.Pattern.{Pattern, Patterns, NoPattern, APattern, Var, ConstBool, ConstInt, ConstPrim, Wildcard, Term, BindPattern, And}
-use Rattle.isle_core.specs.RulePaths.{pattern_paths, parts_paths, each_paths, args_paths}
-use Rattle.isle_core.specs.Tests.{Places, met_after, field_path, after, after_parts, after_each, args_after}
+use Rattle.isle_core.specs.RulePaths.{opening_paths, pattern_paths, parts_paths, each_paths, args_paths}
+use Rattle.isle_core.specs.Tests.{Places, met_after, after, after_parts, after_each, args_after}
 use Rattle.isle_core.specs.Rule.{Environment}
 
--- an argument or a field, or nowhere
+-- the answer of an extractor
+abbrev pub IsExtracted : Path → Type 0
+IsExtracted (Extracted term p) = Unit {0}
+IsExtracted p = ⊥
+
+-- an argument, a field, or what an extractor gives
 abbrev pub IsOpened : Path → Type 0
 IsOpened (Arg i) = Unit {0}
 IsOpened (VariantField variant i p) = Unit {0}
 IsOpened (StructField i p) = Unit {0}
-IsOpened Nowhere = Unit {0}
+IsOpened (Extracted term p) = Unit {0}
+IsOpened (Inner p) = IsExtracted p
+IsOpened (Part i p) = Unit {0}
 IsOpened p = ⊥
 
 -- so where there is a path
@@ -25,10 +34,22 @@ IsOpenedPlace (Some p) = IsOpened p
 abbrev pub AreOpened : Places → Type 0
 AreOpened places = (x : ℕ) → IsOpenedPlace (places x)
 
-field_opened : (mk : Making) (i : ℕ) (p : Path) → IsOpened (field_path mk i p)
-field_opened (MakesVariant ty variant) i p = tt
-field_opened (MakesStruct ty) i p = tt
-field_opened MakesNothing i p = tt
+answer_opened : (c : Calling) (term : TermId) (p : Path) → IsOpened (answer_path c (Extracted term p))
+answer_opened c term p = pick (is_fallible c)
+  where
+    pick : (x : Bool) → IsOpened (cond x (Inner (Extracted term p)) (Extracted term p))
+    pick true = tt
+    pick false = tt
+
+result_opened : (count i : ℕ) (p : Path) → IsOpened p → IsOpened (result_path count i p)
+result_opened zero i p h = tt
+result_opened (suc zero) i p h = h
+result_opened (suc (suc count)) i p h = tt
+
+part_opened : (opened : Opening) (i : ℕ) (p : Path) → IsOpened (part_path opened i p)
+part_opened (AsVariant ty variant) i p = tt
+part_opened (AsStruct ty) i p = tt
+part_opened (ByExtractor term c count) i p = result_opened count i (answer_path c (Extracted term p)) (answer_opened c term p)
 
 picked : (b : Bool) (p : Path) (o : Option Path) → IsOpened p → IsOpenedPlace o → IsOpenedPlace (cond b (Some p) o)
 picked true p o h k = h
@@ -41,7 +62,7 @@ met_opened (Some q) x p places h a y = a y
 mutual
   after_opened : (q : Pattern) (env : Environment) (p : Path) (places : Places) → IsOpened p → AreOpened places → AreOpened (after env q p places)
   after_opened (Var ty x) env p places h a = met_opened (places x.0) x.0 p places h a
-  after_opened (Term ty term qs) env p places h a = parts_opened qs env (making env term) 0 p places a
+  after_opened (Term ty term qs) env p places h a = parts_opened qs env (opening env term) 0 p places a
   after_opened (BindPattern ty x q) env p places h a = after_opened q env p (met_after (places x.0) x.0 p places) h (met_opened (places x.0) x.0 p places h a)
   after_opened (And ty qs) env p places h a = each_opened qs env p places h a
   after_opened q env p places h a = a
@@ -50,9 +71,9 @@ mutual
   each_opened NoPattern env p places h a = a
   each_opened (APattern q qs) env p places h a = each_opened qs env p (after env q p places) h (after_opened q env p places h a)
 
-  parts_opened : (qs : Patterns) (env : Environment) (mk : Making) (i : ℕ) (p : Path) (places : Places) → AreOpened places → AreOpened (after_parts env mk qs i p places)
-  parts_opened NoPattern env mk i p places a = a
-  parts_opened (APattern q qs) env mk i p places a = parts_opened qs env mk (suc i) p (after env q (field_path mk i p) places) (after_opened q env (field_path mk i p) places (field_opened mk i p) a)
+  parts_opened : (qs : Patterns) (env : Environment) (opened : Opening) (i : ℕ) (p : Path) (places : Places) → AreOpened places → AreOpened (after_parts env opened qs i p places)
+  parts_opened NoPattern env opened i p places a = a
+  parts_opened (APattern q qs) env opened i p places a = parts_opened qs env opened (suc i) p (after env q (part_path opened i p) places) (after_opened q env (part_path opened i p) places (part_opened opened i p) a)
 
 -- the variables of arguments stand so
 pub args_opened : (env : Environment) (qs : List Pattern) (i : ℕ) (places : Places) → AreOpened places → AreOpened (args_after env qs i places)
@@ -63,9 +84,18 @@ all_append : (xs ys : List Path) → AllByRecursion IsOpened xs → AllByRecursi
 all_append [] ys h k = k
 all_append (x ∷ xs) ys h k = (h.0, all_append xs ys h.1 k)
 
+opening_opens : (opened : Opening) (p : Path) → AllByRecursion IsOpened (opening_paths opened p)
+opening_opens (AsVariant ty variant) p = tt
+opening_opens (AsStruct ty) p = tt
+opening_opens (ByExtractor term c count) p = pick (is_fallible c)
+  where
+    pick : (x : Bool) → AllByRecursion IsOpened (cond x (Extracted term p ∷ Inner (Extracted term p) ∷ []) (Extracted term p ∷ []))
+    pick true = (tt, (tt, tt))
+    pick false = (tt, tt)
+
 mutual
   pattern_opens : (q : Pattern) (env : Environment) (p : Path) → AllByRecursion IsOpened (pattern_paths env q p)
-  pattern_opens (Term ty term qs) env p = parts_open qs env (making env term) 0 p
+  pattern_opens (Term ty term qs) env p = all_append (opening_paths (opening env term) p) (parts_paths env (opening env term) qs 0 p) (opening_opens (opening env term) p) (parts_open qs env (opening env term) 0 p)
   pattern_opens (Var ty x) env p = tt
   pattern_opens (ConstBool b) env p = tt
   pattern_opens (ConstInt ty n) env p = tt
@@ -78,9 +108,9 @@ mutual
   each_open NoPattern env p = tt
   each_open (APattern q qs) env p = all_append (pattern_paths env q p) (each_paths env qs p) (pattern_opens q env p) (each_open qs env p)
 
-  parts_open : (qs : Patterns) (env : Environment) (mk : Making) (i : ℕ) (p : Path) → AllByRecursion IsOpened (parts_paths env mk qs i p)
-  parts_open NoPattern env mk i p = tt
-  parts_open (APattern q qs) env mk i p = (field_opened mk i p, all_append (pattern_paths env q (field_path mk i p)) (parts_paths env mk qs (suc i) p) (pattern_opens q env (field_path mk i p)) (parts_open qs env mk (suc i) p))
+  parts_open : (qs : Patterns) (env : Environment) (opened : Opening) (i : ℕ) (p : Path) → AllByRecursion IsOpened (parts_paths env opened qs i p)
+  parts_open NoPattern env opened i p = tt
+  parts_open (APattern q qs) env opened i p = (part_opened opened i p, all_append (pattern_paths env q (part_path opened i p)) (parts_paths env opened qs (suc i) p) (pattern_opens q env (part_path opened i p)) (parts_open qs env opened (suc i) p))
 
 -- and so do the paths of arguments' patterns
 pub args_open : (env : Environment) (qs : List Pattern) (i : ℕ) → AllByRecursion IsOpened (args_paths env qs i)

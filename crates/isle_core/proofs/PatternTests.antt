@@ -1,27 +1,44 @@
 -- Patterns match arguments exactly where their tests hold, and then names are the values of places.
-use Rattle.std.proofs.Common.{◌≡◌, ℕ, ◌+◌, suc, List, [], ◌∷◌, Bool, true, false, cond, eqb, ◌&&◌, Option, Some, None, refl, sym, ap, ◌∙◌, subst, arith}
-use Rattle.std.specs.Prelude.{slice_get, option_and_then, option_map}
+use Rattle.std.proofs.Common.{◌≡◌, ℕ, zero, suc, ◌+◌, List, [], ◌∷◌, ◌++◌, length, map, Bool, true, false, cond, eqb, ◌&&◌, Option, Some, None, refl, sym, ap, ◌∙◌, subst, arith}
+use Rattle.std.specs.Prelude.{IsSomeAnd, All, Contains, find, slice_get, option_and_then}
+use Rattle.std.specs.List.{AllByRecursion}
+use Rattle.std.proofs.lemmas.List.Elements.{recursion_from_All, Contains-append_left, Contains-append_right}
 use Rattle.std.proofs.lemmas.List.Folds.{list_all-append}
 use Rattle.isle_core.specs.declared.rule_sets.Constraint.TheVariants as constraint
-use Rattle.isle_core.specs.Value.{Value, Truth}
+use Rattle.isle_core.specs.Value.{Value, Truth, Answer, Plain, Found, Nothing, Several}
+use Rattle.isle_core.specs.declared.values.Callee.{Callee}
+use Rattle.isle_core.specs.declared.types.ReturnKind.{ReturnKind}
+use Rattle.isle_core.specs.declared.types.ReturnKind.TheVariants as return_kind
+use Rattle.isle_core.specs.declared.types.Term.{Term}
+use Rattle.isle_core.specs.declared.types.TermKind.{TermKind}
+use Rattle.isle_core.specs.declared.types.TermKind.TheVariants as term_kind
+use Rattle.isle_core.specs.declared.types.ExtractorKind.TheVariants as extractor_kind
 use Rattle.isle_core.specs.SameValue.{same_value}
 use Rattle.isle_core.specs.Constants.{int_value}
-use Rattle.isle_core.specs.Meaning.{Meaning}
+use Rattle.isle_core.specs.Meaning.{PureAnswers, Meaning, case, case_at, case_or, cases_of, same_values}
+use Rattle.isle_core.specs.Answered.{item_of, answer_held}
+use Rattle.isle_core.specs.CalledTerms.{Extractor, CalledTerm, is_made_kind, is_made_term, is_made, unless_made, extracted_by, extracted_by_all, extracted_in}
+use Rattle.isle_core.specs.Lawful.{Fits, all_cases, CallingFits, CalledTermFits}
+use Rattle.isle_base.specs.declared.ids.TermId.{TermId}
 use Rattle.isle_base.specs.declared.ids.TypeId.{TypeId}
 use Rattle.isle_base.specs.declared.ids.VariantId.{VariantId}
-use Rattle.isle_core.specs.Form.{Form, form, form_types, is_made_by, parts}
+use Rattle.isle_core.specs.Form.{is_made_by, parts}
 use Rattle.isle_core.specs.HasType.{HasType, HaveTypes}
 use Rattle.isle_core.specs.Having.{const_of}
-use Rattle.isle_core.specs.Making.{Making, MakesVariant, MakesStruct, MakesNothing, making}
+use Rattle.isle_core.specs.Making.{Making, MakesVariant, MakesStruct, MakesNothing, making_kind, making_of, making}
+use Rattle.isle_core.specs.Opening.{Opening, AsVariant, AsStruct, ByExtractor, opening_by, opening, answer_path, result_path, part_path}
+use Rattle.isle_core.specs.Calling.{Calling, ByTurns, ByCases, NoCall, extracting, extracting_of, extracting_kind}
 use Rattle.isle_core.specs.Pattern as pattern
 use Rattle.isle_core.specs.Pattern.{Pattern, Patterns, NoPattern, APattern, Var, ConstBool, ConstInt, ConstPrim, Wildcard, BindPattern, And}
-use Rattle.isle_core.specs.PatternType.{AreVariantsApart, IsOfMaking, IsPatternOf, ArePartsOf, AreEachOf, ArePatternsOf}
+use Rattle.isle_core.specs.BuiltRule.{IsExtractorKind}
+use Rattle.isle_core.specs.PatternType.{AreVariantsApart, IsOfMaking, OpensType, part_types, IsPatternOf, ArePartsOf, AreEachOf, ArePatternsOf}
 use Rattle.isle_core.specs.Terms.{sym_text}
+use Rattle.isle_core.proofs.Contained.{head_contained}
 use Rattle.isle_core.proofs.MadeParts.{made_parts}
-use Rattle.isle_core.specs.Match.{Names, no_names, with, if_holds, met, equals_const, matches, matches_parts, matches_each, matches_all}
-use Rattle.isle_core.specs.Path.{Path, Arg, VariantField, StructField}
-use Rattle.isle_core.specs.Tests.{Places, no_places, met_tests, met_after, made_test, field_path, tests, parts_tests, each_tests, after, after_parts, after_each, args_tests, args_after}
-use Rattle.isle_core.specs.ValueAt.{Held, a_value, held, field_held, is_one, is_value, is_const, meets, equal_held, holds, all_hold}
+use Rattle.isle_core.specs.Match.{Names, no_names, with, if_holds, met, equals_const, results, extracted, taken_apart, matches, matches_parts, matches_each, matches_all}
+use Rattle.isle_core.specs.Path.{Path, Arg, VariantField, StructField, Extracted, Inner, Part}
+use Rattle.isle_core.specs.Tests.{Places, no_places, met_tests, met_after, found_tests, opening_tests, tests, parts_tests, each_tests, after, after_parts, after_each, args_tests, args_after}
+use Rattle.isle_core.specs.ValueAt.{Held, One, extracted_held, inner_held, part_held, is_found, a_value, held, field_held, is_one, is_value, is_const, meets, equal_held, holds, all_hold}
 use Rattle.isle_core.specs.Rule.{Environment}
 
 -- what stands at each path
@@ -35,10 +52,13 @@ StandsAt val (Some v) (Some p) = val p ≡ a_value v
 StandsAt val None (Some p) = ⊥
 StandsAt val (Some v) None = ⊥
 
--- fields stand at the paths of fields
-pub record HoldsFields (val : Values) : Type 0 where
+-- fields stand at the paths of fields, and what extractors give at theirs
+pub record HoldsParts (env : Environment) (m : Meaning) (val : Values) : Type 0 where
   pub variant : (variant : VariantId) (i : ℕ) (p : Path) → val (VariantField variant i p) ≡ field_held i (val p)
   pub struct : (i : ℕ) (p : Path) → val (StructField i p) ≡ field_held i (val p)
+  pub extracted : (term : TermId) (p : Path) → val (Extracted term p) ≡ extracted_held m (extracting env term) (val p)
+  pub inner : (p : Path) → val (Inner p) ≡ inner_held (val p)
+  pub part : (i : ℕ) (p : Path) → val (Part i p) ≡ part_held i (val p)
 
 -- each name's value stands at its place
 pub record Agree (val : Values) (names : Names) (places : Places) : Type 0 where
@@ -90,89 +110,232 @@ const_both : (val : Values) (o : Option Value) (v : Value) (h : Held) (names : N
 const_both val None v h names places e a = refl
 const_both val (Some w) v h names places e a = both_test val (same_value v w) (is_value w h) names places (rw e refl) a
 
+and_true : (b : Bool) → b && true ≡ b
+and_true true = refl
+and_true false = refl
+
+-- ---- what a term takes apart
+
+-- each value stands at the path of its part
+abbrev pub PartsStand : Values → Opening → Path → (first : ℕ) → List Value → Type 0
+PartsStand val o at i vs = (j : ℕ) (w : Value) → slice_get vs j ≡ Some w → val (part_path o (j + i) at) ≡ a_value w
+
+-- the parts of a term's pattern are matched as their tests hold, where values of their types stand at their paths
+abbrev PartsBoth : Environment → Meaning → Values → Opening → Path → Option (List TypeId) → Patterns → Names → Places → Type 0
+PartsBoth env m val o at types ps names places = (vs : List Value) (tys : List TypeId) → types ≡ Some tys → HaveTypes env vs tys → PartsStand val o at 0 vs
+    → Both val (matches_parts env m ps vs names) (all_hold env m val (parts_tests env o ps 0 at places)) (after_parts env o ps 0 at places)
+
 -- what is made by the term stands at the path exactly where its test holds
-made_tested : (env : Environment) (m : Meaning) (val : Values) (ty : TypeId) (mk : Making) (v : Value) (p : Path) → IsOfMaking ty mk → val p ≡ a_value v → holds env m val (made_test mk p) ≡ is_made_by env mk v
-made_tested env m val ty (MakesVariant of variant) v p is e = ap (is_one (is_made_by env (MakesVariant of variant))) e
-made_tested env m val ty (MakesStruct of) v p is e = ap (is_one (is_made_by env (MakesStruct of))) e
-made_tested env m val ty MakesNothing v p is e = absurd is
+made_tested : (env : Environment) (m : Meaning) (val : Values) (term : TermId) (c : Calling) (t : Option Term) (ty : TypeId) (mk : Making) (v : Value) (p : Path) → IsOfMaking ty mk → val p ≡ a_value v → all_hold env m val (opening_tests (opening_by term mk c t) p) ≡ is_made_by env mk v
+made_tested env m val term c t ty (MakesVariant of variant) v p is e = ap (λ h. is_one (is_made_by env (MakesVariant of variant)) h && true) e ∙ and_true (is_made_by env (MakesVariant of variant) v)
+made_tested env m val term c t ty (MakesStruct of) v p is e = ap (λ h. is_one (is_made_by env (MakesStruct of)) h && true) e ∙ and_true (is_made_by env (MakesStruct of) v)
+made_tested env m val term c t ty MakesNothing v p is e = absurd is
 
 -- and its fields stand at the paths of fields
-field_stands : (val : Values) (ty : TypeId) (mk : Making) (v : Value) (i : ℕ) (p : Path) → HoldsFields val → IsOfMaking ty mk → val p ≡ a_value v → val (field_path mk i p) ≡ held (slice_get (parts v) i)
-field_stands val ty (MakesVariant of variant) v i p f is e = f.variant variant i p ∙ ap (field_held i) e
-field_stands val ty (MakesStruct of) v i p f is e = f.struct i p ∙ ap (field_held i) e
-field_stands val ty MakesNothing v i p f is e = absurd is
+variant_stands : (env : Environment) (m : Meaning) (val : Values) (of : TypeId) (variant : VariantId) (v : Value) (p : Path) → HoldsParts env m val → val p ≡ a_value v → PartsStand val (AsVariant of variant) p 0 (parts v)
+variant_stands env m val of variant v p f e j w h = f.variant variant (j + 0) p ∙ ap (field_held (j + 0)) e ∙ ap (λ i. held (slice_get (parts v) i)) (from_zero j) ∙ ap held h
 
--- a made term, of which the parts are matched as their tests hold where the value is of it
-term_both : (env : Environment) (val : Values) (mk : Making) (ps : Patterns) (v : Value) (made : Bool) (test rest : Bool) (matched : Option Names) (end : Places) → AreVariantsApart env → (is_made_by env mk v ≡ made) → test ≡ is_made_by env mk v
-    → (is_made_by env mk v ≡ true → Both val matched rest end) → Both val (cond (is_made_by env mk v) matched None) (test && rest) end
-term_both env val mk ps v true test rest matched end apart is same go =
-    subst (λ b. Both val (cond b matched None) (test && rest) end) (sym is) (subst (λ t. Both val matched (t && rest) end) (sym (same ∙ is)) (go is))
-term_both env val mk ps v false test rest matched end apart is same go =
-    subst (λ b. Both val (cond b matched None) (test && rest) end) (sym is) (ap (λ t. t && rest) (same ∙ is))
+struct_stands : (env : Environment) (m : Meaning) (val : Values) (of : TypeId) (v : Value) (p : Path) → HoldsParts env m val → val p ≡ a_value v → PartsStand val (AsStruct of) p 0 (parts v)
+struct_stands env m val of v p f e j w h = f.struct (j + 0) p ∙ ap (field_held (j + 0)) e ∙ ap (λ i. held (slice_get (parts v) i)) (from_zero j) ∙ ap held h
 
-parts_given : (env : Environment) (o : Option Form) (ps : Patterns) (tys : List TypeId) → option_map (form_types env) o ≡ Some tys → ArePartsOf env (option_map (form_types env) o) ps → ArePartsOf env (Some tys) ps
+if_taken : (val : Values) (b : Bool) (vs : List Value) (go : List Value → Option Names) (rest : Bool) (end : Places) → (b ≡ true → Both val (go vs) rest end) → Both val (option_and_then go (cond b (Some vs) None)) (b && rest) end
+if_taken val true vs go rest end h = h refl
+if_taken val false vs go rest end h = refl
+
+-- ---- what an extractor answers
+
+-- answered by cases
+abbrev IsByCases : Calling → Type 0
+IsByCases (ByCases callee kind) = Unit {0}
+IsByCases (ByTurns callee kind) = ⊥
+IsByCases NoCall = ⊥
+
+case_in : (P : Answer → Type 0) (test : List Value × Answer → Bool) (cases : List (List Value × Answer)) (rest : Answer) → P rest → AllByRecursion P (map (λ (c : List Value × Answer). c.1) cases) → P (case_or rest (find test cases))
+case_in P test [] rest h k = h
+case_in P test (c ∷ cases) rest h k = pick (test c) (case_in P test cases rest h k.1)
+  where
+    pick : (b : Bool) → P (case_or rest (find test cases)) → P (case_or rest (cond b (Some c) (find test cases)))
+    pick true l = k.0
+    pick false l = l
+
+-- a case that fits answers with its kind and types
+pub case_fits : (env : Environment) (tys : List TypeId) (kind : ReturnKind) (o : Option PureAnswers) (vs : List Value) → IsSomeAnd o (λ a. All (Fits env kind tys) (all_cases a)) → Fits env kind tys (case_at o vs)
+case_fits env tys kind None vs h = absurd h
+case_fits env tys kind (Some a) vs h =
+    let each = recursion_from_All (Fits env kind tys) (all_cases a) h in
+    case_in (Fits env kind tys) (λ (c : List Value × Answer). same_values c.0 vs) a.cases a.rest each.0 each.1
+
+-- a result stands at its path
+result_stands : (env : Environment) (m : Meaning) (val : Values) (vs : List Value) (tys : List TypeId) (q : Path) (j : ℕ) (w : Value) → HoldsParts env m val → HaveTypes env vs tys → val q ≡ One (item_of vs) → slice_get vs j ≡ Some w → val (result_path (length tys) j q) ≡ a_value w
+result_stands env m val [] [] q j w f h e g = cc
+result_stands env m val (v ∷ []) (ty ∷ []) q zero w f h e g = let same : v ≡ w = cc in e ∙ ap a_value same
+result_stands env m val (v ∷ []) (ty ∷ []) q (suc j) w f h e g = cc
+result_stands env m val (v ∷ u ∷ vs) (ty ∷ of ∷ tys) q j w f h e g = f.part j q ∙ ap (part_held j) e ∙ ap held g
+result_stands env m val [] (ty ∷ tys) q j w f h e g = absurd h
+result_stands env m val (v ∷ vs) [] q j w f h e g = absurd h
+result_stands env m val (v ∷ []) (ty ∷ of ∷ tys) q j w f h e g = absurd h.1
+result_stands env m val (v ∷ u ∷ vs) (ty ∷ []) q j w f h e g = absurd h.1
+
+-- its parts are matched as its tests hold, whatever it answers
+answer_both : (env : Environment) (m : Meaning) (val : Values) (callee : Callee) (kind : ReturnKind) (tys : List TypeId) (a : Answer) (e : Path) (go : List Value → Option Names) (rest : Bool) (end : Places) → HoldsParts env m val → Fits env kind tys a → val e ≡ answer_held a
+    → ((vs : List Value) → HaveTypes env vs tys → ((j : ℕ) (w : Value) → slice_get vs j ≡ Some w → val (result_path (length tys) j (answer_path (ByCases callee kind) e)) ≡ a_value w) → Both val (go vs) rest end)
+    → Both val (option_and_then go (results a)) (all_hold env m val (found_tests (ByCases callee kind) e) && rest) end
+answer_both env m val callee return_kind.Plain tys (Plain vs) e go rest end f h is k = k vs h (λ j w g. result_stands env m val vs tys e j w f h is g)
+answer_both env m val callee return_kind.Option tys (Found vs) e go rest end f h is k =
+    subst (λ x. Both val (go vs) ((is_found x && true) && rest) end) (sym is) (k vs h (λ j w g. result_stands env m val vs tys (Inner e) j w f h (f.inner e ∙ ap inner_held is) g))
+answer_both env m val callee return_kind.Option tys Nothing e go rest end f h is k = ap (λ x. (is_found x && true) && rest) is
+answer_both env m val callee return_kind.Plain tys (Found vs) e go rest end f h is k = absurd h
+answer_both env m val callee return_kind.Plain tys Nothing e go rest end f h is k = absurd h
+answer_both env m val callee return_kind.Plain tys (Several items) e go rest end f h is k = absurd h
+answer_both env m val callee return_kind.Option tys (Plain vs) e go rest end f h is k = absurd h
+answer_both env m val callee return_kind.Option tys (Several items) e go rest end f h is k = absurd h
+answer_both env m val callee return_kind.Iterator tys a e go rest end f h is k = absurd (never a h)
+  where
+    never : (x : Answer) → Fits env return_kind.Iterator tys x → ⊥
+    never (Plain vs) l = l
+    never (Found vs) l = l
+    never Nothing l = l
+    never (Several items) l = l
+
+-- so of a term that is called as an extractor
+extractor_both : (env : Environment) (m : Meaning) (val : Values) (term : TermId) (c : Calling) (tys : List TypeId) (v : Value) (at : Path) (go : List Value → Option Names) (rest : Bool) (end : Places) → HoldsParts env m val → CallingFits env m tys c → val (Extracted term at) ≡ extracted_held m c (val at) → val at ≡ a_value v
+    → ((vs : List Value) → HaveTypes env vs tys → ((j : ℕ) (w : Value) → slice_get vs j ≡ Some w → val (result_path (length tys) j (answer_path c (Extracted term at))) ≡ a_value w) → Both val (go vs) rest end)
+    → IsByCases c → Both val (option_and_then go (extracted m c v)) (all_hold env m val (found_tests c (Extracted term at)) && rest) end
+extractor_both env m val term (ByCases callee kind) tys v at go rest end f h is e k by =
+    answer_both env m val callee kind tys (case m callee (v ∷ [])) (Extracted term at) go rest end f (case_fits env tys kind (cases_of m callee) (v ∷ []) h.0) (is ∙ ap (extracted_held m (ByCases callee kind)) e) k
+extractor_both env m val term (ByTurns callee kind) tys v at go rest end f h is e k by = absurd by
+extractor_both env m val term NoCall tys v at go rest end f h is e k by = absurd by
+
+-- ---- a term
+
+term_both : (env : Environment) (m : Meaning) (val : Values) (ty : TypeId) (term : TermId) (mk : Making) (c : Calling) (t : Option Term) (v : Value) (at : Path) (ps : Patterns) (names : Names) (places : Places) → AreVariantsApart env → HoldsParts env m val → OpensType ty mk t → ArePartsOf env (part_types env mk t) ps
+    → HasType env v ty → val at ≡ a_value v → val (Extracted term at) ≡ extracted_held m c (val at) → (mk ≡ MakesNothing → IsByCases c × IsSomeAnd t (λ (x : Term). CallingFits env m x.arg_tys c))
+    → PartsBoth env m val (opening_by term mk c t) at (part_types env mk t) ps names places
+    → Both val (option_and_then (λ vs. matches_parts env m ps vs names) (taken_apart env m mk c v)) (all_hold env m val (opening_tests (opening_by term mk c t) at) && all_hold env m val (parts_tests env (opening_by term mk c t) ps 0 at places)) (after_parts env (opening_by term mk c t) ps 0 at places)
+term_both env m val ty term (MakesVariant of variant) c t v at ps names places apart f opens typed h e is served go =
+    let mk = MakesVariant of variant in
+    let end = after_parts env (AsVariant of variant) ps 0 at places in
+    subst (λ b. Both val (option_and_then (λ vs. matches_parts env m ps vs names) (taken_apart env m mk c v)) (b && all_hold env m val (parts_tests env (AsVariant of variant) ps 0 at places)) end) (sym (made_tested env m val term c t ty mk v at opens e))
+    (if_taken val (is_made_by env mk v) (parts v) (λ vs. matches_parts env m ps vs names) (all_hold env m val (parts_tests env (AsVariant of variant) ps 0 at places)) end
+    (λ made. let k = made_parts env ty mk v apart opens h made in go (parts v) k.tys k.is k.types (variant_stands env m val of variant v at f e)))
+term_both env m val ty term (MakesStruct of) c t v at ps names places apart f opens typed h e is served go =
+    let mk = MakesStruct of in
+    let end = after_parts env (AsStruct of) ps 0 at places in
+    subst (λ b. Both val (option_and_then (λ vs. matches_parts env m ps vs names) (taken_apart env m mk c v)) (b && all_hold env m val (parts_tests env (AsStruct of) ps 0 at places)) end) (sym (made_tested env m val term c t ty mk v at opens e))
+    (if_taken val (is_made_by env mk v) (parts v) (λ vs. matches_parts env m ps vs names) (all_hold env m val (parts_tests env (AsStruct of) ps 0 at places)) end
+    (λ made. let k = made_parts env ty mk v apart opens h made in go (parts v) k.tys k.is k.types (struct_stands env m val of v at f e)))
+term_both env m val ty term MakesNothing c None v at ps names places apart f opens typed h e is served go = absurd opens
+term_both env m val ty term MakesNothing c (Some x) v at ps names places apart f opens typed h e is served go =
+    extractor_both env m val term c x.arg_tys v at (λ vs. matches_parts env m ps vs names) (all_hold env m val (parts_tests env (ByExtractor term c (length x.arg_tys)) ps 0 at places)) (after_parts env (ByExtractor term c (length x.arg_tys)) ps 0 at places) f (served refl).1 is e
+    (λ vs types stand. go vs x.arg_tys refl types (λ j w g. ap (λ i. val (result_path (length x.arg_tys) i (answer_path c (Extracted term at)))) (from_zero j) ∙ stand j w g)) (served refl).0
+
+parts_given : (env : Environment) (o : Option (List TypeId)) (ps : Patterns) (tys : List TypeId) → o ≡ Some tys → ArePartsOf env o ps → ArePartsOf env (Some tys) ps
 parts_given env o ps tys e h = subst (λ x. ArePartsOf env x ps) e h
 
-module _ (env : Environment) (m : Meaning) (val : Values) (apart : AreVariantsApart env) (fields : HoldsFields val) where
+-- ---- what patterns call
+
+-- the meaning answers these terms
+abbrev pub AreServed : Environment → Meaning → List CalledTerm → Type 0
+AreServed env m terms = (o : CalledTerm) → Contains terms o → CalledTermFits env m o
+
+served_first : (env : Environment) (m : Meaning) (xs ys : List CalledTerm) → AreServed env m (xs ++ ys) → AreServed env m xs
+served_first env m xs ys h o c = h o (Contains-append_left xs ys o c)
+
+served_rest : (env : Environment) (m : Meaning) (xs ys : List CalledTerm) → AreServed env m (xs ++ ys) → AreServed env m ys
+served_rest env m xs ys h o c = h o (Contains-append_right xs ys o c)
+
+-- a term as an extractor
+abbrev extractor_of : TermId → CalledTerm
+extractor_of term = record { term = term; role = Extractor }
+
+extracted_here : (env : Environment) (term : TermId) → is_made env term ≡ false → Contains (unless_made env Extractor term) (extractor_of term)
+extracted_here env term e = subst (λ b. Contains (cond b [] (extractor_of term ∷ [])) (extractor_of term)) (sym e) (head_contained (extractor_of term) [])
+
+not_made : (o : Option Term) → making_of o ≡ MakesNothing → is_made_term o ≡ false
+not_made None e = refl
+not_made (Some t) e = of_kind t.kind e
+  where
+    of_kind : (k : TermKind) → making_kind k ≡ MakesNothing → is_made_kind k ≡ false
+    of_kind (term_kind.Decl pure multi partial recursive constructor extractor) h = refl
+    of_kind (term_kind.Variant ty variant) h = cc
+    of_kind (term_kind.Struct ty) h = cc
+
+by_cases : (env : Environment) (ty : TypeId) (o : Option Term) → OpensType ty MakesNothing o → IsByCases (extracting_of env o)
+by_cases env ty None h = absurd h
+by_cases env ty (Some t) h = of_kind t.kind h.0
+  where
+    of_kind : (k : TermKind) → IsExtractorKind k → IsByCases (extracting_kind env k)
+    of_kind (term_kind.Decl pure false partial recursive by (extractor_kind.External func infallible)) i = tt
+    of_kind (term_kind.Decl pure false partial recursive by extractor_kind.Absent) i = absurd i
+    of_kind (term_kind.Decl pure false partial recursive by extractor_kind.Internal) i = absurd i
+    of_kind (term_kind.Decl pure true partial recursive by how) i = absurd i
+    of_kind (term_kind.Variant of variant) i = absurd i
+    of_kind (term_kind.Struct of) i = absurd i
+
+-- ---- patterns
+
+module _ (env : Environment) (m : Meaning) (val : Values) (apart : AreVariantsApart env) (holds_parts : HoldsParts env m val) where
   mutual
-    pub pattern_both : (p : Pattern) (at : Path) (v : Value) (ty : TypeId) (names : Names) (places : Places) → IsPatternOf env ty p → HasType env v ty → val at ≡ a_value v → Agree val names places
+    pub pattern_both : (p : Pattern) (at : Path) (v : Value) (ty : TypeId) (names : Names) (places : Places) → IsPatternOf env ty p → HasType env v ty → val at ≡ a_value v → AreServed env m (extracted_by env p) → Agree val names places
         → Both val (matches env m p v names) (all_hold env m val (tests env p at places)) (after env p at places)
-    pattern_both (Var of x) at v ty names places h t e a = met_both env m val (names x.0) (places x.0) x.0 v at names places (a.by x.0) e a
-    pattern_both (ConstBool b) at v ty names places h t e a = both_test val (same_value v (Truth b)) (meets env m (constraint.ConstBool b) (val at)) names places (rw e refl) a
-    pattern_both (ConstInt of n) at v ty names places h t e a = both_test val (same_value v (int_value env of n)) (meets env m (constraint.ConstInt n of) (val at)) names places (rw e refl) a
-    pattern_both (ConstPrim of name) at v ty names places h t e a = const_both val (const_of m (sym_text env name)) v (val at) names places e a
-    pattern_both (Wildcard of) at v ty names places h t e a = (refl, a)
-    pattern_both (pattern.Term of term ps) at v ty names places h t e a =
-        term_both env val (making env term) ps v (is_made_by env (making env term) v) (holds env m val (made_test (making env term) at)) (all_hold env m val (parts_tests env (making env term) ps 0 at places)) (matches_parts env m ps (parts v) names)
-        (after_parts env (making env term) ps 0 at places) apart refl (made_tested env m val ty (making env term) v at h.1 e)
-        (λ is.
-        let typed = made_parts env ty (making env term) v apart h.1 t is in
-        parts_both ps (making env term) at 0 (parts v) typed.tys names places (parts_given env (form env (making env term)) ps typed.tys typed.is h.2) typed.types
-        (λ j. ap (λ n. val (field_path (making env term) n at)) (from_zero j) ∙ field_stands val ty (making env term) v j at fields h.1 e) a)
-    pattern_both (BindPattern of x p) at v ty names places h t e a =
+    pattern_both (Var of x) at v ty names places h t e served a = met_both env m val (names x.0) (places x.0) x.0 v at names places (a.by x.0) e a
+    pattern_both (ConstBool b) at v ty names places h t e served a = both_test val (same_value v (Truth b)) (meets env m (constraint.ConstBool b) (val at)) names places (rw e refl) a
+    pattern_both (ConstInt of n) at v ty names places h t e served a = both_test val (same_value v (int_value env of n)) (meets env m (constraint.ConstInt n of) (val at)) names places (rw e refl) a
+    pattern_both (ConstPrim of name) at v ty names places h t e served a = const_both val (const_of m (sym_text env name)) v (val at) names places e a
+    pattern_both (Wildcard of) at v ty names places h t e served a = (refl, a)
+    pattern_both (pattern.Term of term ps) at v ty names places h t e served a =
+        let mk = making env term in
+        let o = opening env term in
+        let own = unless_made env Extractor term in
+        let there = slice_get env.terms term.0 in
+        subst (λ b. Both val (matches env m (pattern.Term of term ps) v names) b (after_parts env o ps 0 at places)) (sym (list_all-append (holds env m val) (opening_tests o at) (parts_tests env o ps 0 at places)))
+        (term_both env m val ty term mk (extracting env term) there v at ps names places apart holds_parts h.1 h.2 t e (holds_parts.extracted term at)
+        (λ none. (by_cases env ty there (subst (λ (x : Making). OpensType ty x there) none h.1), served (extractor_of term) (Contains-append_left own (extracted_by_all env ps) (extractor_of term) (extracted_here env term (not_made there none)))))
+        (λ vs tys is types stand. parts_both ps o at 0 vs tys names places (parts_given env (part_types env mk there) ps tys is h.2) types stand (λ x c. served x (Contains-append_right own (extracted_by_all env ps) x c)) a))
+    pattern_both (BindPattern of x p) at v ty names places h t e served a =
         let mid = met_after (places x.0) x.0 at places in
         subst (λ b. Both val (matches env m (BindPattern of x p) v names) b (after env p at mid)) (sym (list_all-append (holds env m val) (met_tests (places x.0) at) (tests env p at mid)))
         (both_then val (met (names x.0) x.0 v names) (all_hold env m val (met_tests (places x.0) at)) (all_hold env m val (tests env p at mid)) mid (after env p at mid) (matches env m p v)
         (met_both env m val (names x.0) (places x.0) x.0 v at names places (a.by x.0) e a)
-        (λ names' a'. pattern_both p at v ty names' mid h.1 t e a'))
-    pattern_both (And of ps) at v ty names places h t e a = each_both ps at v ty names places h.1 t e a
+        (λ names' a'. pattern_both p at v ty names' mid h.1 t e served a'))
+    pattern_both (And of ps) at v ty names places h t e served a = each_both ps at v ty names places h.1 t e served a
 
     -- each of several patterns against one value
-    pub each_both : (ps : Patterns) (at : Path) (v : Value) (ty : TypeId) (names : Names) (places : Places) → AreEachOf env ty ps → HasType env v ty → val at ≡ a_value v → Agree val names places
+    pub each_both : (ps : Patterns) (at : Path) (v : Value) (ty : TypeId) (names : Names) (places : Places) → AreEachOf env ty ps → HasType env v ty → val at ≡ a_value v → AreServed env m (extracted_by_all env ps) → Agree val names places
         → Both val (matches_each env m ps v names) (all_hold env m val (each_tests env ps at places)) (after_each env ps at places)
-    each_both NoPattern at v ty names places h t e a = (refl, a)
-    each_both (APattern p ps) at v ty names places h t e a =
+    each_both NoPattern at v ty names places h t e served a = (refl, a)
+    each_both (APattern p ps) at v ty names places h t e served a =
         subst (λ b. Both val (matches_each env m (APattern p ps) v names) b (after_each env (APattern p ps) at places)) (sym (list_all-append (holds env m val) (tests env p at places) (each_tests env ps at (after env p at places))))
         (both_then val (matches env m p v names) (all_hold env m val (tests env p at places)) (all_hold env m val (each_tests env ps at (after env p at places))) (after env p at places) (after_each env (APattern p ps) at places) (matches_each env m ps v)
-        (pattern_both p at v ty names places h.0 t e a)
-        (λ names' a'. each_both ps at v ty names' (after env p at places) h.1 t e a'))
+        (pattern_both p at v ty names places h.0 t e (served_first env m (extracted_by env p) (extracted_by_all env ps) served) a)
+        (λ names' a'. each_both ps at v ty names' (after env p at places) h.1 t e (served_rest env m (extracted_by env p) (extracted_by_all env ps) served) a'))
 
-    -- parts against the fields from the i-th on
-    pub parts_both : (ps : Patterns) (mk : Making) (at : Path) (i : ℕ) (vs : List Value) (tys : List TypeId) (names : Names) (places : Places) → ArePartsOf env (Some tys) ps → HaveTypes env vs tys
-        → ((j : ℕ) → val (field_path mk (j + i) at) ≡ held (slice_get vs j)) → Agree val names places
-        → Both val (matches_parts env m ps vs names) (all_hold env m val (parts_tests env mk ps i at places)) (after_parts env mk ps i at places)
-    parts_both NoPattern mk at i [] [] names places h t e a = (refl, a)
-    parts_both (APattern p ps) mk at i (v ∷ vs) (ty ∷ tys) names places h t e a =
-        let q = field_path mk i at in
-        subst (λ b. Both val (matches_parts env m (APattern p ps) (v ∷ vs) names) b (after_parts env mk (APattern p ps) i at places)) (sym (list_all-append (holds env m val) (tests env p q places) (parts_tests env mk ps (suc i) at (after env p q places))))
-        (both_then val (matches env m p v names) (all_hold env m val (tests env p q places)) (all_hold env m val (parts_tests env mk ps (suc i) at (after env p q places))) (after env p q places) (after_parts env mk (APattern p ps) i at places) (matches_parts env m ps vs)
-        (pattern_both p q v ty names places h.0 t.0 (subst (λ n. val (field_path mk n at) ≡ a_value v) (first i) (e 0)) a)
-        (λ names' a'. parts_both ps mk at (suc i) vs tys names' (after env p q places) h.1 t.1 (λ j. subst (λ n. val (field_path mk n at) ≡ held (slice_get vs j)) (next j i) (e (suc j))) a'))
-    parts_both NoPattern mk at i (v ∷ vs) [] names places h t e a = absurd t
-    parts_both NoPattern mk at i vs (ty ∷ tys) names places h t e a = absurd h
-    parts_both (APattern p ps) mk at i vs [] names places h t e a = absurd h
-    parts_both (APattern p ps) mk at i [] (ty ∷ tys) names places h t e a = absurd t
+    -- parts against what stands at the parts' paths, from the i-th on
+    pub parts_both : (ps : Patterns) (o : Opening) (at : Path) (i : ℕ) (vs : List Value) (tys : List TypeId) (names : Names) (places : Places) → ArePartsOf env (Some tys) ps → HaveTypes env vs tys
+        → PartsStand val o at i vs → AreServed env m (extracted_by_all env ps) → Agree val names places
+        → Both val (matches_parts env m ps vs names) (all_hold env m val (parts_tests env o ps i at places)) (after_parts env o ps i at places)
+    parts_both NoPattern o at i [] [] names places h t e served a = (refl, a)
+    parts_both (APattern p ps) o at i (v ∷ vs) (ty ∷ tys) names places h t e served a =
+        let q = part_path o i at in
+        subst (λ b. Both val (matches_parts env m (APattern p ps) (v ∷ vs) names) b (after_parts env o (APattern p ps) i at places)) (sym (list_all-append (holds env m val) (tests env p q places) (parts_tests env o ps (suc i) at (after env p q places))))
+        (both_then val (matches env m p v names) (all_hold env m val (tests env p q places)) (all_hold env m val (parts_tests env o ps (suc i) at (after env p q places))) (after env p q places) (after_parts env o (APattern p ps) i at places) (matches_parts env m ps vs)
+        (pattern_both p q v ty names places h.0 t.0 (subst (λ n. val (part_path o n at) ≡ a_value v) (first i) (e 0 v refl)) (served_first env m (extracted_by env p) (extracted_by_all env ps) served) a)
+        (λ names' a'. parts_both ps o at (suc i) vs tys names' (after env p q places) h.1 t.1 (λ j w g. subst (λ n. val (part_path o n at) ≡ a_value w) (next j i) (e (suc j) w g)) (served_rest env m (extracted_by env p) (extracted_by_all env ps) served) a'))
+    parts_both NoPattern o at i (v ∷ vs) [] names places h t e served a = absurd t
+    parts_both NoPattern o at i vs (ty ∷ tys) names places h t e served a = absurd h
+    parts_both (APattern p ps) o at i vs [] names places h t e served a = absurd h
+    parts_both (APattern p ps) o at i [] (ty ∷ tys) names places h t e served a = absurd t
 
   -- patterns against the arguments from the i-th on
   pub patterns_both : (qs : List Pattern) (vs : List Value) (tys : List TypeId) (i : ℕ) (names : Names) (places : Places) → ArePatternsOf env tys qs → HaveTypes env vs tys
-      → ((j : ℕ) → val (Arg (j + i)) ≡ held (slice_get vs j)) → Agree val names places → Both val (matches_all env m qs vs names) (all_hold env m val (args_tests env qs i places)) (args_after env qs i places)
-  patterns_both [] [] [] i names places h t e a = (refl, a)
-  patterns_both (q ∷ qs) (v ∷ vs) (ty ∷ tys) i names places h t e a =
+      → ((j : ℕ) → val (Arg (j + i)) ≡ held (slice_get vs j)) → AreServed env m (extracted_in env qs) → Agree val names places → Both val (matches_all env m qs vs names) (all_hold env m val (args_tests env qs i places)) (args_after env qs i places)
+  patterns_both [] [] [] i names places h t e served a = (refl, a)
+  patterns_both (q ∷ qs) (v ∷ vs) (ty ∷ tys) i names places h t e served a =
       subst (λ b. Both val (matches_all env m (q ∷ qs) (v ∷ vs) names) b (args_after env (q ∷ qs) i places)) (sym (list_all-append (holds env m val) (tests env q (Arg i) places) (args_tests env qs (suc i) (after env q (Arg i) places))))
       (both_then val (matches env m q v names) (all_hold env m val (tests env q (Arg i) places)) (all_hold env m val (args_tests env qs (suc i) (after env q (Arg i) places))) (after env q (Arg i) places) (args_after env (q ∷ qs) i places) (matches_all env m qs vs)
-      (pattern_both q (Arg i) v ty names places h.0 t.0 (subst (λ n. val (Arg n) ≡ a_value v) (first i) (e 0)) a)
-      (λ names' a'. patterns_both qs vs tys (suc i) names' (after env q (Arg i) places) h.1 t.1 (λ j. subst (λ n. val (Arg n) ≡ held (slice_get vs j)) (next j i) (e (suc j))) a'))
-  patterns_both [] (v ∷ vs) [] i names places h t e a = absurd t
-  patterns_both [] vs (ty ∷ tys) i names places h t e a = absurd h
-  patterns_both (q ∷ qs) vs [] i names places h t e a = absurd h
-  patterns_both (q ∷ qs) [] (ty ∷ tys) i names places h t e a = absurd t
+      (pattern_both q (Arg i) v ty names places h.0 t.0 (subst (λ n. val (Arg n) ≡ a_value v) (first i) (e 0)) (served_first env m (extracted_by env q) (extracted_in env qs) served) a)
+      (λ names' a'. patterns_both qs vs tys (suc i) names' (after env q (Arg i) places) h.1 t.1 (λ j. subst (λ n. val (Arg n) ≡ held (slice_get vs j)) (next j i) (e (suc j))) (served_rest env m (extracted_by env q) (extracted_in env qs) served) a'))
+  patterns_both [] (v ∷ vs) [] i names places h t e served a = absurd t
+  patterns_both [] vs (ty ∷ tys) i names places h t e served a = absurd h
+  patterns_both (q ∷ qs) vs [] i names places h t e served a = absurd h
+  patterns_both (q ∷ qs) [] (ty ∷ tys) i names places h t e served a = absurd t

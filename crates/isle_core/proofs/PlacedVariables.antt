@@ -6,11 +6,11 @@ use Rattle.std.specs.List.{AllByRecursion}
 use Rattle.std.proofs.lemmas.List.Elements.{Contains-append_cases}
 use Rattle.isle_core.specs.declared.types.Term.{Term as CodeTerm}
 use Rattle.isle_core.specs.BuiltRule.{IsBuiltPattern, AreBuiltPatterns}
-use Rattle.isle_core.specs.Making.{Making, making}
+use Rattle.isle_core.specs.Opening.{Opening, opening, part_path}
 use Rattle.isle_core.specs.Pattern.{Pattern, Patterns, NoPattern, APattern, Var, ConstBool, ConstInt, ConstPrim, Wildcard, Term, BindPattern, And}
 use Rattle.isle_core.specs.Scope.{variables, variables_within, all_variables}
 use Rattle.isle_core.specs.Path.{Path, Arg}
-use Rattle.isle_core.specs.Tests.{Places, met_after, field_path, after, after_parts, after_each, args_after}
+use Rattle.isle_core.specs.Tests.{Places, met_after, after, after_parts, after_each, args_after}
 use Rattle.isle_core.proofs.Contained.{contained_cases, none_contained}
 use Rattle.isle_core.proofs.TurnKinds.{IsPlaced}
 use Rattle.isle_core.specs.Rule.{Environment}
@@ -26,7 +26,7 @@ met_keeps (Some q) x p places y h = h
 mutual
   after_keeps : (q : Pattern) (env : Environment) (p : Path) (places : Places) (y : ℕ) → IsPlaced (places y) → IsPlaced (after env q p places y)
   after_keeps (Var ty x) env p places y h = met_keeps (places x.0) x.0 p places y h
-  after_keeps (Term ty term qs) env p places y h = parts_keep qs env (making env term) 0 p places y h
+  after_keeps (Term ty term qs) env p places y h = parts_keep qs env (opening env term) 0 p places y h
   after_keeps (BindPattern ty x q) env p places y h = after_keeps q env p (met_after (places x.0) x.0 p places) y (met_keeps (places x.0) x.0 p places y h)
   after_keeps (And ty qs) env p places y h = each_keep qs env p places y h
   after_keeps q env p places y h = h
@@ -35,9 +35,9 @@ mutual
   each_keep NoPattern env p places y h = h
   each_keep (APattern q qs) env p places y h = each_keep qs env p (after env q p places) y (after_keeps q env p places y h)
 
-  parts_keep : (qs : Patterns) (env : Environment) (made : Making) (i : ℕ) (p : Path) (places : Places) (y : ℕ) → IsPlaced (places y) → IsPlaced (after_parts env made qs i p places y)
-  parts_keep NoPattern env made i p places y h = h
-  parts_keep (APattern q qs) env made i p places y h = parts_keep qs env made (suc i) p (after env q (field_path made i p) places) y (after_keeps q env (field_path made i p) places y h)
+  parts_keep : (qs : Patterns) (env : Environment) (opened : Opening) (i : ℕ) (p : Path) (places : Places) (y : ℕ) → IsPlaced (places y) → IsPlaced (after_parts env opened qs i p places y)
+  parts_keep NoPattern env opened i p places y h = h
+  parts_keep (APattern q qs) env opened i p places y h = parts_keep qs env opened (suc i) p (after env q (part_path opened i p) places) y (after_keeps q env (part_path opened i p) places y h)
 
 args_keep : (env : Environment) (qs : List Pattern) (i : ℕ) (places : Places) (y : ℕ) → IsPlaced (places y) → IsPlaced (args_after env qs i places y)
 args_keep env [] i places y h = h
@@ -55,7 +55,7 @@ mutual
   pattern_places : (q : Pattern) (env : Environment) (terms : List CodeTerm) (p : Path) (places : Places) (x : ℕ) → IsBuiltPattern terms q → Contains (variables q) x → IsPlaced (after env q p places x)
   pattern_places (Var ty y) env terms p places x b c =
       ⊎_elim (λ e. subst (λ k. IsPlaced (after env (Var ty y) p places k)) e (met_places (places y.0) y.0 p places refl)) (λ d. absurd (none_contained x d)) (contained_cases y.0 [] x c)
-  pattern_places (Term ty term qs) env terms p places x b c = parts_place qs env terms (making env term) 0 p places x b.2 c
+  pattern_places (Term ty term qs) env terms p places x b c = parts_place qs env terms (opening env term) 0 p places x b.2 c
   pattern_places (ConstBool v) env terms p places x b c = absurd (none_contained x c)
   pattern_places (ConstInt ty n) env terms p places x b c = absurd (none_contained x c)
   pattern_places (ConstPrim ty name) env terms p places x b c = absurd (none_contained x c)
@@ -71,11 +71,11 @@ mutual
       ⊎_elim (λ d. each_keep qs env p (after env q p places) x (pattern_places q env terms p places x b.0 d))
       (λ d. each_place qs env terms p (after env q p places) x b.1 d) (Contains-append_cases (variables q) (variables_within qs) x c)
 
-  parts_place : (qs : Patterns) (env : Environment) (terms : List CodeTerm) (made : Making) (i : ℕ) (p : Path) (places : Places) (x : ℕ) → AreBuiltPatterns terms qs → Contains (variables_within qs) x → IsPlaced (after_parts env made qs i p places x)
-  parts_place NoPattern env terms made i p places x b c = absurd (none_contained x c)
-  parts_place (APattern q qs) env terms made i p places x b c =
-      ⊎_elim (λ d. parts_keep qs env made (suc i) p (after env q (field_path made i p) places) x (pattern_places q env terms (field_path made i p) places x b.0 d))
-      (λ d. parts_place qs env terms made (suc i) p (after env q (field_path made i p) places) x b.1 d) (Contains-append_cases (variables q) (variables_within qs) x c)
+  parts_place : (qs : Patterns) (env : Environment) (terms : List CodeTerm) (opened : Opening) (i : ℕ) (p : Path) (places : Places) (x : ℕ) → AreBuiltPatterns terms qs → Contains (variables_within qs) x → IsPlaced (after_parts env opened qs i p places x)
+  parts_place NoPattern env terms opened i p places x b c = absurd (none_contained x c)
+  parts_place (APattern q qs) env terms opened i p places x b c =
+      ⊎_elim (λ d. parts_keep qs env opened (suc i) p (after env q (part_path opened i p) places) x (pattern_places q env terms (part_path opened i p) places x b.0 d))
+      (λ d. parts_place qs env terms opened (suc i) p (after env q (part_path opened i p) places) x b.1 d) (Contains-append_cases (variables q) (variables_within qs) x c)
 
 -- a variable of the patterns has a path
 pub args_placed : (env : Environment) (terms : List CodeTerm) (qs : List Pattern) (i : ℕ) (places : Places) (x : ℕ) → AllByRecursion (IsBuiltPattern terms) qs → Contains (all_variables qs) x → IsPlaced (args_after env qs i places x)

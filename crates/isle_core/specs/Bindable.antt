@@ -7,11 +7,11 @@ use Rattle.isle_core.specs.declared.rule_sets.Binding.{Binding}
 use Rattle.isle_core.specs.declared.rule_sets.Binding.TheVariants as binding
 use Rattle.isle_core.specs.declared.types.ReturnKind.{ReturnKind}
 use Rattle.isle_core.specs.declared.types.Term.{Term}
-use Rattle.isle_core.specs.Calling.{calling, kind_of, may_be_nothing}
-use Rattle.isle_core.specs.ExternalCall.{IsCall}
-use Rattle.isle_core.specs.Path.{Path, Called, Inner, at, at_all}
+use Rattle.isle_core.specs.Calling.{calling, extracting, kind_of, may_be_nothing}
+use Rattle.isle_core.specs.ExternalCall.{IsCall, IsExtraction}
+use Rattle.isle_core.specs.Path.{Path, Extracted, Called, Inner, at, at_all}
 use Rattle.isle_core.specs.PathType.{IsPathOf, IsOptionOf}
-use Rattle.isle_core.specs.Readable.{IsInPlace, AreReadable, AreReadAs}
+use Rattle.isle_core.specs.Readable.{IsInPlace, AreReadable, IsReadAs, AreReadAs}
 use Rattle.isle_core.specs.Rule.{Environment}
 use Rattle.isle_core.specs.Setting.{Setting, paths_in}
 
@@ -23,6 +23,17 @@ pub record IsCallBound (s : Setting) (bound : List ℕ) (p : Path) (term : TermI
   pub args : AreReadAs s bound parameters called.arg_tys
   pub kind : ReturnKind
   pub external : IsCall kind (calling s.env term)
+
+-- a call of an external extractor of one result, on a value that may be read
+pub record IsExtractorBound (s : Setting) (bound : List ℕ) (p : Path) (term : TermId) (parameter : BindingId) : Type 0 where
+  pub path : p ≡ Extracted term (at (paths_in s) parameter)
+  pub called : Term
+  pub found : slice_get s.env.terms term.0 ≡ Some called
+  pub arg : IsReadAs s bound parameter called.ret_ty
+  pub result : TypeId
+  pub one : called.arg_tys ≡ result ∷ []
+  pub kind : ReturnKind
+  pub external : IsExtraction kind (extracting s.env term)
 
 -- an inner value of a bound option; only in a term that may answer nothing
 pub record IsInnerBound (s : Setting) (bound : List ℕ) (p : Path) (source : BindingId) : Type 0 where
@@ -42,7 +53,7 @@ pub record IsMadeBound (s : Setting) (bound : List ℕ) (p : Path) (fields : Lis
 abbrev pub IsPlain : Environment → Term → Path → Type 0
 IsPlain env t p = IsInPlace p × ((ty : TypeId) × IsPathOf env t p ty)
 
--- a binding that may stand in a bind order, where these are bound: a call, an inner value, an argument, a constant or a made value
+-- a binding that may stand in a bind order, where these are bound: a call, also of an extractor, an inner value, an argument, a constant or a made value
 abbrev pub IsBindable : Setting → List ℕ → Path → Option Binding → Type 0
 IsBindable s bound p (Some (binding.Constructor term parameters instance)) = IsCallBound s bound p term parameters instance
 IsBindable s bound p (Some (binding.MatchSome source)) = IsInnerBound s bound p source
@@ -53,7 +64,7 @@ IsBindable s bound p (Some (binding.ConstPrim val)) = IsPlain s.env s.term p
 IsBindable s bound p (Some (binding.MakeVariant ty variant fields)) = IsMadeBound s bound p fields
 IsBindable s bound p (Some (binding.MakeStruct ty fields)) = IsMadeBound s bound p fields
 IsBindable s bound p None = ⊥
-IsBindable s bound p (Some (binding.Extractor term parameter)) = ⊥
+IsBindable s bound p (Some (binding.Extractor term parameter)) = IsExtractorBound s bound p term parameter
 IsBindable s bound p (Some (binding.Iterator source)) = ⊥
 IsBindable s bound p (Some (binding.MatchVariant source variant field)) = ⊥
 IsBindable s bound p (Some (binding.ExtractStruct source field)) = ⊥

@@ -1,9 +1,10 @@
 -- The forms of rules that are built.
-use Rattle.std.specs.Prelude.{◌≡◌, ℕ, suc, ◌≤◌, List, [], true, false, All, IsSomeAnd, slice_get}
+use Rattle.std.specs.Prelude.{◌≡◌, ℕ, suc, ◌≤◌, List, [], true, false, Option, All, IsSomeAnd, slice_get}
 use Rattle.isle_core.specs.declared.types.Term.{Term}
 use Rattle.isle_core.specs.declared.types.TermKind.{TermKind}
 use Rattle.isle_core.specs.declared.types.TermKind.TheVariants as kind
 use Rattle.isle_core.specs.declared.types.ConstructorKind.TheVariants as constructor
+use Rattle.isle_core.specs.declared.types.ExtractorKind.TheVariants as extractor
 use Rattle.isle_core.specs.Pattern as pattern
 use Rattle.isle_core.specs.Making.{Making, MakesVariant, MakesStruct, MakesNothing, making_in}
 use Rattle.isle_core.specs.Pattern.{Pattern, Patterns, NoPattern, APattern}
@@ -11,18 +12,27 @@ use Rattle.isle_core.specs.Expr as expr
 use Rattle.isle_core.specs.Expr.{Expr, Exprs, NoExpr, AnExpr, LetBindings, NoBinding, ABinding}
 use Rattle.isle_core.specs.Rule.{Rule}
 
--- a made term
-abbrev pub IsMaking : Making → Type 0
-IsMaking (MakesVariant ty variant) = Unit {0}
-IsMaking (MakesStruct ty) = Unit {0}
-IsMaking MakesNothing = ⊥
+-- an external extractor that answers at most once
+abbrev pub IsExtractorKind : TermKind → Type 0
+IsExtractorKind (kind.Decl pure false partial recursive by (extractor.External func infallible)) = Unit {0}
+IsExtractorKind (kind.Decl pure false partial recursive by extractor.Absent) = ⊥
+IsExtractorKind (kind.Decl pure false partial recursive by extractor.Internal) = ⊥
+IsExtractorKind (kind.Decl pure true partial recursive by how) = ⊥
+IsExtractorKind (kind.Variant ty variant) = ⊥
+IsExtractorKind (kind.Struct ty) = ⊥
+
+-- a term that takes values apart: it makes such, or has such an extractor
+abbrev pub IsOpening : Making → Option Term → Type 0
+IsOpening (MakesVariant ty variant) t = Unit {0}
+IsOpening (MakesStruct ty) t = Unit {0}
+IsOpening MakesNothing t = IsSomeAnd t (λ (x : Term). IsExtractorKind x.kind)
 
 -- how many patterns there are
 abbrev pub count : Patterns → ℕ
 count NoPattern = 0
 count (APattern p ps) = suc (count ps)
 
--- a variable, a constant, `_`, `@`, `and`, or a made term of at most 256 such patterns
+-- a variable, a constant, `_`, `@`, `and`, or a term that takes values apart, of at most 256 such patterns
 abbrev mutual
   pub IsBuiltPattern : List Term → Pattern → Type 0
   IsBuiltPattern terms (pattern.Var ty x) = Unit {0}
@@ -30,7 +40,7 @@ abbrev mutual
   IsBuiltPattern terms (pattern.ConstInt ty n) = Unit {0}
   IsBuiltPattern terms (pattern.ConstPrim ty name) = Unit {0}
   IsBuiltPattern terms (pattern.Wildcard ty) = Unit {0}
-  IsBuiltPattern terms (pattern.Term of term ps) = IsMaking (making_in terms term) × (count ps ≤ 256) × AreBuiltPatterns terms ps
+  IsBuiltPattern terms (pattern.Term of term ps) = IsOpening (making_in terms term) (slice_get terms term.0) × (count ps ≤ 256) × AreBuiltPatterns terms ps
   IsBuiltPattern terms (pattern.BindPattern of x q) = IsBuiltPattern terms q
   IsBuiltPattern terms (pattern.And of ps) = AreBuiltPatterns terms ps
 

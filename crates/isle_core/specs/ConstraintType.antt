@@ -11,7 +11,7 @@ use Rattle.isle_core.specs.Value.{Truth}
 use Rattle.isle_core.specs.Constants.{int_value, const_type}
 use Rattle.isle_core.specs.Rule.{Environment}
 
--- a constraint of a type, with its integer reduced; Some is one of no value
+-- a constraint on values of a type, with its integer reduced; Some is one of no value
 abbrev pub IsConstraintOf : Environment → Constraint → TypeId → Type 0
 IsConstraintOf env (constraint.ConstBool val) ty = HasType env (Truth val) ty
 IsConstraintOf env (constraint.ConstInt val of) ty = (of ≡ ty) × HasType env (int_value env ty val) ty × IsNumeric env ty

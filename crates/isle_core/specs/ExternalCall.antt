@@ -16,3 +16,9 @@ abbrev pub IsCall : ReturnKind → Calling → Type 0
 IsCall kind (ByTurns callee of) = (of ≡ kind) × IsExternal callee × AnswersOnce kind
 IsCall kind (ByCases callee of) = ⊥
 IsCall kind NoCall = ⊥
+
+-- a call of an external extractor that answers so often, and at most once
+abbrev pub IsExtraction : ReturnKind → Calling → Type 0
+IsExtraction kind (ByCases callee of) = (of ≡ kind) × IsExternal callee × AnswersOnce kind
+IsExtraction kind (ByTurns callee of) = ⊥
+IsExtraction kind NoCall = ⊥

@@ -25,8 +25,9 @@ pub mod HighestMatch
 pub mod BuiltRule
 pub mod Scope
 pub mod Path
-pub mod Tests
+pub mod Opening
 pub mod RightSide
+pub mod Tests
 pub mod OrderedCalls
 pub mod RulePaths
 pub mod PatternType

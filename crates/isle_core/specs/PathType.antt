@@ -9,12 +9,12 @@ use Rattle.isle_core.specs.PatternType.{IsNumeric}
 use Rattle.isle_core.specs.HasType.{HasType}
 use Rattle.isle_core.specs.Value.{Truth}
 use Rattle.isle_core.specs.Constants.{int_value, const_type}
-use Rattle.isle_core.specs.Calling.{calling}
-use Rattle.isle_core.specs.ExternalCall.{IsCall}
+use Rattle.isle_core.specs.Calling.{calling, extracting}
+use Rattle.isle_core.specs.ExternalCall.{IsCall, IsExtraction}
 use Rattle.isle_core.specs.Path.{Path, Nowhere, Arg, ConstBool, ConstInt, ConstPrim, Extracted, Called, Chosen, MadeVariant, MadeStruct, VariantField, StructField, Wrapped, Inner, Part, Paths, NoPath, APath}
 use Rattle.isle_core.specs.Rule.{Environment}
 
--- a path of which a value of the type stands where the binding of the path is bound or may be read; extractors, chosen items, options that are made and parts of answers are not built
+-- a path of which a value of the type stands where the binding of the path is bound or may be read; an extractor gives one result. Chosen items, options that are made and parts of answers are not built
 abbrev mutual
   pub IsPathOf : Environment → Term → Path → TypeId → Type 0
   IsPathOf env t (Arg i) ty = slice_get t.arg_tys i ≡ Some ty
@@ -24,7 +24,7 @@ abbrev mutual
   IsPathOf env t (Called term ps instance) ty = IsCall return_kind.Plain (calling env term) × IsSomeAnd (slice_get env.terms term.0) (λ (c : Term). (c.ret_ty ≡ ty) × ArePathsOf env t ps c.arg_tys)
   IsPathOf env t (Inner p) ty = IsOptionOf env t p ty
   IsPathOf env t Nowhere ty = ⊥
-  IsPathOf env t (Extracted term q) ty = ⊥
+  IsPathOf env t (Extracted term q) ty = IsExtraction return_kind.Plain (extracting env term) × IsSomeAnd (slice_get env.terms term.0) (λ (c : Term). (c.arg_tys ≡ ty ∷ []) × IsPathOf env t q c.ret_ty)
   IsPathOf env t (Chosen q) ty = ⊥
   IsPathOf env t (MadeVariant of variant ps) ty = (of ≡ ty) × IsSomeAnd (form env (MakesVariant of variant)) (λ f. ArePathsOf env t ps (form_types env f))
   IsPathOf env t (MadeStruct of ps) ty = (of ≡ ty) × IsSomeAnd (form env (MakesStruct of)) (λ f. ArePathsOf env t ps (form_types env f))
@@ -41,7 +41,7 @@ abbrev mutual
   IsOptionOf env t (ConstBool of b) ty = ⊥
   IsOptionOf env t (ConstInt of n) ty = ⊥
   IsOptionOf env t (ConstPrim name) ty = ⊥
-  IsOptionOf env t (Extracted term q) ty = ⊥
+  IsOptionOf env t (Extracted term q) ty = IsExtraction return_kind.Option (extracting env term) × IsSomeAnd (slice_get env.terms term.0) (λ (c : Term). (c.arg_tys ≡ ty ∷ []) × IsPathOf env t q c.ret_ty)
   IsOptionOf env t (Chosen q) ty = ⊥
   IsOptionOf env t (MadeVariant of variant ps) ty = ⊥
   IsOptionOf env t (MadeStruct of ps) ty = ⊥

@@ -8,6 +8,7 @@ use Rattle.isle_core.specs.declared.types.TypeDef.{TypeDef}
 use Rattle.isle_core.specs.declared.types.TypeDef.TheVariants as def
 use Rattle.isle_core.specs.Constants.{int_value, const_type}
 use Rattle.isle_core.specs.Form.{form, form_types, form_name}
+use Rattle.isle_core.specs.BuiltRule.{IsExtractorKind}
 use Rattle.isle_core.specs.HasType.{HasType}
 use Rattle.isle_core.specs.Making.{Making, MakesVariant, MakesStruct, MakesNothing, making}
 use Rattle.isle_core.specs.Pattern as pattern
@@ -42,7 +43,23 @@ IsOfMaking ty (MakesVariant of variant) = of ≡ ty
 IsOfMaking ty (MakesStruct of) = of ≡ ty
 IsOfMaking ty MakesNothing = ⊥
 
--- a pattern for values of the type: a constant is one of them or declared as one, and a made term has a pattern for each field
+-- a term that takes values of the type apart: it makes such, or it has an extractor and gives such
+abbrev pub OpensType : TypeId → Making → Option Term → Type 0
+OpensType ty (MakesVariant of variant) t = of ≡ ty
+OpensType ty (MakesStruct of) t = of ≡ ty
+OpensType ty MakesNothing t = IsSomeAnd t (λ (x : Term). IsExtractorKind x.kind × (x.ret_ty ≡ ty))
+
+-- the types of a term's arguments
+abbrev pub arguments_of : Option Term → Option (List TypeId)
+arguments_of t = option_map (λ (x : Term). x.arg_tys) t
+
+-- the types of what it takes them apart into: the fields of what it makes, or the results of its extractor
+abbrev pub part_types : Environment → Making → Option Term → Option (List TypeId)
+part_types env (MakesVariant ty variant) t = option_map (form_types env) (form env (MakesVariant ty variant))
+part_types env (MakesStruct ty) t = option_map (form_types env) (form env (MakesStruct ty))
+part_types env MakesNothing t = arguments_of t
+
+-- a pattern for values of the type: a constant is one of them or declared as one, and a term has a pattern for each field of what it makes, or for each result of its extractor
 abbrev mutual
   pub IsPatternOf : Environment → TypeId → Pattern → Type 0
   IsPatternOf env ty (pattern.Var of x) = of ≡ ty
@@ -50,7 +67,7 @@ abbrev mutual
   IsPatternOf env ty (pattern.ConstInt of n) = (of ≡ ty) × HasType env (int_value env ty n) ty × IsNumeric env ty
   IsPatternOf env ty (pattern.ConstPrim of name) = (of ≡ ty) × (const_type env name ≡ Some ty)
   IsPatternOf env ty (pattern.Wildcard of) = of ≡ ty
-  IsPatternOf env ty (pattern.Term of term ps) = (of ≡ ty) × IsOfMaking ty (making env term) × ArePartsOf env (option_map (form_types env) (form env (making env term))) ps
+  IsPatternOf env ty (pattern.Term of term ps) = (of ≡ ty) × OpensType ty (making env term) (slice_get env.terms term.0) × ArePartsOf env (part_types env (making env term) (slice_get env.terms term.0)) ps
   IsPatternOf env ty (pattern.BindPattern of x p) = (of ≡ ty) × IsPatternOf env ty p
   IsPatternOf env ty (pattern.And of ps) = (of ≡ ty) × AreEachOf env ty ps
 

@@ -6,7 +6,7 @@ use Rattle.isle_base.specs.declared.ids.TypeId.{TypeId}
 use Rattle.isle_base.specs.declared.ids.VariantId.{VariantId}
 use Rattle.isle_core.specs.declared.rule_sets.Binding.TheVariants as binding
 use Rattle.isle_core.specs.Path.{Path, Nowhere, Arg, ConstBool, ConstInt, ConstPrim, Extracted, Called, Chosen, MadeVariant, MadeStruct, VariantField, StructField, Wrapped, Inner, Part, at}
-use Rattle.isle_core.specs.PathType.{IsPathOf}
+use Rattle.isle_core.specs.PathType.{IsPathOf, IsOptionOf}
 use Rattle.isle_core.specs.Setting.{Setting, paths_in}
 
 -- the path of an argument, or of a constant
@@ -48,6 +48,11 @@ mutual
 pub record IsReadAs (s : Setting) (bound : List ℕ) (b : BindingId) (ty : TypeId) : Type 0 where
   pub path : IsPathOf s.env s.term (at (paths_in s) b) ty
   pub read : IsReadable s bound b
+
+-- a bound option of a value of the type
+pub record IsOptionRead (s : Setting) (bound : List ℕ) (b : BindingId) (ty : TypeId) : Type 0 where
+  pub path : IsOptionOf s.env s.term (at (paths_in s) b) ty
+  pub bound' : Contains bound b.0
 
 -- as many bindings as types
 abbrev pub AreReadAs : Setting → List ℕ → List BindingId → List TypeId → Type 0

@@ -1,15 +1,23 @@
 -- The path of what a right side gives.
-use Rattle.std.specs.Prelude.{ℕ, ◌+◌, Option, Some, None, if◌then◌else◌}
+use Rattle.std.specs.Prelude.{ℕ, ◌+◌, Option, Some, None}
 use Rattle.isle_base.specs.declared.ids.TermId.{TermId}
 use Rattle.isle_base.specs.declared.ids.TypeId.{TypeId}
 use Rattle.isle_core.specs.Expr as expr
 use Rattle.isle_core.specs.Expr.{Expr, Exprs, NoExpr, AnExpr, LetBindings, NoBinding, ABinding}
-use Rattle.isle_core.specs.Calling.{Calling, calling, is_fallible, instance_of, impure, impure_all, impure_bindings}
+use Rattle.isle_core.specs.Calling.{calling, instance_of, impure, impure_all, impure_bindings}
 use Rattle.isle_core.specs.Match.{with}
+pub use Rattle.isle_core.specs.Opening.{answer_path}
 use Rattle.isle_core.specs.Making.{Making, MakesVariant, MakesStruct, MakesNothing, making}
-use Rattle.isle_core.specs.Path.{Path, Nowhere, ConstBool, ConstInt, ConstPrim, Called, MadeVariant, MadeStruct, Inner, Paths, NoPath, APath}
-use Rattle.isle_core.specs.Rule.{Environment, Rule}
-use Rattle.isle_core.specs.Tests.{Places, rule_places}
+use Rattle.isle_core.specs.Path.{Path, Nowhere, ConstBool, ConstInt, ConstPrim, Called, MadeVariant, MadeStruct, Paths, NoPath, APath}
+use Rattle.isle_core.specs.Rule.{Environment}
+
+-- the path of each variable, by its number
+abbrev pub Places : Type 0
+Places = ℕ → Option Path
+
+-- no variable has a path
+abbrev pub no_places : Places
+no_places var = None
 
 -- bool is the first of the types
 abbrev pub bool_type : TypeId
@@ -30,10 +38,6 @@ term_path MakesNothing term ps instance = Called term ps instance
 abbrev pub call_path : Environment → TermId → Paths → ℕ → Path
 call_path env term ps n = term_path (making env term) term ps (instance_of (calling env term) n)
 
--- the path of a call's value: the inner value of what may be nothing
-abbrev pub answer_path : Calling → Path → Path
-answer_path c p = if is_fallible c then Inner p else p
-
 -- the path of an expression's value, after n impure calls of the rules
 abbrev mutual
   pub path : Environment → Expr → Places → ℕ → Path
@@ -53,7 +57,3 @@ abbrev mutual
   pub let_places : Environment → LetBindings → Places → ℕ → Places
   let_places env NoBinding places n = places
   let_places env (ABinding x ty e more) places n = let_places env more (with places x.0 (path env e places n)) (n + impure env e)
-
--- the path of a rule's result
-abbrev pub rule_result : Environment → Rule → ℕ → Path
-rule_result env r n = path env r.rhs (rule_places env r) n

@@ -15,7 +15,7 @@ use Rattle.isle_core.specs.StandsFor.{EachOnce}
 use Rattle.isle_core.specs.ConstraintType.{IsConstraintOf}
 use Rattle.isle_core.specs.ExternalCall.{IsCall}
 use Rattle.isle_core.specs.Occurrences.{occurrences}
-use Rattle.isle_core.specs.PathType.{IsPathOf, ArePathsOf}
+use Rattle.isle_core.specs.PathType.{IsPathOf, IsOptionOf, ArePathsOf}
 use Rattle.isle_core.specs.RuleSet.{is_test}
 use Rattle.isle_core.specs.Tests.{Test, Is}
 use Rattle.isle_core.specs.declared.rule_sets.Constraint.TheVariants as constraint
@@ -23,12 +23,30 @@ use Rattle.isle_core.specs.Rule.{Environment}
 
 -- ---- what may be read
 
--- a path may be read behind these tests and these calls: a field behind the test that shows it, a call or its inner value
--- behind the call, and a made value where its parts may be
+-- an inner value may be read behind the call that answers it, or behind the test that an extractor's answer is something
+abbrev pub StandsWithin : (tests : List Test) → (done : List Path) → Path → Type 0
+StandsWithin tests done (Called term ps instance) = Contains done (Called term ps instance)
+StandsWithin tests done (Extracted term q) = Contains tests (Is (Extracted term q) constraint.Some)
+StandsWithin tests done Nowhere = Unit {0}
+StandsWithin tests done (Arg i) = Unit {0}
+StandsWithin tests done (ConstBool of b) = Unit {0}
+StandsWithin tests done (ConstInt of n) = Unit {0}
+StandsWithin tests done (ConstPrim name) = Unit {0}
+StandsWithin tests done (Chosen q) = Unit {0}
+StandsWithin tests done (MadeVariant of variant ps) = Unit {0}
+StandsWithin tests done (MadeStruct of ps) = Unit {0}
+StandsWithin tests done (VariantField variant field q) = Unit {0}
+StandsWithin tests done (StructField field q) = Unit {0}
+StandsWithin tests done (Wrapped q) = Unit {0}
+StandsWithin tests done (Inner q) = Unit {0}
+StandsWithin tests done (Part part q) = Unit {0}
+
+-- a path may be read behind these tests and these calls: a field behind the test that shows it, a call behind itself, an
+-- extractor's answer where what it takes apart may be read, and a made value where its parts may be
 abbrev mutual
   pub StandsOn : (tests : List Test) → (done : List Path) → Path → Type 0
   StandsOn tests done (Called term ps instance) = Contains done (Called term ps instance)
-  StandsOn tests done (Inner p) = StandsOn tests done p
+  StandsOn tests done (Inner p) = StandsWithin tests done p
   StandsOn tests done (VariantField variant field q) = (ty : TypeId) × Contains tests (Is q (constraint.Variant ty variant))
   StandsOn tests done (StructField field q) = (ty : TypeId) × Contains tests (Is q (constraint.Struct ty))
   StandsOn tests done (MadeVariant of variant ps) = AllStandOn tests done ps
@@ -38,7 +56,7 @@ abbrev mutual
   StandsOn tests done (ConstBool of b) = Unit {0}
   StandsOn tests done (ConstInt of n) = Unit {0}
   StandsOn tests done (ConstPrim name) = Unit {0}
-  StandsOn tests done (Extracted term q) = Unit {0}
+  StandsOn tests done (Extracted term q) = StandsOn tests done q
   StandsOn tests done (Chosen q) = Unit {0}
   StandsOn tests done (Wrapped q) = Unit {0}
   StandsOn tests done (Part part q) = Unit {0}
@@ -50,12 +68,25 @@ abbrev mutual
 
 -- ---- tests
 
--- a constraint of the type of its binding's path, which may be read behind the tests before
-pub record IsTestable (env : Environment) (t : Term) (ps : List Path) (before : List Test) (c : BindingId × Constraint) : Type 0 where
+-- a value of some type at a path, and a constraint on such
+pub record IsValueTest (env : Environment) (t : Term) (p : Path) (c : Constraint) : Type 0 where
   pub ty : TypeId
-  pub path : IsPathOf env t (at ps c.0) ty
+  pub path : IsPathOf env t p ty
+  pub constraint : IsConstraintOf env c ty
+
+-- what a constraint tests: a value, or whether an answer that may be nothing is something
+abbrev pub IsTest : Environment → Term → Path → Constraint → Type 0
+IsTest env t p constraint.Some = (ty : TypeId) × IsOptionOf env t p ty
+IsTest env t p (constraint.ConstBool val) = IsValueTest env t p (constraint.ConstBool val)
+IsTest env t p (constraint.ConstInt val of) = IsValueTest env t p (constraint.ConstInt val of)
+IsTest env t p (constraint.ConstPrim val) = IsValueTest env t p (constraint.ConstPrim val)
+IsTest env t p (constraint.Variant of variant) = IsValueTest env t p (constraint.Variant of variant)
+IsTest env t p (constraint.Struct of) = IsValueTest env t p (constraint.Struct of)
+
+-- a test of its binding's path, which may be read behind the tests before
+pub record IsTestable (env : Environment) (t : Term) (ps : List Path) (before : List Test) (c : BindingId × Constraint) : Type 0 where
+  pub test : IsTest env t (at ps c.0) c.1
   pub stands : StandsOn before [] (at ps c.0)
-  pub constraint : IsConstraintOf env c.1 ty
 
 -- constraints in order, behind these tests
 abbrev pub AreTestable : Environment → Term → List Path → (before : List Test) → List (BindingId × Constraint) → Type 0

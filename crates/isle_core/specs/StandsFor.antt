@@ -5,8 +5,7 @@ use Rattle.isle_core.specs.declared.rule_sets.RuleSet.{RuleSet}
 use Rattle.isle_core.specs.Path.{Path, at, paths_of}
 use Rattle.isle_core.specs.Iterators.{rule_iterators}
 use Rattle.isle_core.specs.OrderedCalls.{rule_calls}
-use Rattle.isle_core.specs.RightSide.{rule_result}
-use Rattle.isle_core.specs.Tests.{Test, Is, Equal, Never, is_constraint, rule_tests}
+use Rattle.isle_core.specs.Tests.{Test, Is, Equal, Never, is_constraint, rule_tests, rule_result}
 use Rattle.isle_core.specs.Calling.{impure}
 use Rattle.isle_core.specs.RulePaths.{rules_paths}
 use Rattle.isle_core.specs.RuleSet.{is_test, flat_tests}

@@ -14,6 +14,7 @@ use Rattle.isle_core.specs.declared.types.ConstructorKind.TheVariants as constru
 use Rattle.isle_core.specs.declared.values.Callee.{Callee}
 use Rattle.isle_core.specs.declared.values.Callee.TheVariants.{External, Internal}
 use Rattle.isle_core.specs.Rule.{Environment, Rule}
+use Rattle.isle_core.specs.Value.{Made}
 
 -- the text of a symbol
 abbrev pub symbol_text : TypeEnv → Sym → List ℕ
@@ -63,3 +64,7 @@ goes_to (Internal a) (Some (External b)) = false
 -- whether a call goes to an impure term
 abbrev pub is_impure : Environment → Callee → Bool
 is_impure env callee = list_any (λ (t : Term). goes_to callee (impure_callee env t t.kind)) env.terms
+
+-- the calls of impure terms
+abbrev pub impure_calls : Environment → List Made → List Made
+impure_calls env calls = filter (λ (c : Made). is_impure env c.callee) calls

@@ -7,7 +7,7 @@ use Rattle.isle_core.specs.Value.{Value, Truth, Answer}
 use Rattle.isle_core.specs.SameValue.{same_value}
 use Rattle.isle_core.specs.Constants.{int_value}
 use Rattle.isle_core.specs.Meaning.{Meaning, case}
-use Rattle.isle_core.specs.Calling.{Calling, ByTurns, ByCases, NoCall, calling}
+use Rattle.isle_core.specs.Calling.{Calling, ByTurns, ByCases, NoCall, calling, extracting}
 pub use Rattle.isle_core.specs.Answered.{Item, AValue, ATuple, Held, Absent, One, Optional, Listed, a_value, an_option, answer_held}
 use Rattle.isle_core.specs.Having.{const_of}
 use Rattle.isle_core.specs.Terms.{sym_text}
@@ -65,6 +65,25 @@ call_held m (ByTurns callee kind) known vs = held_of known
 call_held m (ByCases callee kind) known vs = case_held m (ByCases callee kind) vs
 call_held m NoCall known vs = Absent
 
+-- what an extractor answers to a value, where it is there
+abbrev pub extracted_held : Meaning → Calling → Held → Held
+extracted_held m c h = case_held m c (value_before h (Some []))
+
+-- an option of what a place holds
+abbrev pub wrapped_held : Held → Held
+wrapped_held (One i) = Optional (Some i)
+wrapped_held Absent = Absent
+wrapped_held (Optional o) = Absent
+wrapped_held (Listed is) = Absent
+
+-- a part of what a place holds
+abbrev pub part_held : ℕ → Held → Held
+part_held i (One (ATuple vs)) = held (slice_get vs i)
+part_held i (One (AValue v)) = Absent
+part_held i Absent = Absent
+part_held i (Optional o) = Absent
+part_held i (Listed is) = Absent
+
 -- what a term makes of values, where all are there
 abbrev pub made_held : Environment → Making → Option (List Value) → Held
 made_held env made None = Absent
@@ -78,8 +97,7 @@ field_held i Absent = Absent
 field_held i (Optional o) = Absent
 field_held i (Listed is) = Absent
 
--- what stands at a path, under the arguments and the answers known so far. Extractors, chosen items, options that are made
--- and parts of answers are not built: nothing stands there
+-- what stands at a path, under the arguments and the answers known so far. Chosen items are not built: nothing stands there
 abbrev mutual
   pub value_at : Environment → Meaning → List Value → Known → Path → Held
   value_at env m args known (Arg i) = held (slice_get args i)
@@ -89,14 +107,14 @@ abbrev mutual
   value_at env m args known (Inner p) = inner_held (value_at env m args known p)
   value_at env m args known Nowhere = Absent
   value_at env m args known (ConstPrim name) = held (const_of m (sym_text env name))
-  value_at env m args known (Extracted term p) = Absent
+  value_at env m args known (Extracted term p) = extracted_held m (extracting env term) (value_at env m args known p)
   value_at env m args known (Chosen p) = Absent
   value_at env m args known (MadeVariant ty variant ps) = made_held env (MakesVariant ty variant) (values_at env m args known ps)
   value_at env m args known (MadeStruct ty ps) = made_held env (MakesStruct ty) (values_at env m args known ps)
   value_at env m args known (VariantField variant field p) = field_held field (value_at env m args known p)
   value_at env m args known (StructField field p) = field_held field (value_at env m args known p)
-  value_at env m args known (Wrapped p) = Absent
-  value_at env m args known (Part part p) = Absent
+  value_at env m args known (Wrapped p) = wrapped_held (value_at env m args known p)
+  value_at env m args known (Part part p) = part_held part (value_at env m args known p)
 
   -- the values at paths in order, where all are there
   pub values_at : Environment → Meaning → List Value → Known → Paths → Option (List Value)
