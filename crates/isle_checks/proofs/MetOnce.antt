@@ -21,12 +21,12 @@ use Rattle.isle_core.specs.PatternType.{AreVariantsApart}
 use Rattle.isle_core.specs.Terms.{sym_text}
 use Rattle.isle_core.specs.Value as value
 use Rattle.isle_core.specs.Value.{Value}
-use Rattle.isle_core.specs.ValueAt.{Held, One, AValue, is_value, is_const, is_one, meets}
+use Rattle.isle_core.specs.ValueAt.{Held, One, AValue, is_value, is_const, is_one, is_found, meets}
 use Rattle.isle_core.specs.Rule.{Environment}
 use Rattle.isle_core.proofs.SameValueLaws.{same_value_decides}
 use Rattle.isle_core.specs.NamesApart.{IsPlainDef}
 use Rattle.isle_checks.specs.PlainTypes.{IsPlainType}
-use Rattle.isle_checks.proofs.TestedTypes.{constant_test, IsOn, on_constant, on_variant, on_struct}
+use Rattle.isle_checks.proofs.TestedTypes.{constant_test, IsOn, on_constant, on_variant, on_struct, on_some}
 
 -- ---- constants
 
@@ -131,6 +131,18 @@ no_struct : (env : Environment) (ty : TypeId) (h : Held) → IsPlainType env ty 
 no_struct env ty (One (AValue v)) plain e = plain_struct env (slice_get env.types.types ty.0) v plain e
 no_struct env ty h plain e = cc
 
+-- what is something is no value
+some_or_one : (test : Value → Bool) (h : Held) → is_one test h ≡ true → is_found h ≡ true → ⊥
+some_or_one test (One (AValue v)) e k = cc
+some_or_one test h e k = cc
+
+some_or_constant : (env : Environment) (m : Meaning) (ty : TypeId) (c : Constant) (h : Held) → meets env m (constant_test ty c) h ≡ true → is_found h ≡ true → ⊥
+some_or_constant env m ty c h e k = found_no_value h (constant_met env m ty c h e).value (constant_met env m ty c h e).met k
+  where
+    found_no_value : (h : Held) (v : Value) → is_value v h ≡ true → is_found h ≡ true → ⊥
+    found_no_value (One (AValue w)) v e k = cc
+    found_no_value h v e k = cc
+
 -- ---- one value, one constraint
 
 -- known constants of one type that have one value are one
@@ -151,3 +163,10 @@ module _ (env : Environment) (m : Meaning) (known : List TypedConstant) (variant
   one_constraint ty h c d (on_variant variant) on_struct e k = absurd (variant_or_struct env ty variant h e k)
   one_constraint ty h c d on_struct (on_variant other) e k = absurd (variant_or_struct env ty other h k e)
   one_constraint ty h c d on_struct on_struct e k = refl
+  one_constraint ty h c d on_some on_some e k = refl
+  one_constraint ty h c d (on_constant a there plain) on_some e k = absurd (some_or_constant env m ty a h e k)
+  one_constraint ty h c d on_some (on_constant b also plain) e k = absurd (some_or_constant env m ty b h k e)
+  one_constraint ty h c d (on_variant variant) on_some e k = absurd (some_or_one (is_made_by env (MakesVariant ty variant)) h e k)
+  one_constraint ty h c d on_some (on_variant variant) e k = absurd (some_or_one (is_made_by env (MakesVariant ty variant)) h k e)
+  one_constraint ty h c d on_struct on_some e k = absurd (some_or_one (is_made_by env (MakesStruct ty)) h e k)
+  one_constraint ty h c d on_some on_struct e k = absurd (some_or_one (is_made_by env (MakesStruct ty)) h k e)

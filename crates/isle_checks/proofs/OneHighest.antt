@@ -15,7 +15,7 @@ use Rattle.isle_core.specs.Match.{Names}
 use Rattle.isle_core.specs.Outcome.{rule_names}
 use Rattle.isle_core.specs.HighestMatch.{AreApart}
 use Rattle.isle_core.specs.Path.{Path}
-use Rattle.isle_core.specs.Tests.{Is, Places, no_places, args_after, rule_tests}
+use Rattle.isle_core.specs.Tests.{Is, Places, rule_places, rule_tests}
 use Rattle.isle_core.specs.Terms.{with_rules}
 use Rattle.isle_core.specs.ValueAt.{nothing_known, value_at, meets, holds, all_hold}
 use Rattle.isle_core.specs.BuiltRule.{IsBuiltRule}
@@ -26,7 +26,8 @@ use Rattle.isle_core.specs.NamesApart.{AreConstantsPlain}
 use Rattle.isle_core.specs.PatternType.{AreVariantsApart, ArePatternsOf, FitsTerm}
 use Rattle.isle_core.specs.Rule.{Environment, Rule, rules_of}
 use Rattle.isle_core.proofs.Contained.{contained_cases, none_contained}
-use Rattle.isle_core.proofs.PatternTests.{Values, Both}
+use Rattle.isle_core.specs.CalledTerms.{CalledTerm, extracted_in, called_in_iflets, called_by, called_in, called}
+use Rattle.isle_core.proofs.PatternTests.{Values, Both, AreServed}
 use Rattle.isle_core.proofs.SetMeans.{rule_both}
 use Rattle.isle_checks.specs.Built.{AreBuilt}
 use Rattle.isle_checks.specs.CheckList.{RuleError, overlap_of, shadow_of, positions, is_multi, AreErrorsAt, AreErrorsBelow, AreErrorsOf, AreErrorsOfTerm, AreErrorsOfTerms, IsClean}
@@ -52,13 +53,14 @@ module _ (env : Environment) (m : Meaning) (args : List Value) (tys : List TypeI
     none : r.iflets ≡ []
     fits : ArePatternsOf env tys r.args
     among : (c : TypedConstant) → Contains (rule_constants r) c → Contains known c
+    served : AreServed env m (extracted_in env r.args)
 
   -- a rule that matches tests paths that have types, by constraints on values of these that what stands there meets
   meets_test : (r : Rule) (names : Names) → IsOf r → rule_names env m args r ≡ Some names → (p : Path) (c : Constraint) → Contains (rule_tests env r) (Is p c)
       → IsTyped env plain known tys p c × (meets env m c (value_at env m args nothing_known p) ≡ true)
   meets_test r names h e p c k =
       let val = value_at env m args nothing_known in
-      let all = matched_holds val (rule_names env m args r) (all_hold env m val (rule_tests env r)) (args_after env r.args 0 no_places) names e (rule_both env m args tys r variants h.none h.fits typed) in
+      let all = matched_holds val (rule_names env m args r) (all_hold env m val (rule_tests env r)) (rule_places env r) names e (rule_both env m args tys r variants h.none h.fits typed h.served) in
       (rule_typed env plain known tys r p c h.none h.fits h.among k, All-contains (λ t. holds env m val t ≡ true) (rule_tests env r) (Is p c) (AllPass-from_list_all (holds env m val) (rule_tests env r) all) k)
 
   matched_overlap : (q r : Rule) (names others : Names) → IsOf q → IsOf r → rule_names env m args q ≡ Some names → rule_names env m args r ≡ Some others → q.prio ≡ r.prio → Overlaps env q r
@@ -125,6 +127,17 @@ constants_among (x ∷ rules) r c k h = ⊎_elim
     (λ d. Contains-append_right (rule_constants x) (rules_constants rules) c (constants_among rules r c d h))
     (contained_cases x rules r k)
 
+-- what a rule's patterns call is among what the rules call
+served_among : (env : Environment) (m : Meaning) (rules : List Rule) (r : Rule) → AreServed env m (called env rules) → Contains rules r → AreServed env m (extracted_in env r.args)
+served_among env m [] r h c o k = absurd (none_contained r c)
+served_among env m (x ∷ rules) r h c o k = ⊎_elim
+    (λ (e : x ≡ r). h o (Contains-append_left (called_in env x) (called env rules) o (subst (λ (y : Rule). Contains (called_in env y) o) (sym e) (of_rule o k))))
+    (λ d. served_among env m rules r (λ y i. h y (Contains-append_right (called_in env x) (called env rules) y i)) d o k)
+    (contained_cases x rules r c)
+  where
+    of_rule : (o : CalledTerm) → Contains (extracted_in env r.args) o → Contains (called_in env r) o
+    of_rule o k = Contains-append_left (extracted_in env r.args ++ called_in_iflets env r.iflets) (called_by env r.rhs) o (Contains-append_left (extracted_in env r.args) (called_in_iflets env r.iflets) o k)
+
 -- of a term that answers at most once, whose rules are built and fit its arguments, where the meaning is lawful and the values have the arguments' types
 pub one_highest : (env : Environment) (id : TermId) (t : Term) → Contains (with_rules env) id → is_multi env id ≡ false → AreBuilt env → All (FitsTerm env t) (rules_of env id) → IsClean env → AreVariantsApart env → AreConstantsPlain env
     → (m : Meaning) (args : List Value) → IsLawful env id m → HaveTypes env args t.arg_tys → AreApart env m args (rules_of env id)
@@ -138,6 +151,7 @@ one_highest env id t listed single built fit clean variants plain m args lawful 
       none = (All-contains (IsBuiltRule env.terms) rules x (All-from_recursion (IsBuiltRule env.terms) rules all) h).iflets;
       fits = All-contains (FitsTerm env t) rules x fit h;
       among = λ y i. constants_among rules x y h i;
+      served = served_among env m rules x lawful.answers h;
     } in
     let first = place_of rules q c in
     let second = place_of rules r d in

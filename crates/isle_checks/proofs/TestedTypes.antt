@@ -1,5 +1,5 @@
 -- The types of the paths that a rule tests, and what it may ask of them.
-use Rattle.std.proofs.Common.{◌≡◌, ℕ, ◌+◌, suc, List, [], ◌∷◌, ◌++◌, Bool, Option, Some, None, refl, sym, ap, ◌∙◌, subst, arith, ⊎_elim}
+use Rattle.std.proofs.Common.{◌≡◌, ℕ, ◌+◌, zero, suc, List, [], ◌∷◌, ◌++◌, length, Bool, true, false, Option, Some, None, refl, sym, ap, ◌∙◌, subst, arith, ⊎_elim}
 use Rattle.std.specs.Prelude.{Contains, IsSomeAnd, option_and_then, option_map, slice_get}
 use Rattle.std.proofs.lemmas.List.Elements.{Contains-append_left, Contains-append_right, Contains-append_cases}
 use Rattle.isle_core.specs.declared.TypeId.{TypeId}
@@ -11,16 +11,21 @@ use Rattle.isle_core.specs.declared.types.TypeDef.{TypeDef}
 use Rattle.isle_core.specs.declared.types.TypeDef.TheVariants as def
 use Rattle.isle_core.specs.Form.{form, form_types}
 use Rattle.isle_core.specs.HasType.{IsOfDef}
+use Rattle.isle_core.specs.declared.TermId.{TermId}
+use Rattle.isle_core.specs.declared.types.Term.{Term}
+use Rattle.isle_core.specs.Calling.{Calling, is_fallible, answers_often, extracting_of, extracting_kind}
+use Rattle.isle_core.specs.Opening.{Opening, opening, opening_by, answer_path, result_path, part_path}
+use Rattle.isle_rulesets.proofs.OpenedLaws.{extracts}
 use Rattle.isle_core.specs.Making.{Making, MakesVariant, MakesStruct, MakesNothing, making}
 use Rattle.isle_core.specs.OccurringConstants.{Constant, Truth, Number, Named, TypedConstant, pattern_constants, patterns_constants, args_constants, iflets_constants, expr_constants, rule_constants}
 use Rattle.isle_core.specs.Path.{Path, Nowhere, Arg, ConstBool, ConstInt, ConstPrim, Extracted, Called, Chosen, MadeVariant, MadeStruct, VariantField, StructField, Wrapped, Inner, Part}
 use Rattle.isle_core.specs.Pattern as pattern
 use Rattle.isle_core.specs.Pattern.{Pattern, Patterns, NoPattern, APattern}
-use Rattle.isle_core.specs.PatternType.{IsNumericDef, IsOfMaking, IsPatternOf, ArePartsOf, AreEachOf, ArePatternsOf}
-use Rattle.isle_core.specs.Tests.{Test, Is, Places, no_places, met_tests, met_after, made_test, field_path, tests, parts_tests, each_tests, after, args_tests, rule_tests}
+use Rattle.isle_core.specs.PatternType.{IsNumericDef, OpensType, arguments_of, part_types, IsPatternOf, ArePartsOf, AreEachOf, ArePatternsOf}
+use Rattle.isle_core.specs.Tests.{Test, Is, Places, no_places, met_tests, met_after, found_tests, opening_tests, tests, parts_tests, each_tests, after, args_tests, rule_tests}
 use Rattle.isle_core.specs.Value as value
 use Rattle.isle_core.specs.Rule.{Environment, Rule}
-use Rattle.isle_core.proofs.Contained.{contained_cases, none_contained}
+use Rattle.isle_core.proofs.Contained.{none_contained}
 use Rattle.isle_core.proofs.SetMeans.{without_iflets}
 use Rattle.isle_core.specs.NamesApart.{IsPlainDef, AreConstantsPlain}
 use Rattle.isle_checks.specs.PlainTypes.{IsPlainType}
@@ -33,23 +38,50 @@ use Rattle.isle_checks.proofs.PlacedLaws.{only_one}
 abbrev pub field_type : Environment → Making → ℕ → Option TypeId
 field_type env mk i = option_and_then (λ tys. slice_get tys i) (option_map (form_types env) (form env mk))
 
--- the type of an argument, or of a field within one
+-- the type of the first result, or of the value where there is none
+abbrev pub first_type : List TypeId → TypeId → TypeId
+first_type [] ty = ty
+first_type (of ∷ tys) ty = of
+
+-- the type of an extractor's first result
+abbrev pub answer_type : Option Term → Option TypeId
+answer_type t = option_map (λ (x : Term). first_type x.arg_tys x.ret_ty) t
+
+-- the type of a result of the extractor whose answer this is
+abbrev pub result_type : Environment → ℕ → Path → Option TypeId
+result_type env i (Extracted term p) = option_and_then (λ tys. slice_get tys i) (arguments_of (slice_get env.terms term.0))
+result_type env i (Inner p) = result_type env i p
+result_type env i Nowhere = None
+result_type env i (Arg j) = None
+result_type env i (ConstBool ty b) = None
+result_type env i (ConstInt ty n) = None
+result_type env i (ConstPrim name) = None
+result_type env i (Called term ps instance) = None
+result_type env i (Chosen p) = None
+result_type env i (MadeVariant ty variant ps) = None
+result_type env i (MadeStruct ty ps) = None
+result_type env i (VariantField variant j p) = None
+result_type env i (StructField j p) = None
+result_type env i (Wrapped p) = None
+result_type env i (Part part p) = None
+
+-- the type of an argument, of a field within one, or of what an extractor gives
 abbrev pub path_type : Environment → List TypeId → Path → Option TypeId
 path_type env tys (Arg i) = slice_get tys i
 path_type env tys (VariantField variant i p) = option_and_then (λ ty. field_type env (MakesVariant ty variant) i) (path_type env tys p)
 path_type env tys (StructField i p) = option_and_then (λ ty. field_type env (MakesStruct ty) i) (path_type env tys p)
+path_type env tys (Extracted term p) = answer_type (slice_get env.terms term.0)
+path_type env tys (Inner p) = path_type env tys p
+path_type env tys (Part part p) = result_type env part p
 path_type env tys Nowhere = None
 path_type env tys (ConstBool ty b) = None
 path_type env tys (ConstInt ty n) = None
 path_type env tys (ConstPrim name) = None
-path_type env tys (Extracted term p) = None
 path_type env tys (Called term ps instance) = None
 path_type env tys (Chosen p) = None
 path_type env tys (MadeVariant ty variant ps) = None
 path_type env tys (MadeStruct ty ps) = None
 path_type env tys (Wrapped p) = None
-path_type env tys (Inner p) = None
-path_type env tys (Part part p) = None
 
 -- ---- constraints of types
 
@@ -59,11 +91,12 @@ constant_test ty (Truth b) = constraint.ConstBool b
 constant_test ty (Number n) = constraint.ConstInt n ty
 constant_test ty (Named name) = constraint.ConstPrim name
 
--- a constraint on values of a type: one of these constants, of a builtin or primitive type, or what is made of the type
+-- a constraint on values of a type: one of these constants, of a builtin or primitive type, what is made of the type, or that there is something
 pub data IsOn (env : Environment) (known : List TypedConstant) (ty : TypeId) : Constraint → Type 0 where
   on_constant : (c : Constant) → Contains known (ty, c) → IsPlainType env ty → IsOn env known ty (constant_test ty c)
   on_variant : (variant : VariantId) → IsOn env known ty (constraint.Variant ty variant)
   on_struct : IsOn env known ty (constraint.Struct ty)
+  on_some : IsOn env known ty constraint.Some
 
 truths_plain : (env : Environment) (o : Option TypeDef) (b : _) → IsSomeAnd o (λ d. IsOfDef env d (value.Truth b)) → IsSomeAnd o IsPlainDef
 truths_plain env None b h = h
@@ -113,15 +146,55 @@ module _ (env : Environment) (plain : AreConstantsPlain env) (known : List Typed
       head : (x : TypedConstant) → Contains (x ∷ []) x
       head x = (0, omega arith, refl)
 
-  made_typed : (mk : Making) (at p : Path) (ty : TypeId) (d : Constraint) → IsOfMaking ty mk → path_type env tys at ≡ Some ty → made_test mk at ≡ Is p d → IsTyped p d
-  made_typed (MakesVariant of variant) at p ty d is t e = this_typed at p of (constraint.Variant of variant) d (t ∙ ap Some (sym is)) (on_variant variant) e
-  made_typed (MakesStruct of) at p ty d is t e = this_typed at p of (constraint.Struct of) d (t ∙ ap Some (sym is)) on_struct e
-  made_typed MakesNothing at p ty d is t e = absurd is
+  -- the types of the parts
+  abbrev PartsTyped : Opening → ℕ → Path → Option (List TypeId) → Type 0
+  PartsTyped opened i at o = (j : ℕ) (ty : TypeId) → option_and_then (λ ts. slice_get ts j) o ≡ Some ty → path_type env tys (part_path opened (j + i) at) ≡ Some ty
 
-  field_typed : (mk : Making) (at : Path) (ty : TypeId) (j : ℕ) → IsOfMaking ty mk → path_type env tys at ≡ Some ty → path_type env tys (field_path mk j at) ≡ field_type env mk j
-  field_typed (MakesVariant of variant) at ty j is t = ap (option_and_then (λ x. field_type env (MakesVariant x variant) j)) (t ∙ ap Some (sym is))
-  field_typed (MakesStruct of) at ty j is t = ap (option_and_then (λ x. field_type env (MakesStruct x) j)) (t ∙ ap Some (sym is))
-  field_typed MakesNothing at ty j is t = absurd is
+  found_typed : (c : Calling) (at p : Path) (d : Constraint) (b : Bool) → is_fallible c ≡ b → answers_often c ≡ false → (ty : TypeId) → path_type env tys at ≡ Some ty → Contains (found_tests c at) (Is p d) → IsTyped p d
+  found_typed c at p d true f o ty t k = this_typed at p ty constraint.Some d t on_some (only_one _ _ (subst (λ ts. Contains ts (Is p d)) (tests_some c at f o) k))
+    where
+      tests_some : (c : Calling) (at : Path) → is_fallible c ≡ true → answers_often c ≡ false → found_tests c at ≡ Is at constraint.Some ∷ []
+      tests_some c at f o = rw (o, f) refl
+  found_typed c at p d false f o ty t k = absurd (none_contained (Is p d) (subst (λ ts. Contains ts (Is p d)) (tests_none c at f o) k))
+    where
+      tests_none : (c : Calling) (at : Path) → is_fallible c ≡ false → answers_often c ≡ false → found_tests c at ≡ []
+      tests_none c at f o = rw (o, f) refl
+
+  -- the test of what is taken apart, and the types of its parts
+  opened_typed : (mk : Making) (term : TermId) (t : Option Term) (at p : Path) (ty : TypeId) (d : Constraint) → OpensType ty mk t → slice_get env.terms term.0 ≡ t → path_type env tys at ≡ Some ty → Contains (opening_tests (opening_by term mk (extracting_of env t) t) at) (Is p d) → IsTyped p d
+  opened_typed (MakesVariant of variant) term t at p ty d is e h k = this_typed at p of (constraint.Variant of variant) d (h ∙ ap Some (sym is)) (on_variant variant) (only_one _ _ k)
+  opened_typed (MakesStruct of) term t at p ty d is e h k = this_typed at p of (constraint.Struct of) d (h ∙ ap Some (sym is)) on_struct (only_one _ _ k)
+  opened_typed MakesNothing term None at p ty d is e h k = absurd is
+  opened_typed MakesNothing term (Some t) at p ty d is e h k = found_typed (extracting_kind env t.kind) (Extracted term at) p d (is_fallible (extracting_kind env t.kind)) refl (extracts env t.kind is.0).1 (first_type t.arg_tys t.ret_ty) (ap answer_type e) k
+
+  answer_typed : (c : Calling) (term : TermId) (at : Path) → path_type env tys (answer_path c (Extracted term at)) ≡ answer_type (slice_get env.terms term.0)
+  answer_typed c term at = by (is_fallible c) refl
+    where
+      by : (b : Bool) → is_fallible c ≡ b → path_type env tys (answer_path c (Extracted term at)) ≡ answer_type (slice_get env.terms term.0)
+      by true f = rw f refl
+      by false f = rw f refl
+
+  part_of : (c : Calling) (term : TermId) (at : Path) (i : ℕ) → path_type env tys (Part i (answer_path c (Extracted term at))) ≡ option_and_then (λ ts. slice_get ts i) (arguments_of (slice_get env.terms term.0))
+  part_of c term at i = by (is_fallible c) refl
+    where
+      by : (b : Bool) → is_fallible c ≡ b → path_type env tys (Part i (answer_path c (Extracted term at))) ≡ option_and_then (λ ts. slice_get ts i) (arguments_of (slice_get env.terms term.0))
+      by true f = rw f refl
+      by false f = rw f refl
+
+  results_typed : (ts : List TypeId) (ret : TypeId) (c : Calling) (term : TermId) (t : Term) (at : Path) (j : ℕ) (ty : TypeId) → slice_get env.terms term.0 ≡ Some t → t.arg_tys ≡ ts → slice_get ts j ≡ Some ty → path_type env tys (result_path (length ts) j (answer_path c (Extracted term at))) ≡ Some ty
+  results_typed [] ret c term t at j ty e is h = cc
+  results_typed (of ∷ []) ret c term t at zero ty e is h = answer_typed c term at ∙ ap answer_type e ∙ ap (λ ts. Some (first_type ts t.ret_ty)) is ∙ h
+  results_typed (of ∷ []) ret c term t at (suc j) ty e is h = cc
+  results_typed (of ∷ (more ∷ ts)) ret c term t at j ty e is h = part_of c term at j ∙ ap (λ o. option_and_then (λ us. slice_get us j) (arguments_of o)) e ∙ ap (λ us. slice_get us j) is ∙ h
+
+  parts_of : (mk : Making) (term : TermId) (t : Option Term) (at : Path) (ty : TypeId) → OpensType ty mk t → slice_get env.terms term.0 ≡ t → path_type env tys at ≡ Some ty → PartsTyped (opening_by term mk (extracting_of env t) t) 0 at (part_types env mk t)
+  parts_of (MakesVariant of variant) term t at ty is e h j part k =
+      ap (λ n. path_type env tys (VariantField variant n at)) (from_zero j) ∙ ap (option_and_then (λ x. field_type env (MakesVariant x variant) j)) (h ∙ ap Some (sym is)) ∙ k
+  parts_of (MakesStruct of) term t at ty is e h j part k =
+      ap (λ n. path_type env tys (StructField n at)) (from_zero j) ∙ ap (option_and_then (λ x. field_type env (MakesStruct x) j)) (h ∙ ap Some (sym is)) ∙ k
+  parts_of MakesNothing term None at ty is e h j part k = absurd is
+  parts_of MakesNothing term (Some t) at ty is e h j part k =
+      ap (λ n. path_type env tys (result_path (length t.arg_tys) n (answer_path (extracting_kind env t.kind) (Extracted term at)))) (from_zero j) ∙ results_typed t.arg_tys t.ret_ty (extracting_kind env t.kind) term t at j part e refl k
 
   mutual
     pattern_typed : (q : Pattern) (at : Path) (ty : TypeId) (places : Places) (p : Path) (c : Constraint) → IsPatternOf env ty q → path_type env tys at ≡ Some ty → AreKnown (pattern_constants q) → Contains (tests env q at places) (Is p c) → IsTyped p c
@@ -134,9 +207,9 @@ module _ (env : Environment) (plain : AreConstantsPlain env) (known : List Typed
         constant_typed at p ty (Named name) c t (subst (λ x. AreKnown ((x, Named name) ∷ [])) h.0 k) (plain name ty h.1) is
     pattern_typed (pattern.Wildcard of) at ty places p c h t k is = absurd (none_contained (Is p c) is)
     pattern_typed (pattern.Term of term qs) at ty places p c h t k is =
-        ⊎_elim (λ e. made_typed (making env term) at p ty c h.1 t e)
-        (λ d. parts_typed qs (option_map (form_types env) (form env (making env term))) (making env term) at 0 places p c h.2 (λ j. ap (λ n. path_type env tys (field_path (making env term) n at)) (from_zero j) ∙ field_typed (making env term) at ty j h.1 t) k d)
-        (contained_cases (made_test (making env term) at) (parts_tests env (making env term) qs 0 at places) (Is p c) is)
+        ⊎_elim (λ d. opened_typed (making env term) term (slice_get env.terms term.0) at p ty c h.1 refl t d)
+        (λ d. parts_typed qs (part_types env (making env term) (slice_get env.terms term.0)) (opening env term) at 0 places p c h.2 (parts_of (making env term) term (slice_get env.terms term.0) at ty h.1 refl t) k d)
+        (Contains-append_cases (opening_tests (opening env term) at) (parts_tests env (opening env term) qs 0 at places) (Is p c) is)
     pattern_typed (pattern.BindPattern of x q) at ty places p c h t k is =
         let mid = met_after (places x.0) x.0 at places in
         ⊎_elim (λ d. absurd (met_none (places x.0) at p c d)) (λ d. pattern_typed q at ty mid p c h.1 t k d) (Contains-append_cases (met_tests (places x.0) at) (tests env q at mid) (Is p c) is)
@@ -150,17 +223,16 @@ module _ (env : Environment) (plain : AreConstantsPlain env) (known : List Typed
         (λ d. each_typed qs at ty (after env q at places) p c h.1 t (λ x s. k x (Contains-append_right (pattern_constants q) (patterns_constants qs) x s)) d)
         (Contains-append_cases (tests env q at places) (each_tests env qs at (after env q at places)) (Is p c) is)
 
-    -- parts on the fields from the i-th on
-    parts_typed : (qs : Patterns) (o : Option (List TypeId)) (mk : Making) (at : Path) (i : ℕ) (places : Places) (p : Path) (c : Constraint) → ArePartsOf env o qs → ((j : ℕ) → path_type env tys (field_path mk (j + i) at) ≡ option_and_then (λ ts. slice_get ts j) o) → AreKnown (patterns_constants qs)
-        → Contains (parts_tests env mk qs i at places) (Is p c) → IsTyped p c
-    parts_typed NoPattern o mk at i places p c h t k is = absurd (none_contained (Is p c) is)
-    parts_typed (APattern q qs) (Some (ty ∷ ts)) mk at i places p c h t k is =
-        let f = field_path mk i at in
-        ⊎_elim (λ d. pattern_typed q f ty places p c h.0 (subst (λ n. path_type env tys (field_path mk n at) ≡ Some ty) (first i) (t 0)) (λ x s. k x (Contains-append_left (pattern_constants q) (patterns_constants qs) x s)) d)
-        (λ d. parts_typed qs (Some ts) mk at (suc i) (after env q f places) p c h.1 (λ j. subst (λ n. path_type env tys (field_path mk n at) ≡ slice_get ts j) (next j i) (t (suc j))) (λ x s. k x (Contains-append_right (pattern_constants q) (patterns_constants qs) x s)) d)
-        (Contains-append_cases (tests env q f places) (parts_tests env mk qs (suc i) at (after env q f places)) (Is p c) is)
-    parts_typed (APattern q qs) (Some []) mk at i places p c h t k is = absurd h
-    parts_typed (APattern q qs) None mk at i places p c h t k is = absurd h
+    -- parts from the i-th on
+    parts_typed : (qs : Patterns) (o : Option (List TypeId)) (opened : Opening) (at : Path) (i : ℕ) (places : Places) (p : Path) (c : Constraint) → ArePartsOf env o qs → PartsTyped opened i at o → AreKnown (patterns_constants qs) → Contains (parts_tests env opened qs i at places) (Is p c) → IsTyped p c
+    parts_typed NoPattern o opened at i places p c h t k is = absurd (none_contained (Is p c) is)
+    parts_typed (APattern q qs) (Some (ty ∷ ts)) opened at i places p c h t k is =
+        let f = part_path opened i at in
+        ⊎_elim (λ d. pattern_typed q f ty places p c h.0 (subst (λ n. path_type env tys (part_path opened n at) ≡ Some ty) (first i) (t 0 ty refl)) (λ x s. k x (Contains-append_left (pattern_constants q) (patterns_constants qs) x s)) d)
+        (λ d. parts_typed qs (Some ts) opened at (suc i) (after env q f places) p c h.1 (λ j of e. subst (λ n. path_type env tys (part_path opened n at) ≡ Some of) (next j i) (t (suc j) of e)) (λ x s. k x (Contains-append_right (pattern_constants q) (patterns_constants qs) x s)) d)
+        (Contains-append_cases (tests env q f places) (parts_tests env opened qs (suc i) at (after env q f places)) (Is p c) is)
+    parts_typed (APattern q qs) (Some []) opened at i places p c h t k is = absurd h
+    parts_typed (APattern q qs) None opened at i places p c h t k is = absurd h
 
   -- patterns on the arguments from the i-th on
   args_typed : (qs : List Pattern) (ts : List TypeId) (i : ℕ) (places : Places) (p : Path) (c : Constraint) → ArePatternsOf env ts qs → ((j : ℕ) → slice_get tys (j + i) ≡ slice_get ts j) → AreKnown (args_constants qs) → Contains (args_tests env qs i places) (Is p c) → IsTyped p c

@@ -7,12 +7,12 @@ use Rattle.isle_core.specs.declared.BindingId.{BindingId}
 use Rattle.isle_core.specs.declared.TermId.{TermId}
 use Rattle.isle_core.specs.declared.rule_sets.Binding.{Binding}
 use Rattle.isle_core.specs.declared.rule_sets.Binding.TheVariants as binding
-use Rattle.isle_core.specs.Path.{Path, Paths, Inner, Called, path_over, add_path, paths_of, at_all}
+use Rattle.isle_core.specs.Path.{Path, Paths, Inner, Called, path_over, add_path, paths_of, at, at_all}
 use Rattle.isle_core.specs.StandsFor.{EachOnce}
 use Rattle.isle_core.proofs.Contained.{head_contained, tail_contained, contained_cases, none_contained}
 use Rattle.isle_rulesets.specs.declared.keys.Key.{Key}
 use Rattle.isle_rulesets.specs.Keys.{key_path}
-use Rattle.isle_rulesets.specs.Numbering.{Numbered, Extends, next_call, Calls, IsKeyed, IsCallUpTo, AreNumbered}
+use Rattle.isle_rulesets.specs.Numbering.{Numbered, Extends, Numbers, next_call, Calls, IsKeyed, IsCallUpTo, AreNumbered}
 use Rattle.isle_rulesets.proofs.PlacedPaths.{at_get, get_last, get_either, push_extends, extends_more, place_of}
 use Rattle.isle_rulesets.proofs.KeyLaws.{parts_kept, path_kept, not_called}
 use Rattle.isle_rulesets.proofs.NumberingLaws.{one_longer, once_push, long_paths}
@@ -21,11 +21,7 @@ use Rattle.isle_rulesets.proofs.NumberingLaws.{one_longer, once_push, long_paths
 
 up_to_more : (m n : ℕ) (p : Path) → m ≤ n → IsCallUpTo m p → IsCallUpTo n p
 up_to_more m n (Called term ps instance) le h = omega arith
-up_to_more m n (Inner p) le h = up_to_more m n p le h
 up_to_more m n p le h = absurd h
-
-inner_no_call : (term : TermId) (ps : Paths) (i : ℕ) → Inner (Called term ps i) ≡ Called term ps i → ⊥
-inner_no_call term ps i e = cc
 
 -- ---- one path more
 
@@ -96,41 +92,17 @@ call_more old items numbers term bs m k a count long is = (
     up = omega arith
 
 -- and behind the inner value of that call
-pub inner_more : (old mid : Numbered) (items : List Binding) (numbers : Key → Option BindingId) (term : TermId) (bs : List BindingId) (call value : BindingId) → AreNumbered old numbers → AreNumbered mid numbers → Calls old mid (next_call old term bs) false call call
-    → value.0 ≡ length mid.bindings → items ≡ mid.bindings ++ binding.MatchSome call ∷ []
-    → AreNumbered (record { bindings = items; calls = mid.calls }) numbers × Calls old (record { bindings = items; calls = mid.calls }) (next_call old term bs) true call value
-inner_more old mid items numbers term bs call value a b h long is = (
-  call_pushed mid items numbers (Inner p) mid.calls b paths le few up new,
-  record {
-    found = more.kept call.0 p h.found;
-    value = last_there mid.bindings items (Inner p) value.0 paths long;
-    extends = extends_more (paths_of old.bindings) (paths_of mid.bindings) (paths_of items) h.extends more;
-    only = λ q c. ⊎_elim (λ d. ⊎_elim (λ k. inl k) (λ k. inr (first q k)) (h.only q d)) (λ k. inr (subst (Contains (p ∷ Inner p ∷ [])) k (tail_contained p (Inner p ∷ []) (Inner p) (head_contained (Inner p) []))))
-        (Contains-push_cases (paths_of mid.bindings) (Inner p) q (subst (λ ps. Contains ps q) paths c));
-    calls = h.calls;
-  },
-)
+pub inner_more : (old mid new : Numbered) (p : Path) (call value : BindingId) → Calls old mid p false call call → Numbers mid new (Inner (at (paths_of mid.bindings) call)) value → Calls old new p true call value
+inner_more old mid new p call value h m = record {
+  found = n.extends.kept call.0 p h.found;
+  value = n.found;
+  extends = extends_more (paths_of old.bindings) (paths_of mid.bindings) (paths_of new.bindings) h.extends n.extends;
+  only = λ q c. ⊎_elim (λ d. ⊎_elim (λ k. inl k) (λ k. inr (first q k)) (h.only q d)) (λ e. inr (subst (Contains (p ∷ Inner p ∷ [])) (sym e) (tail_contained p (Inner p ∷ []) (Inner p) (head_contained (Inner p) [])))) (n.only q c);
+  calls = n.calls ∙ h.calls;
+}
   where
-    p : Path
-    p = Called term (at_all (paths_of old.bindings) bs) (suc old.calls)
+    n : Numbers mid new (Inner p) value
+    n = subst (λ q. Numbers mid new (Inner q) value) (at_get (paths_of mid.bindings) call.0 p h.found) m
 
-    paths : paths_of items ≡ paths_of mid.bindings ++ Inner (next_call old term bs) ∷ []
-    paths = paths_more mid.bindings items (binding.MatchSome call) (Inner p) is (ap Inner (at_get (paths_of mid.bindings) call.0 p h.found))
-
-    more : Extends (paths_of mid.bindings) (paths_of items)
-    more = push_extends (paths_of mid.bindings) (paths_of items) (Inner p) paths
-
-    le : mid.calls ≤ mid.calls
-    le = omega arith
-
-    few : mid.calls ≤ length items
-    few = let c = b.counted in let l = one_longer mid.bindings items (binding.MatchSome call) is in omega arith
-
-    up : suc old.calls ≤ mid.calls
-    up = let e = h.calls in omega arith
-
-    first : (q : Path) → Contains (next_call old term bs ∷ []) q → Contains (next_call old term bs ∷ Inner (next_call old term bs) ∷ []) q
+    first : (q : Path) → Contains (p ∷ []) q → Contains (p ∷ Inner p ∷ []) q
     first q c = ⊎_elim (λ (e : p ≡ q). subst (Contains (p ∷ Inner p ∷ [])) e (head_contained p (Inner p ∷ []))) (λ d. absurd (none_contained q d)) (contained_cases p [] q c)
-
-    new : Contains (paths_of mid.bindings) (Inner (next_call old term bs)) → ⊥
-    new c = ⊎_elim (λ d. none_later old numbers (Inner p) mid.calls a up (λ e. omega arith) d) (λ d. ⊎_elim (λ (e : p ≡ Inner p). inner_no_call term (at_all (paths_of old.bindings) bs) (suc old.calls) (sym e)) (none_contained (Inner p)) (contained_cases p [] (Inner p) d)) (h.only (Inner p) c)

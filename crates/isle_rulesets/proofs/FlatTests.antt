@@ -15,8 +15,7 @@ use Rattle.isle_rulesets.specs.PatternTests.{is_equality}
 use Rattle.isle_rulesets.proofs.PlacedPaths.{there_once, append_once}
 use Rattle.isle_rulesets.proofs.FirstLaws.{firsts_from, firsts_keep, firsts_once, firsts_map, map_contains, map_from}
 use Rattle.isle_rulesets.proofs.LetLaws.{itself}
-use Rattle.isle_rulesets.proofs.RuleTests.{Stands, filter_cases, filter_keeps}
-use Rattle.isle_rulesets.proofs.VariablePlaces.{IsWithinArg, somewhere}
+use Rattle.isle_rulesets.proofs.RuleTests.{IsSomewhere, Stands, filter_cases, filter_keeps}
 
 -- a path that stands somewhere is there
 pub at_there : (ps : List Path) (b : ℕ) (p : Path) → (p ≡ Nowhere → ⊥) → get_or ps b Nowhere ≡ p → slice_get ps b ≡ Some p
@@ -24,8 +23,8 @@ at_there [] b p h e = absurd (h (sym e))
 at_there (q ∷ ps) zero p h e = ap Some e
 at_there (q ∷ ps) (suc b) p h e = at_there ps b p h e
 
-arg_there : (ps : List Path) (b : BindingId) → IsWithinArg (at ps b) → IsThere ps b
-arg_there ps b w = (at ps b, at_there ps b.0 (at ps b) (somewhere (at ps b) w) refl)
+place_there : (ps : List Path) (b : BindingId) → IsSomewhere (at ps b) → IsThere ps b
+place_there ps b w = (at ps b, at_there ps b.0 (at ps b) w refl)
 
 is_parts : (p q : Path) (c d : Constraint) → Is p c ≡ Is q d → (p ≡ q) × (c ≡ d)
 is_parts p q c d e = (cc, cc)
@@ -57,12 +56,12 @@ not_one a b e same = two_apart (eqb a.0 a.0) (itself a.0) (subst (λ (c : Bindin
 
 module _ (ps : List Path) (once : EachOnce ps) (ts : List Test) (stand : (t : Test) → Contains ts t → Stands t) where
   constraint_there : (cs : List (BindingId × Constraint)) (c : BindingId × Constraint) → map (is_test ps) cs ≡ filter is_constraint ts → Contains cs c → IsThere ps c.0
-  constraint_there cs c same k = arg_there ps c.0 (stand (is_test ps c) (filter_cases is_constraint ts (is_test ps c) (subst (λ us. Contains us (is_test ps c)) same (map_contains (is_test ps) cs c k))).0)
+  constraint_there cs c same k = place_there ps c.0 (stand (is_test ps c) (filter_cases is_constraint ts (is_test ps c) (subst (λ us. Contains us (is_test ps c)) same (map_contains (is_test ps) cs c k))).0)
 
   equal_there : (es : List (BindingId × BindingId)) (e : BindingId × BindingId) → map (equal_test ps) es ≡ filter is_equality ts → Contains es e → IsThere ps e.0 × IsThere ps e.1
   equal_there es e same k =
       let h = stand (equal_test ps e) (filter_cases is_equality ts (equal_test ps e) (subst (λ us. Contains us (equal_test ps e)) same (map_contains (equal_test ps) es e k))).0 in
-      (arg_there ps e.0 h.0, arg_there ps e.1 h.1)
+      (place_there ps e.0 h.0, place_there ps e.1 h.1)
 
   -- the constraints that stand first are those whose paths do
   pub constraints_first : (cs fs : List (BindingId × Constraint)) → map (is_test ps) cs ≡ filter is_constraint ts → AreFirsts [] cs fs → AreFirsts [] (filter is_constraint ts) (map (is_test ps) fs)

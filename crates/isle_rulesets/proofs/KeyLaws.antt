@@ -6,10 +6,11 @@ use Rattle.std.specs.Ordering.{is_eq, ordering_then, nat_cmp, int_cmp, bool_cmp}
 use Rattle.std.proofs.lemmas.Map.Lookups.{exact_unsigned, exact_signed}
 use Rattle.isle_core.specs.declared.BindingId.{BindingId}
 use Rattle.isle_core.specs.declared.Sym.{Sym}
+use Rattle.isle_core.specs.declared.TermId.{TermId}
 use Rattle.isle_core.specs.declared.TupleIndex.{TupleIndex}
 use Rattle.isle_core.specs.declared.TypeId.{TypeId}
 use Rattle.isle_core.specs.declared.VariantId.{VariantId}
-use Rattle.isle_core.specs.Path.{Path, Paths, MadeVariant, MadeStruct, VariantField, StructField, at, at_all}
+use Rattle.isle_core.specs.Path.{Path, Paths, Extracted, MadeVariant, MadeStruct, VariantField, StructField, Inner, Part, at, at_all}
 use Rattle.isle_core.specs.StandsFor.{EachOnce}
 use Rattle.isle_rulesets.specs.declared.keys.Key.{Key}
 use Rattle.isle_rulesets.specs.declared.keys.Key.TheVariants as key
@@ -71,6 +72,16 @@ extract_same a b i j e =
     let h = then_same (nat_cmp a.0 b.0) (nat_cmp i.0 j.0) e in
     ap (λ x. key.ExtractStruct x i) (number_same a b h.0) ∙ ap (key.ExtractStruct b) (field_same i j h.1)
 
+extractor_same : (s t : TermId) (a b : BindingId) → ordering_then (nat_cmp s.0 t.0) (nat_cmp a.0 b.0) ≡ Equal → key.Extractor s a ≡ key.Extractor t b
+extractor_same s t a b e =
+    let h = then_same (nat_cmp s.0 t.0) (nat_cmp a.0 b.0) e in
+    ap (λ x. key.Extractor x a) (ap (λ n. record { 0 = n }) (exact_unsigned s.0 t.0 h.0)) ∙ ap (key.Extractor t) (number_same a b h.1)
+
+tuple_same : (a b : BindingId) (i j : TupleIndex) → ordering_then (nat_cmp a.0 b.0) (nat_cmp i.0 j.0) ≡ Equal → key.MatchTuple a i ≡ key.MatchTuple b j
+tuple_same a b i j e =
+    let h = then_same (nat_cmp a.0 b.0) (nat_cmp i.0 j.0) e in
+    ap (λ x. key.MatchTuple x i) (number_same a b h.0) ∙ ap (key.MatchTuple b) (field_same i j h.1)
+
 variant_key_same : (s t : TypeId) (v w : VariantId) (xs ys : List BindingId) → ordering_then (nat_cmp s.0 t.0) (ordering_then (nat_cmp v.0 w.0) (parts_cmp xs ys)) ≡ Equal → key.MakeVariant s v xs ≡ key.MakeVariant t w ys
 variant_key_same s t v w xs ys e =
     let h = then_same (nat_cmp s.0 t.0) (ordering_then (nat_cmp v.0 w.0) (parts_cmp xs ys)) e in
@@ -87,10 +98,13 @@ key_equal (key.Argument a) (key.Argument b) e = ap key.Argument (exact_unsigned 
 key_equal (key.ConstBool a) (key.ConstBool b) e = ap key.ConstBool (bool_same a b e)
 key_equal (key.ConstInt s a) (key.ConstInt t b) e = const_same s t a b e
 key_equal (key.ConstPrim s) (key.ConstPrim t) e = ap key.ConstPrim (name_same s t e)
+key_equal (key.Extractor s a) (key.Extractor t b) e = extractor_same s t a b e
 key_equal (key.MatchVariant a v i) (key.MatchVariant b w j) e = match_same a b v w i j e
 key_equal (key.ExtractStruct a i) (key.ExtractStruct b j) e = extract_same a b i j e
 key_equal (key.MakeVariant s v xs) (key.MakeVariant t w ys) e = variant_key_same s t v w xs ys e
 key_equal (key.MakeStruct s xs) (key.MakeStruct t ys) e = struct_key_same s t xs ys e
+key_equal (key.MatchSome a) (key.MatchSome b) e = ap key.MatchSome (number_same a b e)
+key_equal (key.MatchTuple a i) (key.MatchTuple b j) e = tuple_same a b i j e
 key_equal k q e = cc
 
 eq_same : (o : Ordering) → is_eq o ≡ true → o ≡ Equal
@@ -134,6 +148,33 @@ extract_path_same ps a b i j once h k e =
     place : (p q : Path) (m n : ℕ) → StructField m p ≡ StructField n q → m ≡ n
     place p q m n f = cc
 
+extractor_path_same : (ps : List Path) (s t : TermId) (a b : BindingId) → EachOnce ps → IsThere ps a → IsThere ps b → Extracted s (at ps a) ≡ Extracted t (at ps b) → key.Extractor s a ≡ key.Extractor t b
+extractor_path_same ps s t a b once h k e = ap (λ x. key.Extractor x a) (term (at ps a) (at ps b) e) ∙ ap (key.Extractor t) (there_once ps a b once h k (inner (at ps a) (at ps b) e))
+  where
+    inner : (p q : Path) → Extracted s p ≡ Extracted t q → p ≡ q
+    inner p q f = cc
+
+    term : (p q : Path) → Extracted s p ≡ Extracted t q → s ≡ t
+    term p q f = cc
+
+some_path_same : (ps : List Path) (a b : BindingId) → EachOnce ps → IsThere ps a → IsThere ps b → Inner (at ps a) ≡ Inner (at ps b) → key.MatchSome a ≡ key.MatchSome b
+some_path_same ps a b once h k e = ap key.MatchSome (there_once ps a b once h k (inner (at ps a) (at ps b) e))
+  where
+    inner : (p q : Path) → Inner p ≡ Inner q → p ≡ q
+    inner p q f = cc
+
+tuple_path_same : (ps : List Path) (a b : BindingId) (i j : TupleIndex) → EachOnce ps → IsThere ps a → IsThere ps b → Part i.0 (at ps a) ≡ Part j.0 (at ps b) → key.MatchTuple a i ≡ key.MatchTuple b j
+tuple_path_same ps a b i j once h k e =
+    let source : a ≡ b = there_once ps a b once h k (inner (at ps a) (at ps b) i.0 j.0 e) in
+    let field : i ≡ j = tuple_index_same i j (place (at ps a) (at ps b) i.0 j.0 e) in
+    ap (λ x. key.MatchTuple x i) source ∙ ap (key.MatchTuple b) field
+  where
+    inner : (p q : Path) (m n : ℕ) → Part m p ≡ Part n q → p ≡ q
+    inner p q m n f = cc
+
+    place : (p q : Path) (m n : ℕ) → Part m p ≡ Part n q → m ≡ n
+    place p q m n f = cc
+
 variant_path_same : (ps : List Path) (s t : TypeId) (v w : VariantId) (xs ys : List BindingId) → EachOnce ps → AllByRecursion (IsThere ps) xs → AllByRecursion (IsThere ps) ys → MadeVariant s v (at_all ps xs) ≡ MadeVariant t w (at_all ps ys) → key.MakeVariant s v xs ≡ key.MakeVariant t w ys
 variant_path_same ps s t v w xs ys once h k e =
     let fields : xs ≡ ys = all_there_once ps xs ys once h k (inner (at_all ps xs) (at_all ps ys) e) in
@@ -165,10 +206,13 @@ path_same ps (key.Argument a) (key.Argument b) once h g e = cc
 path_same ps (key.ConstBool a) (key.ConstBool b) once h g e = cc
 path_same ps (key.ConstInt s a) (key.ConstInt t b) once h g e = cc
 path_same ps (key.ConstPrim s) (key.ConstPrim t) once h g e = cc
+path_same ps (key.Extractor s a) (key.Extractor t b) once h g e = extractor_path_same ps s t a b once h g e
 path_same ps (key.MatchVariant a v i) (key.MatchVariant b w j) once h g e = match_path_same ps a b v w i j once h g e
 path_same ps (key.ExtractStruct a i) (key.ExtractStruct b j) once h g e = extract_path_same ps a b i j once h g e
 path_same ps (key.MakeVariant s v xs) (key.MakeVariant t w ys) once h g e = variant_path_same ps s t v w xs ys once h g e
 path_same ps (key.MakeStruct s xs) (key.MakeStruct t ys) once h g e = struct_path_same ps s t xs ys once h g e
+path_same ps (key.MatchSome a) (key.MatchSome b) once h g e = some_path_same ps a b once h g e
+path_same ps (key.MatchTuple a i) (key.MatchTuple b j) once h g e = tuple_path_same ps a b i j once h g e
 path_same ps k q once h g e = cc
 
 -- ---- behind more paths
@@ -178,10 +222,13 @@ parts_kept ps qs (key.Argument a) x h = tt
 parts_kept ps qs (key.ConstBool a) x h = tt
 parts_kept ps qs (key.ConstInt s a) x h = tt
 parts_kept ps qs (key.ConstPrim s) x h = tt
+parts_kept ps qs (key.Extractor s a) x h = there_kept ps qs a x h
 parts_kept ps qs (key.MatchVariant a v i) x h = there_kept ps qs a x h
 parts_kept ps qs (key.ExtractStruct a i) x h = there_kept ps qs a x h
 parts_kept ps qs (key.MakeVariant s v xs) x h = all_there_kept ps qs xs x h
 parts_kept ps qs (key.MakeStruct s xs) x h = all_there_kept ps qs xs x h
+parts_kept ps qs (key.MatchSome a) x h = there_kept ps qs a x h
+parts_kept ps qs (key.MatchTuple a i) x h = there_kept ps qs a x h
 
 -- the path of a key stays
 pub path_kept : (ps qs : List Path) (k : Key) → Extends ps qs → HasParts ps k → key_path qs k ≡ key_path ps k
@@ -189,10 +236,13 @@ path_kept ps qs (key.Argument a) x h = refl
 path_kept ps qs (key.ConstBool a) x h = refl
 path_kept ps qs (key.ConstInt s a) x h = refl
 path_kept ps qs (key.ConstPrim s) x h = refl
+path_kept ps qs (key.Extractor s a) x h = ap (Extracted s) (at_same ps qs a x h)
 path_kept ps qs (key.MatchVariant a v i) x h = ap (VariantField v i.0) (at_same ps qs a x h)
 path_kept ps qs (key.ExtractStruct a i) x h = ap (StructField i.0) (at_same ps qs a x h)
 path_kept ps qs (key.MakeVariant s v xs) x h = ap (MadeVariant s v) (all_at_same ps qs xs x h)
 path_kept ps qs (key.MakeStruct s xs) x h = ap (MadeStruct s) (all_at_same ps qs xs x h)
+path_kept ps qs (key.MatchSome a) x h = ap Inner (at_same ps qs a x h)
+path_kept ps qs (key.MatchTuple a i) x h = ap (Part i.0) (at_same ps qs a x h)
 
 -- no key has the path of a call
 pub not_called : (ps : List Path) (n : ℕ) (k : Key) → IsCallUpTo n (key_path ps k) → ⊥
@@ -200,7 +250,10 @@ not_called ps n (key.Argument a) h = h
 not_called ps n (key.ConstBool a) h = h
 not_called ps n (key.ConstInt s a) h = h
 not_called ps n (key.ConstPrim s) h = h
+not_called ps n (key.Extractor s a) h = h
 not_called ps n (key.MatchVariant a v i) h = h
 not_called ps n (key.ExtractStruct a i) h = h
 not_called ps n (key.MakeVariant s v xs) h = h
 not_called ps n (key.MakeStruct s xs) h = h
+not_called ps n (key.MatchSome a) h = h
+not_called ps n (key.MatchTuple a i) h = h

@@ -2,6 +2,7 @@ pub mod PlacedPaths
 pub mod KeyLaws
 pub mod NumberingLaws
 pub mod PatternTestLaws
+pub mod OpenedLaws
 pub mod FirstLaws
 pub mod VariablePlaces
 pub mod RuleTests

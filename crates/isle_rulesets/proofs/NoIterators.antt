@@ -1,6 +1,7 @@
 -- A rule of the built forms calls no term that answers several times.
 use Rattle.std.proofs.Common.{◌≡◌, ℕ, suc, ◌+◌, List, [], ◌∷◌, ◌++◌, Bool, true, false, cond, eqb, Option, Some, None, refl, sym, ap, ◌∙◌, subst}
 use Rattle.std.specs.Prelude.{IsSomeAnd, filter, slice_get}
+use Rattle.std.specs.List.{AllByRecursion}
 use Rattle.std.proofs.lemmas.List.Elements.{filter-append, recursion_from_All}
 use Rattle.isle_core.specs.declared.TermId.{TermId}
 use Rattle.isle_core.specs.declared.types.Term.{Term}
@@ -12,17 +13,19 @@ use Rattle.isle_core.specs.Expr.{Expr, Exprs, NoExpr, AnExpr, LetBindings, NoBin
 use Rattle.isle_core.specs.Making.{Making, MakesVariant, MakesStruct, MakesNothing, making}
 use Rattle.isle_core.specs.Pattern as pattern
 use Rattle.isle_core.specs.Pattern.{Pattern, Patterns, NoPattern, APattern}
-use Rattle.isle_core.specs.Path.{Path, Paths, Arg, VariantField, StructField}
-use Rattle.isle_core.specs.Calling.{calling, calling_of, calling_by, kind_of, pure_callee, answers_often, is_fallible, impure, impure_all, impure_bindings}
+use Rattle.isle_core.specs.Path.{Path, Paths, Arg, Extracted, Inner}
+use Rattle.isle_core.specs.Opening.{Opening, AsVariant, AsStruct, ByExtractor, opening, part_path}
+use Rattle.isle_core.specs.Calling.{Calling, calling, extracting, calling_of, calling_by, kind_of, pure_callee, answers_often, is_fallible, impure, impure_all, impure_bindings}
 use Rattle.isle_core.specs.Terms.{impure_callee}
-use Rattle.isle_core.specs.Tests.{Places, field_path, rule_places}
+use Rattle.isle_core.specs.Tests.{Places, no_places, args_after, rule_places}
+use Rattle.isle_core.proofs.SetMeans.{places_without}
 use Rattle.isle_core.specs.RightSide.{path_or, term_path, answer_path, call_path, path, paths, let_places}
 use Rattle.isle_core.specs.Match.{with}
-use Rattle.isle_core.specs.RulePaths.{pattern_paths, parts_paths, each_paths, args_paths, with_inner, expr_paths, exprs_paths, bindings_paths}
+use Rattle.isle_core.specs.RulePaths.{opening_paths, pattern_paths, parts_paths, each_paths, args_paths, iflets_paths, rule_paths, with_inner, expr_paths, exprs_paths, bindings_paths}
 use Rattle.isle_core.specs.Iterators.{calls_multi, rule_iterators}
-use Rattle.isle_core.specs.BuiltRule.{IsBuiltPattern, IsBuiltRule, IsBuiltKind, HasBuiltTerms, AllHaveBuiltTerms, BindingsHaveBuiltTerms, CallsBuiltTerms}
+use Rattle.isle_core.specs.BuiltRule.{IsBuiltPattern, AreBuiltPatterns, IsBuiltRule, IsBuiltKind, HasBuiltTerms, AllHaveBuiltTerms, BindingsHaveBuiltTerms, CallsBuiltTerms}
 use Rattle.isle_core.specs.Rule.{Environment, Rule}
-use Rattle.isle_rulesets.proofs.VariablePlaces.{IsWithinArg, place_within}
+use Rattle.isle_rulesets.proofs.VariablePlaces.{IsLoneOpening, opening_lone, call_lone, part_lone, place_lone}
 
 -- a built kind answers at most once
 once_by : (env : Environment) (t : Term) (k : TermKind) → IsBuiltKind k → answers_often (calling_by (kind_of k) (impure_callee env t k) (pure_callee env t k)) ≡ false
@@ -52,12 +55,6 @@ call_none env (MakesStruct ty) term ps n false e h = rw e refl
 call_none env MakesNothing term ps n true e h = rw (e, h) refl
 call_none env MakesNothing term ps n false e h = rw (e, h) refl
 
--- nor is what stands within an argument
-within_none : (env : Environment) (p : Path) → IsWithinArg p → calls_multi env p ≡ false
-within_none env (VariantField variant i q) w = refl
-within_none env (StructField i q) w = refl
-within_none env p w = subst (λ q. calls_multi env q ≡ false) w.1 refl
-
 skipped : (env : Environment) (p : Path) (ps : List Path) → calls_multi env p ≡ false → filter (calls_multi env) (p ∷ ps) ≡ filter (calls_multi env) ps
 skipped env p ps e = ap (λ b. cond b (p ∷ filter (calls_multi env) ps) (filter (calls_multi env) ps)) e
 
@@ -73,37 +70,44 @@ variable_none env o h = skipped env (path_or o) [] (variable_plain env o h)
 none_both : (env : Environment) (ps qs : List Path) → filter (calls_multi env) ps ≡ [] → filter (calls_multi env) qs ≡ [] → filter (calls_multi env) (ps ++ qs) ≡ []
 none_both env ps qs h k = filter-append (calls_multi env) ps qs ∙ ap (λ rs. rs ++ filter (calls_multi env) qs) h ∙ k
 
-field_none : (env : Environment) (mk : Making) (i : ℕ) (p : Path) → calls_multi env (field_path mk i p) ≡ false
-field_none env (MakesVariant ty variant) i p = refl
-field_none env (MakesStruct ty) i p = refl
-field_none env MakesNothing i p = refl
+-- nor is an extractor that answers at most once
+answered_none : (env : Environment) (term : TermId) (c : Calling) (p : Path) (b : Bool) → is_fallible c ≡ b → c ≡ extracting env term → answers_often c ≡ false → filter (calls_multi env) (with_inner c (Extracted term p)) ≡ []
+answered_none env term c p true f e o = rw f (skipped env (Extracted term p) (Inner (Extracted term p) ∷ []) (call_lone env term c p e o).1)
+answered_none env term c p false f e o = rw f (skipped env (Extracted term p) [] (call_lone env term c p e o).1)
+
+opening_none : (env : Environment) (opened : Opening) (p : Path) → IsLoneOpening env opened → filter (calls_multi env) (opening_paths opened p) ≡ []
+opening_none env (AsVariant ty variant) p o = refl
+opening_none env (AsStruct ty) p o = refl
+opening_none env (ByExtractor term c count) p o = answered_none env term c p (is_fallible c) refl o.0 o.1
 
 -- nothing that a pattern takes apart is one
 mutual
-  pattern_none : (q : Pattern) (env : Environment) (p : Path) → filter (calls_multi env) (pattern_paths env q p) ≡ []
-  pattern_none (pattern.Term ty term qs) env p = parts_none qs env (making env term) 0 p
-  pattern_none (pattern.Var ty x) env p = refl
-  pattern_none (pattern.ConstBool v) env p = refl
-  pattern_none (pattern.ConstInt ty v) env p = refl
-  pattern_none (pattern.ConstPrim ty name) env p = refl
-  pattern_none (pattern.Wildcard ty) env p = refl
-  pattern_none (pattern.BindPattern ty x q) env p = pattern_none q env p
-  pattern_none (pattern.And ty qs) env p = each_none qs env p
+  pattern_none : (q : Pattern) (env : Environment) (p : Path) → IsBuiltPattern env.terms q → filter (calls_multi env) (pattern_paths env q p) ≡ []
+  pattern_none (pattern.Term ty term qs) env p b =
+      let o = opening_lone env term b.0 in
+      none_both env (opening_paths (opening env term) p) (parts_paths env (opening env term) qs 0 p) (opening_none env (opening env term) p o) (parts_none qs env (opening env term) 0 p o b.2)
+  pattern_none (pattern.Var ty x) env p b = refl
+  pattern_none (pattern.ConstBool v) env p b = refl
+  pattern_none (pattern.ConstInt ty v) env p b = refl
+  pattern_none (pattern.ConstPrim ty name) env p b = refl
+  pattern_none (pattern.Wildcard ty) env p b = refl
+  pattern_none (pattern.BindPattern ty x q) env p b = pattern_none q env p b
+  pattern_none (pattern.And ty qs) env p b = each_none qs env p b
 
-  each_none : (qs : Patterns) (env : Environment) (p : Path) → filter (calls_multi env) (each_paths env qs p) ≡ []
-  each_none NoPattern env p = refl
-  each_none (APattern q qs) env p = none_both env (pattern_paths env q p) (each_paths env qs p) (pattern_none q env p) (each_none qs env p)
+  each_none : (qs : Patterns) (env : Environment) (p : Path) → AreBuiltPatterns env.terms qs → filter (calls_multi env) (each_paths env qs p) ≡ []
+  each_none NoPattern env p b = refl
+  each_none (APattern q qs) env p b = none_both env (pattern_paths env q p) (each_paths env qs p) (pattern_none q env p b.0) (each_none qs env p b.1)
 
-  parts_none : (qs : Patterns) (env : Environment) (mk : Making) (i : ℕ) (p : Path) → filter (calls_multi env) (parts_paths env mk qs i p) ≡ []
-  parts_none NoPattern env mk i p = refl
-  parts_none (APattern q qs) env mk i p =
-      skipped env (field_path mk i p) (pattern_paths env q (field_path mk i p) ++ parts_paths env mk qs (suc i) p) (field_none env mk i p)
-      ∙ none_both env (pattern_paths env q (field_path mk i p)) (parts_paths env mk qs (suc i) p) (pattern_none q env (field_path mk i p)) (parts_none qs env mk (suc i) p)
+  parts_none : (qs : Patterns) (env : Environment) (opened : Opening) (i : ℕ) (p : Path) → IsLoneOpening env opened → AreBuiltPatterns env.terms qs → filter (calls_multi env) (parts_paths env opened qs i p) ≡ []
+  parts_none NoPattern env opened i p o b = refl
+  parts_none (APattern q qs) env opened i p o b =
+      skipped env (part_path opened i p) (pattern_paths env q (part_path opened i p) ++ parts_paths env opened qs (suc i) p) (part_lone env opened i p o).1
+      ∙ none_both env (pattern_paths env q (part_path opened i p)) (parts_paths env opened qs (suc i) p) (pattern_none q env (part_path opened i p) b.0) (parts_none qs env opened (suc i) p o b.1)
 
 -- nor are arguments
-args_none : (env : Environment) (qs : List Pattern) (i : ℕ) → filter (calls_multi env) (args_paths env qs i) ≡ []
-args_none env [] i = refl
-args_none env (q ∷ qs) i = none_both env (pattern_paths env q (Arg i)) (args_paths env qs (suc i)) (pattern_none q env (Arg i)) (args_none env qs (suc i))
+args_none : (env : Environment) (qs : List Pattern) (i : ℕ) → AllByRecursion (IsBuiltPattern env.terms) qs → filter (calls_multi env) (args_paths env qs i) ≡ []
+args_none env [] i b = refl
+args_none env (q ∷ qs) i b = none_both env (pattern_paths env q (Arg i)) (args_paths env qs (suc i)) (pattern_none q env (Arg i) b.0) (args_none env qs (suc i) b.1)
 
 -- no variable stands at one
 abbrev ArePlain : Environment → Places → Type 0
@@ -166,8 +170,14 @@ mutual
   exprs_none (AnExpr e es) env terms places n same w i =
       none_both env (expr_paths env e places n) (exprs_paths env es places (n + impure env e)) (expr_none e env terms places n same w i.0) (exprs_none es env terms places (n + impure env e) same w i.1)
 
+-- the paths of a rule without conditions
+pub paths_without : (env : Environment) (r : Rule) (n : ℕ) → r.iflets ≡ [] → rule_paths env r n ≡ args_paths env r.args 0 ++ expr_paths env r.rhs (rule_places env r) n
+paths_without env r n e = ap (λ is. args_paths env r.args 0 ++ (iflets_paths env is (args_after env r.args 0 no_places) ++ expr_paths env r.rhs (rule_places env r) n)) e
+
 -- none in a rule
 pub none_in_rule : (env : Environment) (terms : List Term) (r : Rule) (n : ℕ) → env.terms ≡ terms → IsBuiltRule env.terms r → CallsBuiltTerms terms r → rule_iterators env r n ≡ []
 none_in_rule env terms r n same b i =
-    none_both env (args_paths env r.args 0) (expr_paths env r.rhs (rule_places env r) n) (args_none env r.args 0)
-    (expr_none r.rhs env terms (rule_places env r) n same (λ x p e. within_none env p (place_within env r.args x p (recursion_from_All (IsBuiltPattern env.terms) r.args b.args) e)) i)
+    let args = recursion_from_All (IsBuiltPattern env.terms) r.args b.args in
+    ap (filter (calls_multi env)) (paths_without env r n b.iflets)
+    ∙ none_both env (args_paths env r.args 0) (expr_paths env r.rhs (rule_places env r) n) (args_none env r.args 0 args)
+    (expr_none r.rhs env terms (rule_places env r) n same (subst (ArePlain env) (sym (places_without env r b.iflets)) (λ x p e. (place_lone env r.args args x p e).1)) i)

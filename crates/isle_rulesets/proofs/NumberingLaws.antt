@@ -88,10 +88,13 @@ map_others count old new k (key.Argument i) b false none u e is = ap (cond (nat_
 map_others count old new k (key.ConstBool v) b false none u e is = u.0 (key.ConstBool v) ∙ rw e refl
 map_others count old new k (key.ConstInt s v) b false none u e is = u.0 (key.ConstInt s v) ∙ rw e refl
 map_others count old new k (key.ConstPrim s) b false none u e is = u.0 (key.ConstPrim s) ∙ rw e refl
+map_others count old new k (key.Extractor s a) b false none u e is = u.0 (key.Extractor s a) ∙ rw e refl
 map_others count old new k (key.MatchVariant a v i) b false none u e is = u.0 (key.MatchVariant a v i) ∙ rw e refl
 map_others count old new k (key.ExtractStruct a i) b false none u e is = u.0 (key.ExtractStruct a i) ∙ rw e refl
 map_others count old new k (key.MakeVariant s v xs) b false none u e is = u.0 (key.MakeVariant s v xs) ∙ rw e refl
 map_others count old new k (key.MakeStruct s xs) b false none u e is = u.0 (key.MakeStruct s xs) ∙ rw e refl
+map_others count old new k (key.MatchSome a) b false none u e is = u.0 (key.MatchSome a) ∙ rw e refl
+map_others count old new k (key.MatchTuple a i) b false none u e is = u.0 (key.MatchTuple a i) ∙ rw e refl
 
 map_at : (count : ℕ) (old new : BTreeMap Key BindingId) (k : Key) (b : BindingId) → known count old k ≡ None → Updates key_cmp old new k (Some b) → known count new k ≡ Some b
 map_at count old new (key.Argument i) b none u = behind (nat_lt i count) none
@@ -102,10 +105,13 @@ map_at count old new (key.Argument i) b none u = behind (nat_lt i count) none
 map_at count old new (key.ConstBool v) b none u = u.1
 map_at count old new (key.ConstInt s v) b none u = u.1
 map_at count old new (key.ConstPrim s) b none u = u.1
+map_at count old new (key.Extractor s a) b none u = u.1
 map_at count old new (key.MatchVariant a v i) b none u = u.1
 map_at count old new (key.ExtractStruct a i) b none u = u.1
 map_at count old new (key.MakeVariant s v xs) b none u = u.1
 map_at count old new (key.MakeStruct s xs) b none u = u.1
+map_at count old new (key.MatchSome a) b none u = u.1
+map_at count old new (key.MatchTuple a i) b none u = u.1
 
 -- a key more in the map
 pub map_puts : (count : ℕ) (old new : BTreeMap Key BindingId) (k : Key) (b : BindingId) → known count old k ≡ None → Updates key_cmp old new k (Some b) → Puts (known count old) (known count new) k b
@@ -124,10 +130,13 @@ argument_others count numbers (key.Argument j) false e = ap (λ b. cond b (Some 
 argument_others count numbers (key.ConstBool v) false e = refl
 argument_others count numbers (key.ConstInt s v) false e = refl
 argument_others count numbers (key.ConstPrim s) false e = refl
+argument_others count numbers (key.Extractor s a) false e = refl
 argument_others count numbers (key.MatchVariant a v i) false e = refl
 argument_others count numbers (key.ExtractStruct a i) false e = refl
 argument_others count numbers (key.MakeVariant s v xs) false e = refl
 argument_others count numbers (key.MakeStruct s xs) false e = refl
+argument_others count numbers (key.MatchSome a) false e = refl
+argument_others count numbers (key.MatchTuple a i) false e = refl
 
 argument_put : (count : ℕ) (numbers : BTreeMap Key BindingId) → Puts (known count numbers) (known (suc count) numbers) (key.Argument count) (record { 0 = count })
 argument_put count numbers = record { at = rw (last_below count) refl; others = λ q. argument_others count numbers q (is_eq (key_cmp (key.Argument count) q)) refl }
@@ -140,10 +149,13 @@ argument_puts count numbers number (key.Argument i) is =
 argument_puts count numbers number (key.ConstBool v) is = absurd cc
 argument_puts count numbers number (key.ConstInt s v) is = absurd cc
 argument_puts count numbers number (key.ConstPrim s) is = absurd cc
+argument_puts count numbers number (key.Extractor s a) is = absurd cc
 argument_puts count numbers number (key.MatchVariant a v i) is = absurd cc
 argument_puts count numbers number (key.ExtractStruct a i) is = absurd cc
 argument_puts count numbers number (key.MakeVariant s v xs) is = absurd cc
 argument_puts count numbers number (key.MakeStruct s xs) is = absurd cc
+argument_puts count numbers number (key.MatchSome a) is = absurd cc
+argument_puts count numbers number (key.MatchTuple a i) is = absurd cc
 
 -- what a numbering is behind a new key
 pub numbered_more : (old : Numbered) (items : List Binding) (numbers new : Key → Option BindingId) (k : Key) (n : ℕ) → AreNumbered old numbers → HasParts (paths_of old.bindings) k → numbers k ≡ None → n ≡ length old.bindings → items ≡ old.bindings ++ key_binding k ∷ []
@@ -209,10 +221,13 @@ known_stays count numbers new (key.Argument i) u = ap (λ es. cond (nat_lt i cou
 known_stays count numbers new (key.ConstBool v) u = ap (lookup (is_at (key_cmp (key.ConstBool v)))) u
 known_stays count numbers new (key.ConstInt s v) u = ap (lookup (is_at (key_cmp (key.ConstInt s v)))) u
 known_stays count numbers new (key.ConstPrim s) u = ap (lookup (is_at (key_cmp (key.ConstPrim s)))) u
+known_stays count numbers new (key.Extractor s a) u = ap (lookup (is_at (key_cmp (key.Extractor s a)))) u
 known_stays count numbers new (key.MatchVariant a v i) u = ap (lookup (is_at (key_cmp (key.MatchVariant a v i)))) u
 known_stays count numbers new (key.ExtractStruct a i) u = ap (lookup (is_at (key_cmp (key.ExtractStruct a i)))) u
 known_stays count numbers new (key.MakeVariant s v xs) u = ap (lookup (is_at (key_cmp (key.MakeVariant s v xs)))) u
 known_stays count numbers new (key.MakeStruct s xs) u = ap (lookup (is_at (key_cmp (key.MakeStruct s xs)))) u
+known_stays count numbers new (key.MatchSome a) u = ap (lookup (is_at (key_cmp (key.MatchSome a)))) u
+known_stays count numbers new (key.MatchTuple a i) u = ap (lookup (is_at (key_cmp (key.MatchTuple a i)))) u
 
 without_last : {A : Type 0} (xs : List A) (y : A) → take (length xs) (xs ++ y ∷ []) ≡ xs
 without_last [] y = refl

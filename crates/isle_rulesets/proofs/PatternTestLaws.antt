@@ -9,33 +9,32 @@ use Rattle.isle_core.specs.declared.Sym.{Sym}
 use Rattle.isle_core.specs.declared.TypeId.{TypeId}
 use Rattle.isle_core.specs.declared.VarId.{VarId}
 use Rattle.isle_core.specs.declared.TermId.{TermId}
-use Rattle.isle_core.specs.declared.TupleIndex.{TupleIndex}
 use Rattle.isle_core.specs.declared.types.Term.{Term}
 use Rattle.isle_core.specs.declared.rules.Pattern.{Pattern as CodePattern}
 use Rattle.isle_core.specs.declared.rule_sets.Constraint.{Constraint}
 use Rattle.isle_core.specs.declared.rule_sets.Constraint.TheVariants as constraint
-use Rattle.isle_core.specs.Making.{Making, making_in}
+use Rattle.isle_core.specs.Opening.{opening, part_path}
 use Rattle.isle_core.specs.Pattern as pure
 use Rattle.isle_core.specs.Pattern.{Pattern, Patterns, NoPattern, APattern}
 use Rattle.isle_core.specs.Path.{Path, Arg, at, paths_of}
-use Rattle.isle_core.specs.RulePaths.{pattern_paths, parts_paths, each_paths, args_paths}
-use Rattle.isle_core.specs.Tests.{Test, Is, Places, no_places, met_tests, met_after, made_test, field_path, tests, parts_tests, each_tests, after, after_parts, after_each, args_tests, args_after}
+use Rattle.isle_core.specs.RulePaths.{opening_paths, pattern_paths, parts_paths, each_paths, args_paths}
+use Rattle.isle_core.specs.Tests.{Test, Is, Places, no_places, met_tests, met_after, opening_tests, tests, parts_tests, each_tests, after, after_parts, after_each, args_tests, args_after}
 use Rattle.isle_core.specs.RuleViews.{pattern, patterns_of}
 use Rattle.isle_core.specs.Rule.{Environment}
 use Rattle.isle_core.specs.BuiltRule.{IsBuiltPattern, AreBuiltPatterns, count}
 use Rattle.isle_core.proofs.Contained.{head_contained, contained_cases, none_contained}
 use Rattle.isle_rulesets.specs.declared.pattern_tests.PatternTests.{PatternTests}
-use Rattle.isle_rulesets.specs.declared.made.Made.{Made}
-use Rattle.isle_rulesets.specs.declared.made.Made.TheVariants as made
-use Rattle.isle_rulesets.specs.Keys.{key_path, IsThere, HasParts}
-use Rattle.isle_rulesets.specs.Made.{making_of, constraint_of, field_key}
+use Rattle.isle_rulesets.specs.declared.opening.Opened.{Opened}
+use Rattle.isle_rulesets.specs.declared.opening.Opened.TheVariants as opened
+use Rattle.isle_rulesets.specs.Keys.{IsThere}
+use Rattle.isle_rulesets.specs.Opened.{opened_part, IsOpenedThere, Opens}
 use Rattle.isle_rulesets.specs.Numbering.{Numbered, Extends, Joins, Numbers}
-use Rattle.isle_rulesets.specs.PatternTests.{HasTests, Reads, Takes, TakesEach, TakesParts, TakesMade, TakesArguments, NumbersPatterns}
-use Rattle.isle_rulesets.proofs.PlacedPaths.{extends_self, extends_more, at_kept, contains_there, contains_kept}
+use Rattle.isle_rulesets.specs.PatternTests.{HasTests, Reads, Takes, TakesEach, TakesParts, TakesTerm, TakesArguments, NumbersPatterns}
+use Rattle.isle_rulesets.proofs.PlacedPaths.{extends_self, extends_more, at_kept, there_kept, contains_there, contains_kept}
 
 -- ---- paths that join
 
-joins_self : (n : Numbered) → Joins n n []
+pub joins_self : (n : Numbered) → Joins n n []
 joins_self n = record { extends = extends_self (paths_of n.bindings); only = λ p c. inl c; all = λ p c. absurd (none_contained p c); calls = refl }
 
 joins_then : (a b c : Numbered) (ps qs : List Path) → Joins a b ps → Joins b c qs → Joins a c (ps ++ qs)
@@ -46,7 +45,7 @@ joins_then a b c ps qs g h = record {
   calls = h.calls ∙ g.calls;
 }
 
-joins_one : (old new : Numbered) (p : Path) (b : BindingId) → Numbers old new p b → Joins old new (p ∷ [])
+pub joins_one : (old new : Numbered) (p : Path) (b : BindingId) → Numbers old new p b → Joins old new (p ∷ [])
 joins_one old new p b n = record {
   extends = n.extends;
   only = λ q c. ⊎_elim (λ d. inl d) (λ e. inr (subst (Contains (p ∷ [])) (sym e) (head_contained p []))) (n.only q c);
@@ -56,10 +55,10 @@ joins_one old new p b n = record {
 
 -- ---- one step after another
 
-reads_self : (n : Numbered) (d : PatternTests) → Reads n n d d [] (λ places. places) (λ places. [])
+pub reads_self : (n : Numbered) (d : PatternTests) → Reads n n d d [] (λ places. places) (λ places. [])
 reads_self n d = record { joins = joins_self n; gathers = λ qs x places ts h. subst (λ us. HasTests qs places us d) (sym (append-nil ts)) h }
 
-reads_then : (a b c : Numbered) (d e f : PatternTests) (ps qs : List Path) (behind then : Places → Places) (more others : Places → List Test) → Reads a b d e ps behind more → Reads b c e f qs then others
+pub reads_then : (a b c : Numbered) (d e f : PatternTests) (ps qs : List Path) (behind then : Places → Places) (more others : Places → List Test) → Reads a b d e ps behind more → Reads b c e f qs then others
     → Reads a c d f (ps ++ qs) (λ places. then (behind places)) (λ places. more places ++ others (behind places))
 reads_then a b c d e f ps qs behind then more others g h = record {
   joins = joins_then a b c ps qs g.joins h.joins;
@@ -67,14 +66,14 @@ reads_then a b c d e f ps qs behind then more others g h = record {
       (h.gathers rs x (behind places) (ts ++ more places) (g.gathers rs (extends_more (paths_of b.bindings) (paths_of c.bindings) rs h.joins.extends x) places ts k));
 }
 
-reads_behind : (a b c : Numbered) (d e : PatternTests) (p : Path) (n : BindingId) (ps : List Path) (behind : Places → Places) (more : Places → List Test) → Numbers a b p n → Reads b c d e ps behind more → Reads a c d e (p ∷ ps) behind more
+pub reads_behind : (a b c : Numbered) (d e : PatternTests) (p : Path) (n : BindingId) (ps : List Path) (behind : Places → Places) (more : Places → List Test) → Numbers a b p n → Reads b c d e ps behind more → Reads a c d e (p ∷ ps) behind more
 reads_behind a b c d e p n ps behind more g h = record { joins = joins_then a b c (p ∷ []) ps (joins_one a b p n g) h.joins; gathers = h.gathers }
 
 -- what the code says of a step on the path of a number
 abbrev pub Steps : PatternTests → PatternTests → BindingId → (Path → Places → Places) → (Path → Places → List Test) → Type 0
 Steps d e b behind more = (ps : List Path) (places : Places) (ts : List Test) → HasTests ps places ts d → HasTests ps (behind (at ps b) places) (ts ++ more (at ps b) places) e
 
-reads_step : (n : Numbered) (d e : PatternTests) (b : BindingId) (p : Path) (behind : Path → Places → Places) (more : Path → Places → List Test) → slice_get (paths_of n.bindings) b.0 ≡ Some p → Steps d e b behind more → Reads n n d e [] (behind p) (more p)
+pub reads_step : (n : Numbered) (d e : PatternTests) (b : BindingId) (p : Path) (behind : Path → Places → Places) (more : Path → Places → List Test) → slice_get (paths_of n.bindings) b.0 ≡ Some p → Steps d e b behind more → Reads n n d e [] (behind p) (more p)
 reads_step n d e b p behind more there h = record {
   joins = joins_self n;
   gathers = λ qs x places ts g. subst (λ q. HasTests qs (behind q places) (ts ++ more q places) e) (at_kept (paths_of n.bindings) qs b p x there) (h qs places ts g);
@@ -130,69 +129,69 @@ pub takes_and : {T E : Type 0} (r : Result T E) (terms : List Term) (old new : N
 takes_and (Err o) terms old new d e q b ty qs is h = tt
 takes_and (Ok o) terms old new d e q b ty qs is h = subst (λ s. TakesIn terms old new d e s b) (sym is) h
 
--- what the code says of what a term makes
-abbrev pub TakesMadeIn : List Term → Numbered → Numbered → PatternTests → PatternTests → Making → Patterns → BindingId → Type 0
-TakesMadeIn terms old new d e mk qs b = (env : Environment) → env.terms ≡ terms → TakesMade env old new d e mk qs b
-
-pub takes_term : {T E : Type 0} (r : Result T E) (terms : List Term) (old new : Numbered) (d e : PatternTests) (q : Pattern) (b : BindingId) (ty : TypeId) (term : TermId) (qs : Patterns) → q ≡ pure.Term ty term qs
-    → OnOk r (TakesMadeIn terms old new d e (making_in terms term) qs b) → OnOk r (TakesIn terms old new d e q b)
-takes_term (Err o) terms old new d e q b ty term qs is h = tt
-takes_term (Ok o) terms old new d e q b ty term qs is h = λ env same p there.
-    subst (λ s. Reads old new d e (pattern_paths env s p) (after env s p) (tests env s p)) (sym is)
-    (subst (λ ts. Reads old new d e (parts_paths env (making_in ts term) qs 0 p) (after_parts env (making_in ts term) qs 0 p) (λ places. made_test (making_in ts term) p ∷ parts_tests env (making_in ts term) qs 0 p places)) (sym same) (h env same p there))
-
--- ---- what a term makes
-
--- wherever the rest of the parts is taken, the whole was
-pub record MadeSoFar (terms : List Term) (old now : Numbered) (d e : PatternTests) (mk : Making) (all rest : Patterns) (i : ℕ) (b : BindingId) : Type 0 where
-  pub extends : Extends (paths_of old.bindings) (paths_of now.bindings)
-  pub whole : (env : Environment) → env.terms ≡ terms → (p : Path) → slice_get (paths_of old.bindings) b.0 ≡ Some p → (new : Numbered) (f : PatternTests) → TakesParts env now new e f mk rest i p
-      → Reads old new d f (parts_paths env mk all 0 p) (after_parts env mk all 0 p) (λ places. made_test mk p ∷ parts_tests env mk all 0 p places)
-
-made_tested : (m : Made) (p : Path) → made_test (making_of m) p ≡ Is p (constraint_of m)
-made_tested (made.Variant ty variant) p = refl
-made_tested (made.Struct ty) p = refl
-
--- behind the test of the whole
-pub made_first : (terms : List Term) (n : Numbered) (d e : PatternTests) (m : Made) (all : Patterns) (b : BindingId) → Steps d e b (λ p places. places) (λ p places. Is p (constraint_of m) ∷ []) → MadeSoFar terms n n d e (making_of m) all all 0 b
-made_first terms n d e m all b h = record {
-  extends = extends_self (paths_of n.bindings);
-  whole = λ env same p there new f g.
-      subst (λ t. Reads n new d f (parts_paths env (making_of m) all 0 p) (after_parts env (making_of m) all 0 p) (λ places. t ∷ parts_tests env (making_of m) all 0 p places)) (sym (made_tested m p))
-      (reads_then n n new d e f [] (parts_paths env (making_of m) all 0 p) (λ places. places) (after_parts env (making_of m) all 0 p) (λ places. Is p (constraint_of m) ∷ []) (parts_tests env (making_of m) all 0 p) (reads_step n d e b p (λ q places. places) (λ q places. Is q (constraint_of m) ∷ []) there h) g);
-}
-
--- the key of a field has the path of the field
-field_key_path : (ps : List Path) (m : Made) (b : BindingId) (i : TupleIndex) → key_path ps (field_key m b i) ≡ field_path (making_of m) i.0 (at ps b)
-field_key_path ps (made.Variant ty variant) b i = refl
-field_key_path ps (made.Struct ty) b i = refl
-
-pub field_has_parts : (ps : List Path) (m : Made) (b : BindingId) (i : TupleIndex) → IsThere ps b → HasParts ps (field_key m b i)
-field_has_parts ps (made.Variant ty variant) b i h = h
-field_has_parts ps (made.Struct ty) b i h = h
-
 -- an environment of these terms and no more: what is known in each is so in it
 abbrev pub env_of : List Term → Environment
 env_of terms = record { types = record { syms = []; types = []; consts = [] }; terms = terms; rules = []; converters = [] }
 
+-- what the code says of what a term takes apart
+abbrev pub TakesTermIn : List Term → Numbered → Numbered → PatternTests → PatternTests → TermId → Patterns → BindingId → Type 0
+TakesTermIn terms old new d e term qs b = (env : Environment) → env.terms ≡ terms → TakesTerm env old new d e term qs b
+
+pub takes_term : {T E : Type 0} (r : Result T E) (terms : List Term) (old new : Numbered) (d e : PatternTests) (q : Pattern) (b : BindingId) (ty : TypeId) (term : TermId) (qs : Patterns) → q ≡ pure.Term ty term qs
+    → OnOk r (TakesTermIn terms old new d e term qs b) → OnOk r (TakesIn terms old new d e q b)
+takes_term (Err o) terms old new d e q b ty term qs is h = tt
+takes_term (Ok o) terms old new d e q b ty term qs is h = λ env same p there. subst (λ s. Reads old new d e (pattern_paths env s p) (after env s p) (tests env s p)) (sym is) (h env same p there)
+
+-- ---- what a term takes apart
+
+-- the parts stand where this says
+abbrev pub PartsStand : Environment → Numbered → TermId → Path → Opened → Type 0
+PartsStand env now term p o = (ps : List Path) → Extends (paths_of now.bindings) ps → (i : ℕ) → opened_part ps o i ≡ part_path (opening env term) i p
+
+-- wherever the rest of the parts is taken, the whole was
+pub record OpenedSoFar (terms : List Term) (old now : Numbered) (d e : PatternTests) (term : TermId) (all rest : Patterns) (i : ℕ) (b : BindingId) (o : Opened) : Type 0 where
+  pub extends : Extends (paths_of old.bindings) (paths_of now.bindings)
+  pub there : IsOpenedThere (paths_of now.bindings) o
+  pub parts : (env : Environment) → env.terms ≡ terms → (p : Path) → slice_get (paths_of old.bindings) b.0 ≡ Some p → PartsStand env now term p o
+  pub whole : (env : Environment) → env.terms ≡ terms → (p : Path) → slice_get (paths_of old.bindings) b.0 ≡ Some p → (new : Numbered) (f : PatternTests) → TakesParts env now new e f (opening env term) rest i p
+      → Reads old new d f (opening_paths (opening env term) p ++ parts_paths env (opening env term) all 0 p) (after_parts env (opening env term) all 0 p) (λ places. opening_tests (opening env term) p ++ parts_tests env (opening env term) all 0 p places)
+
+opened_kept : (ps qs : List Path) (o : Opened) → Extends ps qs → IsOpenedThere ps o → IsOpenedThere qs o
+opened_kept ps qs (opened.Made m b) x h = there_kept ps qs b x h
+opened_kept ps qs (opened.Result b) x h = there_kept ps qs b x h
+opened_kept ps qs (opened.Results b) x h = there_kept ps qs b x h
+
+-- behind what the whole calls and tests
+pub opened_first : (terms : List Term) (old now : Numbered) (d e : PatternTests) (term : TermId) (all : Patterns) (b : BindingId) (o : Opened) → IsThere (paths_of old.bindings) b → IsOpenedThere (paths_of now.bindings) o
+    → ((env : Environment) → env.terms ≡ terms → Opens env old now d e term b o) → OpenedSoFar terms old now d e term all all 0 b o
+opened_first terms old now d e term all b o here there h = record {
+  extends = (h (env_of terms) refl here.0 here.1).reads.joins.extends;
+  there = there;
+  parts = λ env same p at. (h env same p at).parts;
+  whole = λ env same p at new f g.
+      reads_then old now new d e f (opening_paths (opening env term) p) (parts_paths env (opening env term) all 0 p) (λ places. places) (after_parts env (opening env term) all 0 p) (λ places. opening_tests (opening env term) p) (parts_tests env (opening env term) all 0 p) (h env same p at).reads g;
+}
+
 -- behind one part more
-made_more : (terms : List Term) (old now mid new : Numbered) (d e f : PatternTests) (m : Made) (all : Patterns) (q : Pattern) (rest : Patterns) (i : TupleIndex) (b part : BindingId) → MadeSoFar terms old now d e (making_of m) all (APattern q rest) i.0 b
-    → Numbers now mid (key_path (paths_of now.bindings) (field_key m b i)) part → TakesIn terms mid new e f q part → MadeSoFar terms old new d f (making_of m) all rest (suc i.0) b
-made_more terms old now mid new d e f m all q rest i b part so n t = record {
-  extends = extends_more (paths_of old.bindings) (paths_of mid.bindings) (paths_of new.bindings) (extends_more (paths_of old.bindings) (paths_of now.bindings) (paths_of mid.bindings) so.extends n.extends) (joined part);
-  whole = λ env same p there last g h. so.whole env same p there last g (behind env same p there last g h);
+opened_more : (terms : List Term) (old now mid new : Numbered) (d e f : PatternTests) (term : TermId) (all : Patterns) (q : Pattern) (rest : Patterns) (i : ℕ) (b part : BindingId) (o : Opened) → OpenedSoFar terms old now d e term all (APattern q rest) i b o
+    → Numbers now mid (opened_part (paths_of now.bindings) o i) part → TakesIn terms mid new e f q part → OpenedSoFar terms old new d f term all rest (suc i) b o
+opened_more terms old now mid new d e f term all q rest i b part o so n t = record {
+  extends = extends_more (paths_of old.bindings) (paths_of now.bindings) (paths_of new.bindings) so.extends (further part);
+  there = opened_kept (paths_of now.bindings) (paths_of new.bindings) o (further part) so.there;
+  parts = λ env same p at ps x. so.parts env same p at ps (extends_more (paths_of now.bindings) (paths_of new.bindings) ps (further part) x);
+  whole = λ env same p at last g h. so.whole env same p at last g (behind env same p at last g h);
 }
   where
-    joined : (x : BindingId) → Extends (paths_of mid.bindings) (paths_of new.bindings)
-    joined x = (t (env_of terms) refl (key_path (paths_of now.bindings) (field_key m b i)) n.found).joins.extends
+    further : (x : BindingId) → Extends (paths_of now.bindings) (paths_of new.bindings)
+    further x = extends_more (paths_of now.bindings) (paths_of mid.bindings) (paths_of new.bindings) n.extends (t (env_of terms) refl (opened_part (paths_of now.bindings) o i) n.found).joins.extends
 
-    behind : (env : Environment) → env.terms ≡ terms → (p : Path) → slice_get (paths_of old.bindings) b.0 ≡ Some p → (last : Numbered) (g : PatternTests) → TakesParts env new last f g (making_of m) rest (suc i.0) p → TakesParts env now last e g (making_of m) (APattern q rest) i.0 p
-    behind env same p there last g h =
-        let place : key_path (paths_of now.bindings) (field_key m b i) ≡ field_path (making_of m) i.0 p = field_key_path (paths_of now.bindings) m b i ∙ ap (field_path (making_of m) i.0) (at_kept (paths_of old.bindings) (paths_of now.bindings) b p so.extends there) in
-        let part_there : Numbers now mid (field_path (making_of m) i.0 p) part = subst (λ r. Numbers now mid r part) place n in
-        let fp = field_path (making_of m) i.0 p in
-        reads_behind now mid last e g fp part (pattern_paths env q fp ++ parts_paths env (making_of m) rest (suc i.0) p) (after_parts env (making_of m) (APattern q rest) i.0 p) (parts_tests env (making_of m) (APattern q rest) i.0 p) part_there
-        (reads_then mid new last e f g (pattern_paths env q fp) (parts_paths env (making_of m) rest (suc i.0) p) (after env q fp) (after_parts env (making_of m) rest (suc i.0) p) (tests env q fp) (parts_tests env (making_of m) rest (suc i.0) p) (t env same fp part_there.found) h)
+    behind : (env : Environment) → env.terms ≡ terms → (p : Path) → slice_get (paths_of old.bindings) b.0 ≡ Some p → (last : Numbered) (g : PatternTests) → TakesParts env new last f g (opening env term) rest (suc i) p → TakesParts env now last e g (opening env term) (APattern q rest) i p
+    behind env same p at last g h =
+        let fp = part_path (opening env term) i p in
+        let place : opened_part (paths_of now.bindings) o i ≡ fp = so.parts env same p at (paths_of now.bindings) (extends_self (paths_of now.bindings)) i in
+        let part_there : Numbers now mid fp part = subst (λ r. Numbers now mid r part) place n in
+        reads_behind now mid last e g fp part (pattern_paths env q fp ++ parts_paths env (opening env term) rest (suc i) p) (after_parts env (opening env term) (APattern q rest) i p) (parts_tests env (opening env term) (APattern q rest) i p) part_there
+        (reads_then mid new last e f g (pattern_paths env q fp) (parts_paths env (opening env term) rest (suc i) p) (after env q fp) (after_parts env (opening env term) rest (suc i) p) (tests env q fp) (parts_tests env (opening env term) rest (suc i) p) (t env same fp part_there.found) h)
 
 -- the parts of the code's list that are left
 abbrev pub left_parts : List CodePattern → ℕ → Patterns
@@ -205,19 +204,18 @@ next_is : (i : ℕ) → suc i ≡ i + 1
 next_is i = omega arith
 
 -- behind the next part of the code's list
-pub made_next : (terms : List Term) (old now mid new : Numbered) (d e f : PatternTests) (m : Made) (all : Patterns) (parts : List CodePattern) (n : ℕ) (i : TupleIndex) (x : CodePattern) (b part : BindingId) → n < length parts → x ≡ get_or parts n x → i.0 ≡ n
-    → MadeSoFar terms old now d e (making_of m) all (left_parts parts n) n b → Numbers now mid (key_path (paths_of now.bindings) (field_key m b i)) part → TakesIn terms mid new e f (pattern x) part
-    → MadeSoFar terms old new d f (making_of m) all (left_parts parts (n + 1)) (n + 1) b
-made_next terms old now mid new d e f m all parts n i x b part lt is place so num t =
-    subst (λ k. MadeSoFar terms old new d f (making_of m) all (left_parts parts (n + 1)) k b) (ap suc place ∙ next_is n)
-    (made_more terms old now mid new d e f m all (pattern x) (left_parts parts (n + 1)) i b part
-    (subst (λ k. MadeSoFar terms old now d e (making_of m) all (APattern (pattern x) (left_parts parts (n + 1))) k b) (sym place) (subst (λ qs. MadeSoFar terms old now d e (making_of m) all qs n b) (left_more parts n x lt is) so)) num t)
+pub opened_next : (terms : List Term) (old now mid new : Numbered) (d e f : PatternTests) (term : TermId) (all : Patterns) (parts : List CodePattern) (n : ℕ) (x : CodePattern) (b part : BindingId) (o : Opened) → n < length parts → x ≡ get_or parts n x
+    → OpenedSoFar terms old now d e term all (left_parts parts n) n b o → Numbers now mid (opened_part (paths_of now.bindings) o n) part → TakesIn terms mid new e f (pattern x) part
+    → OpenedSoFar terms old new d f term all (left_parts parts (n + 1)) (n + 1) b o
+opened_next terms old now mid new d e f term all parts n x b part o lt is so num t =
+    subst (λ k. OpenedSoFar terms old new d f term all (left_parts parts (n + 1)) k b o) (next_is n)
+    (opened_more terms old now mid new d e f term all (pattern x) (left_parts parts (n + 1)) n b part o (subst (λ qs. OpenedSoFar terms old now d e term all qs n b o) (left_more parts n x lt is) so) num t)
 
 -- behind the last one
-pub made_all : (terms : List Term) (old now : Numbered) (d e : PatternTests) (m : Made) (all : Patterns) (parts : List CodePattern) (n : ℕ) (b : BindingId) → length parts ≤ n → MadeSoFar terms old now d e (making_of m) all (left_parts parts n) n b
-    → TakesMadeIn terms old now d e (making_of m) all b
-made_all terms old now d e m all parts n b le so env same p there =
-    so.whole env same p there now e (subst (λ qs. TakesParts env now now e e (making_of m) qs n p) (sym (ap (λ qs. patterns_of (map pattern qs)) (drop_all n parts le))) (reads_self now e))
+pub opened_all : (terms : List Term) (old now : Numbered) (d e : PatternTests) (term : TermId) (all : Patterns) (parts : List CodePattern) (n : ℕ) (b : BindingId) (o : Opened) → length parts ≤ n → OpenedSoFar terms old now d e term all (left_parts parts n) n b o
+    → TakesTermIn terms old now d e term all b
+opened_all terms old now d e term all parts n b o le so env same p at =
+    so.whole env same p at now e (subst (λ qs. TakesParts env now now e e (opening env term) qs n p) (sym (ap (λ qs. patterns_of (map pattern qs)) (drop_all n parts le))) (reads_self now e))
 
 -- ---- several patterns on one path
 

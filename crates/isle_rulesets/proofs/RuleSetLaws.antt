@@ -24,7 +24,7 @@ use Rattle.isle_core.specs.StandsFor.{EachOnce, AreFirsts, no_more, IsFlat, AreF
 use Rattle.isle_core.specs.BuiltRule.{IsBuiltRule, IsBuiltPattern, CallsBuiltTerms}
 use Rattle.isle_core.specs.Rule.{Environment, Rule}
 use Rattle.isle_core.proofs.PlacedVariables.{args_placed}
-use Rattle.isle_core.proofs.SetMeans.{without_iflets}
+use Rattle.isle_core.proofs.SetMeans.{without_iflets, places_without}
 use Rattle.isle_core.proofs.TurnKinds.{IsPlaced}
 use Rattle.isle_core.specs.Scope.{all_variables, let_scope, IsInScope, AreInScope, AreLetsInScope, IsScopedRule}
 use Rattle.isle_scope.specs.Table.{held}
@@ -39,10 +39,10 @@ use Rattle.isle_rulesets.proofs.PatternTestLaws.{env_of}
 use Rattle.isle_rulesets.proofs.RuleTests.{Stands, rule_stands}
 use Rattle.isle_rulesets.proofs.FlatTests.{at_there, constraints_first, tests_kept, tests_from, tests_once}
 use Rattle.isle_rulesets.proofs.LetLaws.{held_named}
-use Rattle.isle_rulesets.proofs.VariablePlaces.{place_within, somewhere}
+use Rattle.isle_rulesets.proofs.VariablePlaces.{place_lone}
 use Rattle.isle_rulesets.proofs.RightSideLaws.{stand_there}
 use Rattle.isle_rulesets.proofs.CallsOnce.{rule_firsts}
-use Rattle.isle_rulesets.proofs.NoIterators.{none_in_rule}
+use Rattle.isle_rulesets.proofs.NoIterators.{paths_without, none_in_rule}
 
 -- ---- the variables of a rule
 
@@ -95,7 +95,7 @@ var_stands ps (Some b) None e h = cc
 -- the variables' numbers stand for their paths
 tests_stand : (env : Environment) (old new : Numbered) (args : List Pattern) (d : PatternTests) → AllByRecursion (IsBuiltPattern env.terms) args → NumbersPatterns env old new args d → Stand (paths_of new.bindings) d.variables (args_after env args 0 no_places)
 tests_stand env old new args d a h = record {
-  by = λ x. var_stands (paths_of new.bindings) (held d.variables x) (args_after env args 0 no_places x) ((h.tests (paths_of new.bindings) (extends_self (paths_of new.bindings))).knows.by x) (λ p e. somewhere p (place_within env args x p a e));
+  by = λ x. var_stands (paths_of new.bindings) (held d.variables x) (args_after env args 0 no_places x) ((h.tests (paths_of new.bindings) (extends_self (paths_of new.bindings))).knows.by x) (λ p e. (place_lone env args a x p e).0);
 }
 
 -- a path stands at the number of each variable
@@ -118,9 +118,10 @@ pub rule_added : (terms : List Term) (old mid new : Numbered) (r : Rule) (d : Pa
     → Given terms d.variables mid new none calls r.rhs b → IsMade r d calls b f → (env : Environment) → env.terms ≡ terms → Adds env old new r f
 rule_added terms old mid new r d none calls b f built bound built_terms numbered start given is env same = record {
   extends = extends_more (paths_of old.bindings) (paths_of mid.bindings) (paths_of new.bindings) h.joins.extends g.grows.extends;
-  only = λ p c. ⊎_elim (λ k. ⊎_elim (λ x. inl x) (λ x. inr (Contains-append_left (args_paths env r.args 0) (expr_paths env r.rhs (rule_places env r) old.calls) p x)) (h.joins.only p k))
-      (λ k. inr (Contains-append_right (args_paths env r.args 0) (expr_paths env r.rhs (rule_places env r) old.calls) p k)) (g.grows.only p c);
-  all = λ p c. ⊎_elim (λ k. contains_kept (paths_of mid.bindings) (paths_of new.bindings) p g.grows.extends (h.joins.all p k)) (λ k. g.grows.all p k) (Contains-append_cases (args_paths env r.args 0) (expr_paths env r.rhs (rule_places env r) old.calls) p c);
+  only = λ p c. ⊎_elim (λ k. ⊎_elim (λ x. inl x) (λ x. inr (whole p (Contains-append_left (args_paths env r.args 0) (expr_paths env r.rhs (rule_places env r) old.calls) p x))) (h.joins.only p k))
+      (λ k. inr (whole p (Contains-append_right (args_paths env r.args 0) (expr_paths env r.rhs (rule_places env r) old.calls) p k))) (g.grows.only p c);
+  all = λ p c. ⊎_elim (λ k. contains_kept (paths_of mid.bindings) (paths_of new.bindings) p g.grows.extends (h.joins.all p k)) (λ k. g.grows.all p k)
+      (Contains-append_cases (args_paths env r.args 0) (expr_paths env r.rhs (rule_places env r) old.calls) p (subst (λ qs. Contains qs p) paths c));
   flat = λ ps x once. flat ps x once;
   calls = g.grows.calls;
 }
@@ -128,12 +129,19 @@ rule_added terms old mid new r d none calls b f built bound built_terms numbered
     h : NumbersPatterns env old mid r.args d
     h = numbered env same
 
+    paths : rule_paths env r old.calls ≡ args_paths env r.args 0 ++ expr_paths env r.rhs (rule_places env r) old.calls
+    paths = paths_without env r old.calls built.iflets
+
+    whole : (p : Path) → Contains (args_paths env r.args 0 ++ expr_paths env r.rhs (rule_places env r) old.calls) p → Contains (rule_paths env r old.calls) p
+    whole p c = subst (λ qs. Contains qs p) (sym paths) c
+
     built_env : IsBuiltRule env.terms r
     built_env = subst (λ ts. IsBuiltRule ts r) (sym same) built
 
     g : NumbersExpr env (rule_places env r) (record { bindings = mid.bindings; calls = old.calls }) new [] calls r.rhs b
     g =
-        let first = given env (rule_places env r) same (tests_stand env old mid r.args d (recursion_from_All (IsBuiltPattern env.terms) r.args built_env.args) h) in
+        let stand = subst (Stand (paths_of mid.bindings) d.variables) (sym (places_without env r built.iflets)) (tests_stand env old mid r.args d (recursion_from_All (IsBuiltPattern env.terms) r.args built_env.args) h) in
+        let first = given env (rule_places env r) same stand in
         let second = subst (λ ms. NumbersExpr env (rule_places env r) mid new ms calls r.rhs b) start first in
         subst (λ n. NumbersExpr env (rule_places env r) (record { bindings = mid.bindings; calls = n }) new [] calls r.rhs b) h.joins.calls second
 

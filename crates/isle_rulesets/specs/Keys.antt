@@ -21,10 +21,13 @@ key_binding (key.Argument index) = binding.Argument index
 key_binding (key.ConstBool val) = binding.ConstBool val bool_type
 key_binding (key.ConstInt ty val) = binding.ConstInt val ty
 key_binding (key.ConstPrim val) = binding.ConstPrim val
+key_binding (key.Extractor term parameter) = binding.Extractor term parameter
 key_binding (key.MatchVariant source variant field) = binding.MatchVariant source variant field
 key_binding (key.ExtractStruct source field) = binding.ExtractStruct source field
 key_binding (key.MakeVariant ty variant fields) = binding.MakeVariant ty variant fields
 key_binding (key.MakeStruct ty fields) = binding.MakeStruct ty fields
+key_binding (key.MatchSome source) = binding.MatchSome source
+key_binding (key.MatchTuple source field) = binding.MatchTuple source field
 
 -- the path of that binding over those of the bindings before it
 abbrev pub key_path : List Path → Key → Path
@@ -40,7 +43,10 @@ HasParts ps (key.Argument index) = Unit {0}
 HasParts ps (key.ConstBool val) = Unit {0}
 HasParts ps (key.ConstInt ty val) = Unit {0}
 HasParts ps (key.ConstPrim val) = Unit {0}
+HasParts ps (key.Extractor term parameter) = IsThere ps parameter
 HasParts ps (key.MatchVariant source variant field) = IsThere ps source
 HasParts ps (key.ExtractStruct source field) = IsThere ps source
 HasParts ps (key.MakeVariant ty variant fields) = AllByRecursion (IsThere ps) fields
 HasParts ps (key.MakeStruct ty fields) = AllByRecursion (IsThere ps) fields
+HasParts ps (key.MatchSome source) = IsThere ps source
+HasParts ps (key.MatchTuple source field) = IsThere ps source

@@ -3,6 +3,7 @@ pub mod Keys
 pub mod Made
 pub mod Numbering
 pub mod PatternTests
+pub mod Opened
 pub mod Firsts
 pub mod RightSides
 pub mod FlatRules

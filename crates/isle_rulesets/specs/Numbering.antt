@@ -51,10 +51,13 @@ known count numbers (key.Argument index) = if nat_lt index count then Some (reco
 known count numbers (key.ConstBool val) = get key_cmp numbers (key.ConstBool val)
 known count numbers (key.ConstInt ty val) = get key_cmp numbers (key.ConstInt ty val)
 known count numbers (key.ConstPrim val) = get key_cmp numbers (key.ConstPrim val)
+known count numbers (key.Extractor term parameter) = get key_cmp numbers (key.Extractor term parameter)
 known count numbers (key.MatchVariant source variant field) = get key_cmp numbers (key.MatchVariant source variant field)
 known count numbers (key.ExtractStruct source field) = get key_cmp numbers (key.ExtractStruct source field)
 known count numbers (key.MakeVariant ty variant fields) = get key_cmp numbers (key.MakeVariant ty variant fields)
 known count numbers (key.MakeStruct ty fields) = get key_cmp numbers (key.MakeStruct ty fields)
+known count numbers (key.MatchSome source) = get key_cmp numbers (key.MatchSome source)
+known count numbers (key.MatchTuple source field) = get key_cmp numbers (key.MatchTuple source field)
 
 -- whether the key is that argument, and its number would be its index
 abbrev pub is_next : ℕ → ℕ → Key → Bool
@@ -62,19 +65,21 @@ is_next count number (key.Argument index) = (index == count) && (number == count
 is_next count number (key.ConstBool val) = false
 is_next count number (key.ConstInt ty val) = false
 is_next count number (key.ConstPrim val) = false
+is_next count number (key.Extractor term parameter) = false
 is_next count number (key.MatchVariant source variant field) = false
 is_next count number (key.ExtractStruct source field) = false
 is_next count number (key.MakeVariant ty variant fields) = false
 is_next count number (key.MakeStruct ty fields) = false
+is_next count number (key.MatchSome source) = false
+is_next count number (key.MatchTuple source field) = false
 
 -- the path of a key that has this number, over these paths
 abbrev pub IsKeyed : List Path → (Key → Option BindingId) → ℕ → Path → Type 0
 IsKeyed ps numbers b p = (k : Key) × (p ≡ key_path ps k) × (numbers k ≡ Some (record { 0 = b }))
 
--- a call of an occurrence up to this one, or the inner value of one
+-- a call of an occurrence up to this one
 abbrev pub IsCallUpTo : ℕ → Path → Type 0
 IsCallUpTo n (Called term ps instance) = instance ≤ n
-IsCallUpTo n (Inner p) = IsCallUpTo n p
 IsCallUpTo n Nowhere = ⊥
 IsCallUpTo n (Arg i) = ⊥
 IsCallUpTo n (ConstBool of b) = ⊥
@@ -87,6 +92,7 @@ IsCallUpTo n (MadeStruct of ps) = ⊥
 IsCallUpTo n (VariantField variant field q) = ⊥
 IsCallUpTo n (StructField field q) = ⊥
 IsCallUpTo n (Wrapped q) = ⊥
+IsCallUpTo n (Inner q) = ⊥
 IsCallUpTo n (Part part q) = ⊥
 
 -- the parts of a key that is found are there, and so is its path, at its number; each other path is of a call that was

@@ -1,11 +1,12 @@
 -- What a rule tests, as bindings tell it.
-use Rattle.std.specs.Prelude.{◌≡◌, ℕ, List, ◌∷◌, ◌++◌, Bool, true, false, Option, Some, None, map, filter, slice_get}
+use Rattle.std.specs.Prelude.{◌≡◌, ℕ, List, ◌++◌, Bool, true, false, Option, Some, None, map, filter, slice_get}
 use Rattle.isle_core.specs.declared.BindingId.{BindingId}
-use Rattle.isle_core.specs.Making.{Making}
+use Rattle.isle_core.specs.declared.TermId.{TermId}
+use Rattle.isle_core.specs.Opening.{Opening, opening}
 use Rattle.isle_core.specs.Pattern.{Pattern, Patterns}
 use Rattle.isle_core.specs.Path.{Path, at, paths_of}
-use Rattle.isle_core.specs.RulePaths.{pattern_paths, parts_paths, each_paths, args_paths}
-use Rattle.isle_core.specs.Tests.{Test, Is, Equal, Never, is_constraint, Places, no_places, made_test, tests, parts_tests, each_tests, after, after_parts, after_each, args_tests, args_after}
+use Rattle.isle_core.specs.RulePaths.{opening_paths, pattern_paths, parts_paths, each_paths, args_paths}
+use Rattle.isle_core.specs.Tests.{Test, Is, Equal, Never, is_constraint, Places, no_places, opening_tests, tests, parts_tests, each_tests, after, after_parts, after_each, args_tests, args_after}
 use Rattle.isle_core.specs.RuleSet.{is_test, equal_test}
 use Rattle.isle_core.specs.Rule.{Environment}
 use Rattle.isle_scope.specs.Table.{held}
@@ -50,14 +51,14 @@ Takes env old new d e q source = (p : Path) → slice_get (paths_of old.bindings
 abbrev pub TakesEach : Environment → Numbered → Numbered → PatternTests → PatternTests → Patterns → BindingId → Type 0
 TakesEach env old new d e qs source = (p : Path) → slice_get (paths_of old.bindings) source.0 ≡ Some p → Reads old new d e (each_paths env qs p) (after_each env qs p) (each_tests env qs p)
 
--- so of the parts of what is made, from the i-th on
-abbrev pub TakesParts : Environment → Numbered → Numbered → PatternTests → PatternTests → Making → Patterns → ℕ → Path → Type 0
-TakesParts env old new d e made qs i p = Reads old new d e (parts_paths env made qs i p) (after_parts env made qs i p) (parts_tests env made qs i p)
+-- so of the parts of what is taken apart, from the i-th on
+abbrev pub TakesParts : Environment → Numbered → Numbered → PatternTests → PatternTests → Opening → Patterns → ℕ → Path → Type 0
+TakesParts env old new d e opened qs i p = Reads old new d e (parts_paths env opened qs i p) (after_parts env opened qs i p) (parts_tests env opened qs i p)
 
--- so of what is made, which is tested first
-abbrev pub TakesMade : Environment → Numbered → Numbered → PatternTests → PatternTests → Making → Patterns → BindingId → Type 0
-TakesMade env old new d e made qs source = (p : Path) → slice_get (paths_of old.bindings) source.0 ≡ Some p
-    → Reads old new d e (parts_paths env made qs 0 p) (after_parts env made qs 0 p) (λ places. made_test made p ∷ parts_tests env made qs 0 p places)
+-- so of what a term takes apart, which is called and tested first
+abbrev pub TakesTerm : Environment → Numbered → Numbered → PatternTests → PatternTests → TermId → Patterns → BindingId → Type 0
+TakesTerm env old new d e term qs source = (p : Path) → slice_get (paths_of old.bindings) source.0 ≡ Some p
+    → Reads old new d e (opening_paths (opening env term) p ++ parts_paths env (opening env term) qs 0 p) (after_parts env (opening env term) qs 0 p) (λ places. opening_tests (opening env term) p ++ parts_tests env (opening env term) qs 0 p places)
 
 -- the arguments of the patterns from the i-th on are numbered with what these take apart, and the patterns' tests were gathered
 abbrev pub TakesArguments : Environment → Numbered → Numbered → PatternTests → PatternTests → List Pattern → ℕ → Type 0

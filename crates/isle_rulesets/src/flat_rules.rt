@@ -8,7 +8,7 @@ ghost use Rattle.isle_rulesets.specs.FlatRules.{Adds};
 
 use crate::firsts::{first_constraints, first_equals};
 use crate::numbering::Numbering;
-use crate::pattern_tests::number_arguments;
+use crate::patterns::number_arguments;
 use crate::right_side::number_expr;
 use isle_core::{FlatRule, List, Rule, RuleSet, Term};
 use std::alloc::{AllocError, Global};

@@ -2,7 +2,7 @@ ghost use Rattle.std.specs.Prelude.{◌≡◌, IfOk};
 ghost use Rattle.isle_rulesets.specs.Keys.{key_binding};
 
 use crate::parts::Parts;
-use isle_core::{Binding, BindingId, Sym, TupleIndex, TypeId, VariantId};
+use isle_core::{Binding, BindingId, Sym, TermId, TupleIndex, TypeId, VariantId};
 use std::alloc::{AllocError, Global};
 
 /// What tells a binding from the others.
@@ -12,6 +12,10 @@ pub enum Key {
     ConstBool(bool),
     ConstInt(TypeId, i128),
     ConstPrim(Sym),
+    Extractor {
+        term: TermId,
+        parameter: BindingId,
+    },
     MatchVariant {
         source: BindingId,
         variant: VariantId,
@@ -30,6 +34,13 @@ pub enum Key {
         ty: TypeId,
         fields: Parts,
     },
+    MatchSome {
+        source: BindingId,
+    },
+    MatchTuple {
+        source: BindingId,
+        field: TupleIndex,
+    },
 }
 
 impl Drop for Key {
@@ -40,6 +51,10 @@ impl Drop for Key {
             Key::ConstBool(_part0) => {}
             Key::ConstInt(_part0, _part1) => {}
             Key::ConstPrim(_part0) => {}
+            Key::Extractor {
+                term: _term,
+                parameter: _parameter,
+            } => {}
             Key::MatchVariant {
                 source: _source,
                 variant: _variant,
@@ -58,6 +73,11 @@ impl Drop for Key {
                 ty: _ty,
                 fields: _fields,
             } => {}
+            Key::MatchSome { source: _source } => {}
+            Key::MatchTuple {
+                source: _source,
+                field: _field,
+            } => {}
         }
     }
 }
@@ -75,6 +95,10 @@ impl Key {
             },
             Key::ConstInt(ty, val) => Binding::ConstInt { val: *val, ty: *ty },
             Key::ConstPrim(val) => Binding::ConstPrim { val: *val },
+            Key::Extractor { term, parameter } => Binding::Extractor {
+                term: *term,
+                parameter: *parameter,
+            },
             Key::MatchVariant {
                 source,
                 variant,
@@ -100,6 +124,11 @@ impl Key {
             Key::MakeStruct { ty, fields } => Binding::MakeStruct {
                 ty: *ty,
                 fields: fields.copied(alloc)?,
+            },
+            Key::MatchSome { source } => Binding::MatchSome { source: *source },
+            Key::MatchTuple { source, field } => Binding::MatchTuple {
+                source: *source,
+                field: *field,
             },
         })
     }

@@ -7,8 +7,10 @@ mod grouping;
 mod keys;
 mod made;
 mod numbering;
+mod opening;
 mod parts;
 mod pattern_tests;
+mod patterns;
 mod right_side;
 
 pub use flat_rules::rule_set;

@@ -1,4 +1,4 @@
-ghost use Rattle.std.specs.Prelude.{◌≡◌, ◌++◌, ◌∷◌, IfOk, OnOk, OnErr, Some, []};
+ghost use Rattle.std.specs.Prelude.{◌≡◌, ◌++◌, ◌∷◌, IfOk, OnOk, OnErr, Some, [], false};
 ghost use Rattle.std.specs.BTreeMap.{Updates, IsUnchanged};
 ghost use Rattle.isle_rulesets.specs.Keys.{key_cmp, key_binding, key_path, HasParts};
 ghost use Rattle.isle_rulesets.specs.Numbering.{known, is_next, Numbers, Calls, next_call};
@@ -39,10 +39,13 @@ fn is_next(count: usize, number: usize, key: &Key) -> bool
         Key::ConstBool(_)
         | Key::ConstInt(..)
         | Key::ConstPrim(_)
+        | Key::Extractor { .. }
         | Key::MatchVariant { .. }
         | Key::ExtractStruct { .. }
         | Key::MakeVariant { .. }
-        | Key::MakeStruct { .. } => false,
+        | Key::MakeStruct { .. }
+        | Key::MatchSome { .. }
+        | Key::MatchTuple { .. } => false,
     }
 }
 
@@ -125,15 +128,13 @@ impl Numbering {
         }
     }
 
-    /// Adds the next call, of an occurrence of its own, and its inner value where it may be nothing. The only error is want
-    /// of memory.
-    pub fn call(
+    // Adds the next call, of an occurrence of its own. The only error is want of memory.
+    fn push_call(
         &mut self,
         term: TermId,
         parameters: List<BindingId>,
-        is_partial: bool,
-    ) -> Result<Call, AllocError>
-        ensures { IfOk result (λ c. Calls self.old self.new (next_call self.old term parameters) is_partial c.number c.value) }
+    ) -> Result<BindingId, AllocError>
+        ensures { IfOk result (λ b. Calls self.old self.new (next_call self.old term parameters) false b b) }
     {
         let instance = self.calls + 1;
         let number = BindingId(self.bindings.len());
@@ -143,14 +144,28 @@ impl Numbering {
             instance,
         })?;
         self.calls = instance;
+        Ok(number)
+    }
+
+    /// Adds the next call, of an occurrence of its own, and its inner value where it may be nothing. The only error is want
+    /// of memory.
+    pub fn call(
+        &mut self,
+        alloc: Global,
+        term: TermId,
+        parameters: List<BindingId>,
+        is_partial: bool,
+    ) -> Result<Call, AllocError>
+        ensures { IfOk result (λ c. Calls self.old self.new (next_call self.old term parameters) is_partial c.number c.value) }
+    {
+        let number = self.push_call(term, parameters)?;
         if !is_partial {
             return Ok(Call {
                 number,
                 value: number,
             });
         }
-        let value = BindingId(self.bindings.len());
-        self.bindings.push(Binding::MatchSome { source: number })?;
+        let value = self.intern(alloc, Key::MatchSome { source: number })?;
         Ok(Call { number, value })
     }
 

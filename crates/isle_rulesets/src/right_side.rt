@@ -49,6 +49,7 @@ fn number_of(variables: &Table<BindingId>, var: VarId) -> BindingId
 
 // The number of the value of a call on numbered arguments.
 fn number_call(
+    alloc: Global,
     terms: &[Term],
     numbering: &mut Numbering,
     ordered: &mut Vec<BindingId>,
@@ -61,7 +62,7 @@ fn number_call(
         → NumbersTerm numbering.old numbering.new ordered.old.items ordered.new.items (calling env term) (call_path env term (at_all (paths_of numbering.old.bindings) parameters.items) numbering.old.calls) b) }
 {
     let is_partial = is_partial(&terms[term.index()].kind);
-    let call = numbering.call(term, List::new(parameters), is_partial)?;
+    let call = numbering.call(alloc, term, List::new(parameters), is_partial)?;
     ordered.push(call.number)?;
     Ok(call.value)
 }
@@ -82,7 +83,7 @@ fn number_term(
 {
     match made_by(terms, term) {
         Some(made) => numbering.intern(alloc, made.whole(Parts::new(arguments))),
-        None => number_call(terms, numbering, ordered, term, arguments),
+        None => number_call(alloc, terms, numbering, ordered, term, arguments),
     }
 }
 

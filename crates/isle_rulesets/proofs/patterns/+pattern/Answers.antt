@@ -1,17 +1,12 @@
-use Rattle.std.proofs.Common.{◌≡◌, rules, [], ◌∷◌, map, sym, ap, ◌∙◌, subst, refl}
+use Rattle.std.proofs.Common.{rules, map, sym, ap, ◌∙◌}
 use denote.Param.Weighed.{at_most}
-use Rattle.isle_core.specs.Making.{making_in}
 use Rattle.isle_core.specs.Path.{paths_of}
 use Rattle.isle_core.specs.Pattern as pure
-use Rattle.isle_core.specs.Tests.{Is}
 use Rattle.isle_core.specs.RuleViews.{pattern, patterns_of}
 use Rattle.isle_core.proofs.SeesRules.{pattern-bind, pattern-var, pattern-bool, pattern-int, pattern-prim, pattern-term, pattern-and}
-use Rattle.isle_rulesets.specs.Keys.{key_path, HasParts}
-use Rattle.isle_rulesets.specs.Made.{seen, making_of}
-use Rattle.isle_rulesets.specs.Numbering.{Numbers}
 use Rattle.isle_rulesets.proofs.PlacedPaths.{there_kept}
-use Rattle.isle_rulesets.proofs.PatternTestLaws.{Steps, TakesMadeIn, takes_var, takes_bool, takes_int, takes_prim, takes_term, takes_bind, takes_and, each_first, each_next, each_all, made_first, made_next, made_all, field_has_parts, part_built, part_fits}
-use Rattle.isle_rulesets.proofs.pattern_tests.+pattern.Goals as goal
+use Rattle.isle_rulesets.proofs.PatternTestLaws.{takes_var, takes_bool, takes_int, takes_prim, takes_term, takes_bind, takes_and, each_first, each_next, each_all, opened_first, opened_next, opened_all, part_built, part_fits}
+use Rattle.isle_rulesets.proofs.patterns.+pattern.Goals as goal
 
 pub number_pattern-returns-in-Var : goal.number_pattern-returns-in-Var
 number_pattern-returns-in-Var t c =
@@ -36,8 +31,8 @@ number_pattern-returns-in-ConstPrim t c =
 pub number_pattern-returns-in-Term : goal.number_pattern-returns-in-Term
 number_pattern-returns-in-Term t c =
     let same = sym c.as_slice.ensures in
-    takes_term c.number_made.result c.args.terms.now c.args.numbering.now c.number_made.new.numbering c.args.tests.now c.number_made.new.tests (pattern c.args.pattern.now) c.args.source c.in-Term.field-0 c.in-Term.term (patterns_of (map pattern c.as_slice.result.now))
-    (ap pattern c.in-Term.is ∙ pattern-term c.in-Term.field-0 c.in-Term.term c.in-Term.parts ∙ ap (λ ps. pure.Term c.in-Term.field-0 c.in-Term.term (patterns_of (map pattern ps))) same) c.number_made.ensures
+    takes_term c.number_term.result c.args.terms.now c.args.numbering.now c.number_term.new.numbering c.args.tests.now c.number_term.new.tests (pattern c.args.pattern.now) c.args.source c.in-Term.field-0 c.in-Term.term (patterns_of (map pattern c.as_slice.result.now))
+    (ap pattern c.in-Term.is ∙ pattern-term c.in-Term.field-0 c.in-Term.term c.in-Term.parts ∙ ap (λ ps. pure.Term c.in-Term.field-0 c.in-Term.term (patterns_of (map pattern ps))) same) c.number_term.ensures
 
 pub number_pattern-returns-in_ok-bind_or_equate-in-BindPattern : goal.number_pattern-returns-in_ok-bind_or_equate-in-BindPattern
 number_pattern-returns-in_ok-bind_or_equate-in-BindPattern t c =
@@ -50,37 +45,31 @@ number_pattern-returns-in-And t c =
     takes_and c.number_each.result c.args.terms.now c.args.numbering.now c.number_each.new.numbering c.args.tests.now c.number_each.new.tests (pattern c.args.pattern.now) c.args.source c.in-And.field-0 (patterns_of (map pattern c.as_slice-in-And.result.now))
     (ap pattern c.in-And.is ∙ pattern-and c.in-And.field-0 c.in-And.parts ∙ ap (λ ps. pure.And c.in-And.field-0 (patterns_of (map pattern ps))) (sym c.as_slice-in-And.ensures)) c.number_each.ensures
 
-pub number_made-intern-requires : goal.number_made-intern-requires
-number_made-intern-requires t c =
-    let now = paths_of c.loop-index.numbering.bindings in
-    subst (HasParts now) (sym c.field.ensures) (field_has_parts now c.in-Some.made c.args.source _ (there_kept (paths_of c.args.numbering.now.bindings) now c.args.source c.loop-index.invariant.extends c.requires.there))
+pub number_term-number_part-requires : goal.number_term-number_part-requires
+number_term-number_part-requires t c = c.loop-index.invariant.there
 
-pub number_made-number_pattern-requires : goal.number_made-number_pattern-requires
-number_made-number_pattern-requires t c = (
+pub number_term-number_pattern-requires : goal.number_term-number_pattern-requires
+number_term-number_pattern-requires t c = (
   search (rules, at_most),
   (part_built c.args.terms.now c.args.parts.now c.loop-index.index c.index-parts-index.result c.requires.built c.loop-index-test.true c.index-parts-index.is, (_, c.in_ok-number.ensures.found)),
 )
 
-pub number_made-loop-index-init : goal.number_made-loop-index-init
-number_made-loop-index-init t c =
-    made_first c.args.terms.now c.args.numbering.now c.args.tests.now c.constrain.new.tests c.in-Some.made (patterns_of (map pattern c.args.parts.now)) c.args.source
-    (subst (λ k. Steps c.args.tests.now c.constrain.new.tests c.args.source (λ p places. places) (λ p places. Is p k ∷ [])) c.constraint.ensures c.in_ok-constrain.ensures)
+pub number_term-loop-index-init : goal.number_term-loop-index-init
+number_term-loop-index-init t c =
+    opened_first c.args.terms.now c.args.numbering.now c.open.new.numbering c.args.tests.now c.open.new.tests c.args.term (patterns_of (map pattern c.args.parts.now)) c.args.source c.in_ok-opened.opened
+    c.requires.there c.in_ok-opened.ensures.there c.in_ok-opened.ensures.opens
 
-pub number_made-loop-index-preserved : goal.number_made-loop-index-preserved
-number_made-loop-index-preserved t c =
-    made_next c.args.terms.now c.args.numbering.now c.loop-index.numbering c.intern.new.self c.number_pattern.new.numbering c.args.tests.now c.loop-index.tests c.number_pattern.new.tests c.in-Some.made (patterns_of (map pattern c.args.parts.now)) c.args.parts.now c.loop-index.index (record { 0 = c.loop-index.index })
-    c.index-parts-index.result c.args.source c.in_ok-number.number c.loop-index-test.true c.index-parts-index.is refl c.loop-index.invariant
-    (subst (λ k. Numbers c.loop-index.numbering c.intern.new.self (key_path (paths_of c.loop-index.numbering.bindings) k) c.in_ok-number.number) c.field.ensures c.in_ok-number.ensures) c.in_ok-number_pattern.ensures
+pub number_term-loop-index-preserved : goal.number_term-loop-index-preserved
+number_term-loop-index-preserved t c =
+    opened_next c.args.terms.now c.args.numbering.now c.loop-index.numbering c.number_part.new.numbering c.number_pattern.new.numbering c.args.tests.now c.loop-index.tests c.number_pattern.new.tests c.args.term (patterns_of (map pattern c.args.parts.now)) c.args.parts.now c.loop-index.index
+    c.index-parts-index.result c.args.source c.in_ok-number.number c.in_ok-opened.opened c.loop-index-test.true c.index-parts-index.is c.loop-index.invariant c.in_ok-number.ensures c.in_ok-number_pattern.ensures
 
-pub number_made-returns : goal.number_made-returns
-number_made-returns t c =
-    let all = patterns_of (map pattern c.args.parts.now) in
-    let making : making_of c.in-Some.made ≡ making_in c.args.terms.now c.args.term = sym (ap seen c.in-Some.is) ∙ c.made_by.ensures in
-    subst (λ mk. TakesMadeIn c.args.terms.now c.args.numbering.now c.loop-index.numbering c.args.tests.now c.loop-index.tests mk all c.args.source) making
-    (made_all c.args.terms.now c.args.numbering.now c.loop-index.numbering c.args.tests.now c.loop-index.tests c.in-Some.made all c.args.parts.now c.loop-index.index c.args.source c.loop-index-test.false c.loop-index.invariant)
+pub number_term-returns : goal.number_term-returns
+number_term-returns t c =
+    opened_all c.args.terms.now c.args.numbering.now c.loop-index.numbering c.args.tests.now c.loop-index.tests c.args.term (patterns_of (map pattern c.args.parts.now)) c.args.parts.now c.loop-index.index c.args.source c.in_ok-opened.opened c.loop-index-test.false c.loop-index.invariant
 
-pub number_made-overflow_cast-field : goal.number_made-overflow_cast-field
-number_made-overflow_cast-field t c = let low = part_fits c.args.parts.now c.loop-index.index c.requires.few c.loop-index-test.true in search rules
+pub number_term-overflow_cast-field : goal.number_term-overflow_cast-field
+number_term-overflow_cast-field t c = let low = part_fits c.args.parts.now c.loop-index.index c.requires.few c.loop-index-test.true in search rules
 
 pub number_each-number_pattern-requires : goal.number_each-number_pattern-requires
 number_each-number_pattern-requires t c = (

@@ -1,7 +1,7 @@
 use Rattle.std.proofs.Common.{map}
 use Rattle.isle_core.specs.RuleViews.{pattern}
 use Rattle.isle_rulesets.proofs.PatternTestLaws.{arguments_first, arguments_next, arguments_all, built_at}
-use Rattle.isle_rulesets.proofs.pattern_tests.number_arguments.Goals as goal
+use Rattle.isle_rulesets.proofs.patterns.number_arguments.Goals as goal
 
 pub number_pattern-requires-clause-built : goal.number_pattern-requires-clause-built
 number_pattern-requires-clause-built c = built_at c.args.terms.now c.args.patterns.now c.loop-index.index c.index-patterns-index.result c.requires c.loop-index-test.true c.index-patterns-index.is
