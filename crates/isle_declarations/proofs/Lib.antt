@@ -7,4 +7,5 @@ pub mod Gathered
 pub mod DistinctNames
 pub mod DeclaredNames
 pub mod FuncNumbers
+pub mod ExtractorNumbers
 pub mod TermNames

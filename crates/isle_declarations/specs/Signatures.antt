@@ -1,4 +1,4 @@
--- The declarations, external constructors and rules among definitions.
+-- The declarations, external constructors and extractors, and rules among definitions.
 use Rattle.std.specs.Prelude.{ℕ, ℤ, List, Bool, true, false, Option, Some, None, map, filter_map, option_map, find}
 use Rattle.std.specs.List.{list_any}
 use Rattle.std.specs.Str.{bytes_eq}
@@ -25,6 +25,12 @@ pub record Signature : Type 0 where
 pub record Extern : Type 0 where
   pub term : List ℕ
   pub func : List ℕ
+
+-- an external extractor
+pub record ExtractorDef : Type 0 where
+  pub term : List ℕ
+  pub func : List ℕ
+  pub infallible : Bool
 
 -- a rule
 pub record RuleDef : Type 0 where
@@ -60,6 +66,18 @@ extern_of (Converter from to term pos) = None
 extern_of (Rule name prio term args iflets rhs pos) = None
 extern_of (Passed head items pos) = None
 
+-- the external extractor that a definition is
+abbrev pub extractor_of : Def → Option ExtractorDef
+extractor_of (ExternExtractor term func infallible pos) = Some (record { term = term; func = func; infallible = infallible })
+extractor_of (TypeDecl name is_extern is_nodebug body pos) = None
+extractor_of (Decl term pure multi partial recursive args ret pos) = None
+extractor_of (ExternConstructor term func pos) = None
+extractor_of (ExternConst name ty pos) = None
+extractor_of (Extractor term params template pos) = None
+extractor_of (Converter from to term pos) = None
+extractor_of (Rule name prio term args iflets rhs pos) = None
+extractor_of (Passed head items pos) = None
+
 -- the rule that a definition is
 abbrev pub rule_of : Def → Option RuleDef
 rule_of (Rule name prio term args iflets rhs pos) = Some (record { name = name; prio = prio; term = term; args = args; iflets = iflets; rhs = rhs; pos = pos })
@@ -72,13 +90,13 @@ rule_of (Extractor term params template pos) = None
 rule_of (Converter from to term pos) = None
 rule_of (Passed head items pos) = None
 
--- whether a definition is a declaration, an external constructor or a rule
+-- whether a definition is a declaration, an external constructor or extractor, or a rule
 abbrev pub is_collected : Def → Bool
 is_collected (Decl term pure multi partial recursive args ret pos) = true
 is_collected (ExternConstructor term func pos) = true
 is_collected (Rule name prio term args iflets rhs pos) = true
 is_collected (TypeDecl name is_extern is_nodebug body pos) = false
-is_collected (ExternExtractor term func infallible pos) = false
+is_collected (ExternExtractor term func infallible pos) = true
 is_collected (ExternConst name ty pos) = false
 is_collected (Extractor term params template pos) = false
 is_collected (Converter from to term pos) = false
@@ -91,6 +109,10 @@ signatures = filter_map signature_of
 -- the external constructors, in order
 abbrev pub externs : List Def → List Extern
 externs = filter_map extern_of
+
+-- the external extractors, in order
+abbrev pub extractors : List Def → List ExtractorDef
+extractors = filter_map extractor_of
 
 -- the rules, in order
 abbrev pub rule_defs : List Def → List RuleDef
@@ -107,6 +129,10 @@ term_named sigs name = option_map (λ (n : ℕ). record { 0 = n }) (index_of (ma
 -- the first function of an external constructor for a term of the name
 abbrev pub func_named : List Extern → List ℕ → Option (List ℕ)
 func_named xs name = option_map (λ (x : Extern). x.func) (find (λ (x : Extern). bytes_eq x.term name) xs)
+
+-- the first external extractor of a term of the name
+abbrev pub extractor_named : List ExtractorDef → List ℕ → Option ExtractorDef
+extractor_named xs name = find (λ (x : ExtractorDef). bytes_eq x.term name) xs
 
 -- whether a term of the name has a rule
 abbrev pub has_rule : List RuleDef → List ℕ → Bool

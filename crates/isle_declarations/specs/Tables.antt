@@ -5,10 +5,10 @@ use Rattle.isle_declarations.specs.declared.collected.Definitions.{Definitions}
 use Rattle.isle_declarations.specs.declared.first_places.FirstPlaces.{FirstPlaces}
 use Rattle.isle_declarations.specs.Symbols.{index_of, number_or, symbols}
 use Rattle.isle_declarations.specs.Numbered.{place_in}
-use Rattle.isle_declarations.specs.Signatures.{signatures, externs, rule_defs, func_named}
-use Rattle.isle_declarations.specs.Heads.{terms_of, extern_terms, heads_of}
+use Rattle.isle_declarations.specs.Signatures.{ExtractorDef, signatures, externs, extractors, rule_defs, func_named, extractor_named}
+use Rattle.isle_declarations.specs.Heads.{terms_of, extern_terms, extractor_terms, heads_of}
 use Rattle.isle_declarations.specs.Repeats.{repeats}
-use Rattle.isle_declarations.specs.Collected.{signature, extern, rule, AreCollected}
+use Rattle.isle_declarations.specs.Collected.{signature, extern, extractor, rule, AreCollected}
 
 -- the names of the declarations that were gathered
 abbrev pub declared_names : Definitions → List (List ℕ)
@@ -17,6 +17,10 @@ declared_names given = terms_of (map signature given.signatures.items)
 -- the terms of the external constructors
 abbrev pub external_names : Definitions → List (List ℕ)
 external_names given = extern_terms (map extern given.externs.items)
+
+-- the terms of the external extractors
+abbrev pub extracting_names : Definitions → List (List ℕ)
+extracting_names given = extractor_terms (map extractor given.extractors.items)
 
 -- the heads of the rules
 abbrev pub ruled_names : Definitions → List (List ℕ)
@@ -28,10 +32,11 @@ pub record HasFirsts (syms names : List (List ℕ)) (found : FirstPlaces) : Type
   pub firsts : (name : List ℕ) → index_of names name ≡ place_in found.table.items (index_of syms name)
 
 -- what was gathered of definitions, and the first places of its names
-pub record AreTables (defs : List Def) (given : Definitions) (declared external ruled : FirstPlaces) : Type 0 where
+pub record AreTables (defs : List Def) (given : Definitions) (declared external extracting ruled : FirstPlaces) : Type 0 where
   pub collected : AreCollected defs given
   pub declared_at : HasFirsts given.symbols (terms_of (signatures defs)) declared
   pub external_at : HasFirsts given.symbols (extern_terms (externs defs)) external
+  pub extracting_at : HasFirsts given.symbols (extractor_terms (extractors defs)) extracting
   pub ruled_at : HasFirsts given.symbols (heads_of (rule_defs defs)) ruled
 
 -- what is found by a number is the first place of its name among these
@@ -42,6 +47,14 @@ IsFirstPlace defs number names found = (name : List ℕ) → index_of (symbols d
 abbrev pub IsFuncNumber : List Def → ℕ → Option ℕ → Type 0
 IsFuncNumber defs number found = (name : List ℕ) → index_of (symbols defs) name ≡ Some number → found ≡ option_map (λ (func : List ℕ). number_or (index_of (symbols defs) func)) (func_named (externs defs) name)
 
--- two declarations or external constructors are of one term
+-- what is known of an external extractor: the number of its function, and whether it is infallible
+abbrev pub extractor_known : List (List ℕ) → ExtractorDef → ℕ × Bool
+extractor_known syms x = (number_or (index_of syms x.func), x.infallible)
+
+-- what is found by a number is what is known of its name's external extractor
+abbrev pub IsExtractorKnown : List Def → ℕ → Option (ℕ × Bool) → Type 0
+IsExtractorKnown defs number found = (name : List ℕ) → index_of (symbols defs) name ≡ Some number → found ≡ option_map (extractor_known (symbols defs)) (extractor_named (extractors defs) name)
+
+-- two declarations, external constructors or external extractors are of one term
 abbrev pub any_repeat : List Def → Bool
-any_repeat defs = repeats (terms_of (signatures defs)) || repeats (extern_terms (externs defs))
+any_repeat defs = repeats (terms_of (signatures defs)) || repeats (extern_terms (externs defs)) || repeats (extractor_terms (extractors defs))

@@ -1,7 +1,7 @@
-//! The declarations, external constructors and rules among definitions.
+//! The declarations, external constructors and extractors, and rules among definitions.
 
 ghost use Rattle.std.specs.Prelude.{◌≡◌, ◌++◌, OnOk};
-ghost use Rattle.isle_declarations.specs.Collected.{item_signatures, item_externs, item_rules};
+ghost use Rattle.isle_declarations.specs.Collected.{item_signatures, item_externs, item_extractors, item_rules};
 
 use crate::symbols::Symbols;
 use isle_ast::{AstExpr, AstIfLet, AstPattern};
@@ -31,6 +31,16 @@ pub struct Extern<'d> {
     pub func: &'d Text,
 }
 
+/// An external extractor: its term and its function, with their numbers, and whether it always answers.
+#[derive(Clone, Copy)]
+pub struct ExtractorDef<'d> {
+    pub number: usize,
+    pub term: &'d Text,
+    pub func_number: usize,
+    pub func: &'d Text,
+    pub infallible: bool,
+}
+
 /// A rule, and the number of its term's name.
 #[derive(Clone, Copy)]
 pub struct RuleDef<'d> {
@@ -49,6 +59,7 @@ pub struct RuleDef<'d> {
 pub enum Item<'d> {
     Declared(Signature<'d>),
     External(Extern<'d>),
+    Extractor(ExtractorDef<'d>),
     Rule(RuleDef<'d>),
     Other,
 }
@@ -59,6 +70,7 @@ pub struct Definitions<'d> {
     pub symbols: Symbols<'d>,
     pub signatures: Vec<Signature<'d>>,
     pub externs: Vec<Extern<'d>>,
+    pub extractors: Vec<ExtractorDef<'d>>,
     pub rules: Vec<RuleDef<'d>>,
 }
 
@@ -66,16 +78,19 @@ pub struct Definitions<'d> {
 pub fn keep<'d>(
     signatures: &mut Vec<Signature<'d>>,
     externs: &mut Vec<Extern<'d>>,
+    extractors: &mut Vec<ExtractorDef<'d>>,
     rules: &mut Vec<RuleDef<'d>>,
     item: Item<'d>,
 ) -> Result<(), AllocError>
     ensures signatures { OnOk result (signatures.new.items ≡ signatures.old.items ++ item_signatures item.entry) }
     ensures externs { OnOk result (externs.new.items ≡ externs.old.items ++ item_externs item.entry) }
+    ensures extractors { OnOk result (extractors.new.items ≡ extractors.old.items ++ item_extractors item.entry) }
     ensures rules { OnOk result (rules.new.items ≡ rules.old.items ++ item_rules item.entry) }
 {
     match item {
         Item::Declared(signature) => signatures.push(signature)?,
         Item::External(found) => externs.push(found)?,
+        Item::Extractor(found) => extractors.push(found)?,
         Item::Rule(rule) => rules.push(rule)?,
         Item::Other => {}
     }

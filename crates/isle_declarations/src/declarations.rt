@@ -1,24 +1,24 @@
-//! Declarations, external constructors and rules, looked up by the numbers of their names.
+//! Declarations, external constructors and extractors, and rules, looked up by the numbers of their names.
 
 ghost use Rattle.std.specs.Prelude.{◌≡◌, IfOk, length, map};
 ghost use Rattle.isle_ast.specs.Views.{defs as seen};
 ghost use Rattle.isle_declarations.specs.Symbols.{index_of, symbols};
 ghost use Rattle.isle_declarations.specs.DeclaredTypes.{made_of};
-ghost use Rattle.isle_declarations.specs.Signatures.{signatures, externs, rule_defs};
-ghost use Rattle.isle_declarations.specs.Heads.{terms_of, extern_terms, heads_of};
-ghost use Rattle.isle_declarations.specs.Collected.{AreSignatures, AreExterns, AreRules};
-ghost use Rattle.isle_declarations.specs.Tables.{IsFirstPlace, IsFuncNumber, any_repeat};
+ghost use Rattle.isle_declarations.specs.Signatures.{signatures, externs, extractors, rule_defs};
+ghost use Rattle.isle_declarations.specs.Heads.{terms_of, extern_terms, extractor_terms, heads_of};
+ghost use Rattle.isle_declarations.specs.Collected.{AreSignatures, AreExterns, AreExtractors, AreRules};
+ghost use Rattle.isle_declarations.specs.Tables.{IsFirstPlace, IsFuncNumber, IsExtractorKnown, any_repeat};
 
-use crate::collected::{Definitions, Extern, RuleDef, Signature};
+use crate::collected::{Definitions, Extern, ExtractorDef, RuleDef, Signature};
 use crate::first_places::{FirstPlaces, place_in};
 use crate::interning::definitions;
-use crate::tables::{declared_places, external_places, ruled_places};
+use crate::tables::{declared_places, external_places, extracting_places, ruled_places};
 use isle_ast::Def;
 use isle_core::{List, Text};
 use std::alloc::{AllocError, Global};
 use std::marker::Model;
 
-/// The declarations, external constructors and rules of definitions, with the numbers of their names. Contracts see the
+/// The declarations, external constructors and extractors, and rules of definitions, with the numbers of their names. Contracts see the
 /// definitions.
 #[derive(Drop)]
 pub struct Declarations<'d> {
@@ -26,6 +26,7 @@ pub struct Declarations<'d> {
     given: Definitions<'d>,
     declared: FirstPlaces,
     external: FirstPlaces,
+    extracting: FirstPlaces,
     ruled: FirstPlaces,
 }
 
@@ -43,7 +44,7 @@ impl<'d> Model for Declarations<'d> {
 
     ghost view = { λ k. k.defs.now };
 
-    ghost invariant = { λ k. AreTables (seen k.defs.now) k.given k.declared k.external k.ruled };
+    ghost invariant = { λ k. AreTables (seen k.defs.now) k.given k.declared k.external k.extracting k.ruled };
 }
 
 impl<'d> Declarations<'d> {
@@ -59,12 +60,14 @@ impl<'d> Declarations<'d> {
         let given = definitions(alloc, defs, made)?;
         let declared = declared_places(alloc, &given)?;
         let external = external_places(alloc, &given)?;
+        let extracting = extracting_places(alloc, &given)?;
         let ruled = ruled_places(alloc, &given)?;
         Ok(Declarations {
             defs,
             given,
             declared,
             external,
+            extracting,
             ruled,
         })
     }
@@ -111,6 +114,13 @@ impl<'d> Declarations<'d> {
         self.given.externs.as_slice()
     }
 
+    /// Returns the external extractors, in order.
+    pub fn extractors(&self) -> &[ExtractorDef<'d>]
+        ensures { AreExtractors (seen self.now) result.now }
+    {
+        self.given.extractors.as_slice()
+    }
+
     /// Returns the rules, in order.
     pub fn rules(&self) -> &[RuleDef<'d>]
         ensures { AreRules (seen self.now) result.now }
@@ -132,6 +142,13 @@ impl<'d> Declarations<'d> {
         place_in(self.external.table.as_slice(), number)
     }
 
+    /// Returns the place of the first external extractor of the term whose name has this number.
+    pub fn extracting(&self, number: usize) -> Option<usize>
+        ensures { IsFirstPlace (seen self.now) number (extractor_terms (extractors (seen self.now))) result }
+    {
+        place_in(self.extracting.table.as_slice(), number)
+    }
+
     /// Returns the place of the first rule of the term whose name has this number.
     pub fn rule(&self, number: usize) -> Option<usize>
         ensures { IsFirstPlace (seen self.now) number (heads_of (rule_defs (seen self.now))) result }
@@ -148,10 +165,20 @@ impl<'d> Declarations<'d> {
         Some(found.func_number)
     }
 
-    /// Tells whether two declarations or external constructors are of one term.
+    /// Returns the number of the function of the external extractor of the term whose name has this number, and whether it always
+    /// answers.
+    pub fn extractor(&self, number: usize) -> Option<(usize, bool)>
+        ensures { IsExtractorKnown (seen self.now) number result }
+    {
+        let place = self.extracting(number)?;
+        let found = self.given.extractors.get(place)?;
+        Some((found.func_number, found.infallible))
+    }
+
+    /// Tells whether two declarations, external constructors or external extractors are of one term.
     pub fn any_repeat(&self) -> bool
         ensures { result ≡ any_repeat (seen self.now) }
     {
-        self.declared.repeats || self.external.repeats
+        self.declared.repeats || self.external.repeats || self.extracting.repeats
     }
 }

@@ -8,7 +8,7 @@ ghost use Rattle.isle_declarations.specs.DeclaredTypes.{made_of};
 ghost use Rattle.isle_declarations.specs.Signatures.{is_collected, signature_of};
 ghost use Rattle.isle_declarations.specs.Collected.{IsItem, AreCollected, AreFound};
 
-use crate::collected::{Definitions, Extern, Item, RuleDef, Signature, keep};
+use crate::collected::{Definitions, Extern, ExtractorDef, Item, RuleDef, Signature, keep};
 use crate::pattern_interning::intern_pattern;
 use crate::rule_interning::intern_rule;
 use crate::symbols::Symbols;
@@ -34,7 +34,7 @@ fn intern_decl<'d>(
     Ok(number)
 }
 
-// The names in an external constructor, and their numbers.
+// The names in an external constructor or extractor, and their numbers.
 fn intern_extern<'d>(
     names: &mut Symbols<'d>,
     term: &'d Text,
@@ -99,7 +99,7 @@ fn intern_converter<'d>(
     intern_two(names, to, term)
 }
 
-// The names in a definition that is no declaration, external constructor or rule.
+// The names in a definition that is no declaration, external constructor, external extractor or rule.
 fn intern_uncollected<'d>(names: &mut Symbols<'d>, given: &'d Def) -> Result<(), AllocError>
     ensures { OnOk result (is_collected (def given.now) ≡ false → names.new ≡ fold added names.old (def_names (def given.now))) }
 {
@@ -107,7 +107,7 @@ fn intern_uncollected<'d>(names: &mut Symbols<'d>, given: &'d Def) -> Result<(),
         Def::TypeDecl { name, body, .. } => intern_type(names, name, body),
         Def::Decl { .. } => Ok(()),
         Def::ExternConstructor { .. } => Ok(()),
-        Def::ExternExtractor { term, func, .. } => intern_two(names, term, func),
+        Def::ExternExtractor { .. } => Ok(()),
         Def::ExternConst { name, ty, .. } => intern_two(names, name, ty),
         Def::Extractor {
             term,
@@ -135,6 +135,21 @@ fn intern_undeclared<'d>(names: &mut Symbols<'d>, given: &'d Def) -> Result<Item
                 term,
                 func_number,
                 func,
+            }))
+        }
+        Def::ExternExtractor {
+            term,
+            func,
+            infallible,
+            ..
+        } => {
+            let (number, func_number) = intern_extern(names, term, func)?;
+            Ok(Item::Extractor(ExtractorDef {
+                number,
+                term,
+                func_number,
+                func,
+                infallible: *infallible,
             }))
         }
         Def::Rule {
@@ -206,15 +221,23 @@ fn found_in<'d>(alloc: Global, defs: &'d [Def]) -> Result<Definitions<'d>, Alloc
     let mut symbols = Symbols::new(alloc);
     let mut signatures = Vec::new(alloc);
     let mut externs = Vec::new(alloc);
+    let mut extractors = Vec::new(alloc);
     let mut rules = Vec::new(alloc);
     for given in defs {
         let item = intern_def(&mut symbols, given)?;
-        keep(&mut signatures, &mut externs, &mut rules, item)?;
+        keep(
+            &mut signatures,
+            &mut externs,
+            &mut extractors,
+            &mut rules,
+            item,
+        )?;
     }
     Ok(Definitions {
         symbols,
         signatures,
         externs,
+        extractors,
         rules,
     })
 }

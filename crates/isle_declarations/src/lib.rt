@@ -17,7 +17,7 @@ mod terms;
 mod text_interning;
 mod type_interning;
 
-pub use collected::{Extern, RuleDef, Signature};
+pub use collected::{Extern, ExtractorDef, RuleDef, Signature};
 pub use declarations::Declarations;
 pub use declared_types::{constant_of, type_of};
 pub use made::made_each;

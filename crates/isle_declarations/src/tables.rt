@@ -1,10 +1,10 @@
-//! The first places of declarations, external constructors and rules, by the numbers of their terms.
+//! The first places of declarations, external constructors and extractors, and rules, by the numbers of their terms.
 
 ghost use Rattle.std.specs.Prelude.{◌≡◌, IfOk, map};
 ghost use Rattle.isle_declarations.specs.Collected.{AreAllNumbered};
-ghost use Rattle.isle_declarations.specs.Tables.{declared_names, external_names, ruled_names, HasFirsts};
+ghost use Rattle.isle_declarations.specs.Tables.{declared_names, external_names, extracting_names, ruled_names, HasFirsts};
 
-use crate::collected::{Definitions, Extern, RuleDef, Signature};
+use crate::collected::{Definitions, Extern, ExtractorDef, RuleDef, Signature};
 use crate::first_places::{FirstPlaces, first_places};
 use std::alloc::{AllocError, Global};
 
@@ -25,6 +25,17 @@ fn extern_numbers(alloc: Global, externs: &[Extern]) -> Result<Vec<usize>, Alloc
 {
     let mut numbers = Vec::with_capacity(alloc, externs.len())?;
     for given in externs {
+        numbers.push(given.number)?;
+    }
+    Ok(numbers)
+}
+
+// The numbers of the terms of external extractors.
+fn extractor_numbers(alloc: Global, extractors: &[ExtractorDef]) -> Result<Vec<usize>, AllocError>
+    ensures { IfOk result (λ numbers. numbers.items ≡ map (λ x. x.number) extractors.now) }
+{
+    let mut numbers = Vec::with_capacity(alloc, extractors.len())?;
+    for given in extractors {
         numbers.push(given.number)?;
     }
     Ok(numbers)
@@ -56,6 +67,15 @@ pub fn external_places(alloc: Global, given: &Definitions) -> Result<FirstPlaces
     ensures { IfOk result (λ found. HasFirsts given.now.symbols (external_names given.now) found) }
 {
     let numbers = extern_numbers(alloc, given.externs.as_slice())?;
+    first_places(alloc, given.symbols.len(), numbers.as_slice())
+}
+
+/// Returns the first places of external extractors.
+pub fn extracting_places(alloc: Global, given: &Definitions) -> Result<FirstPlaces, AllocError>
+    requires { AreAllNumbered given.now }
+    ensures { IfOk result (λ found. HasFirsts given.now.symbols (extracting_names given.now) found) }
+{
+    let numbers = extractor_numbers(alloc, given.extractors.as_slice())?;
     first_places(alloc, given.symbols.len(), numbers.as_slice())
 }
 

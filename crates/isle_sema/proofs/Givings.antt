@@ -1,6 +1,6 @@
 -- The environment of definitions that no test refuses.
 use Rattle.std.proofs.Common.{◌≡◌, Bool, true, false, List, [], ◌∷◌, map, Some, None, refl, sym, ap, ◌∙◌, subst}
-use Rattle.std.specs.Prelude.{◌||◌, not, option_map, option_and_then}
+use Rattle.std.specs.Prelude.{◌&&◌, ◌||◌, not, option_map, option_and_then}
 use Rattle.std.specs.List.{list_all, list_any}
 use Rattle.std.proofs.lemmas.Bool.{or_parts, or_from, and_from}
 use Rattle.isle_core.specs.declared.types.Term.{Term}
@@ -8,15 +8,14 @@ use Rattle.isle_core.specs.declared.types.TermEnv.{TermEnv}
 use Rattle.isle_core.specs.Rule.{Rule as CoreRule, Environment}
 use Rattle.isle_core.specs.RuleViews.{rule as elaborated_rule, environment}
 use Rattle.isle_ast.specs.Tree.{Def}
-use Rattle.isle_declarations.specs.Signatures.{Signature, signatures, externs, rule_defs}
+use Rattle.isle_declarations.specs.Signatures.{Signature, signatures, externs, extractors, rule_defs}
 use Rattle.isle_declarations.specs.Terms.{terms}
 use Rattle.isle_types.specs.Fault.{type_fault}
 use Rattle.isle_types.specs.TypeEnvironment.{type_env_of}
-use Rattle.isle_declarations.specs.Heads.{terms_of, extern_terms}
+use Rattle.isle_declarations.specs.Heads.{terms_of, extern_terms, extractor_terms}
 use Rattle.isle_declarations.specs.Repeats.{repeats}
-use Rattle.isle_sema.specs.Language.{is_built_def, rules_call_ruled}
-use Rattle.isle_sema.specs.Tests.{is_misdeclared, has_undeclared}
-use Rattle.isle_sema.specs.Language.{is_built_def}
+use Rattle.isle_sema.specs.Language.{is_built_def, rules_call_ruled, gives_one}
+use Rattle.isle_sema.specs.Tests.{is_misdeclared, has_undeclared, has_unknown}
 use Rattle.isle_sema.specs.RulePass.{rules_pass}
 use Rattle.isle_sema.specs.Fault.{OfTypes, OfTerms, OfExtractors, OfRules, or_later, fault_in}
 use Rattle.isle_sema.specs.Environment.{whole_of, env_over, terms_pass}
@@ -25,7 +24,7 @@ use Rattle.isle_sema.specs.Typing.{Typed, TypedOnly}
 use Rattle.isle_sema.proofs.TypedOnce.{typed_only}
 use Rattle.isle_declarations.specs.Tables.{any_repeat}
 use Rattle.isle_sema.specs.Taken.{taken_rules}
-use Rattle.isle_sema.proofs.BuiltForms.{both, rules_built}
+use Rattle.isle_sema.proofs.BuiltForms.{both}
 use Rattle.isle_sema.proofs.Firsts.{none_stages}
 use Rattle.isle_sema.proofs.TypedParts.{typed_in}
 use Rattle.isle_sema.proofs.TermFaults.{names_no_type, is_made_twice, has_too_many, extractors_none, is_headless, TermParts, terms_kept, terms_none}
@@ -65,7 +64,7 @@ kept {ds = ds} {env = env} t =
     record {
       parts = terms_kept ds [] ds g.built g.terms_kept;
       rules = env.rules;
-      taken = are_taken w 0 (rule_defs ds) env.rules (rules_built ds g.built) (record { kept = none_fault w [] ds g.rules_kept; calls = g.unruled; trees = g.rules });
+      taken = are_taken w 0 (rule_defs ds) env.rules (record { kept = none_fault w [] ds g.rules_kept; calls = g.unruled; trees = g.rules });
     }
 
 -- definitions of other forms give none
@@ -79,11 +78,20 @@ misdeclared_untyped ds h env t =
 
 pub repeated_untyped : (ds : List Def) → any_repeat ds ≡ true → (env : Environment) → Typed ds env → ⊥
 repeated_untyped ds h env t =
-    let k = kept t in
-    both h (or_from (repeats (terms_of (signatures ds))) (repeats (extern_terms (externs ds))) k.parts.apart k.parts.externs_apart)
+    let p = (kept t).parts in
+    let declared = repeats (terms_of (signatures ds)) in
+    let external = repeats (extern_terms (externs ds)) in
+    both h (or_from (declared || external) (repeats (extractor_terms (extractors ds))) (or_from declared external p.apart p.externs_apart) p.extractors_apart)
 
 pub undeclared_untyped : (ds : List Def) → has_undeclared (signatures ds) (externs ds) ≡ true → (env : Environment) → Typed ds env → ⊥
 undeclared_untyped ds h env t = both h (kept t).parts.known
+
+pub unknown_untyped : (ds : List Def) → has_unknown (signatures ds) (extractors ds) ≡ true → (env : Environment) → Typed ds env → ⊥
+unknown_untyped ds h env t = both h (kept t).parts.extracted
+
+-- nor those where an external extractor gives several results, or none
+pub several_untyped : (ds : List Def) → list_all (gives_one (signatures ds)) (extractors ds) ≡ false → (env : Environment) → Typed ds env → ⊥
+several_untyped ds h env t = both (typed_in t).single h
 
 pub headless_untyped : (ds : List Def) → list_any (is_headless ds) (rule_defs ds) ≡ true → (env : Environment) → Typed ds env → ⊥
 headless_untyped ds h env t = both h (kept t).parts.heads
@@ -96,23 +104,27 @@ pub untaken_untyped : (ds : List Def) → None ≡ taken_rules (whole_of ds) 0 (
 untaken_untyped ds h env t = let k = kept t in let bad : None ≡ Some k.rules = h ∙ k.taken in cc
 
 -- no test refuses the definitions
-pub parts_of : (ds : List Def) → list_any (is_misdeclared ds) (signatures ds) ≡ false → any_repeat ds ≡ false → has_undeclared (signatures ds) (externs ds) ≡ false → list_any (is_headless ds) (rule_defs ds) ≡ false → TermParts ds [] ds
-parts_of ds declared apart known heads =
+pub parts_of : (ds : List Def) → list_any (is_misdeclared ds) (signatures ds) ≡ false → any_repeat ds ≡ false → has_undeclared (signatures ds) (externs ds) ≡ false → has_unknown (signatures ds) (extractors ds) ≡ false
+    → list_any (is_headless ds) (rule_defs ds) ≡ false → TermParts ds [] ds
+parts_of ds declared apart known extracted heads =
     let d = or_parts (list_any has_too_many (signatures ds)) (list_any (names_no_type ds) (signatures ds) || list_any (is_made_twice ds) (signatures ds)) (sym (misdeclared_parts ds (signatures ds)) ∙ declared) in
     let t = or_parts (list_any (names_no_type ds) (signatures ds)) (list_any (is_made_twice ds) (signatures ds)) d.1 in
-    let a = or_parts (repeats (terms_of (signatures ds))) (repeats (extern_terms (externs ds))) apart in
-    record { apart = a.0; unmade = t.1; typed = t.0; few = d.0; externs_apart = a.1; known = known; heads = heads }
+    let a = or_parts (repeats (terms_of (signatures ds)) || repeats (extern_terms (externs ds))) (repeats (extractor_terms (extractors ds))) apart in
+    let b = or_parts (repeats (terms_of (signatures ds))) (repeats (extern_terms (externs ds))) a.0 in
+    record { apart = b.0; unmade = t.1; typed = t.0; few = d.0; externs_apart = b.1; extractors_apart = a.1; known = known; extracted = extracted; heads = heads }
 
 -- ---- the environment
 
 -- definitions that no test refuses give what is made of them
-pub given_typed : (ds : List Def) (t : TermEnv) → list_all is_built_def ds ≡ true → type_fault ds ≡ None → TermParts ds [] ds → terms_pass (whole_of ds) (terms ds) ≡ Some t.terms
+pub given_typed : (ds : List Def) (t : TermEnv) → list_all is_built_def ds ≡ true → list_all (gives_one (signatures ds)) (extractors ds) ≡ true → type_fault ds ≡ None → TermParts ds [] ds → terms_pass (whole_of ds) (terms ds) ≡ Some t.terms
     → taken_rules (whole_of ds) 0 (rule_defs ds) ≡ Some (map elaborated_rule t.rules) → t.converters ≡ [] → Typed ds (environment (type_env_of ds) t)
-given_typed ds t built types parts given rules none =
+given_typed ds t built single types parts given rules none =
     let w = whole_of ds in
-    let k = taken_are w 0 (rule_defs ds) (map elaborated_rule t.rules) (rules_built ds built) rules in
+    let forms = list_all is_built_def ds in
+    let one = list_all (gives_one (signatures ds)) (extractors ds) in
+    let k = taken_are w 0 (rule_defs ds) (map elaborated_rule t.rules) rules in
     record {
-      built = and_from (list_all is_built_def ds) (not (rules_call_ruled (rule_defs ds) (rule_defs ds))) built (ap not k.calls);
+      built = and_from (forms && one) (not (rules_call_ruled (rule_defs ds) (rule_defs ds))) (and_from forms one built single) (ap not k.calls);
       sound =
           none_stages (fault_in OfTypes w) (or_later (fault_in OfTerms w) (or_later (fault_in OfExtractors w) (fault_in OfRules w))) types
           (none_stages (fault_in OfTerms w) (or_later (fault_in OfExtractors w) (fault_in OfRules w)) (terms_none ds [] ds built parts) (none_stages (fault_in OfExtractors w) (fault_in OfRules w) (extractors_none w [] ds built) (fault_none w [] ds k.kept)));

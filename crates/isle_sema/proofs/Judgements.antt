@@ -10,7 +10,7 @@ use Rattle.isle_core.specs.declared.TypeId.{TypeId}
 use Rattle.isle_ast.specs.Tree.{IfLet}
 use Rattle.isle_sema.specs.declared.judged.Judged.{Judged}
 use Rattle.isle_sema.specs.declared.known.Called.{Called}
-use Rattle.isle_declarations.specs.Signatures.{Signature, RuleDef, externs, rule_defs, func_named, has_rule}
+use Rattle.isle_declarations.specs.Signatures.{Signature, RuleDef, externs, extractors, rule_defs, func_named, extractor_named, has_rule}
 use Rattle.isle_sema.specs.Site.{Site, CalledAt, TakenAt, NotBuiltAt}
 use Rattle.isle_sema.specs.Whole.{Whole, termed}
 use Rattle.isle_declarations.specs.Terms.{is_made}
@@ -81,7 +81,7 @@ called_judged w s c j expected count nodes differs other more h =
 -- a term in a pattern, by what is known of it
 pub taken_judged : (w : Whole) (s : Signature) (c : Called) (j : Judged) (expected : Option TypeId) (count nodes : ℕ) (differs : Bool) → differs ≡ differ (Some c.ret) expected → nodes ≡ min (j.nodes + 1) (2 ^ 64 - 1) → IsCalled w s c
     → record {
-      untaken = (not (count == length c.args.now) || not c.made) || j.untaken;
+      untaken = (not (count == length c.args.now) || not (c.made || c.extracting)) || j.untaken;
       mistaken = differs || j.mistaken;
       misplaced = j.misplaced;
       undeclared = j.undeclared;
@@ -96,8 +96,8 @@ pub taken_judged : (w : Whole) (s : Signature) (c : Called) (j : Judged) (expect
     }
     ≡ judge w j (TakenAt expected (Some s) count)
 taken_judged w s c j expected count nodes differs other more h =
-    let put : ℕ → Bool → Bool → ℕ → Judged = λ n made differs nodes. record {
-      untaken = (not (count == n) || not made) || j.untaken;
+    let put : ℕ → Bool → Bool → Bool → ℕ → Judged = λ n made extracting differs nodes. record {
+      untaken = (not (count == n) || not (made || extracting)) || j.untaken;
       mistaken = differs || j.mistaken;
       misplaced = j.misplaced;
       undeclared = j.undeclared;
@@ -111,8 +111,10 @@ taken_judged w s c j expected count nodes differs other more h =
       nodes = nodes;
     } in
     let long : length c.args.now ≡ length s.args = sym (length-map c.args.now Some) ∙ ap length (sym h.args) ∙ length-map s.args (type_named w.defs) in
-    ap (λ n. put n c.made differs nodes) long ∙ ap (λ b. put (length s.args) b differs nodes) (sym h.made)
-    ∙ ap (λ b. put (length s.args) (is_made s.origin) b nodes) (other ∙ ap (λ ty. differ ty expected) (sym h.ret)) ∙ ap (put (length s.args) (is_made s.origin) (differ (type_named w.defs s.ret) expected)) more
+    let made = is_made s.origin in
+    let extracting = is_some (extractor_named (extractors w.defs) s.term) in
+    ap (λ n. put n c.made c.extracting differs nodes) long ∙ ap (λ b. put (length s.args) b c.extracting differs nodes) (sym h.made) ∙ ap (λ b. put (length s.args) made b differs nodes) (sym h.extracting)
+    ∙ ap (λ b. put (length s.args) made extracting b nodes) (other ∙ ap (λ ty. differ ty expected) (sym h.ret)) ∙ ap (put (length s.args) made extracting (differ (type_named w.defs s.ret) expected)) more
 
 -- ---- parts in order
 
@@ -202,7 +204,7 @@ tests_fail false false false false false false false false false false false non
 -- the tests of a rule under what gives its head, over the parts of both sides
 abbrev pub tests_of : Whole → RuleDef → Option Signature → List Site → List Site → Option Row
 tests_of w r o sites rs =
-    tests (on o (λ (s : Signature). not (length r.args == length s.args)) || list_any is_untaken sites) (list_any (is_mistaken w) sites) (list_any (is_misplaced w) sites) (list_any is_undeclared sites) (list_any is_met_otherwise sites) (list_any (is_unknown w) sites)
+    tests (on o (λ (s : Signature). not (length r.args == length s.args)) || list_any (is_untaken w) sites) (list_any (is_mistaken w) sites) (list_any (is_misplaced w) sites) (list_any is_undeclared sites) (list_any is_met_otherwise sites) (list_any (is_unknown w) sites)
     (list_any (is_mistyped w) sites) (on o (λ (s : Signature). not s.partial && list_any is_partial_call rs)) (on o (λ (s : Signature). s.pure && list_any is_impure_call rs))
     (on o (λ (s : Signature). not s.multi && list_any is_multi_call sites)) (not (nat_le (length sites) 4096))
 
@@ -230,8 +232,8 @@ lowest_is w r s own is h none =
     let l = judge_all w unjudged ps in
     let m = judge_all w unjudged rs in
     let both : (f : Judged → Bool) (test : Site → Bool) → ((j : Judged) (x : Site) → f (judge w j x) ≡ test x || f j) → f unjudged ≡ false → f l || f m ≡ list_any test all = λ f test step new. any_both w f test step new ps rs in
-    let arity : not (length r.args == length own.args.now) || (l.untaken || m.untaken) ≡ not (length r.args == length s.args) || list_any is_untaken all =
-    ap (λ n. not (length r.args == n) || (l.untaken || m.untaken)) long ∙ ap (λ b. not (length r.args == length s.args) || b) (both (λ j. j.untaken) is_untaken (λ j x. refl) refl) in
+    let arity : not (length r.args == length own.args.now) || (l.untaken || m.untaken) ≡ not (length r.args == length s.args) || list_any (is_untaken w) all =
+    ap (λ n. not (length r.args == n) || (l.untaken || m.untaken)) long ∙ ap (λ b. not (length r.args == length s.args) || b) (both (λ j. j.untaken) (is_untaken w) (λ j x. refl) refl) in
     let partial : not own.partial && m.partial ≡ not s.partial && list_any is_partial_call rs = ap (λ b. not b && m.partial) (sym h.partial) ∙ ap (λ b. not s.partial && b) (any_new w (λ j. j.partial) is_partial_call (λ j x. refl) refl rs) in
     let impure : own.pure && m.impure ≡ s.pure && list_any is_impure_call rs = ap (λ b. b && m.impure) (sym h.pure) ∙ ap (λ b. s.pure && b) (any_new w (λ j. j.impure) is_impure_call (λ j x. refl) refl rs) in
     let multi : not own.multi && (l.multi || m.multi) ≡ not s.multi && list_any is_multi_call all = ap (λ b. not b && (l.multi || m.multi)) (sym h.multi) ∙ ap (λ b. not s.multi && b) (both (λ j. j.multi) is_multi_call (λ j x. refl) refl) in
@@ -241,7 +243,7 @@ lowest_is w r s own is h none =
 
 -- where a rule breaks no row, each test fails
 pub row_fails : (w : Whole) (r : RuleDef) → row_of w r ≡ None
-    → AllFail (on (termed w r.term) (λ (s : Signature). not (length r.args == length s.args)) || list_any is_untaken (sites_of w r)) (list_any (is_mistaken w) (sites_of w r)) (list_any (is_misplaced w) (sites_of w r)) (list_any is_undeclared (sites_of w r))
+    → AllFail (on (termed w r.term) (λ (s : Signature). not (length r.args == length s.args)) || list_any (is_untaken w) (sites_of w r)) (list_any (is_mistaken w) (sites_of w r)) (list_any (is_misplaced w) (sites_of w r)) (list_any is_undeclared (sites_of w r))
     (list_any is_met_otherwise (sites_of w r)) (list_any (is_unknown w) (sites_of w r)) (list_any (is_mistyped w) (sites_of w r))
     (on (termed w r.term) (λ (s : Signature). not s.partial && list_any is_partial_call (right_side_of w r).sites)) (on (termed w r.term) (λ (s : Signature). s.pure && list_any is_impure_call (right_side_of w r).sites))
     (on (termed w r.term) (λ (s : Signature). not s.multi && list_any is_multi_call (sites_of w r))) (not (nat_le (length (sites_of w r)) 4096))

@@ -1,6 +1,7 @@
 -- A name's term is the one at the name's place.
-use Rattle.std.proofs.Common.{◌≡◌, ℕ, zero, suc, List, [], ◌∷◌, map, Option, Some, None, refl, sym, ap, ◌∙◌, subst}
+use Rattle.std.proofs.Common.{◌≡◌, ℕ, zero, suc, ◌+◌, Bool, true, false, cond, List, [], ◌∷◌, map, Option, Some, None, refl, sym, ap, ◌∙◌, subst}
 use Rattle.std.specs.Prelude.{is_some, option_map, option_and_then, slice_get}
+use Rattle.std.specs.Str.{bytes_eq}
 use Rattle.std.proofs.lemmas.Option.{same_Some}
 use Rattle.isle_core.specs.declared.Sym.{Sym}
 use Rattle.isle_core.specs.declared.TypeId.{TypeId}
@@ -8,9 +9,9 @@ use Rattle.isle_core.specs.declared.types.Term.{Term}
 use Rattle.isle_core.specs.declared.types.TypeEnv.{TypeEnv}
 use Rattle.isle_declarations.specs.DeclaredTypes.{Constant, constants}
 use Rattle.isle_declarations.specs.Symbols.{index_of}
-use Rattle.isle_declarations.specs.Signatures.{Signature, externs, rule_defs, term_named, func_named, has_rule}
+use Rattle.isle_declarations.specs.Signatures.{Signature, ExtractorDef, externs, extractors, rule_defs, term_named, func_named, extractor_named, has_rule}
 use Rattle.isle_declarations.specs.Terms.{terms as all_terms, is_made}
-use Rattle.isle_declarations.specs.Heads.{terms_of, extern_terms, heads_of}
+use Rattle.isle_declarations.specs.Heads.{terms_of, extern_terms, extractor_terms, heads_of}
 use Rattle.isle_declarations.proofs.LookUps.{at_place, named_at, named_is}
 use Rattle.isle_declarations.proofs.NumberLaws.{has_func, has_head}
 use Rattle.isle_sema.specs.declared.known.Called.{Called}
@@ -45,11 +46,21 @@ known_beyond w name place at past = let none : termed w name ≡ None = named_at
 pub known_past : (w : Whole) (terms : List Term) (name : List ℕ) (place : ℕ) → terms_pass w (all_terms w.defs) ≡ Some terms → index_of (terms_of (all_terms w.defs)) name ≡ Some place → slice_get terms place ≡ None → MayBeCalled w (termed w name) None
 known_past w terms name place made at past = known_beyond w name place at (term_past w (all_terms w.defs) terms place made past)
 
+named_later : {X : Type 0} (x : X) (b : Bool) (o : Option X) (p : Option ℕ) → is_some o ≡ is_some p → is_some (cond b (Some x) o) ≡ is_some (cond b (Some 0) (option_map (λ (n : ℕ). n + 1) p))
+named_later x true o p h = refl
+named_later x false o None h = h
+named_later x false o (Some n) h = h
+
+-- a term has an external extractor where it is among their terms
+has_extractor : (xs : List ExtractorDef) (name : List ℕ) → is_some (extractor_named xs name) ≡ is_some (index_of (extractor_terms xs) name)
+has_extractor [] name = refl
+has_extractor (x ∷ xs) name = named_later x (bytes_eq x.term name) (extractor_named xs name) (index_of (extractor_terms xs) name) (has_extractor xs name)
+
 -- the term of a name
 pub known_at : (w : Whole) (terms : List Term) (name : List ℕ) (place : ℕ) (t : Term) (s : Signature) (c : Called) → terms_pass w (all_terms w.defs) ≡ Some terms → index_of (terms_of (all_terms w.defs)) name ≡ Some place
     → slice_get terms place ≡ Some t → slice_get (all_terms w.defs) place ≡ Some s → c.term ≡ record { 0 = place } → c.args.now ≡ t.arg_tys → c.ret ≡ t.ret_ty → s.pure ≡ c.pure → s.multi ≡ c.multi → s.partial ≡ c.partial → is_made s.origin ≡ c.made
-    → c.external ≡ is_some (index_of (extern_terms (externs w.defs)) name) → c.ruled ≡ is_some (index_of (heads_of (rule_defs w.defs)) name) → MayBeCalled w (termed w name) (Some c)
-known_at w terms name place t s c made at term given id args ret pure multi partial by_type is_external is_ruled =
+    → c.external ≡ is_some (index_of (extern_terms (externs w.defs)) name) → c.extracting ≡ is_some (index_of (extractor_terms (extractors w.defs)) name) → c.ruled ≡ is_some (index_of (heads_of (rule_defs w.defs)) name) → MayBeCalled w (termed w name) (Some c)
+known_at w terms name place t s c made at term given id args ret pure multi partial by_type is_external is_extracting is_ruled =
     let is : termed w name ≡ Some s = named_at (all_terms w.defs) name ∙ ap (at_place (all_terms w.defs)) at ∙ given in
     let named : s.term ≡ name = named_is (all_terms w.defs) name s is in
     let m = term_made w (all_terms w.defs) terms place s made given in
@@ -65,6 +76,7 @@ known_at w terms name place t s c made at term given id args ret pure multi part
       partial = partial;
       made = by_type;
       external = ap (λ n. is_some (func_named (externs w.defs) n)) named ∙ has_func (externs w.defs) name ∙ sym is_external;
+      extracting = ap (λ n. is_some (extractor_named (extractors w.defs) n)) named ∙ has_extractor (extractors w.defs) name ∙ sym is_extracting;
       ruled = ap (has_rule (rule_defs w.defs)) named ∙ sym (has_head (rule_defs w.defs) name) ∙ sym is_ruled;
     })
 

@@ -4,7 +4,6 @@ pub mod Firsts
 pub mod KnownLaws
 pub mod TermFaults
 pub mod BuiltForms
-pub mod BuiltParts
 pub mod FormSteps
 pub mod CallLaws
 pub mod ReducedLaws
@@ -23,6 +22,7 @@ pub mod TypedConstants
 pub mod TypedTerms
 pub mod NamesApart
 pub mod MadeForms
+pub mod OpenedTerms
 pub mod TypedPatterns
 pub mod RuleRoots
 pub mod VariableTypes
@@ -31,7 +31,9 @@ pub mod RulePlaces
 pub mod TypedSides
 pub mod TypedExprs
 pub mod TypedRules
+pub mod TypedSingle
 pub mod BuiltRules
+pub mod SingleExtractors
 pub mod TestablePatterns
 pub mod SerializableCalls
 pub mod SerializableRules

@@ -1,10 +1,10 @@
 -- The rules that are taken break no row, call no term that has a rule, and have trees.
 use Rattle.std.proofs.Common.{◌≡◌, ℕ, zero, suc, ◌+◌, ◌≤◌, length, arith, Bool, true, false, cond, List, [], ◌∷◌, ◌++◌, map, Option, Some, None, refl, sym, ap, ◌∙◌}
 use Rattle.std.specs.Prelude.{◌||◌, is_some, option_map, option_and_then, slice_get}
-use Rattle.std.specs.List.{AllByRecursion, list_any}
+use Rattle.std.specs.List.{list_any}
 use Rattle.std.proofs.lemmas.List.{length-map, append-nil}
 use Rattle.std.proofs.lemmas.List.Folds.{list_any-append}
-use Rattle.std.proofs.lemmas.Bool.{or_parts, or_from, and_parts}
+use Rattle.std.proofs.lemmas.Bool.{or_parts, or_from}
 use Rattle.isle_core.specs.declared.TermId.{TermId}
 use Rattle.isle_core.specs.declared.TypeId.{TypeId}
 use Rattle.isle_core.specs.Pattern.{Pattern as CorePattern}
@@ -17,7 +17,6 @@ use Rattle.isle_ast.specs.Tree.{Expr, Exprs, NoExpr, AnExpr, Lets, NoLet, ALet, 
 use Rattle.isle_declarations.specs.Terms.{terms}
 use Rattle.isle_declarations.specs.Signatures.{Signature, RuleDef, rule_defs, has_rule, signature_named, term_named}
 use Rattle.isle_sema.specs.Calls.{count_of, calls_ruled, any_calls_ruled, lets_call_ruled}
-use Rattle.isle_sema.specs.Language.{is_built_expr, are_built_exprs, are_built_lets}
 use Rattle.isle_types.specs.declared.row.Row.{Row}
 use Rattle.isle_sema.specs.Locals.{Local, Bound, of_patterns, bound_local, locals_of}
 use Rattle.isle_sema.specs.Scope.{Scope}
@@ -43,7 +42,6 @@ use Rattle.isle_sema.proofs.Firsts.{later_none, none_later, any_parts}
 use Rattle.isle_sema.proofs.Judgements.{ruled_all, lowest_is, all_known}
 use Rattle.isle_declarations.proofs.LookUps.{at_place, named_at, named_is}
 use Rattle.isle_declarations.proofs.SymbolLaws.{index_below}
-use Rattle.isle_sema.proofs.BuiltForms.{IsRuleBuilt}
 use Rattle.isle_sema.proofs.MadeTerms.{first_there, before_both}
 
 -- a rule breaks a row
@@ -103,43 +101,40 @@ split_any test xs ys = list_any-append test xs ys
 
 mutual
   -- an expression whose names are known calls a term that has a rule where one of its parts does
-  pub calls_here : (w : Whole) (locals : List Local) (next : ℕ) (expected : Option TypeId) (e : Expr) → is_built_expr e ≡ true → list_any (is_unknown w) (expr_pass w locals next expected e).sites ≡ false
+  pub calls_here : (w : Whole) (locals : List Local) (next : ℕ) (expected : Option TypeId) (e : Expr) → list_any (is_unknown w) (expr_pass w locals next expected e).sites ≡ false
       → list_any (is_ruled_call w) (expr_pass w locals next expected e).sites ≡ calls_ruled (rule_defs w.defs) e
-  calls_here w locals next expected (tree.Number n) built h = refl
-  calls_here w locals next expected (tree.Fact b) built h = refl
-  calls_here w locals next expected (tree.Name name) built h = refl
-  calls_here w locals next expected (tree.Constant name) built h = refl
-  calls_here w locals next expected (tree.Let ls inner) built h =
-      let b = and_parts (are_built_lets ls) (is_built_expr inner) built in
+  calls_here w locals next expected (tree.Number n) h = refl
+  calls_here w locals next expected (tree.Fact b) h = refl
+  calls_here w locals next expected (tree.Name name) h = refl
+  calls_here w locals next expected (tree.Constant name) h = refl
+  calls_here w locals next expected (tree.Let ls inner) h =
       let bound = lets_pass w locals next ls in
       let rest = (expr_pass w bound.locals bound.next expected inner).sites in
       let k = any_parts (is_unknown w) bound.sites rest h in
       split_any (is_ruled_call w) bound.sites rest
       ∙ both_are (list_any (is_ruled_call w) bound.sites) (list_any (is_ruled_call w) rest) (lets_call_ruled (rule_defs w.defs) ls) (calls_ruled (rule_defs w.defs) inner)
-      (calls_let w locals next ls b.0 k.0) (calls_here w bound.locals bound.next expected inner b.1 k.1)
-  calls_here w locals next expected (tree.Call name es) built h =
+      (calls_let w locals next ls k.0) (calls_here w bound.locals bound.next expected inner k.1)
+  calls_here w locals next expected (tree.Call name es) h =
       let sites = (exprs_pass w locals next (arg_types w (termed w name)) es).sites in
       let k = or_parts (is_call_misfit w (termed w name) (count_of es)) (list_any (is_unknown w) sites) h in
       both_are (on (termed w name) (λ (s : Signature). has_rule (rule_defs w.defs) s.term)) (list_any (is_ruled_call w) sites) (has_rule (rule_defs w.defs) name) (any_calls_ruled (rule_defs w.defs) es)
-      (ruled_at w name (termed w name) (count_of es) refl k.0) (calls_in w locals next (arg_types w (termed w name)) es built k.1)
+      (ruled_at w name (termed w name) (count_of es) refl k.0) (calls_in w locals next (arg_types w (termed w name)) es k.1)
 
-  calls_in : (w : Whole) (locals : List Local) (next : ℕ) (expected : List (Option TypeId)) (es : Exprs) → are_built_exprs es ≡ true → list_any (is_unknown w) (exprs_pass w locals next expected es).sites ≡ false
+  calls_in : (w : Whole) (locals : List Local) (next : ℕ) (expected : List (Option TypeId)) (es : Exprs) → list_any (is_unknown w) (exprs_pass w locals next expected es).sites ≡ false
       → list_any (is_ruled_call w) (exprs_pass w locals next expected es).sites ≡ any_calls_ruled (rule_defs w.defs) es
-  calls_in w locals next expected NoExpr built h = refl
-  calls_in w locals next expected (AnExpr e es) built h =
-      let b = and_parts (is_built_expr e) (are_built_exprs es) built in
+  calls_in w locals next expected NoExpr h = refl
+  calls_in w locals next expected (AnExpr e es) h =
       let one = expr_pass w locals next (first_expected expected) e in
       let first = one.sites in
       let rest = (exprs_pass w locals one.next (later_expected expected) es).sites in
       let k = any_parts (is_unknown w) first rest h in
       split_any (is_ruled_call w) first rest
       ∙ both_are (list_any (is_ruled_call w) first) (list_any (is_ruled_call w) rest) (calls_ruled (rule_defs w.defs) e) (any_calls_ruled (rule_defs w.defs) es)
-      (calls_here w locals next (first_expected expected) e b.0 k.0) (calls_in w locals one.next (later_expected expected) es b.1 k.1)
+      (calls_here w locals next (first_expected expected) e k.0) (calls_in w locals one.next (later_expected expected) es k.1)
 
-  calls_let : (w : Whole) (locals : List Local) (next : ℕ) (ls : Lets) → are_built_lets ls ≡ true → list_any (is_unknown w) (lets_pass w locals next ls).sites ≡ false → list_any (is_ruled_call w) (lets_pass w locals next ls).sites ≡ lets_call_ruled (rule_defs w.defs) ls
-  calls_let w locals next NoLet built h = refl
-  calls_let w locals next (ALet var ty e ls) built h =
-      let b = and_parts (is_built_expr e) (are_built_lets ls) built in
+  calls_let : (w : Whole) (locals : List Local) (next : ℕ) (ls : Lets) → list_any (is_unknown w) (lets_pass w locals next ls).sites ≡ false → list_any (is_ruled_call w) (lets_pass w locals next ls).sites ≡ lets_call_ruled (rule_defs w.defs) ls
+  calls_let w locals next NoLet h = refl
+  calls_let w locals next (ALet var ty e ls) h =
       let of = type_named w.defs ty in
       let value = expr_pass w locals (suc next) of e in
       let more = bound_local locals var of next in
@@ -147,14 +142,14 @@ mutual
       let k = any_parts (is_unknown w) value.sites rest h in
       split_any (is_ruled_call w) value.sites rest
       ∙ both_are (list_any (is_ruled_call w) value.sites) (list_any (is_ruled_call w) rest) (calls_ruled (rule_defs w.defs) e) (lets_call_ruled (rule_defs w.defs) ls)
-      (calls_here w locals (suc next) of e b.0 k.0) (calls_let w more value.next ls b.1 k.1)
+      (calls_here w locals (suc next) of e k.0) (calls_let w more value.next ls k.1)
 
 -- the same of a rule that breaks no row
-rule_calls : (w : Whole) (r : RuleDef) → is_built_expr r.rhs ≡ true → is_broken w r ≡ false → calls_rule w r ≡ calls_ruled (rule_defs w.defs) r.rhs
-rule_calls w r built h =
+rule_calls : (w : Whole) (r : RuleDef) → is_broken w r ≡ false → calls_rule w r ≡ calls_ruled (rule_defs w.defs) r.rhs
+rule_calls w r h =
     let known = all_known w r (none_is (row_of w r) h) in
     let right = any_parts (is_unknown w) (patterns_of w r).sites (map (λ (c : IfLet). NotBuiltAt) r.iflets ++ (right_side_of w r).sites) known in
-    calls_here w (of_patterns (patterns_of w r).scope) (length (patterns_of w r).scope) _ r.rhs built (any_parts (is_unknown w) (map (λ (c : IfLet). NotBuiltAt) r.iflets) (right_side_of w r).sites right.1).1
+    calls_here w (of_patterns (patterns_of w r).scope) (length (patterns_of w r).scope) _ r.rhs (any_parts (is_unknown w) (map (λ (c : IfLet). NotBuiltAt) r.iflets) (right_side_of w r).sites right.1).1
 
 -- ---- what the code knows of a rule
 
@@ -291,16 +286,16 @@ refused_first : {X : Type 0} (b : Bool) (o : Option X) (x : X) → cond b None o
 refused_first true o x h = absurd cc
 refused_first false o x h = (refl, h)
 
-pub taken_are : (w : Whole) (i : ℕ) (rules : List RuleDef) (xs : List CoreRule) → AllByRecursion IsRuleBuilt rules → taken_rules w i rules ≡ Some xs → AreTaken w (rule_defs w.defs) i rules xs
-taken_are w i [] xs built h = record { kept = refl; calls = refl; trees = h }
-taken_are w i (r ∷ rules) xs built h =
+pub taken_are : (w : Whole) (i : ℕ) (rules : List RuleDef) (xs : List CoreRule) → taken_rules w i rules ≡ Some xs → AreTaken w (rule_defs w.defs) i rules xs
+taken_are w i [] xs h = record { kept = refl; calls = refl; trees = h }
+taken_are w i (r ∷ rules) xs h =
     let f = first_there (taken_rule w i r) (taken_rules w (i + 1) rules) xs h in
     let own = refused_first (is_broken w r || calls_rule w r) (rule_pass w i r) f.first f.here in
     let k = or_parts (is_broken w r) (calls_rule w r) own.0 in
-    let rest = taken_are w (i + 1) rules f.others built.1 f.found in
+    let rest = taken_are w (i + 1) rules f.others f.found in
     record {
       kept = or_from (is_broken w r) (list_any (is_broken w) rules) k.0 rest.kept;
-      calls = or_from (calls_ruled (rule_defs w.defs) r.rhs) (list_any (λ (x : RuleDef). calls_ruled (rule_defs w.defs) x.rhs) rules) (sym (rule_calls w r built.0.right k.0) ∙ k.1) rest.calls;
+      calls = or_from (calls_ruled (rule_defs w.defs) r.rhs) (list_any (λ (x : RuleDef). calls_ruled (rule_defs w.defs) x.rhs) rules) (sym (rule_calls w r k.0) ∙ k.1) rest.calls;
       trees = before_both (rule_pass w i r) (rules_pass w (i + 1) rules) f.first f.others own.1 rest.trees ∙ ap Some (sym f.all);
     }
 
@@ -308,11 +303,11 @@ kept_rule : {X : Type 0} (b : Bool) (o : Option X) → b ≡ false → cond b No
 kept_rule true o h = absurd cc
 kept_rule false o h = refl
 
-pub are_taken : (w : Whole) (i : ℕ) (rules : List RuleDef) (xs : List CoreRule) → AllByRecursion IsRuleBuilt rules → AreTaken w (rule_defs w.defs) i rules xs → taken_rules w i rules ≡ Some xs
-are_taken w i [] xs built t = t.trees
-are_taken w i (r ∷ rules) xs built t =
+pub are_taken : (w : Whole) (i : ℕ) (rules : List RuleDef) (xs : List CoreRule) → AreTaken w (rule_defs w.defs) i rules xs → taken_rules w i rules ≡ Some xs
+are_taken w i [] xs t = t.trees
+are_taken w i (r ∷ rules) xs t =
     let f = first_there (rule_pass w i r) (rules_pass w (i + 1) rules) xs t.trees in
     let k = or_parts (is_broken w r) (list_any (is_broken w) rules) t.kept in
     let c = or_parts (calls_ruled (rule_defs w.defs) r.rhs) (list_any (λ (x : RuleDef). calls_ruled (rule_defs w.defs) x.rhs) rules) t.calls in
-    let own : taken_rule w i r ≡ Some f.first = kept_rule (is_broken w r || calls_rule w r) (rule_pass w i r) (or_from (is_broken w r) (calls_rule w r) k.0 (rule_calls w r built.0.right k.0 ∙ c.0)) ∙ f.here in
-    before_both (taken_rule w i r) (taken_rules w (i + 1) rules) f.first f.others own (are_taken w (i + 1) rules f.others built.1 (record { kept = k.1; calls = c.1; trees = f.found })) ∙ ap Some (sym f.all)
+    let own : taken_rule w i r ≡ Some f.first = kept_rule (is_broken w r || calls_rule w r) (rule_pass w i r) (or_from (is_broken w r) (calls_rule w r) k.0 (rule_calls w r k.0 ∙ c.0)) ∙ f.here in
+    before_both (taken_rule w i r) (taken_rules w (i + 1) rules) f.first f.others own (are_taken w (i + 1) rules f.others (record { kept = k.1; calls = c.1; trees = f.found })) ∙ ap Some (sym f.all)

@@ -10,7 +10,6 @@ use Rattle.isle_core.specs.declared.rule_sets.Constraint.{Constraint}
 use Rattle.isle_core.specs.declared.rule_sets.FlatRule.{FlatRule}
 use Rattle.isle_core.specs.declared.rule_sets.RuleSet.{RuleSet}
 use Rattle.isle_core.specs.declared.types.Term.{Term}
-use Rattle.isle_core.specs.ConstraintType.{IsConstraintOf}
 use Rattle.isle_core.specs.Match.{with}
 use Rattle.isle_core.specs.PathType.{IsPathOf}
 use Rattle.isle_core.specs.Calling.{calling, kind_of, may_be_nothing, is_fallible, instance_of, impure, impure_all, impure_bindings}
@@ -18,24 +17,25 @@ use Rattle.isle_core.specs.Expr as expr
 use Rattle.isle_core.specs.Expr.{Expr, Exprs, NoExpr, AnExpr, LetBindings, NoBinding, ABinding}
 use Rattle.isle_core.specs.Making.{Making, MakesVariant, MakesStruct, MakesNothing, making}
 use Rattle.isle_core.specs.Path as path_form
-use Rattle.isle_core.specs.Path.{Path, Nowhere, Called, Inner, MadeVariant, MadeStruct, Paths, at, paths_of}
-use Rattle.isle_core.specs.Serializable.{StandsOn, AreSerializableCalls, IsTestable, AreTestable, AreComparable, constraint_tests, IsFieldPath, IsSerializableRule, IsSerializable}
-use Rattle.isle_core.specs.Rule.{Rule, Environment, rules_of}
+use Rattle.isle_core.specs.Path.{Path, Called, Inner, MadeVariant, MadeStruct, Paths, at, paths_of}
+use Rattle.isle_core.specs.Serializable.{StandsOn, AreSerializableCalls, IsTest, IsTestable, AreTestable, AreComparable, constraint_tests, IsFieldPath, IsSerializableRule, IsSerializable}
+use Rattle.isle_core.specs.Rule.{IfLet, Rule, Environment, rules_of}
 use Rattle.isle_core.specs.RuleSet.{is_test, equal_test}
 use Rattle.isle_core.specs.StandsFor.{AreFirsts, no_more, again, first, IsFlat, AreFlat, StandsFor}
 use Rattle.isle_core.specs.OrderedCalls.{rule_calls}
 use Rattle.isle_core.specs.RightSide.{path, paths as all_paths, path_or, term_path, call_path, answer_path, let_places}
-use Rattle.isle_core.specs.RulePaths.{args_paths, with_inner, expr_paths, exprs_paths, bindings_paths, rule_paths, rules_paths}
-use Rattle.isle_core.specs.Tests.{Test, Is, Equal, Never, is_constraint, Places, no_places, args_tests, rule_tests, rule_places}
+use Rattle.isle_core.specs.RulePaths.{args_paths, iflets_paths, with_inner, expr_paths, exprs_paths, bindings_paths, rule_paths, rules_paths}
+use Rattle.isle_core.specs.Tests.{Test, Is, Equal, Never, is_constraint, Places, no_places, args_tests, args_after, rule_tests, rule_places}
 use Rattle.isle_core.proofs.CallOccurrences.{AreRising, rising_firsts}
 use Rattle.isle_core.proofs.Contained.{head_contained, tail_contained, contained_cases, none_contained}
 use Rattle.isle_core.proofs.ListLaws.{filter_keeps}
 use Rattle.isle_core.proofs.OpenedPaths.{IsOpened, IsOpenedPlace, AreOpened, args_opened, args_open}
-use Rattle.isle_core.proofs.SetMeans.{without_iflets}
+use Rattle.isle_core.proofs.SetMeans.{without_iflets, places_without}
 use Rattle.isle_ast.specs.Tree.{Def}
 use Rattle.isle_sema.specs.TypedRule.{let_variables, IsExprOf, AreExprsOf, AreBindingsOf, all_typed, IsRuleOf}
 use Rattle.isle_sema.specs.Typing.{Typed}
-use Rattle.isle_sema.proofs.TestablePatterns.{AreAlso, stands_still, IsTestableAt, AreTestableAt, constraints_testable, rule_testable, HasConstraints, rule_placed, AreComparableAt, rule_compares, AreFieldsTyped, no_fields, one_field, both_fields, rule_fields}
+use Rattle.isle_sema.proofs.SingleExtractors.{SingleExtractors, single_extractors}
+use Rattle.isle_sema.proofs.TestablePatterns.{AreAlso, stands_still, IsTestableAt, AreTestableAt, constraints_testable, rule_testable, HasConstraints, ArePlacedAs, rule_placed, AreComparableAt, rule_compares, AreFieldsTyped, no_fields, one_field, both_fields, inner_fields, rule_fields}
 use Rattle.isle_sema.proofs.SerializableCalls.{some_of, AreTypedPlaces, typed_places, standing_places, path_typed, let_typed, path_stands, calls_serializable, expr_rises, ordered_once}
 use Rattle.isle_sema.proofs.TypedRules.{typed_of}
 
@@ -169,13 +169,22 @@ opened_fallible : (env : Environment) (ps : List Path) → AllByRecursion IsOpen
 opened_fallible env [] h term qs k c = absurd (none_contained (Inner (Called term qs k)) c)
 opened_fallible env (p ∷ ps) h term qs k c = ⊎_elim (λ e. absurd (opened_apart p h.0 term qs k e)) (opened_fallible env ps h.1 term qs k) (contained_cases p ps (Inner (Called term qs k)) c)
 
--- the paths of rules
-rules_fallible : (rules : List Rule) (env : Environment) (n : ℕ) → Fallible env (rules_paths env rules n)
-rules_fallible [] env n term qs k c = absurd (none_contained (Inner (Called term qs k)) c)
-rules_fallible (r ∷ rules) env n term qs k c =
+-- conditions, of which there are none
+iflets_fallible : (env : Environment) (cs : List IfLet) (places : Places) → cs ≡ [] → Fallible env (iflets_paths env cs places)
+iflets_fallible env cs places e = subst (λ is. Fallible env (iflets_paths env is places)) (sym e) (λ term qs k c. absurd (none_contained (Inner (Called term qs k)) c))
+
+-- the paths of rules without conditions
+rules_fallible : (rules : List Rule) (env : Environment) (n : ℕ) → AllByRecursion (λ (r : Rule). r.iflets ≡ []) rules → Fallible env (rules_paths env rules n)
+rules_fallible [] env n none term qs k c = absurd (none_contained (Inner (Called term qs k)) c)
+rules_fallible (r ∷ rules) env n none term qs k c =
+    let bound = args_after env r.args 0 no_places in
+    let conditions = iflets_paths env r.iflets bound in
+    let right = expr_paths env r.rhs (rule_places env r) n in
+    let places : AreFalliblePlaces env (rule_places env r) = subst (AreFalliblePlaces env) (sym (places_without env r none.0)) (opened_places env bound (args_opened env r.args 0 no_places (λ z. tt))) in
     both_fallible env (rule_paths env r n) (rules_paths env rules (n + impure env r.rhs))
-    (both_fallible env (args_paths env r.args 0) (expr_paths env r.rhs (rule_places env r) n) (opened_fallible env (args_paths env r.args 0) (args_open env r.args 0)) (expr_fallible r.rhs env (rule_places env r) n (opened_places env (rule_places env r) (args_opened env r.args 0 no_places (λ z. tt)))))
-    (rules_fallible rules env (n + impure env r.rhs)) term qs k c
+    (both_fallible env (args_paths env r.args 0) (conditions ++ right) (opened_fallible env (args_paths env r.args 0) (args_open env r.args 0))
+    (both_fallible env conditions right (iflets_fallible env r.iflets bound none.0) (expr_fallible r.rhs env (rule_places env r) n places)))
+    (rules_fallible rules env (n + impure env r.rhs) none.1) term qs k c
 
 -- ---- fields
 
@@ -185,12 +194,11 @@ term_no_field MakesNothing term ps j h = h
 term_no_field (MakesVariant ty variant) term ps j h = h
 term_no_field (MakesStruct ty) term ps j h = h
 
-module _ (env : Environment) (t : Term) where
-  -- what is no field, and its inner value
-  inner_fields : (b : Bool) (p : Path) → (IsFieldPath p → ⊥) → AreFieldsTyped env t (cond b (p ∷ Inner p ∷ []) (p ∷ []))
-  inner_fields true p h = one_field env t p (Inner p ∷ []) (λ f. absurd (h f)) (one_field env t (Inner p) [] (λ f. absurd f) (no_fields env t))
-  inner_fields false p h = one_field env t p [] (λ f. absurd (h f)) (no_fields env t)
+-- where the variables of a rule of a term stand
+placed_variables : (env : Environment) (t : Term) → SingleExtractors env → (all : List Test) (r : Rule) → IsRuleOf env t r → HasConstraints all (args_tests env r.args 0 no_places) → ArePlacedAs env t all (all_typed r.args) (rule_places env r)
+placed_variables env t single all r h among = subst (ArePlacedAs env t all (all_typed r.args)) (sym (places_without env r h.iflets)) (rule_placed env t all r.args single h.args h.variables among)
 
+module _ (env : Environment) (t : Term) (single : SingleExtractors env) where
   module _ (allowed : Bool) (tests : List Test) where
     mutual
       -- those of a typed right side
@@ -203,7 +211,7 @@ module _ (env : Environment) (t : Term) where
           let c = some_of (slice_get env.terms term.0) _ h.1 in
           let ps = all_paths env es places n in
           both_fields env t (exprs_paths env es places n) (with_inner (calling env term) (call_path env term ps (n + impure_all env es))) (exprs_fields vars places placed es n c.0.arg_tys c.2.2)
-          (inner_fields (is_fallible (calling env term)) (call_path env term ps (n + impure_all env es)) (term_no_field (making env term) term ps (instance_of (calling env term) (n + impure_all env es))))
+          (inner_fields env t (is_fallible (calling env term)) (call_path env term ps (n + impure_all env es)) (term_no_field (making env term) term ps (instance_of (calling env term) (n + impure_all env es))))
       expr_fields vars places placed (expr.Let of bindings inner) n ty h =
           let mid = let_places env bindings places n in
           let m = n + impure_bindings env bindings in
@@ -224,15 +232,24 @@ module _ (env : Environment) (t : Term) where
           both_fields env t (expr_paths env e places n) (bindings_paths env bs mid (n + impure env e)) (expr_fields vars places placed e n of h.1)
           (bindings_fields ((of, x.0) ∷ vars) mid (let_typed env t allowed tests vars places placed (ABinding x of e NoBinding) n (h.0, h.1, tt)) bs (n + impure env e) h.2)
 
+  -- those of conditions, of which there are none
+  iflets_fields : (cs : List IfLet) (places : Places) → cs ≡ [] → AreFieldsTyped env t (iflets_paths env cs places)
+  iflets_fields cs places e = subst (λ is. AreFieldsTyped env t (iflets_paths env is places)) (sym e) (no_fields env t)
+
   -- those of rules of a term
   rules_fields : (rs : List Rule) (n : ℕ) → AllByRecursion (IsRuleOf env t) rs → AreFieldsTyped env t (rules_paths env rs n)
   rules_fields [] n h = no_fields env t
   rules_fields (r ∷ rs) n h =
       let places = rule_places env r in
+      let vars = all_typed r.args in
+      let bound = args_after env r.args 0 no_places in
+      let conditions = iflets_paths env r.iflets bound in
       let tests = args_tests env r.args 0 no_places in
+      let placed = placed_variables env t single tests r h.0 (λ y e c. c) in
       both_fields env t (rule_paths env r n) (rules_paths env rs (n + impure env r.rhs))
-      (both_fields env t (args_paths env r.args 0) (expr_paths env r.rhs places n) (rule_fields env t r.args h.0.args)
-      (expr_fields (may_be_nothing (kind_of t.kind)) tests (all_typed r.args) places (typed_places env t tests (all_typed r.args) places (rule_placed env t tests r.args h.0.args h.0.variables (λ y e c. c))) r.rhs n t.ret_ty h.0.rhs))
+      (both_fields env t (args_paths env r.args 0) (conditions ++ expr_paths env r.rhs places n) (rule_fields env t r.args single h.0.args)
+      (both_fields env t conditions (expr_paths env r.rhs places n) (iflets_fields r.iflets bound h.0.iflets)
+      (expr_fields (may_be_nothing (kind_of t.kind)) tests vars places (typed_places env t tests vars places placed) r.rhs n t.ret_ty h.0.rhs)))
       (rules_fields rs (n + impure env r.rhs) h.1)
 
 -- ---- rule sets
@@ -264,7 +281,7 @@ is_same p q c d e = (cc, cc)
 test_ready : (env : Environment) (t : Term) (ps : List Path) (before seen : List Test) (p : Path) (c : Constraint) (b : BindingId × Constraint) → Is p c ≡ is_test ps b → AreAlso before seen → IsTestableAt env t before p c → IsTestable env t ps seen b
 test_ready env t ps before seen p c b e a h =
     let s = is_same p (at ps b.0) c b.1 e in
-    record { ty = h.ty; path = subst (λ q. IsPathOf env t q h.ty) s.0 h.path; stands = subst (StandsOn seen []) s.0 (stands_still p before seen [] a h.stands); constraint = subst (λ d. IsConstraintOf env d h.ty) s.1 h.constraint }
+    record { test = subst (IsTest env t (at ps b.0)) s.1 (subst (λ q. IsTest env t q c) s.0 h.test); stands = subst (StandsOn seen []) s.0 (stands_still p before seen [] a h.stands) }
 
 -- the head and the rest of equal lists
 list_same : {A : Type 0} (x y : A) (xs ys : List A) → x ∷ xs ≡ y ∷ ys → (x ≡ y) × (xs ≡ ys)
@@ -287,7 +304,7 @@ testable env t ps (first seen (Equal p q) xs ys new more) before (b ∷ cs) h e 
 testable env t ps (first seen Never xs ys new more) before [] h e a = absurd cc
 testable env t ps (first seen Never xs ys new more) before (b ∷ cs) h e a = absurd cc
 
-module _ (env : Environment) (t : Term) (ps : List Path) (fit : Fallible env ps) where
+module _ (env : Environment) (t : Term) (single : SingleExtractors env) (ps : List Path) (fit : Fallible env ps) where
   -- an equality of bindings whose paths may be compared is ready
   compared : (qs : List Path) (tests : List Test) (e : BindingId × BindingId) → AreComparableAt env t tests (at qs e.0) (at qs e.1) → AreComparable env t qs tests e
   compared qs tests e k = record { ty = k.ty; left = k.left; left_stands = k.left_stands; right = k.right; right_stands = k.right_stands }
@@ -300,19 +317,20 @@ module _ (env : Environment) (t : Term) (ps : List Path) (fit : Fallible env ps)
       let places = rule_places env r in
       let tests = constraint_tests ps f in
       let put = args_tests env r.args 0 no_places in
-      let none : rule_tests env r ≡ put = without_iflets env r h.iflets in
-      let firsts : AreFirsts [] (filter is_constraint put) tests = subst (λ ts. AreFirsts [] (filter is_constraint ts) tests) none flat.constraints in
-      let ready : AreTestableAt env t [] (filter is_constraint put) = constraints_testable env t [] put (rule_testable env t r.args h.args) in
+      let conditions = iflets_paths env r.iflets (args_after env r.args 0 no_places) in
+      let same_tests : rule_tests env r ≡ put = without_iflets env r h.iflets in
+      let firsts : AreFirsts [] (filter is_constraint put) tests = subst (λ ts. AreFirsts [] (filter is_constraint ts) tests) same_tests flat.constraints in
+      let ready : AreTestableAt env t [] (filter is_constraint put) = constraints_testable env t [] put (rule_testable env t r.args single h.args) in
       let tested : HasConstraints tests put = λ y e c. ⊎_elim (λ d. absurd (none_contained y d)) (λ d. d) (firsts_hold y firsts (filter_keeps is_constraint put y c e)) in
-      let placed = rule_placed env t tests r.args h.args h.variables tested in
+      let placed = placed_variables env t single tests r h tested in
       let typed = typed_places env t tests vars places placed in
       let rises = expr_rises env allowed vars places r.rhs n t.ret_ty h.rhs in
       let same : map (at ps) f.ordered ≡ rule_calls env r n = rising_firsts n (rule_calls env r n) (map (at ps) f.ordered) rises flat.ordered in
       record {
         constraints = testable env t ps firsts [] f.constraints ready refl (λ y c. c);
-        equals = each _ f.equals (λ e c. compared ps tests e (rule_compares env t tests r.args h.args h.variables tested (at ps e.0) (at ps e.1)
-            (subst (λ ts. Contains ts (equal_test ps e)) none (flat.no_other (equal_test ps e) (Contains-append_right (map (is_test ps) f.constraints) (map (equal_test ps) f.equals) (equal_test ps e) (contained_map (equal_test ps) f.equals e c))).0)));
-        calls = subst (AreSerializableCalls env t tests ps []) (sym same) (calls_serializable env t allowed tests vars places ps [] typed (standing_places env t tests [] vars places placed) r.rhs n t.ret_ty h.rhs refl fit (λ p c. among p (Contains-append_right (args_paths env r.args 0) (expr_paths env r.rhs places n) p c)));
+        equals = each _ f.equals (λ e c. compared ps tests e (rule_compares env t tests r.args single h.args h.variables tested (at ps e.0) (at ps e.1)
+            (subst (λ ts. Contains ts (equal_test ps e)) same_tests (flat.no_other (equal_test ps e) (Contains-append_right (map (is_test ps) f.constraints) (map (equal_test ps) f.equals) (equal_test ps e) (contained_map (equal_test ps) f.equals e c))).0)));
+        calls = subst (AreSerializableCalls env t tests ps []) (sym same) (calls_serializable env t allowed tests vars places ps [] typed (standing_places env t tests [] vars places placed) r.rhs n t.ret_ty h.rhs refl fit (λ p c. among p (Contains-append_right (args_paths env r.args 0) (conditions ++ expr_paths env r.rhs places n) p (Contains-append_right conditions (expr_paths env r.rhs places n) p c))));
         once = ordered_once env ps f.ordered n (subst (AreRising n) (sym same) rises);
         result = subst (λ p. IsPathOf env t p t.ret_ty) (sym flat.result) (path_typed env t allowed tests vars places typed r.rhs n t.ret_ty h.rhs);
         stands = subst (StandsOn tests (map (at ps) f.ordered)) (sym flat.result) (subst (λ done. StandsOn tests done (path env r.rhs places n)) (sym same) (path_stands env t allowed tests vars places (rule_calls env r n) (standing_places env t tests (rule_calls env r n) vars places placed) r.rhs n t.ret_ty h.rhs (λ p c. c)));
@@ -328,17 +346,22 @@ module _ (env : Environment) (t : Term) (ps : List Path) (fit : Fallible env ps)
     flats_serializable rs (n + impure env r.rhs) fs flat.1 h.1 (λ p c. among p (Contains-append_right (rule_paths env r n) (rules_paths env rs (n + impure env r.rhs)) p c)),
   )
 
--- a rule set that stands for typed rules of a term is ready
-pub rules_serializable : (env : Environment) (id : TermId) (t : Term) (s : RuleSet) → All (IsRuleOf env t) (rules_of env id) → StandsFor env s (rules_of env id) → IsSerializable env t s
-rules_serializable env id t s h stands =
+-- the rules of a term have no conditions
+unconditioned : (env : Environment) (t : Term) (rules : List Rule) → AllByRecursion (IsRuleOf env t) rules → AllByRecursion (λ (r : Rule). r.iflets ≡ []) rules
+unconditioned env t [] h = tt
+unconditioned env t (r ∷ rules) h = (h.0.iflets, unconditioned env t rules h.1)
+
+-- a rule set that stands for typed rules of a term is ready, where each extractor gives one result
+pub rules_serializable : (env : Environment) (id : TermId) (t : Term) (s : RuleSet) → SingleExtractors env → All (IsRuleOf env t) (rules_of env id) → StandsFor env s (rules_of env id) → IsSerializable env t s
+rules_serializable env id t s single h stands =
     let rules = rules_of env id in
     let typed = recursion_from_All (IsRuleOf env t) rules h in
     record {
       once = stands.once;
-      fields = λ p c f. rules_fields env t rules 0 typed p ((stands.paths p).0 c) f;
-      rules = flats_serializable env t (paths_of s.bindings) (λ term qs k c. rules_fallible rules env 0 term qs k ((stands.paths (Inner (Called term qs k))).0 c)) rules 0 s.rules stands.flat typed (λ p c. (stands.paths p).1 c);
+      fields = λ p c f. rules_fields env t single rules 0 typed p ((stands.paths p).0 c) f;
+      rules = flats_serializable env t single (paths_of s.bindings) (λ term qs k c. rules_fallible rules env 0 (unconditioned env t rules typed) term qs k ((stands.paths (Inner (Called term qs k))).0 c)) rules 0 s.rules stands.flat typed (λ p c. (stands.paths p).1 c);
     }
 
 -- a rule set that stands for the rules of a term is ready
 pub set_serializable : (defs : List Def) (env : Environment) (id : TermId) (t : Term) (s : RuleSet) → Typed defs env → slice_get env.terms id.0 ≡ Some t → StandsFor env s (rules_of env id) → IsSerializable env t s
-set_serializable defs env id t s h there stands = rules_serializable env id t s (typed_of defs env id t h there) stands
+set_serializable defs env id t s h there stands = rules_serializable env id t s (single_extractors defs env h) (typed_of defs env id t h there) stands

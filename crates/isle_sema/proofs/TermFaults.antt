@@ -1,4 +1,4 @@
--- The rows of declarations, external constructors and heads are kept where the code takes them.
+-- The rows of declarations, external constructors and extractors, and heads are kept where the code takes them.
 use Rattle.std.proofs.Common.{◌≡◌, ℕ, Bool, true, false, cond, List, length, [], ◌∷◌, ◌++◌, Some, None, refl, sym, subst}
 use Rattle.std.specs.Prelude.{◌&&◌, ◌||◌, not, is_some, nat_le}
 use Rattle.std.specs.List.{list_all, list_any}
@@ -9,11 +9,11 @@ use Rattle.isle_declarations.specs.Symbols.{index_of}
 use Rattle.isle_declarations.specs.declared.terms.Origin.TheVariants as origin
 use Rattle.isle_declarations.specs.DeclaredTypes.{made_terms}
 use Rattle.isle_sema.specs.TypeNames.{type_named}
-use Rattle.isle_declarations.specs.Signatures.{Signature, Extern, RuleDef, signature_of, extern_of, signatures, externs, rule_defs, signature_named, func_named}
-use Rattle.isle_declarations.specs.Heads.{terms_of, extern_terms}
+use Rattle.isle_declarations.specs.Signatures.{Signature, Extern, ExtractorDef, RuleDef, signature_of, extern_of, extractor_of, signatures, externs, extractors, rule_defs, signature_named, func_named}
+use Rattle.isle_declarations.specs.Heads.{terms_of, extern_terms, extractor_terms}
 use Rattle.isle_declarations.specs.Repeats.{repeats_after}
 use Rattle.isle_sema.specs.Language.{is_built_def}
-use Rattle.isle_sema.specs.Tests.{has_undeclared}
+use Rattle.isle_sema.specs.Tests.{has_undeclared, has_unknown}
 use Rattle.isle_types.specs.declared.row.Row.TheVariants as row
 use Rattle.isle_types.specs.declared.row.Row.{Row}
 use Rattle.isle_types.proofs.BeforeLaws.{grown}
@@ -24,7 +24,7 @@ use Rattle.isle_sema.proofs.Firsts.{first_none, none_first, later_none, none_lat
 
 -- ---- extractors
 
--- nor one of extractors, of which none is built
+-- nor one of extractors, of which none that has a pattern is built
 pub extractors_none : (w : Whole) (before ds : List Def) → list_all is_built_def ds ≡ true → fault_after OfExtractors w before ds ≡ None
 extractors_none w before [] f = refl
 extractors_none w before (tree.Decl term pure multi partial recursive args ret pos ∷ ds) f =
@@ -33,7 +33,7 @@ extractors_none w before (tree.ExternConstructor term func pos ∷ ds) f = extra
 extractors_none w before (tree.Rule name prio term args iflets rhs pos ∷ ds) f =
     extractors_none w (before ++ tree.Rule name prio term args iflets rhs pos ∷ []) ds (and_parts (is_built_def (tree.Rule name prio term args iflets rhs pos)) (list_all is_built_def ds) f).1
 extractors_none w before (tree.TypeDecl name is_extern is_nodebug body pos ∷ ds) f = extractors_none w (before ++ tree.TypeDecl name is_extern is_nodebug body pos ∷ []) ds f
-extractors_none w before (tree.ExternExtractor term func infallible pos ∷ ds) f = absurd cc
+extractors_none w before (tree.ExternExtractor term func infallible pos ∷ ds) f = extractors_none w (before ++ tree.ExternExtractor term func infallible pos ∷ []) ds f
 extractors_none w before (tree.ExternConst name ty pos ∷ ds) f = extractors_none w (before ++ tree.ExternConst name ty pos ∷ []) ds f
 extractors_none w before (tree.Extractor term params template pos ∷ ds) f = absurd cc
 extractors_none w before (tree.Converter from to term pos ∷ ds) f = absurd cc
@@ -57,24 +57,31 @@ has_too_many s = not (nat_le (length s.args) 256)
 abbrev pub is_headless : List Def → RuleDef → Bool
 is_headless all r = not (is_some (signature_named (signatures all) r.term)) || is_some (func_named (externs all) r.term)
 
--- each test of declarations, external constructors and rules, which follow declarations and external constructors of these terms
-pub record AreTested (all : List Def) (names external : List (List ℕ)) (sigs : List Signature) (xs : List Extern) (rules : List RuleDef) : Type 0 where
+-- each test of declarations, external constructors and extractors, and rules, which follow declarations, external constructors and extractors of these terms
+pub record AreTested (all : List Def) (names external extracting : List (List ℕ)) (sigs : List Signature) (xs : List Extern) (es : List ExtractorDef) (rules : List RuleDef) : Type 0 where
   pub apart : repeats_after names (terms_of sigs) ≡ false
   pub unmade : list_any (is_made_twice all) sigs ≡ false
   pub typed : list_any (names_no_type all) sigs ≡ false
   pub few : list_any has_too_many sigs ≡ false
   pub externs_apart : repeats_after external (extern_terms xs) ≡ false
+  pub extractors_apart : repeats_after extracting (extractor_terms es) ≡ false
   pub known : has_undeclared (signatures all) xs ≡ false
+  pub extracted : has_unknown (signatures all) es ≡ false
   pub heads : list_any (is_headless all) rules ≡ false
+
+-- each test of these definitions, which follow terms, external constructors and extractors of these names
+abbrev AreTestedIn : (all : List Def) (names external extracting : List (List ℕ)) (ds : List Def) → Type 0
+AreTestedIn all names external extracting ds = AreTested all names external extracting (signatures ds) (externs ds) (extractors ds) (rule_defs ds)
 
 -- each test of these definitions, which follow those
 abbrev pub TermParts : (all before ds : List Def) → Type 0
-TermParts all before ds = AreTested all (terms_of (signatures before)) (extern_terms (externs before)) (signatures ds) (externs ds) (rule_defs ds)
+TermParts all before ds = AreTested all (terms_of (signatures before)) (extern_terms (externs before)) (extractor_terms (extractors before)) (signatures ds) (externs ds) (extractors ds) (rule_defs ds)
 
 -- the tests after other names that are the same
-same_tests : {all : List Def} {names more external further : List (List ℕ)} {sigs : List Signature} {xs : List Extern} {rules : List RuleDef} → names ≡ more → external ≡ further → AreTested all names external sigs xs rules → AreTested all more further sigs xs rules
-same_tests {all = all} {names = names} {more = more} {external = external} {further = further} {sigs = sigs} {xs = xs} {rules = rules} e f h =
-    subst (λ ns. AreTested all ns further sigs xs rules) e (subst (λ ns. AreTested all names ns sigs xs rules) f h)
+same_tests : {all : List Def} {names more external further extracting last : List (List ℕ)} {sigs : List Signature} {xs : List Extern} {es : List ExtractorDef} {rules : List RuleDef} → names ≡ more → external ≡ further → extracting ≡ last
+    → AreTested all names external extracting sigs xs es rules → AreTested all more further last sigs xs es rules
+same_tests {all = all} {names = names} {more = more} {external = external} {further = further} {extracting = extracting} {last = last} {sigs = sigs} {xs = xs} {es = es} {rules = rules} e f g h =
+    subst (λ ns. AreTested all ns further last sigs xs es rules) e (subst (λ ns. AreTested all names ns last sigs xs es rules) f (subst (λ ns. AreTested all names external ns sigs xs es rules) g h))
 
 -- the names of declarations are those before one that declares nothing
 undeclared : (before : List Def) (d : Def) → signature_of d ≡ None → terms_of (signatures (before ++ d ∷ [])) ≡ terms_of (signatures before)
@@ -83,6 +90,17 @@ undeclared before d none = unchanged signature_of (λ (s : Signature). s.term) b
 -- so are those of external constructors
 not_external : (before : List Def) (d : Def) → extern_of d ≡ None → extern_terms (externs (before ++ d ∷ [])) ≡ extern_terms (externs before)
 not_external before d none = unchanged extern_of (λ (x : Extern). x.term) before d none
+
+-- and those of external extractors
+not_extracting : (before : List Def) (d : Def) → extractor_of d ≡ None → extractor_terms (extractors (before ++ d ∷ [])) ≡ extractor_terms (extractors before)
+not_extracting before d none = unchanged extractor_of (λ (x : ExtractorDef). x.term) before d none
+
+-- the tests behind a definition of another kind are those in front of it
+behind : (all before : List Def) (d : Def) (ds : List Def) → signature_of d ≡ None → extern_of d ≡ None → extractor_of d ≡ None → TermParts all (before ++ d ∷ []) ds → TermParts all before ds
+behind all before d ds a b c h = same_tests (undeclared before d a) (not_external before d b) (not_extracting before d c) h
+
+ahead : (all before : List Def) (d : Def) (ds : List Def) → signature_of d ≡ None → extern_of d ≡ None → extractor_of d ≡ None → TermParts all before ds → TermParts all (before ++ d ∷ []) ds
+ahead all before d ds a b c h = same_tests (sym (undeclared before d a)) (sym (not_external before d b)) (sym (not_extracting before d c)) h
 
 -- the tests of a declaration
 decl_kept : (a b c d : Bool)
@@ -106,44 +124,81 @@ single true multi recursive partial h = absurd cc
 single false true recursive partial h = absurd cc
 single false false recursive partial h = refl
 
+-- one that names a term, which is declared and has none of its kind before
+named_kept : (a b c : Bool) → cond a (Some row.TermUndeclared) (cond (b || c) (Some row.SecondOfTerm) None) ≡ None → (a ≡ false) × (b ≡ false) × (c ≡ false)
+named_kept true b c h = absurd cc
+named_kept false true c h = absurd cc
+named_kept false false true h = absurd cc
+named_kept false false false h = (refl, refl, refl)
+
+named_from : (a b c : Bool) → a ≡ false → b ≡ false → c ≡ false → cond a (Some row.TermUndeclared) (cond (b || c) (Some row.SecondOfTerm) None) ≡ None
+named_from true b c ha hb hc = absurd cc
+named_from false true c ha hb hc = absurd cc
+named_from false false true ha hb hc = absurd cc
+named_from false false false ha hb hc = refl
+
 -- the rows of terms are kept: each test fails
 pub terms_kept : (all before ds : List Def) → list_all is_built_def ds ≡ true → fault_after OfTerms (whole_of all) before ds ≡ None → TermParts all before ds
-terms_kept all before [] f h = record { apart = refl; unmade = refl; typed = refl; few = refl; externs_apart = refl; known = refl; heads = refl }
+terms_kept all before [] f h = record { apart = refl; unmade = refl; typed = refl; few = refl; externs_apart = refl; extractors_apart = refl; known = refl; extracted = refl; heads = refl }
 terms_kept all before (tree.Decl term pure multi partial recursive args ret pos ∷ ds) f h =
     let d = tree.Decl term pure multi partial recursive args ret pos in
     let s : Signature = record { term = term; pure = pure; multi = multi; partial = partial; recursive = recursive; args = args; ret = ret; pos = pos; origin = origin.Declared } in
     let names = terms_of (signatures before) in
-    let external = extern_terms (externs before) in
     let g = and_parts (is_built_def d) (list_all is_built_def ds) f in
     let l = later_none (λ (r : Row). (r, pos)) (broken_in OfTerms (record { whole = whole_of all; before = before }) d) (fault_after OfTerms (whole_of all) (before ++ d ∷ []) ds) h in
     let n = decl_kept (is_some (index_of names term) || is_made_twice all s) (names_no_type all s) (has_too_many s) (multi && partial) l.0 in
     let k = or_parts (is_some (index_of names term)) (is_made_twice all s) n.0 in
-    let rest : AreTested all (names ++ term ∷ []) external (signatures ds) (externs ds) (rule_defs ds) = same_tests (grown signature_of (λ (x : Signature). x.term) before d) (not_external before d refl) (terms_kept all (before ++ d ∷ []) ds g.1 l.1) in
+    let rest : AreTestedIn all (names ++ term ∷ []) (extern_terms (externs before)) (extractor_terms (extractors before)) ds =
+    same_tests (grown signature_of (λ (x : Signature). x.term) before d) (not_external before d refl) (not_extracting before d refl) (terms_kept all (before ++ d ∷ []) ds g.1 l.1) in
     record {
       apart = or_from (is_some (index_of names term)) (repeats_after (names ++ term ∷ []) (terms_of (signatures ds))) k.0 rest.apart;
       unmade = or_from (is_made_twice all s) (list_any (is_made_twice all) (signatures ds)) k.1 rest.unmade;
       typed = or_from (names_no_type all s) (list_any (names_no_type all) (signatures ds)) n.1 rest.typed;
       few = or_from (has_too_many s) (list_any has_too_many (signatures ds)) n.2 rest.few;
       externs_apart = rest.externs_apart;
+      extractors_apart = rest.extractors_apart;
       known = rest.known;
+      extracted = rest.extracted;
       heads = rest.heads;
     }
 terms_kept all before (tree.ExternConstructor term func pos ∷ ds) f h =
     let d = tree.ExternConstructor term func pos in
-    let names = terms_of (signatures before) in
     let external = extern_terms (externs before) in
     let l = later_none (λ (r : Row). (r, pos)) (broken_in OfTerms (record { whole = whole_of all; before = before }) d) (fault_after OfTerms (whole_of all) (before ++ d ∷ []) ds) h in
     let again = is_some (index_of external term) in
-    let k = first_none (not (is_some (signature_named (signatures all) term))) row.TermUndeclared (cond again (Some row.SecondOfTerm) None) l.0 in
-    let m = first_none again row.SecondOfTerm None k.1 in
-    let rest : AreTested all names (external ++ term ∷ []) (signatures ds) (externs ds) (rule_defs ds) = same_tests (undeclared before d refl) (grown extern_of (λ (x : Extern). x.term) before d) (terms_kept all (before ++ d ∷ []) ds f l.1) in
+    let unknown = not (is_some (signature_named (signatures all) term)) in
+    let k = named_kept unknown again false l.0 in
+    let rest : AreTestedIn all (terms_of (signatures before)) (external ++ term ∷ []) (extractor_terms (extractors before)) ds =
+    same_tests (undeclared before d refl) (grown extern_of (λ (x : Extern). x.term) before d) (not_extracting before d refl) (terms_kept all (before ++ d ∷ []) ds f l.1) in
     record {
       apart = rest.apart;
       unmade = rest.unmade;
       typed = rest.typed;
       few = rest.few;
-      externs_apart = or_from again (repeats_after (external ++ term ∷ []) (extern_terms (externs ds))) m.0 rest.externs_apart;
-      known = or_from (not (is_some (signature_named (signatures all) term))) (has_undeclared (signatures all) (externs ds)) k.0 rest.known;
+      externs_apart = or_from again (repeats_after (external ++ term ∷ []) (extern_terms (externs ds))) k.1 rest.externs_apart;
+      extractors_apart = rest.extractors_apart;
+      known = or_from unknown (has_undeclared (signatures all) (externs ds)) k.0 rest.known;
+      extracted = rest.extracted;
+      heads = rest.heads;
+    }
+terms_kept all before (tree.ExternExtractor term func infallible pos ∷ ds) f h =
+    let d = tree.ExternExtractor term func infallible pos in
+    let extracting = extractor_terms (extractors before) in
+    let l = later_none (λ (r : Row). (r, pos)) (broken_in OfTerms (record { whole = whole_of all; before = before }) d) (fault_after OfTerms (whole_of all) (before ++ d ∷ []) ds) h in
+    let again = is_some (index_of extracting term) in
+    let unknown = not (is_some (signature_named (signatures all) term)) in
+    let k = named_kept unknown false again l.0 in
+    let rest : AreTestedIn all (terms_of (signatures before)) (extern_terms (externs before)) (extracting ++ term ∷ []) ds =
+    same_tests (undeclared before d refl) (not_external before d refl) (grown extractor_of (λ (x : ExtractorDef). x.term) before d) (terms_kept all (before ++ d ∷ []) ds f l.1) in
+    record {
+      apart = rest.apart;
+      unmade = rest.unmade;
+      typed = rest.typed;
+      few = rest.few;
+      externs_apart = rest.externs_apart;
+      extractors_apart = or_from again (repeats_after (extracting ++ term ∷ []) (extractor_terms (extractors ds))) k.2 rest.extractors_apart;
+      known = rest.known;
+      extracted = or_from unknown (has_unknown (signatures all) (extractors ds)) k.0 rest.extracted;
       heads = rest.heads;
     }
 terms_kept all before (tree.Rule name prio term args iflets rhs pos ∷ ds) f h =
@@ -152,28 +207,29 @@ terms_kept all before (tree.Rule name prio term args iflets rhs pos ∷ ds) f h 
     let g = and_parts (is_built_def d) (list_all is_built_def ds) f in
     let l = later_none (λ (r : Row). (r, pos)) (broken_in OfTerms (record { whole = whole_of all; before = before }) d) (fault_after OfTerms (whole_of all) (before ++ d ∷ []) ds) h in
     let k = first_none (is_headless all r) row.HeadMisfit None l.0 in
-    let rest : TermParts all before ds = same_tests (undeclared before d refl) (not_external before d refl) (terms_kept all (before ++ d ∷ []) ds g.1 l.1) in
+    let rest = behind all before d ds refl refl refl (terms_kept all (before ++ d ∷ []) ds g.1 l.1) in
     record {
       apart = rest.apart;
       unmade = rest.unmade;
       typed = rest.typed;
       few = rest.few;
       externs_apart = rest.externs_apart;
+      extractors_apart = rest.extractors_apart;
       known = rest.known;
+      extracted = rest.extracted;
       heads = or_from (is_headless all r) (list_any (is_headless all) (rule_defs ds)) k.0 rest.heads;
     }
 terms_kept all before (tree.TypeDecl name is_extern is_nodebug body pos ∷ ds) f h =
     let d = tree.TypeDecl name is_extern is_nodebug body pos in
-    same_tests (undeclared before d refl) (not_external before d refl) (terms_kept all (before ++ d ∷ []) ds f h)
-terms_kept all before (tree.ExternExtractor term func infallible pos ∷ ds) f h = absurd cc
+    behind all before d ds refl refl refl (terms_kept all (before ++ d ∷ []) ds f h)
 terms_kept all before (tree.ExternConst name ty pos ∷ ds) f h =
     let d = tree.ExternConst name ty pos in
-    same_tests (undeclared before d refl) (not_external before d refl) (terms_kept all (before ++ d ∷ []) ds f h)
+    behind all before d ds refl refl refl (terms_kept all (before ++ d ∷ []) ds f h)
 terms_kept all before (tree.Extractor term params template pos ∷ ds) f h = absurd cc
 terms_kept all before (tree.Converter from to term pos ∷ ds) f h = absurd cc
 terms_kept all before (tree.Passed head items pos ∷ ds) f h =
     let d = tree.Passed head items pos in
-    same_tests (undeclared before d refl) (not_external before d refl) (terms_kept all (before ++ d ∷ []) ds f h)
+    behind all before d ds refl refl refl (terms_kept all (before ++ d ∷ []) ds f h)
 
 -- and where each fails, the rows are kept
 pub terms_none : (all before ds : List Def) → list_all is_built_def ds ≡ true → TermParts all before ds → fault_after OfTerms (whole_of all) before ds ≡ None
@@ -188,37 +244,49 @@ terms_none all before (tree.Decl term pure multi partial recursive args ret pos 
     let u = or_parts (is_made_twice all s) (list_any (is_made_twice all) (signatures ds)) p.unmade in
     let t = or_parts (names_no_type all s) (list_any (names_no_type all) (signatures ds)) p.typed in
     let m = or_parts (has_too_many s) (list_any has_too_many (signatures ds)) p.few in
-    let rest : AreTested all (names ++ term ∷ []) (extern_terms (externs before)) (signatures ds) (externs ds) (rule_defs ds) = record { apart = a.1; unmade = u.1; typed = t.1; few = m.1; externs_apart = p.externs_apart; known = p.known; heads = p.heads } in
+    let rest : AreTestedIn all (names ++ term ∷ []) (extern_terms (externs before)) (extractor_terms (extractors before)) ds =
+    record { apart = a.1; unmade = u.1; typed = t.1; few = m.1; externs_apart = p.externs_apart; extractors_apart = p.extractors_apart; known = p.known; extracted = p.extracted; heads = p.heads } in
     none_later (λ (r : Row). (r, pos)) (broken_in OfTerms (record { whole = whole_of all; before = before }) d) (fault_after OfTerms (whole_of all) (before ++ d ∷ []) ds)
     (decl_from (again || is_made_twice all s) (names_no_type all s) (has_too_many s) (multi && partial) (or_from again (is_made_twice all s) a.0 u.0) t.0 m.0 (single pure multi recursive partial g.0))
-    (terms_none all (before ++ d ∷ []) ds g.1 (same_tests (sym (grown signature_of (λ (x : Signature). x.term) before d)) (sym (not_external before d refl)) rest))
+    (terms_none all (before ++ d ∷ []) ds g.1 (same_tests (sym (grown signature_of (λ (x : Signature). x.term) before d)) (sym (not_external before d refl)) (sym (not_extracting before d refl)) rest))
 terms_none all before (tree.ExternConstructor term func pos ∷ ds) f p =
     let d = tree.ExternConstructor term func pos in
     let external = extern_terms (externs before) in
     let again = is_some (index_of external term) in
+    let unknown = not (is_some (signature_named (signatures all) term)) in
     let a = or_parts again (repeats_after (external ++ term ∷ []) (extern_terms (externs ds))) p.externs_apart in
-    let k = or_parts (not (is_some (signature_named (signatures all) term))) (has_undeclared (signatures all) (externs ds)) p.known in
-    let rest : AreTested all (terms_of (signatures before)) (external ++ term ∷ []) (signatures ds) (externs ds) (rule_defs ds) = record { apart = p.apart; unmade = p.unmade; typed = p.typed; few = p.few; externs_apart = a.1; known = k.1; heads = p.heads } in
-    none_later (λ (r : Row). (r, pos)) (broken_in OfTerms (record { whole = whole_of all; before = before }) d) (fault_after OfTerms (whole_of all) (before ++ d ∷ []) ds)
-    (none_first (not (is_some (signature_named (signatures all) term))) row.TermUndeclared (cond again (Some row.SecondOfTerm) None) k.0 (none_first again row.SecondOfTerm None a.0 refl))
-    (terms_none all (before ++ d ∷ []) ds f (same_tests (sym (undeclared before d refl)) (sym (grown extern_of (λ (x : Extern). x.term) before d)) rest))
+    let k = or_parts unknown (has_undeclared (signatures all) (externs ds)) p.known in
+    let rest : AreTestedIn all (terms_of (signatures before)) (external ++ term ∷ []) (extractor_terms (extractors before)) ds =
+    record { apart = p.apart; unmade = p.unmade; typed = p.typed; few = p.few; externs_apart = a.1; extractors_apart = p.extractors_apart; known = k.1; extracted = p.extracted; heads = p.heads } in
+    none_later (λ (r : Row). (r, pos)) (broken_in OfTerms (record { whole = whole_of all; before = before }) d) (fault_after OfTerms (whole_of all) (before ++ d ∷ []) ds) (named_from unknown again false k.0 a.0 refl)
+    (terms_none all (before ++ d ∷ []) ds f (same_tests (sym (undeclared before d refl)) (sym (grown extern_of (λ (x : Extern). x.term) before d)) (sym (not_extracting before d refl)) rest))
+terms_none all before (tree.ExternExtractor term func infallible pos ∷ ds) f p =
+    let d = tree.ExternExtractor term func infallible pos in
+    let extracting = extractor_terms (extractors before) in
+    let again = is_some (index_of extracting term) in
+    let unknown = not (is_some (signature_named (signatures all) term)) in
+    let a = or_parts again (repeats_after (extracting ++ term ∷ []) (extractor_terms (extractors ds))) p.extractors_apart in
+    let k = or_parts unknown (has_unknown (signatures all) (extractors ds)) p.extracted in
+    let rest : AreTestedIn all (terms_of (signatures before)) (extern_terms (externs before)) (extracting ++ term ∷ []) ds =
+    record { apart = p.apart; unmade = p.unmade; typed = p.typed; few = p.few; externs_apart = p.externs_apart; extractors_apart = a.1; known = p.known; extracted = k.1; heads = p.heads } in
+    none_later (λ (r : Row). (r, pos)) (broken_in OfTerms (record { whole = whole_of all; before = before }) d) (fault_after OfTerms (whole_of all) (before ++ d ∷ []) ds) (named_from unknown false again k.0 refl a.0)
+    (terms_none all (before ++ d ∷ []) ds f (same_tests (sym (undeclared before d refl)) (sym (not_external before d refl)) (sym (grown extractor_of (λ (x : ExtractorDef). x.term) before d)) rest))
 terms_none all before (tree.Rule name prio term args iflets rhs pos ∷ ds) f p =
     let d = tree.Rule name prio term args iflets rhs pos in
     let r : RuleDef = record { name = name; prio = prio; term = term; args = args; iflets = iflets; rhs = rhs; pos = pos } in
     let g = and_parts (is_built_def d) (list_all is_built_def ds) f in
     let k = or_parts (is_headless all r) (list_any (is_headless all) (rule_defs ds)) p.heads in
-    let rest : TermParts all before ds = record { apart = p.apart; unmade = p.unmade; typed = p.typed; few = p.few; externs_apart = p.externs_apart; known = p.known; heads = k.1 } in
+    let rest : TermParts all before ds = record { apart = p.apart; unmade = p.unmade; typed = p.typed; few = p.few; externs_apart = p.externs_apart; extractors_apart = p.extractors_apart; known = p.known; extracted = p.extracted; heads = k.1 } in
     none_later (λ (r : Row). (r, pos)) (broken_in OfTerms (record { whole = whole_of all; before = before }) d) (fault_after OfTerms (whole_of all) (before ++ d ∷ []) ds) (none_first (is_headless all r) row.HeadMisfit None k.0 refl)
-    (terms_none all (before ++ d ∷ []) ds g.1 (same_tests (sym (undeclared before d refl)) (sym (not_external before d refl)) rest))
+    (terms_none all (before ++ d ∷ []) ds g.1 (ahead all before d ds refl refl refl rest))
 terms_none all before (tree.TypeDecl name is_extern is_nodebug body pos ∷ ds) f p =
     let d = tree.TypeDecl name is_extern is_nodebug body pos in
-    terms_none all (before ++ d ∷ []) ds f (same_tests (sym (undeclared before d refl)) (sym (not_external before d refl)) p)
-terms_none all before (tree.ExternExtractor term func infallible pos ∷ ds) f p = absurd cc
+    terms_none all (before ++ d ∷ []) ds f (ahead all before d ds refl refl refl p)
 terms_none all before (tree.ExternConst name ty pos ∷ ds) f p =
     let d = tree.ExternConst name ty pos in
-    terms_none all (before ++ d ∷ []) ds f (same_tests (sym (undeclared before d refl)) (sym (not_external before d refl)) p)
+    terms_none all (before ++ d ∷ []) ds f (ahead all before d ds refl refl refl p)
 terms_none all before (tree.Extractor term params template pos ∷ ds) f p = absurd cc
 terms_none all before (tree.Converter from to term pos ∷ ds) f p = absurd cc
 terms_none all before (tree.Passed head items pos ∷ ds) f p =
     let d = tree.Passed head items pos in
-    terms_none all (before ++ d ∷ []) ds f (same_tests (sym (undeclared before d refl)) (sym (not_external before d refl)) p)
+    terms_none all (before ++ d ∷ []) ds f (ahead all before d ds refl refl refl p)

@@ -1,28 +1,33 @@
 -- The tests of typed patterns are ready for a block, and their paths and variables have types.
-use Rattle.std.proofs.Common.{◌≡◌, ⊎_elim, ℕ, suc, ◌+◌, Bool, true, false, cond, eqb, List, [], ◌∷◌, ◌++◌, Option, Some, None, refl, sym, ap, ◌∙◌, subst, arith}
+use Rattle.std.proofs.Common.{◌≡◌, ⊎_elim, ℕ, zero, suc, ◌+◌, Bool, true, false, cond, eqb, List, [], ◌∷◌, ◌++◌, Option, Some, None, refl, sym, ap, ◌∙◌, subst, arith}
 use Rattle.std.specs.Prelude.{IsSomeAnd, Contains, filter, option_map, slice_get}
 use Rattle.std.proofs.lemmas.Bool.{eqb-true, eq-eqb}
 use Rattle.std.proofs.lemmas.List.Elements.{Contains-append_left, Contains-append_right, Contains-append_cases}
 use Rattle.std.proofs.lemmas.Option.{same_Some}
+use Rattle.isle_core.specs.declared.TermId.{TermId}
 use Rattle.isle_core.specs.declared.TypeId.{TypeId}
 use Rattle.isle_core.specs.declared.rule_sets.Constraint.{Constraint}
 use Rattle.isle_core.specs.declared.rule_sets.Constraint.TheVariants as constraint
+use Rattle.isle_core.specs.declared.types.ReturnKind.TheVariants as return_kind
 use Rattle.isle_core.specs.declared.types.Term.{Term}
-use Rattle.isle_core.specs.ConstraintType.{IsConstraintOf}
+use Rattle.isle_core.specs.Calling.{Calling, answers_often, is_fallible, extracting}
+use Rattle.isle_core.specs.ExternalCall.{IsExtraction}
 use Rattle.isle_core.specs.Form.{form, form_types}
-use Rattle.isle_core.specs.Making.{Making, MakesVariant, MakesStruct, MakesNothing, making}
-use Rattle.isle_core.specs.Path.{Path, Arg, Called, Inner, MadeVariant, MadeStruct, VariantField, StructField, Paths, NoPath, APath}
+use Rattle.isle_core.specs.Making.{MakesVariant, MakesStruct, making}
+use Rattle.isle_core.specs.Opening.{Opening, AsVariant, AsStruct, ByExtractor, opening, answer_path, result_path, part_path}
+use Rattle.isle_core.specs.Path.{Path, Arg, Called, Inner, MadeVariant, MadeStruct, VariantField, StructField, Extracted, Paths, NoPath, APath}
 use Rattle.isle_core.specs.PathType.{IsPathOf}
 use Rattle.isle_core.specs.Pattern as pattern
 use Rattle.isle_core.specs.Pattern.{Pattern, Patterns, NoPattern, APattern, Var, ConstBool, ConstInt, ConstPrim, Wildcard, BindPattern, And}
-use Rattle.isle_core.specs.PatternType.{IsOfMaking, IsPatternOf, ArePartsOf, AreEachOf, ArePatternsOf}
+use Rattle.isle_core.specs.PatternType.{part_types, IsPatternOf, ArePartsOf, AreEachOf, ArePatternsOf}
 use Rattle.isle_core.specs.Rule.{Environment}
-use Rattle.isle_core.specs.RulePaths.{pattern_paths, parts_paths, each_paths, args_paths}
-use Rattle.isle_core.specs.Serializable.{StandsOn, AllStandOn, IsFieldPath}
-use Rattle.isle_core.specs.Tests.{Test, Is, Equal, Never, is_constraint, Places, no_places, met_tests, met_after, made_test, field_path, tests, parts_tests, each_tests, after, after_parts, after_each, args_tests, args_after}
+use Rattle.isle_core.specs.RulePaths.{opening_paths, pattern_paths, parts_paths, each_paths, args_paths}
+use Rattle.isle_core.specs.Serializable.{StandsWithin, StandsOn, AllStandOn, IsTest, IsFieldPath}
+use Rattle.isle_core.specs.Tests.{Test, Is, Equal, Never, is_constraint, Places, no_places, met_tests, met_after, found_tests, opening_tests, tests, parts_tests, each_tests, after, after_parts, after_each, args_tests, args_after}
 use Rattle.isle_core.proofs.Contained.{head_contained, tail_contained, contained_cases, none_contained}
 use Rattle.isle_core.proofs.KeptPlaces.{after_keeps, each_keep, parts_keep, args_keep}
 use Rattle.isle_sema.specs.TypedRule.{typed_variables, typed_within, all_typed, HaveOneType}
+use Rattle.isle_sema.proofs.SingleExtractors.{SingleExtractors, IsFinding, finds, may_find, OpensInto, opens_into}
 
 -- ---- types of paths in order
 
@@ -63,16 +68,35 @@ parts_there : (env : Environment) (o : Option (List TypeId)) (qs : Patterns) →
 parts_there env None qs h = absurd h
 parts_there env (Some tys) qs h = (tys, refl, h)
 
--- the fields of what is made have its types
-field_typed : (env : Environment) (t : Term) (mk : Making) (p : Path) (ty : TypeId) (tys : List TypeId) → IsOfMaking ty mk → IsPathOf env t p ty → option_map (form_types env) (form env mk) ≡ Some tys → (k : ℕ) (field : TypeId) → slice_get tys k ≡ Some field
-    → IsPathOf env t (field_path mk k p) field
-field_typed env t (MakesVariant of variant) p ty tys is h e k field at = (of, subst (IsPathOf env t p) (sym is) h, form_at (form env (MakesVariant of variant)) (form_types env) tys k field e at)
-field_typed env t (MakesStruct of) p ty tys is h e k field at = (of, subst (IsPathOf env t p) (sym is) h, form_at (form env (MakesStruct of)) (form_types env) tys k field e at)
-field_typed env t MakesNothing p ty tys is h e k field at = absurd is
+-- one of a single type is that
+single_part : (ty : TypeId) (k : ℕ) (part : TypeId) → slice_get (ty ∷ []) k ≡ Some part → ty ≡ part
+single_part ty zero part at = same_Some ty part at
+single_part ty (suc k) part at = absurd cc
 
--- so of the fields in order
-fields_are : (env : Environment) (t : Term) (mk : Making) (p : Path) (ty : TypeId) (tys : List TypeId) → IsOfMaking ty mk → IsPathOf env t p ty → option_map (form_types env) (form env mk) ≡ Some tys → AreTyped env t (λ k. field_path mk k p) 0 tys
-fields_are env t mk p ty tys is h e = from_start env t (λ k. field_path mk k p) tys (field_typed env t mk p ty tys is h e)
+-- what an extractor finds in a value has its type
+found_typed : {c : Calling} (env : Environment) (t : Term) (term : TermId) (called : Term) (p : Path) (part : TypeId) → IsFinding c → extracting env term ≡ c → slice_get env.terms term.0 ≡ Some called → called.arg_tys ≡ part ∷ [] → IsPathOf env t p called.ret_ty
+    → IsPathOf env t (answer_path c (Extracted term p)) part
+found_typed env t term called p part (finds name) is found gives h =
+    (subst (IsExtraction return_kind.Plain) (sym is) (refl, tt, tt), subst (λ o. IsSomeAnd o (λ (x : Term). (x.arg_tys ≡ part ∷ []) × IsPathOf env t p x.ret_ty)) (sym found) (gives, h))
+found_typed env t term called p part (may_find name) is found gives h =
+    (subst (IsExtraction return_kind.Option) (sym is) (refl, tt, tt), subst (λ o. IsSomeAnd o (λ (x : Term). (x.arg_tys ≡ part ∷ []) × IsPathOf env t p x.ret_ty)) (sym found) (gives, h))
+
+-- so where it takes values of the path's type apart
+single_typed : (env : Environment) (t : Term) (term : TermId) (c : Calling) (count : ℕ) (p : Path) (ty : TypeId) (tys : List TypeId) → (into : OpensInto env ty (ByExtractor term c count) tys) → IsPathOf env t p ty → IsPathOf env t (answer_path c (Extracted term p)) into.part
+single_typed env t term c count p ty tys into h = found_typed env t term into.called p into.part into.finding into.is into.found into.gives (subst (IsPathOf env t p) (sym into.taken) h)
+
+-- what a term takes values of a type apart into has its types
+part_typed : (env : Environment) (t : Term) (opened : Opening) (p : Path) (ty : TypeId) (tys : List TypeId) → OpensInto env ty opened tys → IsPathOf env t p ty → (k : ℕ) (part : TypeId) → slice_get tys k ≡ Some part → IsPathOf env t (part_path opened k p) part
+part_typed env t (AsVariant of variant) p ty tys into h k part at = (of, subst (IsPathOf env t p) (sym into.0) h, form_at (form env (MakesVariant of variant)) (form_types env) tys k part into.1 at)
+part_typed env t (AsStruct of) p ty tys into h k part at = (of, subst (IsPathOf env t p) (sym into.0) h, form_at (form env (MakesStruct of)) (form_types env) tys k part into.1 at)
+part_typed env t (ByExtractor term c count) p ty tys into h k part at =
+    let answer = answer_path c (Extracted term p) in
+    subst (λ n. IsPathOf env t (result_path n k answer) part) (sym into.one)
+    (subst (IsPathOf env t answer) (single_part into.part k part (subst (λ xs. slice_get xs k ≡ Some part) into.types at)) (single_typed env t term c count p ty tys into h))
+
+-- so of the parts in order
+parts_are : (env : Environment) (t : Term) (opened : Opening) (p : Path) (ty : TypeId) (tys : List TypeId) → OpensInto env ty opened tys → IsPathOf env t p ty → AreTyped env t (λ k. part_path opened k p) 0 tys
+parts_are env t opened p ty tys into h = from_start env t (λ k. part_path opened k p) tys (part_typed env t opened p ty tys into h)
 
 -- ---- what may be read
 
@@ -80,11 +104,18 @@ fields_are env t mk p ty tys is h e = from_start env t (λ k. field_path mk k p)
 abbrev pub AreAlso : (xs ys : List Test) → Type 0
 AreAlso xs ys = (x : Test) → Contains xs x → Contains ys x
 
+-- what is within may be read behind more tests
+within_still : (p : Path) (xs ys : List Test) (done : List Path) → AreAlso xs ys → StandsWithin xs done p → StandsWithin ys done p
+within_still (Called term ps instance) xs ys done a h = h
+within_still (Extracted term q) xs ys done a h = a (Is (Extracted term q) constraint.Some) h
+within_still p xs ys done a h = tt
+
 mutual
   -- what may be read behind tests may be so behind more of them
   pub stands_still : (p : Path) (xs ys : List Test) (done : List Path) → AreAlso xs ys → StandsOn xs done p → StandsOn ys done p
   stands_still (Called term ps instance) xs ys done a h = h
-  stands_still (Inner p) xs ys done a h = stands_still p xs ys done a h
+  stands_still (Inner p) xs ys done a h = within_still p xs ys done a h
+  stands_still (Extracted term q) xs ys done a h = stands_still q xs ys done a h
   stands_still (VariantField variant field q) xs ys done a h = (h.0, a (Is q (constraint.Variant h.0 variant)) h.1)
   stands_still (StructField field q) xs ys done a h = (h.0, a (Is q (constraint.Struct h.0)) h.1)
   stands_still (MadeVariant of variant ps) xs ys done a h = all_stand_still ps xs ys done a h
@@ -96,20 +127,27 @@ mutual
   all_stand_still NoPath xs ys done a h = tt
   all_stand_still (APath p ps) xs ys done a h = (stands_still p xs ys done a h.0, all_stand_still ps xs ys done a h.1)
 
--- a field stands behind the test that shows it
-field_stands : (mk : Making) (tests : List Test) (done : List Path) (p : Path) (i : ℕ) → (is_constraint (made_test mk p) ≡ true → Contains tests (made_test mk p)) → StandsOn tests done (field_path mk i p)
-field_stands (MakesVariant of variant) tests done p i c = (of, c refl)
-field_stands (MakesStruct of) tests done p i c = (of, c refl)
-field_stands MakesNothing tests done p i c = tt
+-- the constraints among these tests are among those
+abbrev pub HasConstraints : (all ts : List Test) → Type 0
+HasConstraints all ts = (y : Test) → is_constraint y ≡ true → Contains ts y → Contains all y
+
+-- what an extractor finds stands behind the test that it is something
+found_stands : {c : Calling} (term : TermId) (tests : List Test) (done : List Path) (p : Path) → IsFinding c → StandsOn tests done p → HasConstraints tests (found_tests c (Extracted term p)) → StandsOn tests done (answer_path c (Extracted term p))
+found_stands term tests done p (finds name) s among = s
+found_stands term tests done p (may_find name) s among = among (Is (Extracted term p) constraint.Some) refl (head_contained (Is (Extracted term p) constraint.Some) [])
+
+-- a part stands behind the tests of what takes it apart
+part_stands : (env : Environment) (ty : TypeId) (opened : Opening) (tys : List TypeId) (tests : List Test) (done : List Path) (p : Path) (i : ℕ) → OpensInto env ty opened tys → StandsOn tests done p → HasConstraints tests (opening_tests opened p) → StandsOn tests done (part_path opened i p)
+part_stands env ty (AsVariant of variant) tys tests done p i into s among = (of, among (Is p (constraint.Variant of variant)) refl (head_contained (Is p (constraint.Variant of variant)) []))
+part_stands env ty (AsStruct of) tys tests done p i into s among = (of, among (Is p (constraint.Struct of)) refl (head_contained (Is p (constraint.Struct of)) []))
+part_stands env ty (ByExtractor term c count) tys tests done p i into s among = subst (λ n. StandsOn tests done (result_path n i (answer_path c (Extracted term p)))) (sym into.one) (found_stands term tests done p into.finding s among)
 
 -- ---- constraints
 
--- a constraint of the type of its path, which may be read behind these tests
+-- a constraint tests what stands at its path, which may be read behind these tests
 pub record IsTestableAt (env : Environment) (t : Term) (before : List Test) (p : Path) (c : Constraint) : Type 0 where
-  pub ty : TypeId
-  pub path : IsPathOf env t p ty
+  pub test : IsTest env t p c
   pub stands : StandsOn before [] p
-  pub constraint : IsConstraintOf env c ty
 
 -- the constraints among tests in order, behind these
 abbrev pub AreTestableAt : Environment → Term → (before : List Test) → List Test → Type 0
@@ -125,72 +163,82 @@ constraints_testable env t before (Is p c ∷ ts) h = (h.0, constraints_testable
 constraints_testable env t before (Equal p q ∷ ts) h = constraints_testable env t before ts h
 constraints_testable env t before (Never ∷ ts) h = constraints_testable env t before ts h
 
-module _ (env : Environment) (t : Term) where
+module _ (env : Environment) (t : Term) (single : SingleExtractors env) where
   -- tests behind tests
-  testable_more : (before xs ys : List Test) → AreTestableAt env t before xs → ((later : List Test) → AreAlso before later → AreTestableAt env t later ys) → AreTestableAt env t before (xs ++ ys)
-  testable_more before [] ys h go = go before (λ x c. c)
-  testable_more before (Is p c ∷ xs) ys h go = (h.0, testable_more (Is p c ∷ before) xs ys h.1 (λ later a. go later (λ x d. a x (tail_contained (Is p c) before x d))))
-  testable_more before (Equal p q ∷ xs) ys h go = testable_more before xs ys h go
-  testable_more before (Never ∷ xs) ys h go = testable_more before xs ys h go
+  testable_more : (before xs ys : List Test) → AreTestableAt env t before xs → ((later : List Test) → AreAlso before later → HasConstraints later xs → AreTestableAt env t later ys) → AreTestableAt env t before (xs ++ ys)
+  testable_more before [] ys h go = go before (λ x c. c) (λ y e c. absurd (none_contained y c))
+  testable_more before (Is p c ∷ xs) ys h go = (
+    h.0,
+    testable_more (Is p c ∷ before) xs ys h.1 (λ later a k. go later (λ x d. a x (tail_contained (Is p c) before x d))
+        (λ y e d. ⊎_elim (λ (s : Is p c ≡ y). subst (Contains later) s (a (Is p c) (head_contained (Is p c) before))) (k y e) (contained_cases (Is p c) xs y d))),
+  )
+  testable_more before (Equal p q ∷ xs) ys h go = testable_more before xs ys h (λ later a k. go later a (λ y e d. ⊎_elim (λ (s : Equal p q ≡ y). let bad : false ≡ true = ap is_constraint s ∙ e in absurd cc) (k y e) (contained_cases (Equal p q) xs y d)))
+  testable_more before (Never ∷ xs) ys h go = testable_more before xs ys h (λ later a k. go later a (λ y e d. ⊎_elim (λ (s : Never ≡ y). let bad : false ≡ true = ap is_constraint s ∙ e in absurd cc) (k y e) (contained_cases Never xs y d)))
 
   -- a variable puts no constraint
   met_testable : (o : Option Path) (p : Path) (before : List Test) → AreTestableAt env t before (met_tests o p)
   met_testable None p before = tt
   met_testable (Some q) p before = tt
 
-  -- the test of a made term, and those behind it
-  made_testable : (mk : Making) (p : Path) (ty : TypeId) (tys : List TypeId) (before ts : List Test) → IsOfMaking ty mk → IsPathOf env t p ty → StandsOn before [] p → option_map (form_types env) (form env mk) ≡ Some tys → AreTestableAt env t (made_test mk p ∷ before) ts
-      → AreTestableAt env t before (made_test mk p ∷ ts)
-  made_testable (MakesVariant of variant) p ty tys before ts is h s e more = (record { ty = ty; path = h; stands = s; constraint = (is, form_there (form env (MakesVariant of variant)) (form_types env) tys e) }, more)
-  made_testable (MakesStruct of) p ty tys before ts is h s e more = (record { ty = ty; path = h; stands = s; constraint = (is, form_there (form env (MakesStruct of)) (form_types env) tys e) }, more)
-  made_testable MakesNothing p ty tys before ts is h s e more = absurd is
+  -- so is the constraint on what an extractor finds
+  found_testable : {c : Calling} (term : TermId) (p : Path) (part : TypeId) (before : List Test) → IsFinding c → IsPathOf env t (answer_path c (Extracted term p)) part → StandsOn before [] p → AreTestableAt env t before (found_tests c (Extracted term p))
+  found_testable term p part before (finds name) h s = tt
+  found_testable term p part before (may_find name) h s = (record { test = (part, h); stands = s }, tt)
+
+  -- the constraints of what takes a path of a type apart
+  opening_testable : (opened : Opening) (p : Path) (ty : TypeId) (tys : List TypeId) (before : List Test) → OpensInto env ty opened tys → IsPathOf env t p ty → StandsOn before [] p → AreTestableAt env t before (opening_tests opened p)
+  opening_testable (AsVariant of variant) p ty tys before into h s = (record { test = record { ty = ty; path = h; constraint = (into.0, form_there (form env (MakesVariant of variant)) (form_types env) tys into.1) }; stands = s }, tt)
+  opening_testable (AsStruct of) p ty tys before into h s = (record { test = record { ty = ty; path = h; constraint = (into.0, form_there (form env (MakesStruct of)) (form_types env) tys into.1) }; stands = s }, tt)
+  opening_testable (ByExtractor term c count) p ty tys before into h s = found_testable term p into.part before into.finding (single_typed env t term c count p ty tys into h) s
 
   mutual
     -- the constraints of a typed pattern on a path of its type
     pattern_testable : (q : Pattern) (p : Path) (ty : TypeId) (places : Places) (before : List Test) → IsPatternOf env ty q → IsPathOf env t p ty → StandsOn before [] p → AreTestableAt env t before (tests env q p places)
     pattern_testable (Var of x) p ty places before h typed s = met_testable (places x.0) p before
-    pattern_testable (ConstBool b) p ty places before h typed s = (record { ty = ty; path = typed; stands = s; constraint = h.1 }, tt)
-    pattern_testable (ConstInt of n) p ty places before h typed s = (record { ty = ty; path = typed; stands = s; constraint = h }, tt)
-    pattern_testable (ConstPrim of name) p ty places before h typed s = (record { ty = ty; path = typed; stands = s; constraint = h.1 }, tt)
+    pattern_testable (ConstBool b) p ty places before h typed s = (record { test = record { ty = ty; path = typed; constraint = h.1 }; stands = s }, tt)
+    pattern_testable (ConstInt of n) p ty places before h typed s = (record { test = record { ty = ty; path = typed; constraint = h }; stands = s }, tt)
+    pattern_testable (ConstPrim of name) p ty places before h typed s = (record { test = record { ty = ty; path = typed; constraint = h.1 }; stands = s }, tt)
     pattern_testable (Wildcard of) p ty places before h typed s = tt
     pattern_testable (pattern.Term of term qs) p ty places before h typed s =
-        let mk = making env term in
-        let k = parts_there env (option_map (form_types env) (form env mk)) qs h.2 in
-        made_testable mk p ty k.0 before (parts_tests env mk qs 0 p places) h.1 typed s k.1
-        (parts_testable qs mk p 0 k.0 places (made_test mk p ∷ before) k.2 (fields_are env t mk p ty k.0 h.1 typed k.1) (head_contained (made_test mk p) before))
+        let opened = opening env term in
+        let k = parts_there env (part_types env (making env term) (slice_get env.terms term.0)) qs h.2 in
+        let into = opens_into env single ty term k.0 h.1 k.1 in
+        testable_more before (opening_tests opened p) (parts_tests env opened qs 0 p places) (opening_testable opened p ty k.0 before into typed s)
+        (λ later a c. parts_testable qs opened p 0 k.0 places later k.2 (parts_are env t opened p ty k.0 into typed) (λ j. part_stands env ty opened k.0 later [] p j into (stands_still p before later [] a s) c))
     pattern_testable (BindPattern of x q) p ty places before h typed s =
         let mid = met_after (places x.0) x.0 p places in
-        testable_more before (met_tests (places x.0) p) (tests env q p mid) (met_testable (places x.0) p before) (λ later a. pattern_testable q p ty mid later h.1 typed (stands_still p before later [] a s))
+        testable_more before (met_tests (places x.0) p) (tests env q p mid) (met_testable (places x.0) p before) (λ later a c. pattern_testable q p ty mid later h.1 typed (stands_still p before later [] a s))
     pattern_testable (And of qs) p ty places before h typed s = each_testable qs p ty places before h.1 typed s
 
-    -- those of parts on the fields of what shows them
-    parts_testable : (qs : Patterns) (mk : Making) (p : Path) (i : ℕ) (tys : List TypeId) (places : Places) (before : List Test) → ArePartsOf env (Some tys) qs → AreTyped env t (λ k. field_path mk k p) i tys → Contains before (made_test mk p) → AreTestableAt env t before (parts_tests env mk qs i p places)
-    parts_testable NoPattern mk p i tys places before h typed made = tt
-    parts_testable (APattern q qs) mk p i (ty ∷ tys) places before h typed made =
-        let r = field_path mk i p in
+    -- those of parts, each on its path
+    parts_testable : (qs : Patterns) (opened : Opening) (p : Path) (i : ℕ) (tys : List TypeId) (places : Places) (before : List Test) → ArePartsOf env (Some tys) qs → AreTyped env t (λ k. part_path opened k p) i tys → ((k : ℕ) → StandsOn before [] (part_path opened k p))
+        → AreTestableAt env t before (parts_tests env opened qs i p places)
+    parts_testable NoPattern opened p i tys places before h typed stand = tt
+    parts_testable (APattern q qs) opened p i (ty ∷ tys) places before h typed stand =
+        let r = part_path opened i p in
         let mid = after env q r places in
-        testable_more before (tests env q r places) (parts_tests env mk qs (suc i) p mid) (pattern_testable q r ty places before h.0 typed.0 (field_stands mk before [] p i (λ e. made)))
-        (λ later a. parts_testable qs mk p (suc i) tys mid later h.1 typed.1 (a (made_test mk p) made))
-    parts_testable (APattern q qs) mk p i [] places before h typed made = absurd h
+        testable_more before (tests env q r places) (parts_tests env opened qs (suc i) p mid) (pattern_testable q r ty places before h.0 typed.0 (stand i))
+        (λ later a c. parts_testable qs opened p (suc i) tys mid later h.1 typed.1 (λ k. stands_still (part_path opened k p) before later [] a (stand k)))
+    parts_testable (APattern q qs) opened p i [] places before h typed stand = absurd h
 
     -- those of several patterns on one path
     each_testable : (qs : Patterns) (p : Path) (ty : TypeId) (places : Places) (before : List Test) → AreEachOf env ty qs → IsPathOf env t p ty → StandsOn before [] p → AreTestableAt env t before (each_tests env qs p places)
     each_testable NoPattern p ty places before h typed s = tt
     each_testable (APattern q qs) p ty places before h typed s =
         let mid = after env q p places in
-        testable_more before (tests env q p places) (each_tests env qs p mid) (pattern_testable q p ty places before h.0 typed s) (λ later a. each_testable qs p ty mid later h.1 typed (stands_still p before later [] a s))
+        testable_more before (tests env q p places) (each_tests env qs p mid) (pattern_testable q p ty places before h.0 typed s) (λ later a c. each_testable qs p ty mid later h.1 typed (stands_still p before later [] a s))
 
   -- those of patterns on arguments
   args_testable : (qs : List Pattern) (i : ℕ) (tys : List TypeId) (places : Places) (before : List Test) → ArePatternsOf env tys qs → AreTyped env t Arg i tys → AreTestableAt env t before (args_tests env qs i places)
   args_testable [] i tys places before h typed = tt
   args_testable (q ∷ qs) i (ty ∷ tys) places before h typed =
       let mid = after env q (Arg i) places in
-      testable_more before (tests env q (Arg i) places) (args_tests env qs (suc i) mid) (pattern_testable q (Arg i) ty places before h.0 typed.0 tt) (λ later a. args_testable qs (suc i) tys mid later h.1 typed.1)
+      testable_more before (tests env q (Arg i) places) (args_tests env qs (suc i) mid) (pattern_testable q (Arg i) ty places before h.0 typed.0 tt) (λ later a c. args_testable qs (suc i) tys mid later h.1 typed.1)
   args_testable (q ∷ qs) i [] places before h typed = absurd h
 
 -- the constraints of patterns of a term's types are ready
-pub rule_testable : (env : Environment) (t : Term) (qs : List Pattern) → ArePatternsOf env t.arg_tys qs → AreTestableAt env t [] (args_tests env qs 0 no_places)
-rule_testable env t qs h = args_testable env t qs 0 t.arg_tys no_places [] h (args_are env t)
+pub rule_testable : (env : Environment) (t : Term) (qs : List Pattern) → SingleExtractors env → ArePatternsOf env t.arg_tys qs → AreTestableAt env t [] (args_tests env qs 0 no_places)
+rule_testable env t qs single h = args_testable env t single qs 0 t.arg_tys no_places [] h (args_are env t)
 
 -- ---- variables
 
@@ -227,15 +275,20 @@ record IsPassed (env : Environment) (t : Term) (all : List Test) (vars : List (T
   equals : (p q : Path) → Contains ts (Equal p q) → AreComparableAt env t all p q
   there : (v : TypeId × ℕ) → Contains xs v → (p : Path) × (places v.1 ≡ Some p)
 
--- the constraints among these tests are among those
-abbrev pub HasConstraints : (all ts : List Test) → Type 0
-HasConstraints all ts = (y : Test) → is_constraint y ≡ true → Contains ts y → Contains all y
+-- what is no equality, alone
+is_no_equality : (p a b : Path) (c : Constraint) → Contains (Is p c ∷ []) (Equal a b) → ⊥
+is_no_equality p a b c k = ⊎_elim (λ (e : Is p c ≡ Equal a b). absurd cc) (λ d. none_contained (Equal a b) d) (contained_cases (Is p c) [] (Equal a b) k)
 
--- what a term makes is tested by no equality
-made_apart : (mk : Making) (p a b : Path) → made_test mk p ≡ Equal a b → ⊥
-made_apart (MakesVariant of variant) p a b e = cc
-made_apart (MakesStruct of) p a b e = cc
-made_apart MakesNothing p a b e = cc
+-- before a pattern takes a path apart no equality is tested
+opening_no_equality : (opened : Opening) (p a b : Path) → Contains (opening_tests opened p) (Equal a b) → ⊥
+opening_no_equality (AsVariant of variant) p a b k = is_no_equality p a b (constraint.Variant of variant) k
+opening_no_equality (AsStruct of) p a b k = is_no_equality p a b (constraint.Struct of) k
+opening_no_equality (ByExtractor term c count) p a b k = pick (answers_often c) (is_fallible c) k
+  where
+    pick : (x y : Bool) → Contains (cond x (Never ∷ []) (cond y (Is (Extracted term p) constraint.Some ∷ []) [])) (Equal a b) → ⊥
+    pick true y k = ⊎_elim (λ (e : Never ≡ Equal a b). absurd cc) (λ d. none_contained (Equal a b) d) (contained_cases Never [] (Equal a b) k)
+    pick false true k = is_no_equality (Extracted term p) a b constraint.Some k
+    pick false false k = none_contained (Equal a b) k
 
 -- what equalities equate on the left
 left_same : (p q a b : Path) → Equal p q ≡ Equal a b → p ≡ a
@@ -245,7 +298,7 @@ left_same p q a b e = cc
 right_same : (p q a b : Path) → Equal p q ≡ Equal a b → q ≡ b
 right_same p q a b e = cc
 
-module _ (env : Environment) (t : Term) (all : List Test) (vars : List (TypeId × ℕ)) (one : HaveOneType vars) where
+module _ (env : Environment) (t : Term) (single : SingleExtractors env) (all : List Test) (vars : List (TypeId × ℕ)) (one : HaveOneType vars) where
   -- patterns that put nothing
   none_passed : (places : Places) → AreHeld env t all vars places → IsPassed env t all vars [] [] places
   none_passed places h = record { held = h; equals = λ p q c. absurd (none_contained (Equal p q) c); there = λ v c. absurd (none_contained v c) }
@@ -257,6 +310,10 @@ module _ (env : Environment) (t : Term) (all : List Test) (vars : List (TypeId �
   -- a constraint alone
   constraint_passed : (p : Path) (c : Constraint) (places : Places) → AreHeld env t all vars places → IsPassed env t all vars (Is p c ∷ []) [] places
   constraint_passed p c places h = test_passed (Is p c) [] [] places (λ a b e. cc) (none_passed places h)
+
+  -- what takes a path apart
+  opening_passed : (opened : Opening) (p : Path) (places : Places) → AreHeld env t all vars places → IsPassed env t all vars (opening_tests opened p) [] places
+  opening_passed opened p places h = record { held = h; equals = λ a b c. absurd (opening_no_equality opened p a b c); there = λ v c. absurd (none_contained v c) }
 
   -- patterns behind patterns
   both_passed : (ts us : List Test) (xs ys : List (TypeId × ℕ)) (mid later : Places) → IsPassed env t all vars ts xs mid → IsPassed env t all vars us ys later → ((x : ℕ) (p : Path) → mid x ≡ Some p → later x ≡ Some p) → IsPassed env t all vars (ts ++ us) (xs ++ ys) later
@@ -302,12 +359,14 @@ module _ (env : Environment) (t : Term) (all : List Test) (vars : List (TypeId �
     pattern_passed (ConstPrim of name) p ty places h typed s held among within = constraint_passed p (constraint.ConstPrim name) places held
     pattern_passed (Wildcard of) p ty places h typed s held among within = none_passed places held
     pattern_passed (pattern.Term of term qs) p ty places h typed s held among within =
-        let mk = making env term in
-        let k = parts_there env (option_map (form_types env) (form env mk)) qs h.2 in
-        let made = made_test mk p in
-        let rest = parts_tests env mk qs 0 p places in
-        test_passed made rest (typed_within qs) (after_parts env mk qs 0 p places) (made_apart mk p)
-        (parts_passed qs mk p 0 k.0 places k.2 (fields_are env t mk p ty k.0 h.1 typed k.1) (λ e. among made e (head_contained made rest)) held (λ y e c. among y e (tail_contained made rest y c)) within)
+        let opened = opening env term in
+        let k = parts_there env (part_types env (making env term) (slice_get env.terms term.0)) qs h.2 in
+        let into = opens_into env single ty term k.0 h.1 k.1 in
+        let first = opening_tests opened p in
+        let rest = parts_tests env opened qs 0 p places in
+        both_passed first rest [] (typed_within qs) places (after_parts env opened qs 0 p places) (opening_passed opened p places held)
+        (parts_passed qs opened p 0 k.0 places k.2 (parts_are env t opened p ty k.0 into typed) (λ j done. part_stands env ty opened k.0 all done p j into (s done) (λ y e c. among y e (Contains-append_left first rest y c))) held
+        (λ y e c. among y e (Contains-append_right first rest y c)) within) (λ y r e. parts_keep qs env opened 0 p places y r e)
     pattern_passed (BindPattern of x q) p ty places h typed s held among within =
         let mid = met_after (places x.0) x.0 p places in
         let first = met_tests (places x.0) p in
@@ -316,19 +375,19 @@ module _ (env : Environment) (t : Term) (all : List Test) (vars : List (TypeId �
         (pattern_passed q p ty mid h.1 typed s m.held (λ y e c. among y e (Contains-append_right first (tests env q p mid) y c)) (λ v c. within v (tail_contained {A = TypeId × ℕ} (of, x.0) (typed_variables q) v c))) (λ y r e. after_keeps q env p mid y r e)
     pattern_passed (And of qs) p ty places h typed s held among within = each_passed qs p ty places h.1 typed s held among within
 
-    -- parts on the fields of what shows them
-    parts_passed : (qs : Patterns) (mk : Making) (p : Path) (i : ℕ) (tys : List TypeId) (places : Places) → ArePartsOf env (Some tys) qs → AreTyped env t (λ k. field_path mk k p) i tys → (is_constraint (made_test mk p) ≡ true → Contains all (made_test mk p)) → AreHeld env t all vars places
-        → HasConstraints all (parts_tests env mk qs i p places) → ((v : TypeId × ℕ) → Contains (typed_within qs) v → Contains vars v) → IsPassed env t all vars (parts_tests env mk qs i p places) (typed_within qs) (after_parts env mk qs i p places)
-    parts_passed NoPattern mk p i tys places h typed made held among within = none_passed places held
-    parts_passed (APattern q qs) mk p i (ty ∷ tys) places h typed made held among within =
-        let r = field_path mk i p in
+    -- parts, each on its path
+    parts_passed : (qs : Patterns) (opened : Opening) (p : Path) (i : ℕ) (tys : List TypeId) (places : Places) → ArePartsOf env (Some tys) qs → AreTyped env t (λ k. part_path opened k p) i tys → ((k : ℕ) → IsStanding all (part_path opened k p)) → AreHeld env t all vars places
+        → HasConstraints all (parts_tests env opened qs i p places) → ((v : TypeId × ℕ) → Contains (typed_within qs) v → Contains vars v) → IsPassed env t all vars (parts_tests env opened qs i p places) (typed_within qs) (after_parts env opened qs i p places)
+    parts_passed NoPattern opened p i tys places h typed stand held among within = none_passed places held
+    parts_passed (APattern q qs) opened p i (ty ∷ tys) places h typed stand held among within =
+        let r = part_path opened i p in
         let mid = after env q r places in
         let first = tests env q r places in
-        let rest = parts_tests env mk qs (suc i) p mid in
-        let k = pattern_passed q r ty places h.0 typed.0 (λ done. field_stands mk all done p i made) held (λ y e c. among y e (Contains-append_left first rest y c)) (λ v c. within v (Contains-append_left (typed_variables q) (typed_within qs) v c)) in
-        both_passed first rest (typed_variables q) (typed_within qs) mid (after_parts env mk qs (suc i) p mid) k
-        (parts_passed qs mk p (suc i) tys mid h.1 typed.1 made k.held (λ y e c. among y e (Contains-append_right first rest y c)) (λ v c. within v (Contains-append_right (typed_variables q) (typed_within qs) v c))) (λ y s e. parts_keep qs env mk (suc i) p mid y s e)
-    parts_passed (APattern q qs) mk p i [] places h typed made held among within = absurd h
+        let rest = parts_tests env opened qs (suc i) p mid in
+        let k = pattern_passed q r ty places h.0 typed.0 (stand i) held (λ y e c. among y e (Contains-append_left first rest y c)) (λ v c. within v (Contains-append_left (typed_variables q) (typed_within qs) v c)) in
+        both_passed first rest (typed_variables q) (typed_within qs) mid (after_parts env opened qs (suc i) p mid) k
+        (parts_passed qs opened p (suc i) tys mid h.1 typed.1 stand k.held (λ y e c. among y e (Contains-append_right first rest y c)) (λ v c. within v (Contains-append_right (typed_variables q) (typed_within qs) v c))) (λ y s e. parts_keep qs env opened (suc i) p mid y s e)
+    parts_passed (APattern q qs) opened p i [] places h typed stand held among within = absurd h
 
     -- several patterns on one path
     each_passed : (qs : Patterns) (p : Path) (ty : TypeId) (places : Places) → AreEachOf env ty qs → IsPathOf env t p ty → IsStanding all p → AreHeld env t all vars places → HasConstraints all (each_tests env qs p places) → ((v : TypeId × ℕ) → Contains (typed_within qs) v → Contains vars v)
@@ -356,20 +415,20 @@ module _ (env : Environment) (t : Term) (all : List Test) (vars : List (TypeId �
   args_passed (q ∷ qs) i [] places h typed held among within = absurd h
 
 -- the patterns of a term's types, each of whose variables has one type
-rule_passed : (env : Environment) (t : Term) (all : List Test) (qs : List Pattern) → ArePatternsOf env t.arg_tys qs → HaveOneType (all_typed qs) → HasConstraints all (args_tests env qs 0 no_places) → IsPassed env t all (all_typed qs) (args_tests env qs 0 no_places) (all_typed qs) (args_after env qs 0 no_places)
-rule_passed env t all qs h one among = args_passed env t all (all_typed qs) one qs 0 t.arg_tys no_places h (args_are env t) (λ ty x p c e. absurd cc) among (λ v c. c)
+rule_passed : (env : Environment) (t : Term) (all : List Test) (qs : List Pattern) → SingleExtractors env → ArePatternsOf env t.arg_tys qs → HaveOneType (all_typed qs) → HasConstraints all (args_tests env qs 0 no_places) → IsPassed env t all (all_typed qs) (args_tests env qs 0 no_places) (all_typed qs) (args_after env qs 0 no_places)
+rule_passed env t all qs single h one among = args_passed env t single all (all_typed qs) one qs 0 t.arg_tys no_places h (args_are env t) (λ ty x p c e. absurd cc) among (λ v c. c)
 
 -- their variables stand at paths of their types
-pub rule_placed : (env : Environment) (t : Term) (all : List Test) (qs : List Pattern) → ArePatternsOf env t.arg_tys qs → HaveOneType (all_typed qs) → HasConstraints all (args_tests env qs 0 no_places) → ArePlacedAs env t all (all_typed qs) (args_after env qs 0 no_places)
-rule_placed env t all qs h one among ty x c =
-    let k = rule_passed env t all qs h one among in
+pub rule_placed : (env : Environment) (t : Term) (all : List Test) (qs : List Pattern) → SingleExtractors env → ArePatternsOf env t.arg_tys qs → HaveOneType (all_typed qs) → HasConstraints all (args_tests env qs 0 no_places) → ArePlacedAs env t all (all_typed qs) (args_after env qs 0 no_places)
+rule_placed env t all qs single h one among ty x c =
+    let k = rule_passed env t all qs single h one among in
     let at = k.there (ty, x) c in
     let held = k.held ty x at.0 c at.1 in
     record { path = at.0; is = at.1; typed = held.0; stands = held.1 }
 
 -- and what they equate may be compared
-pub rule_compares : (env : Environment) (t : Term) (all : List Test) (qs : List Pattern) → ArePatternsOf env t.arg_tys qs → HaveOneType (all_typed qs) → HasConstraints all (args_tests env qs 0 no_places) → (p q : Path) → Contains (args_tests env qs 0 no_places) (Equal p q) → AreComparableAt env t all p q
-rule_compares env t all qs h one among p q c = (rule_passed env t all qs h one among).equals p q c
+pub rule_compares : (env : Environment) (t : Term) (all : List Test) (qs : List Pattern) → SingleExtractors env → ArePatternsOf env t.arg_tys qs → HaveOneType (all_typed qs) → HasConstraints all (args_tests env qs 0 no_places) → (p q : Path) → Contains (args_tests env qs 0 no_places) (Equal p q) → AreComparableAt env t all p q
+rule_compares env t all qs single h one among p q c = (rule_passed env t all qs single h one among).equals p q c
 
 -- ---- fields
 
@@ -389,7 +448,18 @@ one_field env t q ps h k p c f = ⊎_elim (λ (e : q ≡ p). subst (λ r. (ty : 
 pub both_fields : (env : Environment) (t : Term) (xs ys : List Path) → AreFieldsTyped env t xs → AreFieldsTyped env t ys → AreFieldsTyped env t (xs ++ ys)
 both_fields env t xs ys h k p c f = ⊎_elim (λ d. h p d f) (λ d. k p d f) (Contains-append_cases xs ys p c)
 
-module _ (env : Environment) (t : Term) where
+-- what is no field, and its inner value
+pub inner_fields : (env : Environment) (t : Term) (b : Bool) (p : Path) → (IsFieldPath p → ⊥) → AreFieldsTyped env t (cond b (p ∷ Inner p ∷ []) (p ∷ []))
+inner_fields env t true p h = one_field env t p (Inner p ∷ []) (λ f. absurd (h f)) (one_field env t (Inner p) [] (λ f. absurd f) (no_fields env t))
+inner_fields env t false p h = one_field env t p [] (λ f. absurd (h f)) (no_fields env t)
+
+-- what is called to take a path apart is no field
+opening_fields : (env : Environment) (t : Term) (opened : Opening) (p : Path) → AreFieldsTyped env t (opening_paths opened p)
+opening_fields env t (AsVariant of variant) p = no_fields env t
+opening_fields env t (AsStruct of) p = no_fields env t
+opening_fields env t (ByExtractor term c count) p = inner_fields env t (is_fallible c) (Extracted term p) (λ f. f)
+
+module _ (env : Environment) (t : Term) (single : SingleExtractors env) where
   mutual
     -- the fields that a typed pattern takes apart
     pattern_fields : (q : Pattern) (p : Path) (ty : TypeId) → IsPatternOf env ty q → IsPathOf env t p ty → AreFieldsTyped env t (pattern_paths env q p)
@@ -399,19 +469,19 @@ module _ (env : Environment) (t : Term) where
     pattern_fields (ConstPrim of name) p ty h typed = no_fields env t
     pattern_fields (Wildcard of) p ty h typed = no_fields env t
     pattern_fields (pattern.Term of term qs) p ty h typed =
-        let mk = making env term in
-        let k = parts_there env (option_map (form_types env) (form env mk)) qs h.2 in
-        parts_fields qs mk p 0 k.0 k.2 (fields_are env t mk p ty k.0 h.1 typed k.1)
+        let opened = opening env term in
+        let k = parts_there env (part_types env (making env term) (slice_get env.terms term.0)) qs h.2 in
+        both_fields env t (opening_paths opened p) (parts_paths env opened qs 0 p) (opening_fields env t opened p) (parts_fields qs opened p 0 k.0 k.2 (parts_are env t opened p ty k.0 (opens_into env single ty term k.0 h.1 k.1) typed))
     pattern_fields (BindPattern of x q) p ty h typed = pattern_fields q p ty h.1 typed
     pattern_fields (And of qs) p ty h typed = each_fields qs p ty h.1 typed
 
     -- those of parts
-    parts_fields : (qs : Patterns) (mk : Making) (p : Path) (i : ℕ) (tys : List TypeId) → ArePartsOf env (Some tys) qs → AreTyped env t (λ k. field_path mk k p) i tys → AreFieldsTyped env t (parts_paths env mk qs i p)
-    parts_fields NoPattern mk p i tys h typed = no_fields env t
-    parts_fields (APattern q qs) mk p i (ty ∷ tys) h typed =
-        let r = field_path mk i p in
-        one_field env t r (pattern_paths env q r ++ parts_paths env mk qs (suc i) p) (λ f. (ty, typed.0)) (both_fields env t (pattern_paths env q r) (parts_paths env mk qs (suc i) p) (pattern_fields q r ty h.0 typed.0) (parts_fields qs mk p (suc i) tys h.1 typed.1))
-    parts_fields (APattern q qs) mk p i [] h typed = absurd h
+    parts_fields : (qs : Patterns) (opened : Opening) (p : Path) (i : ℕ) (tys : List TypeId) → ArePartsOf env (Some tys) qs → AreTyped env t (λ k. part_path opened k p) i tys → AreFieldsTyped env t (parts_paths env opened qs i p)
+    parts_fields NoPattern opened p i tys h typed = no_fields env t
+    parts_fields (APattern q qs) opened p i (ty ∷ tys) h typed =
+        let r = part_path opened i p in
+        one_field env t r (pattern_paths env q r ++ parts_paths env opened qs (suc i) p) (λ f. (ty, typed.0)) (both_fields env t (pattern_paths env q r) (parts_paths env opened qs (suc i) p) (pattern_fields q r ty h.0 typed.0) (parts_fields qs opened p (suc i) tys h.1 typed.1))
+    parts_fields (APattern q qs) opened p i [] h typed = absurd h
 
     -- those of several patterns on one path
     each_fields : (qs : Patterns) (p : Path) (ty : TypeId) → AreEachOf env ty qs → IsPathOf env t p ty → AreFieldsTyped env t (each_paths env qs p)
@@ -426,5 +496,5 @@ module _ (env : Environment) (t : Term) where
   args_fields (q ∷ qs) i [] h typed = absurd h
 
 -- the fields that patterns of a term's types take apart have types
-pub rule_fields : (env : Environment) (t : Term) (qs : List Pattern) → ArePatternsOf env t.arg_tys qs → AreFieldsTyped env t (args_paths env qs 0)
-rule_fields env t qs h = args_fields env t qs 0 t.arg_tys h (args_are env t)
+pub rule_fields : (env : Environment) (t : Term) (qs : List Pattern) → SingleExtractors env → ArePatternsOf env t.arg_tys qs → AreFieldsTyped env t (args_paths env qs 0)
+rule_fields env t qs single h = args_fields env t single qs 0 t.arg_tys h (args_are env t)

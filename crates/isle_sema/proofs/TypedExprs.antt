@@ -12,7 +12,7 @@ use Rattle.isle_core.specs.declared.VarId.{VarId}
 use Rattle.isle_core.specs.declared.types.Term.{Term}
 use Rattle.isle_core.specs.declared.types.TermKind.TheVariants as kind
 use Rattle.isle_core.specs.declared.types.TypeEnv.{TypeEnv}
-use Rattle.isle_core.specs.declared.types.ExtractorKind.TheVariants as extractor
+use Rattle.isle_core.specs.declared.types.ExtractorKind.{ExtractorKind}
 use Rattle.isle_core.specs.CalledTerms.{is_made_kind}
 use Rattle.isle_core.specs.Constants.{const_type}
 use Rattle.isle_core.specs.Expr as core_expr
@@ -39,7 +39,7 @@ use Rattle.isle_sema.specs.Whole.{Whole, termed, has_constructor, constant_type}
 use Rattle.isle_sema.specs.Whole as whole
 use Rattle.isle_sema.specs.ExprPass.{LetsPass, call_tree, expr_before, expr_type, binding_tree, binding_before, let_tree, expr_pass, exprs_pass, lets_pass}
 use Rattle.isle_sema.specs.RuleRows.{differ, is_other_type, is_misplaced, is_call_misfit, is_unknown, is_mistyped}
-use Rattle.isle_sema.specs.Environment.{whole_of, constructor_of, kind_from}
+use Rattle.isle_sema.specs.Environment.{whole_of, constructor_of, extracting_named, kind_from}
 use Rattle.isle_sema.specs.Judging.{is_partial_call}
 use Rattle.isle_sema.specs.TypedRule.{let_variables, IsNew, IsTermKind, IsExprOf, AreExprsOf, AreBindingsOf}
 use Rattle.isle_sema.proofs.Firsts.{any_parts}
@@ -84,18 +84,18 @@ allowed_where true partial h is = refl
 allowed_where false true h is = cc
 allowed_where false false h is = is
 
-flagless : (env : Environment) (t : Term) (allowed partial has : Bool) (syms : List (List ℕ)) (func : Option (List ℕ)) → is_some func ≡ true → (IsTrue partial → IsTrue allowed)
-    → IsTermKind env allowed t (kind.Decl false false partial false (constructor_of syms func has) extractor.Absent)
-flagless env t allowed partial has syms None some h = absurd cc
-flagless env t allowed partial has syms (Some func) some h = h
+flagless : (env : Environment) (t : Term) (allowed partial has : Bool) (syms : List (List ℕ)) (func : Option (List ℕ)) (how : ExtractorKind) → is_some func ≡ true → (IsTrue partial → IsTrue allowed)
+    → IsTermKind env allowed t (kind.Decl false false partial false (constructor_of syms func has) how)
+flagless env t allowed partial has syms None how some h = absurd cc
+flagless env t allowed partial has syms (Some func) how some h = h
 
 -- a plain term that has an external constructor
-external_kind : (env : Environment) (t : Term) (allowed pure multi recursive partial has : Bool) (syms : List (List ℕ)) (func : Option (List ℕ)) → pure ≡ false → multi ≡ false → recursive ≡ false → is_some func ≡ true → (IsTrue partial → IsTrue allowed)
-    → IsTermKind env allowed t (kind.Decl pure multi partial recursive (constructor_of syms func has) extractor.Absent)
-external_kind env t allowed false false false partial has syms func p m r some h = flagless env t allowed partial has syms func some h
-external_kind env t allowed true multi recursive partial has syms func p m r some h = absurd cc
-external_kind env t allowed false true recursive partial has syms func p m r some h = absurd cc
-external_kind env t allowed false false true partial has syms func p m r some h = absurd cc
+external_kind : (env : Environment) (t : Term) (allowed pure multi recursive partial has : Bool) (syms : List (List ℕ)) (func : Option (List ℕ)) (how : ExtractorKind) → pure ≡ false → multi ≡ false → recursive ≡ false → is_some func ≡ true → (IsTrue partial → IsTrue allowed)
+    → IsTermKind env allowed t (kind.Decl pure multi partial recursive (constructor_of syms func has) how)
+external_kind env t allowed false false false partial has syms func how p m r some h = flagless env t allowed partial has syms func how some h
+external_kind env t allowed true multi recursive partial has syms func how p m r some h = absurd cc
+external_kind env t allowed false true recursive partial has syms func how p m r some h = absurd cc
+external_kind env t allowed false false true partial has syms func how p m r some h = absurd cc
 
 -- a term that has a constructor and no rule is made or external
 kind_typed : (defs : List Def) (env : Environment) (allowed : Bool) (i : ℕ) (s : Signature) (t : Term) (from : Origin) → IsTypedIn defs env → slice_get env.terms i ≡ Some t → IsPlainTerm s → s.origin ≡ from → kind_from (whole_of defs) s t.ret_ty s.origin ≡ t.kind
@@ -106,7 +106,7 @@ kind_typed defs env allowed i s t origin.Declared g at plain is same has ruled p
     let either : is_made s.origin || is_some func ≡ true = first_true (is_made s.origin || is_some func) (has_rule (rule_defs defs) s.term) has ruled in
     let external : is_some func ≡ true = ap (λ o. is_made o || is_some func) (sym is) ∙ either in
     subst (IsTermKind env allowed t) (ap (kind_from (whole_of defs) s t.ret_ty) (sym is) ∙ same)
-    (external_kind env t allowed s.pure s.multi s.recursive s.partial (has_rule (rule_defs defs) s.term) (type_env_of defs).syms func flags.pure flags.multi flags.recursive external (allowed_where allowed s.partial partial))
+    (external_kind env t allowed s.pure s.multi s.recursive s.partial (has_rule (rule_defs defs) s.term) (type_env_of defs).syms func (extracting_named (whole_of defs) s.term) flags.pure flags.multi flags.recursive external (allowed_where allowed s.partial partial))
 kind_typed defs env allowed i s t (origin.Variant number) g at plain is same has ruled partial = made_term defs env i t g g.types_kept at (ap is_made_kind (sym (ap (kind_from (whole_of defs) s t.ret_ty) (sym is) ∙ same))) allowed
 kind_typed defs env allowed i s t origin.Struct g at plain is same has ruled partial = made_term defs env i t g g.types_kept at (ap is_made_kind (sym (ap (kind_from (whole_of defs) s t.ret_ty) (sym is) ∙ same))) allowed
 

@@ -1,6 +1,6 @@
 -- Patterns whose parts break no row have the types that are expected, and each variable after them stands in one of them.
 use Rattle.std.proofs.Common.{◌≡◌, ◌⊎◌, ⊎_elim, inl, inr, ℕ, Bool, true, false, cond, List, [], ◌∷◌, ◌++◌, length, map, Option, Some, None, refl, sym, ap, ◌∙◌, subst, arith}
-use Rattle.std.specs.Prelude.{ℤ, ◌==◌, not, Contains, option_map}
+use Rattle.std.specs.Prelude.{ℤ, ◌==◌, not, Contains, option_map, slice_get}
 use Rattle.std.specs.List.{list_any}
 use Rattle.std.specs.Str.{bytes_eq}
 use Rattle.std.proofs.lemmas.Bool.{or_parts, eqb-true, not-false}
@@ -13,11 +13,10 @@ use Rattle.isle_core.specs.declared.TypeId.{TypeId}
 use Rattle.isle_core.specs.declared.VarId.{VarId}
 use Rattle.isle_core.specs.declared.types.TypeEnv.{TypeEnv}
 use Rattle.isle_core.specs.Constants.{const_type}
-use Rattle.isle_core.specs.Form.{form, form_types}
 use Rattle.isle_core.specs.Making.{making}
 use Rattle.isle_core.specs.Pattern as core_pattern
 use Rattle.isle_core.specs.Pattern.{Pattern as CorePattern}
-use Rattle.isle_core.specs.PatternType.{IsOfMaking, IsPatternOf, ArePartsOf, AreEachOf, ArePatternsOf}
+use Rattle.isle_core.specs.PatternType.{IsPatternOf, ArePartsOf, AreEachOf, ArePatternsOf}
 use Rattle.isle_core.specs.Rule.{Environment}
 use Rattle.isle_core.specs.RuleViews.{patterns_of as core_patterns}
 use Rattle.isle_core.proofs.Contained.{head_contained, tail_contained}
@@ -25,7 +24,7 @@ use Rattle.isle_ast.specs.Tree as tree
 use Rattle.isle_ast.specs.Tree.{Pattern, Patterns, NoPattern, APattern, Def}
 use Rattle.isle_declarations.specs.Signatures.{Signature, term_named}
 use Rattle.isle_declarations.specs.Symbols.{index_of, sym_of}
-use Rattle.isle_declarations.specs.Terms.{terms, is_made}
+use Rattle.isle_declarations.specs.Terms.{terms}
 use Rattle.isle_types.specs.Builtins.{type_id}
 use Rattle.isle_types.specs.TypeEnvironment.{type_env_of}
 use Rattle.isle_sema.specs.Environment.{whole_of}
@@ -36,9 +35,10 @@ use Rattle.isle_sema.specs.Scope.{Scope, scope_names, bound_at, met, variable}
 use Rattle.isle_sema.specs.Site.{Site, TruthAt, PartAt, MetAt, TakenAt}
 use Rattle.isle_sema.specs.TypedRule.{typed_variables, typed_within, all_typed}
 use Rattle.isle_sema.specs.TypeNames.{type_named, takes_truths}
-use Rattle.isle_sema.specs.Whole.{Whole, termed, arg_types, ret_type, constant_type}
+use Rattle.isle_sema.specs.Whole.{Whole, termed, has_extractor, arg_types, ret_type, constant_type}
 use Rattle.isle_sema.proofs.Firsts.{any_parts}
 use Rattle.isle_sema.proofs.MadeTerms.{first_there}
+use Rattle.isle_sema.proofs.OpenedTerms.{IsOpened}
 pub use Rattle.isle_sema.proofs.RuleRoots.{IsMapped, mapped}
 use Rattle.isle_sema.proofs.ScopeLaws.{variable_is, met_again, bound_new, variable_other}
 use Rattle.isle_sema.proofs.TypedConstants.{integer_typed, truth_typed}
@@ -105,7 +105,7 @@ bind_pass w expected scope name p blank =
 
 -- parts of patterns that break no row
 pub record AreTakenWell (w : Whole) (sites : List Site) : Type 0 where
-  pub taken : list_any is_untaken sites ≡ false
+  pub taken : list_any (is_untaken w) sites ≡ false
   pub types : list_any (is_mistaken w) sites ≡ false
   pub placed : list_any (is_misplaced w) sites ≡ false
   pub declared : list_any is_undeclared sites ≡ false
@@ -114,17 +114,17 @@ pub record AreTakenWell (w : Whole) (sites : List Site) : Type 0 where
 -- so of the first ones and of the others
 pub taken_parts : (w : Whole) (xs ys : List Site) → AreTakenWell w (xs ++ ys) → AreTakenWell w xs × AreTakenWell w ys
 taken_parts w xs ys h =
-    let a = any_parts is_untaken xs ys h.taken in
+    let a = any_parts (is_untaken w) xs ys h.taken in
     let b = any_parts (is_mistaken w) xs ys h.types in
     let c = any_parts (is_misplaced w) xs ys h.placed in
     let d = any_parts is_undeclared xs ys h.declared in
     let e = any_parts is_met_otherwise xs ys h.again in
     (record { taken = a.0; types = b.0; placed = c.0; declared = d.0; again = e.0 }, record { taken = a.1; types = b.1; placed = c.1; declared = d.1; again = e.1 })
 
--- the environment knows what the made terms of definitions make, and the types of their constants
+-- the environment knows how the terms of definitions take values apart, and the types of their constants
 pub record KnowsTerms (defs : List Def) (env : Environment) : Type 0 where
-  pub made : (name : List ℕ) (s : Signature) (number : TermId) (ty : TypeId) → termed (whole_of defs) name ≡ Some s → term_named (terms defs) name ≡ Some number → is_made s.origin ≡ true → type_named defs s.ret ≡ Some ty
-      → IsOfMaking ty (making env number) × (tys : List TypeId) × (option_map (form_types env) (form env (making env number)) ≡ Some tys) × (map (type_named defs) s.args ≡ map Some tys)
+  pub opened : (name : List ℕ) (s : Signature) (number : TermId) (ty : TypeId) → termed (whole_of defs) name ≡ Some s → term_named (terms defs) name ≡ Some number → has_extractor (whole_of defs) s ≡ true → type_named defs s.ret ≡ Some ty
+      → IsOpened defs env s ty (making env number) (slice_get env.terms number.0)
   pub constant : (name : List ℕ) (ty : TypeId) → constant_type (whole_of defs) name ≡ Some ty → const_type env (sym_of (type_env_of defs).syms name) ≡ Some ty
 
 -- ---- types
@@ -157,7 +157,7 @@ abbrev AreTyped : List Def → Environment → Scope → Patterns → Type 0
 AreTyped defs env scope ps = (tys : List TypeId) (qs : List CorePattern) → count_of ps ≡ length tys → (patterns_pass (whole_of defs) (map Some tys) scope ps).trees ≡ Some qs → AreTakenWell (whole_of defs) (patterns_pass (whole_of defs) (map Some tys) scope ps).sites
     → ArePatternsOf env tys qs
 
--- a made term's pattern is of the type where its parts are of its fields' types
+-- a term's pattern is of the type where its parts are of its arguments' types
 term_typed : (defs : List Def) (env : Environment) (ty : TypeId) (scope : Scope) (ps : Patterns) (name : List ℕ) (o : Option Signature) (q : CorePattern) → KnowsTerms defs env → termed (whole_of defs) name ≡ o → AreTyped defs env scope ps
     → term_tree (ret_type (whole_of defs) o) (term_named (terms defs) name) (patterns_pass (whole_of defs) (arg_types (whole_of defs) o) scope ps).trees ≡ Some q
     → AreTakenWell (whole_of defs) (TakenAt (Some ty) o (count_of ps) ∷ (patterns_pass (whole_of defs) (arg_types (whole_of defs) o) scope ps).sites) → IsPatternOf env ty q
@@ -167,15 +167,15 @@ term_typed defs env ty scope ps name (Some s) q knows is typed h well =
     let args = map (type_named defs) s.args in
     let t = term_tree_is (type_named defs s.ret) (term_named (terms defs) name) (patterns_pass w args scope ps).trees q h in
     let k = taken_parts w (TakenAt (Some ty) (Some s) (count_of ps) ∷ []) (patterns_pass w args scope ps).sites well in
-    let fits = or_parts (not (count_of ps == length s.args)) (not (is_made s.origin)) (or_parts (is_taken_misfit (Some s) (count_of ps)) false k.0.taken).0 in
+    let fits = or_parts (not (count_of ps == length s.args)) (not (has_extractor w s)) (or_parts (is_taken_misfit w (Some s) (count_of ps)) false k.0.taken).0 in
     let many : count_of ps ≡ length s.args = eqb-true (count_of ps) (length s.args) (not-false (count_of ps == length s.args) fits.0) in
     let same : t.of ≡ ty = same_type t.of ty (subst (λ o. differ o (Some ty) ≡ false) t.of_is (or_parts (differ (type_named defs s.ret) (Some ty)) false k.0.types).0) in
-    let m = knows.made name s t.number ty is t.number_is (not-false (is_made s.origin) fits.1) (t.of_is ∙ ap Some same) in
-    let long : length s.args ≡ length m.1 = sym (length-map s.args (type_named defs)) ∙ ap length m.3 ∙ length-map m.1 Some in
-    let trees = subst (λ (os : List (Option TypeId)). (patterns_pass w os scope ps).trees ≡ Some t.parts) m.3 t.parts_are in
-    let sites = subst (λ (os : List (Option TypeId)). AreTakenWell w (patterns_pass w os scope ps).sites) m.3 k.1 in
-    let parts = parts_of env m.1 t.parts (typed m.1 t.parts (many ∙ long) trees sites) in
-    subst (IsPatternOf env ty) t.is (same, m.0, subst (λ o. ArePartsOf env o (core_patterns t.parts)) (sym m.2) parts)
+    let m = knows.opened name s t.number ty is t.number_is (not-false (has_extractor w s) fits.1) (t.of_is ∙ ap Some same) in
+    let long : length s.args ≡ length m.types = sym (length-map s.args (type_named defs)) ∙ ap length m.args ∙ length-map m.types Some in
+    let trees = subst (λ (os : List (Option TypeId)). (patterns_pass w os scope ps).trees ≡ Some t.parts) m.args t.parts_are in
+    let sites = subst (λ (os : List (Option TypeId)). AreTakenWell w (patterns_pass w os scope ps).sites) m.args k.1 in
+    let parts = parts_of env m.types t.parts (typed m.types t.parts (many ∙ long) trees sites) in
+    subst (IsPatternOf env ty) t.is (same, m.opens, subst (λ o. ArePartsOf env o (core_patterns t.parts)) (sym m.parts) parts)
 
 -- `@` is of the type where its pattern is
 bind_typed : (defs : List Def) (env : Environment) (ty : TypeId) (scope : Scope) (name : List ℕ) (p : Pattern) (q : CorePattern) (blank : Bool)

@@ -14,7 +14,6 @@ use Rattle.isle_core.specs.declared.types.ConstructorKind.{ConstructorKind}
 use Rattle.isle_core.specs.declared.types.TermKind.{TermKind}
 use Rattle.isle_core.specs.declared.types.TermKind.TheVariants as kind
 use Rattle.isle_core.specs.declared.types.ExtractorKind.{ExtractorKind}
-use Rattle.isle_core.specs.declared.types.ExtractorKind.TheVariants as extractor
 use Rattle.isle_core.specs.declared.types.TypeEnv.{TypeEnv}
 use Rattle.isle_core.specs.Calling.{kind_of, may_be_nothing}
 use Rattle.isle_core.specs.Constants.{const_type}
@@ -44,17 +43,18 @@ use Rattle.isle_sema.specs.PatternPass.{PatternsPass, patterns_pass, count_of}
 use Rattle.isle_sema.specs.ExprPass.{ExprPass, expr_pass}
 use Rattle.isle_sema.specs.RulePass.{patterns_of, right_side_of, conditions_of, rule_pass, rules_pass}
 use Rattle.isle_sema.specs.RuleRows.{is_untaken, is_mistaken, is_misplaced, is_undeclared, is_met_otherwise, is_unknown, is_mistyped}
-use Rattle.isle_sema.specs.Environment.{whole_of, constructor_named, kind_from}
+use Rattle.isle_sema.specs.Environment.{whole_of, constructor_named, extracting_named, kind_from}
 use Rattle.isle_sema.specs.Judging.{is_partial_call}
 use Rattle.isle_sema.specs.Taken.{row_of}
 use Rattle.isle_sema.specs.Typing.{Typed}
 use Rattle.isle_sema.specs.TypedRule.{IsExprOf, all_typed, IsRuleOf, IsTypedRule}
-use Rattle.isle_sema.proofs.BuiltForms.{IsPlain, IsRuleBuilt, rules_built}
+use Rattle.isle_sema.proofs.BuiltForms.{IsPlain}
 use Rattle.isle_sema.proofs.Firsts.{any_parts}
 use Rattle.isle_sema.proofs.Judgements.{row_fails}
 use Rattle.isle_sema.proofs.LocalLaws.{pattern_variable}
-use Rattle.isle_sema.proofs.MadeForms.{made_form, constant_typed}
+use Rattle.isle_sema.proofs.MadeForms.{constant_typed}
 use Rattle.isle_sema.proofs.MadeTerms.{first_there, term_made, term_is, types_are, all_at}
+use Rattle.isle_sema.proofs.OpenedTerms.{opened_term}
 use Rattle.isle_sema.proofs.RuleLaws.{is_broken, none_fault, none_is}
 use Rattle.isle_sema.proofs.RuleRoots.{place_of, signature_at, rule_made}
 use Rattle.isle_sema.proofs.TypedExprs.{AreKept, IsOver, expr_typed}
@@ -107,7 +107,7 @@ may_answer pure false false recursive by extractor h = refl
 may_answer pure true partial recursive by extractor h = absurd cc
 
 kind_answers : (w : Whole) (s : Signature) (ret : TypeId) (from : Origin) (k : TermKind) → (is_made from ≡ false → IsPlain s) → (is_made from ≡ true → s.partial ≡ false) → kind_from w s ret from ≡ k → may_be_nothing (kind_of k) ≡ s.partial
-kind_answers w s ret origin.Declared k plain answers is = ap (λ (x : TermKind). may_be_nothing (kind_of x)) (sym is) ∙ may_answer s.pure s.multi s.partial s.recursive (constructor_named w s.term) extractor.Absent (plain refl).multi
+kind_answers w s ret origin.Declared k plain answers is = ap (λ (x : TermKind). may_be_nothing (kind_of x)) (sym is) ∙ may_answer s.pure s.multi s.partial s.recursive (constructor_named w s.term) (extracting_named w s.term) (plain refl).multi
 kind_answers w s ret (origin.Variant number) k plain answers is = ap (λ (x : TermKind). may_be_nothing (kind_of x)) (sym is) ∙ sym (answers refl)
 kind_answers w s ret origin.Struct k plain answers is = ap (λ (x : TermKind). may_be_nothing (kind_of x)) (sym is) ∙ sym (answers refl)
 
@@ -121,15 +121,15 @@ counted : (ps : List Pattern) → count_of (seen_patterns ps) ≡ length ps
 counted [] = refl
 counted (p ∷ ps) = ap suc (counted ps)
 
--- what made terms and constants are in an environment
+-- what terms that take values apart and constants are in an environment
 knows : (defs : List Def) (env : Environment) → IsTypedIn defs env → KnowsTerms defs env
 knows defs env g = record {
-  made = λ name s number ty is at made ret. made_form defs env name s number ty g g.types_kept is at made ret;
+  opened = λ name s number ty is at has ret. opened_term defs env name s number ty g is at has ret;
   constant = λ name ty h. ap (λ (ts : TypeEnv). const_type env (sym_of ts.syms name)) (sym g.types) ∙ constant_typed defs env name ty g.types h;
 }
 
-rule_typed : (defs : List Def) (env : Environment) (i : ℕ) (r : RuleDef) (x : Rule) → IsTypedIn defs env → IsRuleBuilt r → row_of (whole_of defs) r ≡ None → calls_ruled (rule_defs defs) r.rhs ≡ false → rule_pass (whole_of defs) i r ≡ Some x → IsTypedRule env x
-rule_typed defs env i r x g built row unruled h =
+rule_typed : (defs : List Def) (env : Environment) (i : ℕ) (r : RuleDef) (x : Rule) → IsTypedIn defs env → row_of (whole_of defs) r ≡ None → calls_ruled (rule_defs defs) r.rhs ≡ false → rule_pass (whole_of defs) i r ≡ Some x → IsTypedRule env x
+rule_typed defs env i r x g row unruled h =
     let w = whole_of defs in
     let m = rule_made w i r x h in
     let d = signature_there w r.term x.root_term m.root in
@@ -142,7 +142,7 @@ rule_typed defs env i r x g built row unruled h =
     let ps = (patterns_of w r).sites in
     let rs = (right_side_of w r).sites in
     let cs : List Site = map (λ (c : tree.IfLet). NotBuiltAt) r.iflets in
-    let a = or_parts (on (termed w r.term) (λ (y : Signature). not (length r.args == length y.args))) (list_any is_untaken (ps ++ (cs ++ rs))) f.arity in
+    let a = or_parts (on (termed w r.term) (λ (y : Signature). not (length r.args == length y.args))) (list_any (is_untaken w) (ps ++ (cs ++ rs))) f.arity in
     let p = any_parts (is_misplaced w) ps (cs ++ rs) f.literal in
     let u = any_parts (is_unknown w) ps (cs ++ rs) f.name in
     let v = any_parts (is_mistyped w) ps (cs ++ rs) f.typing in
@@ -165,7 +165,7 @@ rule_typed defs env i r x g built row unruled h =
     } in
     let kept : AreKept w s.partial rs = record { placed = (any_parts (is_misplaced w) cs rs p.1).1; known = (any_parts (is_unknown w) cs rs u.1).1; typed = (any_parts (is_mistyped w) cs rs v.1).1; partial = calls } in
     let well : AreTakenWell w ps = record {
-      taken = (any_parts is_untaken ps (cs ++ rs) a.1).0;
+      taken = (any_parts (is_untaken w) ps (cs ++ rs) a.1).0;
       types = (any_parts (is_mistaken w) ps (cs ++ rs) f.taken).0;
       placed = p.0;
       declared = (any_parts is_undeclared ps (cs ++ rs) f.constants).0;
@@ -183,22 +183,22 @@ rule_typed defs env i r x g built row unruled h =
       };
     }
 
-rules_typed : (defs : List Def) (env : Environment) (i : ℕ) (rules : List RuleDef) (xs : List Rule) → IsTypedIn defs env → AllByRecursion IsRuleBuilt rules → list_any (is_broken (whole_of defs)) rules ≡ false
+rules_typed : (defs : List Def) (env : Environment) (i : ℕ) (rules : List RuleDef) (xs : List Rule) → IsTypedIn defs env → list_any (is_broken (whole_of defs)) rules ≡ false
     → list_any (λ (r : RuleDef). calls_ruled (rule_defs defs) r.rhs) rules ≡ false → rules_pass (whole_of defs) i rules ≡ Some xs → AllByRecursion (IsTypedRule env) xs
-rules_typed defs env i [] xs g built rows unruled h = subst (AllByRecursion (IsTypedRule env)) (same_Some [] xs h) tt
-rules_typed defs env i (r ∷ rules) xs g built rows unruled h =
+rules_typed defs env i [] xs g rows unruled h = subst (AllByRecursion (IsTypedRule env)) (same_Some [] xs h) tt
+rules_typed defs env i (r ∷ rules) xs g rows unruled h =
     let w = whole_of defs in
     let f = first_there (rule_pass w i r) (rules_pass w (i + 1) rules) xs h in
     let k = or_parts (is_broken w r) (list_any (is_broken w) rules) rows in
     let c = or_parts (calls_ruled (rule_defs defs) r.rhs) (list_any (λ (x : RuleDef). calls_ruled (rule_defs defs) x.rhs) rules) unruled in
     subst (AllByRecursion (IsTypedRule env)) (sym f.all)
-    (rule_typed defs env i r f.first g built.0 (none_is (row_of w r) k.0) c.0 f.here, rules_typed defs env (i + 1) rules f.others g built.1 k.1 c.1 f.found)
+    (rule_typed defs env i r f.first g (none_is (row_of w r) k.0) c.0 f.here, rules_typed defs env (i + 1) rules f.others g k.1 c.1 f.found)
 
 -- the rules of an environment are typed
 pub typed_rules : (defs : List Def) (env : Environment) → Typed defs env → All (IsTypedRule env) env.rules
 typed_rules defs env t =
     let g = typed_in t in
-    All-from_recursion (IsTypedRule env) env.rules (rules_typed defs env 0 (rule_defs defs) env.rules g (rules_built defs g.built) (none_fault (whole_of defs) [] defs g.rules_kept) g.unruled g.rules)
+    All-from_recursion (IsTypedRule env) env.rules (rules_typed defs env 0 (rule_defs defs) env.rules g (none_fault (whole_of defs) [] defs g.rules_kept) g.unruled g.rules)
 
 -- ---- the rules of a term
 

@@ -1,9 +1,11 @@
 -- What the terms of an environment are to its definitions.
 use Rattle.std.proofs.Common.{◌≡◌, ℕ, zero, suc, ◌+◌, ◌<◌, ◌≤◌, Bool, true, false, List, [], ◌∷◌, ◌++◌, length, map, Option, Some, None, refl, sym, ap, ◌∙◌, subst, arith}
-use Rattle.std.specs.Prelude.{◌&&◌, not, Contains, filter_map, is_some, option_map, slice_get}
-use Rattle.std.specs.List.{AllByRecursion, IsDistinct, list_all, range_with_len}
+use Rattle.std.specs.Prelude.{◌&&◌, not, Contains, filter_map, is_some, option_map, slice_get, nat_le}
+use Rattle.std.specs.List.{AllByRecursion, IsDistinct, list_all, list_any, range_with_len}
 use Rattle.std.specs.Str.{bytes_eq}
-use Rattle.std.proofs.lemmas.Bool.{and_parts}
+use Rattle.std.proofs.lemmas.Bool.{and_parts, or_parts, not-false}
+use Rattle.std.proofs.lemmas.Bool.Decides.{nat_tests}
+use Rattle.std.proofs.lemmas.List.{length-map}
 use Rattle.std.proofs.lemmas.List.Elements.{All-from_recursion, All-filter, All-contains}
 use Rattle.std.proofs.lemmas.Option.{same_Some}
 use Rattle.isle_core.specs.declared.TermId.{TermId}
@@ -14,6 +16,7 @@ use Rattle.isle_core.specs.declared.types.TermKind.{TermKind}
 use Rattle.isle_core.specs.declared.types.TermKind.TheVariants as kind
 use Rattle.isle_core.specs.declared.types.TypeEnv.{TypeEnv}
 use Rattle.isle_core.specs.declared.types.ConstructorKind.{ConstructorKind}
+use Rattle.isle_core.specs.declared.types.ExtractorKind.{ExtractorKind}
 use Rattle.isle_core.specs.declared.types.ExtractorKind.TheVariants as extractor
 use Rattle.isle_core.specs.CalledTerms.{is_made_kind}
 use Rattle.isle_core.specs.Rule.{Environment}
@@ -29,7 +32,7 @@ use Rattle.isle_ast.specs.declared.tree.AstVariant.{AstVariant}
 use Rattle.isle_declarations.specs.declared.terms.Origin.{Origin}
 use Rattle.isle_declarations.specs.declared.terms.Origin.TheVariants as origin
 use Rattle.isle_declarations.specs.Heads.{terms_of}
-use Rattle.isle_declarations.specs.Signatures.{Signature, signatures}
+use Rattle.isle_declarations.specs.Signatures.{Signature, ExtractorDef, signatures, extractors, extractor_named}
 use Rattle.isle_declarations.specs.Symbols.{index_of}
 use Rattle.isle_declarations.specs.Terms.{variant_signatures, body_signatures, terms, is_made}
 use Rattle.isle_declarations.proofs.DeclaredNames.{AreAmong, text_of}
@@ -40,14 +43,14 @@ use Rattle.isle_types.specs.Builtins.{type_id}
 use Rattle.isle_types.specs.TypeEnvironment.{type_def_in, type_env_of}
 use Rattle.isle_types.specs.TypeNames.{declared_names, type_names}
 use Rattle.isle_sema.specs.Whole.{Whole}
-use Rattle.isle_sema.specs.Environment.{whole_of, types_named, constructor_named, kind_from, term_pass, terms_pass}
+use Rattle.isle_sema.specs.Environment.{whole_of, types_named, constructor_named, extractor_from, extracting_named, kind_from, term_pass, terms_pass}
 use Rattle.isle_sema.specs.Language.{is_built_def}
 use Rattle.isle_sema.specs.TypeNames.{type_named}
 use Rattle.isle_sema.specs.Typing.{Typed}
 use Rattle.isle_sema.proofs.BuiltForms.{IsPlain, plain_flags}
-use Rattle.isle_sema.proofs.MadeTerms.{first_there, made_of, term_is, all_at}
+use Rattle.isle_sema.proofs.MadeTerms.{first_there, made_of, term_is, types_are, all_at}
 use Rattle.isle_sema.proofs.NamesApart.{made_apart, terms_apart, declared_unmade}
-use Rattle.isle_sema.proofs.TermFaults.{terms_kept}
+use Rattle.isle_sema.proofs.TermFaults.{has_too_many, terms_kept}
 use Rattle.isle_sema.proofs.TypedParts.{typed_in}
 
 -- ---- what holds of all terms
@@ -58,16 +61,25 @@ variants_all P ty pos i [] rest own h = h
 variants_all P ty pos i (v ∷ vs) rest own h = (own _ refl refl, variants_all P ty pos (i + 1) vs rest own h)
 
 -- what holds of made terms of this place holds of those that a type makes
-body_all : (P : Signature → Type 0) (ty : List ℕ) (body : AstBody) (pos : Pos) (rest : List Signature) → ((s : Signature) → is_made s.origin ≡ true → s.pos ≡ pos → P s) → AllByRecursion P rest → AllByRecursion P (body_signatures ty body pos ++ rest)
+pub body_all : (P : Signature → Type 0) (ty : List ℕ) (body : AstBody) (pos : Pos) (rest : List Signature) → ((s : Signature) → is_made s.origin ≡ true → s.pos ≡ pos → P s) → AllByRecursion P rest → AllByRecursion P (body_signatures ty body pos ++ rest)
 body_all P ty (Primitive rust) pos rest own h = h
 body_all P ty (Enum variants) pos rest own h = variants_all P ty pos 0 variants rest own h
 body_all P ty (Struct fields) pos rest own h = (own _ refl refl, h)
 
 -- ---- its kind
 
-pub plain_kind : (pure multi partial recursive : Bool) (by : ConstructorKind) → pure ≡ false → multi ≡ false → recursive ≡ false → kind.Decl false false partial false by extractor.Absent ≡ kind.Decl pure multi partial recursive by extractor.Absent
-plain_kind pure multi partial recursive by p m r =
-    ap (λ b. kind.Decl b false partial false by extractor.Absent) (sym p) ∙ ap (λ b. kind.Decl pure b partial false by extractor.Absent) (sym m) ∙ ap (λ b. kind.Decl pure multi partial b by extractor.Absent) (sym r)
+pub plain_kind : (pure multi partial recursive : Bool) (by : ConstructorKind) (how : ExtractorKind) → pure ≡ false → multi ≡ false → recursive ≡ false → kind.Decl false false partial false by how ≡ kind.Decl pure multi partial recursive by how
+plain_kind pure multi partial recursive by how p m r = ap (λ b. kind.Decl b false partial false by how) (sym p) ∙ ap (λ b. kind.Decl pure b partial false by how) (sym m) ∙ ap (λ b. kind.Decl pure multi partial b by how) (sym r)
+
+-- an extractor is none, or an external one
+abbrev pub IsOuterExtractor : ExtractorKind → Type 0
+IsOuterExtractor extractor.Absent = Unit {0}
+IsOuterExtractor (extractor.External func infallible) = Unit {0}
+IsOuterExtractor extractor.Internal = ⊥
+
+outer_extractor : (syms : List (List ℕ)) (o : Option ExtractorDef) → IsOuterExtractor (extractor_from syms o)
+outer_extractor syms None = tt
+outer_extractor syms (Some x) = tt
 
 -- a term that no type makes has at most the flag `partial`
 abbrev pub IsPlainTerm : Signature → Type 0
@@ -86,24 +98,35 @@ plain_terms (tree.TypeDecl name is_extern is_nodebug body pos ∷ ds) h = body_a
 plain_terms (tree.ExternConstructor term func pos ∷ ds) h = plain_terms ds h
 plain_terms (tree.Rule name prio term args iflets rhs pos ∷ ds) h = plain_terms ds (and_parts (is_built_def (tree.Rule name prio term args iflets rhs pos)) (list_all is_built_def ds) h).1
 plain_terms (tree.ExternConst name ty pos ∷ ds) h = plain_terms ds h
-plain_terms (tree.ExternExtractor term func infallible pos ∷ ds) h = absurd cc
+plain_terms (tree.ExternExtractor term func infallible pos ∷ ds) h = plain_terms ds h
 plain_terms (tree.Extractor term params template pos ∷ ds) h = absurd cc
 plain_terms (tree.Converter from to term pos ∷ ds) h = absurd cc
 plain_terms (tree.Passed head items pos ∷ ds) h = plain_terms ds h
 
--- a term of this kind is declared, with at most the flag `partial`, and no extractor
-abbrev pub IsPlainKind : TermKind → Type 0
-IsPlainKind k = (partial : Bool) × (by : ConstructorKind) × (kind.Decl false false partial false by extractor.Absent ≡ k)
+-- a term of this kind is declared, with at most the flag `partial`, and no extractor or an external one
+pub record IsPlainKind (k : TermKind) : Type 0 where
+  pub partial : Bool
+  pub by : ConstructorKind
+  pub how : ExtractorKind
+  pub outer : IsOuterExtractor how
+  pub is : kind.Decl false false partial false by how ≡ k
 
 kind_plain : (w : Whole) (s : Signature) (ret : TypeId) (from : Origin) (k : TermKind) → (is_made from ≡ false → IsPlain s) → kind_from w s ret from ≡ k → is_made_kind k ≡ false → IsPlainKind k
 kind_plain w s ret origin.Declared k plain is other =
     let flags = plain refl in
     let by = constructor_named w s.term in
-    (s.partial, by, plain_kind s.pure s.multi s.partial s.recursive by flags.pure flags.multi flags.recursive ∙ is)
+    let how = extracting_named w s.term in
+    record {
+      partial = s.partial;
+      by = by;
+      how = how;
+      outer = outer_extractor w.types.syms (extractor_named (extractors w.defs) s.term);
+      is = plain_kind s.pure s.multi s.partial s.recursive by how flags.pure flags.multi flags.recursive ∙ is;
+    }
 kind_plain w s ret (origin.Variant n) k plain is other = let bad : true ≡ false = ap is_made_kind is ∙ other in absurd cc
 kind_plain w s ret origin.Struct k plain is other = let bad : true ≡ false = ap is_made_kind is ∙ other in absurd cc
 
--- a term that no type makes has at most the flag `partial`, and no extractor
+-- a term that no type makes has at most the flag `partial`, and no extractor or an external one
 pub typed_kind : (defs : List Def) (env : Environment) (i : ℕ) (t : Term) → Typed defs env → slice_get env.terms i ≡ Some t → is_made_kind t.kind ≡ false → IsPlainKind t.kind
 typed_kind defs env i t h at other =
     let g = typed_in h in
@@ -111,6 +134,51 @@ typed_kind defs env i t h at other =
     let s = m.signature in
     let is = term_is (whole_of defs) s t m.made in
     kind_plain (whole_of defs) s t.ret_ty s.origin t.kind (all_at IsPlainTerm (terms defs) i s (plain_terms defs g.built) m.there) (ap (λ (u : Term). u.kind) is.is) other
+
+-- ---- its arguments
+
+few_arguments : (s : Signature) → has_too_many s ≡ false → length s.args ≤ 256
+few_arguments s h = let le : nat_le (length s.args) 256 ≡ true = not-false (nat_le (length s.args) 256) h in grind (arith, nat_tests, le)
+
+-- a term that no type makes has at most 256 arguments
+abbrev IsFewTerm : Signature → Type 0
+IsFewTerm s = is_made s.origin ≡ false → length s.args ≤ 256
+
+made_few : (s : Signature) → is_made s.origin ≡ true → IsFewTerm s
+made_few s made other = let bad : true ≡ false = sym made ∙ other in absurd cc
+
+few_terms : (ds : List Def) → list_any has_too_many (signatures ds) ≡ false → AllByRecursion IsFewTerm (terms ds)
+few_terms [] h = tt
+few_terms (tree.Decl term pure multi partial recursive args ret pos ∷ ds) h =
+    let s : Signature = record { term = term; pure = pure; multi = multi; partial = partial; recursive = recursive; args = args; ret = ret; pos = pos; origin = origin.Declared } in
+    let k = or_parts (has_too_many s) (list_any has_too_many (signatures ds)) h in
+    (λ e. few_arguments s k.0, few_terms ds k.1)
+few_terms (tree.TypeDecl name is_extern is_nodebug body pos ∷ ds) h = body_all IsFewTerm name body pos (terms ds) (λ s made at. made_few s made) (few_terms ds h)
+few_terms (tree.ExternConstructor term func pos ∷ ds) h = few_terms ds h
+few_terms (tree.Rule name prio term args iflets rhs pos ∷ ds) h = few_terms ds h
+few_terms (tree.ExternConst name ty pos ∷ ds) h = few_terms ds h
+few_terms (tree.ExternExtractor term func infallible pos ∷ ds) h = few_terms ds h
+few_terms (tree.Extractor term params template pos ∷ ds) h = few_terms ds h
+few_terms (tree.Converter from to term pos ∷ ds) h = few_terms ds h
+few_terms (tree.Passed head items pos ∷ ds) h = few_terms ds h
+
+unmade_origin : (w : Whole) (s : Signature) (ret : TypeId) (from : Origin) → is_made_kind (kind_from w s ret from) ≡ false → is_made from ≡ false
+unmade_origin w s ret origin.Declared h = refl
+unmade_origin w s ret (origin.Variant n) h = h
+unmade_origin w s ret origin.Struct h = h
+
+-- a term that no type makes has at most 256 arguments
+pub typed_few : (defs : List Def) (env : Environment) (i : ℕ) (t : Term) → Typed defs env → slice_get env.terms i ≡ Some t → is_made_kind t.kind ≡ false → length t.arg_tys ≤ 256
+typed_few defs env i t h at other =
+    let g = typed_in h in
+    let w = whole_of defs in
+    let m = made_of w (terms defs) env.terms i t g.terms at in
+    let s = m.signature in
+    let is = term_is w s t m.made in
+    let unmade = unmade_origin w s t.ret_ty s.origin (ap (λ (u : Term). is_made_kind u.kind) is.is ∙ other) in
+    let few = all_at IsFewTerm (terms defs) i s (few_terms defs (terms_kept defs [] defs g.built g.terms_kept).few) m.there unmade in
+    let same : length s.args ≡ length t.arg_tys = sym (length-map s.args (type_named defs)) ∙ ap length (types_are defs s.args t.arg_tys is.args) ∙ length-map t.arg_tys Some in
+    omega (arith, few, same)
 
 -- ---- its place
 

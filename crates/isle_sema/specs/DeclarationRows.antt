@@ -3,9 +3,9 @@ use Rattle.std.specs.Prelude.{ℕ, List, length, Bool, ◌&&◌, ◌||◌, not, 
 use Rattle.std.specs.List.{list_all}
 use Rattle.isle_ast.specs.Tree.{Def, TypeDecl, Decl, ExternConstructor, ExternExtractor, ExternConst, Extractor, Converter, Rule, Passed}
 use Rattle.isle_declarations.specs.Symbols.{index_of}
-use Rattle.isle_declarations.specs.Signatures.{Signature, Extern, RuleDef, signature_of, extern_of, rule_of, signatures, externs, func_named}
+use Rattle.isle_declarations.specs.Signatures.{Signature, Extern, ExtractorDef, RuleDef, signature_of, extern_of, extractor_of, rule_of, signatures, externs, extractors, func_named}
 use Rattle.isle_declarations.specs.DeclaredTypes.{made_terms}
-use Rattle.isle_declarations.specs.Heads.{terms_of, extern_terms}
+use Rattle.isle_declarations.specs.Heads.{terms_of, extern_terms, extractor_terms}
 use Rattle.isle_sema.specs.TypeNames.{type_named}
 use Rattle.isle_sema.specs.Whole.{declared}
 use Rattle.isle_types.specs.TypeRows.{on}
@@ -43,9 +43,9 @@ named_by (Passed head items pos) = None
 abbrev pub term_undeclared : Context → Def → Bool
 term_undeclared c d = on (named_by d) (λ (name : List ℕ). not (is_some (declared c.whole name)))
 
--- an external constructor's term has an earlier one; extractors are not built
+-- an external constructor's term has an earlier one, or an external extractor's term has; those with a pattern are not built
 abbrev pub second_of_term : Context → Def → Bool
-second_of_term c d = on (extern_of d) (λ (x : Extern). is_some (index_of (extern_terms (externs c.before)) x.term))
+second_of_term c d = on (extern_of d) (λ (x : Extern). is_some (index_of (extern_terms (externs c.before)) x.term)) || on (extractor_of d) (λ (x : ExtractorDef). is_some (index_of (extractor_terms (extractors c.before)) x.term))
 
 -- a rule's head is not declared, or its term has an external constructor
 abbrev pub head_misfit : Context → Def → Bool

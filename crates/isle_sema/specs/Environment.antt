@@ -6,6 +6,7 @@ use Rattle.isle_core.specs.declared.types.TermKind.{TermKind}
 use Rattle.isle_core.specs.declared.types.TermKind.TheVariants as kind
 use Rattle.isle_core.specs.declared.types.ConstructorKind.{ConstructorKind}
 use Rattle.isle_core.specs.declared.types.ConstructorKind.TheVariants as constructor
+use Rattle.isle_core.specs.declared.types.ExtractorKind.{ExtractorKind}
 use Rattle.isle_core.specs.declared.types.ExtractorKind.TheVariants as extractor
 use Rattle.isle_core.specs.declared.types.TypeEnv.{TypeEnv}
 use Rattle.isle_core.specs.Rule.{Rule as CoreRule, Environment}
@@ -13,7 +14,7 @@ use Rattle.isle_ast.specs.Tree.{Def}
 use Rattle.isle_declarations.specs.declared.terms.Origin.{Origin}
 use Rattle.isle_declarations.specs.declared.terms.Origin.TheVariants as origin
 use Rattle.isle_declarations.specs.Symbols.{sym_of}
-use Rattle.isle_declarations.specs.Signatures.{Signature, externs, rule_defs, func_named, has_rule}
+use Rattle.isle_declarations.specs.Signatures.{Signature, ExtractorDef, externs, extractors, rule_defs, func_named, extractor_named, has_rule}
 use Rattle.isle_declarations.specs.Terms.{terms}
 use Rattle.isle_types.specs.TypeEnvironment.{type_env_of}
 use Rattle.isle_sema.specs.TypeNames.{type_named}
@@ -40,9 +41,18 @@ constructor_of syms None false = constructor.Absent
 abbrev pub constructor_named : Whole → List ℕ → ConstructorKind
 constructor_named w name = constructor_of w.types.syms (func_named (externs w.defs) name) (has_rule (rule_defs w.defs) name)
 
--- what a term is that gives this type; extractors are not built
+-- a term is taken apart by its external extractor, where it has one
+abbrev pub extractor_from : List (List ℕ) → Option ExtractorDef → ExtractorKind
+extractor_from syms None = extractor.Absent
+extractor_from syms (Some x) = extractor.External (sym_of syms x.func) x.infallible
+
+-- what a term of this name is taken apart by
+abbrev pub extracting_named : Whole → List ℕ → ExtractorKind
+extracting_named w name = extractor_from w.types.syms (extractor_named (extractors w.defs) name)
+
+-- what a term is that gives this type
 abbrev pub kind_from : Whole → Signature → TypeId → Origin → TermKind
-kind_from w s ret origin.Declared = kind.Decl s.pure s.multi s.partial s.recursive (constructor_named w s.term) extractor.Absent
+kind_from w s ret origin.Declared = kind.Decl s.pure s.multi s.partial s.recursive (constructor_named w s.term) (extracting_named w s.term)
 kind_from w s ret (origin.Variant number) = kind.Variant ret (record { 0 = number })
 kind_from w s ret origin.Struct = kind.Struct ret
 

@@ -32,7 +32,7 @@ unjudged = record { untaken = false; mistaken = false; misplaced = false; undecl
 -- one part more, at most as many as are counted
 abbrev pub judge : Whole → Judged → Site → Judged
 judge w j site = record {
-  untaken = is_untaken site || j.untaken;
+  untaken = is_untaken w site || j.untaken;
   mistaken = is_mistaken w site || j.mistaken;
   misplaced = is_misplaced w site || j.misplaced;
   undeclared = is_undeclared site || j.undeclared;

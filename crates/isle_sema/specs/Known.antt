@@ -4,7 +4,7 @@ use Rattle.isle_ast.specs.declared.tree.Def.{Def as CodeDef}
 use Rattle.isle_ast.specs.Views.{defs}
 use Rattle.isle_sema.specs.declared.known.Called.{Called}
 use Rattle.isle_declarations.specs.Terms.{terms, is_made}
-use Rattle.isle_declarations.specs.Signatures.{Signature, externs, rule_defs, term_named, func_named, has_rule}
+use Rattle.isle_declarations.specs.Signatures.{Signature, externs, extractors, rule_defs, term_named, func_named, extractor_named, has_rule}
 use Rattle.isle_sema.specs.TypeNames.{type_named}
 use Rattle.isle_sema.specs.Whole.{Whole, termed}
 use Rattle.isle_sema.specs.Environment.{whole_of}
@@ -23,6 +23,7 @@ pub record IsCalled (w : Whole) (s : Signature) (c : Called) : Type 0 where
   pub multi : s.multi ≡ c.multi
   pub partial : s.partial ≡ c.partial
   pub external : is_some (func_named (externs w.defs) s.term) ≡ c.external
+  pub extracting : is_some (extractor_named (extractors w.defs) s.term) ≡ c.extracting
   pub ruled : has_rule (rule_defs w.defs) s.term ≡ c.ruled
 
 -- the same where the term may not be there

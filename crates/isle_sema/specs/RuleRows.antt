@@ -4,9 +4,8 @@ use Rattle.std.specs.List.{list_any}
 use Rattle.isle_core.specs.declared.TypeId.{TypeId}
 use Rattle.isle_ast.specs.Tree.{Def}
 use Rattle.isle_declarations.specs.Signatures.{Signature, RuleDef, rule_of}
-use Rattle.isle_declarations.specs.Terms.{is_made}
 use Rattle.isle_sema.specs.TypeNames.{type_named, takes_integers, takes_truths}
-use Rattle.isle_sema.specs.Whole.{Whole, termed, has_constructor}
+use Rattle.isle_sema.specs.Whole.{Whole, termed, has_constructor, has_extractor}
 use Rattle.isle_sema.specs.Site.{Site, IntegerAt, TruthAt, PartAt, MetAt, UsedAt, CalledAt, TakenAt, ConstantAt, BoundAt, NotBuiltAt}
 use Rattle.isle_sema.specs.RulePass.{right_side_of, sites_of}
 use Rattle.isle_types.specs.TypeRows.{on}
@@ -18,27 +17,27 @@ differ None expected = false
 differ (Some ty) None = false
 differ (Some ty) (Some expected) = not (ty.0 == expected.0)
 
--- a term in a pattern that is not there, has another number of arguments, or has no extractor: only made terms have one yet
-abbrev pub is_taken_misfit : Option Signature → ℕ → Bool
-is_taken_misfit None count = true
-is_taken_misfit (Some s) count = not (count == length s.args) || not (is_made s.origin)
+-- a term in a pattern that is not there, has another number of arguments, or has no extractor
+abbrev pub is_taken_misfit : Whole → Option Signature → ℕ → Bool
+is_taken_misfit w None count = true
+is_taken_misfit w (Some s) count = not (count == length s.args) || not (has_extractor w s)
 
 -- a part is one
-abbrev pub is_untaken : Site → Bool
-is_untaken (IntegerAt expected) = false
-is_untaken (TruthAt expected) = false
-is_untaken PartAt = false
-is_untaken (MetAt expected bound) = false
-is_untaken (UsedAt expected bound) = false
-is_untaken (CalledAt expected callee count) = false
-is_untaken (TakenAt expected callee count) = is_taken_misfit callee count
-is_untaken (ConstantAt in_pattern expected found) = false
-is_untaken (BoundAt ty) = false
-is_untaken NotBuiltAt = false
+abbrev pub is_untaken : Whole → Site → Bool
+is_untaken w (IntegerAt expected) = false
+is_untaken w (TruthAt expected) = false
+is_untaken w PartAt = false
+is_untaken w (MetAt expected bound) = false
+is_untaken w (UsedAt expected bound) = false
+is_untaken w (CalledAt expected callee count) = false
+is_untaken w (TakenAt expected callee count) = is_taken_misfit w callee count
+is_untaken w (ConstantAt in_pattern expected found) = false
+is_untaken w (BoundAt ty) = false
+is_untaken w NotBuiltAt = false
 
 -- one stands in a rule, or its head has another number of arguments than its term
 abbrev pub pattern_term_misfit : Context → Def → Bool
-pattern_term_misfit c d = on (rule_of d) (λ (r : RuleDef). on (termed c.whole r.term) (λ (s : Signature). not (length r.args == length s.args)) || list_any is_untaken (sites_of c.whole r))
+pattern_term_misfit c d = on (rule_of d) (λ (r : RuleDef). on (termed c.whole r.term) (λ (s : Signature). not (length r.args == length s.args)) || list_any (is_untaken c.whole) (sites_of c.whole r))
 
 -- a term or a constant in a pattern that has another type than the one expected
 abbrev pub is_mistaken : Whole → Site → Bool

@@ -1,7 +1,7 @@
--- What the code tests of declarations, external constructors and rules.
+-- What the code tests of declarations, external constructors and extractors, and rules.
 use Rattle.std.specs.Prelude.{List, [], Bool, ◌||◌, not, is_some}
 use Rattle.std.specs.List.{list_any}
-use Rattle.isle_declarations.specs.Signatures.{Signature, Extern, RuleDef, signature_named, func_named}
+use Rattle.isle_declarations.specs.Signatures.{Signature, Extern, ExtractorDef, RuleDef, signature_named, func_named}
 use Rattle.isle_ast.specs.Tree.{Def, Decl}
 use Rattle.isle_types.specs.declared.row.Row.TheVariants as row
 use Rattle.isle_sema.specs.Context.{Context}
@@ -21,6 +21,10 @@ is_misdeclared defs s =
 -- an external constructor is of a term that is not declared
 abbrev pub has_undeclared : List Signature → List Extern → Bool
 has_undeclared sigs xs = list_any (λ (x : Extern). not (is_some (signature_named sigs x.term))) xs
+
+-- an external extractor is of a term that is not declared
+abbrev pub has_unknown : List Signature → List ExtractorDef → Bool
+has_unknown sigs xs = list_any (λ (x : ExtractorDef). not (is_some (signature_named sigs x.term))) xs
 
 -- a rule's head is not declared, or its term has an external constructor
 abbrev pub is_headless : List Signature → List Extern → RuleDef → Bool

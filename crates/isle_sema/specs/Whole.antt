@@ -7,7 +7,7 @@ use Rattle.isle_core.specs.declared.types.TypeEnv.{TypeEnv}
 use Rattle.isle_ast.specs.Tree.{Def}
 use Rattle.isle_declarations.specs.DeclaredTypes.{Constant, constants}
 use Rattle.isle_declarations.specs.Symbols.{index_of}
-use Rattle.isle_declarations.specs.Signatures.{Signature, signatures, externs, rule_defs, signature_named, term_named, func_named, has_rule}
+use Rattle.isle_declarations.specs.Signatures.{Signature, signatures, externs, extractors, rule_defs, signature_named, term_named, func_named, extractor_named, has_rule}
 use Rattle.isle_declarations.specs.Terms.{terms, is_made}
 use Rattle.isle_sema.specs.TypeNames.{type_named}
 
@@ -27,6 +27,10 @@ termed w name = signature_named (terms w.defs) name
 -- a term is made, or has an external constructor or a rule
 abbrev pub has_constructor : Whole → Signature → Bool
 has_constructor w s = is_made s.origin || is_some (func_named (externs w.defs) s.term) || has_rule (rule_defs w.defs) s.term
+
+-- a term is made, or has an external extractor
+abbrev pub has_extractor : Whole → Signature → Bool
+has_extractor w s = is_made s.origin || is_some (extractor_named (extractors w.defs) s.term)
 
 -- the types that are expected of a term's arguments: of a term that is not there, none
 abbrev pub arg_types : Whole → Option Signature → List (Option TypeId)

@@ -6,7 +6,7 @@ ghost use Rattle.isle_declarations.specs.TermViews.{term_def as seen, AreTerms};
 ghost use Rattle.isle_declarations.specs.Symbols.{index_of, symbols};
 ghost use Rattle.isle_declarations.specs.Terms.{terms as all_terms};
 ghost use Rattle.isle_types.specs.Gathered.{IsBefore};
-ghost use Rattle.isle_sema.specs.Environment.{constructor_named, kind_from, term_pass, terms_pass};
+ghost use Rattle.isle_sema.specs.Environment.{constructor_named, extracting_named, kind_from, term_pass, terms_pass};
 ghost use Rattle.isle_sema.specs.Known.{whole};
 
 use crate::named_types::{type_named, types_of};
@@ -31,6 +31,19 @@ fn constructor_of(declarations: &Declarations, number: usize) -> ConstructorKind
     }
 }
 
+// A term is taken apart by its external extractor, where it has one.
+fn extractor_of(declarations: &Declarations, number: usize) -> ExtractorKind
+    ensures { (name : List ℕ) → index_of (symbols (defs declarations.now)) name ≡ Some number → result ≡ extracting_named (whole declarations.now) name }
+{
+    match declarations.extractor(number) {
+        Some((func, infallible)) => ExtractorKind::External {
+            func: Sym(func),
+            infallible,
+        },
+        None => ExtractorKind::Absent,
+    }
+}
+
 // What a term is that gives this type, where its name has this number.
 fn kind_of(declarations: &Declarations, number: usize, given: &TermDef, ret: TypeId) -> TermKind
     requires { index_of (symbols (defs declarations.now)) given.now.term.now ≡ Some number }
@@ -43,7 +56,7 @@ fn kind_of(declarations: &Declarations, number: usize, given: &TermDef, ret: Typ
             partial: given.partial,
             recursive: given.recursive,
             constructor: constructor_of(declarations, number),
-            extractor: ExtractorKind::Absent,
+            extractor: extractor_of(declarations, number),
         },
         Origin::Variant(variant) => TermKind::Variant {
             ty: ret,

@@ -139,7 +139,9 @@ impl Judged {
             self.untaken = true;
             return;
         };
-        self.untaken = ((count != callee.args.len()) | !callee.made) | self.untaken;
+        self.untaken = (count != callee.args.len())
+            | !(callee.made | callee.extracting)
+            | self.untaken;
         self.mistaken = is_other_type(Some(Some(callee.ret)), expected) | self.mistaken;
     }
 

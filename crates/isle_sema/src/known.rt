@@ -13,7 +13,7 @@ use isle_types::Before;
 use std::marker::Model;
 
 /// A term: its number, the types of its arguments and of its result, its flags, whether a type makes it, and whether it has
-/// an external constructor and a rule.
+/// an external constructor, an external extractor and a rule.
 #[derive(Clone, Copy)]
 pub struct Called<'s> {
     pub term: TermId,
@@ -24,6 +24,7 @@ pub struct Called<'s> {
     pub partial: bool,
     pub made: bool,
     pub external: bool,
+    pub extracting: bool,
     pub ruled: bool,
 }
 
@@ -110,6 +111,7 @@ impl<'s, 'd> Known<'s, 'd> {
             partial: given.partial,
             made,
             external: self.declarations.external(number).is_some(),
+            extracting: self.declarations.extracting(number).is_some(),
             ruled: self.declarations.rule(number).is_some(),
         })
     }

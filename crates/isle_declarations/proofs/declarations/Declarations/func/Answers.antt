@@ -18,7 +18,7 @@ returns-in_err-place c =
 pub returns-in_err-found : goal.returns-in_err-found
 returns-in_err-found c =
     λ name e.
-    let known = subst (λ (ds : List Def). AreTables (seen ds) c.self.inside.given c.self.inside.declared c.self.inside.external c.self.inside.ruled) c.self.view_is c.self.invariant in
+    let known = subst (λ (ds : List Def). AreTables (seen ds) c.self.inside.given c.self.inside.declared c.self.inside.external c.self.inside.extracting c.self.inside.ruled) c.self.view_is c.self.invariant in
     let nothing : c.get.result ≡ None = search rules in
     let place : Some c.in_ok-place.place ≡ c.external.result = search rules in
     let items : c.deref.result.now ≡ c.self.inside.given.externs.items = search rules in
@@ -30,7 +30,7 @@ returns-in_err-found c =
 pub returns : goal.returns
 returns c =
     λ name e.
-    let known = subst (λ (ds : List Def). AreTables (seen ds) c.self.inside.given c.self.inside.declared c.self.inside.external c.self.inside.ruled) c.self.view_is c.self.invariant in
+    let known = subst (λ (ds : List Def). AreTables (seen ds) c.self.inside.given c.self.inside.declared c.self.inside.external c.self.inside.extracting c.self.inside.ruled) c.self.view_is c.self.invariant in
     let place : Some c.in_ok-place.place ≡ c.external.result = search rules in
     let items : c.deref.result.now ≡ c.self.inside.given.externs.items = search rules in
     let h = c.get.ensures.lookup in
