@@ -32,7 +32,8 @@ use Rattle.isle_core.proofs.BindingPaths.{IsThere, contains_at, place_once, at_b
 use Rattle.isle_core.proofs.Contained.{contained_cases, none_contained}
 use Rattle.isle_blocks.specs.declared.fields.Shown.{Shown}
 use Rattle.isle_blocks.specs.declared.fields.Shown.TheVariants as shown
-use Rattle.isle_blocks.specs.Fields.{FieldKey, source_of, part_of, FindsFields, first_places, places_of, shows}
+use Rattle.isle_blocks.specs.Fields.{FieldKey, source_of, part_of, FindsFields, first_places, inner_place, places_of, shows}
+use Rattle.isle_blocks.specs.Inners.{FindsInners}
 use Rattle.isle_blocks.proofs.PathTypes.{path_type_once}
 use Rattle.isle_blocks.proofs.PushedLists.{some_same}
 
@@ -193,11 +194,12 @@ struct_field env t bs found counts f typed source ty h field b e =
     let same = path_type_once env t (at ps source) k.1.0 ty k.1.1 h in
     (k.0, subst (λ of. IsSomeAnd (form env (MakesStruct of)) (λ f. slice_get (form_types env f) field ≡ Some k.0)) same k.1.2)
 
--- ---- the places of a constraint of the source's type
+-- ---- the places of a constraint
 
-pub places_lawful : (env : Environment) (t : Term) (bs : List Binding) (found : FieldKey → Option BindingId) (counts : Shown → Option ℕ) → FindsFields bs found counts → AreFieldsTyped env t bs → (source : BindingId) (c : Constraint) (ty : TypeId)
-    → IsPathOf env t (at (paths_of bs) source) ty → IsConstraintOf env c ty → ArePlacesOf (setting env t bs) source c (shows found counts source c)
-places_lawful env t bs found counts f typed source (constraint.Variant of variant) ty h k =
+-- on a value of a type, the fields that it shows
+pub fields_lawful : (env : Environment) (t : Term) (bs : List Binding) (found : FieldKey → Option BindingId) (counts : Shown → Option ℕ) (inners : ℕ → Option BindingId) → FindsFields bs found counts → AreFieldsTyped env t bs → (source : BindingId) (c : Constraint) (ty : TypeId)
+    → IsPathOf env t (at (paths_of bs) source) ty → IsConstraintOf env c ty → ArePlacesOf (setting env t bs) source c (shows found counts inners source c)
+fields_lawful env t bs found counts inners f typed source (constraint.Variant of variant) ty h k =
     let s = shown.Variant source variant in
     let n = unwrap_or (counts s) 0 in
     let path : IsPathOf env t (at (paths_of bs) source) of = subst (IsPathOf env t (at (paths_of bs) source)) (sym k.0) h in
@@ -205,7 +207,7 @@ places_lawful env t bs found counts f typed source (constraint.Variant of varian
       subst (λ m. IsSomeAnd (slice_get env.types.types of.0) (λ d. HasFields d variant m)) (sym (places_long (λ i. found (s, i)) n)) (variant_fits env variant n (slice_get env.types.types of.0) fits),
       are_parts (setting env t bs) (part_of s) (λ i. found (s, i)) (λ i b e. (f.is_field s i b e).0) n,
     )
-places_lawful env t bs found counts f typed source (constraint.Struct of) ty h k =
+fields_lawful env t bs found counts inners f typed source (constraint.Struct of) ty h k =
     let s = shown.Struct source in
     let n = unwrap_or (counts s) 0 in
     let path : IsPathOf env t (at (paths_of bs) source) of = subst (IsPathOf env t (at (paths_of bs) source)) (sym k.0) h in
@@ -213,7 +215,15 @@ places_lawful env t bs found counts f typed source (constraint.Struct of) ty h k
       subst (λ m. IsSomeAnd (slice_get env.types.types of.0) (λ d. IsStructOf d m)) (sym (places_long (λ i. found (s, i)) n)) (struct_fits env n (slice_get env.types.types of.0) fits),
       are_parts (setting env t bs) (part_of s) (λ i. found (s, i)) (λ i b e. (f.is_field s i b e).0) n,
     )
-places_lawful env t bs found counts f typed source (constraint.ConstBool val) ty h k = refl
-places_lawful env t bs found counts f typed source (constraint.ConstInt val of) ty h k = refl
-places_lawful env t bs found counts f typed source (constraint.ConstPrim val) ty h k = refl
-places_lawful env t bs found counts f typed source constraint.Some ty h k = absurd k
+fields_lawful env t bs found counts inners f typed source (constraint.ConstBool val) ty h k = refl
+fields_lawful env t bs found counts inners f typed source (constraint.ConstInt val of) ty h k = refl
+fields_lawful env t bs found counts inners f typed source (constraint.ConstPrim val) ty h k = refl
+fields_lawful env t bs found counts inners f typed source constraint.Some ty h k = absurd k
+
+-- of an option its inner value
+pub inner_lawful : (env : Environment) (t : Term) (bs : List Binding) (inners : ℕ → Option BindingId) → FindsInners bs inners → (source : BindingId) → ArePlacesOf (setting env t bs) source constraint.Some (inner_place (inners source.0))
+inner_lawful env t bs inners f source = pick (inners source.0) refl
+  where
+    pick : (o : Option BindingId) → inners source.0 ≡ o → ArePlacesOf (setting env t bs) source constraint.Some (inner_place o)
+    pick None e = (omega arith, tt)
+    pick (Some b) e = (omega arith, ((f.found source.0 b e).0, tt))

@@ -14,6 +14,9 @@ use Rattle.isle_core.specs.Tests.{Test}
 use Rattle.isle_core.specs.ValueAt.{Known, nothing_known, value_at, meets, equal_held, all_hold}
 use Rattle.isle_core.specs.CallRun.{Went, Goes, Ends, then_go, returns, run_calls}
 use Rattle.isle_core.specs.RuleSet.{is_test, equal_test, flat_tests, flat_holds, flat_run, gave, given, set_outcome}
+use Rattle.isle_core.specs.ArmPlaces.{bound_within}
+use Rattle.isle_core.specs.Bindable.{bound_by}
+use Rattle.isle_core.specs.Block.{Control}
 use Rattle.isle_core.specs.BlockViews.{SeenStep, block_of}
 use Rattle.isle_core.specs.BlockRun.{bind_all, block_run, control_run, block_outcome}
 use Rattle.isle_core.specs.StandsFor.{EachOnce}
@@ -21,11 +24,13 @@ use Rattle.isle_core.specs.Serializable.{constraint_tests, IsSerializableRule}
 use Rattle.isle_core.specs.Rule.{Environment}
 use Rattle.isle_blocks.specs.Order.{by_priority}
 use Rattle.isle_blocks.specs.Inners.{FindsInners}
-use Rattle.isle_blocks.specs.Nest.{Shows, last_step, all_matched, all_equated, rule_step}
+use Rattle.isle_blocks.specs.Needed.{needs}
+use Rattle.isle_blocks.specs.Nest.{Shows, Behind, last_step, all_matched, all_equated, rule_step}
 use Rattle.isle_blocks.specs.Chain.{no_tests, chain_steps, chain}
 use Rattle.isle_blocks.proofs.LawFirst.{first, first_is_highest}
 use Rattle.isle_blocks.proofs.LawOrder.{all_in_order}
-use Rattle.isle_blocks.proofs.LawBinds.{goes_on, binds_run}
+use Rattle.isle_blocks.proofs.LawBinds.{last_binds_run}
+use Rattle.isle_blocks.proofs.NeededRuns.{goes_on, needs_still}
 
 if_inside : (b c : Bool) (x y z : Went) → x ≡ cond c y z → cond b x z ≡ cond (b && c) y z
 if_inside true c x y z e = e
@@ -39,33 +44,44 @@ step_run env m args ps s = then_go (bind_all env m args ps s.0 nothing_known [])
 abbrev DoesWhere : Environment → Meaning → List Value → List Path → SeenStep → List Test → Went → Type 0
 DoesWhere env m args ps s ts y = step_run env m args ps s ≡ cond (all_hold env m (value_at env m args nothing_known) ts) y (Goes nothing_known [])
 
-matched_does : (shows : Shows) (cs : List (BindingId × Constraint)) (ts : List Test) (inner : SeenStep) (y : Went) (env : Environment) (m : Meaning) (args : List Value) (ps : List Path)
-    → DoesWhere env m args ps inner ts y → DoesWhere env m args ps (all_matched shows cs inner) (map (is_test ps) cs ++ ts) y
-matched_does shows [] ts inner y env m args ps h = h
-matched_does shows (c ∷ cs) ts inner y env m args ps h =
-    if_inside (meets env m c.1 (value_at env m args nothing_known (at ps c.0))) (all_hold env m (value_at env m args nothing_known) (map (is_test ps) cs ++ ts)) _ _ _
-    (goes_on (step_run env m args ps (all_matched shows cs inner)) ∙ matched_does shows cs ts inner y env m args ps h)
+-- binding what is needed changes nothing
+step_still : (env : Environment) (m : Meaning) (args : List Value) (bs : List Binding) (bound : List ℕ) (reads : List BindingId) (c : Control) → step_run env m args (paths_of bs) (needs bs bound reads, c) ≡ control_run env m args (paths_of bs) c nothing_known []
+step_still env m args bs bound reads c = ap (λ w. then_go w (control_run env m args (paths_of bs) c)) (needs_still env m args bs bound reads nothing_known [])
 
-equated_does : (es : List (BindingId × BindingId)) (inner : SeenStep) (env : Environment) (m : Meaning) (args : List Value) (ps : List Path)
-    → DoesWhere env m args ps (all_equated es inner) (map (equal_test ps) es) (step_run env m args ps inner)
-equated_does [] inner env m args ps = refl
-equated_does (e ∷ es) inner env m args ps =
-    if_inside (equal_held (value_at env m args nothing_known (at ps e.0)) (value_at env m args nothing_known (at ps e.1))) (all_hold env m (value_at env m args nothing_known) (map (equal_test ps) es)) _ _ _
-    (goes_on (step_run env m args ps (all_equated es inner)) ∙ equated_does es inner env m args ps)
+matched_does : (shows : Shows) (cs : List (BindingId × Constraint)) (ts : List Test) (inner : Behind) (y : Went) (env : Environment) (m : Meaning) (args : List Value) (bs : List Binding)
+    → ((bound : List ℕ) → DoesWhere env m args (paths_of bs) (inner bound) ts y) → (bound : List ℕ) → DoesWhere env m args (paths_of bs) (all_matched bs shows cs inner bound) (map (is_test (paths_of bs)) cs ++ ts) y
+matched_does shows [] ts inner y env m args bs h bound = h bound
+matched_does shows (c ∷ cs) ts inner y env m args bs h bound =
+    let ps = paths_of bs in
+    let within = bound_within (bound_by bound (needs bs bound (c.0 ∷ []))) (shows c.0 c.1) in
+    step_still env m args bs bound (c.0 ∷ []) (all_matched bs shows (c ∷ cs) inner bound).1
+    ∙ if_inside (meets env m c.1 (value_at env m args nothing_known (at ps c.0))) (all_hold env m (value_at env m args nothing_known) (map (is_test ps) cs ++ ts)) _ _ _
+    (goes_on (step_run env m args ps (all_matched bs shows cs inner within)) ∙ matched_does shows cs ts inner y env m args bs h within)
+
+equated_does : (es : List (BindingId × BindingId)) (inner : Behind) (y : Went) (env : Environment) (m : Meaning) (args : List Value) (bs : List Binding)
+    → ((bound : List ℕ) → step_run env m args (paths_of bs) (inner bound) ≡ y) → (bound : List ℕ) → DoesWhere env m args (paths_of bs) (all_equated bs es inner bound) (map (equal_test (paths_of bs)) es) y
+equated_does [] inner y env m args bs h bound = h bound
+equated_does (e ∷ es) inner y env m args bs h bound =
+    let ps = paths_of bs in
+    let within = bound_by bound (needs bs bound (e.0 ∷ e.1 ∷ [])) in
+    step_still env m args bs bound (e.0 ∷ e.1 ∷ []) (all_equated bs (e ∷ es) inner bound).1
+    ∙ if_inside (equal_held (value_at env m args nothing_known (at ps e.0)) (value_at env m args nothing_known (at ps e.1))) (all_hold env m (value_at env m args nothing_known) (map (equal_test ps) es)) _ _ _
+    (goes_on (step_run env m args ps (all_equated bs es inner within)) ∙ equated_does es inner y env m args bs h within)
 
 -- ---- rules that are ready
 
 last_runs : (env : Environment) (t : Term) (m : Meaning) (args : List Value) (bs : List Binding) (inners : ℕ → Option BindingId) (f : FlatRule) → FindsInners bs inners → EachOnce (paths_of bs) → IsSerializableRule env t (paths_of bs) f
-    → step_run env m args (paths_of bs) (last_step inners f) ≡ flat_run env m args (paths_of bs) f
-last_runs env t m args bs inners f found once h = ap (λ w. then_go w (returns env m args (at (paths_of bs) f.result))) (binds_run env t (constraint_tests (paths_of bs) f) m args bs inners found once f.ordered [] h.calls nothing_known [])
+    → (bound : List ℕ) → step_run env m args (paths_of bs) (last_step bs inners f bound) ≡ flat_run env m args (paths_of bs) f
+last_runs env t m args bs inners f found once h bound =
+    ap (λ w. then_go w (returns env m args (at (paths_of bs) f.result))) (last_binds_run env t (constraint_tests (paths_of bs) f) m args bs inners found once f bound h.calls nothing_known [])
 
 pub rule_does : (shows : Shows) (env : Environment) (t : Term) (m : Meaning) (args : List Value) (bs : List Binding) (inners : ℕ → Option BindingId) (f : FlatRule) → FindsInners bs inners → EachOnce (paths_of bs) → IsSerializableRule env t (paths_of bs) f
-    → DoesWhere env m args (paths_of bs) (rule_step shows inners f) (flat_tests (paths_of bs) f) (flat_run env m args (paths_of bs) f)
+    → DoesWhere env m args (paths_of bs) (rule_step bs shows inners f) (flat_tests (paths_of bs) f) (flat_run env m args (paths_of bs) f)
 rule_does shows env t m args bs inners f found once h =
     let ps = paths_of bs in
-    matched_does shows f.constraints (map (equal_test ps) f.equals) (all_equated f.equals (last_step inners f)) (flat_run env m args ps f) env m args ps
-    (equated_does f.equals (last_step inners f) env m args ps
-    ∙ ap (λ w. cond (all_hold env m (value_at env m args nothing_known) (map (equal_test ps) f.equals)) w (Goes nothing_known [])) (last_runs env t m args bs inners f found once h))
+    let y = flat_run env m args ps f in
+    matched_does shows f.constraints (map (equal_test ps) f.equals) (all_equated bs f.equals (last_step bs inners f)) y env m args bs
+    (equated_does f.equals (last_step bs inners f) y env m args bs (last_runs env t m args bs inners f found once h)) []
 
 -- a rule without tests holds
 pub untested_holds : (cs : List (BindingId × Constraint)) (es : List (BindingId × BindingId)) (env : Environment) (m : Meaning) (args : List Value) (ps : List Path) → no_tests cs es ≡ true → all_hold env m (value_at env m args nothing_known) (map (is_test ps) cs ++ map (equal_test ps) es) ≡ true
@@ -80,22 +96,22 @@ result_ends (Ends o) env m args p more = refl
 
 chain_gives : (shows : Shows) (env : Environment) (t : Term) (m : Meaning) (args : List Value) (bs : List Binding) (inners : ℕ → Option BindingId) (kind : ReturnKind) → FindsInners bs inners → EachOnce (paths_of bs)
     → (fs : List FlatRule) → AllByRecursion (IsSerializableRule env t (paths_of bs)) fs
-    → gave kind (block_run env m args (paths_of bs) (block_of (chain_steps shows inners fs)) nothing_known []) ≡ given env m args (paths_of bs) kind (first (flat_holds env m args (paths_of bs)) fs)
+    → gave kind (block_run env m args (paths_of bs) (block_of (chain_steps bs shows inners fs)) nothing_known []) ≡ given env m args (paths_of bs) kind (first (flat_holds env m args (paths_of bs)) fs)
 chain_gives shows env t m args bs inners kind found once [] h = refl
 chain_gives shows env t m args bs inners kind found once (f ∷ fs) h =
-    ap (λ w. gave kind (then_go w (block_run env m args (paths_of bs) (block_of (cond (no_tests f.constraints f.equals) [] (chain_steps shows inners fs)))))) (rule_does shows env t m args bs inners f found once h.0)
+    ap (λ w. gave kind (then_go w (block_run env m args (paths_of bs) (block_of (cond (no_tests f.constraints f.equals) [] (chain_steps bs shows inners fs)))))) (rule_does shows env t m args bs inners f found once h.0)
     ∙ pick (flat_holds env m args (paths_of bs) f) (no_tests f.constraints f.equals) (untested_holds f.constraints f.equals env m args (paths_of bs)) (chain_gives shows env t m args bs inners kind found once fs h.1)
   where
     ps : List Path
     ps = paths_of bs
 
-    pick : (holds untested : Bool) → (untested ≡ true → holds ≡ true) → gave kind (block_run env m args ps (block_of (chain_steps shows inners fs)) nothing_known []) ≡ given env m args ps kind (first (flat_holds env m args ps) fs)
-        → gave kind (then_go (cond holds (flat_run env m args ps f) (Goes nothing_known [])) (block_run env m args ps (block_of (cond untested [] (chain_steps shows inners fs))))) ≡ given env m args ps kind (cond holds (Some f) (first (flat_holds env m args ps) fs))
-    pick true untested k e = ap (gave kind) (result_ends (run_calls env m args (map (at ps) f.ordered) nothing_known []) env m args (at ps f.result) (block_run env m args ps (block_of (cond untested [] (chain_steps shows inners fs)))))
+    pick : (holds untested : Bool) → (untested ≡ true → holds ≡ true) → gave kind (block_run env m args ps (block_of (chain_steps bs shows inners fs)) nothing_known []) ≡ given env m args ps kind (first (flat_holds env m args ps) fs)
+        → gave kind (then_go (cond holds (flat_run env m args ps f) (Goes nothing_known [])) (block_run env m args ps (block_of (cond untested [] (chain_steps bs shows inners fs))))) ≡ given env m args ps kind (cond holds (Some f) (first (flat_holds env m args ps) fs))
+    pick true untested k e = ap (gave kind) (result_ends (run_calls env m args (map (at ps) f.ordered) nothing_known []) env m args (at ps f.result) (block_run env m args ps (block_of (cond untested [] (chain_steps bs shows inners fs)))))
     pick false false k e = e
     pick false true k e = let bad = k refl in cc
 
 pub chain_means : (shows : Shows) (env : Environment) (t : Term) (m : Meaning) (args : List Value) (bs : List Binding) (inners : ℕ → Option BindingId) (kind : ReturnKind) → FindsInners bs inners → EachOnce (paths_of bs)
-    → (fs : List FlatRule) → AllByRecursion (IsSerializableRule env t (paths_of bs)) fs → block_outcome env m args (paths_of bs) (chain shows inners fs) kind ≡ set_outcome env m args (paths_of bs) fs kind
+    → (fs : List FlatRule) → AllByRecursion (IsSerializableRule env t (paths_of bs)) fs → block_outcome env m args (paths_of bs) (chain bs shows inners fs) kind ≡ set_outcome env m args (paths_of bs) fs kind
 chain_means shows env t m args bs inners kind found once fs h =
     chain_gives shows env t m args bs inners kind found once (by_priority fs) (all_in_order (IsSerializableRule env t (paths_of bs)) fs h) ∙ ap (given env m args (paths_of bs) kind) (first_is_highest (flat_holds env m args (paths_of bs)) fs)

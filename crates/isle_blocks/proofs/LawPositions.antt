@@ -14,7 +14,9 @@ use Rattle.isle_core.specs.Tests.{Test}
 use Rattle.isle_core.specs.ValueAt.{Known, nothing_known, value_at, meets, equal_held, all_hold}
 use Rattle.isle_core.specs.CallRun.{Went, Goes, Ends, then_go, returns, run_calls}
 use Rattle.isle_core.specs.RuleSet.{is_test, equal_test, flat_tests, flat_holds, flat_run}
-use Rattle.isle_core.specs.Block.{Block, Stop}
+use Rattle.isle_core.specs.ArmPlaces.{bound_within}
+use Rattle.isle_core.specs.Bindable.{bound_by}
+use Rattle.isle_core.specs.Block.{Block, Stop, Control}
 use Rattle.isle_core.specs.BlockViews.{SeenStep, block_of}
 use Rattle.isle_core.specs.BlockRun.{bind_all, control_run}
 use Rattle.isle_core.specs.ReturnPosition.{then_position, or_else, block_position, control_position, rule_position, set_position}
@@ -23,11 +25,13 @@ use Rattle.isle_core.specs.Serializable.{constraint_tests, IsSerializableRule}
 use Rattle.isle_core.specs.Rule.{Environment}
 use Rattle.isle_blocks.specs.Order.{by_priority}
 use Rattle.isle_blocks.specs.Inners.{FindsInners}
-use Rattle.isle_blocks.specs.Nest.{Shows, alone, last_step, all_matched, all_equated, rule_step}
+use Rattle.isle_blocks.specs.Needed.{needs}
+use Rattle.isle_blocks.specs.Nest.{Shows, Behind, alone, last_step, all_matched, all_equated, rule_step}
 use Rattle.isle_blocks.specs.Chain.{no_tests, chain_steps, chain}
 use Rattle.isle_blocks.proofs.LawFirst.{first, first_is_highest}
 use Rattle.isle_blocks.proofs.LawOrder.{all_in_order}
-use Rattle.isle_blocks.proofs.LawBinds.{binds_run}
+use Rattle.isle_blocks.proofs.LawBinds.{last_binds_run}
+use Rattle.isle_blocks.proofs.NeededRuns.{needs_still}
 use Rattle.isle_blocks.proofs.LawChain.{step_run, rule_does, untested_holds}
 
 -- ---- one step
@@ -63,27 +67,38 @@ if_within false c x y e = refl
 abbrev ReturnsWhere : Environment → Meaning → List Value → List Path → SeenStep → List Test → Option Pos → Type 0
 ReturnsWhere env m args ps s ts y = step_position env m args ps s ≡ cond (all_hold env m (value_at env m args nothing_known) ts) y None
 
-matched_returns : (shows : Shows) (cs : List (BindingId × Constraint)) (ts : List Test) (inner : SeenStep) (y : Option Pos) (env : Environment) (m : Meaning) (args : List Value) (ps : List Path)
-    → ReturnsWhere env m args ps inner ts y → ReturnsWhere env m args ps (all_matched shows cs inner) (map (is_test ps) cs ++ ts) y
-matched_returns shows [] ts inner y env m args ps h = h
-matched_returns shows (c ∷ cs) ts inner y env m args ps h =
-    if_within (meets env m c.1 (value_at env m args nothing_known (at ps c.0))) (all_hold env m (value_at env m args nothing_known) (map (is_test ps) cs ++ ts)) _ y
-    (alone_position env m args ps (all_matched shows cs inner) ∙ matched_returns shows cs ts inner y env m args ps h)
+-- binding what is needed changes nothing
+position_still : (env : Environment) (m : Meaning) (args : List Value) (bs : List Binding) (bound : List ℕ) (reads : List BindingId) (c : Control) → step_position env m args (paths_of bs) (needs bs bound reads, c) ≡ control_position env m args (paths_of bs) c nothing_known []
+position_still env m args bs bound reads c = ap (λ w. then_position w (control_position env m args (paths_of bs) c)) (needs_still env m args bs bound reads nothing_known [])
 
-equated_returns : (es : List (BindingId × BindingId)) (inner : SeenStep) (env : Environment) (m : Meaning) (args : List Value) (ps : List Path)
-    → ReturnsWhere env m args ps (all_equated es inner) (map (equal_test ps) es) (step_position env m args ps inner)
-equated_returns [] inner env m args ps = refl
-equated_returns (e ∷ es) inner env m args ps =
-    if_within (equal_held (value_at env m args nothing_known (at ps e.0)) (value_at env m args nothing_known (at ps e.1))) (all_hold env m (value_at env m args nothing_known) (map (equal_test ps) es)) _ _
-    (alone_position env m args ps (all_equated es inner) ∙ equated_returns es inner env m args ps)
+matched_returns : (shows : Shows) (cs : List (BindingId × Constraint)) (ts : List Test) (inner : Behind) (y : Option Pos) (env : Environment) (m : Meaning) (args : List Value) (bs : List Binding)
+    → ((bound : List ℕ) → ReturnsWhere env m args (paths_of bs) (inner bound) ts y) → (bound : List ℕ) → ReturnsWhere env m args (paths_of bs) (all_matched bs shows cs inner bound) (map (is_test (paths_of bs)) cs ++ ts) y
+matched_returns shows [] ts inner y env m args bs h bound = h bound
+matched_returns shows (c ∷ cs) ts inner y env m args bs h bound =
+    let ps = paths_of bs in
+    let within = bound_within (bound_by bound (needs bs bound (c.0 ∷ []))) (shows c.0 c.1) in
+    position_still env m args bs bound (c.0 ∷ []) (all_matched bs shows (c ∷ cs) inner bound).1
+    ∙ if_within (meets env m c.1 (value_at env m args nothing_known (at ps c.0))) (all_hold env m (value_at env m args nothing_known) (map (is_test ps) cs ++ ts)) _ y
+    (alone_position env m args ps (all_matched bs shows cs inner within) ∙ matched_returns shows cs ts inner y env m args bs h within)
+
+equated_returns : (es : List (BindingId × BindingId)) (inner : Behind) (y : Option Pos) (env : Environment) (m : Meaning) (args : List Value) (bs : List Binding)
+    → ((bound : List ℕ) → step_position env m args (paths_of bs) (inner bound) ≡ y) → (bound : List ℕ) → ReturnsWhere env m args (paths_of bs) (all_equated bs es inner bound) (map (equal_test (paths_of bs)) es) y
+equated_returns [] inner y env m args bs h bound = h bound
+equated_returns (e ∷ es) inner y env m args bs h bound =
+    let ps = paths_of bs in
+    let within = bound_by bound (needs bs bound (e.0 ∷ e.1 ∷ [])) in
+    position_still env m args bs bound (e.0 ∷ e.1 ∷ []) (all_equated bs (e ∷ es) inner bound).1
+    ∙ if_within (equal_held (value_at env m args nothing_known (at ps e.0)) (value_at env m args nothing_known (at ps e.1))) (all_hold env m (value_at env m args nothing_known) (map (equal_test ps) es)) _ y
+    (alone_position env m args ps (all_equated bs es inner within) ∙ equated_returns es inner y env m args bs h within)
 
 rule_returns : (shows : Shows) (env : Environment) (t : Term) (m : Meaning) (args : List Value) (bs : List Binding) (inners : ℕ → Option BindingId) (f : FlatRule) → FindsInners bs inners → EachOnce (paths_of bs) → IsSerializableRule env t (paths_of bs) f
-    → ReturnsWhere env m args (paths_of bs) (rule_step shows inners f) (flat_tests (paths_of bs) f) (rule_position env m args (paths_of bs) (Some f))
+    → ReturnsWhere env m args (paths_of bs) (rule_step bs shows inners f) (flat_tests (paths_of bs) f) (rule_position env m args (paths_of bs) (Some f))
 rule_returns shows env t m args bs inners f found once h =
     let ps = paths_of bs in
-    matched_returns shows f.constraints (map (equal_test ps) f.equals) (all_equated f.equals (last_step inners f)) (rule_position env m args ps (Some f)) env m args ps
-    (equated_returns f.equals (last_step inners f) env m args ps
-    ∙ ap (λ w. cond (all_hold env m (value_at env m args nothing_known) (map (equal_test ps) f.equals)) (then_position w (λ known made. Some f.pos)) None) (binds_run env t (constraint_tests ps f) m args bs inners found once f.ordered [] h.calls nothing_known []))
+    let y = rule_position env m args ps (Some f) in
+    matched_returns shows f.constraints (map (equal_test ps) f.equals) (all_equated bs f.equals (last_step bs inners f)) y env m args bs
+    (equated_returns f.equals (last_step bs inners f) y env m args bs
+    (λ bound. ap (λ w. then_position w (λ known made. Some f.pos)) (last_binds_run env t (constraint_tests ps f) m args bs inners found once f bound h.calls nothing_known []))) []
 
 -- ---- a chain
 
@@ -94,11 +109,11 @@ none_after (Ends o) env m args p more = refl
 
 chain_returns : (shows : Shows) (env : Environment) (t : Term) (m : Meaning) (args : List Value) (bs : List Binding) (inners : ℕ → Option BindingId) → FindsInners bs inners → EachOnce (paths_of bs)
     → (fs : List FlatRule) → AllByRecursion (IsSerializableRule env t (paths_of bs)) fs
-    → block_position env m args (paths_of bs) (block_of (chain_steps shows inners fs)) nothing_known [] ≡ rule_position env m args (paths_of bs) (first (flat_holds env m args (paths_of bs)) fs)
+    → block_position env m args (paths_of bs) (block_of (chain_steps bs shows inners fs)) nothing_known [] ≡ rule_position env m args (paths_of bs) (first (flat_holds env m args (paths_of bs)) fs)
 chain_returns shows env t m args bs inners found once [] h = refl
 chain_returns shows env t m args bs inners found once (f ∷ fs) h =
-    before_others (bind_all env m args ps (rule_step shows inners f).0 nothing_known []) (control_position env m args ps (rule_step shows inners f).1) (control_run env m args ps (rule_step shows inners f).1) (block_position env m args ps others)
-    ∙ ap (λ o. or_else o (then_position (step_run env m args ps (rule_step shows inners f)) (block_position env m args ps others))) (rule_returns shows env t m args bs inners f found once h.0)
+    before_others (bind_all env m args ps (rule_step bs shows inners f).0 nothing_known []) (control_position env m args ps (rule_step bs shows inners f).1) (control_run env m args ps (rule_step bs shows inners f).1) (block_position env m args ps others)
+    ∙ ap (λ o. or_else o (then_position (step_run env m args ps (rule_step bs shows inners f)) (block_position env m args ps others))) (rule_returns shows env t m args bs inners f found once h.0)
     ∙ ap (λ w. or_else (cond (flat_holds env m args ps f) (rule_position env m args ps (Some f)) None) (then_position w (block_position env m args ps others))) (rule_does shows env t m args bs inners f found once h.0)
     ∙ pick (flat_holds env m args ps f) (no_tests f.constraints f.equals) (untested_holds f.constraints f.equals env m args ps) (chain_returns shows env t m args bs inners found once fs h.1)
   where
@@ -106,18 +121,18 @@ chain_returns shows env t m args bs inners found once (f ∷ fs) h =
     ps = paths_of bs
 
     others : Block
-    others = block_of (cond (no_tests f.constraints f.equals) [] (chain_steps shows inners fs))
+    others = block_of (cond (no_tests f.constraints f.equals) [] (chain_steps bs shows inners fs))
 
-    pick : (holds untested : Bool) → (untested ≡ true → holds ≡ true) → block_position env m args ps (block_of (chain_steps shows inners fs)) nothing_known [] ≡ rule_position env m args ps (first (flat_holds env m args ps) fs)
-        → or_else (cond holds (rule_position env m args ps (Some f)) None) (then_position (cond holds (flat_run env m args ps f) (Goes nothing_known [])) (block_position env m args ps (block_of (cond untested [] (chain_steps shows inners fs)))))
+    pick : (holds untested : Bool) → (untested ≡ true → holds ≡ true) → block_position env m args ps (block_of (chain_steps bs shows inners fs)) nothing_known [] ≡ rule_position env m args ps (first (flat_holds env m args ps) fs)
+        → or_else (cond holds (rule_position env m args ps (Some f)) None) (then_position (cond holds (flat_run env m args ps f) (Goes nothing_known [])) (block_position env m args ps (block_of (cond untested [] (chain_steps bs shows inners fs)))))
         ≡ rule_position env m args ps (cond holds (Some f) (first (flat_holds env m args ps) fs))
     pick true untested k e =
-        ap (or_else (rule_position env m args ps (Some f))) (none_after (run_calls env m args (map (at ps) f.ordered) nothing_known []) env m args (at ps f.result) (block_position env m args ps (block_of (cond untested [] (chain_steps shows inners fs)))))
+        ap (or_else (rule_position env m args ps (Some f))) (none_after (run_calls env m args (map (at ps) f.ordered) nothing_known []) env m args (at ps f.result) (block_position env m args ps (block_of (cond untested [] (chain_steps bs shows inners fs)))))
         ∙ or_none (rule_position env m args ps (Some f))
     pick false false k e = e
     pick false true k e = let bad = k refl in cc
 
 pub chain_positions : (shows : Shows) (env : Environment) (t : Term) (m : Meaning) (args : List Value) (bs : List Binding) (inners : ℕ → Option BindingId) → FindsInners bs inners → EachOnce (paths_of bs)
-    → (fs : List FlatRule) → AllByRecursion (IsSerializableRule env t (paths_of bs)) fs → block_position env m args (paths_of bs) (chain shows inners fs) nothing_known [] ≡ set_position env m args (paths_of bs) fs
+    → (fs : List FlatRule) → AllByRecursion (IsSerializableRule env t (paths_of bs)) fs → block_position env m args (paths_of bs) (chain bs shows inners fs) nothing_known [] ≡ set_position env m args (paths_of bs) fs
 chain_positions shows env t m args bs inners found once fs h =
     chain_returns shows env t m args bs inners found once (by_priority fs) (all_in_order (IsSerializableRule env t (paths_of bs)) fs h) ∙ ap (rule_position env m args (paths_of bs)) (first_is_highest (flat_holds env m args (paths_of bs)) fs)

@@ -1,38 +1,45 @@
 -- A chain of ready rules is lawful, and each Match of it has one arm.
-use Rattle.std.proofs.Common.{◌≡◌, inr, ℕ, List, [], ◌∷◌, ◌++◌, Bool, true, false, cond, Option, map, refl, sym, ap, subst}
+use Rattle.std.proofs.Common.{◌≡◌, inr, ℕ, List, [], ◌∷◌, ◌++◌, Bool, true, false, cond, Option, map, refl, sym, ap, ◌∙◌, subst}
 use Rattle.std.specs.List.{AllByRecursion}
 use Rattle.isle_core.specs.declared.BindingId.{BindingId}
 use Rattle.isle_core.specs.declared.rule_sets.Binding.{Binding}
 use Rattle.isle_core.specs.declared.rule_sets.Constraint.{Constraint}
+use Rattle.isle_core.specs.declared.rule_sets.Constraint.TheVariants as constraint
 use Rattle.isle_core.specs.declared.rule_sets.FlatRule.{FlatRule}
 use Rattle.isle_core.specs.declared.types.Term.{Term}
 use Rattle.isle_core.specs.Path.{Path, at, paths_of}
-use Rattle.isle_core.specs.Block.{Block, Stop, Step, Arm, NoArm}
+use Rattle.isle_core.specs.Block.{Block, Stop, Step, Control, Arm, NoArm}
 use Rattle.isle_core.specs.BlockViews.{SeenStep, block_of}
-use Rattle.isle_core.specs.ArmPlaces.{bound_within}
-use Rattle.isle_core.specs.Bindable.{bound_by}
-use Rattle.isle_core.specs.BlockLawful.{IsLawfulFrom, IsLawfulBlock}
+use Rattle.isle_core.specs.ArmPlaces.{ArePlacesOf, bound_within}
+use Rattle.isle_core.specs.Bindable.{AreBindable, bound_by}
+use Rattle.isle_core.specs.BlockLawful.{Source, AValue, AnOption, IsReadIn, IsConstraintOver, IsLawfulFrom, IsLawfulControl, IsLawfulBlock}
 use Rattle.isle_core.specs.Readable.{IsReadAs}
 use Rattle.isle_core.specs.StandsFor.{EachOnce}
-use Rattle.isle_core.specs.Serializable.{IsTestable, AreTestable, AreComparable, constraint_tests, IsSerializableRule}
+use Rattle.isle_core.specs.Serializable.{StandsOn, IsValueTest, IsTest, AreTestable, AreComparable, constraint_tests, IsSerializableRule}
 use Rattle.isle_core.specs.Rule.{Environment}
 use Rattle.isle_core.specs.RuleSet.{is_test}
 use Rattle.isle_core.specs.Setting.{setting}
 use Rattle.isle_core.specs.Tests.{Test}
 use Rattle.isle_core.specs.SingleArms.{HasSingleArms, IsSingle}
 use Rattle.isle_core.specs.Occurrences.{AreNew, occurrences, after_control, after_arms}
-use Rattle.isle_core.proofs.BindingPaths.{path_there}
+use Rattle.isle_core.proofs.BindingPaths.{IsThere, path_there, option_there}
 use Rattle.isle_core.proofs.Contained.{none_contained}
 use Rattle.isle_blocks.specs.Order.{by_priority}
 use Rattle.isle_blocks.specs.Inners.{FindsInners}
 use Rattle.isle_blocks.specs.declared.fields.Shown.{Shown}
 use Rattle.isle_blocks.specs.Fields.{FieldKey, FindsFields, shows}
-use Rattle.isle_blocks.specs.Nest.{Shows, alone, binds, last_step, all_matched, all_equated, rule_step}
+use Rattle.isle_blocks.specs.Needed.{needs}
+use Rattle.isle_blocks.specs.Nest.{Shows, Behind, alone, binds, last_step, all_matched, all_equated, rule_step}
 use Rattle.isle_blocks.specs.Chain.{no_tests, chain_steps, chain}
 use Rattle.isle_blocks.proofs.LawOrder.{all_in_order}
-use Rattle.isle_blocks.proofs.LawBinds.{occurrences_same}
-use Rattle.isle_blocks.proofs.FieldPlaces.{AreFieldsTyped, places_lawful}
-use Rattle.isle_blocks.proofs.LawBound.{IsBehind, behind_none, behind_fewer, behind_test, came_behind, came_holds, stands_more, read_as, binds_all}
+use Rattle.isle_blocks.proofs.Behind.{IsBehind, behind_none, behind_fewer, behind_grows, behind_test}
+use Rattle.isle_blocks.proofs.FieldPlaces.{AreFieldsTyped, fields_lawful, inner_lawful}
+use Rattle.isle_blocks.proofs.LawBinds.{last_occurrences}
+use Rattle.isle_blocks.proofs.LawBound.{all_read_as, came_behind, came_holds, stands_more, binds_all}
+use Rattle.isle_blocks.proofs.MoreBound.{by_kept, bindable_append, still_lawful}
+use Rattle.isle_blocks.proofs.NeededBound.{first_read, needs_read, option_needs}
+use Rattle.isle_blocks.proofs.NeededRuns.{needs_uncalled}
+use Rattle.isle_blocks.proofs.PushedBinds.{bound_append}
 
 -- a step before others is lawful where these are bound, and no impure call of it was bound where it goes on
 record IsLawfulStep (env : Environment) (t : Term) (bs : List Binding) (bound : List ℕ) (s : SeenStep) (more : Block) : Type 0 where
@@ -42,107 +49,172 @@ record IsLawfulStep (env : Environment) (t : Term) (bs : List Binding) (bound : 
 no_new : AreNew [] []
 no_new = record { once = tt; apart = λ k c d. none_contained k c }
 
+-- a step that binds what is needed alone
+needs_lawful : (env : Environment) (t : Term) (bs : List Binding) (bound : List ℕ) (reads : List BindingId) (c : Control) (more : Block) → AreBindable (setting env t bs) bound (needs bs bound reads)
+    → IsLawfulControl (setting env t bs) (bound_by bound (needs bs bound reads)) [] c more → after_control env (paths_of bs) [] c ≡ [] → IsLawfulFrom (setting env t bs) bound [] more → IsLawfulStep env t bs bound (needs bs bound reads, c) more
+needs_lawful env t bs bound reads c more binds control after rest =
+    let s = setting env t bs in
+    let ps = paths_of bs in
+    let ns = needs bs bound reads in
+    let behind = bound_by bound ns in
+    let none = needs_uncalled env bs bound reads in
+    let more_lawful : IsLawfulFrom s behind (after_control env ps [] c) more = subst (λ ks. IsLawfulFrom s behind ks more) (sym after) (still_lawful more s bound behind [] (by_kept ns bound) rest) in
+    let all : AreNew [] [] × IsLawfulControl s behind [] c more × IsLawfulFrom s behind (after_control env ps [] c) more = (no_new, control, more_lawful) in
+    let k = subst (λ ks. AreNew [] ks × IsLawfulControl s behind ks c more × IsLawfulFrom s behind (after_control env ps ks c) more) (sym none) all in
+    record { lawful = (binds, k.0, k.1, k.2); after = ap (λ ks. after_control env ps ks c) none ∙ after }
+
 -- calls and a result that is last
 last_lawful : (env : Environment) (t : Term) (bs : List Binding) (inners : ℕ → Option BindingId) (f : FlatRule) (bound : List ℕ) → FindsInners bs inners → EachOnce (paths_of bs) → IsSerializableRule env t (paths_of bs) f
-    → IsBehind (paths_of bs) (constraint_tests (paths_of bs) f) [] bound → IsLawfulStep env t bs bound (last_step inners f) Stop
+    → IsBehind (paths_of bs) (constraint_tests (paths_of bs) f) [] bound → IsLawfulStep env t bs bound (last_step bs inners f bound) Stop
 last_lawful env t bs inners f bound found once h k =
+    let s = setting env t bs in
     let ps = paths_of bs in
     let tests = constraint_tests ps f in
     let calls = map (at ps) f.ordered in
+    let order = binds bs inners bound f.ordered in
+    let behind = bound_by bound order in
+    let ns = needs bs behind (f.result ∷ []) in
     let all = binds_all env t bs tests inners found once f.ordered [] bound k h.calls in
     let stands = stands_more tests calls (came_behind [] calls) (λ p j. came_holds [] calls p (inr j)) (at ps f.result) h.stands in
-    let read : IsReadAs (setting env t bs) (bound_by bound (binds inners f.ordered)) f.result t.ret_ty = read_as env t bs tests (came_behind [] calls) (bound_by bound (binds inners f.ordered)) f.result t.ret_ty all.behind h.result stands in
-    let new : AreNew [] (occurrences env ps (binds inners f.ordered)) = record { once = subst EachOnce (sym (occurrences_same env bs inners found f.ordered)) h.once; apart = λ k c d. none_contained k c } in
-    record { lawful = (all.bindable, new, (read, refl), tt); after = refl }
-
--- equalities round it
-equated_lawful : (es : List (BindingId × BindingId)) (last : SeenStep) (env : Environment) (t : Term) (bs : List Binding) (tests : List Test) (bound : List ℕ) (more : Block) → IsBehind (paths_of bs) tests [] bound
-    → AllByRecursion (AreComparable env t (paths_of bs) tests) es → IsLawfulStep env t bs bound last Stop → (no_tests [] es ≡ true → more ≡ Stop) → IsLawfulFrom (setting env t bs) bound [] more → IsLawfulStep env t bs bound (all_equated es last) more
-equated_lawful [] last env t bs tests bound more k h l stop r = subst (IsLawfulStep env t bs bound last) (sym (stop refl)) l
-equated_lawful (e ∷ es) last env t bs tests bound more k h l stop r =
-    let one : AreComparable env t (paths_of bs) tests e = h.0 in
-    let left : IsReadAs (setting env t bs) bound e.0 one.ty = read_as env t bs tests [] bound e.0 one.ty k one.left one.left_stands in
-    let right : IsReadAs (setting env t bs) bound e.1 one.ty = read_as env t bs tests [] bound e.1 one.ty k one.right one.right_stands in
-    let body = equated_lawful es last env t bs tests bound Stop k h.1 l (λ _. refl) tt in
-    record { lawful = (tt, no_new, ((one.ty, left, right), body.lawful), subst (λ ks. IsLawfulFrom (setting env t bs) bound ks more) (sym body.after) r); after = body.after }
-
--- what is inside all arms is lawful before any steps, where it has a test or none follow it
-abbrev IsLawfulInside : Environment → Term → List Binding → List Test → List (BindingId × BindingId) → SeenStep → Type 0
-IsLawfulInside env t bs tests es inner = (bound : List ℕ) (more : Block) → IsBehind (paths_of bs) tests [] bound → (no_tests [] es ≡ true → more ≡ Stop) → IsLawfulFrom (setting env t bs) bound [] more → IsLawfulStep env t bs bound inner more
-
--- and constraints round these
-matched_lawful : (env : Environment) (t : Term) (bs : List Binding) (found : FieldKey → Option BindingId) (counts : Shown → Option ℕ) → FindsFields bs found counts → EachOnce (paths_of bs) → AreFieldsTyped env t bs
-    → (cs : List (BindingId × Constraint)) (es : List (BindingId × BindingId)) (inner : SeenStep) (tests : List Test) (bound : List ℕ) (more : Block) → IsBehind (paths_of bs) tests [] bound → AreTestable env t (paths_of bs) tests cs
-    → IsLawfulInside env t bs (came_behind tests (map (is_test (paths_of bs)) cs)) es inner → (no_tests cs es ≡ true → more ≡ Stop) → IsLawfulFrom (setting env t bs) bound [] more → IsLawfulStep env t bs bound (all_matched (shows found counts) cs inner) more
-matched_lawful env t bs found counts f once typed [] es inner tests bound more k h l stop r = l bound more k stop r
-matched_lawful env t bs found counts f once typed (c ∷ cs) es inner tests bound more k h l stop r =
-    let one : IsTestable env t (paths_of bs) tests c = h.0 in
-    let read : IsReadAs (setting env t bs) bound c.0 one.ty = read_as env t bs tests [] bound c.0 one.ty k one.path one.stands in
-    let within = behind_test bs found counts f once tests bound c (path_there env t (at (paths_of bs) c.0) one.ty one.path) k in
-    let body = matched_lawful env t bs found counts f once typed cs es inner (is_test (paths_of bs) c ∷ tests) (bound_within bound (shows found counts c.0 c.1)) Stop within h.1 l (λ _. refl) tt in
-    let after : after_arms env (paths_of bs) [] (Arm c.1 (shows found counts c.0 c.1) (alone (all_matched (shows found counts) cs inner)) NoArm) ≡ [] = ap (λ ks. ks ++ []) body.after in
+    let r = needs_read env t bs tests (came_behind [] calls) behind (f.result ∷ []) (t.ret_ty ∷ []) all.behind (h.result, tt) (stands, tt) in
+    let read : IsReadAs s (bound_by behind ns) f.result t.ret_ty = record { path = h.result; read = first_read s (bound_by behind ns) r.read } in
+    let new : AreNew [] (occurrences env ps (order ++ ns)) = record { once = subst EachOnce (sym (last_occurrences env bs inners found f bound)) h.once; apart = λ k c d. none_contained k c } in
     record {
-      lawful = (
-        tt,
-        no_new,
-        (tt, (one.ty, read, (one.constraint, places_lawful env t bs found counts f typed c.0 c.1 one.ty one.path one.constraint, body.lawful, tt))),
-        subst (λ ks. IsLawfulFrom (setting env t bs) bound ks more) (sym after) r,
-      );
-      after = after;
+      lawful = (bindable_append s order ns bound all.bindable r.binds, new, (subst (λ m. IsReadAs s m f.result t.ret_ty) (sym (bound_append bound order ns)) read, refl), tt);
+      after = refl;
     }
 
--- the step of a rule
-rule_lawful : (env : Environment) (t : Term) (bs : List Binding) (found : FieldKey → Option BindingId) (counts : Shown → Option ℕ) (inners : ℕ → Option BindingId) → FindsFields bs found counts → FindsInners bs inners → EachOnce (paths_of bs)
-    → AreFieldsTyped env t bs → (f : FlatRule) (more : Block) → IsSerializableRule env t (paths_of bs) f → (no_tests f.constraints f.equals ≡ true → more ≡ Stop) → IsLawfulBlock (setting env t bs) more
-    → IsLawfulStep env t bs [] (rule_step (shows found counts) inners f) more
-rule_lawful env t bs found counts inners finds found_inners once typed f more h stop r =
-    matched_lawful env t bs found counts finds once typed f.constraints f.equals (all_equated f.equals (last_step inners f)) [] [] more (behind_none ps) h.constraints inside stop r
-  where
-    ps : List Path
-    ps = paths_of bs
+-- what stands inside tests, behind which these are bound
+abbrev IsLawfulBehind : Environment → Term → List Binding → List Test → Behind → Type 0
+IsLawfulBehind env t bs tests inner = (bound : List ℕ) → IsBehind (paths_of bs) tests [] bound → IsLawfulStep env t bs bound (inner bound) Stop
 
-    inside : IsLawfulInside env t bs (came_behind [] (constraint_tests ps f)) f.equals (all_equated f.equals (last_step inners f))
-    inside bound rest k last l =
-        let behind = behind_fewer ps (constraint_tests ps f) (came_behind [] (constraint_tests ps f)) [] bound (λ x j. came_holds [] (constraint_tests ps f) x (inr j)) k in
-        equated_lawful f.equals (last_step inners f) env t bs (constraint_tests ps f) bound rest behind h.equals (last_lawful env t bs inners f bound found_inners once h behind) last l
+-- equalities round it
+equated_lawful : (es : List (BindingId × BindingId)) (last : Behind) (env : Environment) (t : Term) (bs : List Binding) (tests : List Test) (bound : List ℕ) (more : Block) → IsBehind (paths_of bs) tests [] bound
+    → AllByRecursion (AreComparable env t (paths_of bs) tests) es → IsLawfulBehind env t bs tests last → (no_tests [] es ≡ true → more ≡ Stop) → IsLawfulFrom (setting env t bs) bound [] more → IsLawfulStep env t bs bound (all_equated bs es last bound) more
+equated_lawful [] last env t bs tests bound more k h l stop r = subst (IsLawfulStep env t bs bound (last bound)) (sym (stop refl)) (l bound k)
+equated_lawful (e ∷ es) last env t bs tests bound more k h l stop r =
+    let one : AreComparable env t (paths_of bs) tests e = h.0 in
+    let reads = e.0 ∷ e.1 ∷ [] in
+    let ns = needs bs bound reads in
+    let behind = bound_by bound ns in
+    let all = needs_read env t bs tests [] bound reads (one.ty ∷ one.ty ∷ []) k (one.left, (one.right, tt)) (one.left_stands, (one.right_stands, tt)) in
+    let read = all_read_as (setting env t bs) behind (one.ty ∷ one.ty ∷ []) (one.left, (one.right, tt)) all.read in
+    let body = equated_lawful es last env t bs tests behind Stop (behind_grows (paths_of bs) tests [] bound behind (by_kept ns bound) k) h.1 l (λ _. refl) tt in
+    needs_lawful env t bs bound reads (all_equated bs (e ∷ es) last bound).1 more all.binds ((one.ty, read.0, read.1.0), body.lawful) body.after r
 
-steps_lawful : (env : Environment) (t : Term) (bs : List Binding) (found : FieldKey → Option BindingId) (counts : Shown → Option ℕ) (inners : ℕ → Option BindingId) → FindsFields bs found counts → FindsInners bs inners → EachOnce (paths_of bs)
-    → AreFieldsTyped env t bs → (fs : List FlatRule) → AllByRecursion (IsSerializableRule env t (paths_of bs)) fs → IsLawfulBlock (setting env t bs) (block_of (chain_steps (shows found counts) inners fs))
-steps_lawful env t bs found counts inners finds found_inners once typed [] h = tt
-steps_lawful env t bs found counts inners finds found_inners once typed (f ∷ fs) h =
-    (rule_lawful env t bs found counts inners finds found_inners once typed f (block_of (cond (no_tests f.constraints f.equals) [] (chain_steps (shows found counts) inners fs))) h.0
-    (last (no_tests f.constraints f.equals)) (rest (no_tests f.constraints f.equals) (steps_lawful env t bs found counts inners finds found_inners once typed fs h.1))).lawful
-  where
-    last : (b : Bool) → b ≡ true → block_of (cond b [] (chain_steps (shows found counts) inners fs)) ≡ Stop
-    last true e = refl
-    last false e = cc
+-- ---- constraints
 
-    rest : (b : Bool) → IsLawfulBlock (setting env t bs) (block_of (chain_steps (shows found counts) inners fs)) → IsLawfulBlock (setting env t bs) (block_of (cond b [] (chain_steps (shows found counts) inners fs)))
-    rest true r = tt
-    rest false r = r
+-- a test that may stand behind what its source is read with
+record IsTestReady (env : Environment) (t : Term) (bs : List Binding) (bound : List ℕ) (source : BindingId) (c : Constraint) (places : List (Option BindingId)) : Type 0 where
+  binds : AreBindable (setting env t bs) bound (needs bs bound (source ∷ []))
+  over : Source
+  read : IsReadIn (setting env t bs) (bound_by bound (needs bs bound (source ∷ []))) source over
+  constraint' : IsConstraintOver env c over
+  places' : ArePlacesOf (setting env t bs) source c places
+  there : IsThere (at (paths_of bs) source)
 
-pub chain_lawful : (env : Environment) (t : Term) (bs : List Binding) (found : FieldKey → Option BindingId) (counts : Shown → Option ℕ) (inners : ℕ → Option BindingId) → FindsFields bs found counts → FindsInners bs inners → EachOnce (paths_of bs)
-    → AreFieldsTyped env t bs → (fs : List FlatRule) → AllByRecursion (IsSerializableRule env t (paths_of bs)) fs → IsLawfulBlock (setting env t bs) (chain (shows found counts) inners fs)
-chain_lawful env t bs found counts inners finds found_inners once typed fs h = steps_lawful env t bs found counts inners finds found_inners once typed (by_priority fs) (all_in_order (IsSerializableRule env t (paths_of bs)) fs h)
+module _ (env : Environment) (t : Term) (bs : List Binding) (found : FieldKey → Option BindingId) (counts : Shown → Option ℕ) (inners : ℕ → Option BindingId) (finds : FindsFields bs found counts) (found_inners : FindsInners bs inners)
+    (once : EachOnce (paths_of bs)) (typed : AreFieldsTyped env t bs) where
+  value_ready : (tests : List Test) (bound : List ℕ) (source : BindingId) (c : Constraint) → IsBehind (paths_of bs) tests [] bound → IsValueTest env t (at (paths_of bs) source) c → StandsOn tests [] (at (paths_of bs) source)
+      → IsTestReady env t bs bound source c (shows found counts inners source c)
+  value_ready tests bound source c k h st =
+      let s = setting env t bs in
+      let r = needs_read env t bs tests [] bound (source ∷ []) (h.ty ∷ []) k (h.path, tt) (st, tt) in
+      record {
+        binds = r.binds;
+        over = AValue h.ty;
+        read = record { path = h.path; read = first_read s (bound_by bound (needs bs bound (source ∷ []))) r.read };
+        constraint' = h.constraint;
+        places' = fields_lawful env t bs found counts inners finds typed source c h.ty h.path h.constraint;
+        there = path_there env t (at (paths_of bs) source) h.ty h.path;
+      }
+
+  test_ready : (tests : List Test) (bound : List ℕ) (source : BindingId) (c : Constraint) → IsBehind (paths_of bs) tests [] bound → IsTest env t (at (paths_of bs) source) c → StandsOn tests [] (at (paths_of bs) source)
+      → IsTestReady env t bs bound source c (shows found counts inners source c)
+  test_ready tests bound source constraint.Some k h st =
+      let r = option_needs env t bs tests [] bound source h.0 k h.1 st in
+      record {
+        binds = r.binds;
+        over = AnOption h.0;
+        read = record { path = h.1; bound' = r.there };
+        constraint' = refl;
+        places' = inner_lawful env t bs inners found_inners source;
+        there = option_there env t (at (paths_of bs) source) h.0 h.1;
+      }
+  test_ready tests bound source (constraint.ConstBool val) k h st = value_ready tests bound source (constraint.ConstBool val) k h st
+  test_ready tests bound source (constraint.ConstInt val of) k h st = value_ready tests bound source (constraint.ConstInt val of) k h st
+  test_ready tests bound source (constraint.ConstPrim val) k h st = value_ready tests bound source (constraint.ConstPrim val) k h st
+  test_ready tests bound source (constraint.Variant of variant) k h st = value_ready tests bound source (constraint.Variant of variant) k h st
+  test_ready tests bound source (constraint.Struct of) k h st = value_ready tests bound source (constraint.Struct of) k h st
+
+  -- what is inside all arms is lawful before any steps, where it has a test or none follow it
+  abbrev IsLawfulInside : List Test → List (BindingId × BindingId) → Behind → Type 0
+  IsLawfulInside tests es inner = (bound : List ℕ) (more : Block) → IsBehind (paths_of bs) tests [] bound → (no_tests [] es ≡ true → more ≡ Stop) → IsLawfulFrom (setting env t bs) bound [] more → IsLawfulStep env t bs bound (inner bound) more
+
+  -- and constraints round these
+  matched_lawful : (cs : List (BindingId × Constraint)) (es : List (BindingId × BindingId)) (inner : Behind) (tests : List Test) (bound : List ℕ) (more : Block) → IsBehind (paths_of bs) tests [] bound → AreTestable env t (paths_of bs) tests cs
+      → IsLawfulInside (came_behind tests (map (is_test (paths_of bs)) cs)) es inner → (no_tests cs es ≡ true → more ≡ Stop) → IsLawfulFrom (setting env t bs) bound [] more → IsLawfulStep env t bs bound (all_matched bs (shows found counts inners) cs inner bound) more
+  matched_lawful [] es inner tests bound more k h l stop r = l bound more k stop r
+  matched_lawful (c ∷ cs) es inner tests bound more k h l stop r =
+      let ps = paths_of bs in
+      let ns = needs bs bound (c.0 ∷ []) in
+      let behind = bound_by bound ns in
+      let places = shows found counts inners c.0 c.1 in
+      let within = bound_within behind places in
+      let ready = test_ready tests bound c.0 c.1 k h.0.test h.0.stands in
+      let inside = behind_test bs found counts inners finds found_inners once tests behind c ready.there (behind_grows ps tests [] bound behind (by_kept ns bound) k) in
+      let body = matched_lawful cs es inner (is_test ps c ∷ tests) within Stop inside h.1 l (λ _. refl) tt in
+      let after : after_arms env ps [] (Arm c.1 places (alone (all_matched bs (shows found counts inners) cs inner within)) NoArm) ≡ [] = ap (λ ks. ks ++ []) body.after in
+      needs_lawful env t bs bound (c.0 ∷ []) (all_matched bs (shows found counts inners) (c ∷ cs) inner bound).1 more ready.binds (tt, (ready.over, ready.read, (ready.constraint', ready.places', body.lawful, tt))) after r
+
+  -- the step of a rule
+  rule_lawful : (f : FlatRule) (more : Block) → IsSerializableRule env t (paths_of bs) f → (no_tests f.constraints f.equals ≡ true → more ≡ Stop) → IsLawfulBlock (setting env t bs) more
+      → IsLawfulStep env t bs [] (rule_step bs (shows found counts inners) inners f) more
+  rule_lawful f more h stop r = matched_lawful f.constraints f.equals (all_equated bs f.equals (last_step bs inners f)) [] [] more (behind_none ps) h.constraints inside stop r
+    where
+      ps : List Path
+      ps = paths_of bs
+
+      inside : IsLawfulInside (came_behind [] (constraint_tests ps f)) f.equals (all_equated bs f.equals (last_step bs inners f))
+      inside bound rest k last l =
+          let behind = behind_fewer ps (constraint_tests ps f) (came_behind [] (constraint_tests ps f)) [] bound (λ x j. came_holds [] (constraint_tests ps f) x (inr j)) k in
+          equated_lawful f.equals (last_step bs inners f) env t bs (constraint_tests ps f) bound rest behind h.equals (λ bound' k'. last_lawful env t bs inners f bound' found_inners once h k') last l
+
+  steps_lawful : (fs : List FlatRule) → AllByRecursion (IsSerializableRule env t (paths_of bs)) fs → IsLawfulBlock (setting env t bs) (block_of (chain_steps bs (shows found counts inners) inners fs))
+  steps_lawful [] h = tt
+  steps_lawful (f ∷ fs) h =
+      (rule_lawful f (block_of (cond (no_tests f.constraints f.equals) [] (chain_steps bs (shows found counts inners) inners fs))) h.0 (last (no_tests f.constraints f.equals)) (rest (no_tests f.constraints f.equals) (steps_lawful fs h.1))).lawful
+    where
+      last : (b : Bool) → b ≡ true → block_of (cond b [] (chain_steps bs (shows found counts inners) inners fs)) ≡ Stop
+      last true e = refl
+      last false e = cc
+
+      rest : (b : Bool) → IsLawfulBlock (setting env t bs) (block_of (chain_steps bs (shows found counts inners) inners fs)) → IsLawfulBlock (setting env t bs) (block_of (cond b [] (chain_steps bs (shows found counts inners) inners fs)))
+      rest true r = tt
+      rest false r = r
+
+  pub chain_lawful : (fs : List FlatRule) → AllByRecursion (IsSerializableRule env t (paths_of bs)) fs → IsLawfulBlock (setting env t bs) (chain bs (shows found counts inners) inners fs)
+  chain_lawful fs h = steps_lawful (by_priority fs) (all_in_order (IsSerializableRule env t (paths_of bs)) fs h)
 
 -- ---- single arms
 
-equated_single : (es : List (BindingId × BindingId)) (inner : SeenStep) → IsSingle inner.1 → IsSingle (all_equated es inner).1
-equated_single [] inner h = h
-equated_single (e ∷ es) inner h = (equated_single es inner h, tt)
+equated_single : (bs : List Binding) (es : List (BindingId × BindingId)) (inner : Behind) → ((bound : List ℕ) → IsSingle (inner bound).1) → (bound : List ℕ) → IsSingle (all_equated bs es inner bound).1
+equated_single bs [] inner h bound = h bound
+equated_single bs (e ∷ es) inner h bound = (equated_single bs es inner h (bound_by bound (needs bs bound (e.0 ∷ e.1 ∷ []))), tt)
 
-matched_single : (places : Shows) (cs : List (BindingId × Constraint)) (inner : SeenStep) → IsSingle inner.1 → IsSingle (all_matched places cs inner).1
-matched_single places [] inner h = h
-matched_single places (c ∷ cs) inner h = (matched_single places cs inner h, tt)
+matched_single : (bs : List Binding) (places : Shows) (cs : List (BindingId × Constraint)) (inner : Behind) → ((bound : List ℕ) → IsSingle (inner bound).1) → (bound : List ℕ) → IsSingle (all_matched bs places cs inner bound).1
+matched_single bs places [] inner h bound = h bound
+matched_single bs places (c ∷ cs) inner h bound = (matched_single bs places cs inner h (bound_within (bound_by bound (needs bs bound (c.0 ∷ []))) (places c.0 c.1)), tt)
 
-steps_single : (places : Shows) (inners : ℕ → Option BindingId) (fs : List FlatRule) → HasSingleArms (block_of (chain_steps places inners fs))
-steps_single places inners [] = tt
-steps_single places inners (f ∷ fs) = (matched_single places f.constraints (all_equated f.equals (last_step inners f)) (equated_single f.equals (last_step inners f) tt), one (no_tests f.constraints f.equals) (steps_single places inners fs))
+steps_single : (bs : List Binding) (places : Shows) (inners : ℕ → Option BindingId) (fs : List FlatRule) → HasSingleArms (block_of (chain_steps bs places inners fs))
+steps_single bs places inners [] = tt
+steps_single bs places inners (f ∷ fs) =
+    (matched_single bs places f.constraints (all_equated bs f.equals (last_step bs inners f)) (equated_single bs f.equals (last_step bs inners f) (λ bound. tt)) [], one (no_tests f.constraints f.equals) (steps_single bs places inners fs))
   where
-    one : (b : Bool) → HasSingleArms (block_of (chain_steps places inners fs)) → HasSingleArms (block_of (cond b [] (chain_steps places inners fs)))
+    one : (b : Bool) → HasSingleArms (block_of (chain_steps bs places inners fs)) → HasSingleArms (block_of (cond b [] (chain_steps bs places inners fs)))
     one true h = tt
     one false h = h
 
 -- each Match of a chain has one arm
-pub chain_single : (places : Shows) (inners : ℕ → Option BindingId) (fs : List FlatRule) → HasSingleArms (chain places inners fs)
-chain_single places inners fs = steps_single places inners (by_priority fs)
+pub chain_single : (bs : List Binding) (places : Shows) (inners : ℕ → Option BindingId) (fs : List FlatRule) → HasSingleArms (chain bs places inners fs)
+chain_single bs places inners fs = steps_single bs places inners (by_priority fs)

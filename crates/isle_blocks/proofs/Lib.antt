@@ -1,10 +1,15 @@
 pub mod PushedLists
+pub mod PushedBinds
 pub mod InnerLaws
 pub mod FieldLaws
 pub mod PathTypes
 pub mod FieldPlaces
 pub mod LawOrder
 pub mod LawFirst
+pub mod MoreBound
+pub mod NeededRuns
+pub mod Behind
+pub mod NeededBound
 pub mod LawBinds
 pub mod LawBound
 pub mod LawChain

@@ -1,6 +1,7 @@
 -- The steps of rules, one for each.
 use Rattle.std.specs.Prelude.{ℕ, List, [], ◌∷◌, Bool, true, false, Option, if◌then◌else◌}
 use Rattle.isle_core.specs.declared.BindingId.{BindingId}
+use Rattle.isle_core.specs.declared.rule_sets.Binding.{Binding}
 use Rattle.isle_core.specs.declared.rule_sets.Constraint.{Constraint}
 use Rattle.isle_core.specs.declared.rule_sets.FlatRule.{FlatRule}
 use Rattle.isle_core.specs.Block.{Block}
@@ -15,10 +16,10 @@ no_tests [] (e ∷ es) = false
 no_tests (c ∷ cs) es = false
 
 -- the steps of rules in order, up to the first rule without tests: nothing behind it is reached
-abbrev pub chain_steps : Shows → (ℕ → Option BindingId) → List FlatRule → List SeenStep
-chain_steps shows inners [] = []
-chain_steps shows inners (f ∷ fs) = rule_step shows inners f ∷ (if no_tests f.constraints f.equals then [] else chain_steps shows inners fs)
+abbrev pub chain_steps : List Binding → Shows → (ℕ → Option BindingId) → List FlatRule → List SeenStep
+chain_steps bs shows inners [] = []
+chain_steps bs shows inners (f ∷ fs) = rule_step bs shows inners f ∷ (if no_tests f.constraints f.equals then [] else chain_steps bs shows inners fs)
 
 -- the block of the rules of a set
-abbrev pub chain : Shows → (ℕ → Option BindingId) → List FlatRule → Block
-chain shows inners fs = block_of (chain_steps shows inners (by_priority fs))
+abbrev pub chain : List Binding → Shows → (ℕ → Option BindingId) → List FlatRule → Block
+chain bs shows inners fs = block_of (chain_steps bs shows inners (by_priority fs))

@@ -85,6 +85,11 @@ shown_by source (constraint.ConstInt val ty) = None
 shown_by source (constraint.ConstPrim val) = None
 shown_by source constraint.Some = None
 
+-- the one place of an option: its inner value, where that is a binding
+abbrev pub inner_place : Option BindingId → List (Option BindingId)
+inner_place None = []
+inner_place (Some b) = Some b ∷ []
+
 -- the bindings of the first fields of what is shown
 abbrev pub first_places : (ℕ → Option BindingId) → ℕ → List (Option BindingId)
 first_places found zero = []
@@ -96,9 +101,14 @@ places_of found counts None = []
 places_of found counts (Some s) = first_places (λ field. found (s, field)) (unwrap_or (counts s) 0)
 
 -- the places of a constraint on a source
-abbrev pub shows : (FieldKey → Option BindingId) → (Shown → Option ℕ) → BindingId → Constraint → List (Option BindingId)
-shows found counts source c = places_of found counts (shown_by source c)
+abbrev pub shows : (FieldKey → Option BindingId) → (Shown → Option ℕ) → (inners : ℕ → Option BindingId) → BindingId → Constraint → List (Option BindingId)
+shows found counts inners source constraint.Some = inner_place (inners source.0)
+shows found counts inners source (constraint.Variant ty variant) = places_of found counts (shown_by source (constraint.Variant ty variant))
+shows found counts inners source (constraint.Struct ty) = places_of found counts (shown_by source (constraint.Struct ty))
+shows found counts inners source (constraint.ConstBool val) = []
+shows found counts inners source (constraint.ConstInt val ty) = []
+shows found counts inners source (constraint.ConstPrim val) = []
 
 -- the same of the code's maps
-abbrev pub places : Fields → BindingId → Constraint → List (Option BindingId)
-places fields = shows (get key_cmp fields.found) (get shown_cmp fields.counts)
+abbrev pub places : Fields → (inners : ℕ → Option BindingId) → BindingId → Constraint → List (Option BindingId)
+places fields inners = shows (get key_cmp fields.found) (get shown_cmp fields.counts) inners

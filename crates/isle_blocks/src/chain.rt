@@ -1,6 +1,4 @@
 ghost use Rattle.std.specs.Prelude.{◌≡◌, IfOk, [], false, map, List as ListOf};
-ghost use Rattle.std.specs.Ordering.{nat_cmp};
-ghost use Rattle.std.specs.BTreeMap.{get};
 ghost use Rattle.isle_core.specs.declared.types.ReturnKind.{ReturnKind};
 ghost use Rattle.isle_core.specs.declared.types.Term.{Term};
 ghost use Rattle.isle_core.specs.Value.{Value};
@@ -16,16 +14,16 @@ ghost use Rattle.isle_core.specs.BlockLawful.{IsLawfulBlock};
 ghost use Rattle.isle_core.specs.Serializable.{IsSerializable};
 ghost use Rattle.isle_core.specs.Setting.{setting};
 ghost use Rattle.isle_core.specs.SingleArms.{HasSingleArms};
-ghost use Rattle.isle_blocks.specs.Fields.{places};
+ghost use Rattle.isle_blocks.specs.Tables.{shows_in, inners_in};
 ghost use Rattle.isle_blocks.specs.Chain as Chain;
 
-use crate::fields::{Fields, fields_of};
+use crate::fields::fields_of;
 use crate::inners::inner_values;
 use crate::nest::rule_step;
 use crate::order::in_order;
-use isle_core::{BindingId, Block, EvalStep, FlatRule, List, OutOfMemory, RuleSet};
+use crate::tables::Tables;
+use isle_core::{Block, EvalStep, FlatRule, List, OutOfMemory, RuleSet};
 use std::alloc::{AllocError, Global};
-use std::collections::BTreeMap;
 
 // Whether a rule has neither a constraint nor an equality.
 fn is_untested(rule: &FlatRule) -> bool
@@ -37,15 +35,14 @@ fn is_untested(rule: &FlatRule) -> bool
 // The steps of rules in order, up to the first one without tests.
 fn chain_steps(
     alloc: Global,
-    fields: &Fields,
-    inners: &BTreeMap<usize, BindingId>,
+    tables: &Tables<'_>,
     rules: &[&FlatRule],
 ) -> Result<Vec<EvalStep>, AllocError>
-    ensures { IfOk result (λ steps. map BlockViews.step steps.items ≡ Chain.chain_steps (places fields.now) (get nat_cmp inners.now) (map (λ f. f.now) rules.now)) }
+    ensures { IfOk result (λ steps. map BlockViews.step steps.items ≡ Chain.chain_steps tables.now.bindings.now (shows_in tables.now) (inners_in tables.now) (map (λ f. f.now) rules.now)) }
 {
     let mut steps = Vec::new(alloc);
     for rule in rules {
-        steps.push(rule_step(alloc, fields, inners, rule)?)?;
+        steps.push(rule_step(alloc, tables, rule)?)?;
         if is_untested(rule) {
             return Ok(steps);
         }
@@ -55,16 +52,11 @@ fn chain_steps(
 
 // The steps of the rules, highest priority first.
 #[tactic(auto, using(isle_core::proofs::SeesBlocks::sees_blocks))]
-fn chained(
-    alloc: Global,
-    fields: &Fields,
-    inners: &BTreeMap<usize, BindingId>,
-    rules: &[FlatRule],
-) -> Result<Block, AllocError>
-    ensures { IfOk result (λ b. BlockViews.block b ≡ Chain.chain (places fields.now) (get nat_cmp inners.now) rules.now) }
+fn chained(alloc: Global, tables: &Tables<'_>, rules: &[FlatRule]) -> Result<Block, AllocError>
+    ensures { IfOk result (λ b. BlockViews.block b ≡ Chain.chain tables.now.bindings.now (shows_in tables.now) (inners_in tables.now) rules.now) }
 {
     let order = in_order(alloc, rules)?;
-    let steps = chain_steps(alloc, fields, inners, order.as_slice())?;
+    let steps = chain_steps(alloc, tables, order.as_slice())?;
     Ok(Block {
         steps: List::new(steps),
     })
@@ -84,5 +76,10 @@ pub fn serialize(alloc: Global, rules: &RuleSet, iterator: bool) -> Result<Block
 {
     let fields = fields_of(alloc, rules.bindings.as_slice())?;
     let inners = inner_values(alloc, rules.bindings.as_slice())?;
-    Ok(chained(alloc, &fields, &inners, rules.rules.as_slice())?)
+    let tables = Tables {
+        bindings: rules.bindings.as_slice(),
+        fields: &fields,
+        inners: &inners,
+    };
+    Ok(chained(alloc, &tables, rules.rules.as_slice())?)
 }

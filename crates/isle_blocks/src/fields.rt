@@ -122,14 +122,15 @@ impl Fields {
         Ok(places)
     }
 
-    /// Returns the bindings of a constraint's fields up to the last one that has one. The only error is want of memory.
+    /// Returns the bindings of the fields that a constraint shows, up to the last one that has one. The only error is want of
+    /// memory.
     pub fn places(
         &self,
         alloc: Global,
         source: BindingId,
         constraint: Constraint,
     ) -> Result<Vec<Option<BindingId>>, AllocError>
-        ensures { IfOk result (λ places. places.items ≡ FieldsOf.places self.now source constraint) }
+        ensures { IfOk result (λ places. places.items ≡ FieldsOf.places_of (get FieldsOf.key_cmp self.now.found) (get FieldsOf.shown_cmp self.now.counts) (FieldsOf.shown_by source constraint)) }
     {
         match shown_by(source, constraint) {
             None => Ok(Vec::new(alloc)),

@@ -4,7 +4,9 @@
 mod chain;
 mod fields;
 mod inners;
+mod needed;
 mod nest;
 mod order;
+mod tables;
 
 pub use chain::serialize;

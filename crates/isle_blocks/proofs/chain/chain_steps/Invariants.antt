@@ -1,11 +1,11 @@
 use Rattle.std.proofs.Common.{◌≡◌, ◌++◌, drop, map}
-use Rattle.std.specs.Ordering.{nat_cmp}
-use Rattle.std.specs.BTreeMap.{get}
 use Rattle.isle_core.specs.BlockViews.{step}
-use Rattle.isle_blocks.specs.Fields.{places}
+use Rattle.isle_blocks.specs.Tables.{shows_in, inners_in}
 use Rattle.isle_blocks.specs.Chain.{chain_steps}
 use Rattle.isle_blocks.proofs.LawOrder.{shown}
 use Rattle.isle_blocks.proofs.chain.chain_steps.Given as goal
 
 abbrev pub invariant-loop-rule : goal.invariant-loop-rule
-invariant-loop-rule l = map step l.steps.items ++ chain_steps (places l.fields) (get nat_cmp l.inners) (map shown (drop l.rule-index l.rules)) ≡ chain_steps (places l.fields) (get nat_cmp l.inners) (map shown l.rules)
+invariant-loop-rule l =
+    let t = l.tables in
+    map step l.steps.items ++ chain_steps t.bindings.now (shows_in t) (inners_in t) (map shown (drop l.rule-index l.rules)) ≡ chain_steps t.bindings.now (shows_in t) (inners_in t) (map shown l.rules)

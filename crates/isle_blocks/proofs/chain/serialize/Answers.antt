@@ -24,8 +24,9 @@ returns-clause-means c = λ env m t args kind h.
     let inners : ℕ → Option BindingId = get nat_cmp c.in_ok-inners.inners in
     let fields = c.in_ok-fields.fields in
     let found : FindsInners s.bindings inners = subst (λ bs. FindsInners bs inners) c.as_slice-2.ensures c.in_ok-inners.ensures in
-    let is_chain : block c.in_ok-chained.field-0 ≡ chain (places fields) inners s.rules = c.in_ok-chained.ensures ∙ ap (chain (places fields) inners) c.as_slice-3.ensures in
-    ap (λ b. block_outcome env m args (paths_of s.bindings) b kind) is_chain ∙ chain_means (places fields) env t m args s.bindings inners kind found h.once s.rules h.rules
+    let shows = places fields inners in
+    let is_chain : block c.in_ok-chained.field-0 ≡ chain s.bindings shows inners s.rules = c.in_ok-chained.ensures ∙ ap (λ bs. chain bs shows inners c.as_slice-4.result.now) c.as_slice-3.ensures ∙ ap (chain s.bindings shows inners) c.as_slice-4.ensures in
+    ap (λ b. block_outcome env m args (paths_of s.bindings) b kind) is_chain ∙ chain_means shows env t m args s.bindings inners kind found h.once s.rules h.rules
 
 pub returns-clause-lawful : goal.returns-clause-lawful
 returns-clause-lawful c = λ env t h.
@@ -33,7 +34,8 @@ returns-clause-lawful c = λ env t h.
     let inners : ℕ → Option BindingId = get nat_cmp c.in_ok-inners.inners in
     let fields = c.in_ok-fields.fields in
     let found : FindsInners s.bindings inners = subst (λ bs. FindsInners bs inners) c.as_slice-2.ensures c.in_ok-inners.ensures in
-    let is_chain : block c.in_ok-chained.field-0 ≡ chain (places fields) inners s.rules = c.in_ok-chained.ensures ∙ ap (chain (places fields) inners) c.as_slice-3.ensures in
+    let shows = places fields inners in
+    let is_chain : block c.in_ok-chained.field-0 ≡ chain s.bindings shows inners s.rules = c.in_ok-chained.ensures ∙ ap (λ bs. chain bs shows inners c.as_slice-4.result.now) c.as_slice-3.ensures ∙ ap (chain s.bindings shows inners) c.as_slice-4.ensures in
     let finds : FindsFields s.bindings (get key_cmp fields.found) (get shown_cmp fields.counts) = subst (λ bs. FindsFields bs (get key_cmp fields.found) (get shown_cmp fields.counts)) c.as_slice.ensures c.in_ok-fields.ensures in
     subst (IsLawfulBlock (setting env t s.bindings)) (sym is_chain) (chain_lawful env t s.bindings (get key_cmp fields.found) (get shown_cmp fields.counts) inners finds found h.once h.fields s.rules h.rules)
 
@@ -42,7 +44,9 @@ returns-clause-single c =
     let s = c.args.rules.now in
     let inners : ℕ → Option BindingId = get nat_cmp c.in_ok-inners.inners in
     let fields = c.in_ok-fields.fields in
-    subst HasSingleArms (sym (c.in_ok-chained.ensures ∙ ap (chain (places fields) inners) c.as_slice-3.ensures)) (chain_single (places fields) inners s.rules)
+    let shows = places fields inners in
+    let is_chain : block c.in_ok-chained.field-0 ≡ chain s.bindings shows inners s.rules = c.in_ok-chained.ensures ∙ ap (λ bs. chain bs shows inners c.as_slice-4.result.now) c.as_slice-3.ensures ∙ ap (chain s.bindings shows inners) c.as_slice-4.ensures in
+    subst HasSingleArms (sym is_chain) (chain_single s.bindings shows inners s.rules)
 
 pub returns-clause-positions : goal.returns-clause-positions
 returns-clause-positions c = λ env m t args h.
@@ -50,5 +54,6 @@ returns-clause-positions c = λ env m t args h.
     let inners : ℕ → Option BindingId = get nat_cmp c.in_ok-inners.inners in
     let fields = c.in_ok-fields.fields in
     let found : FindsInners s.bindings inners = subst (λ bs. FindsInners bs inners) c.as_slice-2.ensures c.in_ok-inners.ensures in
-    let is_chain : block c.in_ok-chained.field-0 ≡ chain (places fields) inners s.rules = c.in_ok-chained.ensures ∙ ap (chain (places fields) inners) c.as_slice-3.ensures in
-    ap (λ b. block_position env m args (paths_of s.bindings) b nothing_known []) is_chain ∙ chain_positions (places fields) env t m args s.bindings inners found h.once s.rules h.rules
+    let shows = places fields inners in
+    let is_chain : block c.in_ok-chained.field-0 ≡ chain s.bindings shows inners s.rules = c.in_ok-chained.ensures ∙ ap (λ bs. chain bs shows inners c.as_slice-4.result.now) c.as_slice-3.ensures ∙ ap (chain s.bindings shows inners) c.as_slice-4.ensures in
+    ap (λ b. block_position env m args (paths_of s.bindings) b nothing_known []) is_chain ∙ chain_positions shows env t m args s.bindings inners found h.once s.rules h.rules

@@ -1,0 +1,236 @@
+-- What is needed may be bound, and then what needs it may be read.
+use Rattle.std.proofs.Common.{◌≡◌, ℕ, zero, suc, ◌<◌, List, [], ◌∷◌, ◌++◌, length, get_or, take, Bool, true, false, cond, eqb, Option, Some, None, refl, sym, ap, ◌∙◌, subst, arith}
+use Rattle.std.specs.Prelude.{◌||◌, slice_get, IsSomeAnd, Contains}
+use Rattle.std.specs.List.{AllByRecursion, list_any}
+use Rattle.std.proofs.lemmas.Bool.{eqb-true}
+use Rattle.std.proofs.lemmas.List.{append-nil}
+use Rattle.std.proofs.lemmas.List.Elements.{Contains-push}
+use Rattle.std.proofs.lemmas.Option.{slice_get_within}
+use Rattle.isle_core.specs.declared.BindingId.{BindingId}
+use Rattle.isle_core.specs.declared.TermId.{TermId}
+use Rattle.isle_core.specs.declared.TypeId.{TypeId}
+use Rattle.isle_core.specs.declared.rule_sets.Binding.{Binding}
+use Rattle.isle_core.specs.declared.rule_sets.Binding.TheVariants as binding
+use Rattle.isle_core.specs.declared.types.ReturnKind.{ReturnKind}
+use Rattle.isle_core.specs.declared.types.ReturnKind.TheVariants as return_kind
+use Rattle.isle_core.specs.declared.types.Term.{Term}
+use Rattle.isle_core.specs.Bindable.{IsBindable, IsExtractorBound, AreBindable, bound_by}
+use Rattle.isle_core.specs.Calling.{extracting}
+use Rattle.isle_core.specs.ExternalCall.{IsExtraction}
+use Rattle.isle_core.specs.Form.{Form, form, form_types}
+use Rattle.isle_core.specs.Making.{MakesVariant, MakesStruct}
+use Rattle.isle_core.specs.Path.{Path, Nowhere, Called, Extracted, Inner, Paths, at, at_all, path_over, paths_of}
+use Rattle.isle_core.specs.PathType.{IsPathOf, IsOptionOf, ArePathsOf}
+use Rattle.isle_core.specs.Readable.{IsReadable, is_bound as bound_read, argument, truth, number, named, made_struct, AreReadable, none_read, one_read}
+use Rattle.isle_core.specs.Rule.{Environment}
+use Rattle.isle_core.specs.Serializable.{StandsOn, AllStandOn, StandsWithin}
+use Rattle.isle_core.specs.Setting.{Setting, setting}
+use Rattle.isle_core.specs.Tests.{Test}
+use Rattle.isle_core.proofs.BindingPaths.{IsThere, AreThere, HasParts, at_before, path_at, binding_at, path_there, paths_there, option_there, typed_parts, option_parts}
+use Rattle.isle_blocks.specs.Needed.{parts_of, is_bound, each_needed, with_parts, needed, needs}
+use Rattle.isle_blocks.proofs.Behind.{IsBehind, behind_grows}
+use Rattle.isle_blocks.proofs.MoreBound.{by_kept, still_read, bindable_append}
+use Rattle.isle_blocks.proofs.PushedBinds.{bound_append}
+
+-- ---- marks
+
+pub contained : (ls : List ℕ) (n : ℕ) → list_any (λ m. eqb m n) ls ≡ true → Contains ls n
+contained [] n e = absurd cc
+contained (l ∷ ls) n e = one (eqb l n) refl e (λ k. contained ls n k)
+  where
+    one : (x : Bool) → eqb l n ≡ x → (x || list_any (λ m. eqb m n) ls) ≡ true → (list_any (λ m. eqb m n) ls ≡ true → Contains ls n) → Contains (l ∷ ls) n
+    one true is h rest = (zero, omega arith, eqb-true l n is)
+    one false is h rest = let c = rest h in (suc c.0, omega (arith, c.1), c.2)
+
+-- ---- parts stand before what is made over them
+
+below_there : (ps : List Path) (n i : ℕ) → IsThere (get_or (take n ps) i Nowhere) → i < n
+below_there ps zero i h = absurd h
+below_there [] (suc n) i h = absurd h
+below_there (p ∷ ps) (suc n) zero h = omega arith
+below_there (p ∷ ps) (suc n) (suc i) h = let r = below_there ps n i h in omega (arith, r)
+
+all_below : (ps : List Path) (n depth : ℕ) (bs : List BindingId) → n < suc depth → AreThere (at_all (take n ps) bs) → AllByRecursion (λ (b : BindingId). b.0 < depth) bs
+all_below ps n depth [] lt h = tt
+all_below ps n depth (b ∷ bs) lt h = let r = below_there ps n b.0 h.0 in (omega (arith, r, lt), all_below ps n depth bs lt h.1)
+
+within : (bs : List Binding) (b : BindingId) → IsThere (at (paths_of bs) b) → b.0 < length bs
+within bs b h = let x = binding_at bs b h in slice_get_within bs b.0 x.0 x.1
+
+all_within : (bs : List Binding) (reads : List BindingId) → AreThere (at_all (paths_of bs) reads) → AllByRecursion (λ (b : BindingId). b.0 < length bs) reads
+all_within bs [] h = tt
+all_within bs (b ∷ reads) h = (within bs b h.0, all_within bs reads h.1)
+
+-- ---- what a bind order gives
+
+-- it may stand there, and behind it this binding is bound
+pub record BindsOne (s : Setting) (bound : List ℕ) (b : BindingId) (order : List BindingId) : Type 0 where
+  pub binds : AreBindable s bound order
+  pub there : Contains (bound_by bound order) b.0
+
+-- or may be read
+pub record ReadsOne (s : Setting) (bound : List ℕ) (b : BindingId) (order : List BindingId) : Type 0 where
+  pub binds : AreBindable s bound order
+  pub read : IsReadable s (bound_by bound order) b
+
+-- or all of these may be read
+pub record ReadsAll (s : Setting) (bound : List ℕ) (reads order : List BindingId) : Type 0 where
+  pub binds : AreBindable s bound order
+  pub read : AreReadable s (bound_by bound order) reads
+
+bound_is_read : (s : Setting) (bound : List ℕ) (b : BindingId) (order : List BindingId) → BindsOne s bound b order → ReadsOne s bound b order
+bound_is_read s bound b order h = record { binds = h.binds; read = bound_read b h.there }
+
+pub first_read : {b : BindingId} {more : List BindingId} (s : Setting) (bound : List ℕ) → AreReadable s bound (b ∷ more) → IsReadable s bound b
+first_read s bound (one_read b more r rs) = r
+
+-- its parts, and then it itself
+made_binds : (s : Setting) (bound : List ℕ) (b : BindingId) (parts order : List BindingId) → ReadsAll s bound parts order
+    → (AreReadable s (bound_by bound order) parts → IsBindable s (bound_by bound order) (at (paths_of s.bindings) b) (slice_get s.bindings b.0)) → BindsOne s bound b (order ++ b ∷ [])
+made_binds s bound b parts order h k = record {
+  binds = bindable_append s order (b ∷ []) bound h.binds (k h.read, tt);
+  there = subst (λ m. Contains m b.0) (sym (bound_append bound order (b ∷ []))) (Contains-push (bound_by bound order) b.0);
+}
+
+-- what may be read already needs nothing
+read_already : (s : Setting) (bound : List ℕ) (b : BindingId) (o : Option Binding) (one : List ℕ → BindingId → List BindingId) → slice_get s.bindings b.0 ≡ o → parts_of o ≡ None → IsReadable s bound b
+    → ReadsOne s bound b (with_parts one bound b (parts_of (slice_get s.bindings b.0)))
+read_already s bound b o one e none r = subst (λ p. ReadsOne s bound b (with_parts one bound b p)) (sym (ap parts_of e ∙ none)) (record { binds = tt; read = r })
+
+-- the parts of a form that is there
+parts_typed : (env : Environment) (t : Term) (o : Option Form) (ps : Paths) → IsSomeAnd o (λ f. ArePathsOf env t ps (form_types env f)) → (tys : List TypeId) × ArePathsOf env t ps tys
+parts_typed env t None ps h = absurd h
+parts_typed env t (Some f) ps h = (form_types env f, h)
+
+-- ---- behind tests and calls
+
+module _ (env : Environment) (t : Term) (bs : List Binding) (tests : List Test) (done : List Path) where
+  -- what makes a binding readable that stands on them
+  abbrev MakesRead : ℕ → (List ℕ → BindingId → List BindingId) → Type 0
+  MakesRead depth one = (bound : List ℕ) (b : BindingId) (ty : TypeId) → IsBehind (paths_of bs) tests done bound → IsPathOf env t (at (paths_of bs) b) ty → StandsOn tests done (at (paths_of bs) b) → b.0 < depth → ReadsOne (setting env t bs) bound b (one bound b)
+
+  each_read : (depth : ℕ) (one : List ℕ → BindingId → List BindingId) (bound : List ℕ) (reads : List BindingId) (tys : List TypeId) → MakesRead depth one → IsBehind (paths_of bs) tests done bound
+      → ArePathsOf env t (at_all (paths_of bs) reads) tys → AllStandOn tests done (at_all (paths_of bs) reads) → AllByRecursion (λ (b : BindingId). b.0 < depth) reads → ReadsAll (setting env t bs) bound reads (each_needed one bound reads)
+  each_read depth one bound [] tys ok k h st below = record { binds = tt; read = none_read }
+  each_read depth one bound (b ∷ reads) [] ok k h st below = absurd h
+  each_read depth one bound (b ∷ reads) (ty ∷ tys) ok k h st below =
+      let s = setting env t bs in
+      let xs = one bound b in
+      let inner = bound_by bound xs in
+      let ys = each_needed one inner reads in
+      let r = ok bound b ty k h.0 st.0 below.0 in
+      let rest = each_read depth one inner reads tys ok (behind_grows (paths_of bs) tests done bound inner (by_kept xs bound) k) h.1 st.1 below.1 in
+      record {
+        binds = bindable_append s xs ys bound r.binds rest.binds;
+        read = subst (λ m. AreReadable s m (b ∷ reads)) (sym (bound_append bound xs ys)) (one_read b reads (still_read s inner (bound_by inner ys) (by_kept ys inner) r.read) rest.read);
+      }
+
+  -- the answer of an extractor
+  extracted_binds : (depth : ℕ) (bound : List ℕ) (b : BindingId) (term : TermId) (parameter : BindingId) (kind : ReturnKind) (ty : TypeId) (o : Option Term) → MakesRead depth (needed bs depth) → IsBehind (paths_of bs) tests done bound
+      → slice_get bs b.0 ≡ Some (binding.Extractor term parameter) → at (paths_of bs) b ≡ Extracted term (at (paths_of bs) parameter) → IsExtraction kind (extracting env term) → slice_get env.terms term.0 ≡ o
+      → IsSomeAnd o (λ (c : Term). (c.arg_tys ≡ ty ∷ []) × IsPathOf env t (at (paths_of bs) parameter) c.ret_ty) → StandsOn tests done (at (paths_of bs) parameter) → parameter.0 < depth
+      → BindsOne (setting env t bs) bound b (with_parts (needed bs depth) bound b (parts_of (slice_get bs b.0)))
+  extracted_binds depth bound b term parameter kind ty None ok k e p ext found h st below = absurd h
+  extracted_binds depth bound b term parameter kind ty (Some c) ok k e p ext found h st below =
+      let s = setting env t bs in
+      let order = each_needed (needed bs depth) bound (parameter ∷ []) in
+      let r = each_read depth (needed bs depth) bound (parameter ∷ []) (c.ret_ty ∷ []) ok k (h.1, tt) (st, tt) (below, tt) in
+      let call : AreReadable s (bound_by bound order) (parameter ∷ []) → IsExtractorBound s (bound_by bound order) (at (paths_of bs) b) term parameter =
+      λ read. record { path = p; called = c; found = found; arg = record { path = h.1; read = first_read s (bound_by bound order) read }; result = ty; one = h.0; kind = kind; external = ext } in
+      subst (λ q. BindsOne s bound b (with_parts (needed bs depth) bound b q)) (sym (ap parts_of e))
+      (made_binds s bound b (parameter ∷ []) order r (λ read. subst (IsBindable s (bound_by bound order) (at (paths_of bs) b)) (sym e) (call read)))
+
+  -- a made value over parts
+  parts_binds : (depth : ℕ) (bound : List ℕ) (b : BindingId) (x : Binding) (fields : List BindingId) (tys : List TypeId) → MakesRead depth (needed bs depth) → IsBehind (paths_of bs) tests done bound → slice_get bs b.0 ≡ Some x → parts_of (Some x) ≡ Some fields
+      → ArePathsOf env t (at_all (paths_of bs) fields) tys → AllStandOn tests done (at_all (paths_of bs) fields) → AllByRecursion (λ (f : BindingId). f.0 < depth) fields
+      → ((more : List ℕ) → AreReadable (setting env t bs) more fields → IsBindable (setting env t bs) more (at (paths_of bs) b) (Some x)) → ReadsOne (setting env t bs) bound b (with_parts (needed bs depth) bound b (parts_of (slice_get bs b.0)))
+  parts_binds depth bound b x fields tys ok k e parts h st below made =
+      let s = setting env t bs in
+      let order = each_needed (needed bs depth) bound fields in
+      let r = each_read depth (needed bs depth) bound fields tys ok k h st below in
+      subst (λ q. ReadsOne s bound b (with_parts (needed bs depth) bound b q)) (sym (ap parts_of e ∙ parts))
+      (bound_is_read s bound b (order ++ b ∷ []) (made_binds s bound b fields order r (λ read. subst (IsBindable s (bound_by bound order) (at (paths_of bs) b)) (sym e) (made (bound_by bound order) read))))
+
+  -- an inner value is bound
+  inner_bound : (bound : List ℕ) (b : BindingId) (q : Path) (ty : TypeId) → IsBehind (paths_of bs) tests done bound → at (paths_of bs) b ≡ Inner q → IsOptionOf env t q ty → StandsWithin tests done q → Contains bound b.0
+  inner_bound bound b (Called term ps instance) ty k p h st = k.inner b (Called term ps instance) p st
+  inner_bound bound b (Extracted term q) ty k p h st = k.opened b (Extracted term q) p st
+  inner_bound bound b q ty k p h st = absurd h
+
+  -- one that is not bound yet
+  unbound_read : (depth : ℕ) (bound : List ℕ) (b : BindingId) (ty : TypeId) (x : Binding) → MakesRead depth (needed bs depth) → IsBehind (paths_of bs) tests done bound → slice_get bs b.0 ≡ Some x → at (paths_of bs) b ≡ path_over (paths_of bs) x
+      → HasParts (path_over (take b.0 (paths_of bs)) x) → IsPathOf env t (at (paths_of bs) b) ty → IsPathOf env t (path_over (paths_of bs) x) ty → StandsOn tests done (path_over (paths_of bs) x) → b.0 < suc depth
+      → ReadsOne (setting env t bs) bound b (with_parts (needed bs depth) bound b (parts_of (slice_get bs b.0)))
+  unbound_read depth bound b ty (binding.Argument index) ok k e p there typed h st lt = read_already (setting env t bs) bound b (Some (binding.Argument index)) (needed bs depth) e refl (argument b index e)
+  unbound_read depth bound b ty (binding.ConstBool val of) ok k e p there typed h st lt = read_already (setting env t bs) bound b (Some (binding.ConstBool val of)) (needed bs depth) e refl (truth b val of e)
+  unbound_read depth bound b ty (binding.ConstInt val of) ok k e p there typed h st lt = read_already (setting env t bs) bound b (Some (binding.ConstInt val of)) (needed bs depth) e refl (number b val of e)
+  unbound_read depth bound b ty (binding.ConstPrim val) ok k e p there typed h st lt = read_already (setting env t bs) bound b (Some (binding.ConstPrim val)) (needed bs depth) e refl (named b val e)
+  unbound_read depth bound b ty (binding.Constructor term parameters instance) ok k e p there typed h st lt =
+      read_already (setting env t bs) bound b (Some (binding.Constructor term parameters instance)) (needed bs depth) e refl (bound_read b (k.call b (subst (Contains done) (sym p) st)))
+  unbound_read depth bound b ty (binding.MatchSome source) ok k e p there typed h st lt =
+      read_already (setting env t bs) bound b (Some (binding.MatchSome source)) (needed bs depth) e refl (bound_read b (inner_bound bound b (at (paths_of bs) source) ty k p h st))
+  unbound_read depth bound b ty (binding.MatchVariant source variant field) ok k e p there typed h st lt =
+      read_already (setting env t bs) bound b (Some (binding.MatchVariant source variant field)) (needed bs depth) e refl (bound_read b (k.variant b st.0 variant field.0 (at (paths_of bs) source) p st.1))
+  unbound_read depth bound b ty (binding.ExtractStruct source field) ok k e p there typed h st lt =
+      read_already (setting env t bs) bound b (Some (binding.ExtractStruct source field)) (needed bs depth) e refl (bound_read b (k.struct b st.0 field.0 (at (paths_of bs) source) p st.1))
+  unbound_read depth bound b ty (binding.Extractor term parameter) ok k e p there typed h st lt =
+      let below = below_there (paths_of bs) b.0 parameter.0 there in
+      bound_is_read (setting env t bs) bound b (with_parts (needed bs depth) bound b (parts_of (slice_get bs b.0)))
+      (extracted_binds depth bound b term parameter return_kind.Plain ty (slice_get env.terms term.0) ok k e p h.0 refl h.1 st (omega (arith, below, lt)))
+  unbound_read depth bound b ty (binding.MakeVariant of variant fields) ok k e p there typed h st lt =
+      let parts = parts_typed env t (form env (MakesVariant of variant)) (at_all (paths_of bs) fields) h.1 in
+      parts_binds depth bound b (binding.MakeVariant of variant fields) fields parts.0 ok k e refl parts.1 st (all_below (paths_of bs) b.0 depth fields lt there) (λ more read. record { ty = ty; path = typed; parts = read })
+  unbound_read depth bound b ty (binding.MakeStruct of []) ok k e p there typed h st lt = read_already (setting env t bs) bound b (Some (binding.MakeStruct of [])) (needed bs depth) e refl (made_struct b of [] e none_read)
+  unbound_read depth bound b ty (binding.MakeStruct of (f ∷ fs)) ok k e p there typed h st lt =
+      let parts = parts_typed env t (form env (MakesStruct of)) (at_all (paths_of bs) (f ∷ fs)) h.1 in
+      parts_binds depth bound b (binding.MakeStruct of (f ∷ fs)) (f ∷ fs) parts.0 ok k e refl parts.1 st (all_below (paths_of bs) b.0 depth (f ∷ fs) lt there) (λ more read. record { ty = ty; path = typed; parts = read })
+  unbound_read depth bound b ty (binding.Iterator source) ok k e p there typed h st lt = absurd h
+  unbound_read depth bound b ty (binding.MakeSome inner) ok k e p there typed h st lt = absurd h
+  unbound_read depth bound b ty (binding.MatchTuple source field) ok k e p there typed h st lt = absurd h
+
+  needed_read : (depth : ℕ) → MakesRead depth (needed bs depth)
+  needed_read zero bound b ty k h st lt = absurd (omega (arith, lt))
+  needed_read (suc depth) bound b ty k h st lt = one (is_bound bound b) refl (needed_read depth)
+    where
+      one : (x : Bool) → is_bound bound b ≡ x → MakesRead depth (needed bs depth) → ReadsOne (setting env t bs) bound b (cond x [] (with_parts (needed bs depth) bound b (parts_of (slice_get bs b.0))))
+      one true is ok = record { binds = tt; read = bound_read b (contained bound b.0 is) }
+      one false is ok =
+          let x = binding_at bs b (path_there env t (at (paths_of bs) b) ty h) in
+          let parts = typed_parts env t (at (paths_of bs) b) ty h in
+          let p = path_at bs b x.0 x.1 parts in
+          unbound_read depth bound b ty x.0 ok k x.1 p (subst HasParts (at_before bs b x.0 x.1) parts) h (subst (λ q. IsPathOf env t q ty) p h) (subst (StandsOn tests done) p st) lt
+
+  -- what is needed for bindings that stand there
+  pub needs_read : (bound : List ℕ) (reads : List BindingId) (tys : List TypeId) → IsBehind (paths_of bs) tests done bound → ArePathsOf env t (at_all (paths_of bs) reads) tys → AllStandOn tests done (at_all (paths_of bs) reads)
+      → ReadsAll (setting env t bs) bound reads (needs bs bound reads)
+  needs_read bound reads tys k h st = each_read (length bs) (needed bs (length bs)) bound reads tys (needed_read (length bs)) k h st (all_within bs reads (paths_there env t (at_all (paths_of bs) reads) tys h))
+
+  -- ---- options
+
+  unbound_option : (depth : ℕ) (bound : List ℕ) (b : BindingId) (ty : TypeId) (x : Binding) → IsBehind (paths_of bs) tests done bound → slice_get bs b.0 ≡ Some x → at (paths_of bs) b ≡ path_over (paths_of bs) x
+      → HasParts (path_over (take b.0 (paths_of bs)) x) → IsOptionOf env t (path_over (paths_of bs) x) ty → StandsOn tests done (path_over (paths_of bs) x) → b.0 < suc depth
+      → BindsOne (setting env t bs) bound b (with_parts (needed bs depth) bound b (parts_of (slice_get bs b.0)))
+  unbound_option depth bound b ty (binding.Constructor term parameters instance) k e p there h st lt =
+      subst (λ q. BindsOne (setting env t bs) bound b (with_parts (needed bs depth) bound b q)) (sym (ap parts_of e)) (record { binds = tt; there = k.call b (subst (Contains done) (sym p) st) })
+  unbound_option depth bound b ty (binding.Extractor term parameter) k e p there h st lt =
+      let below = below_there (paths_of bs) b.0 parameter.0 there in
+      extracted_binds depth bound b term parameter return_kind.Option ty (slice_get env.terms term.0) (needed_read depth) k e p h.0 refl h.1 st (omega (arith, below, lt))
+  unbound_option depth bound b ty x k e p there h st lt = absurd h
+
+  needed_option : (depth : ℕ) (bound : List ℕ) (b : BindingId) (ty : TypeId) → IsBehind (paths_of bs) tests done bound → IsOptionOf env t (at (paths_of bs) b) ty → StandsOn tests done (at (paths_of bs) b) → b.0 < depth
+      → BindsOne (setting env t bs) bound b (needed bs depth bound b)
+  needed_option zero bound b ty k h st lt = absurd (omega (arith, lt))
+  needed_option (suc depth) bound b ty k h st lt = one (is_bound bound b) refl
+    where
+      one : (x : Bool) → is_bound bound b ≡ x → BindsOne (setting env t bs) bound b (cond x [] (with_parts (needed bs depth) bound b (parts_of (slice_get bs b.0))))
+      one true is = record { binds = tt; there = contained bound b.0 is }
+      one false is =
+          let x = binding_at bs b (option_there env t (at (paths_of bs) b) ty h) in
+          let parts = option_parts env t (at (paths_of bs) b) ty h in
+          let p = path_at bs b x.0 x.1 parts in
+          unbound_option depth bound b ty x.0 k x.1 p (subst HasParts (at_before bs b x.0 x.1) parts) (subst (λ q. IsOptionOf env t q ty) p h) (subst (StandsOn tests done) p st) lt
+
+  -- what is needed for an option is bound with it
+  pub option_needs : (bound : List ℕ) (b : BindingId) (ty : TypeId) → IsBehind (paths_of bs) tests done bound → IsOptionOf env t (at (paths_of bs) b) ty → StandsOn tests done (at (paths_of bs) b) → BindsOne (setting env t bs) bound b (needs bs bound (b ∷ []))
+  option_needs bound b ty k h st =
+      subst (BindsOne (setting env t bs) bound b) (sym (append-nil (needed bs (length bs) bound b))) (needed_option (length bs) bound b ty k h st (within bs b (option_there env t (at (paths_of bs) b) ty h)))

@@ -1,0 +1,68 @@
+-- What is bound before bindings are read: the calls of extractors, and the made values on the way to them.
+use Rattle.std.specs.Prelude.{ℕ, zero, suc, List, [], ◌∷◌, ◌++◌, length, Bool, ◌==◌, Option, Some, None, if◌then◌else◌, slice_get}
+use Rattle.std.specs.List.{list_any}
+use Rattle.isle_core.specs.declared.BindingId.{BindingId}
+use Rattle.isle_core.specs.declared.rule_sets.Binding.{Binding}
+use Rattle.isle_core.specs.declared.rule_sets.Binding.TheVariants as binding
+use Rattle.isle_core.specs.Bindable.{bound_by}
+
+-- what a binding is made over that is bound where it is first read: the call of an extractor, or a made value; a struct without
+-- fields is read by its name
+abbrev pub parts_of : Option Binding → Option (List BindingId)
+parts_of (Some (binding.Extractor term parameter)) = Some (parameter ∷ [])
+parts_of (Some (binding.MakeVariant ty variant fields)) = Some fields
+parts_of (Some (binding.MakeStruct ty [])) = None
+parts_of (Some (binding.MakeStruct ty (f ∷ fs))) = Some (f ∷ fs)
+parts_of (Some (binding.ConstBool val ty)) = None
+parts_of (Some (binding.ConstInt val ty)) = None
+parts_of (Some (binding.ConstPrim val)) = None
+parts_of (Some (binding.Argument index)) = None
+parts_of (Some (binding.Constructor term parameters instance)) = None
+parts_of (Some (binding.Iterator source)) = None
+parts_of (Some (binding.MatchVariant source variant field)) = None
+parts_of (Some (binding.ExtractStruct source field)) = None
+parts_of (Some (binding.MakeSome inner)) = None
+parts_of (Some (binding.MatchSome source)) = None
+parts_of (Some (binding.MatchTuple source field)) = None
+parts_of None = None
+
+-- the binding is among those that are bound
+abbrev pub is_bound : List ℕ → BindingId → Bool
+is_bound bound b = list_any (λ (n : ℕ). n == b.0) bound
+
+-- what is needed for each of some bindings in order, those before being bound
+abbrev pub each_needed : (List ℕ → BindingId → List BindingId) → List ℕ → List BindingId → List BindingId
+each_needed one bound [] = []
+each_needed one bound (b ∷ bs) = one bound b ++ each_needed one (bound_by bound (one bound b)) bs
+
+-- the needed parts, and then the binding itself
+abbrev pub with_parts : (List ℕ → BindingId → List BindingId) → List ℕ → BindingId → Option (List BindingId) → List BindingId
+with_parts one bound b None = []
+with_parts one bound b (Some parts) = each_needed one bound parts ++ b ∷ []
+
+-- what is not bound yet that a binding is read with, parts first, to this depth
+abbrev pub needed : List Binding → ℕ → List ℕ → BindingId → List BindingId
+needed bs zero bound b = []
+needed bs (suc depth) bound b = if is_bound bound b then [] else with_parts (needed bs depth) bound b (parts_of (slice_get bs b.0))
+
+-- so of bindings in order; parts stand before what is made over them, so no more than all bindings are nested
+abbrev pub needs : List Binding → List ℕ → List BindingId → List BindingId
+needs bs bound reads = each_needed (needed bs (length bs)) bound reads
+
+-- what a call is made on
+abbrev pub parameters_of : Option Binding → List BindingId
+parameters_of (Some (binding.Constructor term parameters instance)) = parameters
+parameters_of (Some (binding.Extractor term parameter)) = []
+parameters_of (Some (binding.MakeVariant ty variant fields)) = []
+parameters_of (Some (binding.MakeStruct ty fields)) = []
+parameters_of (Some (binding.ConstBool val ty)) = []
+parameters_of (Some (binding.ConstInt val ty)) = []
+parameters_of (Some (binding.ConstPrim val)) = []
+parameters_of (Some (binding.Argument index)) = []
+parameters_of (Some (binding.Iterator source)) = []
+parameters_of (Some (binding.MatchVariant source variant field)) = []
+parameters_of (Some (binding.ExtractStruct source field)) = []
+parameters_of (Some (binding.MakeSome inner)) = []
+parameters_of (Some (binding.MatchSome source)) = []
+parameters_of (Some (binding.MatchTuple source field)) = []
+parameters_of None = []

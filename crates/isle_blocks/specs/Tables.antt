@@ -1,0 +1,16 @@
+-- What contracts see of what steps are made from.
+use Rattle.std.specs.Prelude.{ℕ, Option}
+use Rattle.std.specs.Ordering.{nat_cmp}
+use Rattle.std.specs.BTreeMap.{get}
+use Rattle.isle_core.specs.declared.BindingId.{BindingId}
+use Rattle.isle_blocks.specs.Fields.{places}
+use Rattle.isle_blocks.specs.Nest.{Shows}
+use Rattle.isle_blocks.specs.declared.tables.Tables.{Tables}
+
+-- the inner values of calls
+abbrev pub inners_in : Tables → ℕ → Option BindingId
+inners_in t = get nat_cmp t.inners.now
+
+-- the places of constraints
+abbrev pub shows_in : Tables → Shows
+shows_in t = places t.fields.now (inners_in t)

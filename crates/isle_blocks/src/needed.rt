@@ -1,0 +1,161 @@
+//! What is bound before bindings are read: the calls of extractors, and the made values on the way to them.
+
+ghost use Rattle.std.specs.Prelude.{◌≡◌, OnOk, [], ◌∷◌, Some as Is, option_map, slice_get};
+ghost use Rattle.isle_core.specs.declared.TypeId.{TypeId as TypeIdOf};
+ghost use Rattle.isle_core.specs.declared.rule_sets.Binding.TheVariants.{MakeStruct};
+ghost use Rattle.isle_blocks.specs.Needed as Needed;
+ghost use Rattle.isle_blocks.specs.Pushed.{Pushes};
+
+use isle_core::{Binding, BindingId};
+use isle_scope::Scope;
+use std::alloc::AllocError;
+use std::slice;
+
+/// Binds a binding, behind what is there. The only error is want of memory.
+pub fn push_one(
+    bound: &mut Scope,
+    binding: BindingId,
+    order: &mut Vec<BindingId>,
+) -> Result<(), AllocError>
+    ensures { OnOk result (Pushes (binding ∷ []) bound.old bound.new order.old.items order.new.items) }
+{
+    order.push(binding)?;
+    bound.bind(binding.index())?;
+    Ok(())
+}
+
+// Returns the parts of a struct, where it has any.
+fn some_parts<'a>(fields: &'a [BindingId]) -> Option<&'a [BindingId]>
+    ensures { (ty : TypeIdOf) → option_map (λ parts. parts.now) result ≡ Needed.parts_of (Is (MakeStruct ty fields.now)) }
+{
+    if fields.is_empty() {
+        None
+    } else {
+        Some(fields)
+    }
+}
+
+// Returns what a binding is made over that is bound where it is first read.
+fn parts_of<'a>(binding: &'a Binding) -> Option<&'a [BindingId]>
+    ensures { option_map (λ parts. parts.now) result ≡ Needed.parts_of (Is binding.now) }
+{
+    match binding {
+        Binding::Extractor { parameter, .. } => Some(slice::from_ref(parameter)),
+        Binding::MakeVariant { fields, .. } => Some(fields.as_slice()),
+        Binding::MakeStruct { fields, .. } => some_parts(fields.as_slice()),
+        Binding::ConstBool { .. }
+        | Binding::ConstInt { .. }
+        | Binding::ConstPrim { .. }
+        | Binding::Argument { .. }
+        | Binding::Constructor { .. }
+        | Binding::Iterator { .. }
+        | Binding::MatchVariant { .. }
+        | Binding::ExtractStruct { .. }
+        | Binding::MakeSome { .. }
+        | Binding::MatchSome { .. }
+        | Binding::MatchTuple { .. } => None,
+    }
+}
+
+// Returns that of the binding of this number.
+fn parts_at<'a>(bindings: &'a [Binding], binding: BindingId) -> Option<&'a [BindingId]>
+    ensures { option_map (λ parts. parts.now) result ≡ Needed.parts_of (slice_get bindings.now binding.0) }
+{
+    match bindings.get(binding.index()) {
+        Some(of) => parts_of(of),
+        None => None,
+    }
+}
+
+// Whether a binding is among those that are bound.
+fn is_bound(bound: &Scope, binding: BindingId) -> bool
+    ensures { result ≡ Needed.is_bound bound.now binding }
+{
+    bound.has(binding.index())
+}
+
+// Binds what is not bound yet that a binding is read with, parts first, down to this depth.
+#[cycle(needed)]
+fn push_needed(
+    bindings: &[Binding],
+    bound: &mut Scope,
+    depth: usize,
+    binding: BindingId,
+    order: &mut Vec<BindingId>,
+) -> Result<(), AllocError>
+    ensures { OnOk result (Pushes (Needed.needed bindings.now depth bound.old binding) bound.old bound.new order.old.items order.new.items) }
+{
+    if depth == 0 {
+        return Ok(());
+    }
+    if is_bound(bound, binding) {
+        return Ok(());
+    }
+    let Some(parts) = parts_at(bindings, binding) else {
+        return Ok(());
+    };
+    push_each(bindings, bound, depth - 1, parts, order)?;
+    push_one(bound, binding, order)?;
+    Ok(())
+}
+
+// Does so for bindings in order, those before being bound.
+#[cycle(needed)]
+fn push_each(
+    bindings: &[Binding],
+    bound: &mut Scope,
+    depth: usize,
+    reads: &[BindingId],
+    order: &mut Vec<BindingId>,
+) -> Result<(), AllocError>
+    ensures { OnOk result (Pushes (Needed.each_needed (Needed.needed bindings.now depth) bound.old reads.now) bound.old bound.new order.old.items order.new.items) }
+{
+    for read in reads {
+        push_needed(bindings, bound, depth, *read, order)?;
+    }
+    Ok(())
+}
+
+/// Binds what is not bound yet that bindings are read with, behind what is there. The only error is want of memory.
+pub fn push_needs(
+    bindings: &[Binding],
+    bound: &mut Scope,
+    reads: &[BindingId],
+    order: &mut Vec<BindingId>,
+) -> Result<(), AllocError>
+    ensures { OnOk result (Pushes (Needed.needs bindings.now bound.old reads.now) bound.old bound.new order.old.items order.new.items) }
+{
+    push_each(bindings, bound, bindings.len(), reads, order)
+}
+
+// Returns what a call is made on.
+fn parameters_of<'a>(binding: &'a Binding) -> &'a [BindingId]
+    ensures { result.now ≡ Needed.parameters_of (Is binding.now) }
+{
+    match binding {
+        Binding::Constructor { parameters, .. } => parameters.as_slice(),
+        Binding::ConstBool { .. }
+        | Binding::ConstInt { .. }
+        | Binding::ConstPrim { .. }
+        | Binding::Argument { .. }
+        | Binding::Extractor { .. }
+        | Binding::Iterator { .. }
+        | Binding::MakeVariant { .. }
+        | Binding::MakeStruct { .. }
+        | Binding::MatchVariant { .. }
+        | Binding::ExtractStruct { .. }
+        | Binding::MakeSome { .. }
+        | Binding::MatchSome { .. }
+        | Binding::MatchTuple { .. } => &[],
+    }
+}
+
+/// Returns what the call of this number is made on.
+pub fn parameters_at<'a>(bindings: &'a [Binding], call: BindingId) -> &'a [BindingId]
+    ensures { result.now ≡ Needed.parameters_of (slice_get bindings.now call.0) }
+{
+    match bindings.get(call.index()) {
+        Some(of) => parameters_of(of),
+        None => &[],
+    }
+}
