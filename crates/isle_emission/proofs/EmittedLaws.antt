@@ -46,7 +46,7 @@ pub is_shaped : (o : Origin) (f : Function) → MayEmitTerm o → IsGiven o f �
 is_shaped o f h e = both (slice_get o.env.terms o.id.0) _ _ _ (λ t may is. has_shape o.files o.env t o.bindings o.block f may.lawful may.single may.emittable.once is) h e
 
 pub is_run : (o : Origin) (f : Function) → MayEmitTerm o → IsGiven o f → RunsAsItsBlock o f
-is_run o f h e = both (slice_get o.env.terms o.id.0) _ _ _ (λ t may is. runs_as_block o.files o.env t o.bindings o.block f may.lawful may.single may.emittable.once is may.names) h e
+is_run o f h e = both (slice_get o.env.terms o.id.0) _ _ _ (λ t may is. runs_as_block o.files o.env t o.bindings o.block f may.lawful may.single may.emittable.once is may.names may.fns) h e
 
 -- and it is there
 pub is_made : (o : Origin) → MayEmitTerm o → InSetting o (λ (s : Setting). None ≡ term_function o.files s o.block) → ⊥

@@ -1,15 +1,15 @@
 //! Calls.
 
 ghost use Rattle.std.specs.Prelude.{◌≡◌, IfOk, Some as Is, slice_get};
-ghost use Rattle.isle_core.specs.Calling.{calling, calling_of};
+ghost use Rattle.isle_core.specs.Calling.{calling, calling_of, extracting, extracting_of};
 ghost use Rattle.isle_core.specs.Terms as Terms;
 ghost use Rattle.isle_operands.specs.Contexts.{env_of};
 ghost use Rattle.isle_operands.specs.Typed.{setting_in};
 ghost use Rattle.isle_operands.specs.Views.{items_of};
 ghost use Rattle.isle_simulation.specs.Statements as Statements;
 
-use isle_core::{BindingId, Callee, ConstructorKind, List, Term, TermId, TermKind};
-use isle_operands::{Context, Typed, is_by_ref, reads, sym_name};
+use isle_core::{BindingId, Callee, ConstructorKind, ExtractorKind, List, Term, TermId, TermKind};
+use isle_operands::{Context, Typed, is_by_ref, is_declared, one_result, reads, sym_name};
 use isle_scope::Scope;
 use isle_tree::{Read, TCall, TExpr};
 use std::alloc::{AllocError, Global};
@@ -49,6 +49,26 @@ fn callee_of(
     }
 }
 
+// Returns what a call of a term's extractor goes to: its external function.
+fn extractor_of(
+    alloc: Global,
+    context: &Context<'_>,
+    term: &Term,
+) -> Result<Option<Callee>, AllocError>
+    ensures { IfOk result (λ callee. callee ≡ Statements.callee_of (extracting_of (env_of context.now) (Is term.now))) }
+{
+    match &term.kind {
+        TermKind::Decl {
+            extractor: ExtractorKind::External { func, .. },
+            ..
+        } => {
+            let name = sym_name(alloc, context.typeenv, *func)?;
+            Ok(Some(Callee::External(name)))
+        }
+        TermKind::Decl { .. } | TermKind::Variant { .. } | TermKind::Struct { .. } => Ok(None),
+    }
+}
+
 // Makes a call of what is called on what is read, behind a `&` or not.
 fn call_on(borrow: bool, callee: Option<Callee>, args: Option<Vec<Read>>) -> Option<TExpr>
     ensures { result ≡ Statements.call_on borrow callee (items_of args) }
@@ -78,5 +98,25 @@ pub fn call_of(
     let callee = callee_of(alloc, &typed.context, called)?;
     let args = reads(alloc, typed, bound, called.arg_tys.as_slice(), parameters)?;
     let borrow = is_by_ref(typed.context.typeenv, called.ret_ty);
+    Ok(call_on(borrow, callee, args))
+}
+
+/// Makes a call of the extractor of the term of this number on what it takes apart, behind a `&` where its one result is an
+/// enum or a struct.
+pub fn extraction_of(
+    alloc: Global,
+    typed: &Typed<'_>,
+    bound: &Scope,
+    term: TermId,
+    parameter: BindingId,
+) -> Result<Option<TExpr>, AllocError>
+    ensures { IfOk result (λ e. e ≡ Statements.extraction_of (setting_in typed.now) bound.now (slice_get (setting_in typed.now).env.terms term.0) (Statements.callee_of (extracting (setting_in typed.now).env term)) parameter) }
+{
+    let Some(called) = typed.context.termenv.terms.as_slice().get(term.index()) else {
+        return Ok(None);
+    };
+    let callee = extractor_of(alloc, &typed.context, called)?;
+    let args = reads(alloc, typed, bound, &[called.ret_ty], &[parameter])?;
+    let borrow = is_declared(typed, one_result(called.arg_tys.as_slice()));
     Ok(call_on(borrow, callee, args))
 }

@@ -8,7 +8,7 @@ ghost use Rattle.isle_simulation.specs.Operands.{in_place, operand_of as operand
 ghost use Rattle.isle_simulation.specs.References.{is_reference_in};
 ghost use Rattle.isle_simulation.specs.Statements as Statements;
 
-use crate::calls::call_of;
+use crate::calls::{call_of, extraction_of};
 use crate::made::made_in;
 use isle_core::{Binding, BindingId};
 use isle_operands::{
@@ -76,6 +76,9 @@ fn expr_of(
             parameters,
             ..
         } => call_of(alloc, typed, bound, *term, parameters.as_slice()),
+        Binding::Extractor { term, parameter } => {
+            extraction_of(alloc, typed, bound, *term, *parameter)
+        }
         Binding::MatchSome { source } => inner_in(alloc, typed, bound, *source),
         Binding::MakeVariant {
             ty,
@@ -93,8 +96,7 @@ fn expr_of(
         | Binding::ConstBool { .. }
         | Binding::ConstInt { .. }
         | Binding::ConstPrim { .. } => read_in_place(alloc, context, number),
-        Binding::Extractor { .. }
-        | Binding::Iterator { .. }
+        Binding::Iterator { .. }
         | Binding::MatchVariant { .. }
         | Binding::ExtractStruct { .. }
         | Binding::MakeSome { .. }

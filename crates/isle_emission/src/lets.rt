@@ -146,6 +146,7 @@ fn sources_of<'a>(binding: &'a Binding) -> &'a [BindingId]
 {
     match binding {
         Binding::Constructor { parameters, .. } => parameters.as_slice(),
+        Binding::Extractor { parameter, .. } => slice::from_ref(parameter),
         Binding::MatchSome { source } => slice::from_ref(source),
         Binding::MakeVariant { fields, .. } => fields.as_slice(),
         Binding::MakeStruct { fields, .. } => fields.as_slice(),
@@ -153,7 +154,6 @@ fn sources_of<'a>(binding: &'a Binding) -> &'a [BindingId]
         | Binding::ConstInt { .. }
         | Binding::ConstPrim { .. }
         | Binding::Argument { .. }
-        | Binding::Extractor { .. }
         | Binding::Iterator { .. }
         | Binding::MatchVariant { .. }
         | Binding::ExtractStruct { .. }

@@ -1,4 +1,4 @@
-//! The patterns that take variants and structs apart.
+//! The patterns that take variants, structs and options apart.
 
 ghost use Rattle.std.specs.Prelude.{◌≡◌, ◌<◌, IfOk, length, option_map};
 ghost use Rattle.isle_core.specs.HasType.{typed_fields};
@@ -153,7 +153,19 @@ fn form_pattern(
     Ok(Some(pattern_with(alloc, context, &form, more, binds)?))
 }
 
-/// Makes the pattern of a constraint on a variant or a struct; the others have none.
+// Makes the pattern of an option of something, which binds it in the one place, if there is one.
+fn some_pattern(places: &[Option<BindingId>]) -> Option<TPat>
+    ensures { result ≡ Patterns.some_pattern places.now }
+{
+    match places {
+        [] => Some(TPat::Some(None)),
+        [None] => Some(TPat::Some(None)),
+        [Some(local)] => Some(TPat::Some(Some(local.index()))),
+        _ => None,
+    }
+}
+
+/// Makes the pattern of a constraint on a variant, a struct or an option; the others have none.
 pub fn pattern_of(
     alloc: Global,
     context: &Context<'_>,
@@ -169,9 +181,8 @@ pub fn pattern_of(
         Constraint::Struct { ty } => {
             form_pattern(alloc, context, struct_form(context, ty), places)
         }
-        Constraint::ConstBool { .. }
-        | Constraint::ConstInt { .. }
-        | Constraint::ConstPrim { .. }
-        | Constraint::Some => Ok(None),
+        Constraint::Some => Ok(some_pattern(places)),
+        Constraint::ConstBool { .. } | Constraint::ConstInt { .. } | Constraint::ConstPrim { .. } =>
+            Ok(None),
     }
 }

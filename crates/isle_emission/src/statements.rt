@@ -4,6 +4,7 @@ ghost use Rattle.std.specs.Prelude.{◌≡◌, ◌++◌, [], ◌∷◌, List as 
 ghost use Rattle.isle_core.specs.ArmPlaces.{bound_within};
 ghost use Rattle.isle_core.specs.Block.{Equal};
 ghost use Rattle.isle_core.specs.BlockViews as BlockViews;
+ghost use Rattle.isle_core.specs.declared.rule_sets.Constraint.TheVariants.{Some as ItIsSome};
 ghost use Rattle.isle_core.specs.Calling as Calling;
 ghost use Rattle.isle_tree.specs.Program.{Body, Done};
 ghost use Rattle.isle_tree.specs.Views.{stmt};
@@ -119,6 +120,28 @@ fn pattern_test(
     Ok(fits(pat, read_in(alloc, typed, bound, true, source)?))
 }
 
+// Makes a read of an operand as it is.
+fn plain_read(operand: Option<Operand>) -> Option<Read>
+    ensures { result ≡ Statements.plain_read operand }
+{
+    Some(Read::Plain(operand?))
+}
+
+// Makes the test whether a binding is an option of something.
+fn some_test(
+    alloc: Global,
+    context: &Context<'_>,
+    bound: &Scope,
+    source: BindingId,
+    places: &[Option<BindingId>],
+) -> Result<Option<Test>, AllocError>
+    ensures { IfOk result (λ test. (inside : Option Body) → test_stmt test inside ≡ Statements.if_let (Patterns.pattern_of (env_of context.now) ItIsSome places.now) (Statements.plain_read (operand_in (env_of context.now) (bindings_in context.now) bound.now source)) inside) }
+{
+    let pat = pattern_of(alloc, context, Constraint::Some, places)?;
+    let operand = operand_of(alloc, context, bound, source)?;
+    Ok(fits(pat, plain_read(operand)))
+}
+
 // Makes the test of a binding against a constraint.
 fn arm_test(
     alloc: Global,
@@ -136,7 +159,7 @@ fn arm_test(
         Constraint::Variant { .. } | Constraint::Struct { .. } => {
             pattern_test(alloc, typed, bound, source, constraint, places)
         }
-        Constraint::Some => Ok(None),
+        Constraint::Some => some_test(alloc, &typed.context, bound, source, places),
     }
 }
 

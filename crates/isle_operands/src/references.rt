@@ -19,8 +19,8 @@ use isle_scope::Scope;
 use isle_tree::{Operand, Read};
 use std::alloc::{AllocError, Global};
 
-// Returns whether a value of the type stands behind a reference, where there is a type.
-fn is_declared(typed: &Typed<'_>, ty: Option<TypeId>) -> bool
+/// Returns whether a value of the type stands behind a reference, where there is a type.
+pub fn is_declared(typed: &Typed<'_>, ty: Option<TypeId>) -> bool
     ensures { result ≡ option_map_or (References.is_declared (setting_in typed.now).env) ty No }
 {
     match ty {

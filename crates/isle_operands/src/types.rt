@@ -6,6 +6,7 @@ ghost use Rattle.isle_core.specs.Path.{Path, VariantField, StructField, path_ove
 ghost use Rattle.isle_core.specs.Rule.{Environment};
 ghost use Rattle.isle_operands.specs.BindingTypes.{types_in};
 ghost use Rattle.isle_operands.specs.Contexts.{env_of, setting_of};
+ghost use Rattle.isle_simulation.specs.References as References;
 ghost use Rattle.isle_simulation.specs.References.{type_at};
 
 use crate::constants::ConstTypes;
@@ -13,6 +14,31 @@ use crate::context::Context;
 use crate::forms::{field_type, struct_form, variant_form};
 use isle_core::{Binding, BindingId, TermId, TupleIndex, TypeId, VariantId};
 use std::alloc::{AllocError, Global};
+
+/// Returns the type where there is only one.
+pub fn one_result(tys: &[TypeId]) -> Option<TypeId>
+    ensures { result ≡ References.one_result tys.now }
+{
+    match tys {
+        [ty] => Some(*ty),
+        _ => None,
+    }
+}
+
+// Returns the type of the one result of a term's extractor, which gives what the term takes.
+fn extracted_type(context: &Context<'_>, term: TermId) -> Option<TypeId>
+    ensures { result ≡ References.result_type (slice_get (env_of context.now).terms term.0) }
+{
+    one_result(
+        context
+            .termenv
+            .terms
+            .as_slice()
+            .get(term.index())?
+            .arg_tys
+            .as_slice(),
+    )
+}
 
 // Returns the type of what a term gives.
 fn result_type(context: &Context<'_>, term: TermId) -> Option<TypeId>
@@ -83,10 +109,8 @@ fn binding_type(
             struct_field(context, type_of(types, *source), *field)
         }
         Binding::MatchSome { source } => type_of(types, *source),
-        Binding::Extractor { .. }
-        | Binding::Iterator { .. }
-        | Binding::MakeSome { .. }
-        | Binding::MatchTuple { .. } => None,
+        Binding::Extractor { term, .. } => extracted_type(context, *term),
+        Binding::Iterator { .. } | Binding::MakeSome { .. } | Binding::MatchTuple { .. } => None,
     }
 }
 

@@ -174,7 +174,7 @@ fn end_line(text: &mut String, last: &mut Last) -> Result<(), AllocError>
     Ok(())
 }
 
-/// How many levels a line is set in at most, so that a text nested deep grows with its tokens alone.
+// How many levels a line is set in at most, so that a text nested deep grows with its tokens alone.
 const MOST_LEVELS: usize = 32;
 
 // Four blanks for each level, up to the most.

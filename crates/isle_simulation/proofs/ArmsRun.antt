@@ -1,4 +1,4 @@
--- The pattern of an arm fits where its constraint is met, and binds the fields of the arm's places.
+-- The pattern of an arm fits where its constraint is met, and binds the fields of the arm's places, or what is within an option.
 use Rattle.std.proofs.Common.{◌≡◌, ℕ, suc, ◌+◌, ◌≤◌, List, [], ◌∷◌, ◌++◌, length, Bool, true, false, cond, Option, Some, None, refl, sym, ap, ◌∙◌, subst, arith, append_assoc}
 use Rattle.std.specs.Prelude.{IsSomeAnd, option_map, option_and_then, slice_get}
 use Rattle.std.specs.Str.{bytes_eq}
@@ -32,18 +32,20 @@ use Rattle.isle_core.specs.Rule.{Environment}
 use Rattle.isle_core.specs.Setting.{Setting, paths_in}
 use Rattle.isle_core.specs.Terms.{sym_text}
 use Rattle.isle_core.specs.Value.{Value, Truth, Int, Opaque, Variant, Struct, FieldValues}
-use Rattle.isle_core.specs.ValueAt.{Held, Known, a_value, held, field_held, value_at, meets}
+use Rattle.isle_core.specs.ValueAt.{Held, Optional, Known, a_value, an_option, held, inner_held, field_held, value_at, is_found, meets}
 use Rattle.isle_core.proofs.BindingPaths.{HasParts, path_at, typed_parts, option_parts}
+use Rattle.isle_core.proofs.TurnKinds.{IsHeldOf}
 use Rattle.isle_printer.specs.Bytes.{same_bytes}
 use Rattle.isle_printer.proofs.Bytes.{same_bytes_refl, same_bytes_sound}
 use Rattle.isle_tree.specs.declared.tree.TBind.{TBind}
 use Rattle.isle_tree.specs.declared.tree.TPat.{TPat}
-use Rattle.isle_tree.specs.Run.{Around, Env, bind, field_of, local_before, fit_fields, fit}
+use Rattle.isle_tree.specs.declared.tree.TPat.TheVariants as pattern
+use Rattle.isle_tree.specs.Run.{Around, Env, bind, fit_some, field_of, local_before, fit_fields, fit}
 use Rattle.isle_simulation.specs.Patterns.{bind_before, field_binds, leaves_out, pattern_named, form_pattern, pattern_of}
 use Rattle.isle_simulation.specs.References.{is_declared}
-use Rattle.isle_simulation.proofs.LocalsAgree.{Stands, Agree, bind_agrees}
+use Rattle.isle_simulation.proofs.LocalsAgree.{IsOptionAt, Stands, Agree, bind_agrees}
 use Rattle.isle_simulation.proofs.MadeValues.{fields_in, parts_are, fields_nameless, named_nameless, made_fields, AreApart, FieldAt, field_at, field_like}
-use Rattle.isle_simulation.proofs.PathTypes.{one_type}
+use Rattle.isle_simulation.proofs.PathTypes.{one_type, one_within}
 use Rattle.isle_simulation.proofs.PathValues.{Grounds, IsValueAt}
 
 -- ---- places have fields
@@ -288,11 +290,11 @@ arm_pattern s source ty (constraint.Struct of) places k parts' is =
     form_spelled s.env (constraint.Struct of) places (MakesStruct of) f.0 f.1 refl (struct_count s.env (length places) f.0 (slice_get s.env.types.types of.0) f.1 parts'.0)
 arm_pattern s source ty c places k parts' is = absurd is
 
--- the pattern of an arm, and when it fits
-pub record ArmFits (s : Setting) (u : Around) (bound : List ℕ) (known : Known) (locals : Env) (c : Constraint) (places : List (Option BindingId)) (h : Held) (v : Value) : Type 0 where
+-- the pattern of an arm, and when it fits, by what is held where the block runs
+pub record ArmFits (s : Setting) (u : Around) (bound : List ℕ) (known : Known) (locals : Env) (c : Constraint) (places : List (Option BindingId)) (h g : Held) : Type 0 where
   pub pat : TPat
   pub spelled : pattern_of s.env c places ≡ Some pat
-  pub fits : FitsBy s u bound known locals places pat h (meets s.env u.meaning c (a_value v))
+  pub fits : FitsBy s u bound known locals places pat h (meets s.env u.meaning c g)
 
 variant_field : (s : Setting) (u : Around) (known : Known) (source : BindingId) (variant : VariantId) (j : ℕ) (b : BindingId) → slice_get s.bindings b.0 ≡ Some (binding.MatchVariant source variant (record { 0 = j })) → IsFieldOf s u known source b (λ of. MakesVariant of variant) (VariantField variant j) j
 variant_field s u known source variant j b e = record { path = λ h. path_at s.bindings b (binding.MatchVariant source variant (record { 0 = j })) e h; typed = λ ty k. k; no_option = λ ty k. k; is = refl }
@@ -302,10 +304,10 @@ struct_field s u known source j b e = record { path = λ h. path_at s.bindings b
 
 pub arm_fits : (s : Setting) (u : Around) (bound : List ℕ) (known : Known) (locals : Env) (source : BindingId) (ty : TypeId) (c : Constraint) (places : List (Option BindingId)) (h : Held) → Grounds s u → Agree s u bound known locals
     → IsPathOf s.env s.term (at (paths_in s) source) ty → IsConstraintOf s.env c ty → ArePlacesOf s source c places → IsForm c → (x : IsValueAt s.env h (value_at s.env u.meaning u.args known (at (paths_in s) source)) ty)
-    → ArmFits s u bound known locals c places h x.v
+    → ArmFits s u bound known locals c places h (a_value x.v)
 arm_fits s u bound known locals source ty (constraint.Variant of variant) places h g a path k parts' is x = one (form s.env (MakesVariant of variant)) refl k.1
   where
-    one : (o : Option Form) → form s.env (MakesVariant of variant) ≡ o → IsSomeAnd o (λ f. Unit {0}) → ArmFits s u bound known locals (constraint.Variant of variant) places h x.v
+    one : (o : Option Form) → form s.env (MakesVariant of variant) ≡ o → IsSomeAnd o (λ f. Unit {0}) → ArmFits s u bound known locals (constraint.Variant of variant) places h (a_value x.v)
     one None e some = absurd some
     one (Some f) e some =
         let here : form s.env (MakesVariant ty variant) ≡ Some f = ap (λ y. form s.env (MakesVariant y variant)) (sym k.0) ∙ e in
@@ -319,7 +321,7 @@ arm_fits s u bound known locals source ty (constraint.Variant of variant) places
         }
 arm_fits s u bound known locals source ty (constraint.Struct of) places h g a path k parts' is x = one (form s.env (MakesStruct of)) refl k.1
   where
-    one : (o : Option Form) → form s.env (MakesStruct of) ≡ o → IsSomeAnd o (λ f. Unit {0}) → ArmFits s u bound known locals (constraint.Struct of) places h x.v
+    one : (o : Option Form) → form s.env (MakesStruct of) ≡ o → IsSomeAnd o (λ f. Unit {0}) → ArmFits s u bound known locals (constraint.Struct of) places h (a_value x.v)
     one None e some = absurd some
     one (Some f) e some =
         let here : form s.env (MakesStruct ty) ≡ Some f = ap (λ y. form s.env (MakesStruct y)) (sym k.0) ∙ e in
@@ -332,3 +334,61 @@ arm_fits s u bound known locals source ty (constraint.Struct of) places h g a pa
               (form_fits s u bound known locals source ty MakesStruct (λ i. binding.ExtractStruct source (record { 0 = i })) places f g a path refl here le parts'.1 (λ j d at_d. (StructField j, struct_field s u known source j d at_d)) h x b.0 b.1 _);
         }
 arm_fits s u bound known locals source ty c places h g a path k parts' is x = absurd is
+
+-- ---- the arm of an option
+
+-- a binding of what is within stands for it
+inner_stands : (s : Setting) (u : Around) (known : Known) (source b : BindingId) (ty : TypeId) (v r : Value) → slice_get s.bindings b.0 ≡ Some (binding.MatchSome source) → IsOptionOf s.env s.term (at (paths_in s) source) ty
+    → value_at s.env u.meaning u.args known (at (paths_in s) source) ≡ an_option (Some v) → nameless r ≡ nameless v → HasType s.env v ty → Stands s.env s.term (at (paths_in s) b) (a_value r) (value_at s.env u.meaning u.args known (at (paths_in s) b))
+inner_stands s u known source b ty v r e of held_v same typed = record {
+  value = λ ty' k.
+      let p = path_at s.bindings b (binding.MatchSome source) e (typed_parts s.env s.term (at (paths_in s) b) ty' k) in
+      record {
+        v = v;
+        r = r;
+        run = refl;
+        block = ap (value_at s.env u.meaning u.args known) p ∙ ap inner_held held_v;
+        same = same;
+        typed = subst (HasType s.env v) (one_within s.env s.term (at (paths_in s) source) ty ty' of (subst (λ q. IsPathOf s.env s.term q ty') p k)) typed;
+      };
+  option = λ ty' k. absurd (subst (λ q. IsOptionOf s.env s.term q ty') (path_at s.bindings b (binding.MatchSome source) e (option_parts s.env s.term (at (paths_in s) b) ty' k)) k);
+}
+
+nothing_fits : (local : Option ℕ) → fit_some local (Optional None) ≡ None
+nothing_fits None = refl
+nothing_fits (Some n) = refl
+
+-- the pattern of an option fits where that is one of something, and binds it
+pub some_fits : (s : Setting) (u : Around) (bound : List ℕ) (known : Known) (locals : Env) (source : BindingId) (ty : TypeId) (places : List (Option BindingId)) (h : Held) → Agree s u bound known locals
+    → IsOptionOf s.env s.term (at (paths_in s) source) ty → ArePlacesOf s source constraint.Some places → (x : IsOptionAt s.env h (value_at s.env u.meaning u.args known (at (paths_in s) source)) ty)
+    → ArmFits s u bound known locals constraint.Some places h (an_option x.o)
+some_fits s u bound known locals source ty places h a of parts' x = within places parts'.0 parts'.1
+  where
+    -- the local of what is within, where there is one, agrees
+    Binds : List (Option BindingId) → Option ℕ → Type 0
+    Binds ps local = (v r : Value) → value_at s.env u.meaning u.args known (at (paths_in s) source) ≡ an_option (Some v) → nameless r ≡ nameless v → HasType s.env v ty
+        → (more : Env) × (fit_some local (an_option (Some r)) ≡ Some more) × Agree s u (bound_within bound ps) known (locals ++ more)
+
+    like : (v r : Value) → option_map nameless (Some r) ≡ option_map nameless (Some v) → nameless r ≡ nameless v
+    like v r e = cc
+
+    by : (ps : List (Option BindingId)) (local : Option ℕ) (o q : Option Value) → value_at s.env u.meaning u.args known (at (paths_in s) source) ≡ an_option o → h ≡ an_option q → option_map nameless q ≡ option_map nameless o → IsHeldOf s.env ty (an_option o)
+        → Binds ps local → FitsBy s u bound known locals ps (pattern.Some local) h (is_found (an_option o))
+    by ps local None None e f same typed k = ap (fit_some local) f ∙ nothing_fits local
+    by ps local (Some v) (Some r) e f same typed k = let m = k v r e (like v r same) typed in (m.0, ap (fit_some local) f ∙ m.1, m.2)
+    by ps local None (Some r) e f same typed k = cc
+    by ps local (Some v) None e f same typed k = cc
+
+    unbound : Agree s u bound known (locals ++ [])
+    unbound = subst (Agree s u bound known) (sym (append-nil locals)) a
+
+    within : (ps : List (Option BindingId)) → length ps ≤ 1 → AreParts s (λ i. binding.MatchSome source) 0 ps → ArmFits s u bound known locals constraint.Some ps h (an_option x.o)
+    within [] le k = record { pat = pattern.Some None; spelled = refl; fits = by [] None x.o x.q x.block x.run x.same x.typed (λ v r e same typed. ([], refl, unbound)) }
+    within (None ∷ []) le k = record { pat = pattern.Some None; spelled = refl; fits = by (None ∷ []) None x.o x.q x.block x.run x.same x.typed (λ v r e same typed. ([], refl, unbound)) }
+    within (Some b ∷ []) le k = record {
+      pat = pattern.Some (Some b.0);
+      spelled = refl;
+      fits = by (Some b ∷ []) (Some b.0) x.o x.q x.block x.run x.same x.typed
+          (λ v r e same typed. ((b.0, a_value r) ∷ [], refl, bind_agrees s u bound known locals b (a_value r) a (inner_stands s u known source b ty v r k.0 of e same typed)));
+    }
+    within (p ∷ q ∷ ps) le k = absurd (omega (arith, le))

@@ -8,9 +8,10 @@ use Rattle.isle_core.specs.declared.rule_sets.Binding.{Binding}
 use Rattle.isle_core.specs.declared.rule_sets.Binding.TheVariants as binding
 use Rattle.isle_core.specs.Value.{Made}
 use Rattle.isle_core.specs.Meaning.{Meaning}
-use Rattle.isle_core.specs.Calling.{Calling, ByTurns, ByCases, NoCall, calling, kind_of}
+use Rattle.isle_core.specs.Calling.{Calling, ByTurns, ByCases, NoCall, calling, extracting, kind_of}
+use Rattle.isle_core.specs.CalledTerms.{Extractor}
 use Rattle.isle_core.specs.Making.{MakesVariant, MakesStruct}
-use Rattle.isle_core.specs.Lawful.{AnswersFit}
+use Rattle.isle_core.specs.Lawful.{RoleFits, AnswersFit}
 use Rattle.isle_core.specs.Path.{MadeVariant, MadeStruct, at}
 use Rattle.isle_core.specs.ValueAt.{Known}
 use Rattle.isle_core.specs.CallRun as went
@@ -18,7 +19,7 @@ use Rattle.isle_core.specs.CallRun.{Went, then_go, take_turn, make_call, unless_
 use Rattle.isle_core.specs.BlockRun.{bind_one, bind_all}
 use Rattle.isle_core.specs.StandsFor.{EachOnce}
 use Rattle.isle_core.specs.Bindable.{bound_by}
-use Rattle.isle_core.specs.ExternalCall.{IsCall}
+use Rattle.isle_core.specs.ExternalCall.{IsCall, IsExtraction}
 use Rattle.isle_core.specs.Occurrences.{occurrence, occurrence_at, occurrences}
 use Rattle.isle_core.specs.Rule.{Environment}
 use Rattle.isle_core.specs.Setting.{Setting, paths_in}
@@ -27,10 +28,11 @@ use Rattle.isle_tree.specs.Program.{Body}
 use Rattle.isle_tree.specs.Run.{Around, Env, bind, then_run, run_let, run_body}
 use Rattle.isle_simulation.specs.Emitted.{AnswersBindings}
 use Rattle.isle_simulation.specs.References.{is_reference_in}
+use Rattle.isle_simulation.specs.Statements.{callee_of}
 use Rattle.isle_simulation.proofs.LocalsAgree.{Agree, agree_later, bind_agrees}
 use Rattle.isle_simulation.proofs.MadeBinds.{made_binds, variant_over, struct_over}
 use Rattle.isle_simulation.proofs.NamelessLaws.{AreSameCalls}
-use Rattle.isle_simulation.proofs.OneBind.{AreUnanswered, Keeps, once_parts, done, EndsSo, ends_on, ends_as_well, BindsOne, plain_binds, call_binds, inner_binds}
+use Rattle.isle_simulation.proofs.OneBind.{AreUnanswered, Keeps, once_parts, done, EndsSo, ends_on, ends_as_well, BindsOne, plain_binds, call_binds, extractor_binds, inner_binds}
 use Rattle.isle_simulation.proofs.PathValues.{Grounds}
 use Rattle.isle_simulation.proofs.Ready.{IsReadyBind, AreReadyBinds}
 use Rattle.isle_simulation.proofs.Written.{bound_expr, lets}
@@ -47,11 +49,25 @@ binding_answers env m (binding.Constructor x qs j ∷ bs) zero term parameters k
 binding_answers env m (b ∷ bs) zero term parameters k h e = cc
 binding_answers env m (binding.Constructor x qs j ∷ bs) (suc i) term parameters k h e = binding_answers env m bs i term parameters k h.1 e
 binding_answers env m (binding.ConstPrim val ∷ bs) (suc i) term parameters k h e = binding_answers env m bs i term parameters k h.1 e
+binding_answers env m (binding.Extractor x q ∷ bs) (suc i) term parameters k h e = binding_answers env m bs i term parameters k h.1 e
 binding_answers env m (b ∷ bs) (suc i) term parameters k h e = binding_answers env m bs i term parameters k h e
+
+same_extractor : (x y : TermId) (p q : BindingId) → Some (binding.Extractor x p) ≡ Some (binding.Extractor y q) → x ≡ y
+same_extractor x y p q e = cc
+
+-- so is that of an extractor
+extraction_answers : (env : Environment) (m : Meaning) (bs : List Binding) (i : ℕ) (term : TermId) (parameter : BindingId) → AnswersBindings env m bs → slice_get bs i ≡ Some (binding.Extractor term parameter) → RoleFits env m term Extractor
+extraction_answers env m [] i term parameter h e = cc
+extraction_answers env m (binding.Extractor x q ∷ bs) zero term parameter h e = subst (λ y. RoleFits env m y Extractor) (same_extractor x term q parameter e) h.0
+extraction_answers env m (b ∷ bs) zero term parameter h e = cc
+extraction_answers env m (binding.Constructor x qs j ∷ bs) (suc i) term parameter h e = extraction_answers env m bs i term parameter h.1 e
+extraction_answers env m (binding.ConstPrim val ∷ bs) (suc i) term parameter h e = extraction_answers env m bs i term parameter h.1 e
+extraction_answers env m (binding.Extractor x q ∷ bs) (suc i) term parameter h e = extraction_answers env m bs i term parameter h.1 e
+extraction_answers env m (b ∷ bs) (suc i) term parameter h e = extraction_answers env m bs i term parameter h e
 
 -- a binding that may be bound
 bound_binds : (s : Setting) (u : Around) (bound : List ℕ) (b : BindingId) (o : Option Binding) (known : Known) (made those : List Made) (locals : Env)
-    → slice_get s.bindings b.0 ≡ o → Grounds s u → AreSameCalls those made → Agree s u bound known locals → AreUnanswered known (occurrence_at s.env (at (paths_in s) b)) → IsReadyBind s bound (at (paths_in s) b) o
+    → slice_get s.bindings b.0 ≡ o → Grounds s u → AreSameCalls s.env those made → Agree s u bound known locals → AreUnanswered known (occurrence_at s.env (at (paths_in s) b)) → IsReadyBind s bound (at (paths_in s) b) o
     → BindsOne s u b.0 (at (paths_in s) b) known locals (run_let u b.0 (bound_expr s bound b o) locals (done those)) (bind_one s.env u.meaning u.args (at (paths_in s) b) known made)
 bound_binds s u bound b (Some (binding.Constructor term parameters k)) known made those locals at_b g same a new is = one (calling s.env term) refl is.external
   where
@@ -61,6 +77,14 @@ bound_binds s u bound b (Some (binding.Constructor term parameters k)) known mad
         subst (λ x. BindsOne s u b.0 x known locals (run_let u b.0 (bound_expr s bound b (Some (binding.Constructor term parameters k))) locals (done those)) (bind_one s.env u.meaning u.args x known made)) (sym is.path)
         (call_binds s u bound b.0 term parameters k callee kind is.called known made those locals g same a c is.found is.args (binding_answers s.env u.meaning s.bindings b.0 term parameters k g.answers at_b) none)
     one (ByCases callee kind) c of = absurd of
+    one NoCall c of = absurd of
+bound_binds s u bound b (Some (binding.Extractor term parameter)) known made those locals at_b g same a new is = one (extracting s.env term) refl is.external
+  where
+    one : (c : Calling) → extracting s.env term ≡ c → IsExtraction is.kind c → BindsOne s u b.0 (at (paths_in s) b) known locals (run_let u b.0 (bound_expr s bound b (Some (binding.Extractor term parameter))) locals (done those)) (bind_one s.env u.meaning u.args (at (paths_in s) b) known made)
+    one (ByCases callee kind) c of =
+        subst (λ x. BindsOne s u b.0 x known locals (run_let u b.0 (bound_expr s bound b (Some (binding.Extractor term parameter))) locals (done those)) (bind_one s.env u.meaning u.args x known made)) (sym is.path)
+        (extractor_binds s u bound b.0 term parameter callee kind is.called is.result known made those locals g same a c is.found is.one is.arg (extraction_answers s.env u.meaning s.bindings b.0 term parameter g.answers at_b) (g.pure b.0 term parameter callee at_b (ap callee_of c)))
+    one (ByTurns callee kind) c of = absurd of
     one NoCall c of = absurd of
 bound_binds s u bound b (Some (binding.MatchSome source)) known made those locals at_b g same a new is =
     subst (λ x. BindsOne s u b.0 x known locals (run_let u b.0 (bound_expr s bound b (Some (binding.MatchSome source))) locals (done those)) (bind_one s.env u.meaning u.args x known made)) (sym is.path)
@@ -80,21 +104,21 @@ pub record LetsGo (s : Setting) (u : Around) (bound : List ℕ) (binds : List Bi
   pub after : Env
   pub behind : List Made
   pub runs : (more : Body) → run_body u (lets s bound binds more) locals (done those) ≡ run_body u more after (done behind)
-  pub same : AreSameCalls behind calls
+  pub same : AreSameCalls s.env behind calls
   pub agree : Agree s u (bound_by bound binds) later after
   pub keeps : Keeps (occurrences s.env (paths_in s) binds) known later
 
 -- the lets of bindings do what binding them does
 abbrev pub LetsRun : Setting → Around → (bound : List ℕ) → (binds : List BindingId) → Known → (those : List Made) → Env → Went → Type 0
 LetsRun s u bound binds known those locals (went.Goes later calls) = LetsGo s u bound binds known those locals later calls
-LetsRun s u bound binds known those locals (went.Ends o) = (more : Body) → EndsSo (kind_of s.term.kind) (run_body u (lets s bound binds more) locals (done those)) o
+LetsRun s u bound binds known those locals (went.Ends o) = (more : Body) → EndsSo s.env (kind_of s.term.kind) (run_body u (lets s bound binds more) locals (done those)) o
 
 -- one let before others
 lets_then : (s : Setting) (u : Around) (bound : List ℕ) (b : BindingId) (binds : List BindingId) (known : Known) (those : List Made) (locals : Env) (w : Went) (go : Known → List Made → Went)
     → Agree s u bound known locals → BindsOne s u b.0 (at (paths_in s) b) known locals (run_let u b.0 (bound_expr s bound b (slice_get s.bindings b.0)) locals (done those)) w
-    → ((later : Known) (calls behind : List Made) (after : Env) → AreSameCalls behind calls → Keeps (occurrence_at s.env (at (paths_in s) b)) known later → Agree s u (bound ++ b.0 ∷ []) later after → LetsRun s u (bound ++ b.0 ∷ []) binds later behind after (go later calls))
+    → ((later : Known) (calls behind : List Made) (after : Env) → AreSameCalls s.env behind calls → Keeps (occurrence_at s.env (at (paths_in s) b)) known later → Agree s u (bound ++ b.0 ∷ []) later after → LetsRun s u (bound ++ b.0 ∷ []) binds later behind after (go later calls))
     → LetsRun s u bound (b ∷ binds) known those locals (then_go w go)
-lets_then s u bound b binds known those locals (went.Ends o) go a is rest = λ more. ends_on (kind_of s.term.kind) (run_let u b.0 (bound_expr s bound b (slice_get s.bindings b.0)) locals (done those)) o (run_body u (lets s (bound ++ b.0 ∷ []) binds more)) is
+lets_then s u bound b binds known those locals (went.Ends o) go a is rest = λ more. ends_on s.env (kind_of s.term.kind) (run_let u b.0 (bound_expr s bound b (slice_get s.bindings b.0)) locals (done those)) o (run_body u (lets s (bound ++ b.0 ∷ []) binds more)) is
 lets_then s u bound b binds known those locals (went.Goes later calls) go a is rest = one (go later calls) (rest later calls is.those (bind locals b.0 is.h) is.made is.keeps agree)
   where
     agree : Agree s u (bound ++ b.0 ∷ []) later (bind locals b.0 is.h)
@@ -118,10 +142,10 @@ lets_then s u bound b binds known those locals (went.Goes later calls) go a is r
       agree = h.agree;
       keeps = λ k not_k. h.keeps k (λ c. not_k (Contains-append_right here others k c)) ∙ is.keeps k (λ c. not_k (Contains-append_left here others k c));
     }
-    one (went.Ends o) h = λ more. ends_as_well (kind_of s.term.kind) _ (run_body u (lets s (bound ++ b.0 ∷ []) binds more) (bind locals b.0 is.h) (done is.those)) o (first more) (h more)
+    one (went.Ends o) h = λ more. ends_as_well s.env (kind_of s.term.kind) _ (run_body u (lets s (bound ++ b.0 ∷ []) binds more) (bind locals b.0 is.h) (done is.those)) o (first more) (h more)
 
 pub lets_run : (s : Setting) (u : Around) (bound : List ℕ) (binds : List BindingId) (known : Known) (made those : List Made) (locals : Env)
-    → Grounds s u → AreSameCalls those made → AreReadyBinds s bound binds → EachOnce (occurrences s.env (paths_in s) binds) → AreUnanswered known (occurrences s.env (paths_in s) binds) → Agree s u bound known locals
+    → Grounds s u → AreSameCalls s.env those made → AreReadyBinds s bound binds → EachOnce (occurrences s.env (paths_in s) binds) → AreUnanswered known (occurrences s.env (paths_in s) binds) → Agree s u bound known locals
     → LetsRun s u bound binds known those locals (bind_all s.env u.meaning u.args (paths_in s) binds known made)
 lets_run s u bound [] known made those locals g same is once new a = record { after = locals; behind = those; runs = λ more. refl; same = same; agree = a; keeps = λ k not_k. refl }
 lets_run s u bound (b ∷ binds) known made those locals g same is once new a =

@@ -19,8 +19,7 @@ use Rattle.isle_core.specs.Bindable.{bound_by}
 use Rattle.isle_core.specs.Block as block
 use Rattle.isle_core.specs.Block.{Block, Stop, Step, Control}
 use Rattle.isle_core.specs.BlockLawful.{IsLawfulBlock}
-use Rattle.isle_core.specs.Calling.{calling, kind_of}
-use Rattle.isle_core.specs.ExternalCall.{IsCall}
+use Rattle.isle_core.specs.Calling.{calling, extracting, kind_of}
 use Rattle.isle_core.specs.Form.{Form, form}
 use Rattle.isle_core.specs.Making.{MakesVariant, MakesStruct}
 use Rattle.isle_core.specs.Path.{at}
@@ -36,20 +35,30 @@ use Rattle.isle_simulation.specs.Statements.{callee_of as callee_made_of, made_n
 use Rattle.isle_simulation.specs.TermFunction.{mark_of, tail_body, tail_of, ends_in_return}
 use Rattle.isle_simulation.proofs.CompletedReady.{completed_ready}
 use Rattle.isle_simulation.proofs.CompletedRuns.{completed_single}
-use Rattle.isle_simulation.proofs.Made.{callee_made}
+use Rattle.isle_simulation.proofs.Made.{callee_made, extractor_made}
 use Rattle.isle_simulation.proofs.Ready.{IsReadyBind, AreReadyBinds, IsReadyFrom, IsReadyControl}
-use Rattle.isle_simulation.proofs.Written.{arm_stmt, block_body, bound_expr, callee_of, call_expr, control_stmt, lets, made_expr, returned, written_read, function_of}
+use Rattle.isle_simulation.proofs.Written.{arm_stmt, block_body, bound_expr, callee_of, call_expr, extraction_expr, control_stmt, lets, made_expr, returned, written_read, function_of}
 
--- the callee is that of a call among the bindings
-pub record IsBoundCall (env : Environment) (bs : List Binding) (callee : Callee) : Type 0 where
+-- the callee is that of a call of a constructor among the bindings
+pub record IsConstructorCall (env : Environment) (bs : List Binding) (callee : Callee) : Type 0 where
   pub place : ℕ
   pub term : TermId
   pub parameters : List BindingId
   pub instance : ℕ
   pub bound : slice_get bs place ≡ Some (binding.Constructor term parameters instance)
-  pub kind : ReturnKind
-  pub external : IsCall kind (calling env term)
   pub is : callee_made_of (calling env term) ≡ Some callee
+
+-- the callee is that of a call of an extractor among them
+pub record IsExtractorCall (env : Environment) (bs : List Binding) (callee : Callee) : Type 0 where
+  pub place : ℕ
+  pub term : TermId
+  pub parameter : BindingId
+  pub bound : slice_get bs place ≡ Some (binding.Extractor term parameter)
+  pub is : callee_made_of (extracting env term) ≡ Some callee
+
+-- the callee is that of a call among the bindings
+abbrev pub IsBoundCall : Environment → List Binding → Callee → Type 0
+IsBoundCall env bs callee = IsConstructorCall env bs callee ⊎ IsExtractorCall env bs callee
 
 -- nothing is called
 not_called : {A : Type 0} (callee : Callee) → Contains [] callee → A
@@ -69,13 +78,22 @@ call_calls : (s : Setting) (bound : List ℕ) (o : Option Term) (callee : Callee
 call_calls s bound None callee parameters = refl
 call_calls s bound (Some t) callee parameters = refl
 
+extraction_calls : (s : Setting) (bound : List ℕ) (o : Option Term) (callee : Callee) (parameter : BindingId) → expr_calls (extraction_expr s bound o callee parameter) ≡ callee ∷ []
+extraction_calls s bound None callee parameter = refl
+extraction_calls s bound (Some t) callee parameter = refl
+
 -- what is computed for a binding that may be bound
 bound_call : (s : Setting) (bound : List ℕ) (b : BindingId) (o : Option Binding) (callee : Callee) → slice_get s.bindings b.0 ≡ o → IsReadyBind s bound (at (paths_in s) b) o → Contains (expr_calls (bound_expr s bound b o)) callee → IsBoundCall s.env s.bindings callee
 bound_call s bound b (Some (binding.Constructor term parameters k)) callee e is c =
     ⊎_elim
-    (λ same. record { place = b.0; term = term; parameters = parameters; instance = k; bound = e; kind = is.kind; external = is.external; is = callee_made is.kind (calling s.env term) is.external ∙ ap Some same })
+    (λ same. inl (record { place = b.0; term = term; parameters = parameters; instance = k; bound = e; is = callee_made is.kind (calling s.env term) is.external ∙ ap Some same }))
     (λ none. not_called callee none)
     (contained_cases (callee_of (calling s.env term)) [] callee (subst (λ xs. Contains xs callee) (call_calls s bound (slice_get s.env.terms term.0) (callee_of (calling s.env term)) parameters) c))
+bound_call s bound b (Some (binding.Extractor term parameter)) callee e is c =
+    ⊎_elim
+    (λ same. inr (record { place = b.0; term = term; parameter = parameter; bound = e; is = extractor_made is.kind (extracting s.env term) is.external ∙ ap Some same }))
+    (λ none. not_called callee none)
+    (contained_cases (callee_of (extracting s.env term)) [] callee (subst (λ xs. Contains xs callee) (extraction_calls s bound (slice_get s.env.terms term.0) (callee_of (extracting s.env term)) parameter) c))
 bound_call s bound b (Some (binding.MatchSome source)) callee e is c = not_called callee c
 bound_call s bound b (Some (binding.Argument index)) callee e is c = not_called callee c
 bound_call s bound b (Some (binding.ConstBool val ty)) callee e is c = not_called callee c

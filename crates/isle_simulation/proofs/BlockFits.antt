@@ -27,7 +27,7 @@ use Rattle.isle_simulation.specs.Completed.{completed, step_binds}
 use Rattle.isle_simulation.specs.Statements.{made_named}
 use Rattle.isle_simulation.specs.TermFunction.{ends_in_return, mark_of, tail_body, tail_of}
 use Rattle.isle_simulation.proofs.Ready.{IsReadyBind, AreReadyBinds, IsReadyFrom, IsReadyControl}
-use Rattle.isle_simulation.proofs.Written.{arm_stmt, block_body, bound_expr, call_expr, control_stmt, lets, made_expr, returned, written_read}
+use Rattle.isle_simulation.proofs.Written.{arm_stmt, block_body, bound_expr, call_expr, extraction_expr, control_stmt, lets, made_expr, returned, written_read}
 
 returned_fits : (kind : ReturnKind) (r : Read) → IsReturned (returned kind r)
 returned_fits return_kind.Plain r = tt
@@ -45,6 +45,10 @@ call_fits : (s : Setting) (kind : ReturnKind) (bound : List ℕ) (o : Option Ter
 call_fits s kind bound None callee parameters = tt
 call_fits s kind bound (Some t) callee parameters = tt
 
+extraction_fits : (s : Setting) (kind : ReturnKind) (bound : List ℕ) (o : Option Term) (callee : _) (parameter : BindingId) → FitsLet kind (extraction_expr s bound o callee parameter)
+extraction_fits s kind bound None callee parameter = tt
+extraction_fits s kind bound (Some t) callee parameter = tt
+
 named_fits : (kind : ReturnKind) (env : Environment) (ty : Sym) (variant : Option Sym) (fs : List (List ℕ × Read)) → FitsLet kind (made_named env ty variant fs)
 named_fits kind env ty (Some variant) fs = tt
 named_fits kind env ty None [] = tt
@@ -57,6 +61,7 @@ made_fits s kind bound (Some f) parts = named_fits kind s.env f.ty f.variant _
 -- ? stands only in a function that may answer nothing
 bound_fits : (s : Setting) (bound : List ℕ) (b : BindingId) (o : Option Binding) → IsReadyBind s bound (at (paths_in s) b) o → FitsLet (kind_of s.term.kind) (bound_expr s bound b o)
 bound_fits s bound b (Some (binding.Constructor term parameters k)) is = call_fits s (kind_of s.term.kind) bound (slice_get s.env.terms term.0) _ parameters
+bound_fits s bound b (Some (binding.Extractor term parameter)) is = extraction_fits s (kind_of s.term.kind) bound (slice_get s.env.terms term.0) _ parameter
 bound_fits s bound b (Some (binding.MatchSome source)) is = option_kind (kind_of s.term.kind) is.fits
 bound_fits s bound b (Some (binding.Argument index)) is = tt
 bound_fits s bound b (Some (binding.ConstBool val ty)) is = tt

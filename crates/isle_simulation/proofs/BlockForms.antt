@@ -1,5 +1,5 @@
 -- The statements of a block are of the forms that are built.
-use Rattle.std.proofs.Common.{◌≡◌, ⊎_elim, ℕ, ℤ, List, [], ◌∷◌, ◌++◌, map, Bool, true, false, Option, Some, None, refl, sym, ◌∙◌, subst, arith}
+use Rattle.std.proofs.Common.{◌≡◌, ◌≤◌, ⊎_elim, ℕ, ℤ, List, [], ◌∷◌, ◌++◌, length, map, Bool, true, false, Option, Some, None, refl, sym, ◌∙◌, subst, arith}
 use Rattle.std.specs.Prelude.{IsSomeAnd, option_map, slice_get}
 use Rattle.std.specs.List.{AllByRecursion}
 use Rattle.isle_core.specs.declared.BindingId.{BindingId}
@@ -17,7 +17,7 @@ use Rattle.isle_core.specs.declared.rule_sets.Binding.{Binding}
 use Rattle.isle_core.specs.declared.rule_sets.Binding.TheVariants as binding
 use Rattle.isle_core.specs.ArmPlaces.{bound_within}
 use Rattle.isle_core.specs.HasType.{typed_fields, IsOfDef, HasType}
-use Rattle.isle_core.specs.Calling.{calling, kind_of}
+use Rattle.isle_core.specs.Calling.{calling, extracting, kind_of}
 use Rattle.isle_core.specs.Constants.{int_of_def, int_value}
 use Rattle.isle_core.specs.Form.{Form, form, form_types}
 use Rattle.isle_core.specs.Making.{Making, MakesVariant, MakesStruct}
@@ -40,7 +40,7 @@ use Rattle.isle_tree.specs.declared.tree.TBind.{TBind}
 use Rattle.isle_tree.specs.Program.{Body, Done, Then}
 use Rattle.isle_tree.specs.WellFormed.{IsOperand, IsRead, IsFieldRead, IsExpr, IsBind, IsPattern, IsStmt, IsBody}
 use Rattle.isle_simulation.specs.Operands.{constant, in_place, is_bound}
-use Rattle.isle_simulation.specs.Patterns.{bind_before, field_binds, pattern_named, pattern_of}
+use Rattle.isle_simulation.specs.Patterns.{bind_before, field_binds, pattern_named, some_pattern, pattern_of}
 use Rattle.isle_simulation.specs.References.{is_declared, is_reference_in, read_as}
 use Rattle.isle_simulation.specs.RustNames.{IsVariantName, HasRustNames}
 use Rattle.isle_simulation.specs.Statements.{made_named}
@@ -48,10 +48,11 @@ use Rattle.isle_simulation.specs.TraitFns.{HasFnNames}
 use Rattle.isle_simulation.proofs.ArmsRun.{ArmPattern, arm_pattern}
 use Rattle.isle_simulation.proofs.OneBind.{spelled}
 use Rattle.isle_simulation.proofs.BoundTests.{found}
-use Rattle.isle_simulation.proofs.ExternalTerms.{callee_is}
+use Rattle.isle_simulation.proofs.ExternalTerms.{callee_is, extracted_is}
+use Rattle.isle_simulation.proofs.Made.{over_value, over_option, some_made}
 use Rattle.isle_simulation.proofs.PathValues.{IsConstant}
 use Rattle.isle_simulation.proofs.Ready.{IsSpelled, IsReady, AreReady, IsMadeReady, IsReadyBind, AreReadyBinds, IsReadyFrom, IsReadyControl}
-use Rattle.isle_simulation.proofs.Written.{written, written_operand, written_read, written_place, written_test, written_pattern, callee_of, reads, call_expr, field_reads, made_expr, bound_expr, block_body, control_stmt, lets, returned}
+use Rattle.isle_simulation.proofs.Written.{written, written_operand, written_read, written_place, written_test, written_pattern, callee_of, reads, call_expr, extraction_expr, field_reads, made_expr, bound_expr, block_body, control_stmt, lets, returned}
 
 -- ---- operands
 
@@ -145,9 +146,15 @@ plain_is s b names k = place_is s.env s.term b.0 (at (paths_in s) b) k.1.0 names
 call_is : (s : Setting) (bound : List ℕ) (o : Option Term) (called : Term) (callee : _) (parameters : List BindingId) → o ≡ Some called → IsExpr (call_expr s bound (Some called) callee parameters) → IsExpr (call_expr s bound o callee parameters)
 call_is s bound o called callee parameters e h = subst (λ x. IsExpr (call_expr s bound x callee parameters)) (sym e) h
 
+extraction_is : (s : Setting) (bound : List ℕ) (o : Option Term) (called : Term) (callee : _) (parameter : BindingId) → o ≡ Some called → IsExpr (extraction_expr s bound (Some called) callee parameter) → IsExpr (extraction_expr s bound o callee parameter)
+extraction_is s bound o called callee parameter e h = subst (λ x. IsExpr (extraction_expr s bound x callee parameter)) (sym e) h
+
 bound_is : (s : Setting) (bound : List ℕ) (b : BindingId) (o : Option Binding) → HasRustNames s.env → HasFnNames s.env → IsReadyBind s bound (at (paths_in s) b) o → IsExpr (bound_expr s bound b o)
 bound_is s bound b (Some (binding.Constructor term parameters k)) names fns is =
     call_is s bound (slice_get s.env.terms term.0) is.called (callee_of (calling s.env term)) parameters is.found (record { callee = callee_is s.env term is.called is.kind fns is.found is.external; args = reads_are s bound is.called.arg_tys parameters names is.args })
+bound_is s bound b (Some (binding.Extractor term parameter)) names fns is =
+    extraction_is s bound (slice_get s.env.terms term.0) is.called (callee_of (extracting s.env term)) parameter is.found
+    (record { callee = extracted_is s.env term is.called is.kind fns is.found is.external; args = reads_are s bound (is.called.ret_ty ∷ []) (parameter ∷ []) names (is.arg, tt) })
 bound_is s bound b (Some (binding.MatchSome source)) names fns is = source_is s bound source (found bound source.0 is.bound')
 bound_is s bound b (Some (binding.Argument index)) names fns is = plain_is s b names is
 bound_is s bound b (Some (binding.ConstBool val ty)) names fns is = plain_is s b names is
@@ -190,6 +197,9 @@ arm_is s c places names p =
     let n = names.forms p.mk p.f p.found in
     subst (λ o. IsPattern (written_pattern o)) (sym p.is) (pattern_is s.env p.f.ty p.f.variant _ p.binds n.ty n.variant (binds_are s.env (typed_fields s.env p.f.fields) places p.binds n.fields p.spelled))
 
+some_is : (places : List (Option BindingId)) → length places ≤ 1 → IsPattern (written_pattern (some_pattern places))
+some_is places le = subst (λ o. IsPattern (written_pattern o)) (sym (some_made places le).1) tt
+
 -- ---- blocks
 
 mutual
@@ -202,22 +212,29 @@ mutual
 
   control_is : (c : Control) (s : Setting) (bound made : List ℕ) → HasRustNames s.env → HasFnNames s.env → IsReadyControl s bound made c → IsSingle c → IsStmt (control_stmt s bound c)
   control_is (block.Match source (Arm (constraint.ConstBool val) places body NoArm)) s bound made names fns k o =
-      (operand_is s bound source k.1.0 names k.1.1, tested_is s.env (constraint.ConstBool val) k.1.0 names k.1.2.0 tt, block_is body s (bound_within bound places) made Done names fns k.1.2.2 o tt)
+      let v = over_value s bound source (constraint.ConstBool val) k.1.0 (λ e. cc) k.1.1 k.1.2.0 in
+      (operand_is s bound source v.ty names v.ready, tested_is s.env (constraint.ConstBool val) v.ty names v.is tt, block_is body s (bound_within bound places) made Done names fns k.1.2.2 o tt)
   control_is (block.Match source (Arm (constraint.ConstInt val of) places body NoArm)) s bound made names fns k o =
-      (operand_is s bound source k.1.0 names k.1.1, tested_is s.env (constraint.ConstInt val of) k.1.0 names k.1.2.0 tt, block_is body s (bound_within bound places) made Done names fns k.1.2.2 o tt)
+      let v = over_value s bound source (constraint.ConstInt val of) k.1.0 (λ e. cc) k.1.1 k.1.2.0 in
+      (operand_is s bound source v.ty names v.ready, tested_is s.env (constraint.ConstInt val of) v.ty names v.is tt, block_is body s (bound_within bound places) made Done names fns k.1.2.2 o tt)
   control_is (block.Match source (Arm (constraint.ConstPrim val) places body NoArm)) s bound made names fns k o =
-      (operand_is s bound source k.1.0 names k.1.1, tested_is s.env (constraint.ConstPrim val) k.1.0 names k.1.2.0 tt, block_is body s (bound_within bound places) made Done names fns k.1.2.2 o tt)
-  control_is (block.Match source (Arm (constraint.Variant of variant) places body NoArm)) s bound made names fns k o = (
-    arm_is s (constraint.Variant of variant) places names (arm_pattern s source k.1.0 (constraint.Variant of variant) places k.1.2.0 k.1.2.1 tt),
-    written_is s bound true source k.1.0 names k.1.1,
-    block_is body s (bound_within bound places) made Done names fns k.1.2.2 o tt,
-  )
-  control_is (block.Match source (Arm (constraint.Struct of) places body NoArm)) s bound made names fns k o = (
-    arm_is s (constraint.Struct of) places names (arm_pattern s source k.1.0 (constraint.Struct of) places k.1.2.0 k.1.2.1 tt),
-    written_is s bound true source k.1.0 names k.1.1,
-    block_is body s (bound_within bound places) made Done names fns k.1.2.2 o tt,
-  )
-  control_is (block.Match source (Arm constraint.Some places body NoArm)) s bound made names fns k o = absurd k.1.2.0
+      let v = over_value s bound source (constraint.ConstPrim val) k.1.0 (λ e. cc) k.1.1 k.1.2.0 in
+      (operand_is s bound source v.ty names v.ready, tested_is s.env (constraint.ConstPrim val) v.ty names v.is tt, block_is body s (bound_within bound places) made Done names fns k.1.2.2 o tt)
+  control_is (block.Match source (Arm (constraint.Variant of variant) places body NoArm)) s bound made names fns k o =
+      let v = over_value s bound source (constraint.Variant of variant) k.1.0 (λ e. cc) k.1.1 k.1.2.0 in (
+        arm_is s (constraint.Variant of variant) places names (arm_pattern s source v.ty (constraint.Variant of variant) places v.is k.1.2.1 tt),
+        written_is s bound true source v.ty names v.ready,
+        block_is body s (bound_within bound places) made Done names fns k.1.2.2 o tt,
+      )
+  control_is (block.Match source (Arm (constraint.Struct of) places body NoArm)) s bound made names fns k o =
+      let v = over_value s bound source (constraint.Struct of) k.1.0 (λ e. cc) k.1.1 k.1.2.0 in (
+        arm_is s (constraint.Struct of) places names (arm_pattern s source v.ty (constraint.Struct of) places v.is k.1.2.1 tt),
+        written_is s bound true source v.ty names v.ready,
+        block_is body s (bound_within bound places) made Done names fns k.1.2.2 o tt,
+      )
+  control_is (block.Match source (Arm constraint.Some places body NoArm)) s bound made names fns k o =
+      let v = over_option s bound source k.1.0 k.1.1 k.1.2.0 in
+      (some_is places k.1.2.1.0, source_is s bound source v.1.bound', block_is body s (bound_within bound places) made Done names fns k.1.2.2 o tt)
   control_is (block.Match source (Arm c places body (Arm d others inside arms))) s bound made names fns k o = absurd o
   control_is (block.Match source NoArm) s bound made names fns k o = absurd o
   control_is (block.Equal x y body) s bound made names fns k o = (operand_is s bound x k.0.0 names k.0.1, operand_is s bound y k.0.0 names k.0.2, block_is body s bound made Done names fns k.1 o tt)

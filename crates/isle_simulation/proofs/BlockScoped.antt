@@ -1,6 +1,7 @@
 -- What the statements of a block read is there, and holds what is asked of it.
 use Rattle.std.proofs.Common.{◌≡◌, ⊎_elim, ℕ, suc, List, [], ◌∷◌, ◌++◌, length, Bool, true, false, cond, eqb, Option, Some, None, map, slice_get, refl, sym, ap, ◌∙◌, subst, append_assoc}
 use Rattle.std.specs.Prelude.{◌||◌, IsSome, IsTrue, option_map}
+use Rattle.std.specs.Option.{option_map_or}
 use Rattle.std.proofs.lemmas.Bool.{eqb-true, eq-eqb, lt-ltb}
 use Rattle.std.proofs.lemmas.List.{append-nil, length-map}
 use Rattle.std.proofs.lemmas.List.Sums.{fold_push}
@@ -16,17 +17,17 @@ use Rattle.isle_core.specs.declared.rule_sets.Constraint.{Constraint}
 use Rattle.isle_core.specs.declared.rule_sets.Constraint.TheVariants as constraint
 use Rattle.isle_core.specs.declared.types.Term.{Term}
 use Rattle.isle_core.specs.ArmPlaces.{AreParts, ArePlacesOf, bound_within}
-use Rattle.isle_core.specs.Calling.{Calling, ByTurns, ByCases, NoCall, calling, kind_of, AnswersOnce}
+use Rattle.isle_core.specs.Calling.{Calling, ByTurns, ByCases, NoCall, calling, extracting, kind_of, AnswersOnce}
 use Rattle.isle_core.specs.Constants.{int_value}
 use Rattle.isle_core.specs.ConstraintType.{IsConstraintOf}
 use Rattle.isle_core.specs.Form.{Form, form}
 use Rattle.isle_core.specs.HasType.{typed_fields}
 use Rattle.isle_core.specs.Making.{Making, MakesVariant, MakesStruct}
-use Rattle.isle_core.specs.Path.{Path, Paths, Arg, ConstBool, ConstInt, ConstPrim, Called, MadeStruct, NoPath, APath, at}
+use Rattle.isle_core.specs.Path.{Path, Paths, Arg, ConstBool, ConstInt, ConstPrim, MadeStruct, NoPath, APath, at}
 use Rattle.isle_core.specs.Block as block
 use Rattle.isle_core.specs.Block.{Block, Stop, Step, Control, Arm, NoArm}
 use Rattle.isle_core.specs.Bindable.{IsPlain, bound_by}
-use Rattle.isle_core.specs.ExternalCall.{IsCall}
+use Rattle.isle_core.specs.ExternalCall.{IsCall, IsExtraction}
 use Rattle.isle_core.specs.PathType.{IsPathOf, IsOptionOf}
 use Rattle.isle_core.specs.Rule.{Environment}
 use Rattle.isle_core.specs.SingleArms.{HasSingleArms, IsSingle}
@@ -40,13 +41,16 @@ use Rattle.isle_tree.specs.declared.holds.Item.TheVariants as item
 use Rattle.isle_tree.specs.declared.tree.Operand.{Operand}
 use Rattle.isle_tree.specs.declared.tree.Operand.TheVariants as operand
 use Rattle.isle_tree.specs.declared.tree.Read.{Read}
+use Rattle.isle_tree.specs.declared.tree.Read.TheVariants as read
 use Rattle.isle_tree.specs.declared.tree.TBind.{TBind}
+use Rattle.isle_tree.specs.declared.tree.TPat.TheVariants as pattern
+use Rattle.isle_tree.specs.declared.tree.TExpr.TheVariants as expr
 use Rattle.isle_tree.specs.declared.tree.TraitFn.{TraitFn}
 use Rattle.isle_tree.specs.Program.{IfLet, Body, Done, Then}
-use Rattle.isle_tree.specs.WellFormed.{Locals, newer, local_holds, operand_holds, read_holds, is_value, are_values, kind_holds, call_holds, callee_holds, inner_holds, are_field_values, made_holds, expr_holds, GivesKind, after_let, ReadsPattern, field_locals, pattern_locals, IsBodyScoped}
+use Rattle.isle_tree.specs.WellFormed.{Locals, newer, local_holds, operand_holds, read_holds, is_value, are_values, kind_holds, call_holds, callee_holds, inner_holds, are_field_values, made_holds, expr_holds, GivesKind, after_let, ReadsPattern, field_locals, inner_locals, pattern_locals, IsBodyScoped}
 use Rattle.isle_simulation.specs.Operands.{constant, in_place, is_bound}
-use Rattle.isle_simulation.specs.Patterns.{bind_before, field_binds, leaves_out, pattern_named, pattern_of}
-use Rattle.isle_simulation.specs.References.{is_declared, is_reference_in, read_as}
+use Rattle.isle_simulation.specs.Patterns.{bind_before, field_binds, leaves_out, pattern_named, some_pattern, pattern_of}
+use Rattle.isle_simulation.specs.References.{is_declared, result_type, is_reference_in, read_as}
 use Rattle.isle_simulation.specs.Statements.{made_named}
 use Rattle.isle_simulation.specs.TraitFns.{trait_fns_of, HasFnNames}
 use Rattle.isle_simulation.specs.TypeTexts.{parameter}
@@ -54,10 +58,11 @@ use Rattle.isle_simulation.proofs.ArmsRun.{same_binds, IsForm, ArmPattern, arm_p
 use Rattle.isle_simulation.proofs.OneBind.{no_option, spelled}
 use Rattle.isle_simulation.proofs.BoundTests.{found}
 use Rattle.isle_simulation.proofs.CompletedRuns.{bound_push}
-use Rattle.isle_simulation.proofs.ExternalTerms.{external_term, term_fn_found}
+use Rattle.isle_simulation.proofs.ExternalTerms.{external_term, external_extractor, term_fn_found, extractor_found}
+use Rattle.isle_simulation.proofs.Made.{over_value, over_option, some_made}
 use Rattle.isle_simulation.proofs.PathValues.{IsConstant}
-use Rattle.isle_simulation.proofs.Ready.{IsSpelled, IsReady, AreReady, IsMadeReady, IsReadyBind, AreReadyBinds, IsReadyFrom, IsReadyControl}
-use Rattle.isle_simulation.proofs.Written.{written, written_operand, written_read, written_place, written_test, written_pattern, callee_of, reads, call_expr, field_reads, made_expr, bound_expr, block_body, control_stmt, lets, returned}
+use Rattle.isle_simulation.proofs.Ready.{IsSpelled, IsReady, IsOptionReady, AreReady, IsMadeReady, IsReadyBind, AreReadyBinds, IsReadyFrom, IsReadyControl}
+use Rattle.isle_simulation.proofs.Written.{written, written_operand, written_read, written_place, written_test, written_pattern, callee_of, reads, call_expr, extraction_expr, field_reads, made_expr, bound_expr, block_body, control_stmt, lets, returned}
 
 -- ---- operands
 
@@ -127,6 +132,10 @@ operand_one s bound locals b ty l h = one (is_bound bound b) refl
     one true is = rw is ((l.by b is).value ty h.path)
     one false is = rw is (⊎_elim (λ k. absurd (let bad : false ≡ true = sym is ∙ k in cc)) (λ k. place_holds s.env s.term b.0 (at (paths_in s) b) ty locals h.path k) h.place)
 
+-- an option that is bound
+operand_option : (s : Setting) (bound : List ℕ) (locals : Locals) (b : BindingId) (ty : TypeId) → LocalsHold s bound locals → IsOptionReady s bound b ty → operand_holds (length s.term.arg_tys) locals (written_operand s bound b) ≡ Some (holds.Optional item.Value)
+operand_option s bound locals b ty l h = rw h.bound' ((l.by b h.bound').option ty h.path)
+
 read_same : (params : ℕ) (locals : Locals) (wanted is : Bool) (o : Operand) → read_holds params locals (read_as wanted is o) ≡ operand_holds params locals o
 read_same params locals true true o = refl
 read_same params locals true false o = refl
@@ -182,23 +191,51 @@ called_once of (ByTurns callee p) h = h.2
 called_once of (ByCases callee p) h = absurd h
 called_once of NoCall h = absurd h
 
-call_as : (env : Environment) (t : Term) (term : _) (ps : _) (k : ℕ) (of : ReturnKind) (once : AnswersOnce of) (c : Calling) → calling env term ≡ c → IsCall of c → HoldsAs env t (Called term ps k) (Some (answer_holds of once).0)
-call_as env t term ps k return_kind.Option once (ByTurns callee p) e h = record { value = λ ty of. absurd (let bad : IsCall return_kind.Plain (ByTurns callee p) = subst (IsCall return_kind.Plain) e of.0 in let q = h.0 in let r = bad.0 in cc); option = λ ty of. refl }
-call_as env t term ps k return_kind.Plain once (ByTurns callee p) e h = record { value = λ ty of. refl; option = λ ty of. absurd (let bad : IsCall return_kind.Option (ByTurns callee p) = subst (IsCall return_kind.Option) e of.0 in let q = h.0 in let r = bad.0 in cc) }
-call_as env t term ps k return_kind.Iterator once (ByTurns callee p) e h = absurd once
-call_as env t term ps k of once (ByCases callee p) e h = absurd h
-call_as env t term ps k of once NoCall e h = absurd h
+extracted_once : (of : ReturnKind) (c : Calling) → IsExtraction of c → AnswersOnce of
+extracted_once of (ByCases callee p) h = h.2
+extracted_once of (ByTurns callee p) h = absurd h
+extracted_once of NoCall h = absurd h
+
+-- a call is of one kind
+one_call : (a b : ReturnKind) (c : Calling) → IsCall a c → IsCall b c → a ≡ b
+one_call a b (ByTurns callee p) h k = sym h.0 ∙ k.0
+one_call a b (ByCases callee p) h k = absurd h
+one_call a b NoCall h k = absurd h
+
+one_extraction : (a b : ReturnKind) (c : Calling) → IsExtraction a c → IsExtraction b c → a ≡ b
+one_extraction a b (ByCases callee p) h k = sym h.0 ∙ k.0
+one_extraction a b (ByTurns callee p) h k = absurd h
+one_extraction a b NoCall h k = absurd h
+
+-- an answer of the kind that the path's type says
+answer_as : (env : Environment) (t : Term) (p : Path) (of : ReturnKind) (once : AnswersOnce of) → ((ty : TypeId) → IsPathOf env t p ty → of ≡ return_kind.Plain) → ((ty : TypeId) → IsOptionOf env t p ty → of ≡ return_kind.Option)
+    → HoldsAs env t p (Some (answer_holds of once).0)
+answer_as env t p return_kind.Plain once plain option = record { value = λ ty h. refl; option = λ ty h. absurd (let bad = option ty h in cc) }
+answer_as env t p return_kind.Option once plain option = record { value = λ ty h. absurd (let bad = plain ty h in cc); option = λ ty h. refl }
+answer_as env t p return_kind.Iterator once plain option = absurd once
 
 same_count : (n m : ℕ) → n ≡ m → eqb n m ≡ true
 same_count n m e = eq-eqb n m e
 
+-- a call of what takes as many
+called_holds : (s : Setting) (bound : List ℕ) (locals : Locals) (borrow : Bool) (callee : _) (tys : List TypeId) (parameters : List BindingId) (of : ReturnKind) → LocalsHold s bound locals → AreReady s bound parameters tys
+    → callee_holds (trait_fns_of s.env) callee (length tys) ≡ kind_holds of → expr_holds (trait_fns_of s.env) (length s.term.arg_tys) locals (expr.Call borrow (record { callee = callee; args = reads s bound tys parameters })) ≡ kind_holds of
+called_holds s bound locals borrow callee tys parameters of l args k =
+    let r = reads_hold s bound locals tys parameters l args in
+    ap (λ y. cond y (callee_holds (trait_fns_of s.env) callee (length (reads s bound tys parameters))) None) r.0
+    ∙ ap (callee_holds (trait_fns_of s.env) callee) r.1 ∙ k
+
 call_let : (s : Setting) (bound : List ℕ) (locals : Locals) (o : Option Term) (called : Term) (callee : _) (parameters : List BindingId) (of : ReturnKind) → o ≡ Some called → LocalsHold s bound locals → AreReady s bound parameters called.arg_tys
     → callee_holds (trait_fns_of s.env) callee (length called.arg_tys) ≡ kind_holds of → expr_holds (trait_fns_of s.env) (length s.term.arg_tys) locals (call_expr s bound o callee parameters) ≡ kind_holds of
 call_let s bound locals o called callee parameters of e l args k =
-    let r = reads_hold s bound locals called.arg_tys parameters l args in
     ap (λ x. expr_holds (trait_fns_of s.env) (length s.term.arg_tys) locals (call_expr s bound x callee parameters)) e
-    ∙ ap (λ y. cond y (callee_holds (trait_fns_of s.env) callee (length (reads s bound called.arg_tys parameters))) None) r.0
-    ∙ ap (callee_holds (trait_fns_of s.env) callee) r.1 ∙ k
+    ∙ called_holds s bound locals (is_declared s.env called.ret_ty) callee called.arg_tys parameters of l args k
+
+extraction_let : (s : Setting) (bound : List ℕ) (locals : Locals) (o : Option Term) (called : Term) (callee : _) (parameter : BindingId) (of : ReturnKind) → o ≡ Some called → LocalsHold s bound locals → IsReady s bound parameter called.ret_ty
+    → callee_holds (trait_fns_of s.env) callee 1 ≡ kind_holds of → expr_holds (trait_fns_of s.env) (length s.term.arg_tys) locals (extraction_expr s bound o callee parameter) ≡ kind_holds of
+extraction_let s bound locals o called callee parameter of e l arg k =
+    ap (λ x. expr_holds (trait_fns_of s.env) (length s.term.arg_tys) locals (extraction_expr s bound x callee parameter)) e
+    ∙ called_holds s bound locals (option_map_or (is_declared s.env) (result_type (Some called)) false) callee (called.ret_ty ∷ []) (parameter ∷ []) of l (arg, tt) k
 
 named_holds : (fns : List TraitFn) (env : Environment) (params : ℕ) (locals : Locals) (ty : Sym) (variant : Option Sym) (fs : List (List ℕ × Read)) → are_field_values params locals fs ≡ true → expr_holds fns params locals (made_named env ty variant fs) ≡ one_value
 named_holds fns env params locals ty (Some variant) fs e = ap made_holds e
@@ -228,7 +265,21 @@ let_holds s bound locals b (Some (binding.Constructor term parameters k)) names 
           ∙ ap kind_holds x.answers
           )
           ∙ answered.1;
-      kept = subst (λ q. HoldsAs s.env s.term q (Some answered.0)) (sym is.path) (call_as s.env s.term term _ k is.kind once (calling s.env term) refl is.external);
+      kept = subst (λ q. HoldsAs s.env s.term q (Some answered.0)) (sym is.path)
+          (answer_as s.env s.term _ is.kind once (λ ty h. one_call is.kind return_kind.Plain (calling s.env term) is.external h.0) (λ ty h. one_call is.kind return_kind.Option (calling s.env term) is.external h.0));
+    }
+let_holds s bound locals b (Some (binding.Extractor term parameter)) names l is =
+    let x = external_extractor s.env term is.called is.kind is.found is.external in
+    let once = extracted_once is.kind (extracting s.env term) is.external in
+    let answered = answer_holds is.kind once in
+    record {
+      h = answered.0;
+      is =
+          extraction_let s bound locals (slice_get s.env.terms term.0) is.called (callee_of (extracting s.env term)) parameter is.kind is.found l is.arg
+          (ap (λ y. callee_holds (trait_fns_of s.env) y 1) x.callee ∙ ap (λ y. call_holds y 1) (extractor_found s.env term is.called is.kind names is.found x))
+          ∙ answered.1;
+      kept = subst (λ q. HoldsAs s.env s.term q (Some answered.0)) (sym is.path)
+          (answer_as s.env s.term _ is.kind once (λ ty h. one_extraction is.kind return_kind.Plain (extracting s.env term) is.external h.0) (λ ty h. one_extraction is.kind return_kind.Option (extracting s.env term) is.external h.0));
     }
 let_holds s bound locals b (Some (binding.MatchSome source)) names l is =
     record {
@@ -311,6 +362,26 @@ form_hold s source ty (constraint.Struct of) places bound locals p k is l =
     places_hold s (λ i. binding.ExtractStruct source (record { 0 = i })) 0 (typed_fields s.env p.f.fields) places bound locals p.binds (λ j b e. struct_none s source j b e) p.spelled k.1 l
 form_hold s source ty c places bound locals p k is l = absurd is
 
+-- what is within an option is no option
+inner_none : (s : Setting) (source b : BindingId) → slice_get s.bindings b.0 ≡ Some (binding.MatchSome source) → IsNoOption s b
+inner_none s source b e ty h = none (subst (λ p. IsOptionOf s.env s.term p ty) (at_before s.bindings b (binding.MatchSome source) e) h)
+  where
+    none : ⊥ → ⊥
+    none x = x
+
+same_local : (a b : Option ℕ) → Some (pattern.Some a) ≡ Some (pattern.Some b) → a ≡ b
+same_local a b e = cc
+
+-- the place of an option binds what is within
+some_hold : (s : Setting) (source : BindingId) (places : List (Option BindingId)) (bound : List ℕ) (locals : Locals) (local : Option ℕ) → some_pattern places ≡ Some (pattern.Some local) → ArePlacesOf s source constraint.Some places → LocalsHold s bound locals
+    → LocalsHold s (bound_within bound places) (locals ++ inner_locals local one_value)
+some_hold s source [] bound locals local e k l = subst (λ x. LocalsHold s bound (locals ++ inner_locals x one_value)) (same_local None local e) (subst (LocalsHold s bound) (sym (append-nil locals)) l)
+some_hold s source (None ∷ []) bound locals local e k l = subst (λ x. LocalsHold s bound (locals ++ inner_locals x one_value)) (same_local None local e) (subst (LocalsHold s bound) (sym (append-nil locals)) l)
+some_hold s source (Some b ∷ []) bound locals local e k l =
+    subst (λ x. LocalsHold s (bound ++ b.0 ∷ []) (locals ++ inner_locals x one_value)) (same_local (Some b.0) local e)
+    (more_hold s bound locals b (holds.One item.Value) l (record { value = λ ty h. refl; option = λ ty h. absurd (inner_none s source b k.1.0 ty h) }))
+some_hold s source (p ∷ q ∷ places) bound locals local e k l = cc
+
 named_pattern : (env : Environment) (ty : Sym) (variant : Option Sym) (more : Bool) (binds : List TBind) (h : Option Holds) → IsTrue (is_value h) → ReadsPattern (pattern_named env ty variant more binds) h × (pattern_locals (pattern_named env ty variant more binds) h ≡ field_locals binds)
 named_pattern env ty (Some variant) more binds h k = (k, refl)
 named_pattern env ty None more binds h k = (k, refl)
@@ -322,7 +393,24 @@ returned_scoped return_kind.Plain once r fns params locals e = rw e tt
 returned_scoped return_kind.Option once r fns params locals e = rw e tt
 returned_scoped return_kind.Iterator once r fns params locals e = absurd once
 
--- the body of an arm that tests by a pattern
+-- the body of an arm that tests whether an option is something
+some_scoped : (s : Setting) (bound : List ℕ) (locals : Locals) (source : BindingId) (ty : TypeId) (places : List (Option BindingId)) (inside ss : Body) → LocalsHold s bound locals → IsOptionReady s bound source ty → ArePlacesOf s source constraint.Some places
+    → ((after : Locals) → LocalsHold s (bound_within bound places) after → IsBodyScoped (trait_fns_of s.env) (kind_of s.term.kind) (length s.term.arg_tys) after inside)
+    → IsBodyScoped (trait_fns_of s.env) (kind_of s.term.kind) (length s.term.arg_tys) locals ss
+    → IsBodyScoped (trait_fns_of s.env) (kind_of s.term.kind) (length s.term.arg_tys) locals (Then (IfLet (written_pattern (some_pattern places)) (read.Plain (written_operand s bound source)) inside) ss)
+some_scoped s bound locals source ty places inside ss l ready parts h rest =
+    let p = some_made places parts.0 in
+    let held = operand_option s bound locals source ty l ready in
+    subst (λ o. IsBodyScoped (trait_fns_of s.env) (kind_of s.term.kind) (length s.term.arg_tys) locals (Then (IfLet (written_pattern o) (read.Plain (written_operand s bound source)) inside) ss)) (sym p.1) (
+      (
+        subst (λ x. IsSome (inner_holds x)) (sym held) refl,
+        subst (λ x. IsBodyScoped (trait_fns_of s.env) (kind_of s.term.kind) (length s.term.arg_tys) (locals ++ inner_locals p.0 (inner_holds x)) inside) (sym held)
+            (h (locals ++ inner_locals p.0 one_value) (some_hold s source places bound locals p.0 p.1 parts l)),
+      ),
+      rest,
+    )
+
+-- the body of an arm that tests by a pattern of a variant or a struct
 form_scoped : (s : Setting) (bound : List ℕ) (locals : Locals) (source : BindingId) (ty : TypeId) (c : Constraint) (places : List (Option BindingId)) (inside ss : Body) → LocalsHold s bound locals → IsReady s bound source ty → IsConstraintOf s.env c ty → ArePlacesOf s source c places → IsForm c
     → ((after : Locals) → LocalsHold s (bound_within bound places) after → IsBodyScoped (trait_fns_of s.env) (kind_of s.term.kind) (length s.term.arg_tys) after inside)
     → IsBodyScoped (trait_fns_of s.env) (kind_of s.term.kind) (length s.term.arg_tys) locals ss
@@ -352,37 +440,45 @@ mutual
 
   control_scoped : (c : Control) (s : Setting) (bound made : List ℕ) (locals : Locals) (ss : Body) → HasFnNames s.env → AnswersOnce (kind_of s.term.kind) → LocalsHold s bound locals → IsReadyControl s bound made c → IsSingle c
       → IsBodyScoped (trait_fns_of s.env) (kind_of s.term.kind) (length s.term.arg_tys) locals ss → IsBodyScoped (trait_fns_of s.env) (kind_of s.term.kind) (length s.term.arg_tys) locals (Then (control_stmt s bound c) ss)
-  control_scoped (block.Match source (Arm (constraint.ConstBool val) places body NoArm)) s bound made locals ss names once l k o h = (
-    (
-      is_one _ (operand_one s bound locals source k.1.0 l k.1.1),
-      is_one _ (tested_holds s.env (constraint.ConstBool val) (length s.term.arg_tys) locals tt),
-      block_scoped body s (bound_within bound places) made locals Done names once (within_hold s bound places locals k.1.2.1 l) k.1.2.2 o (λ after. tt),
-    ),
-    h,
-  )
-  control_scoped (block.Match source (Arm (constraint.ConstInt val of) places body NoArm)) s bound made locals ss names once l k o h = (
-    (
-      is_one _ (operand_one s bound locals source k.1.0 l k.1.1),
-      is_one _ (tested_holds s.env (constraint.ConstInt val of) (length s.term.arg_tys) locals tt),
-      block_scoped body s (bound_within bound places) made locals Done names once (within_hold s bound places locals k.1.2.1 l) k.1.2.2 o (λ after. tt),
-    ),
-    h,
-  )
-  control_scoped (block.Match source (Arm (constraint.ConstPrim val) places body NoArm)) s bound made locals ss names once l k o h = (
-    (
-      is_one _ (operand_one s bound locals source k.1.0 l k.1.1),
-      is_one _ (tested_holds s.env (constraint.ConstPrim val) (length s.term.arg_tys) locals tt),
-      block_scoped body s (bound_within bound places) made locals Done names once (within_hold s bound places locals k.1.2.1 l) k.1.2.2 o (λ after. tt),
-    ),
-    h,
-  )
+  control_scoped (block.Match source (Arm (constraint.ConstBool val) places body NoArm)) s bound made locals ss names once l k o h =
+      let v = over_value s bound source (constraint.ConstBool val) k.1.0 (λ e. cc) k.1.1 k.1.2.0 in (
+        (
+          is_one _ (operand_one s bound locals source v.ty l v.ready),
+          is_one _ (tested_holds s.env (constraint.ConstBool val) (length s.term.arg_tys) locals tt),
+          block_scoped body s (bound_within bound places) made locals Done names once (within_hold s bound places locals k.1.2.1 l) k.1.2.2 o (λ after. tt),
+        ),
+        h,
+      )
+  control_scoped (block.Match source (Arm (constraint.ConstInt val of) places body NoArm)) s bound made locals ss names once l k o h =
+      let v = over_value s bound source (constraint.ConstInt val of) k.1.0 (λ e. cc) k.1.1 k.1.2.0 in (
+        (
+          is_one _ (operand_one s bound locals source v.ty l v.ready),
+          is_one _ (tested_holds s.env (constraint.ConstInt val of) (length s.term.arg_tys) locals tt),
+          block_scoped body s (bound_within bound places) made locals Done names once (within_hold s bound places locals k.1.2.1 l) k.1.2.2 o (λ after. tt),
+        ),
+        h,
+      )
+  control_scoped (block.Match source (Arm (constraint.ConstPrim val) places body NoArm)) s bound made locals ss names once l k o h =
+      let v = over_value s bound source (constraint.ConstPrim val) k.1.0 (λ e. cc) k.1.1 k.1.2.0 in (
+        (
+          is_one _ (operand_one s bound locals source v.ty l v.ready),
+          is_one _ (tested_holds s.env (constraint.ConstPrim val) (length s.term.arg_tys) locals tt),
+          block_scoped body s (bound_within bound places) made locals Done names once (within_hold s bound places locals k.1.2.1 l) k.1.2.2 o (λ after. tt),
+        ),
+        h,
+      )
   control_scoped (block.Match source (Arm (constraint.Variant of variant) places body NoArm)) s bound made locals ss names once l k o h =
-      form_scoped s bound locals source k.1.0 (constraint.Variant of variant) places (block_body s (bound_within bound places) body Done) ss l k.1.1 k.1.2.0 k.1.2.1 tt
+      let v = over_value s bound source (constraint.Variant of variant) k.1.0 (λ e. cc) k.1.1 k.1.2.0 in
+      form_scoped s bound locals source v.ty (constraint.Variant of variant) places (block_body s (bound_within bound places) body Done) ss l v.ready v.is k.1.2.1 tt
       (λ after held. block_scoped body s (bound_within bound places) made after Done names once held k.1.2.2 o (λ last. tt)) h
   control_scoped (block.Match source (Arm (constraint.Struct of) places body NoArm)) s bound made locals ss names once l k o h =
-      form_scoped s bound locals source k.1.0 (constraint.Struct of) places (block_body s (bound_within bound places) body Done) ss l k.1.1 k.1.2.0 k.1.2.1 tt
+      let v = over_value s bound source (constraint.Struct of) k.1.0 (λ e. cc) k.1.1 k.1.2.0 in
+      form_scoped s bound locals source v.ty (constraint.Struct of) places (block_body s (bound_within bound places) body Done) ss l v.ready v.is k.1.2.1 tt
       (λ after held. block_scoped body s (bound_within bound places) made after Done names once held k.1.2.2 o (λ last. tt)) h
-  control_scoped (block.Match source (Arm constraint.Some places body NoArm)) s bound made locals ss names once l k o h = absurd k.1.2.0
+  control_scoped (block.Match source (Arm constraint.Some places body NoArm)) s bound made locals ss names once l k o h =
+      let v = over_option s bound source k.1.0 k.1.1 k.1.2.0 in
+      some_scoped s bound locals source v.0 places (block_body s (bound_within bound places) body Done) ss l v.1 k.1.2.1
+      (λ after held. block_scoped body s (bound_within bound places) made after Done names once held k.1.2.2 o (λ last. tt)) h
   control_scoped (block.Match source (Arm c places body (Arm d others inside arms))) s bound made locals ss names once l k o h = absurd o
   control_scoped (block.Match source NoArm) s bound made locals ss names once l k o h = absurd o
   control_scoped (block.Equal x y body) s bound made locals ss names once l k o h =

@@ -11,7 +11,7 @@ use Rattle.isle_core.specs.declared.rule_sets.Binding.TheVariants as binding
 use Rattle.isle_core.specs.ArmPlaces.{bound_within}
 use Rattle.isle_core.specs.Bindable.{IsBindable, AreBindable, bound_by}
 use Rattle.isle_core.specs.Block.{Block, Stop, Step, Control, Match, Equal, Loop, Return, Arms, NoArm, Arm}
-use Rattle.isle_core.specs.BlockLawful.{HasArm, IsLawfulFrom, IsLawfulControl, AreLawfulArms, IsLawfulBlock}
+use Rattle.isle_core.specs.BlockLawful.{Source, AValue, AnOption, IsReadIn, HasArm, IsLawfulFrom, IsLawfulControl, AreLawfulArms, IsLawfulBlock}
 use Rattle.isle_core.specs.Form.{Form, form, form_types}
 use Rattle.isle_core.specs.Making.{Making, MakesVariant, MakesStruct}
 use Rattle.isle_core.specs.Occurrences.{AreNew, occurrences, after_control}
@@ -24,7 +24,7 @@ use Rattle.isle_simulation.specs.Completed.{local_parts, each_needed, with_parts
 use Rattle.isle_simulation.specs.Operands.{is_bound}
 use Rattle.isle_simulation.proofs.BoundTests.{found}
 use Rattle.isle_simulation.proofs.CompletedRuns.{HasLocal, needed_local, needs_local, step_occurrences, after_control_same, Adds, adds_none, bound_push, adds_more, bound_by-append, adds_with, adds_binds, adds_step, adds_within}
-use Rattle.isle_simulation.proofs.Ready.{IsSpelled, AreReady, IsMadeReady, IsReadyBind, AreReadyBinds, IsReadyFrom, IsReadyControl, AreReadyArms}
+use Rattle.isle_simulation.proofs.Ready.{IsSpelled, IsReadyIn, AreReady, IsMadeReady, IsReadyBind, AreReadyBinds, IsReadyFrom, IsReadyControl, AreReadyArms}
 
 -- ---- bind orders behind one another
 
@@ -230,6 +230,9 @@ bind_ready : (s : Setting) (bound more : List ℕ) (b : BindingId) (o : Option B
 bind_ready s bound more b (Some (binding.Constructor term parameters instance)) e a is =
     with_ready s more b parameters is.called.arg_tys (read_ready s bound more parameters is.called.arg_tys a is.args)
     (λ ready. subst (IsReadyBind s (bound_by more (needs s more parameters)) (at (paths_in s) b)) (sym e) (record { path = is.path; called = is.called; found = is.found; args = ready; kind = is.kind; external = is.external }))
+bind_ready s bound more b (Some (binding.Extractor term parameter)) e a is =
+    with_ready s more b (parameter ∷ []) (is.called.ret_ty ∷ []) (read_ready s bound more (parameter ∷ []) (is.called.ret_ty ∷ []) a (is.arg, tt))
+    (λ ready. subst (IsReadyBind s (bound_by more (needs s more (parameter ∷ []))) (at (paths_in s) b)) (sym e) (record { path = is.path; called = is.called; found = is.found; arg = ready.0; result = is.result; one = is.one; kind = is.kind; external = is.external }))
 bind_ready s bound more b (Some (binding.MatchSome source)) e a is =
     let there = a.keeps source (found bound source.0 is.bound') in
     subst (λ ns. AreReadyBinds s more (ns ++ b ∷ [])) (sym (source_needs s more source there))
@@ -251,6 +254,16 @@ binds_ready s (b ∷ binds) bound more a h =
     ready_append s (with_needs s more b) (completed_binds s inner binds) more (bind_ready s bound more b (slice_get s.bindings b.0) refl a h.0) (binds_ready s binds (bound ++ b.0 ∷ []) inner (adds_with s bound more b a) h.1)
 
 -- ---- blocks
+
+-- what a match is over
+source_ready : (s : Setting) (bound more : List ℕ) (source : BindingId) (over : Source) → Adds s bound more → IsReadIn s bound source over → AreReadyBinds s more (needs s more (source ∷ [])) × IsReadyIn s (bound_by more (needs s more (source ∷ []))) source over
+source_ready s bound more source (AValue ty) a k =
+    let h = read_ready s bound more (source ∷ []) (ty ∷ []) a (k, tt) in
+    (h.binds, h.ready.0)
+source_ready s bound more source (AnOption ty) a k =
+    let there = a.keeps source (found bound source.0 k.bound') in
+    let ns = needs s more (source ∷ []) in
+    (subst (AreReadyBinds s more) (sym (source_needs s more source there)) tt, record { path = k.path; bound' = still_bound ns more source there })
 
 mutual
   block_ready : (b : Block) (s : Setting) (bound more made : List ℕ) → Adds s bound more → IsLawfulFrom s bound made b → IsReadyFrom s more made (completed s more b)
@@ -274,9 +287,9 @@ mutual
   control_ready : (c : Control) (rest : Block) (s : Setting) (bound more made : List ℕ) → Adds s bound more → IsLawfulControl s bound made c rest
       → AreReadyBinds s more (needs s more (read_by c)) × IsReadyControl s (bound_by more (needs s more (read_by c))) made (completed_control s (bound_by more (needs s more (read_by c))) c)
   control_ready (Match source arms) rest s bound more made a k =
-      let h = read_ready s bound more (source ∷ []) (k.1.0 ∷ []) a (k.1.1, tt) in
+      let h = source_ready s bound more source k.1.0 a k.1.1 in
       let ns = needs s more (source ∷ []) in
-      (h.binds, (has_arm s (bound_by more ns) arms k.0, (k.1.0, h.ready.0, arms_ready arms s source k.1.0 bound (bound_by more ns) made (adds_more s ns bound more (needs_local s more (source ∷ [])) a) k.1.2)))
+      (h.0, (has_arm s (bound_by more ns) arms k.0, (k.1.0, h.1, arms_ready arms s source k.1.0 bound (bound_by more ns) made (adds_more s ns bound more (needs_local s more (source ∷ [])) a) k.1.2)))
   control_ready (Equal x y body) rest s bound more made a k =
       let h = read_ready s bound more (x ∷ y ∷ []) (k.0.0 ∷ k.0.0 ∷ []) a (k.0.1, (k.0.2, tt)) in
       let ns = needs s more (x ∷ y ∷ []) in
@@ -286,10 +299,10 @@ mutual
       let h = read_ready s bound more (result ∷ []) (s.term.ret_ty ∷ []) a (k.0, tt) in
       (h.binds, h.ready.0)
 
-  arms_ready : (arms : Arms) (s : Setting) (source : BindingId) (ty : TypeId) (bound more made : List ℕ) → Adds s bound more → AreLawfulArms s bound made source ty arms → AreReadyArms s more made source ty (completed_arms s more arms)
-  arms_ready NoArm s source ty bound more made a k = tt
-  arms_ready (Arm c places body arms) s source ty bound more made a k =
-      (k.0, k.1, block_ready body s (bound_within bound places) (bound_within more places) made (adds_within s places bound more a) k.2, arms_ready arms s source ty bound more made a k.3)
+  arms_ready : (arms : Arms) (s : Setting) (source : BindingId) (over : Source) (bound more made : List ℕ) → Adds s bound more → AreLawfulArms s bound made source over arms → AreReadyArms s more made source over (completed_arms s more arms)
+  arms_ready NoArm s source over bound more made a k = tt
+  arms_ready (Arm c places body arms) s source over bound more made a k =
+      (k.0, k.1, block_ready body s (bound_within bound places) (bound_within more places) made (adds_within s places bound more a) k.2, arms_ready arms s source over bound more made a k.3)
 
   has_arm : (s : Setting) (bound : List ℕ) (arms : Arms) → HasArm arms → HasArm (completed_arms s bound arms)
   has_arm s bound NoArm h = h

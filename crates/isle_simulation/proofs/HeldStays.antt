@@ -1,11 +1,11 @@
 -- What stands at a path stays there while later calls are answered.
-use Rattle.std.proofs.Common.{◌≡◌, ℕ, List, Option, Some, None, refl, ap}
+use Rattle.std.proofs.Common.{◌≡◌, ℕ, List, [], Option, Some, None, refl, ap}
 use Rattle.isle_core.specs.Value.{Value, Answer}
 use Rattle.isle_core.specs.Meaning.{Meaning}
-use Rattle.isle_core.specs.Calling.{Calling, ByTurns, ByCases, NoCall, calling}
+use Rattle.isle_core.specs.Calling.{Calling, ByTurns, ByCases, NoCall, calling, extracting}
 use Rattle.isle_core.specs.Making.{Making, MakesVariant, MakesStruct}
-use Rattle.isle_core.specs.Path.{Path, Arg, ConstBool, ConstInt, ConstPrim, Called, MadeVariant, MadeStruct, VariantField, StructField, Inner, Paths, NoPath, APath}
-use Rattle.isle_core.specs.ValueAt.{Held, AValue, ATuple, Absent, One, Optional, Listed, Known, held_of, inner_held, value_before, case_held, call_held, made_held, field_held, value_at, values_at}
+use Rattle.isle_core.specs.Path.{Path, Arg, ConstBool, ConstInt, ConstPrim, Extracted, Called, MadeVariant, MadeStruct, VariantField, StructField, Wrapped, Inner, Part, Paths, NoPath, APath}
+use Rattle.isle_core.specs.ValueAt.{Held, AValue, ATuple, Absent, One, Optional, Listed, Known, held_of, inner_held, value_before, case_held, extracted_held, call_held, wrapped_held, part_held, made_held, field_held, value_at, values_at}
 use Rattle.isle_core.specs.Rule.{Environment}
 
 -- something stands there
@@ -43,10 +43,19 @@ before_stays (Listed is) g o p s t k = absurd k
 before_stays Absent g o p s t k = absurd k
 before_stays (Optional w) g o p s t k = absurd k
 
+-- what is answered by cases
+case_stays : (m : Meaning) (c : Calling) (vs ws : Option (List Value)) → (AreThere vs → ws ≡ vs) → IsThere (case_held m c vs) → case_held m c ws ≡ case_held m c vs
+case_stays m (ByCases callee kind) None ws k t = absurd t
+case_stays m (ByCases callee kind) (Some vs) ws k t = ap (case_held m (ByCases callee kind)) (k tt)
+case_stays m (ByTurns callee kind) vs ws k t = absurd t
+case_stays m NoCall vs ws k t = absurd t
+
+extracted_stays : (m : Meaning) (c : Calling) (h g : Held) → (IsThere h → g ≡ h) → IsThere (extracted_held m c h) → extracted_held m c g ≡ extracted_held m c h
+extracted_stays m c h g s t = case_stays m c (value_before h (Some [])) (value_before g (Some [])) (λ k. before_stays h g (Some []) (Some []) s (λ there. refl) k) t
+
 call_stays : (m : Meaning) (c : Calling) (o p : Option Answer) (vs ws : Option (List Value)) → ((a : Answer) → o ≡ Some a → p ≡ Some a) → (AreThere vs → ws ≡ vs) → IsThere (call_held m c o vs) → call_held m c p ws ≡ call_held m c o vs
 call_stays m (ByTurns callee partial) o p vs ws h k t = answer_stays o p h t
-call_stays m (ByCases callee partial) o p None ws h k t = absurd t
-call_stays m (ByCases callee partial) o p (Some vs) ws h k t = ap (case_held m (ByCases callee partial)) (k tt)
+call_stays m (ByCases callee partial) o p vs ws h k t = case_stays m (ByCases callee partial) vs ws k t
 call_stays m NoCall o p vs ws h k t = absurd t
 
 made_stays : (env : Environment) (mk : Making) (o p : Option (List Value)) → (AreThere o → p ≡ o) → IsThere (made_held env mk o) → made_held env mk p ≡ made_held env mk o
@@ -58,6 +67,18 @@ field_stays i (One x) g s t = ap (field_held i) (s tt)
 field_stays i Absent g s t = absurd t
 field_stays i (Optional o) g s t = absurd t
 field_stays i (Listed is) g s t = absurd t
+
+wrapped_stays : (h g : Held) → (IsThere h → g ≡ h) → IsThere (wrapped_held h) → wrapped_held g ≡ wrapped_held h
+wrapped_stays (One i) g s t = ap wrapped_held (s tt)
+wrapped_stays Absent g s t = absurd t
+wrapped_stays (Optional o) g s t = absurd t
+wrapped_stays (Listed is) g s t = absurd t
+
+part_stays : (i : ℕ) (h g : Held) → (IsThere h → g ≡ h) → IsThere (part_held i h) → part_held i g ≡ part_held i h
+part_stays i (One x) g s t = ap (part_held i) (s tt)
+part_stays i Absent g s t = absurd t
+part_stays i (Optional o) g s t = absurd t
+part_stays i (Listed is) g s t = absurd t
 
 mutual
   -- what stands at a path
@@ -74,6 +95,9 @@ mutual
   held_stays (Called term ps k) env m args known later g t =
       call_stays m (calling env term) (known k) (later k) (values_at env m args known ps) (values_at env m args later ps) (g.by k) (λ s. values_stay ps env m args known later g s) t
   held_stays (Inner p) env m args known later g t = inner_stays (value_at env m args known p) (value_at env m args later p) (λ s. held_stays p env m args known later g s) t
+  held_stays (Extracted term p) env m args known later g t = extracted_stays m (extracting env term) (value_at env m args known p) (value_at env m args later p) (λ s. held_stays p env m args known later g s) t
+  held_stays (Wrapped p) env m args known later g t = wrapped_stays (value_at env m args known p) (value_at env m args later p) (λ s. held_stays p env m args known later g s) t
+  held_stays (Part i p) env m args known later g t = part_stays i (value_at env m args known p) (value_at env m args later p) (λ s. held_stays p env m args known later g s) t
   held_stays p env m args known later g t = absurd t
 
   -- and at paths in order

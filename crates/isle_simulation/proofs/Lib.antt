@@ -1,4 +1,5 @@
 pub mod NamelessLaws
+pub mod AnsweredByCase
 pub mod PathTypes
 pub mod MadeValues
 pub mod BoundTests
@@ -24,5 +25,6 @@ pub mod BlockForms
 pub mod BlockCalls
 pub mod BlockScoped
 pub mod WellFormedFunctions
+pub mod FunctionsApart
 pub mod GivenFunctions
 pub mod TraitFnForms

@@ -98,6 +98,11 @@ operand_reads s u bound known locals b ty g a r = one (is_bound bound b) refl
     one true is = rw is ((a.by b is).value ty r.path)
     one false is = ⊎_elim (λ k. absurd (let bad : false ≡ true = sym is ∙ k in cc)) (λ k. spelled is k) r.place
 
+-- the option that a local holds
+pub option_reads : (s : Setting) (u : Around) (bound : List ℕ) (known : Known) (locals : Env) (b : BindingId) (ty : TypeId) → Agree s u bound known locals → is_bound bound b ≡ true → IsOptionOf s.env s.term (at (paths_in s) b) ty
+    → IsOptionAt s.env (value_of u locals (written_operand s bound b)) (value_at s.env u.meaning u.args known (at (paths_in s) b)) ty
+option_reads s u bound known locals b ty a is of = rw is ((a.by b is).option ty of)
+
 -- a reference is read as its value
 pub read_is : (u : Around) (locals : Env) (wanted is : Bool) (o : Operand) → read_value u locals (read_as wanted is o) ≡ value_of u locals o
 read_is u locals true true o = refl

@@ -1,5 +1,6 @@
 -- The forms of a lawful block are built, and its statements are the written ones.
-use Rattle.std.proofs.Common.{◌≡◌, ⊎_elim, ℕ, ℤ, List, [], ◌∷◌, ◌++◌, map, Bool, true, false, Option, Some, None, refl, sym, ap, ◌∙◌}
+use Rattle.std.proofs.Common.{◌≡◌, ◌≤◌, ⊎_elim, ℕ, ℤ, List, [], ◌∷◌, ◌++◌, length, map, Bool, true, false, Option, Some, None, refl, sym, ap, ◌∙◌, arith}
+use Rattle.std.specs.Option.{option_map_or}
 use Rattle.std.specs.Prelude.{IsSomeAnd, option_map, slice_get}
 use Rattle.isle_core.specs.declared.BindingId.{BindingId}
 use Rattle.isle_core.specs.declared.TypeId.{TypeId}
@@ -19,10 +20,11 @@ use Rattle.isle_core.specs.ArmPlaces.{bound_within}
 use Rattle.isle_core.specs.Bindable.{IsPlain, bound_by}
 use Rattle.isle_core.specs.Block as block
 use Rattle.isle_core.specs.Block.{Block, Stop, Step, Control, Arm, NoArm}
-use Rattle.isle_core.specs.BlockLawful.{IsLawfulBlock}
-use Rattle.isle_core.specs.Calling.{Calling, ByTurns, ByCases, NoCall, calling, kind_of, AnswersOnce}
+use Rattle.isle_core.specs.BlockLawful.{Source, AValue, AnOption, IsConstraintOver, IsLawfulBlock}
+use Rattle.isle_core.specs.Calling.{Calling, ByTurns, ByCases, NoCall, calling, extracting, kind_of, AnswersOnce}
 use Rattle.isle_core.specs.Constants.{int_of_def}
-use Rattle.isle_core.specs.ExternalCall.{IsCall}
+use Rattle.isle_core.specs.ConstraintType.{IsConstraintOf}
+use Rattle.isle_core.specs.ExternalCall.{IsCall, IsExtraction}
 use Rattle.isle_core.specs.Form.{Form, form, form_types}
 use Rattle.isle_core.specs.HasType.{typed_fields}
 use Rattle.isle_core.specs.Making.{Making, MakesStruct}
@@ -36,11 +38,13 @@ use Rattle.isle_tree.specs.declared.tree.Operand.{Operand}
 use Rattle.isle_tree.specs.declared.tree.Operand.TheVariants as operand
 use Rattle.isle_tree.specs.declared.tree.Read.{Read}
 use Rattle.isle_tree.specs.declared.tree.TPat.{TPat}
+use Rattle.isle_tree.specs.declared.tree.TPat.TheVariants as pattern
 use Rattle.isle_tree.specs.Program.{Stmt, IfEq, IfLet, Return, Body, Done, Then}
 use Rattle.isle_simulation.specs.Completed.{completed}
 use Rattle.isle_simulation.specs.Operands.{constant, in_place, tested, is_bound, operand_of}
-use Rattle.isle_simulation.specs.References.{is_declared, is_reference_in, read_as}
-use Rattle.isle_simulation.specs.Statements.{callee_of, read_before, read_in, reads, call_on, call_of, read_of, field_before, field_reads, made_of, made_in, computed, stmt_before, let_of, lets, if_eq, if_let, return_of, block_body, control_stmt}
+use Rattle.isle_simulation.specs.Patterns.{some_pattern}
+use Rattle.isle_simulation.specs.References.{is_declared, result_type, is_reference_in, read_as}
+use Rattle.isle_simulation.specs.Statements.{callee_of, read_before, read_in, reads, call_on, call_of, extraction_of, read_of, field_before, field_reads, made_of, made_in, computed, stmt_before, let_of, lets, if_eq, if_let, return_of, plain_read, block_body, control_stmt}
 use Rattle.isle_simulation.specs.TermFunction.{tail_in, function_with, term_function}
 use Rattle.isle_simulation.proofs.ArmsRun.{arm_pattern}
 use Rattle.isle_simulation.proofs.OneBind.{spelled}
@@ -48,9 +52,27 @@ use Rattle.isle_simulation.proofs.BoundTests.{found}
 use Rattle.isle_simulation.proofs.CompletedReady.{completed_ready}
 use Rattle.isle_simulation.proofs.CompletedRuns.{completed_single}
 use Rattle.isle_simulation.proofs.PathValues.{IsConstant}
-use Rattle.isle_simulation.proofs.Ready.{IsSpelled, IsReady, AreReady, IsMadeReady, IsReadyBind, AreReadyBinds, IsReadyFrom, IsReadyControl}
+use Rattle.isle_simulation.proofs.Ready.{IsSpelled, IsReady, IsOptionReady, IsReadyIn, AreReady, IsMadeReady, IsReadyBind, AreReadyBinds, IsReadyFrom, IsReadyControl}
 use Rattle.isle_simulation.proofs.Written as written
-use Rattle.isle_simulation.proofs.Written.{written_test, written_operand, written_read, written_place, written_pattern, call_expr, made_expr, function_of}
+use Rattle.isle_simulation.proofs.Written.{written_test, written_operand, written_read, written_place, written_pattern, call_expr, extraction_expr, made_expr, function_of}
+
+-- ---- what a match is over
+
+-- a value, which this constraint is on
+pub record IsOverValue (s : Setting) (bound : List ℕ) (source : BindingId) (c : Constraint) : Type 0 where
+  pub ty : TypeId
+  pub ready : IsReady s bound source ty
+  pub is : IsConstraintOf s.env c ty
+
+-- another constraint than Some is on a value
+pub over_value : (s : Setting) (bound : List ℕ) (source : BindingId) (c : Constraint) (over : Source) → (c ≡ constraint.Some → ⊥) → IsReadyIn s bound source over → IsConstraintOver s.env c over → IsOverValue s bound source c
+over_value s bound source c (AValue ty) apart ready is = record { ty = ty; ready = ready; is = is }
+over_value s bound source c (AnOption ty) apart ready is = absurd (apart is)
+
+-- Some is on an option
+pub over_option : (s : Setting) (bound : List ℕ) (source : BindingId) (over : Source) → IsReadyIn s bound source over → IsConstraintOver s.env constraint.Some over → (ty : TypeId) × IsOptionReady s bound source ty
+over_option s bound source (AValue ty) ready is = absurd is
+over_option s bound source (AnOption ty) ready is = (ty, ready)
 
 -- ---- operands that are there
 
@@ -91,6 +113,10 @@ operand_there s bound b ty h = one (is_bound bound b) refl
     one true is = rw is refl
     one false is = rw is (⊎_elim (λ k. absurd (let bad : false ≡ true = sym is ∙ k in cc)) (λ k. place_there s.env s.term b.0 (at (paths_in s) b) ty h.path k) h.place)
 
+-- of an option
+pub option_there : (s : Setting) (bound : List ℕ) (b : BindingId) (ty : TypeId) → IsOptionReady s bound b ty → operand_of s.env s.bindings bound b ≡ Some (written_operand s bound b)
+option_there s bound b ty h = rw h.bound' refl
+
 pub read_there : (s : Setting) (bound : List ℕ) (wanted : Bool) (b : BindingId) (ty : TypeId) → IsReady s bound b ty → read_in s bound wanted b ≡ Some (written_read s bound wanted b)
 read_there s bound wanted b ty h = ap (option_map (read_as wanted (is_reference_in s b))) (operand_there s bound b ty h)
 
@@ -115,9 +141,19 @@ callee_made of (ByTurns callee kind) h = refl
 callee_made of (ByCases callee kind) h = absurd h
 callee_made of NoCall h = absurd h
 
+pub extractor_made : (of : ReturnKind) (c : Calling) → IsExtraction of c → callee_of c ≡ Some (written.callee_of c)
+extractor_made of (ByTurns callee kind) h = absurd h
+extractor_made of (ByCases callee kind) h = refl
+extractor_made of NoCall h = absurd h
+
 call_made : (s : Setting) (bound : List ℕ) (o : Option Term) (called : Term) (given : Option Callee) (callee : Callee) (parameters : List BindingId) → o ≡ Some called → given ≡ Some callee → AreReady s bound parameters called.arg_tys
     → call_of s bound o given parameters ≡ Some (call_expr s bound o callee parameters)
 call_made s bound o called given callee parameters e f r = rw (e, f) (ap (call_on (is_declared s.env called.ret_ty) (Some callee)) (reads_there s bound called.arg_tys parameters r))
+
+extraction_made : (s : Setting) (bound : List ℕ) (o : Option Term) (called : Term) (given : Option Callee) (callee : Callee) (parameter : BindingId) → o ≡ Some called → given ≡ Some callee → IsReady s bound parameter called.ret_ty
+    → extraction_of s bound o given parameter ≡ Some (extraction_expr s bound o callee parameter)
+extraction_made s bound o called given callee parameter e f r =
+    rw (e, f) (ap (call_on (option_map_or (is_declared s.env) (result_type (Some called)) false) (Some callee)) (reads_there s bound (called.ret_ty ∷ []) (parameter ∷ []) (r, tt)))
 
 plain_made : (s : Setting) (b : BindingId) → IsPlain s.env s.term (at (paths_in s) b) → read_of (in_place s.env b.0 (at (paths_in s) b)) ≡ read_of (Some (written_place s b))
 plain_made s b k = ap read_of (place_there s.env s.term b.0 (at (paths_in s) b) k.1.0 k.1.1 (spelled (at (paths_in s) b) k.0))
@@ -129,6 +165,8 @@ value_made s bound p over mk fields is = rw is.found (ap (option_map (made_of s.
 bound_made : (s : Setting) (bound : List ℕ) (b : BindingId) (o : Option Binding) → IsReadyBind s bound (at (paths_in s) b) o → computed s bound b o ≡ Some (written.bound_expr s bound b o)
 bound_made s bound b (Some (binding.Constructor term parameters k)) is =
     call_made s bound (slice_get s.env.terms term.0) is.called (callee_of (calling s.env term)) (written.callee_of (calling s.env term)) parameters is.found (callee_made is.kind (calling s.env term) is.external) is.args
+bound_made s bound b (Some (binding.Extractor term parameter)) is =
+    extraction_made s bound (slice_get s.env.terms term.0) is.called (callee_of (extracting s.env term)) (written.callee_of (extracting s.env term)) parameter is.found (extractor_made is.kind (extracting s.env term) is.external) is.arg
 bound_made s bound b (Some (binding.MatchSome source)) is = rw (found bound source.0 is.bound') refl
 bound_made s bound b (Some (binding.Argument index)) is = plain_made s b is
 bound_made s bound b (Some (binding.ConstBool val ty)) is = plain_made s b is
@@ -154,6 +192,12 @@ test_made a b x y i inside e f g = rw (e, f, g) refl
 pattern_made : (p : Option TPat) (r : Option Read) (pat : TPat) (q : Read) (i : Option Body) (inside : Body) → p ≡ Some pat → r ≡ Some q → i ≡ Some inside → if_let p r i ≡ Some (IfLet (written_pattern p) q inside)
 pattern_made p r pat q i inside e f g = rw (e, f, g) refl
 
+-- of at most one place the pattern of an option is there
+pub some_made : (places : List (Option BindingId)) → length places ≤ 1 → (local : Option ℕ) × (some_pattern places ≡ Some (pattern.Some local))
+some_made [] le = (None, refl)
+some_made (p ∷ []) le = (option_map (λ (b : BindingId). b.0) p, refl)
+some_made (p ∷ q ∷ places) le = absurd (omega (arith, le))
+
 return_made : (kind : ReturnKind) → AnswersOnce kind → (o : Option Read) (x : Read) → o ≡ Some x → return_of kind o ≡ Some (Return (written.returned kind x))
 return_made return_kind.Plain once o x e = rw e refl
 return_made return_kind.Option once o x e = rw e refl
@@ -169,16 +213,23 @@ mutual
 
   control_made : (c : Control) (s : Setting) → AnswersOnce (kind_of s.term.kind) → (bound made : List ℕ) → IsReadyControl s bound made c → IsSingle c → control_stmt s bound c ≡ Some (written.control_stmt s bound c)
   control_made (block.Match source (Arm (constraint.ConstBool val) places body NoArm)) s once bound made k o =
-      test_made _ _ _ _ _ _ (operand_there s bound source k.1.0 k.1.1) (test_there s.env (constraint.ConstBool val) tt) (block_made body s once (bound_within bound places) made Done k.1.2.2 o)
+      let v = over_value s bound source (constraint.ConstBool val) k.1.0 (λ e. cc) k.1.1 k.1.2.0 in
+      test_made _ _ _ _ _ _ (operand_there s bound source v.ty v.ready) (test_there s.env (constraint.ConstBool val) tt) (block_made body s once (bound_within bound places) made Done k.1.2.2 o)
   control_made (block.Match source (Arm (constraint.ConstInt val of) places body NoArm)) s once bound made k o =
-      test_made _ _ _ _ _ _ (operand_there s bound source k.1.0 k.1.1) (test_there s.env (constraint.ConstInt val of) tt) (block_made body s once (bound_within bound places) made Done k.1.2.2 o)
+      let v = over_value s bound source (constraint.ConstInt val of) k.1.0 (λ e. cc) k.1.1 k.1.2.0 in
+      test_made _ _ _ _ _ _ (operand_there s bound source v.ty v.ready) (test_there s.env (constraint.ConstInt val of) tt) (block_made body s once (bound_within bound places) made Done k.1.2.2 o)
   control_made (block.Match source (Arm (constraint.ConstPrim val) places body NoArm)) s once bound made k o =
-      test_made _ _ _ _ _ _ (operand_there s bound source k.1.0 k.1.1) (test_there s.env (constraint.ConstPrim val) tt) (block_made body s once (bound_within bound places) made Done k.1.2.2 o)
+      let v = over_value s bound source (constraint.ConstPrim val) k.1.0 (λ e. cc) k.1.1 k.1.2.0 in
+      test_made _ _ _ _ _ _ (operand_there s bound source v.ty v.ready) (test_there s.env (constraint.ConstPrim val) tt) (block_made body s once (bound_within bound places) made Done k.1.2.2 o)
   control_made (block.Match source (Arm (constraint.Variant of variant) places body NoArm)) s once bound made k o =
-      pattern_made _ _ _ _ _ _ (arm_pattern s source k.1.0 (constraint.Variant of variant) places k.1.2.0 k.1.2.1 tt).is (read_there s bound true source k.1.0 k.1.1) (block_made body s once (bound_within bound places) made Done k.1.2.2 o)
+      let v = over_value s bound source (constraint.Variant of variant) k.1.0 (λ e. cc) k.1.1 k.1.2.0 in
+      pattern_made _ _ _ _ _ _ (arm_pattern s source v.ty (constraint.Variant of variant) places v.is k.1.2.1 tt).is (read_there s bound true source v.ty v.ready) (block_made body s once (bound_within bound places) made Done k.1.2.2 o)
   control_made (block.Match source (Arm (constraint.Struct of) places body NoArm)) s once bound made k o =
-      pattern_made _ _ _ _ _ _ (arm_pattern s source k.1.0 (constraint.Struct of) places k.1.2.0 k.1.2.1 tt).is (read_there s bound true source k.1.0 k.1.1) (block_made body s once (bound_within bound places) made Done k.1.2.2 o)
-  control_made (block.Match source (Arm constraint.Some places body NoArm)) s once bound made k o = absurd k.1.2.0
+      let v = over_value s bound source (constraint.Struct of) k.1.0 (λ e. cc) k.1.1 k.1.2.0 in
+      pattern_made _ _ _ _ _ _ (arm_pattern s source v.ty (constraint.Struct of) places v.is k.1.2.1 tt).is (read_there s bound true source v.ty v.ready) (block_made body s once (bound_within bound places) made Done k.1.2.2 o)
+  control_made (block.Match source (Arm constraint.Some places body NoArm)) s once bound made k o =
+      let v = over_option s bound source k.1.0 k.1.1 k.1.2.0 in
+      pattern_made _ _ _ _ _ _ (some_made places k.1.2.1.0).1 (ap plain_read (option_there s bound source v.0 v.1)) (block_made body s once (bound_within bound places) made Done k.1.2.2 o)
   control_made (block.Match source (Arm c places body (Arm d others inside arms))) s once bound made k o = absurd o
   control_made (block.Match source NoArm) s once bound made k o = absurd o
   control_made (block.Equal x y body) s once bound made k o =

@@ -54,7 +54,7 @@ pub record IsMadeOver (s : Setting) (u : Around) (known : Known) (made : List Ma
   pub unnamed : (f : Form) → form s.env mk ≡ Some f → f.variant ≡ None → const_of u.meaning (sym_text s.env f.ty) ≡ None
 
 pub made_binds : (s : Setting) (u : Around) (bound : List ℕ) (n : ℕ) (p : Path) (over : Paths → Path) (mk : Making) (fields : List BindingId) (known : Known) (made those : List Made) (locals : Env)
-    → Grounds s u → AreSameCalls those made → Agree s u bound known locals → IsMadeOver s u known made over mk → IsMadeReady s bound p over mk fields
+    → Grounds s u → AreSameCalls s.env those made → Agree s u bound known locals → IsMadeOver s u known made over mk → IsMadeReady s bound p over mk fields
     → BindsOne s u n p known locals (run_let u n (made_expr s bound (form s.env mk) fields) locals (done those)) (bind_one s.env u.meaning u.args p known made)
 made_binds s u bound n p over mk fields known made those locals g same a x is =
     let ps = at_all (paths_in s) fields in

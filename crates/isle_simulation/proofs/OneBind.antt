@@ -2,7 +2,6 @@
 use Rattle.std.proofs.Common.{◌≡◌, ◌⊎◌, inl, inr, ℕ, List, [], ◌∷◌, ◌++◌, map, Bool, true, false, cond, eqb, Option, Some, None, refl, sym, ap, ◌∙◌, subst}
 use Rattle.std.specs.Prelude.{Contains, IsSomeAnd, option_map, slice_get}
 use Rattle.std.proofs.lemmas.Bool.{eq-eqb, eqb-true}
-use Rattle.std.proofs.lemmas.List.{map-append}
 use Rattle.std.proofs.lemmas.List.Elements.{Contains-append_right}
 use Rattle.isle_core.specs.declared.types.ReturnKind.{ReturnKind}
 use Rattle.isle_core.specs.declared.types.ReturnKind.TheVariants as return_kind
@@ -12,27 +11,29 @@ use Rattle.isle_core.specs.declared.TypeId.{TypeId}
 use Rattle.isle_core.specs.declared.types.Term.{Term}
 use Rattle.isle_core.specs.declared.values.Callee.{Callee}
 use Rattle.isle_core.specs.Value.{Value, Answer, Made, End, GivesNone}
-use Rattle.isle_core.specs.Meaning.{turn}
+use Rattle.isle_core.specs.Meaning.{turn, case}
 use Rattle.isle_core.specs.Answered.{answer_held}
-use Rattle.isle_core.specs.Calling.{ByTurns, calling, kind_of, may_be_nothing}
+use Rattle.isle_core.specs.CalledTerms.{Extractor}
+use Rattle.isle_core.specs.Calling.{ByTurns, ByCases, calling, extracting, kind_of, may_be_nothing}
 use Rattle.isle_core.specs.Match.{with}
 use Rattle.isle_core.specs.Nameless.{nameless, nameless_made, nameless_end}
 use Rattle.isle_core.specs.Outcome.{Failure, Prescription}
 use Rattle.isle_core.specs.HasType.{HasType}
-use Rattle.isle_core.specs.Lawful.{AnswersFit}
-use Rattle.isle_core.specs.Path.{Path, Paths, Arg, ConstBool, ConstInt, ConstPrim, Called, Inner, at, at_all}
-use Rattle.isle_core.specs.ValueAt.{Held, Absent, One, Optional, Listed, Known, a_value, an_option, inner_held, value_at, values_at}
+use Rattle.isle_core.specs.Lawful.{RoleFits, AnswersFit}
+use Rattle.isle_core.specs.Path.{Path, Paths, Arg, ConstBool, ConstInt, ConstPrim, Extracted, Called, Inner, at, at_all}
+use Rattle.isle_core.specs.ValueAt.{Held, Absent, One, Optional, Listed, Known, a_value, an_option, case_held, extracted_held, inner_held, value_at, values_at}
 use Rattle.isle_core.specs.CallRun as went
 use Rattle.isle_core.specs.CallRun.{Went, then_go, take_turn, make_call, unless_nothing}
 use Rattle.isle_core.specs.BlockRun.{bind_one}
 use Rattle.isle_core.specs.StandsFor.{EachOnce}
 use Rattle.isle_core.specs.Bindable.{IsPlain}
-use Rattle.isle_core.specs.ExternalCall.{IsCall}
+use Rattle.isle_core.specs.ExternalCall.{IsCall, IsExtraction}
 use Rattle.isle_core.specs.Occurrences.{occurrence, occurrence_at}
 use Rattle.isle_core.specs.PathType.{IsPathOf, IsOptionOf, ArePathsOf}
 use Rattle.isle_core.specs.Readable.{IsInPlace}
 use Rattle.isle_core.specs.Rule.{Environment}
 use Rattle.isle_core.specs.Setting.{Setting, paths_in}
+use Rattle.isle_core.specs.Terms.{is_impure}
 use Rattle.isle_core.proofs.Contained.{head_contained, contained_cases, none_contained}
 use Rattle.isle_core.proofs.AnsweredByTurn.{turn_is, turn_held, turn_typed}
 use Rattle.isle_core.proofs.TurnKinds as turn_kind
@@ -41,14 +42,15 @@ use Rattle.isle_tree.specs.declared.tree.Read.TheVariants as read
 use Rattle.isle_tree.specs.declared.tree.TExpr.{TExpr}
 use Rattle.isle_tree.specs.declared.tree.TExpr.TheVariants as expr
 use Rattle.isle_tree.specs.Run.{Around, State, Env, Flow, look, bind, value_of, read_values, Goes, Ends, then_run, run_bind, run_call, run_try, run_let}
+use Rattle.isle_simulation.proofs.AnsweredByCase.{extractor_answers}
 use Rattle.isle_simulation.proofs.BoundTests.{found}
 use Rattle.isle_simulation.proofs.HeldStays.{IsThere, Grows}
-use Rattle.isle_simulation.proofs.LocalsAgree.{IsOptionAt, Stands, Agree, operands_read}
-use Rattle.isle_simulation.proofs.NamelessLaws.{AreSameCalls, turn_like}
+use Rattle.isle_simulation.proofs.LocalsAgree.{IsOptionAt, Stands, Agree, option_reads, operands_read}
+use Rattle.isle_simulation.proofs.NamelessLaws.{AreSameCalls, turn_like, impure_push, pure_push, turned_impure}
 use Rattle.isle_simulation.proofs.PathTypes.{one_type}
 use Rattle.isle_simulation.proofs.PathValues.{Grounds, IsValueAt, constant_valued, path_reads}
-use Rattle.isle_simulation.proofs.Ready.{IsSpelled, AreReady}
-use Rattle.isle_simulation.proofs.Written.{written_operand, written_place, callee_of, reads, call_expr, end_of}
+use Rattle.isle_simulation.proofs.Ready.{IsSpelled, IsReady, AreReady}
+use Rattle.isle_simulation.proofs.Written.{written_operand, written_place, callee_of, reads, call_expr, extraction_expr, end_of}
 
 -- ---- occurrences
 
@@ -78,26 +80,26 @@ abbrev pub done : List Made → State
 done made = record { made = made; given = [] }
 
 -- a flow ends as a run with this outcome
-pub record EndsSo (kind : ReturnKind) (f : Flow) (o : Prescription) : Type 0 where
+pub record EndsSo (env : Environment) (kind : ReturnKind) (f : Flow) (o : Prescription) : Type 0 where
   pub end : End
   pub those : List Made
   pub is : f ≡ Ends end (done those)
   pub same : nameless_end end ≡ nameless_end (end_of kind o.result)
-  pub calls : AreSameCalls those o.calls
+  pub calls : AreSameCalls env those o.calls
 
 -- what follows an end is never reached
-pub ends_on : (kind : ReturnKind) (f : Flow) (o : Prescription) (go : Env → State → Flow) → EndsSo kind f o → EndsSo kind (then_run f go) o
-ends_on kind f o go e = record { end = e.end; those = e.those; is = ap (λ x. then_run x go) e.is; same = e.same; calls = e.calls }
+pub ends_on : (env : Environment) (kind : ReturnKind) (f : Flow) (o : Prescription) (go : Env → State → Flow) → EndsSo env kind f o → EndsSo env kind (then_run f go) o
+ends_on env kind f o go e = record { end = e.end; those = e.those; is = ap (λ x. then_run x go) e.is; same = e.same; calls = e.calls }
 
-pub ends_as_well : (kind : ReturnKind) (f g : Flow) (o : Prescription) → f ≡ g → EndsSo kind g o → EndsSo kind f o
-ends_as_well kind f g o is e = record { end = e.end; those = e.those; is = is ∙ e.is; same = e.same; calls = e.calls }
+pub ends_as_well : (env : Environment) (kind : ReturnKind) (f g : Flow) (o : Prescription) → f ≡ g → EndsSo env kind g o → EndsSo env kind f o
+ends_as_well env kind f g o is e = record { end = e.end; those = e.those; is = is ∙ e.is; same = e.same; calls = e.calls }
 
 -- a let goes on with its local, which holds what stands at the path
 pub record GoesSo (s : Setting) (u : Around) (n : ℕ) (p : Path) (known : Known) (locals : Env) (f : Flow) (later : Known) (calls : List Made) : Type 0 where
   pub h : Held
   pub those : List Made
   pub is : f ≡ Goes (bind locals n h) (done those)
-  pub made : AreSameCalls those calls
+  pub made : AreSameCalls s.env those calls
   pub stands : Stands s.env s.term p h (value_at s.env u.meaning u.args later p)
   pub grows : Grows known later
   pub keeps : Keeps (occurrence_at s.env p) known later
@@ -105,7 +107,7 @@ pub record GoesSo (s : Setting) (u : Around) (n : ℕ) (p : Path) (known : Known
 -- the let of a binding does what binding it does
 abbrev pub BindsOne : Setting → Around → (n : ℕ) → Path → Known → Env → Flow → Went → Type 0
 BindsOne s u n p known locals f (went.Goes later calls) = GoesSo s u n p known locals f later calls
-BindsOne s u n p known locals f (went.Ends o) = EndsSo (kind_of s.term.kind) f o
+BindsOne s u n p known locals f (went.Ends o) = EndsSo s.env (kind_of s.term.kind) f o
 
 pub same_known : (known : Known) → Grows known known
 same_known known = record { by = λ k a e. e }
@@ -139,7 +141,7 @@ no_occurrence env p known k c = refl
 of_types : (env : Environment) (t : Term) (p : Path) (h g : Held) (ty : TypeId) → IsPathOf env t p ty → (x : IsValueAt env h g ty) → (of : TypeId) → IsPathOf env t p of → IsValueAt env (a_value x.r) g of
 of_types env t p h g ty k x of l = record { v = x.v; r = x.r; run = refl; block = x.block; same = x.same; typed = subst (HasType env x.v) (one_type env t p ty of k l) x.typed }
 
-pub plain_binds : (s : Setting) (u : Around) (b : BindingId) (known : Known) (made those : List Made) (locals : Env) → Grounds s u → AreSameCalls those made → IsPlain s.env s.term (at (paths_in s) b)
+pub plain_binds : (s : Setting) (u : Around) (b : BindingId) (known : Known) (made those : List Made) (locals : Env) → Grounds s u → AreSameCalls s.env those made → IsPlain s.env s.term (at (paths_in s) b)
     → BindsOne s u b.0 (at (paths_in s) b) known locals (run_let u b.0 (expr.Read (read.Plain (written_place s b))) locals (done those)) (bind_one s.env u.meaning u.args (at (paths_in s) b) known made)
 plain_binds s u b known made those locals g same k =
     let p = at (paths_in s) b in
@@ -205,15 +207,11 @@ call_run : (env : Environment) (u : Around) (term : TermId) (ps : Paths) (k : �
     → bind_one env u.meaning u.args (Called term ps k) known made ≡ went.Goes (with known k (turn u.meaning callee made)) (made ++ record { callee = callee; args = vs } ∷ [])
 call_run env u term ps k callee kind vs known made c new held = rw (c, new, held) refl
 
--- a call more
-same_push : (xs ys : List Made) (x y : Made) → AreSameCalls xs ys → nameless_made x ≡ nameless_made y → AreSameCalls (xs ++ x ∷ []) (ys ++ y ∷ [])
-same_push xs ys x y e f = map-append nameless_made xs (x ∷ []) ∙ ap (λ zs. zs ++ nameless_made x ∷ []) e ∙ ap (λ z. map nameless_made ys ++ z ∷ []) f ∙ sym (map-append nameless_made ys (y ∷ []))
-
 same_args : (callee : Callee) (rs vs : List Value) → map nameless rs ≡ map nameless vs → nameless_made (record { callee = callee; args = rs }) ≡ nameless_made (record { callee = callee; args = vs })
 same_args callee rs vs e = ap (λ xs. record { callee = callee; args = xs }) e
 
 pub call_binds : (s : Setting) (u : Around) (bound : List ℕ) (n : ℕ) (term : TermId) (parameters : List BindingId) (k : ℕ) (callee : Callee) (kind : ReturnKind) (called : Term) (known : Known) (made those : List Made) (locals : Env)
-    → Grounds s u → AreSameCalls those made → Agree s u bound known locals → calling s.env term ≡ ByTurns callee kind → slice_get s.env.terms term.0 ≡ Some called → AreReady s bound parameters called.arg_tys → AnswersFit s.env u.meaning term → known k ≡ None
+    → Grounds s u → AreSameCalls s.env those made → Agree s u bound known locals → calling s.env term ≡ ByTurns callee kind → slice_get s.env.terms term.0 ≡ Some called → AreReady s bound parameters called.arg_tys → AnswersFit s.env u.meaning term → known k ≡ None
     → BindsOne s u n (Called term (at_all (paths_in s) parameters) k) known locals (run_let u n (call_expr s bound (slice_get s.env.terms term.0) (callee_of (calling s.env term)) parameters) locals (done those)) (bind_one s.env u.meaning u.args (Called term (at_all (paths_in s) parameters) k) known made)
 call_binds s u bound n term parameters k callee kind called known made those locals g same a c found' r fit new =
     let l = operands_read s u bound known locals called.arg_tys parameters g a r in
@@ -222,6 +220,7 @@ call_binds s u bound n term parameters k callee kind called known made those loc
     let later = with known k (turn u.meaning callee made) in
     let is = turn_held s.env u.meaning term callee kind fit c made in
     let held : value_at s.env u.meaning u.args later (Called term ps k) ≡ answered = rw (c, with_here known k (turn u.meaning callee made)) refl in
+    let impure = turned_impure s.env term callee kind c in
     let here : List Made = those ++ record { callee = callee; args = l.rs } ∷ [] in
     subst (BindsOne s u n (Called term ps k) known locals (run_let u n (call_expr s bound (slice_get s.env.terms term.0) (callee_of (calling s.env term)) parameters) locals (done those))) (sym (call_run s.env u term ps k callee kind l.vs known made c new l.block)) (record {
       h = answered;
@@ -230,13 +229,66 @@ call_binds s u bound n term parameters k callee kind called known made those loc
           ap (λ o. run_let u n (call_expr s bound o (callee_of (calling s.env term)) parameters) locals (done those)) found'
           ∙ ap (λ d. run_call u n (callee_of d) (read_values u locals (reads s bound called.arg_tys parameters)) locals (done those)) c
           ∙ ap (λ vs. run_call u n callee vs locals (done those)) l.run
-          ∙ ap (λ x. run_bind n (answer_held x) locals (done here)) (turn_is s.env u.meaning term callee kind fit c l.rs those ∙ turn_like u.meaning callee those made same)
+          ∙ ap (λ x. run_bind n (answer_held x) locals (done here)) (turn_is s.env u.meaning term callee kind fit c l.rs those ∙ turn_like s.env u.meaning callee those made impure same)
           ∙ bind_there n answered locals (done here) (kind_there kind answered is);
-      made = same_push those made (record { callee = callee; args = l.rs }) (record { callee = callee; args = l.vs }) same (same_args callee l.rs l.vs l.same);
+      made = impure_push s.env those made (record { callee = callee; args = l.rs }) (record { callee = callee; args = l.vs }) impure same (same_args callee l.rs l.vs l.same);
       stands = held_kind kind answered (value_at s.env u.meaning u.args later (Called term ps k)) held is s.env s.term term callee c (turn_typed s.env u.meaning term callee kind fit c made) ps k;
       grows = with_grows known k (turn u.meaning callee made) new;
       keeps = subst (λ d. Keeps (occurrence d k) known later) (sym c) (with_keeps known k (turn u.meaning callee made));
     })
+
+-- ---- a call of an extractor
+
+-- the one result of a term that is there
+result_is : (o : Option Term) (called : Term) (result ty : TypeId) (P : Term → Type 0) → o ≡ Some called → called.arg_tys ≡ result ∷ [] → IsSomeAnd o (λ (c : Term). (c.arg_tys ≡ ty ∷ []) × P c) → result ≡ ty
+result_is None called result ty P e f h = absurd h
+result_is (Some c) called result ty P e f h =
+    let is : c ≡ called = cc in
+    let same : result ∷ [] ≡ ty ∷ [] = sym f ∙ ap (λ (x : Term). x.arg_tys) (sym is) ∙ h.0 in
+    cc
+
+-- a place that holds what an extractor of the kind answers
+held_extracted : (kind : ReturnKind) (h g : Held) → g ≡ h → turn_kind.IsOfKind kind h → (env : Environment) (t : Term) (term : TermId) (callee : Callee) (called : Term) (result : TypeId)
+    → extracting env term ≡ ByCases callee kind → slice_get env.terms term.0 ≡ Some called → called.arg_tys ≡ result ∷ [] → IsHeldOf env result h → (q : Path) → Stands env t (Extracted term q) h g
+held_extracted return_kind.Iterator h g there is env t term callee called result c found one typed q = absurd is
+held_extracted return_kind.Plain h g there is env t term callee called result c found one typed q = record {
+  value = λ ty of.
+      let same = result_is (slice_get env.terms term.0) called result ty (λ (x : Term). IsPathOf env t q x.ret_ty) found one of.1 in
+      record { v = is.0; r = is.0; run = is.1; block = there ∙ is.1; same = refl; typed = subst (IsHeldOf env ty) is.1 (subst (λ x. IsHeldOf env x h) same typed) };
+  option = λ ty of. absurd (let call : IsExtraction return_kind.Option (ByCases callee return_kind.Plain) = subst (IsExtraction return_kind.Option) c of.0 in let k = call.0 in cc);
+}
+held_extracted return_kind.Option h g there is env t term callee called result c found one typed q = record {
+  value = λ ty of. absurd (let call : IsExtraction return_kind.Plain (ByCases callee return_kind.Option) = subst (IsExtraction return_kind.Plain) c of.0 in let k = call.0 in cc);
+  option = λ ty of.
+      let same = result_is (slice_get env.terms term.0) called result ty (λ (x : Term). IsPathOf env t q x.ret_ty) found one of.1 in
+      record { o = is.0; q = is.0; run = is.1; block = there ∙ is.1; same = refl; typed = subst (IsHeldOf env ty) is.1 (subst (λ x. IsHeldOf env x h) same typed) };
+}
+
+pub extractor_binds : (s : Setting) (u : Around) (bound : List ℕ) (n : ℕ) (term : TermId) (parameter : BindingId) (callee : Callee) (kind : ReturnKind) (called : Term) (result : TypeId) (known : Known) (made those : List Made) (locals : Env)
+    → Grounds s u → AreSameCalls s.env those made → Agree s u bound known locals → extracting s.env term ≡ ByCases callee kind → slice_get s.env.terms term.0 ≡ Some called → called.arg_tys ≡ result ∷ [] → IsReady s bound parameter called.ret_ty
+    → RoleFits s.env u.meaning term Extractor → is_impure s.env callee ≡ false
+    → BindsOne s u n (Extracted term (at (paths_in s) parameter)) known locals (run_let u n (extraction_expr s bound (slice_get s.env.terms term.0) (callee_of (extracting s.env term)) parameter) locals (done those)) (bind_one s.env u.meaning u.args (Extracted term (at (paths_in s) parameter)) known made)
+extractor_binds s u bound n term parameter callee kind called result known made those locals g same a c found' one r fit pure =
+    let l = operands_read s u bound known locals (called.ret_ty ∷ []) (parameter ∷ []) g a (r, tt) in
+    let p = at (paths_in s) parameter in
+    let x = extractor_answers s.env u.meaning term callee kind called result fit c found' one in
+    let answered = answer_held (case u.meaning callee l.vs) in
+    let held : value_at s.env u.meaning u.args known (Extracted term p) ≡ answered = ap (λ d. extracted_held u.meaning d (value_at s.env u.meaning u.args known p)) c ∙ ap (case_held u.meaning (ByCases callee kind)) l.block in
+    let here : List Made = those ++ record { callee = callee; args = l.rs } ∷ [] in
+    record {
+      h = answered;
+      those = here;
+      is =
+          ap (λ o. run_let u n (extraction_expr s bound o (callee_of (extracting s.env term)) parameter) locals (done those)) found'
+          ∙ ap (λ d. run_call u n (callee_of d) (read_values u locals (reads s bound (called.ret_ty ∷ []) (parameter ∷ []))) locals (done those)) c
+          ∙ ap (λ vs. run_call u n callee vs locals (done those)) l.run
+          ∙ ap (λ y. run_bind n (answer_held y) locals (done here)) (x.is l.rs l.vs those l.same)
+          ∙ bind_there n answered locals (done here) (kind_there kind answered (x.held l.vs));
+      made = pure_push s.env those made (record { callee = callee; args = l.rs }) pure same;
+      stands = held_extracted kind answered (value_at s.env u.meaning u.args known (Extracted term p)) held (x.held l.vs) s.env s.term term callee called result c found' one (x.typed l.vs) p;
+      grows = same_known known;
+      keeps = λ j not_j. refl;
+    }
 
 -- ---- an inner value
 
@@ -253,13 +305,13 @@ both_options None (Some v) e P n h = cc
 both_options (Some r) None e P n h = cc
 
 pub inner_binds : (s : Setting) (u : Around) (bound : List ℕ) (n : ℕ) (source : BindingId) (ty : TypeId) (known : Known) (made those : List Made) (locals : Env) (as_ref : Bool)
-    → AreSameCalls those made → Agree s u bound known locals → IsOptionOf s.env s.term (at (paths_in s) source) ty → Contains bound source.0 → may_be_nothing (kind_of s.term.kind) ≡ true
+    → AreSameCalls s.env those made → Agree s u bound known locals → IsOptionOf s.env s.term (at (paths_in s) source) ty → Contains bound source.0 → may_be_nothing (kind_of s.term.kind) ≡ true
     → BindsOne s u n (Inner (at (paths_in s) source)) known locals (run_let u n (expr.Try (written_operand s bound source) as_ref) locals (done those)) (bind_one s.env u.meaning u.args (Inner (at (paths_in s) source)) known made)
 inner_binds s u bound n source ty known made those locals as_ref same a of c fits =
     let is = found bound source.0 c in
-    let x = (a.by source is).option ty of in
+    let x = option_reads s u bound known locals source ty a is of in
     both_options x.q x.o x.same (λ q o. value_at s.env u.meaning u.args known path ≡ an_option o → value_of u locals (written_operand s bound source) ≡ an_option q → BindsOne s u n (Inner path) known locals (run_let u n e locals (done those)) (bind_one s.env u.meaning u.args (Inner path) known made))
-    none some x.block (rw is x.run)
+    none some x.block x.run
   where
     path : Path
     path = at (paths_in s) source

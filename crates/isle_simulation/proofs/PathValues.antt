@@ -32,7 +32,7 @@ use Rattle.isle_core.specs.Value.{Value, Truth, Int, Opaque, Variant, Struct, No
 use Rattle.isle_core.specs.ValueAt.{Held, Known, a_value, held, value_at, is_const, meets}
 use Rattle.isle_core.proofs.BindingPaths.{at_before, binding_at}
 use Rattle.isle_tree.specs.Run.{Around, Env, name_value, value_of}
-use Rattle.isle_simulation.specs.Emitted.{AnswersBindings}
+use Rattle.isle_simulation.specs.Emitted.{AnswersBindings, HasPureExtractors}
 use Rattle.isle_simulation.specs.Operands.{constant, in_place}
 use Rattle.isle_simulation.specs.RustNames.{HasRustNames}
 use Rattle.isle_simulation.proofs.MadeValues.{made_typed}
@@ -46,6 +46,7 @@ pub record Grounds (s : Setting) (u : Around) : Type 0 where
   pub answers : AnswersBindings s.env u.meaning s.bindings
   pub constants : ValuesConstants s.env u.meaning
   pub names : HasRustNames s.env
+  pub pure : HasPureExtractors s.env s.bindings
 
 -- a place holds in the run what another one holds where a block runs, a value of the type, but for names
 pub record IsValueAt (env : Environment) (h g : Held) (ty : TypeId) : Type 0 where
@@ -91,6 +92,7 @@ binding_valued env m (binding.ConstPrim val ∷ bs) zero name h e = subst (λ x.
 binding_valued env m (b ∷ bs) zero name h e = cc
 binding_valued env m (binding.ConstPrim val ∷ bs) (suc i) name h e = binding_valued env m bs i name h.1 e
 binding_valued env m (binding.Constructor term parameters instance ∷ bs) (suc i) name h e = binding_valued env m bs i name h.1 e
+binding_valued env m (binding.Extractor term parameter ∷ bs) (suc i) name h e = binding_valued env m bs i name h.1 e
 binding_valued env m (b ∷ bs) (suc i) name h e = binding_valued env m bs i name h e
 
 pub constant_valued : (env : Environment) (m : Meaning) (bs : List Binding) (b : BindingId) → AnswersBindings env m bs → HasValue env m (at (paths_of bs) b)

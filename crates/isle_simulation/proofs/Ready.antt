@@ -10,15 +10,14 @@ use Rattle.isle_core.specs.declared.types.Term.{Term}
 use Rattle.isle_core.specs.ArmPlaces.{ArePlacesOf, bound_within}
 use Rattle.isle_core.specs.Bindable.{IsInnerBound, IsPlain, bound_by}
 use Rattle.isle_core.specs.Block.{Block, Stop, Step, Control, Match, Equal, Loop, Return, Arms, NoArm, Arm}
-use Rattle.isle_core.specs.BlockLawful.{HasArm}
-use Rattle.isle_core.specs.Calling.{calling}
-use Rattle.isle_core.specs.ConstraintType.{IsConstraintOf}
-use Rattle.isle_core.specs.ExternalCall.{IsCall}
+use Rattle.isle_core.specs.BlockLawful.{Source, AValue, AnOption, IsConstraintOver, HasArm}
+use Rattle.isle_core.specs.Calling.{calling, extracting}
+use Rattle.isle_core.specs.ExternalCall.{IsCall, IsExtraction}
 use Rattle.isle_core.specs.Form.{Form, form, form_types}
 use Rattle.isle_core.specs.Making.{Making, MakesVariant, MakesStruct}
 use Rattle.isle_core.specs.Occurrences.{AreNew, occurrences, after_control}
-use Rattle.isle_core.specs.Path.{Path, Arg, ConstBool, ConstInt, ConstPrim, Called, MadeVariant, MadeStruct, Paths, NoPath, at, at_all}
-use Rattle.isle_core.specs.PathType.{IsPathOf}
+use Rattle.isle_core.specs.Path.{Path, Arg, ConstBool, ConstInt, ConstPrim, Extracted, Called, MadeVariant, MadeStruct, Paths, NoPath, at, at_all}
+use Rattle.isle_core.specs.PathType.{IsPathOf, IsOptionOf}
 use Rattle.isle_core.specs.Setting.{Setting, paths_in}
 use Rattle.isle_simulation.specs.Operands.{is_bound}
 
@@ -36,6 +35,16 @@ pub record IsReady (s : Setting) (bound : List ℕ) (b : BindingId) (ty : TypeId
   pub path : IsPathOf s.env s.term (at (paths_in s) b) ty
   pub place : (is_bound bound b ≡ true) ⊎ IsSpelled (at (paths_in s) b)
 
+-- an option of a value of the type that has a local
+pub record IsOptionReady (s : Setting) (bound : List ℕ) (b : BindingId) (ty : TypeId) : Type 0 where
+  pub path : IsOptionOf s.env s.term (at (paths_in s) b) ty
+  pub bound' : is_bound bound b ≡ true
+
+-- what a match is over is ready
+abbrev pub IsReadyIn : Setting → List ℕ → BindingId → Source → Type 0
+IsReadyIn s bound b (AValue ty) = IsReady s bound b ty
+IsReadyIn s bound b (AnOption ty) = IsOptionReady s bound b ty
+
 -- as many bindings as types
 abbrev pub AreReady : Setting → List ℕ → List BindingId → List TypeId → Type 0
 AreReady s bound [] [] = Unit {0}
@@ -52,6 +61,17 @@ pub record IsCallReady (s : Setting) (bound : List ℕ) (p : Path) (term : TermI
   pub kind : ReturnKind
   pub external : IsCall kind (calling s.env term)
 
+-- a call of an extractor of one result, on what is ready
+pub record IsExtractorReady (s : Setting) (bound : List ℕ) (p : Path) (term : TermId) (parameter : BindingId) : Type 0 where
+  pub path : p ≡ Extracted term (at (paths_in s) parameter)
+  pub called : Term
+  pub found : slice_get s.env.terms term.0 ≡ Some called
+  pub arg : IsReady s bound parameter called.ret_ty
+  pub result : TypeId
+  pub one : called.arg_tys ≡ result ∷ []
+  pub kind : ReturnKind
+  pub external : IsExtraction kind (extracting s.env term)
+
 -- a made value whose parts are ready
 pub record IsMadeReady (s : Setting) (bound : List ℕ) (p : Path) (over : Paths → Path) (mk : Making) (fields : List BindingId) : Type 0 where
   pub path : p ≡ over (at_all (paths_in s) fields)
@@ -62,6 +82,7 @@ pub record IsMadeReady (s : Setting) (bound : List ℕ) (p : Path) (over : Paths
 -- a binding that may be bound, and what it is computed from is ready
 abbrev pub IsReadyBind : Setting → List ℕ → Path → Option Binding → Type 0
 IsReadyBind s bound p (Some (binding.Constructor term parameters instance)) = IsCallReady s bound p term parameters instance
+IsReadyBind s bound p (Some (binding.Extractor term parameter)) = IsExtractorReady s bound p term parameter
 IsReadyBind s bound p (Some (binding.MatchSome source)) = IsInnerBound s bound p source
 IsReadyBind s bound p (Some (binding.Argument index)) = IsPlain s.env s.term p
 IsReadyBind s bound p (Some (binding.ConstBool val ty)) = IsPlain s.env s.term p
@@ -86,12 +107,12 @@ abbrev mutual
       × IsReadyFrom s (bound_by bound binds) (after_control s.env (paths_in s) (made ++ occurrences s.env (paths_in s) binds) c) more
 
   pub IsReadyControl : Setting → (bound made : List ℕ) → Control → Type 0
-  IsReadyControl s bound made (Match source arms) = HasArm arms × ((ty : TypeId) × IsReady s bound source ty × AreReadyArms s bound made source ty arms)
+  IsReadyControl s bound made (Match source arms) = HasArm arms × ((over : Source) × IsReadyIn s bound source over × AreReadyArms s bound made source over arms)
   IsReadyControl s bound made (Equal a b body) = ((ty : TypeId) × IsReady s bound a ty × IsReady s bound b ty) × IsReadyFrom s bound made body
   IsReadyControl s bound made (Loop result body) = ⊥
   IsReadyControl s bound made (Return pos result) = IsReady s bound result s.term.ret_ty
 
-  pub AreReadyArms : Setting → (bound made : List ℕ) → BindingId → TypeId → Arms → Type 0
-  AreReadyArms s bound made source ty NoArm = Unit {0}
-  AreReadyArms s bound made source ty (Arm c places body arms) =
-      IsConstraintOf s.env c ty × ArePlacesOf s source c places × IsReadyFrom s (bound_within bound places) made body × AreReadyArms s bound made source ty arms
+  pub AreReadyArms : Setting → (bound made : List ℕ) → BindingId → Source → Arms → Type 0
+  AreReadyArms s bound made source over NoArm = Unit {0}
+  AreReadyArms s bound made source over (Arm c places body arms) =
+      IsConstraintOver s.env c over × ArePlacesOf s source c places × IsReadyFrom s (bound_within bound places) made body × AreReadyArms s bound made source over arms

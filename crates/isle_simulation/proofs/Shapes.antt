@@ -3,9 +3,11 @@ use Rattle.std.proofs.Common.{◌≡◌, ℕ, List, [], ◌∷◌, ◌++◌, Boo
 use Rattle.std.specs.Prelude.{option_map}
 use Rattle.isle_core.specs.Calling.{kind_of, AnswersOnce}
 use Rattle.isle_core.specs.declared.BindingId.{BindingId}
+use Rattle.isle_core.specs.declared.Sym.{Sym}
 use Rattle.isle_core.specs.declared.TypeId.{TypeId}
 use Rattle.isle_core.specs.declared.files.Files.{Files}
 use Rattle.isle_core.specs.declared.rule_sets.Binding.{Binding}
+use Rattle.isle_core.specs.declared.rule_sets.Constraint.{Constraint}
 use Rattle.isle_core.specs.declared.rule_sets.Constraint.TheVariants as constraint
 use Rattle.isle_core.specs.declared.types.ReturnKind.{ReturnKind}
 use Rattle.isle_core.specs.declared.types.ReturnKind.TheVariants as return_kind
@@ -21,19 +23,24 @@ use Rattle.isle_core.specs.Setting.{Setting, setting}
 use Rattle.isle_core.specs.SingleArms.{HasSingleArms, IsSingle}
 use Rattle.isle_core.specs.Terms.{sym_text}
 use Rattle.isle_tree.specs.declared.tree.Read.{Read}
+use Rattle.isle_tree.specs.declared.tree.Read.TheVariants as read
+use Rattle.isle_tree.specs.declared.tree.TBind.{TBind}
 use Rattle.isle_tree.specs.declared.tree.TPat.{TPat}
+use Rattle.isle_tree.specs.declared.tree.TPat.TheVariants as pattern
 use Rattle.isle_tree.specs.Program.{Body, Done, Then}
 use Rattle.isle_simulation.specs.Bare.{bare, bare_before}
 use Rattle.isle_simulation.specs.Completed.{step_binds, completed, completed_control}
-use Rattle.isle_simulation.specs.Patterns.{pattern_of}
+use Rattle.isle_simulation.specs.Operands.{operand_of}
+use Rattle.isle_simulation.specs.Patterns.{pattern_named, some_pattern, pattern_of}
 use Rattle.isle_simulation.specs.References.{is_reference_in, read_as}
-use Rattle.isle_simulation.specs.Shape.{IsOperandOf, IsReadOf, IsResultOf, AreSteps, HasShape}
+use Rattle.isle_simulation.specs.Shape.{IsOperandOf, IsReadOf, IsResultOf, IsTestedBy, AreSteps, HasShape}
+use Rattle.isle_simulation.specs.Statements.{plain_read}
 use Rattle.isle_simulation.specs.TermFunction.{ends_in_return, mark_of, tail_body}
-use Rattle.isle_simulation.proofs.ArmsRun.{arm_pattern}
+use Rattle.isle_simulation.proofs.ArmsRun.{ArmPattern, arm_pattern}
 use Rattle.isle_simulation.proofs.CompletedReady.{completed_ready}
 use Rattle.isle_simulation.proofs.CompletedRuns.{Adds, adds_none, adds_step, adds_within, operands_same}
-use Rattle.isle_simulation.proofs.Made.{test_there, operand_there}
-use Rattle.isle_simulation.proofs.Ready.{IsReady, IsReadyFrom, IsReadyControl}
+use Rattle.isle_simulation.proofs.Made.{over_value, over_option, test_there, operand_there, option_there, some_made}
+use Rattle.isle_simulation.proofs.Ready.{IsReady, IsOptionReady, IsReadyFrom, IsReadyControl}
 use Rattle.isle_simulation.proofs.Written.{written_operand, written_read, written_pattern, block_body, control_stmt, lets, returned, function_of}
 
 -- ---- operands
@@ -44,6 +51,21 @@ operand_shape s bound more b ty a h = sym (operands_same s bound more b a) ∙ o
 
 read_shape : (s : Setting) (bound more : List ℕ) (wanted : Bool) (b : BindingId) (ty : TypeId) → Adds s bound more → IsReady s more b ty → IsReadOf s bound wanted b (written_read s more wanted b)
 read_shape s bound more wanted b ty a h = ap (option_map (read_as wanted (is_reference_in s b))) (operand_shape s bound more b ty a h)
+
+-- so of an option, which is read as it is
+option_shape : (s : Setting) (bound more : List ℕ) (b : BindingId) (ty : TypeId) → Adds s bound more → IsOptionReady s more b ty → plain_read (operand_of s.env s.bindings bound b) ≡ Some (read.Plain (written_operand s more b))
+option_shape s bound more b ty a h = ap plain_read (sym (operands_same s bound more b a) ∙ option_there s more b ty h)
+
+-- a variant or a struct is taken apart behind a reference
+form_tested : (s : Setting) (bound : List ℕ) (b : BindingId) (ty : Sym) (variant : Option Sym) (more : Bool) (binds : List TBind) (r : Read) → IsReadOf s bound true b r → IsTestedBy s bound b (pattern_named s.env ty variant more binds) r
+form_tested s bound b ty (Some variant) more binds r h = h
+form_tested s bound b ty None more binds r h = h
+
+arm_tested : (s : Setting) (bound : List ℕ) (b : BindingId) (c : Constraint) (places : List (Option BindingId)) (p : ArmPattern s.env c places) (r : Read) → IsReadOf s bound true b r → IsTestedBy s bound b (written_pattern (pattern_of s.env c places)) r
+arm_tested s bound b c places p r h = subst (λ o. IsTestedBy s bound b (written_pattern o) r) (sym p.is) (form_tested s bound b p.f.ty p.f.variant _ p.binds r h)
+
+some_tested : (s : Setting) (bound : List ℕ) (b : BindingId) (o : Option TPat) (local : Option ℕ) (r : Read) → o ≡ Some (pattern.Some local) → plain_read (operand_of s.env s.bindings bound b) ≡ Some r → IsTestedBy s bound b (written_pattern o) r
+some_tested s bound b o local r e h = subst (λ x. IsTestedBy s bound b (written_pattern x) r) (sym e) h
 
 result_shape : (s : Setting) (bound : List ℕ) (kind : ReturnKind) → AnswersOnce kind → (b : BindingId) (r : Read) → IsReadOf s bound false b r → IsResultOf s bound kind b (returned kind r)
 result_shape s bound return_kind.Plain once b r h = h
@@ -76,18 +98,26 @@ mutual
       → IsReadyControl s more made (completed_control s more c) → IsSingle c → AreSteps s bound after rest
       → AreSteps s outer (bare_before (control_stmt s more (completed_control s more c)) after) (Step binds c rest)
   control_shape (block.Match source (Arm (constraint.ConstBool val) places body NoArm)) rest s once outer binds bound more made after e a k o h =
-      rw e ((operand_shape s bound more source k.1.0 a k.1.1, (test_there s.env (constraint.ConstBool val) tt, block_shape body s once (bound_within bound places) (bound_within more places) made Done (adds_within s places bound more a) k.1.2.2 o refl)), h)
+      let v = over_value s more source (constraint.ConstBool val) k.1.0 (λ e. cc) k.1.1 k.1.2.0 in
+      rw e ((operand_shape s bound more source v.ty a v.ready, (test_there s.env (constraint.ConstBool val) tt, block_shape body s once (bound_within bound places) (bound_within more places) made Done (adds_within s places bound more a) k.1.2.2 o refl)), h)
   control_shape (block.Match source (Arm (constraint.ConstInt val of) places body NoArm)) rest s once outer binds bound more made after e a k o h =
-      rw e ((operand_shape s bound more source k.1.0 a k.1.1, (test_there s.env (constraint.ConstInt val of) tt, block_shape body s once (bound_within bound places) (bound_within more places) made Done (adds_within s places bound more a) k.1.2.2 o refl)), h)
+      let v = over_value s more source (constraint.ConstInt val of) k.1.0 (λ e. cc) k.1.1 k.1.2.0 in
+      rw e ((operand_shape s bound more source v.ty a v.ready, (test_there s.env (constraint.ConstInt val of) tt, block_shape body s once (bound_within bound places) (bound_within more places) made Done (adds_within s places bound more a) k.1.2.2 o refl)), h)
   control_shape (block.Match source (Arm (constraint.ConstPrim val) places body NoArm)) rest s once outer binds bound more made after e a k o h =
-      rw e ((operand_shape s bound more source k.1.0 a k.1.1, (test_there s.env (constraint.ConstPrim val) tt, block_shape body s once (bound_within bound places) (bound_within more places) made Done (adds_within s places bound more a) k.1.2.2 o refl)), h)
+      let v = over_value s more source (constraint.ConstPrim val) k.1.0 (λ e. cc) k.1.1 k.1.2.0 in
+      rw e ((operand_shape s bound more source v.ty a v.ready, (test_there s.env (constraint.ConstPrim val) tt, block_shape body s once (bound_within bound places) (bound_within more places) made Done (adds_within s places bound more a) k.1.2.2 o refl)), h)
   control_shape (block.Match source (Arm (constraint.Variant of variant) places body NoArm)) rest s once outer binds bound more made after e a k o h =
-      let p = arm_pattern s source k.1.0 (constraint.Variant of variant) places k.1.2.0 k.1.2.1 tt in
-      rw e ((read_shape s bound more true source k.1.0 a k.1.1, (written_is (pattern_of s.env (constraint.Variant of variant) places) _ p.is, block_shape body s once (bound_within bound places) (bound_within more places) made Done (adds_within s places bound more a) k.1.2.2 o refl)), h)
+      let v = over_value s more source (constraint.Variant of variant) k.1.0 (λ e. cc) k.1.1 k.1.2.0 in
+      let p = arm_pattern s source v.ty (constraint.Variant of variant) places v.is k.1.2.1 tt in
+      rw e ((arm_tested s bound source (constraint.Variant of variant) places p _ (read_shape s bound more true source v.ty a v.ready), (written_is (pattern_of s.env (constraint.Variant of variant) places) _ p.is, block_shape body s once (bound_within bound places) (bound_within more places) made Done (adds_within s places bound more a) k.1.2.2 o refl)), h)
   control_shape (block.Match source (Arm (constraint.Struct of) places body NoArm)) rest s once outer binds bound more made after e a k o h =
-      let p = arm_pattern s source k.1.0 (constraint.Struct of) places k.1.2.0 k.1.2.1 tt in
-      rw e ((read_shape s bound more true source k.1.0 a k.1.1, (written_is (pattern_of s.env (constraint.Struct of) places) _ p.is, block_shape body s once (bound_within bound places) (bound_within more places) made Done (adds_within s places bound more a) k.1.2.2 o refl)), h)
-  control_shape (block.Match source (Arm constraint.Some places body NoArm)) rest s once outer binds bound more made after e a k o h = absurd k.1.2.0
+      let v = over_value s more source (constraint.Struct of) k.1.0 (λ e. cc) k.1.1 k.1.2.0 in
+      let p = arm_pattern s source v.ty (constraint.Struct of) places v.is k.1.2.1 tt in
+      rw e ((arm_tested s bound source (constraint.Struct of) places p _ (read_shape s bound more true source v.ty a v.ready), (written_is (pattern_of s.env (constraint.Struct of) places) _ p.is, block_shape body s once (bound_within bound places) (bound_within more places) made Done (adds_within s places bound more a) k.1.2.2 o refl)), h)
+  control_shape (block.Match source (Arm constraint.Some places body NoArm)) rest s once outer binds bound more made after e a k o h =
+      let v = over_option s more source k.1.0 k.1.1 k.1.2.0 in
+      let p = some_made places k.1.2.1.0 in
+      rw e ((some_tested s bound source (some_pattern places) p.0 _ p.1 (option_shape s bound more source v.0 a v.1), (written_is (some_pattern places) _ p.1, block_shape body s once (bound_within bound places) (bound_within more places) made Done (adds_within s places bound more a) k.1.2.2 o refl)), h)
   control_shape (block.Match source (Arm c places body (Arm d others inside arms))) rest s once outer binds bound more made after e a k o h = absurd o
   control_shape (block.Match source NoArm) rest s once outer binds bound more made after e a k o h = absurd o
   control_shape (block.Equal x y body) rest s once outer binds bound more made after e a k o h =

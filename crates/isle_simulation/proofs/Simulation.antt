@@ -1,4 +1,4 @@
--- The function of a term runs as its block, but for the type names of opaque numbers.
+-- The function of a term runs as its block, but for calls of pure terms and the type names of opaque numbers.
 use Rattle.std.proofs.Common.{◌≡◌, ℕ, List, [], ◌++◌, map, Bool, true, false, cond, Option, Some, None, refl, sym, ap, ◌∙◌, subst}
 use Rattle.std.specs.Prelude.{Contains, option_map}
 use Rattle.std.proofs.lemmas.List.Elements.{Contains-append_left, Contains-append_right}
@@ -14,13 +14,13 @@ use Rattle.isle_core.specs.declared.types.ReturnKind.TheVariants as return_kind
 use Rattle.isle_core.specs.declared.types.Term.{Term}
 use Rattle.isle_core.specs.ArmPlaces.{ArePlacesOf, bound_within}
 use Rattle.isle_core.specs.ConstraintType.{IsConstraintOf}
-use Rattle.isle_core.specs.Value.{Value, Made, Gives, GivesSome, GivesNone, IsUnreachable}
+use Rattle.isle_core.specs.Value.{Value, Made, Ran, Gives, GivesSome, GivesNone, IsUnreachable}
 use Rattle.isle_core.specs.SameInRun.{same_in_run}
 use Rattle.isle_core.specs.Meaning.{Meaning}
 use Rattle.isle_core.specs.Nameless.{nameless, nameless_made, nameless_end, nameless_ran}
 use Rattle.isle_core.specs.Outcome.{Result, Value', Failure, Unmatched, Prescription}
 use Rattle.isle_core.specs.Path.{at, paths_of}
-use Rattle.isle_core.specs.ValueAt.{Known, a_value, nothing_known, value_at, meets, equal_held}
+use Rattle.isle_core.specs.ValueAt.{Held, Known, a_value, an_option, nothing_known, value_at, meets, equal_held}
 use Rattle.isle_core.specs.Places.{place_in}
 use Rattle.isle_core.specs.Block as block
 use Rattle.isle_core.specs.Block.{Block, Stop, Step, Control, Arm, NoArm}
@@ -31,12 +31,13 @@ use Rattle.isle_core.specs.BlockRun.{bind_all, block_run, control_run, block_out
 use Rattle.isle_core.specs.Bindable.{bound_by}
 use Rattle.isle_core.specs.BlockLawful.{IsLawfulBlock}
 use Rattle.isle_core.specs.Occurrences.{AreNew, occurrences, after_block, after_control}
-use Rattle.isle_core.specs.Terms.{sym_text}
+use Rattle.isle_core.specs.Terms.{sym_text, impure_calls}
 use Rattle.isle_core.specs.Rule.{Environment}
 use Rattle.isle_core.specs.Setting.{Setting, setting, paths_in}
 use Rattle.isle_core.specs.SingleArms.{HasSingleArms, IsSingle}
 use Rattle.isle_tree.specs.declared.tree.Operand.{Operand}
 use Rattle.isle_tree.specs.declared.tree.Read.{Read}
+use Rattle.isle_tree.specs.declared.tree.Read.TheVariants as read
 use Rattle.isle_tree.specs.declared.tree.TPat.{TPat}
 use Rattle.isle_tree.specs.Program.{IfEq, IfLet, Body, Done, Then}
 use Rattle.isle_tree.specs.Run.{Around, Env, value_of, read_value, fitted, Flow, Goes, then_run, after_scope, run_return, run_stmt, run_body, ended, function_run}
@@ -44,63 +45,64 @@ use Rattle.isle_simulation.specs.Completed.{completed}
 use Rattle.isle_simulation.specs.Patterns.{pattern_of}
 use Rattle.isle_simulation.specs.TermFunction.{ends_in_return, mark_of, tail_body}
 use Rattle.isle_simulation.specs.Ends.{end_of as ending}
-use Rattle.isle_simulation.specs.Emitted.{AreSameRuns, RunsAsBlock, ran_with}
+use Rattle.isle_simulation.specs.Emitted.{HasPureExtractors, impure_ran, AreSameRuns, RunsAsBlock, ran_with}
 use Rattle.isle_simulation.specs.RustNames.{HasRustNames}
-use Rattle.isle_simulation.proofs.ArmsRun.{FitsBy, IsForm, arm_fits}
+use Rattle.isle_simulation.proofs.ArmsRun.{FitsBy, IsForm, ArmFits, arm_fits, some_fits}
 use Rattle.isle_simulation.proofs.BindsRun.{LetsRun, lets_run}
 use Rattle.isle_simulation.proofs.OneBind.{AreUnanswered, Keeps, done, EndsSo, ends_on, ends_as_well}
 use Rattle.isle_simulation.proofs.CompletedReady.{completed_ready}
 use Rattle.isle_simulation.proofs.CompletedRuns.{completed_runs, completed_single}
 use Rattle.isle_simulation.proofs.HeldStays.{Grows}
-use Rattle.isle_simulation.proofs.LocalsAgree.{Agree, none_agree, agree_later, operand_reads, written_reads}
+use Rattle.isle_simulation.proofs.LocalsAgree.{Agree, none_agree, agree_later, operand_reads, option_reads, written_reads}
+use Rattle.isle_simulation.proofs.Made.{over_value, over_option}
 use Rattle.isle_simulation.proofs.NamelessLaws.{AreSameCalls, run_same}
 use Rattle.isle_simulation.proofs.PathValues.{Grounds, constraint_tests, IsConstant}
-use Rattle.isle_simulation.proofs.Ready.{IsReady, IsReadyFrom, IsReadyControl}
+use Rattle.isle_simulation.proofs.Ready.{IsReady, IsOptionReady, IsReadyFrom, IsReadyControl}
 use Rattle.isle_simulation.proofs.Written.{written_operand, written_read, written_test, written_pattern, block_body, control_stmt, end_of, returned, function_of}
 
 -- ---- how statements go
 
 -- statements go on to what follows, whatever that is
-record GoesOn (u : Around) (f : Body → Flow) (calls : List Made) : Type 0 where
+record GoesOn (env : Environment) (u : Around) (f : Body → Flow) (calls : List Made) : Type 0 where
   after : Env
   those : List Made
   is : (end : Body) → f end ≡ run_body u end after (done those)
-  same : AreSameCalls those calls
+  same : AreSameCalls env those calls
 
 -- statements go as a block that went so
-abbrev RunsSo : ReturnKind → Around → (Body → Flow) → Went → Type 0
-RunsSo kind u f (went.Goes later calls) = GoesOn u f calls
-RunsSo kind u f (went.Ends o) = (end : Body) → EndsSo kind (f end) o
+abbrev RunsSo : Environment → ReturnKind → Around → (Body → Flow) → Went → Type 0
+RunsSo env kind u f (went.Goes later calls) = GoesOn env u f calls
+RunsSo env kind u f (went.Ends o) = (end : Body) → EndsSo env kind (f end) o
 
 -- a statement goes on with the locals that were there
-record StaysSo (locals : Env) (f : Flow) (calls : List Made) : Type 0 where
+record StaysSo (env : Environment) (locals : Env) (f : Flow) (calls : List Made) : Type 0 where
   those : List Made
   is : f ≡ Goes locals (done those)
-  same : AreSameCalls those calls
+  same : AreSameCalls env those calls
 
 -- a statement goes as a step that went so
-abbrev DoesSo : ReturnKind → Env → Flow → Went → Type 0
-DoesSo kind locals f (went.Goes later calls) = StaysSo locals f calls
-DoesSo kind locals f (went.Ends o) = EndsSo kind f o
+abbrev DoesSo : Environment → ReturnKind → Env → Flow → Went → Type 0
+DoesSo env kind locals f (went.Goes later calls) = StaysSo env locals f calls
+DoesSo env kind locals f (went.Ends o) = EndsSo env kind f o
 
-runs_by : (kind : ReturnKind) (u : Around) (f h : Body → Flow) (w : Went) → ((end : Body) → f end ≡ h end) → RunsSo kind u h w → RunsSo kind u f w
-runs_by kind u f h (went.Goes later calls) e r = record { after = r.after; those = r.those; is = λ end. e end ∙ r.is end; same = r.same }
-runs_by kind u f h (went.Ends o) e r = λ end. ends_as_well kind (f end) (h end) o (e end) (r end)
+runs_by : (env : Environment) (kind : ReturnKind) (u : Around) (f h : Body → Flow) (w : Went) → ((end : Body) → f end ≡ h end) → RunsSo env kind u h w → RunsSo env kind u f w
+runs_by env kind u f h (went.Goes later calls) e r = record { after = r.after; those = r.those; is = λ end. e end ∙ r.is end; same = r.same }
+runs_by env kind u f h (went.Ends o) e r = λ end. ends_as_well env kind (f end) (h end) o (e end) (r end)
 
-does_by : (kind : ReturnKind) (locals : Env) (f h : Flow) (w : Went) → f ≡ h → DoesSo kind locals h w → DoesSo kind locals f w
-does_by kind locals f h (went.Goes later calls) e r = record { those = r.those; is = e ∙ r.is; same = r.same }
-does_by kind locals f h (went.Ends o) e r = ends_as_well kind f h o e r
+does_by : (env : Environment) (kind : ReturnKind) (locals : Env) (f h : Flow) (w : Went) → f ≡ h → DoesSo env kind locals h w → DoesSo env kind locals f w
+does_by env kind locals f h (went.Goes later calls) e r = record { those = r.those; is = e ∙ r.is; same = r.same }
+does_by env kind locals f h (went.Ends o) e r = ends_as_well env kind f h o e r
 
 -- behind a body stand the outer locals
-scope_does : (kind : ReturnKind) (u : Around) (locals : Env) (f : Body → Flow) (w : Went) → RunsSo kind u f w → DoesSo kind locals (after_scope locals (f Done)) w
-scope_does kind u locals f (went.Goes later calls) r = record { those = r.those; is = ap (after_scope locals) (r.is Done); same = r.same }
-scope_does kind u locals f (went.Ends o) r = let e = r Done in record { end = e.end; those = e.those; is = ap (after_scope locals) e.is; same = e.same; calls = e.calls }
+scope_does : (env : Environment) (kind : ReturnKind) (u : Around) (locals : Env) (f : Body → Flow) (w : Went) → RunsSo env kind u f w → DoesSo env kind locals (after_scope locals (f Done)) w
+scope_does env kind u locals f (went.Goes later calls) r = record { those = r.those; is = ap (after_scope locals) (r.is Done); same = r.same }
+scope_does env kind u locals f (went.Ends o) r = let e = r Done in record { end = e.end; those = e.those; is = ap (after_scope locals) e.is; same = e.same; calls = e.calls }
 
-return_does : (u : Around) (kind : ReturnKind) (q : Read) (r v : Value) (locals : Env) (calls those : List Made) → read_value u locals q ≡ a_value r → nameless r ≡ nameless v → AreSameCalls those calls
-    → EndsSo kind (run_return u (returned kind q) locals (done those)) (record { result = Value' v; calls = calls })
-return_does u return_kind.Plain q r v locals calls those e same made = record { end = Gives r; those = those; is = rw e refl; same = ap Gives same; calls = made }
-return_does u return_kind.Option q r v locals calls those e same made = record { end = GivesSome r; those = those; is = rw e refl; same = ap GivesSome same; calls = made }
-return_does u return_kind.Iterator q r v locals calls those e same made = record { end = Gives r; those = those; is = rw e refl; same = ap Gives same; calls = made }
+return_does : (env : Environment) (u : Around) (kind : ReturnKind) (q : Read) (r v : Value) (locals : Env) (calls those : List Made) → read_value u locals q ≡ a_value r → nameless r ≡ nameless v → AreSameCalls env those calls
+    → EndsSo env kind (run_return u (returned kind q) locals (done those)) (record { result = Value' v; calls = calls })
+return_does env u return_kind.Plain q r v locals calls those e same made = record { end = Gives r; those = those; is = rw e refl; same = ap Gives same; calls = made }
+return_does env u return_kind.Option q r v locals calls those e same made = record { end = GivesSome r; those = those; is = rw e refl; same = ap GivesSome same; calls = made }
+return_does env u return_kind.Iterator q r v locals calls those e same made = record { end = Gives r; those = those; is = rw e refl; same = ap Gives same; calls = made }
 
 -- ---- what is known along a way
 
@@ -156,46 +158,46 @@ goes_twice known later made (went.Ends o) g h = tt
 -- ---- blocks
 
 -- a statement goes as a step, and only these calls may have been answered then
-record Does (kind : ReturnKind) (locals : Env) (known : Known) (made : List ℕ) (f : Flow) (w : Went) : Type 0 where
-  runs : DoesSo kind locals f w
+record Does (env : Environment) (kind : ReturnKind) (locals : Env) (known : Known) (made : List ℕ) (f : Flow) (w : Went) : Type 0 where
+  runs : DoesSo env kind locals f w
   goes : WentOn known made w
 
 -- a test that doesn't hold
-skip : (kind : ReturnKind) (locals : Env) (known : Known) (made more : List ℕ) (f : Flow) (w : Went) (calls those : List Made) → KnowsOnly made known → AreSameCalls those calls → f ≡ Goes locals (done those) → w ≡ went.Goes known calls → Does kind locals known (made ++ more) f w
-skip kind locals known made more f w calls those only same e is =
-    subst (Does kind locals known (made ++ more) f) (sym is) (record { runs = record { those = those; is = e; same = same }; goes = on_left made more known known (same_later known made only) })
+skip : (env : Environment) (kind : ReturnKind) (locals : Env) (known : Known) (made more : List ℕ) (f : Flow) (w : Went) (calls those : List Made) → KnowsOnly made known → AreSameCalls env those calls → f ≡ Goes locals (done those) → w ≡ went.Goes known calls → Does env kind locals known (made ++ more) f w
+skip env kind locals known made more f w calls those only same e is =
+    subst (Does env kind locals known (made ++ more) f) (sym is) (record { runs = record { those = those; is = e; same = same }; goes = on_left made more known known (same_later known made only) })
 
 module _ (s : Setting) (u : Around) (g : Grounds s u) where
   -- the statements of a block go as the block, whatever follows them
   record Runs (bound made : List ℕ) (b : Block) (locals : Env) (known : Known) (calls those : List Made) : Type 0 where
-    runs : RunsSo (kind_of s.term.kind) u (λ end. run_body u (block_body s bound b end) locals (done those)) (block_run s.env u.meaning u.args (paths_in s) b known calls)
+    runs : RunsSo s.env (kind_of s.term.kind) u (λ end. run_body u (block_body s bound b end) locals (done those)) (block_run s.env u.meaning u.args (paths_in s) b known calls)
     goes : WentOn known (after_block s.env (paths_in s) made b) (block_run s.env u.meaning u.args (paths_in s) b known calls)
 
   -- a statement, and the steps after it
   record RunsAfter (bound made : List ℕ) (known : Known) (f : Flow) (w : Went) (more : Block) : Type 0 where
-    runs : RunsSo (kind_of s.term.kind) u (λ end. then_run f (run_body u (block_body s bound more end))) (then_go w (block_run s.env u.meaning u.args (paths_in s) more))
+    runs : RunsSo s.env (kind_of s.term.kind) u (λ end. then_run f (run_body u (block_body s bound more end))) (then_go w (block_run s.env u.meaning u.args (paths_in s) more))
     goes : WentOn known (after_block s.env (paths_in s) made more) (then_go w (block_run s.env u.meaning u.args (paths_in s) more))
 
-  runs_after : (bound made : List ℕ) (known : Known) (f : Flow) (w : Went) (more : Block) (locals : Env) → Does (kind_of s.term.kind) locals known made f w
-      → ((last : Known) (all behind : List Made) → AreSameCalls behind all → IsLater known made last → Runs bound made more locals last all behind) → RunsAfter bound made known f w more
+  runs_after : (bound made : List ℕ) (known : Known) (f : Flow) (w : Went) (more : Block) (locals : Env) → Does s.env (kind_of s.term.kind) locals known made f w
+      → ((last : Known) (all behind : List Made) → AreSameCalls s.env behind all → IsLater known made last → Runs bound made more locals last all behind) → RunsAfter bound made known f w more
   runs_after bound made known f (went.Goes last all) more locals is h =
       let r = h last all is.runs.those is.runs.same is.goes in
       record {
-        runs = runs_by (kind_of s.term.kind) u (λ end. then_run f (run_body u (block_body s bound more end))) (λ end. run_body u (block_body s bound more end) locals (done is.runs.those)) (block_run s.env u.meaning u.args (paths_in s) more last all)
+        runs = runs_by s.env (kind_of s.term.kind) u (λ end. then_run f (run_body u (block_body s bound more end))) (λ end. run_body u (block_body s bound more end) locals (done is.runs.those)) (block_run s.env u.meaning u.args (paths_in s) more last all)
             (λ end. ap (λ x. then_run x (run_body u (block_body s bound more end))) is.runs.is) r.runs;
         goes = goes_twice known last (after_block s.env (paths_in s) made more) (block_run s.env u.meaning u.args (paths_in s) more last all) is.goes.grows r.goes;
       }
-  runs_after bound made known f (went.Ends o) more locals is h = record { runs = λ end. ends_on (kind_of s.term.kind) f o (run_body u (block_body s bound more end)) is.runs; goes = tt }
+  runs_after bound made known f (went.Ends o) more locals is h = record { runs = λ end. ends_on s.env (kind_of s.term.kind) f o (run_body u (block_body s bound more end)) is.runs; goes = tt }
 
   -- a step, after its lets
   step_runs : (bound made : List ℕ) (binds : List BindingId) (c : Control) (more : Block) (locals : Env) (known : Known) (calls those : List Made) (w : Went) → bind_all s.env u.meaning u.args (paths_in s) binds known calls ≡ w → AreUnanswered known (occurrences s.env (paths_in s) binds)
       → LetsRun s u bound binds known those locals w
-      → ((later : Known) (all behind : List Made) (after : Env) → AreSameCalls behind all → Keeps (occurrences s.env (paths_in s) binds) known later → Agree s u (bound_by bound binds) later after
-      → Does (kind_of s.term.kind) after later (after_control s.env (paths_in s) (made ++ occurrences s.env (paths_in s) binds) c) (run_stmt u (control_stmt s (bound_by bound binds) c) after (done behind)) (control_run s.env u.meaning u.args (paths_in s) c later all)
-      × ((last : Known) (all' behind' : List Made) → AreSameCalls behind' all' → IsLater later (after_control s.env (paths_in s) (made ++ occurrences s.env (paths_in s) binds) c) last → Runs (bound_by bound binds) (after_control s.env (paths_in s) (made ++ occurrences s.env (paths_in s) binds) c) more after last all' behind'))
+      → ((later : Known) (all behind : List Made) (after : Env) → AreSameCalls s.env behind all → Keeps (occurrences s.env (paths_in s) binds) known later → Agree s u (bound_by bound binds) later after
+      → Does s.env (kind_of s.term.kind) after later (after_control s.env (paths_in s) (made ++ occurrences s.env (paths_in s) binds) c) (run_stmt u (control_stmt s (bound_by bound binds) c) after (done behind)) (control_run s.env u.meaning u.args (paths_in s) c later all)
+      × ((last : Known) (all' behind' : List Made) → AreSameCalls s.env behind' all' → IsLater later (after_control s.env (paths_in s) (made ++ occurrences s.env (paths_in s) binds) c) last → Runs (bound_by bound binds) (after_control s.env (paths_in s) (made ++ occurrences s.env (paths_in s) binds) c) more after last all' behind'))
       → Runs bound made (Step binds c more) locals known calls those
   step_runs bound made binds c more locals known calls those (went.Ends o) e new is rest = record {
-    runs = subst (λ x. RunsSo (kind_of s.term.kind) u (λ end. run_body u (block_body s bound (Step binds c more) end) locals (done those)) (then_go (then_go x (control_run s.env u.meaning u.args (paths_in s) c)) (block_run s.env u.meaning u.args (paths_in s) more))) (sym e)
+    runs = subst (λ x. RunsSo s.env (kind_of s.term.kind) u (λ end. run_body u (block_body s bound (Step binds c more) end) locals (done those)) (then_go (then_go x (control_run s.env u.meaning u.args (paths_in s) c)) (block_run s.env u.meaning u.args (paths_in s) more))) (sym e)
         (λ end. is (Then (control_stmt s (bound_by bound binds) c) (block_body s (bound_by bound binds) more end)));
     goes = subst (λ x. WentOn known (after_block s.env (paths_in s) made (Step binds c more)) (then_go (then_go x (control_run s.env u.meaning u.args (paths_in s) c)) (block_run s.env u.meaning u.args (paths_in s) more))) (sym e) tt;
   }
@@ -207,8 +209,8 @@ module _ (s : Setting) (u : Around) (g : Grounds s u) where
       let w = control_run s.env u.meaning u.args ps c later all in
       let r = runs_after (bound_by bound binds) (after_control s.env ps (made ++ ks) c) later f w more is.after k.0 k.1 in
       record {
-        runs = subst (λ x. RunsSo (kind_of s.term.kind) u (λ end. run_body u (block_body s bound (Step binds c more) end) locals (done those)) (then_go (then_go x (control_run s.env u.meaning u.args ps c)) (block_run s.env u.meaning u.args ps more))) (sym e)
-            (runs_by (kind_of s.term.kind) u (λ end. run_body u (block_body s bound (Step binds c more) end) locals (done those)) (λ end. then_run f (run_body u (block_body s (bound_by bound binds) more end))) (then_go w (block_run s.env u.meaning u.args ps more))
+        runs = subst (λ x. RunsSo s.env (kind_of s.term.kind) u (λ end. run_body u (block_body s bound (Step binds c more) end) locals (done those)) (then_go (then_go x (control_run s.env u.meaning u.args ps c)) (block_run s.env u.meaning u.args ps more))) (sym e)
+            (runs_by s.env (kind_of s.term.kind) u (λ end. run_body u (block_body s bound (Step binds c more) end) locals (done those)) (λ end. then_run f (run_body u (block_body s (bound_by bound binds) more end))) (then_go w (block_run s.env u.meaning u.args ps more))
             (λ end. is.runs (Then (control_stmt s (bound_by bound binds) c) (block_body s (bound_by bound binds) more end))) r.runs);
         goes = subst (λ x. WentOn known (after_block s.env ps made (Step binds c more)) (then_go (then_go x (control_run s.env u.meaning u.args ps c)) (block_run s.env u.meaning u.args ps more))) (sym e)
             (goes_twice known later (after_block s.env ps made (Step binds c more)) (then_go w (block_run s.env u.meaning u.args ps more)) (kept_grows ks known later new is.keeps) r.goes);
@@ -216,44 +218,41 @@ module _ (s : Setting) (u : Around) (g : Grounds s u) where
 
   -- two values that are compared, and the body behind that
   equal_does : (a b : Operand) (bound made more : List ℕ) (body : Block) (locals : Env) (known : Known) (calls those : List Made) (r q : Value) (x : Bool) → value_of u locals a ≡ a_value r → value_of u locals b ≡ a_value q → same_in_run r q ≡ x
-      → KnowsOnly made known → AreSameCalls those calls → Runs bound made body locals known calls those
+      → KnowsOnly made known → AreSameCalls s.env those calls → Runs bound made body locals known calls those
       → WentOn known (made ++ more) (block_run s.env u.meaning u.args (paths_in s) body known calls)
-      → Does (kind_of s.term.kind) locals known (made ++ more) (run_stmt u (IfEq a b (block_body s bound body Done)) locals (done those)) (cond x (block_run s.env u.meaning u.args (paths_in s) body known calls) (went.Goes known calls))
+      → Does s.env (kind_of s.term.kind) locals known (made ++ more) (run_stmt u (IfEq a b (block_body s bound body Done)) locals (done those)) (cond x (block_run s.env u.meaning u.args (paths_in s) body known calls) (went.Goes known calls))
   equal_does a b bound made more body locals known calls those r q true e f same only made' runs goes = record {
-    runs = does_by (kind_of s.term.kind) locals _ (after_scope locals (run_body u (block_body s bound body Done) locals (done those))) (block_run s.env u.meaning u.args (paths_in s) body known calls) (rw (e, f, same) refl)
-        (scope_does (kind_of s.term.kind) u locals (λ end. run_body u (block_body s bound body end) locals (done those)) (block_run s.env u.meaning u.args (paths_in s) body known calls) runs.runs);
+    runs = does_by s.env (kind_of s.term.kind) locals _ (after_scope locals (run_body u (block_body s bound body Done) locals (done those))) (block_run s.env u.meaning u.args (paths_in s) body known calls) (rw (e, f, same) refl)
+        (scope_does s.env (kind_of s.term.kind) u locals (λ end. run_body u (block_body s bound body end) locals (done those)) (block_run s.env u.meaning u.args (paths_in s) body known calls) runs.runs);
     goes = goes;
   }
-  equal_does a b bound made more body locals known calls those r q false e f same only made' runs goes = skip (kind_of s.term.kind) locals known made more _ (went.Goes known calls) calls those only made' (rw (e, f, same) refl) refl
+  equal_does a b bound made more body locals known calls those r q false e f same only made' runs goes = skip s.env (kind_of s.term.kind) locals known made more _ (went.Goes known calls) calls those only made' (rw (e, f, same) refl) refl
 
   arm_goes : (made : List ℕ) (body : Block) (known : Known) (w : Went) → WentOn known (after_block s.env (paths_in s) made body) w → WentOn known (made ++ (after_block s.env (paths_in s) made body ++ [])) w
   arm_goes made body known w h = on_right made (after_block s.env (paths_in s) made body ++ []) known w (on_first (after_block s.env (paths_in s) made body) [] known w h)
 
   -- an arm that tests for a constant
-  constant_does : (bound made : List ℕ) (source : BindingId) (ty : TypeId) (c : Constraint) (places : List (Option BindingId)) (body : Block) (locals : Env) (known : Known) (calls those : List Made) → KnowsOnly made known → AreSameCalls those calls → Agree s u bound known locals
+  constant_does : (bound made : List ℕ) (source : BindingId) (ty : TypeId) (c : Constraint) (places : List (Option BindingId)) (body : Block) (locals : Env) (known : Known) (calls those : List Made) → KnowsOnly made known → AreSameCalls s.env those calls → Agree s u bound known locals
       → IsReady s bound source ty → IsConstraintOf s.env c ty → IsConstant c → Runs (bound_within bound places) made body locals known calls those
-      → Does (kind_of s.term.kind) locals known (after_control s.env (paths_in s) made (block.Match source (Arm c places body NoArm))) (run_stmt u (IfEq (written_operand s bound source) (written_test s.env c) (block_body s (bound_within bound places) body Done)) locals (done those))
+      → Does s.env (kind_of s.term.kind) locals known (after_control s.env (paths_in s) made (block.Match source (Arm c places body NoArm))) (run_stmt u (IfEq (written_operand s bound source) (written_test s.env c) (block_body s (bound_within bound places) body Done)) locals (done those))
       (control_run s.env u.meaning u.args (paths_in s) (block.Match source (Arm c places body NoArm)) known calls)
   constant_does bound made source ty c places body locals known calls those only same a ready is constant runs =
       let v = operand_reads s u bound known locals source ty g a ready in
       let w = constraint_tests s.env u c ty g.names g.constants is constant in
       let after = after_block s.env (paths_in s) made body in
-      subst (λ h. Does (kind_of s.term.kind) locals known (made ++ (after ++ [])) (run_stmt u (IfEq (written_operand s bound source) (written_test s.env c) (block_body s (bound_within bound places) body Done)) locals (done those)) (cond (meets s.env u.meaning c h) (block_run s.env u.meaning u.args (paths_in s) body known calls) (went.Goes known calls))) (sym v.block)
+      subst (λ h. Does s.env (kind_of s.term.kind) locals known (made ++ (after ++ [])) (run_stmt u (IfEq (written_operand s bound source) (written_test s.env c) (block_body s (bound_within bound places) body Done)) locals (done those)) (cond (meets s.env u.meaning c h) (block_run s.env u.meaning u.args (paths_in s) body known calls) (went.Goes known calls))) (sym v.block)
       (equal_does (written_operand s bound source) (written_test s.env c) (bound_within bound places) made (after ++ []) body locals known calls those v.r w.w (meets s.env u.meaning c (a_value v.v)) v.run (w.place locals) (w.met v.r v.v v.same v.typed) only same runs
       (arm_goes made body known (block_run s.env u.meaning u.args (paths_in s) body known calls) runs.goes))
 
   -- an arm that tests by a pattern
-  form_does : (bound made : List ℕ) (source : BindingId) (ty : TypeId) (c : Constraint) (places : List (Option BindingId)) (body : Block) (locals : Env) (known : Known) (calls those : List Made) → KnowsOnly made known → AreSameCalls those calls → Agree s u bound known locals
-      → IsReady s bound source ty → IsConstraintOf s.env c ty → ArePlacesOf s source c places → IsForm c → ((inner : Env) → Agree s u (bound_within bound places) known inner → Runs (bound_within bound places) made body inner known calls those)
-      → Does (kind_of s.term.kind) locals known (after_control s.env (paths_in s) made (block.Match source (Arm c places body NoArm))) (run_stmt u (IfLet (written_pattern (pattern_of s.env c places)) (written_read s bound true source) (block_body s (bound_within bound places) body Done)) locals (done those))
+  pattern_does : (bound made : List ℕ) (source : BindingId) (c : Constraint) (places : List (Option BindingId)) (body : Block) (locals : Env) (known : Known) (calls those : List Made) (q : Read) (h : Held) → KnowsOnly made known → AreSameCalls s.env those calls
+      → value_at s.env u.meaning u.args known (at (paths_in s) source) ≡ h → ArmFits s u bound known locals c places (read_value u locals q) h → ((inner : Env) → Agree s u (bound_within bound places) known inner → Runs (bound_within bound places) made body inner known calls those)
+      → Does s.env (kind_of s.term.kind) locals known (after_control s.env (paths_in s) made (block.Match source (Arm c places body NoArm))) (run_stmt u (IfLet (written_pattern (pattern_of s.env c places)) q (block_body s (bound_within bound places) body Done)) locals (done those))
       (control_run s.env u.meaning u.args (paths_in s) (block.Match source (Arm c places body NoArm)) known calls)
-  form_does bound made source ty c places body locals known calls those only same a ready is parts form runs =
-      let v = written_reads s u bound known locals true source ty g a ready in
-      let h = read_value u locals (written_read s bound true source) in
-      let fits = arm_fits s u bound known locals source ty c places h g a ready.path is parts form v in
-      subst (λ x. Does (kind_of s.term.kind) locals known (made ++ (after ++ [])) (run_stmt u (IfLet (written_pattern (pattern_of s.env c places)) (written_read s bound true source) inside) locals (done those)) (cond (meets s.env u.meaning c x) w (went.Goes known calls))) (sym v.block)
-      (subst (λ p. Does (kind_of s.term.kind) locals known (made ++ (after ++ [])) (run_stmt u (IfLet (written_pattern p) (written_read s bound true source) inside) locals (done those)) (cond (meets s.env u.meaning c (a_value v.v)) w (went.Goes known calls))) (sym fits.spelled)
-      (by fits.pat (meets s.env u.meaning c (a_value v.v)) fits.fits))
+  pattern_does bound made source c places body locals known calls those q h only same held fits runs =
+      subst (λ x. Does s.env (kind_of s.term.kind) locals known (made ++ (after ++ [])) (run_stmt u (IfLet (written_pattern (pattern_of s.env c places)) q inside) locals (done those)) (cond (meets s.env u.meaning c x) w (went.Goes known calls))) (sym held)
+      (subst (λ p. Does s.env (kind_of s.term.kind) locals known (made ++ (after ++ [])) (run_stmt u (IfLet (written_pattern p) q inside) locals (done those)) (cond (meets s.env u.meaning c h) w (went.Goes known calls))) (sym fits.spelled)
+      (by fits.pat (meets s.env u.meaning c h) fits.fits))
     where
       after : List ℕ
       after = after_block s.env (paths_in s) made body
@@ -264,22 +263,42 @@ module _ (s : Setting) (u : Around) (g : Grounds s u) where
       w : Went
       w = block_run s.env u.meaning u.args (paths_in s) body known calls
 
-      by : (pat : TPat) (x : Bool) → FitsBy s u bound known locals places pat (read_value u locals (written_read s bound true source)) x → Does (kind_of s.term.kind) locals known (made ++ (after ++ [])) (run_stmt u (IfLet pat (written_read s bound true source) inside) locals (done those)) (cond x w (went.Goes known calls))
-      by pat false fits = skip (kind_of s.term.kind) locals known made (after ++ []) _ (went.Goes known calls) calls those only same (ap (λ o. fitted o (λ more. after_scope locals (run_body u inside (locals ++ more) (done those))) (Goes locals (done those))) fits) refl
-      by pat true fits =
-          let r = runs (locals ++ fits.0) fits.2 in
+      by : (pat : TPat) (x : Bool) → FitsBy s u bound known locals places pat (read_value u locals q) x → Does s.env (kind_of s.term.kind) locals known (made ++ (after ++ [])) (run_stmt u (IfLet pat q inside) locals (done those)) (cond x w (went.Goes known calls))
+      by pat false k = skip s.env (kind_of s.term.kind) locals known made (after ++ []) _ (went.Goes known calls) calls those only same (ap (λ o. fitted o (λ more. after_scope locals (run_body u inside (locals ++ more) (done those))) (Goes locals (done those))) k) refl
+      by pat true k =
+          let r = runs (locals ++ k.0) k.2 in
           record {
-            runs = does_by (kind_of s.term.kind) locals _ (after_scope locals (run_body u inside (locals ++ fits.0) (done those))) w (ap (λ o. fitted o (λ more. after_scope locals (run_body u inside (locals ++ more) (done those))) (Goes locals (done those))) fits.1)
-                (scope_does (kind_of s.term.kind) u locals (λ end. run_body u (block_body s (bound_within bound places) body end) (locals ++ fits.0) (done those)) w r.runs);
+            runs = does_by s.env (kind_of s.term.kind) locals _ (after_scope locals (run_body u inside (locals ++ k.0) (done those))) w (ap (λ o. fitted o (λ more. after_scope locals (run_body u inside (locals ++ more) (done those))) (Goes locals (done those))) k.1)
+                (scope_does s.env (kind_of s.term.kind) u locals (λ end. run_body u (block_body s (bound_within bound places) body end) (locals ++ k.0) (done those)) w r.runs);
             goes = arm_goes made body known w r.goes;
           }
+
+  -- so of a variant or a struct
+  form_does : (bound made : List ℕ) (source : BindingId) (ty : TypeId) (c : Constraint) (places : List (Option BindingId)) (body : Block) (locals : Env) (known : Known) (calls those : List Made) → KnowsOnly made known → AreSameCalls s.env those calls → Agree s u bound known locals
+      → IsReady s bound source ty → IsConstraintOf s.env c ty → ArePlacesOf s source c places → IsForm c → ((inner : Env) → Agree s u (bound_within bound places) known inner → Runs (bound_within bound places) made body inner known calls those)
+      → Does s.env (kind_of s.term.kind) locals known (after_control s.env (paths_in s) made (block.Match source (Arm c places body NoArm))) (run_stmt u (IfLet (written_pattern (pattern_of s.env c places)) (written_read s bound true source) (block_body s (bound_within bound places) body Done)) locals (done those))
+      (control_run s.env u.meaning u.args (paths_in s) (block.Match source (Arm c places body NoArm)) known calls)
+  form_does bound made source ty c places body locals known calls those only same a ready is parts form runs =
+      let v = written_reads s u bound known locals true source ty g a ready in
+      let q = written_read s bound true source in
+      pattern_does bound made source c places body locals known calls those q (a_value v.v) only same v.block (arm_fits s u bound known locals source ty c places (read_value u locals q) g a ready.path is parts form v) runs
+
+  -- and of an option
+  some_does : (bound made : List ℕ) (source : BindingId) (ty : TypeId) (places : List (Option BindingId)) (body : Block) (locals : Env) (known : Known) (calls those : List Made) → KnowsOnly made known → AreSameCalls s.env those calls → Agree s u bound known locals
+      → IsOptionReady s bound source ty → ArePlacesOf s source constraint.Some places → ((inner : Env) → Agree s u (bound_within bound places) known inner → Runs (bound_within bound places) made body inner known calls those)
+      → Does s.env (kind_of s.term.kind) locals known (after_control s.env (paths_in s) made (block.Match source (Arm constraint.Some places body NoArm))) (run_stmt u (IfLet (written_pattern (pattern_of s.env constraint.Some places)) (read.Plain (written_operand s bound source)) (block_body s (bound_within bound places) body Done)) locals (done those))
+      (control_run s.env u.meaning u.args (paths_in s) (block.Match source (Arm constraint.Some places body NoArm)) known calls)
+  some_does bound made source ty places body locals known calls those only same a ready parts runs =
+      let o = option_reads s u bound known locals source ty a ready.bound' ready.path in
+      let h = value_of u locals (written_operand s bound source) in
+      pattern_does bound made source constraint.Some places body locals known calls those (read.Plain (written_operand s bound source)) (an_option o.o) only same o.block (some_fits s u bound known locals source ty places h a ready.path parts o) runs
 
   -- an arm of a constant binds nothing
   within_agrees : (bound : List ℕ) (places : List (Option BindingId)) (known : Known) (locals : Env) → places ≡ [] → Agree s u bound known locals → Agree s u (bound_within bound places) known locals
   within_agrees bound places known locals e a = subst (λ ps. Agree s u (bound_within bound ps) known locals) (sym e) a
 
   mutual
-    block_runs : (b : Block) (bound made : List ℕ) (locals : Env) (known : Known) (calls those : List Made) → KnowsOnly made known → AreSameCalls those calls → IsReadyFrom s bound made b → HasSingleArms b → Agree s u bound known locals → Runs bound made b locals known calls those
+    block_runs : (b : Block) (bound made : List ℕ) (locals : Env) (known : Known) (calls those : List Made) → KnowsOnly made known → AreSameCalls s.env those calls → IsReadyFrom s bound made b → HasSingleArms b → Agree s u bound known locals → Runs bound made b locals known calls those
     block_runs Stop bound made locals known calls those only same k o a = record { runs = record { after = locals; those = those; is = λ end. refl; same = same }; goes = same_later known made only }
     block_runs (Step binds c more) bound made locals known calls those only same k o a =
         let ks = occurrences s.env (paths_in s) binds in
@@ -291,24 +310,32 @@ module _ (s : Setting) (u : Around) (g : Grounds s u) where
           λ last all' behind' same'' is. block_runs more (bound_by bound binds) (after_control s.env (paths_in s) (made ++ ks) c) after last all' behind' is.only same'' k.3 o.1 (agree_later s u (bound_by bound binds) later last after is.grows agree),
         ))
 
-    control_runs : (c : Control) (bound made : List ℕ) (locals : Env) (known : Known) (calls those : List Made) → KnowsOnly made known → AreSameCalls those calls → IsReadyControl s bound made c → IsSingle c → Agree s u bound known locals
-        → Does (kind_of s.term.kind) locals known (after_control s.env (paths_in s) made c) (run_stmt u (control_stmt s bound c) locals (done those)) (control_run s.env u.meaning u.args (paths_in s) c known calls)
+    control_runs : (c : Control) (bound made : List ℕ) (locals : Env) (known : Known) (calls those : List Made) → KnowsOnly made known → AreSameCalls s.env those calls → IsReadyControl s bound made c → IsSingle c → Agree s u bound known locals
+        → Does s.env (kind_of s.term.kind) locals known (after_control s.env (paths_in s) made c) (run_stmt u (control_stmt s bound c) locals (done those)) (control_run s.env u.meaning u.args (paths_in s) c known calls)
     control_runs (block.Match source (Arm (constraint.ConstBool val) places body NoArm)) bound made locals known calls those only same k o a =
-        constant_does bound made source k.1.0 (constraint.ConstBool val) places body locals known calls those only same a k.1.1 k.1.2.0 tt
+        let x = over_value s bound source (constraint.ConstBool val) k.1.0 (λ e. cc) k.1.1 k.1.2.0 in
+        constant_does bound made source x.ty (constraint.ConstBool val) places body locals known calls those only same a x.ready x.is tt
         (block_runs body (bound_within bound places) made locals known calls those only same k.1.2.2 o (within_agrees bound places known locals k.1.2.1 a))
     control_runs (block.Match source (Arm (constraint.ConstInt val of) places body NoArm)) bound made locals known calls those only same k o a =
-        constant_does bound made source k.1.0 (constraint.ConstInt val of) places body locals known calls those only same a k.1.1 k.1.2.0 tt
+        let x = over_value s bound source (constraint.ConstInt val of) k.1.0 (λ e. cc) k.1.1 k.1.2.0 in
+        constant_does bound made source x.ty (constraint.ConstInt val of) places body locals known calls those only same a x.ready x.is tt
         (block_runs body (bound_within bound places) made locals known calls those only same k.1.2.2 o (within_agrees bound places known locals k.1.2.1 a))
     control_runs (block.Match source (Arm (constraint.ConstPrim val) places body NoArm)) bound made locals known calls those only same k o a =
-        constant_does bound made source k.1.0 (constraint.ConstPrim val) places body locals known calls those only same a k.1.1 k.1.2.0 tt
+        let x = over_value s bound source (constraint.ConstPrim val) k.1.0 (λ e. cc) k.1.1 k.1.2.0 in
+        constant_does bound made source x.ty (constraint.ConstPrim val) places body locals known calls those only same a x.ready x.is tt
         (block_runs body (bound_within bound places) made locals known calls those only same k.1.2.2 o (within_agrees bound places known locals k.1.2.1 a))
     control_runs (block.Match source (Arm (constraint.Variant of variant) places body NoArm)) bound made locals known calls those only same k o a =
-        form_does bound made source k.1.0 (constraint.Variant of variant) places body locals known calls those only same a k.1.1 k.1.2.0 k.1.2.1 tt
+        let x = over_value s bound source (constraint.Variant of variant) k.1.0 (λ e. cc) k.1.1 k.1.2.0 in
+        form_does bound made source x.ty (constraint.Variant of variant) places body locals known calls those only same a x.ready x.is k.1.2.1 tt
         (λ inner agree. block_runs body (bound_within bound places) made inner known calls those only same k.1.2.2 o agree)
     control_runs (block.Match source (Arm (constraint.Struct of) places body NoArm)) bound made locals known calls those only same k o a =
-        form_does bound made source k.1.0 (constraint.Struct of) places body locals known calls those only same a k.1.1 k.1.2.0 k.1.2.1 tt
+        let x = over_value s bound source (constraint.Struct of) k.1.0 (λ e. cc) k.1.1 k.1.2.0 in
+        form_does bound made source x.ty (constraint.Struct of) places body locals known calls those only same a x.ready x.is k.1.2.1 tt
         (λ inner agree. block_runs body (bound_within bound places) made inner known calls those only same k.1.2.2 o agree)
-    control_runs (block.Match source (Arm constraint.Some places body NoArm)) bound made locals known calls those only same k o a = absurd k.1.2.0
+    control_runs (block.Match source (Arm constraint.Some places body NoArm)) bound made locals known calls those only same k o a =
+        let x = over_option s bound source k.1.0 k.1.1 k.1.2.0 in
+        some_does bound made source x.0 places body locals known calls those only same a x.1 k.1.2.1
+        (λ inner agree. block_runs body (bound_within bound places) made inner known calls those only same k.1.2.2 o agree)
     control_runs (block.Match source (Arm c places body (Arm d others inside arms))) bound made locals known calls those only same k o a = absurd o
     control_runs (block.Match source NoArm) bound made locals known calls those only same k o a = absurd o
     control_runs (block.Equal x y body) bound made locals known calls those only same k o a =
@@ -318,16 +345,16 @@ module _ (s : Setting) (u : Around) (g : Grounds s u) where
         let after = after_block s.env (paths_in s) made body in
         let f = run_stmt u (IfEq (written_operand s bound x) (written_operand s bound y) (block_body s bound body Done)) locals (done those) in
         let inner = block_run s.env u.meaning u.args (paths_in s) body known calls in
-        subst (λ h. Does (kind_of s.term.kind) locals known (made ++ after) f (cond (equal_held h (value_at s.env u.meaning u.args known (at (paths_in s) y))) inner (went.Goes known calls))) (sym v.block)
-        (subst (λ h. Does (kind_of s.term.kind) locals known (made ++ after) f (cond (equal_held (a_value v.v) h) inner (went.Goes known calls))) (sym w.block)
+        subst (λ h. Does s.env (kind_of s.term.kind) locals known (made ++ after) f (cond (equal_held h (value_at s.env u.meaning u.args known (at (paths_in s) y))) inner (went.Goes known calls))) (sym v.block)
+        (subst (λ h. Does s.env (kind_of s.term.kind) locals known (made ++ after) f (cond (equal_held (a_value v.v) h) inner (went.Goes known calls))) (sym w.block)
         (equal_does (written_operand s bound x) (written_operand s bound y) bound made after body locals known calls those v.r w.r _ v.run w.run (run_same s.env k.0.0 v.r w.r v.v w.v v.same w.same v.typed w.typed) only same r
         (on_right made after known inner r.goes)))
     control_runs (block.Loop result body) bound made locals known calls those only same k o a = absurd k
     control_runs (block.Return pos result) bound made locals known calls those only same k o a =
         let v = written_reads s u bound known locals false result s.term.ret_ty g a k in
         record {
-          runs = subst (λ h. EndsSo (kind_of s.term.kind) (run_return u (returned (kind_of s.term.kind) (written_read s bound false result)) locals (done those)) (record { result = result_of h; calls = calls })) (sym v.block)
-              (return_does u (kind_of s.term.kind) (written_read s bound false result) v.r v.v locals calls those v.run v.same same);
+          runs = subst (λ h. EndsSo s.env (kind_of s.term.kind) (run_return u (returned (kind_of s.term.kind) (written_read s bound false result)) locals (done those)) (record { result = result_of h; calls = calls })) (sym v.block)
+              (return_does s.env u (kind_of s.term.kind) (written_read s bound false result) v.r v.v locals calls those v.run v.same same);
           goes = tt;
         }
 
@@ -352,20 +379,20 @@ returns (Step binds c (Step ds d more)) env m args bs known made e =
     ended_after (went.Ends o) go h = (o, refl)
 
 -- a run that ends is the same but for names
-ran_same : (kind : ReturnKind) (f : Flow) (o : Prescription) → EndsSo kind f o → AreSameRuns (ended f) (Some (ran_with o.calls (end_of kind o.result)))
-ran_same kind f o e =
-    ap (λ x. option_map nameless_ran (ended x)) e.is ∙ ap (λ x. Some (record { end = x; calls = map nameless_made e.those })) e.same ∙ ap (λ x. Some (record { end = nameless_end (end_of kind o.result); calls = x })) e.calls
+ran_same : (env : Environment) (kind : ReturnKind) (f : Flow) (o : Prescription) → EndsSo env kind f o → AreSameRuns env (ended f) (Some (ran_with o.calls (end_of kind o.result)))
+ran_same env kind f o e =
+    ap (λ x. option_map (λ (q : Ran). nameless_ran (impure_ran env q)) (ended x)) e.is ∙ ap (λ x. Some (record { end = x; calls = map nameless_made (impure_calls env e.those) })) e.same ∙ ap (λ x. Some (record { end = nameless_end (end_of kind o.result); calls = x })) e.calls
 
 -- behind a block that goes on stands the tail of its kind
-tail_runs : (u : Around) (kind : ReturnKind) → AnswersOnce kind → (x : Bool) (name place : List ℕ) (f : Body → Flow) (w : Went) → (x ≡ true → (o : Prescription) × (w ≡ went.Ends o)) → RunsSo kind u f w
-    → AreSameRuns (ended (f (cond x Done (tail_body (mark_of kind name place))))) (Some (ran_with (gave kind w).calls (end_of kind (gave kind w).result)))
-tail_runs u kind once x name place f (went.Ends o) h r = ran_same kind (f (cond x Done (tail_body (mark_of kind name place)))) o (r (cond x Done (tail_body (mark_of kind name place))))
-tail_runs u kind once true name place f (went.Goes known made) h r = let k = h refl in cc
-tail_runs u return_kind.Plain once false name place f (went.Goes known made) h r =
-    ap (λ x. option_map nameless_ran (ended x)) (r.is (tail_body (mark_of return_kind.Plain name place))) ∙ ap (λ x. Some (record { end = IsUnreachable; calls = x })) r.same
-tail_runs u return_kind.Option once false name place f (went.Goes known made) h r =
-    ap (λ x. option_map nameless_ran (ended x)) (r.is (tail_body (mark_of return_kind.Option name place))) ∙ ap (λ x. Some (record { end = GivesNone; calls = x })) r.same
-tail_runs u return_kind.Iterator once false name place f (went.Goes known made) h r = absurd once
+tail_runs : (env : Environment) (u : Around) (kind : ReturnKind) → AnswersOnce kind → (x : Bool) (name place : List ℕ) (f : Body → Flow) (w : Went) → (x ≡ true → (o : Prescription) × (w ≡ went.Ends o)) → RunsSo env kind u f w
+    → AreSameRuns env (ended (f (cond x Done (tail_body (mark_of kind name place))))) (Some (ran_with (gave kind w).calls (end_of kind (gave kind w).result)))
+tail_runs env u kind once x name place f (went.Ends o) h r = ran_same env kind (f (cond x Done (tail_body (mark_of kind name place)))) o (r (cond x Done (tail_body (mark_of kind name place))))
+tail_runs env u kind once true name place f (went.Goes known made) h r = let k = h refl in cc
+tail_runs env u return_kind.Plain once false name place f (went.Goes known made) h r =
+    ap (λ x. option_map (λ (q : Ran). nameless_ran (impure_ran env q)) (ended x)) (r.is (tail_body (mark_of return_kind.Plain name place))) ∙ ap (λ x. Some (record { end = IsUnreachable; calls = x })) r.same
+tail_runs env u return_kind.Option once false name place f (went.Goes known made) h r =
+    ap (λ x. option_map (λ (q : Ran). nameless_ran (impure_ran env q)) (ended x)) (r.is (tail_body (mark_of return_kind.Option name place))) ∙ ap (λ x. Some (record { end = GivesNone; calls = x })) r.same
+tail_runs env u return_kind.Iterator once false name place f (went.Goes known made) h r = absurd once
 
 -- the end that a kind has
 pub ends_as : (kind : ReturnKind) → AnswersOnce kind → (r : Result) → ending kind r ≡ Some (end_of kind r)
@@ -378,18 +405,18 @@ ends_as return_kind.Option once Unmatched = refl
 ends_as return_kind.Iterator once r = absurd once
 
 -- the function of a term whose block is lawful runs as the block
-pub written_runs : (files : Files) (env : Environment) (t : Term) (bs : List Binding) (b : Block) → AnswersOnce (kind_of t.kind) → HasRustNames env → IsLawfulBlock (setting env t bs) b → HasSingleArms b → RunsAsBlock env t bs b (function_of files env t bs b)
-written_runs files env t bs b once names h o p args m e k answers values =
+pub written_runs : (files : Files) (env : Environment) (t : Term) (bs : List Binding) (b : Block) → AnswersOnce (kind_of t.kind) → HasRustNames env → HasPureExtractors env bs → IsLawfulBlock (setting env t bs) b → HasSingleArms b → RunsAsBlock env t bs b (function_of files env t bs b)
+written_runs files env t bs b once names pure h o p args m e k answers values =
     let kind = kind_of t.kind in
     let name = sym_text env t.name in
     let place = place_in files t.decl_pos in
     let s = setting env t bs in
     let u : Around = record { meaning = m; program = p; function = function_of files env t bs b; args = args; limit = None } in
-    let g : Grounds s u = record { typed = k; answers = answers; constants = values; names = names } in
+    let g : Grounds s u = record { typed = k; answers = answers; constants = values; names = names; pure = pure } in
     let c = completed s [] b in
     let f : Body → Flow = λ end. run_body u (block_body s [] c end) [] (done []) in
     let r = block_runs s u g c [] [] [] nothing_known [] [] (λ j apart. refl) refl (completed_ready s b h) (completed_single s [] b o) (none_agree s u nothing_known) in
     let outcome = block_outcome env m args (paths_of bs) b kind in
-    ap (option_map nameless_ran) (ap (function_run p m args) e)
-    ∙ tail_runs u kind once (ends_in_return b) name place f (block_run env m args (paths_of bs) b nothing_known []) (λ x. returns b env m args bs nothing_known [] x) (subst (RunsSo kind u f) (completed_runs s m args [] b nothing_known []) r.runs)
+    ap (option_map (λ (q : Ran). nameless_ran (impure_ran env q))) (ap (function_run p m args) e)
+    ∙ tail_runs env u kind once (ends_in_return b) name place f (block_run env m args (paths_of bs) b nothing_known []) (λ x. returns b env m args bs nothing_known [] x) (subst (RunsSo env kind u f) (completed_runs s m args [] b nothing_known []) r.runs)
     ∙ ap (λ x. option_map nameless_ran (option_map (ran_with outcome.calls) x)) (sym (ends_as kind once outcome.result))

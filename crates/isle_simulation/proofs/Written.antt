@@ -1,5 +1,6 @@
 -- The statements of a lawful block by functions that always give something, for the laws. What they give in place of forms
 -- that are not built is never reached: `Made` says so.
+use Rattle.std.specs.Option.{option_map_or}
 use Rattle.std.specs.Prelude.{ℕ, pos, List, [], ◌∷◌, ◌++◌, Bool, true, false, Option, Some, None, slice_get}
 use Rattle.isle_core.specs.declared.BindingId.{BindingId}
 use Rattle.isle_core.specs.declared.TypeId.{TypeId}
@@ -17,7 +18,7 @@ use Rattle.isle_core.specs.ArmPlaces.{bound_within}
 use Rattle.isle_core.specs.Bindable.{bound_by}
 use Rattle.isle_core.specs.Block as block
 use Rattle.isle_core.specs.Block.{Block, Control, Arms}
-use Rattle.isle_core.specs.Calling.{Calling, ByTurns, ByCases, NoCall, calling, kind_of}
+use Rattle.isle_core.specs.Calling.{Calling, ByTurns, ByCases, NoCall, calling, extracting, kind_of}
 use Rattle.isle_core.specs.Form.{Form, form}
 use Rattle.isle_core.specs.HasType.{typed_fields}
 use Rattle.isle_core.specs.Making.{MakesVariant, MakesStruct}
@@ -38,7 +39,7 @@ use Rattle.isle_tree.specs.Program.{Stmt, Let, IfEq, IfLet, Return, Tail, Body, 
 use Rattle.isle_simulation.specs.Completed.{completed}
 use Rattle.isle_simulation.specs.Operands.{in_place, tested, operand_of}
 use Rattle.isle_simulation.specs.Patterns.{pattern_of}
-use Rattle.isle_simulation.specs.References.{is_declared, is_reference_in, read_as}
+use Rattle.isle_simulation.specs.References.{is_declared, result_type, is_reference_in, read_as}
 use Rattle.isle_simulation.specs.Statements.{made_of}
 use Rattle.isle_simulation.specs.TermFunction.{tail_in, function_with}
 
@@ -80,6 +81,10 @@ abbrev pub call_expr : Setting → List ℕ → Option Term → Callee → List 
 call_expr s bound (Some t) callee parameters = expr.Call (is_declared s.env t.ret_ty) (record { callee = callee; args = reads s bound t.arg_tys parameters })
 call_expr s bound None callee parameters = expr.Call false (record { callee = callee; args = [] })
 
+abbrev pub extraction_expr : Setting → List ℕ → Option Term → Callee → BindingId → TExpr
+extraction_expr s bound (Some t) callee parameter = expr.Call (option_map_or (is_declared s.env) (result_type (Some t)) false) (record { callee = callee; args = reads s bound (t.ret_ty ∷ []) (parameter ∷ []) })
+extraction_expr s bound None callee parameter = expr.Call false (record { callee = callee; args = [] })
+
 abbrev pub field_reads : Setting → List ℕ → List (List ℕ × TypeId) → List BindingId → List (List ℕ × Read)
 field_reads s bound (f ∷ fields) (b ∷ more) = (f.0, written_read s bound false b) ∷ field_reads s bound fields more
 field_reads s bound [] bs = []
@@ -91,6 +96,7 @@ made_expr s bound None parts = expr.Read (read.Plain (written None))
 
 abbrev pub bound_expr : Setting → List ℕ → BindingId → Option Binding → TExpr
 bound_expr s bound b (Some (binding.Constructor term parameters instance)) = call_expr s bound (slice_get s.env.terms term.0) (callee_of (calling s.env term)) parameters
+bound_expr s bound b (Some (binding.Extractor term parameter)) = extraction_expr s bound (slice_get s.env.terms term.0) (callee_of (extracting s.env term)) parameter
 bound_expr s bound b (Some (binding.MatchSome source)) = expr.Try (written_operand s bound source) (is_reference_in s source)
 bound_expr s bound b (Some (binding.MakeVariant ty variant fields)) = made_expr s bound (form s.env (MakesVariant ty variant)) fields
 bound_expr s bound b (Some (binding.MakeStruct ty fields)) = made_expr s bound (form s.env (MakesStruct ty)) fields
@@ -110,6 +116,7 @@ returned return_kind.Iterator r = expr.Read r
 abbrev pub arm_stmt : Setting → List ℕ → BindingId → Constraint → List (Option BindingId) → Body → Stmt
 arm_stmt s bound source (constraint.Variant ty variant) places inside = IfLet (written_pattern (pattern_of s.env (constraint.Variant ty variant) places)) (written_read s bound true source) inside
 arm_stmt s bound source (constraint.Struct ty) places inside = IfLet (written_pattern (pattern_of s.env (constraint.Struct ty) places)) (written_read s bound true source) inside
+arm_stmt s bound source constraint.Some places inside = IfLet (written_pattern (pattern_of s.env constraint.Some places)) (read.Plain (written_operand s bound source)) inside
 arm_stmt s bound source c places inside = IfEq (written_operand s bound source) (written_test s.env c) inside
 
 abbrev mutual

@@ -1,5 +1,5 @@
 -- What an emitted function is to its term and its block.
-use Rattle.std.specs.Prelude.{◌≡◌, List, [], ◌∷◌, IsTrue, IsSome, Option, Some, option_map}
+use Rattle.std.specs.Prelude.{◌≡◌, ℕ, List, [], ◌∷◌, false, IsTrue, IsSome, Option, Some, option_map, slice_get}
 use Rattle.std.specs.List.{AllByRecursion, list_all}
 use Rattle.isle_printer.specs.Token.{is_word_byte}
 use Rattle.isle_core.specs.declared.types.Term.{Term}
@@ -8,13 +8,17 @@ use Rattle.isle_core.specs.Meaning.{Meaning}
 use Rattle.isle_core.specs.HasType.{HaveTypes}
 use Rattle.isle_core.specs.declared.rule_sets.Binding.{Binding}
 use Rattle.isle_core.specs.declared.rule_sets.Binding.TheVariants as binding
-use Rattle.isle_core.specs.Lawful.{AnswersFit}
-use Rattle.isle_core.specs.Calling.{kind_of, AnswersOnce}
+use Rattle.isle_core.specs.CalledTerms.{Extractor}
+use Rattle.isle_core.specs.Lawful.{AnswersFit, RoleFits}
+use Rattle.isle_core.specs.Calling.{extracting, kind_of, AnswersOnce}
 use Rattle.isle_core.specs.Outcome.{Prescription}
 use Rattle.isle_core.specs.Path.{paths_of}
 use Rattle.isle_core.specs.Block.{Block}
 use Rattle.isle_core.specs.BlockRun.{block_outcome}
-use Rattle.isle_core.specs.Terms.{sym_text}
+use Rattle.isle_core.specs.declared.BindingId.{BindingId}
+use Rattle.isle_core.specs.declared.TermId.{TermId}
+use Rattle.isle_core.specs.declared.values.Callee.{Callee}
+use Rattle.isle_core.specs.Terms.{sym_text, is_impure, impure_calls}
 use Rattle.isle_core.specs.Rule.{Environment}
 use Rattle.isle_core.specs.Having.{const_of}
 use Rattle.isle_core.specs.NamesApart.{ValuesConstants}
@@ -24,6 +28,7 @@ use Rattle.isle_simulation.specs.TypeTexts.{type_text}
 use Rattle.isle_tree.specs.Program.{Function, Program}
 use Rattle.isle_tree.specs.Run.{run, function_of}
 use Rattle.isle_simulation.specs.Ends.{end_of}
+use Rattle.isle_simulation.specs.Statements.{callee_of}
 
 -- a term whose name may be emitted, whose types have names of Rust, and that answers at most once
 pub record IsEmittable (env : Environment) (t : Term) : Type 0 where
@@ -39,8 +44,7 @@ ran_with calls end = record { end = end; calls = calls }
 abbrev pub ran_of : Term → Prescription → Option Ran
 ran_of t o = option_map (ran_with o.calls) (end_of (kind_of t.kind) o.result)
 
--- the meaning answers each call among the bindings with its kind and its type, and each constant among them has a value; calls
--- of extractors are not built
+-- the meaning answers each call among the bindings, of a constructor or an extractor, with its kind and its types, and each constant among them has a value
 abbrev pub AnswersBindings : Environment → Meaning → List Binding → Type 0
 AnswersBindings env m [] = Unit {0}
 AnswersBindings env m (binding.Constructor term parameters instance ∷ bs) = AnswersFit env m term × AnswersBindings env m bs
@@ -48,7 +52,7 @@ AnswersBindings env m (binding.ConstBool val ty ∷ bs) = AnswersBindings env m 
 AnswersBindings env m (binding.ConstInt val ty ∷ bs) = AnswersBindings env m bs
 AnswersBindings env m (binding.ConstPrim val ∷ bs) = IsSome (const_of m (sym_text env val)) × AnswersBindings env m bs
 AnswersBindings env m (binding.Argument index ∷ bs) = AnswersBindings env m bs
-AnswersBindings env m (binding.Extractor term parameter ∷ bs) = AnswersBindings env m bs
+AnswersBindings env m (binding.Extractor term parameter ∷ bs) = RoleFits env m term Extractor × AnswersBindings env m bs
 AnswersBindings env m (binding.Iterator source ∷ bs) = AnswersBindings env m bs
 AnswersBindings env m (binding.MakeVariant ty variant fields ∷ bs) = AnswersBindings env m bs
 AnswersBindings env m (binding.MakeStruct ty fields ∷ bs) = AnswersBindings env m bs
@@ -58,13 +62,21 @@ AnswersBindings env m (binding.MakeSome inner ∷ bs) = AnswersBindings env m bs
 AnswersBindings env m (binding.MatchSome source ∷ bs) = AnswersBindings env m bs
 AnswersBindings env m (binding.MatchTuple source field ∷ bs) = AnswersBindings env m bs
 
--- two runs are the same but for the type names of opaque numbers
-abbrev pub AreSameRuns : Option Ran → Option Ran → Type 0
-AreSameRuns r q = option_map nameless_ran r ≡ option_map nameless_ran q
+-- no extractor among the bindings is the function of an impure term
+abbrev pub HasPureExtractors : Environment → List Binding → Type 0
+HasPureExtractors env bs = (b : ℕ) (term : TermId) (parameter : BindingId) (callee : Callee) → slice_get bs b ≡ Some (binding.Extractor term parameter) → callee_of (extracting env term) ≡ Some callee → is_impure env callee ≡ false
 
--- in every program in which the term's function is this, its run on well-typed arguments is the block's, under every
--- meaning that answers its calls and gives constants values of their types
+-- a run with the calls of impure terms alone
+abbrev pub impure_ran : Environment → Ran → Ran
+impure_ran env r = record { end = r.end; calls = impure_calls env r.calls }
+
+-- a run is the same as another but for the type names of opaque numbers and its calls of pure terms
+abbrev pub AreSameRuns : Environment → Option Ran → Option Ran → Type 0
+AreSameRuns env r q = option_map (λ (x : Ran). nameless_ran (impure_ran env x)) r ≡ option_map nameless_ran q
+
+-- in every program in which the term's function is this, its run on well-typed arguments is the block's, but for calls of pure
+-- terms, under every meaning that answers its calls and gives constants values of their types
 abbrev pub RunsAsBlock : Environment → Term → List Binding → Block → Function → Type 0
 RunsAsBlock env t bs b f = (p : Program) (args : List Value) (m : Meaning)
     → function_of (sym_text env t.name) p.fns ≡ Some f → HaveTypes env args t.arg_tys → AnswersBindings env m bs → ValuesConstants env m
-    → AreSameRuns (run p (sym_text env t.name) args m) (ran_of t (block_outcome env m args (paths_of bs) b (kind_of t.kind)))
+    → AreSameRuns env (run p (sym_text env t.name) args m) (ran_of t (block_outcome env m args (paths_of bs) b (kind_of t.kind)))

@@ -1,4 +1,4 @@
--- The patterns that take variants and structs apart.
+-- The patterns that take variants, structs and options apart.
 use Rattle.std.specs.Prelude.{ℕ, List, [], ◌∷◌, Bool, true, false, Option, Some, None, option_map}
 use Rattle.isle_core.specs.declared.BindingId.{BindingId}
 use Rattle.isle_core.specs.declared.Sym.{Sym}
@@ -44,11 +44,17 @@ abbrev pub form_pattern : Environment → Option Form → List (Option BindingId
 form_pattern env None places = None
 form_pattern env (Some f) places = option_map (pattern_named env f.ty f.variant (leaves_out (typed_fields env f.fields) places)) (field_binds env (typed_fields env f.fields) places)
 
--- that of a constraint on a value that a variant or a struct makes; the others have none
+-- the pattern of an option of something, which binds it in the one place, if there is one
+abbrev pub some_pattern : List (Option BindingId) → Option TPat
+some_pattern [] = Some (pattern.Some None)
+some_pattern (p ∷ []) = Some (pattern.Some (option_map (λ (b : BindingId). b.0) p))
+some_pattern (p ∷ q ∷ places) = None
+
+-- that of a constraint on what a variant or a struct makes, or on an option; the others have none
 abbrev pub pattern_of : Environment → Constraint → List (Option BindingId) → Option TPat
 pattern_of env (constraint.Variant ty variant) places = form_pattern env (form env (MakesVariant ty variant)) places
 pattern_of env (constraint.Struct ty) places = form_pattern env (form env (MakesStruct ty)) places
 pattern_of env (constraint.ConstBool val) places = None
 pattern_of env (constraint.ConstInt val ty) places = None
 pattern_of env (constraint.ConstPrim val) places = None
-pattern_of env constraint.Some places = None
+pattern_of env constraint.Some places = some_pattern places

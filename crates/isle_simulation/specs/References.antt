@@ -1,5 +1,5 @@
 -- Which operands are references, and how they are read where one is wanted or not.
-use Rattle.std.specs.Prelude.{ℕ, Bool, true, false, Option, Some, None, option_and_then, option_map, slice_get}
+use Rattle.std.specs.Prelude.{ℕ, List, [], ◌∷◌, Bool, true, false, Option, Some, None, option_and_then, option_map, slice_get}
 use Rattle.std.specs.Option.{option_map_or}
 use Rattle.isle_core.specs.declared.BindingId.{BindingId}
 use Rattle.isle_core.specs.declared.TypeId.{TypeId}
@@ -19,6 +19,16 @@ use Rattle.isle_simulation.specs.TypeTexts.{is_by_ref}
 abbrev pub field_type : Environment → Making → ℕ → Option TypeId
 field_type env mk field = option_and_then (λ f. slice_get (form_types env f) field) (form env mk)
 
+-- the one result of an extractor
+abbrev pub one_result : List TypeId → Option TypeId
+one_result [] = None
+one_result (ty ∷ []) = Some ty
+one_result (ty ∷ of ∷ tys) = None
+
+-- the type of the one result of a term's extractor, which gives what the term takes
+abbrev pub result_type : Option Term → Option TypeId
+result_type t = option_and_then (λ (x : Term). one_result x.arg_tys) t
+
 -- the type of what stands at a path, where it has one; of an option it is the type of what is within
 abbrev pub type_at : Environment → Term → Path → Option TypeId
 type_at env t (Arg i) = slice_get t.arg_tys i
@@ -32,7 +42,7 @@ type_at env t (MadeStruct ty ps) = Some ty
 type_at env t (VariantField variant field p) = option_and_then (λ ty. field_type env (MakesVariant ty variant) field) (type_at env t p)
 type_at env t (StructField field p) = option_and_then (λ ty. field_type env (MakesStruct ty) field) (type_at env t p)
 type_at env t Nowhere = None
-type_at env t (Extracted term p) = None
+type_at env t (Extracted term p) = result_type (slice_get env.terms term.0)
 type_at env t (Chosen p) = None
 type_at env t (Wrapped p) = None
 type_at env t (Part part p) = None

@@ -12,13 +12,14 @@ use Rattle.isle_core.specs.Setting.{Setting}
 use Rattle.isle_tree.specs.declared.tree.Operand.{Operand}
 use Rattle.isle_tree.specs.declared.tree.Read.{Read}
 use Rattle.isle_tree.specs.declared.tree.TPat.{TPat}
+use Rattle.isle_tree.specs.declared.tree.TPat.TheVariants as pattern
 use Rattle.isle_tree.specs.declared.tree.TExpr.{TExpr}
 use Rattle.isle_tree.specs.declared.tree.TExpr.TheVariants as expr
 use Rattle.isle_tree.specs.Program.{Stmt, Let, LetList, IfEq, IfLet, Match, Loop, Return, Extend, Overflow, Log, Split, Tail, Body, Done, Then}
 use Rattle.isle_simulation.specs.Bare.{bare}
 use Rattle.isle_simulation.specs.Operands.{tested, operand_of}
 use Rattle.isle_simulation.specs.Patterns.{pattern_of}
-use Rattle.isle_simulation.specs.Statements.{read_in}
+use Rattle.isle_simulation.specs.Statements.{plain_read, read_in}
 
 -- the operand is that of the binding, where these are bound
 abbrev pub IsOperandOf : Setting → List ℕ → BindingId → Operand → Type 0
@@ -74,9 +75,16 @@ IsPatternArm s bound pat does block.NoArm = ⊥
 IsPatternArm s bound pat does (block.Arm c places body block.NoArm) = (pattern_of s.env c places ≡ Some pat) × does (bound_within bound places) body
 IsPatternArm s bound pat does (block.Arm c places body (block.Arm d others more arms)) = ⊥
 
--- the test by a pattern is the step's, over a reference to its source
+-- what is read is what a test of this pattern reads: a reference where a variant or a struct is taken apart, and else the operand itself
+abbrev pub IsTestedBy : Setting → List ℕ → BindingId → TPat → Read → Type 0
+IsTestedBy s bound b (pattern.Variant ty variant binds more) r = IsReadOf s bound true b r
+IsTestedBy s bound b (pattern.Struct ty binds more) r = IsReadOf s bound true b r
+IsTestedBy s bound b (pattern.Some local) r = plain_read (operand_of s.env s.bindings bound b) ≡ Some r
+IsTestedBy s bound b (pattern.Const o) r = plain_read (operand_of s.env s.bindings bound b) ≡ Some r
+
+-- the test by a pattern is the step's, over its source
 abbrev pub IsPatternTest : Setting → List ℕ → TPat → Read → (does : List ℕ → Block → Type 0) → Control → Type 0
-IsPatternTest s bound pat r does (block.Match source arms) = IsReadOf s bound true source r × IsPatternArm s bound pat does arms
+IsPatternTest s bound pat r does (block.Match source arms) = IsTestedBy s bound source pat r × IsPatternArm s bound pat does arms
 IsPatternTest s bound pat r does (block.Equal a b body) = ⊥
 IsPatternTest s bound pat r does (block.Loop result body) = ⊥
 IsPatternTest s bound pat r does (block.Return pos result) = ⊥

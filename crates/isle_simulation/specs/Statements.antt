@@ -1,12 +1,13 @@
 -- The statements of a block in its setting, where all of its forms are built.
 use Rattle.std.specs.Prelude.{ℕ, List, [], ◌∷◌, ◌++◌, Bool, true, false, Option, Some, None, option_map, slice_get}
+use Rattle.std.specs.Option.{option_map_or}
 use Rattle.isle_core.specs.declared.BindingId.{BindingId}
 use Rattle.isle_core.specs.declared.rule_sets.Binding.{Binding}
 use Rattle.isle_core.specs.declared.rule_sets.Binding.TheVariants as binding
 use Rattle.isle_core.specs.declared.types.ReturnKind.{ReturnKind}
 use Rattle.isle_core.specs.declared.types.ReturnKind.TheVariants as return_kind
 use Rattle.isle_core.specs.declared.values.Callee.{Callee}
-use Rattle.isle_core.specs.Calling.{Calling, ByTurns, ByCases, NoCall, calling, kind_of}
+use Rattle.isle_core.specs.Calling.{Calling, ByTurns, ByCases, NoCall, calling, extracting, kind_of}
 use Rattle.isle_core.specs.declared.Sym.{Sym}
 use Rattle.isle_core.specs.declared.TypeId.{TypeId}
 use Rattle.isle_core.specs.declared.rule_sets.Constraint.{Constraint}
@@ -32,7 +33,7 @@ use Rattle.isle_tree.specs.declared.tree.TExpr.{TExpr}
 use Rattle.isle_tree.specs.declared.tree.TExpr.TheVariants as expr
 use Rattle.isle_tree.specs.Program.{Stmt, Let, IfEq, IfLet, Return, Body, Done, Then}
 use Rattle.isle_simulation.specs.Patterns.{pattern_of}
-use Rattle.isle_simulation.specs.References.{is_declared, is_reference_in, read_as}
+use Rattle.isle_simulation.specs.References.{is_declared, result_type, is_reference_in, read_as}
 use Rattle.isle_simulation.specs.Operands.{in_place, tested, operand_of}
 
 -- ---- what bound locals compute
@@ -70,6 +71,11 @@ call_on borrow None args = None
 abbrev pub call_of : Setting → List ℕ → Option Term → Option Callee → List BindingId → Option TExpr
 call_of s bound None callee parameters = None
 call_of s bound (Some t) callee parameters = call_on (is_declared s.env t.ret_ty) callee (reads s bound t.arg_tys parameters)
+
+-- a call of the extractor of a term that is there, on what it takes apart, behind a & where its one result is an enum or a struct
+abbrev pub extraction_of : Setting → List ℕ → Option Term → Option Callee → BindingId → Option TExpr
+extraction_of s bound None callee parameter = None
+extraction_of s bound (Some t) callee parameter = call_on (option_map_or (is_declared s.env) (result_type (Some t)) false) callee (reads s bound (t.ret_ty ∷ []) (parameter ∷ []))
 
 -- the inner value of an option
 abbrev pub inner_of : (as_ref : Bool) → Option Operand → Option TExpr
@@ -109,7 +115,7 @@ abbrev pub made_in : Setting → List ℕ → Option Form → List BindingId →
 made_in s bound None parts = None
 made_in s bound (Some f) parts = option_map (made_of s.env f) (field_reads s bound (typed_fields s.env f.fields) parts)
 
--- what is computed for a binding: a call, the inner value of an option, a made value, or what is read in place; the others are not built
+-- what is computed for a binding: a call, also of an extractor, the inner value of an option, a made value, or what is read in place; the others are not built
 abbrev pub computed : Setting → List ℕ → BindingId → Option Binding → Option TExpr
 computed s bound b (Some (binding.Constructor term parameters instance)) = call_of s bound (slice_get s.env.terms term.0) (callee_of (calling s.env term)) parameters
 computed s bound b (Some (binding.MatchSome source)) = inner_of (is_reference_in s source) (operand_of s.env s.bindings bound source)
@@ -119,7 +125,7 @@ computed s bound b (Some (binding.Argument index)) = read_of (in_place s.env b.0
 computed s bound b (Some (binding.ConstBool val ty)) = read_of (in_place s.env b.0 (at (paths_in s) b))
 computed s bound b (Some (binding.ConstInt val ty)) = read_of (in_place s.env b.0 (at (paths_in s) b))
 computed s bound b (Some (binding.ConstPrim val)) = read_of (in_place s.env b.0 (at (paths_in s) b))
-computed s bound b (Some (binding.Extractor term parameter)) = None
+computed s bound b (Some (binding.Extractor term parameter)) = extraction_of s bound (slice_get s.env.terms term.0) (callee_of (extracting s.env term)) parameter
 computed s bound b (Some (binding.Iterator source)) = None
 computed s bound b (Some (binding.MatchVariant source variant field)) = None
 computed s bound b (Some (binding.ExtractStruct source field)) = None
@@ -170,14 +176,18 @@ return_of return_kind.Option (Some r) = Some (Return (expr.Some r))
 return_of return_kind.Iterator (Some r) = None
 return_of kind None = None
 
--- the one arm of a match: a test for a constant, or by the pattern of a variant or a struct, over a reference; Some is not built
+-- an operand as it is
+abbrev pub plain_read : Option Operand → Option Read
+plain_read o = option_map read.Plain o
+
+-- the one arm of a match: a test for a constant, or by the pattern of a variant or a struct, over a reference, or of an option
 abbrev pub arm_stmt : Setting → List ℕ → BindingId → Constraint → List (Option BindingId) → Option Body → Option Stmt
 arm_stmt s bound source (constraint.ConstBool val) places inside = if_eq (operand_of s.env s.bindings bound source) (tested s.env (constraint.ConstBool val)) inside
 arm_stmt s bound source (constraint.ConstInt val ty) places inside = if_eq (operand_of s.env s.bindings bound source) (tested s.env (constraint.ConstInt val ty)) inside
 arm_stmt s bound source (constraint.ConstPrim val) places inside = if_eq (operand_of s.env s.bindings bound source) (tested s.env (constraint.ConstPrim val)) inside
 arm_stmt s bound source (constraint.Variant ty variant) places inside = if_let (pattern_of s.env (constraint.Variant ty variant) places) (read_in s bound true source) inside
 arm_stmt s bound source (constraint.Struct ty) places inside = if_let (pattern_of s.env (constraint.Struct ty) places) (read_in s bound true source) inside
-arm_stmt s bound source constraint.Some places inside = None
+arm_stmt s bound source constraint.Some places inside = if_let (pattern_of s.env constraint.Some places) (plain_read (operand_of s.env s.bindings bound source)) inside
 
 -- a block's steps in order, and what follows; a match of several arms and a loop are not built
 abbrev mutual

@@ -1,0 +1,76 @@
+-- An extractor of one result is answered by the same case in a run and where a block runs.
+use Rattle.std.proofs.Common.{◌≡◌, List, [], ◌∷◌, map, cond, ◌&&◌, Option, Some, None, refl, ap, ◌∙◌, subst}
+use Rattle.std.specs.Prelude.{IsSomeAnd, find, slice_get}
+use Rattle.isle_core.specs.declared.TermId.{TermId}
+use Rattle.isle_core.specs.declared.TypeId.{TypeId}
+use Rattle.isle_core.specs.declared.types.ReturnKind.{ReturnKind}
+use Rattle.isle_core.specs.declared.types.ReturnKind.TheVariants as return_kind
+use Rattle.isle_core.specs.declared.types.Term.{Term}
+use Rattle.isle_core.specs.declared.values.Callee.{Callee}
+use Rattle.isle_core.specs.Answered.{answer_held, answer_by, answer}
+use Rattle.isle_core.specs.CalledTerms.{Extractor}
+use Rattle.isle_core.specs.Calling.{ByCases, extracting}
+use Rattle.isle_core.specs.Lawful.{Fits, CallingFits, RoleFits}
+use Rattle.isle_core.specs.Meaning.{PureAnswers, Meaning, case, case_at, case_or, cases_of, same_values}
+use Rattle.isle_core.specs.Nameless.{nameless}
+use Rattle.isle_core.specs.Rule.{Environment}
+use Rattle.isle_core.specs.SameInRun.{same_in_run}
+use Rattle.isle_core.specs.Value.{Value, Answer, Plain, Found, Nothing, Made}
+use Rattle.isle_core.proofs.PatternTests.{case_fits}
+use Rattle.isle_core.proofs.TurnKinds.{IsOfKind, IsHeldOf}
+use Rattle.isle_simulation.proofs.NamelessLaws.{like_same}
+
+-- ---- one case for values that are the same but for names
+
+values_like : (ws rs vs : List Value) → map nameless rs ≡ map nameless vs → same_values ws rs ≡ same_values ws vs
+values_like [] [] [] e = refl
+values_like (w ∷ ws) (r ∷ rs) (v ∷ vs) e =
+    let first : nameless r ≡ nameless v = cc in
+    let rest : map nameless rs ≡ map nameless vs = cc in
+    ap (λ b. b && same_values ws rs) (like_same w r w v refl first) ∙ ap (λ b. same_in_run w v && b) (values_like ws rs vs rest)
+values_like [] (r ∷ rs) (v ∷ vs) e = refl
+values_like (w ∷ ws) [] [] e = refl
+values_like ws [] (v ∷ vs) e = cc
+values_like ws (r ∷ rs) [] e = cc
+
+found_like : (cases : List (List Value × Answer)) (rs vs : List Value) → map nameless rs ≡ map nameless vs → find (λ (c : List Value × Answer). same_values c.0 rs) cases ≡ find (λ (c : List Value × Answer). same_values c.0 vs) cases
+found_like [] rs vs e = refl
+found_like (c ∷ cases) rs vs e =
+    ap (λ b. cond b (Some c) (find (λ (d : List Value × Answer). same_values d.0 rs) cases)) (values_like c.0 rs vs e) ∙ ap (λ o. cond (same_values c.0 vs) (Some c) o) (found_like cases rs vs e)
+
+case_at_like : (o : Option PureAnswers) (rs vs : List Value) → map nameless rs ≡ map nameless vs → case_at o rs ≡ case_at o vs
+case_at_like None rs vs e = refl
+case_at_like (Some a) rs vs e = ap (case_or a.rest) (found_like a.cases rs vs e)
+
+-- ---- an extractor
+
+-- what it is called for is answered by its cases, and a case has its kind and type
+pub record IsAnsweredByCase (env : Environment) (m : Meaning) (callee : Callee) (kind : ReturnKind) (result : TypeId) : Type 0 where
+  pub is : (rs vs : List Value) (made : List Made) → map nameless rs ≡ map nameless vs → answer m callee rs made ≡ case m callee vs
+  pub held : (vs : List Value) → IsOfKind kind (answer_held (case m callee vs))
+  pub typed : (vs : List Value) → IsHeldOf env result (answer_held (case m callee vs))
+
+fits_kind : (env : Environment) (kind : ReturnKind) (ty : TypeId) (a : Answer) → Fits env kind (ty ∷ []) a → IsOfKind kind (answer_held a) × IsHeldOf env ty (answer_held a)
+fits_kind env return_kind.Plain ty (Plain (v ∷ [])) h = ((v, refl), h.0)
+fits_kind env return_kind.Option ty (Found (v ∷ [])) h = ((Some v, refl), h.0)
+fits_kind env return_kind.Option ty Nothing h = ((None, refl), tt)
+fits_kind env return_kind.Plain ty (Plain (v ∷ w ∷ vs)) h = absurd h.1
+fits_kind env return_kind.Option ty (Found (v ∷ w ∷ vs)) h = absurd h.1
+fits_kind env return_kind.Iterator ty Nothing h = absurd h
+fits_kind env kind ty a h = absurd h
+
+cases_answer : (env : Environment) (m : Meaning) (callee : Callee) (kind : ReturnKind) (result : TypeId) → CallingFits env m (result ∷ []) (ByCases callee kind) → IsAnsweredByCase env m callee kind result
+cases_answer env m callee kind result h =
+    let fits : (vs : List Value) → Fits env kind (result ∷ []) (case m callee vs) = λ vs. case_fits env (result ∷ []) kind (cases_of m callee) vs h.0 in
+    record {
+      is = λ rs vs made e. ap (λ o. answer_by o m callee rs made) h.1 ∙ case_at_like (cases_of m callee) rs vs e;
+      held = λ vs. (fits_kind env kind result (case m callee vs) (fits vs)).0;
+      typed = λ vs. (fits_kind env kind result (case m callee vs) (fits vs)).1;
+    }
+
+-- so of the extractor of a term
+pub extractor_answers : (env : Environment) (m : Meaning) (term : TermId) (callee : Callee) (kind : ReturnKind) (called : Term) (result : TypeId)
+    → RoleFits env m term Extractor → extracting env term ≡ ByCases callee kind → slice_get env.terms term.0 ≡ Some called → called.arg_tys ≡ result ∷ [] → IsAnsweredByCase env m callee kind result
+extractor_answers env m term callee kind called result h c found one =
+    let here : CallingFits env m called.arg_tys (extracting env term) = subst (λ o. IsSomeAnd o (λ (t : Term). CallingFits env m t.arg_tys (extracting env term))) found h in
+    cases_answer env m callee kind result (subst (λ tys. CallingFits env m tys (ByCases callee kind)) one (subst (CallingFits env m called.arg_tys) c here))

@@ -1,0 +1,112 @@
+-- No extractor's function is that of an impure term, since no two functions of the trait have one name.
+use Rattle.std.proofs.Common.{◌≡◌, ℕ, zero, suc, List, [], ◌∷◌, Bool, true, false, Option, Some, None, refl, sym, ap, ◌∙◌, subst}
+use Rattle.std.specs.Prelude.{◌||◌, Contains, slice_get, option_map}
+use Rattle.std.specs.List.{IsDistinct, cons_option, list_any}
+use Rattle.std.specs.Str.{bytes_eq}
+use Rattle.std.proofs.lemmas.List.Elements.{All-contains, All-from_recursion}
+use Rattle.std.proofs.lemmas.Slice.Eq.{bytes_eq-Decides}
+use Rattle.isle_base.specs.declared.ids.Sym.{Sym}
+use Rattle.isle_core.specs.declared.rule_sets.Binding.{Binding}
+use Rattle.isle_core.specs.declared.types.ConstructorKind.{ConstructorKind}
+use Rattle.isle_core.specs.declared.types.ConstructorKind.TheVariants as constructor
+use Rattle.isle_core.specs.declared.types.ExtractorKind.TheVariants as extractor
+use Rattle.isle_core.specs.declared.types.Term.{Term}
+use Rattle.isle_core.specs.declared.types.TermKind.{TermKind}
+use Rattle.isle_core.specs.declared.types.TermKind.TheVariants as kind
+use Rattle.isle_core.specs.declared.values.Callee.{Callee}
+use Rattle.isle_core.specs.declared.values.Callee.TheVariants.{External}
+use Rattle.isle_core.specs.Calling.{extracting_of, extracting_kind}
+use Rattle.isle_core.specs.Rule.{Environment}
+use Rattle.isle_core.specs.Terms.{sym_text, callee_by, impure_callee, goes_to, is_impure}
+use Rattle.isle_tree.specs.declared.tree.TraitFn.{TraitFn}
+use Rattle.isle_tree.specs.WellFormed.{fn_names}
+use Rattle.isle_simulation.specs.Emitted.{HasPureExtractors}
+use Rattle.isle_simulation.specs.Statements.{callee_of}
+use Rattle.isle_simulation.specs.TraitFns.{constructor_fn, func_of, constructor_fn_of, extractor_fn, extracted_of, extractor_fn_of, trait_fns_in, HasFnNames}
+use Rattle.isle_simulation.proofs.ExternalTerms.{after_option, at_option, fn_contained, extractor_contained, name_contained}
+
+-- ---- names that are apart
+
+-- so are those behind one
+pub behind_one : (o : Option TraitFn) (fs : List TraitFn) → IsDistinct bytes_eq (fn_names (cons_option o fs)) → IsDistinct bytes_eq (fn_names fs)
+unfolding IsDistinct
+behind_one None fs d = d
+behind_one (Some f) fs d = d.1
+
+-- and the first is apart from those
+pub apart_from : (o : Option TraitFn) (fs : List TraitFn) (f g : TraitFn) → o ≡ Some f → IsDistinct bytes_eq (fn_names (cons_option o fs)) → Contains fs g → f.name ≡ g.name → ⊥
+unfolding IsDistinct
+apart_from None fs f g e d c same = cc
+apart_from (Some x) fs f g e d c same =
+    let is : x.name ≡ g.name = ap (λ (y : TraitFn). y.name) (one x f e) ∙ same in
+    let apart : bytes_eq x.name g.name ≡ false = All-contains (λ y. bytes_eq x.name y ≡ false) (fn_names fs) g.name (All-from_recursion (λ y. bytes_eq x.name y ≡ false) (fn_names fs) d.0) (name_contained fs g c) in
+    let equal : bytes_eq x.name g.name ≡ true = (bytes_eq-Decides x.name g.name).1 is in
+    cc
+  where
+    one : (a b : TraitFn) → Some a ≡ Some b → a ≡ b
+    one a b k = cc
+
+the_term : (a b : Term) → Some a ≡ Some b → a ≡ b
+the_term a b e = cc
+
+-- a term's extractor is apart from each constructor
+pub extractor_apart : (env : Environment) (ts : List Term) (i j : ℕ) (t u : Term) (f g : TraitFn) → IsDistinct bytes_eq (fn_names (trait_fns_in env ts)) → slice_get ts i ≡ Some t → slice_get ts j ≡ Some u
+    → extractor_fn_of env t ≡ Some f → constructor_fn_of env u ≡ Some g → f.name ≡ g.name → ⊥
+extractor_apart env [] i j t u f g d a b k l same = cc
+extractor_apart env (x ∷ ts) zero zero t u f g d a b k l same =
+    let made = constructor_fn_of env x in
+    apart_from (extractor_fn_of env x) (cons_option made (trait_fns_in env ts)) f g (ap (extractor_fn_of env) (the_term x t a) ∙ k) d (at_option made (trait_fns_in env ts) g (ap (constructor_fn_of env) (the_term x u b) ∙ l)) same
+extractor_apart env (x ∷ ts) zero (suc j) t u f g d a b k l same =
+    let made = constructor_fn_of env x in
+    apart_from (extractor_fn_of env x) (cons_option made (trait_fns_in env ts)) f g (ap (extractor_fn_of env) (the_term x t a) ∙ k) d (after_option made (trait_fns_in env ts) g (fn_contained env ts j u g b l)) same
+extractor_apart env (x ∷ ts) (suc i) zero t u f g d a b k l same =
+    let made = constructor_fn_of env x in
+    apart_from made (trait_fns_in env ts) g f (ap (constructor_fn_of env) (the_term x u b) ∙ l) (behind_one (extractor_fn_of env x) (cons_option made (trait_fns_in env ts)) d) (extractor_contained env ts i t f a k) (sym same)
+extractor_apart env (x ∷ ts) (suc i) (suc j) t u f g d a b k l same =
+    let made = constructor_fn_of env x in
+    extractor_apart env ts i j t u f g (behind_one made (trait_fns_in env ts) (behind_one (extractor_fn_of env x) (cons_option made (trait_fns_in env ts)) d)) a b k l same
+
+-- ---- callees
+
+-- no item is so where none at a place is
+none_any : {A : Type 0} (f : A → Bool) (xs : List A) → ((j : ℕ) (x : A) → slice_get xs j ≡ Some x → f x ≡ false) → list_any f xs ≡ false
+none_any f [] h = refl
+none_any f (x ∷ xs) h = ap (λ b. b || list_any f xs) (h 0 x refl) ∙ none_any f xs (λ j y e. h (suc j) y e)
+
+-- a call of an extractor's function is none of an impure term's constructor
+apart_callee : (env : Environment) → HasFnNames env → (i : ℕ) (t : Term) (func : Sym) (f : TraitFn) → slice_get env.terms i ≡ Some t → extractor_fn_of env t ≡ Some f → f.name ≡ sym_text env func
+    → (j : ℕ) (u : Term) → slice_get env.terms j ≡ Some u → goes_to (External (sym_text env func)) (impure_callee env u u.kind) ≡ false
+apart_callee env names i t func f at fn named j u there = by u.kind refl
+  where
+    differ : (made : Sym) → constructor_fn_of env u ≡ Some (constructor_fn env u made) → (b : Bool) → bytes_eq (sym_text env func) (sym_text env made) ≡ b → b ≡ false
+    differ made is true e = absurd (extractor_apart env env.terms i j t u f (constructor_fn env u made) names.distinct at there fn is (named ∙ (bytes_eq-Decides (sym_text env func) (sym_text env made)).0 e))
+    differ made is false e = refl
+
+    by : (k : TermKind) → u.kind ≡ k → goes_to (External (sym_text env func)) (impure_callee env u k) ≡ false
+    by (kind.Decl false multi p recursive (constructor.External made) x) e = differ made (ap (λ (l : TermKind). option_map (constructor_fn env u) (func_of l)) e) (bytes_eq (sym_text env func) (sym_text env made)) refl
+    by (kind.Decl false multi p recursive constructor.Internal x) e = refl
+    by (kind.Decl false multi p recursive constructor.Absent x) e = refl
+    by (kind.Decl true multi p recursive by' x) e = refl
+    by (kind.Variant ty variant) e = refl
+    by (kind.Struct ty) e = refl
+
+-- what the call of a term's extractor goes to is no impure term
+extractor_pure : (env : Environment) → HasFnNames env → (i : ℕ) (t : Term) → slice_get env.terms i ≡ Some t → (k : TermKind) → t.kind ≡ k → (callee : Callee) → callee_of (extracting_kind env k) ≡ Some callee → is_impure env callee ≡ false
+extractor_pure env names i t at (kind.Decl pure multi p recursive by (extractor.External func infallible)) e callee is =
+    let fn : extractor_fn_of env t ≡ Some (extractor_fn env t (func, _)) = ap (λ (l : TermKind). option_map (extractor_fn env t) (extracted_of l)) e in
+    subst (λ c. is_impure env c ≡ false) (one (External (sym_text env func)) callee is) (none_any _ env.terms (apart_callee env names i t func _ at fn refl))
+  where
+    one : (a b : Callee) → Some a ≡ Some b → a ≡ b
+    one a b k = cc
+extractor_pure env names i t at (kind.Decl pure multi p recursive by extractor.Internal) e callee is = cc
+extractor_pure env names i t at (kind.Decl pure multi p recursive by extractor.Absent) e callee is = cc
+extractor_pure env names i t at (kind.Variant ty variant) e callee is = cc
+extractor_pure env names i t at (kind.Struct ty) e callee is = cc
+
+-- no extractor among bindings is the function of an impure term
+pub pure_extractors : (env : Environment) (bs : List Binding) → HasFnNames env → HasPureExtractors env bs
+pure_extractors env bs names b term parameter callee at is = by (slice_get env.terms term.0) refl is
+  where
+    by : (o : Option Term) → slice_get env.terms term.0 ≡ o → callee_of (extracting_of env o) ≡ Some callee → is_impure env callee ≡ false
+    by None there e = cc
+    by (Some t) there e = extractor_pure env names term.0 t there t.kind refl callee e
