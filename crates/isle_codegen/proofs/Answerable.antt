@@ -1,5 +1,5 @@
 -- The terms that the rules of the built language call may be answered, where what they answer has values.
-use Rattle.std.proofs.Common.{◌≡◌, ⊎_elim, ℕ, zero, suc, List, [], ◌∷◌, ◌++◌, Bool, true, false, cond, Option, Some, None, map, refl, sym, ap, ◌∙◌, subst}
+use Rattle.std.proofs.Common.{◌≡◌, ◌⊎◌, inl, inr, ⊎_elim, ℕ, zero, suc, List, [], ◌∷◌, ◌++◌, Bool, true, false, cond, Option, Some, None, map, refl, sym, ap, ◌∙◌, subst}
 use Rattle.std.specs.Prelude.{Contains, IsSomeAnd, slice_get, option_map}
 use Rattle.std.specs.List.{AllByRecursion, IsDistinct, cons_option}
 use Rattle.std.specs.Str.{bytes_eq}
@@ -11,18 +11,19 @@ use Rattle.isle_core.specs.declared.TypeId.{TypeId}
 use Rattle.isle_core.specs.declared.types.ConstructorKind.{ConstructorKind}
 use Rattle.isle_core.specs.declared.types.ConstructorKind.TheVariants as constructor
 use Rattle.isle_core.specs.declared.types.ExtractorKind.{ExtractorKind}
+use Rattle.isle_core.specs.declared.types.ExtractorKind.TheVariants as extractor
 use Rattle.isle_core.specs.declared.types.Term.{Term}
 use Rattle.isle_core.specs.declared.types.TermKind.{TermKind}
 use Rattle.isle_core.specs.declared.types.TermKind.TheVariants as term_kind
 use Rattle.isle_core.specs.declared.values.Callee.{Callee}
 use Rattle.isle_core.specs.declared.values.Callee.TheVariants.{External, Internal}
-use Rattle.isle_core.specs.BuiltRule.{IsMaking, IsBuiltPattern, AreBuiltPatterns, IsBuiltExpr, AreBuiltExprs, AreBuiltBindings, IsBuiltRule, IsBuiltKind, HasBuiltTerms, AllHaveBuiltTerms, BindingsHaveBuiltTerms, CallsBuiltTerms}
-use Rattle.isle_core.specs.Calling.{calling_of, calling_by, kind_of, kind_by, pure_callee}
-use Rattle.isle_core.specs.CalledTerms.{Role, Constructor, CalledTerm, is_made_kind, is_made_term, is_made, unless_made, called_by, called_by_all, called_by_bindings, extracted_by, extracted_by_all, extracted_in, called_in_iflets, called_in, called}
+use Rattle.isle_core.specs.BuiltRule.{IsExtractorKind, IsOpening, IsBuiltPattern, AreBuiltPatterns, IsBuiltExpr, AreBuiltExprs, AreBuiltBindings, IsBuiltRule, IsBuiltKind, HasBuiltTerms, AllHaveBuiltTerms, BindingsHaveBuiltTerms, CallsBuiltTerms}
+use Rattle.isle_core.specs.Calling.{calling_of, calling_by, kind_of, kind_by, pure_callee, extractor_kind, extracting_of, extracting_kind}
+use Rattle.isle_core.specs.CalledTerms.{Role, Constructor, Extractor, CalledTerm, is_made_kind, is_made_term, is_made, unless_made, called_by, called_by_all, called_by_bindings, extracted_by, extracted_by_all, extracted_in, called_in_iflets, called_in, called}
 use Rattle.isle_core.specs.Expr as expr
 use Rattle.isle_core.specs.Expr.{Expr, Exprs, NoExpr, AnExpr, LetBindings, NoBinding, ABinding}
-use Rattle.isle_core.specs.HasType.{HasType}
-use Rattle.isle_core.specs.History.{Service, service_by, service_of, AreAnswerable}
+use Rattle.isle_core.specs.HasType.{HasType, HaveTypes}
+use Rattle.isle_core.specs.History.{Service, service_by, service_of, IsAnswerable, AreAnswerable}
 use Rattle.isle_core.specs.Lawful.{Fits, called_as, result_types}
 use Rattle.isle_core.specs.Making.{making_kind, making_of}
 use Rattle.isle_core.specs.Pattern as pattern
@@ -33,8 +34,9 @@ use Rattle.isle_core.specs.Value.{Value, Answer, Plain, Nothing}
 use Rattle.isle_core.proofs.Contained.{contained_cases, none_contained}
 use Rattle.isle_tree.specs.declared.tree.TraitFn.{TraitFn}
 use Rattle.isle_tree.specs.WellFormed.{fn_names}
-use Rattle.isle_simulation.specs.TraitFns.{constructor_fn, constructor_fn_of, extractor_fn_of, func_of, trait_fns_in, HasFnNames}
-use Rattle.isle_simulation.proofs.ExternalTerms.{fn_contained, name_contained}
+use Rattle.isle_simulation.specs.TraitFns.{constructor_fn, constructor_fn_of, extractor_fn, extracted_of, extractor_fn_of, func_of, fns_before, trait_fns_in, HasFnNames}
+use Rattle.isle_simulation.proofs.ExternalTerms.{after_option, fn_contained, extractor_contained}
+use Rattle.isle_simulation.proofs.FunctionsApart.{behind_one, apart_from, extractor_apart}
 use Rattle.isle_codegen.specs.Meant.{HasValue, AnswersInhabited}
 
 -- ---- what rules call
@@ -51,6 +53,19 @@ record IsCallable (env : Environment) (o : CalledTerm) : Type 0 where
   kind : term.kind ≡ term_kind.Decl false false partial recursive by extractor
   callee : Callee
   to : callee_by env term by ≡ Some callee
+
+-- a term that is called as an extractor, by an external function that answers at most once
+record IsExtractable (env : Environment) (o : CalledTerm) : Type 0 where
+  term : Term
+  found : slice_get env.terms o.term.0 ≡ Some term
+  role : o.role ≡ Extractor
+  pure : Bool
+  partial : Bool
+  recursive : Bool
+  by : ConstructorKind
+  func : Sym
+  infallible : Bool
+  kind : term.kind ≡ term_kind.Decl pure false partial recursive by (extractor.External func infallible)
 
 -- what kind a built term has that no type makes
 record IsCalledKind (env : Environment) (t : Term) (k : TermKind) : Type 0 where
@@ -103,44 +118,68 @@ mutual
   bindings_callable env NoBinding b h o c = absurd (none_contained o c)
   bindings_callable env (ABinding x ty e more) b h o c = ⊎_elim (λ d. expr_callable env e b.0 h.0 o d) (λ d. bindings_callable env more b.1 h.1 o d) (Contains-append_cases (called_by env e) (called_by_bindings env more) o c)
 
-made_there : (o : Option Term) → IsMaking (making_of o) → is_made_term o ≡ true
-made_there None h = absurd h
-made_there (Some t) h = of_kind t.kind h
+-- a term that takes values apart and that no type makes has an extractor
+extractable_kind : (env : Environment) (term : TermId) (t : Term) → slice_get env.terms term.0 ≡ Some t → is_made_kind t.kind ≡ false → IsOpening (making_kind t.kind) (Some t) → IsExtractable env (record { term = term; role = Extractor })
+extractable_kind env term t at unmade h = by t.kind refl unmade h
   where
-    of_kind : (k : TermKind) → IsMaking (making_kind k) → is_made_kind k ≡ true
-    of_kind (term_kind.Decl pure multi partial recursive by x) h = absurd h
-    of_kind (term_kind.Variant ty variant) h = refl
-    of_kind (term_kind.Struct ty) h = refl
+    of : (k : TermKind) → t.kind ≡ k → IsExtractorKind k → IsExtractable env (record { term = term; role = Extractor })
+    of (term_kind.Decl pure false partial recursive by (extractor.External func infallible)) e x =
+        record { term = t; found = at; role = refl; pure = pure; partial = partial; recursive = recursive; by = by; func = func; infallible = infallible; kind = e }
+    of (term_kind.Decl pure false partial recursive by extractor.Absent) e x = absurd x
+    of (term_kind.Decl pure false partial recursive by extractor.Internal) e x = absurd x
+    of (term_kind.Decl pure true partial recursive by how) e x = absurd x
+    of (term_kind.Variant ty variant) e x = absurd x
+    of (term_kind.Struct ty) e x = absurd x
 
--- built patterns call nothing
+    by : (k : TermKind) → t.kind ≡ k → is_made_kind k ≡ false → IsOpening (making_kind k) (Some t) → IsExtractable env (record { term = term; role = Extractor })
+    by (term_kind.Decl pure multi partial recursive how x) e u g = of (term_kind.Decl pure multi partial recursive how x) e (subst IsExtractorKind e g)
+    by (term_kind.Variant ty variant) e u g = cc
+    by (term_kind.Struct ty) e u g = cc
+
+term_extractable : (env : Environment) (term : TermId) (o : CalledTerm) → IsOpening (making_of (slice_get env.terms term.0)) (slice_get env.terms term.0) → Contains (unless_made env Extractor term) o → IsExtractable env o
+term_extractable env term o h c =
+    let d = in_unless (is_made env term) (record { term = term; role = Extractor }) o c in
+    subst (IsExtractable env) d.1 (there (slice_get env.terms term.0) refl d.0 h)
+  where
+    there : (t : Option Term) → slice_get env.terms term.0 ≡ t → is_made_term t ≡ false → IsOpening (making_of t) t → IsExtractable env (record { term = term; role = Extractor })
+    there None e unmade g = absurd g
+    there (Some t) e unmade g = extractable_kind env term t e unmade g
+
+-- what built patterns call are extractors
 mutual
-  none_called : (env : Environment) (p : Pattern) → IsBuiltPattern env.terms p → extracted_by env p ≡ []
-  none_called env (pattern.Var of x) h = refl
-  none_called env (pattern.ConstBool b) h = refl
-  none_called env (pattern.ConstInt of n) h = refl
-  none_called env (pattern.ConstPrim of name) h = refl
-  none_called env (pattern.Wildcard of) h = refl
-  none_called env (pattern.Term of term ps) h = rw (made_there (slice_get env.terms term.0) h.0, none_called_all env ps h.2) refl
-  none_called env (pattern.BindPattern of x p) h = none_called env p h
-  none_called env (pattern.And of ps) h = none_called_all env ps h
+  pattern_extractable : (env : Environment) (p : Pattern) → IsBuiltPattern env.terms p → (o : CalledTerm) → Contains (extracted_by env p) o → IsExtractable env o
+  pattern_extractable env (pattern.Var of x) h o c = absurd (none_contained o c)
+  pattern_extractable env (pattern.ConstBool b) h o c = absurd (none_contained o c)
+  pattern_extractable env (pattern.ConstInt of n) h o c = absurd (none_contained o c)
+  pattern_extractable env (pattern.ConstPrim of name) h o c = absurd (none_contained o c)
+  pattern_extractable env (pattern.Wildcard of) h o c = absurd (none_contained o c)
+  pattern_extractable env (pattern.Term of term ps) h o c = ⊎_elim (λ d. term_extractable env term o h.0 d) (λ d. patterns_extractable env ps h.2 o d) (Contains-append_cases (unless_made env Extractor term) (extracted_by_all env ps) o c)
+  pattern_extractable env (pattern.BindPattern of x p) h o c = pattern_extractable env p h o c
+  pattern_extractable env (pattern.And of ps) h o c = patterns_extractable env ps h o c
 
-  none_called_all : (env : Environment) (ps : Patterns) → AreBuiltPatterns env.terms ps → extracted_by_all env ps ≡ []
-  none_called_all env NoPattern h = refl
-  none_called_all env (APattern p ps) h = rw (none_called env p h.0, none_called_all env ps h.1) refl
+  patterns_extractable : (env : Environment) (ps : Patterns) → AreBuiltPatterns env.terms ps → (o : CalledTerm) → Contains (extracted_by_all env ps) o → IsExtractable env o
+  patterns_extractable env NoPattern h o c = absurd (none_contained o c)
+  patterns_extractable env (APattern p ps) h o c = ⊎_elim (λ d. pattern_extractable env p h.0 o d) (λ d. patterns_extractable env ps h.1 o d) (Contains-append_cases (extracted_by env p) (extracted_by_all env ps) o c)
 
-none_extracted : (env : Environment) (ps : List Pattern) → AllByRecursion (IsBuiltPattern env.terms) ps → extracted_in env ps ≡ []
-none_extracted env [] h = refl
-none_extracted env (p ∷ ps) h = rw (none_called env p h.0, none_extracted env ps h.1) refl
+arguments_extractable : (env : Environment) (ps : List Pattern) → AllByRecursion (IsBuiltPattern env.terms) ps → (o : CalledTerm) → Contains (extracted_in env ps) o → IsExtractable env o
+arguments_extractable env [] h o c = absurd (none_contained o c)
+arguments_extractable env (p ∷ ps) h o c = ⊎_elim (λ d. pattern_extractable env p h.0 o d) (λ d. arguments_extractable env ps h.1 o d) (Contains-append_cases (extracted_by env p) (extracted_in env ps) o c)
 
-rule_callable : (env : Environment) (r : Rule) → IsBuiltRule env.terms r → CallsBuiltTerms env.terms r → (o : CalledTerm) → Contains (called_in env r) o → IsCallable env o
-rule_callable env r b h o c =
-    let before = extracted_in env r.args ++ called_in_iflets env r.iflets in
-    let none : before ≡ [] = ap (λ xs. xs ++ called_in_iflets env r.iflets) (none_extracted env r.args (recursion_from_All (IsBuiltPattern env.terms) r.args b.args)) ∙ ap (called_in_iflets env) b.iflets in
-    ⊎_elim (λ d. absurd (none_contained o (subst (λ (xs : List CalledTerm). Contains xs o) none d))) (λ d. expr_callable env r.rhs b.rhs h o d) (Contains-append_cases before (called_by env r.rhs) o c)
+-- a term that is called as a constructor or as an extractor
+abbrev IsServed : Environment → CalledTerm → Type 0
+IsServed env o = IsCallable env o ⊎ IsExtractable env o
 
-rules_callable : (env : Environment) (rules : List Rule) → AllByRecursion (IsBuiltRule env.terms) rules → AllByRecursion (CallsBuiltTerms env.terms) rules → (o : CalledTerm) → Contains (called env rules) o → IsCallable env o
-rules_callable env [] b h o c = absurd (none_contained o c)
-rules_callable env (r ∷ rules) b h o c = ⊎_elim (λ d. rule_callable env r b.0 h.0 o d) (λ d. rules_callable env rules b.1 h.1 o d) (Contains-append_cases (called_in env r) (called env rules) o c)
+rule_served : (env : Environment) (r : Rule) → IsBuiltRule env.terms r → CallsBuiltTerms env.terms r → (o : CalledTerm) → Contains (called_in env r) o → IsServed env o
+rule_served env r b h o c =
+    ⊎_elim (λ d. ⊎_elim (λ k. inr (arguments_extractable env r.args (recursion_from_All (IsBuiltPattern env.terms) r.args b.args) o k)) (λ k. absurd (no_condition k)) (Contains-append_cases (extracted_in env r.args) (called_in_iflets env r.iflets) o d))
+    (λ d. inl (expr_callable env r.rhs b.rhs h o d)) (Contains-append_cases (extracted_in env r.args ++ called_in_iflets env r.iflets) (called_by env r.rhs) o c)
+  where
+    no_condition : Contains (called_in_iflets env r.iflets) o → ⊥
+    no_condition k = none_contained o (subst (λ is. Contains (called_in_iflets env is) o) b.iflets k)
+
+rules_served : (env : Environment) (rules : List Rule) → AllByRecursion (IsBuiltRule env.terms) rules → AllByRecursion (CallsBuiltTerms env.terms) rules → (o : CalledTerm) → Contains (called env rules) o → IsServed env o
+rules_served env [] b h o c = absurd (none_contained o c)
+rules_served env (r ∷ rules) b h o c = ⊎_elim (λ d. rule_served env r b.0 h.0 o d) (λ d. rules_served env rules b.1 h.1 o d) (Contains-append_cases (called_in env r) (called env rules) o c)
 
 -- ---- what is asked of it
 
@@ -154,45 +193,68 @@ service_is env o x =
     (subst (λ (k : TermKind). service_by Constructor (Some x.term) (calling_by (kind_of k) (impure_callee env x.term k) (pure_callee env x.term k)) ≡ Some (asked_of env o x)) (sym x.kind)
     (subst (λ (c : Option Callee). service_by Constructor (Some x.term) (calling_by (kind_by false x.partial) c None) ≡ Some (asked_of env o x)) (sym x.to) refl)))
 
+-- the same of an extractor
+abbrev extraction_of : (env : Environment) (o : CalledTerm) → IsExtractable env o → Service
+extraction_of env o x = record { callee = External (sym_text env x.func); pure = true; kind = extractor_kind false x.infallible; types = x.term.arg_tys }
+
+extraction_is : (env : Environment) (o : CalledTerm) (x : IsExtractable env o) → service_of env o ≡ Some (extraction_of env o x)
+extraction_is env o x =
+    subst (λ (r : Role). service_by r (slice_get env.terms o.term.0) (called_as env o.term r) ≡ Some (extraction_of env o x)) (sym x.role)
+    (subst (λ (t : Option Term). service_by Extractor t (extracting_of env t) ≡ Some (extraction_of env o x)) (sym x.found)
+    (subst (λ (k : TermKind). service_by Extractor (Some x.term) (extracting_kind env k) ≡ Some (extraction_of env o x)) (sym x.kind) refl))
+
+-- values of types that have some
+pub values_of : (env : Environment) (tys : List TypeId) → AllByRecursion (HasValue env) tys → (vs : List Value) × HaveTypes env vs tys
+values_of env [] h = ([], tt)
+values_of env (ty ∷ tys) h =
+    let vs = values_of env tys h.1 in
+    (h.0.0 ∷ vs.0, (h.0.1, vs.1))
+
+extraction_fits : (env : Environment) (infallible : Bool) (tys : List TypeId) → AllByRecursion (HasValue env) tys → (a : Answer) × Fits env (extractor_kind false infallible) tys a
+extraction_fits env false tys h = (Nothing, tt)
+extraction_fits env true tys h = let vs = values_of env tys h in (Plain vs.0, vs.1)
+
 answer_fits : (env : Environment) (partial : Bool) (ty : TypeId) (v : Value) → HasType env v ty → (a : Answer) × Fits env (kind_by false partial) (ty ∷ []) a
 answer_fits env true ty v h = (Nothing, tt)
 answer_fits env false ty v h = (Plain (v ∷ []), (h, tt))
 
 -- ---- no two terms have one external function
 
-behind_one : (o : Option TraitFn) (fs : List TraitFn) → IsDistinct bytes_eq (fn_names (cons_option o fs)) → IsDistinct bytes_eq (fn_names fs)
-unfolding IsDistinct
-behind_one None fs d = d
-behind_one (Some f) fs d = d.1
+-- the functions behind those of one term
+behind_both : (env : Environment) (x : Term) (fs : List TraitFn) → IsDistinct bytes_eq (fn_names (fns_before env x fs)) → IsDistinct bytes_eq (fn_names fs)
+behind_both env x fs d = behind_one (constructor_fn_of env x) fs (behind_one (extractor_fn_of env x) (cons_option (constructor_fn_of env x) fs) d)
 
-apart_from : (o : Option TraitFn) (fs : List TraitFn) (f g : TraitFn) → o ≡ Some f → IsDistinct bytes_eq (fn_names (cons_option o fs)) → Contains fs g → f.name ≡ g.name → ⊥
-unfolding IsDistinct
-apart_from None fs f g e d c same = cc
-apart_from (Some x) fs f g e d c same =
-    let is : x.name ≡ g.name = ap (λ (y : TraitFn). y.name) (one x f e) ∙ same in
-    let apart : bytes_eq x.name g.name ≡ false = All-contains (λ y. bytes_eq x.name y ≡ false) (fn_names fs) g.name (All-from_recursion (λ y. bytes_eq x.name y ≡ false) (fn_names fs) d.0) (name_contained fs g c) in
-    let equal : bytes_eq x.name g.name ≡ true = (bytes_eq-Decides x.name g.name).1 is in
-    cc
-  where
-    one : (a b : TraitFn) → Some a ≡ Some b → a ≡ b
-    one a b k = cc
+-- a kind of functions, of which each term has at most one, apart from those of the terms behind it
+record IsFnKind (env : Environment) (fn_of : Term → Option TraitFn) : Type 0 where
+  apart : (x : Term) (fs : List TraitFn) (f g : TraitFn) → fn_of x ≡ Some f → IsDistinct bytes_eq (fn_names (fns_before env x fs)) → Contains fs g → f.name ≡ g.name → ⊥
+  among : (ts : List Term) (i : ℕ) (t : Term) (f : TraitFn) → slice_get ts i ≡ Some t → fn_of t ≡ Some f → Contains (trait_fns_in env ts) f
 
-one_place : (env : Environment) (ts : List Term) (i j : ℕ) (t u : Term) (f g : TraitFn) → IsDistinct bytes_eq (fn_names (trait_fns_in env ts)) → slice_get ts i ≡ Some t → slice_get ts j ≡ Some u
-    → constructor_fn_of env t ≡ Some f → constructor_fn_of env u ≡ Some g → f.name ≡ g.name → i ≡ j
-one_place env [] i j t u f g d a b k l same = cc
-one_place env (x ∷ ts) zero zero t u f g d a b k l same = refl
-one_place env (x ∷ ts) zero (suc j) t u f g d a b k l same =
-    absurd (apart_from (constructor_fn_of env x) (trait_fns_in env ts) f g (ap (constructor_fn_of env) (the_term x t a) ∙ k) (behind_one (extractor_fn_of env x) (cons_option (constructor_fn_of env x) (trait_fns_in env ts)) d) (fn_contained env ts j u g b l) same)
+of_constructors : (env : Environment) → IsFnKind env (constructor_fn_of env)
+of_constructors env = record {
+  apart = λ x fs f g is d c same. apart_from (constructor_fn_of env x) fs f g is (behind_one (extractor_fn_of env x) (cons_option (constructor_fn_of env x) fs) d) c same;
+  among = fn_contained env;
+}
+
+of_extractors : (env : Environment) → IsFnKind env (extractor_fn_of env)
+of_extractors env = record {
+  apart = λ x fs f g is d c same. apart_from (extractor_fn_of env x) (cons_option (constructor_fn_of env x) fs) f g is d (after_option (constructor_fn_of env x) fs g c) same;
+  among = extractor_contained env;
+}
+
+-- terms with one such function are one
+one_place : (env : Environment) (fn_of : Term → Option TraitFn) → IsFnKind env fn_of → (ts : List Term) (i j : ℕ) (t u : Term) (f g : TraitFn) → IsDistinct bytes_eq (fn_names (trait_fns_in env ts)) → slice_get ts i ≡ Some t → slice_get ts j ≡ Some u
+    → fn_of t ≡ Some f → fn_of u ≡ Some g → f.name ≡ g.name → i ≡ j
+one_place env fn_of of [] i j t u f g d a b k l same = cc
+one_place env fn_of of (x ∷ ts) zero zero t u f g d a b k l same = refl
+one_place env fn_of of (x ∷ ts) zero (suc j) t u f g d a b k l same = absurd (of.apart x (trait_fns_in env ts) f g (ap fn_of (the_term x t a) ∙ k) d (of.among ts j u g b l) same)
   where
     the_term : (p q : Term) → Some p ≡ Some q → p ≡ q
     the_term p q e = cc
-one_place env (x ∷ ts) (suc i) zero t u f g d a b k l same =
-    absurd (apart_from (constructor_fn_of env x) (trait_fns_in env ts) g f (ap (constructor_fn_of env) (the_term x u b) ∙ l) (behind_one (extractor_fn_of env x) (cons_option (constructor_fn_of env x) (trait_fns_in env ts)) d) (fn_contained env ts i t f a k) (sym same))
+one_place env fn_of of (x ∷ ts) (suc i) zero t u f g d a b k l same = absurd (of.apart x (trait_fns_in env ts) g f (ap fn_of (the_term x u b) ∙ l) d (of.among ts i t f a k) (sym same))
   where
     the_term : (p q : Term) → Some p ≡ Some q → p ≡ q
     the_term p q e = cc
-one_place env (x ∷ ts) (suc i) (suc j) t u f g d a b k l same =
-    ap suc (one_place env ts i j t u f g (behind_one (constructor_fn_of env x) (trait_fns_in env ts) (behind_one (extractor_fn_of env x) (cons_option (constructor_fn_of env x) (trait_fns_in env ts)) d)) a b k l same)
+one_place env fn_of of (x ∷ ts) (suc i) (suc j) t u f g d a b k l same = ap suc (one_place env fn_of of ts i j t u f g (behind_both env x (trait_fns_in env ts) d) a b k l same)
 
 -- ---- no two terms have one name
 
@@ -246,7 +308,7 @@ one_term env names apart o p x y same = by x.by y.by x.kind y.kind (x.to ∙ ap 
     by : (a b : ConstructorKind) → x.term.kind ≡ term_kind.Decl false false x.partial x.recursive a x.extractor → y.term.kind ≡ term_kind.Decl false false y.partial y.recursive b y.extractor
         → callee_by env x.term a ≡ callee_by env y.term b → callee_by env x.term a ≡ Some x.callee → o.term.0 ≡ p.term.0
     by (constructor.External f) (constructor.External g) k l e t =
-        one_place env env.terms o.term.0 p.term.0 x.term y.term (constructor_fn env x.term f) (constructor_fn env y.term g) names.distinct x.found y.found (fn_is env x.term x.partial x.recursive f x.extractor k) (fn_is env y.term y.partial y.recursive g y.extractor l)
+        one_place env (constructor_fn_of env) (of_constructors env) env.terms o.term.0 p.term.0 x.term y.term (constructor_fn env x.term f) (constructor_fn env y.term g) names.distinct x.found y.found (fn_is env x.term x.partial x.recursive f x.extractor k) (fn_is env y.term y.partial y.recursive g y.extractor l)
         (external_name (sym_text env f) (sym_text env g) e)
     by constructor.Internal constructor.Internal k l e t = named_once (λ (u : Term). sym_text env u.name) env.terms o.term.0 p.term.0 x.term y.term apart x.found y.found (internal_name (sym_text env x.term.name) (sym_text env y.term.name) e)
     by (constructor.External f) constructor.Internal k l e t = cc
@@ -263,22 +325,62 @@ asked_alike env names apart o p x y s t a b same =
     let one : o ≡ p = ap (λ (r : Role). record { term = o.term; role = r }) x.role ∙ ap (λ (n : ℕ). record { term = record { 0 = n }; role = Constructor }) place ∙ sym (ap (λ (r : Role). record { term = p.term; role = r }) y.role) in
     the_service s t (sym a ∙ ap (service_of env) one ∙ b)
 
+-- so of extractors
+extraction_fn : (env : Environment) (o : CalledTerm) (x : IsExtractable env o) → extractor_fn_of env x.term ≡ Some (extractor_fn env x.term (x.func, extractor_kind false x.infallible))
+extraction_fn env o x = ap (λ (k : TermKind). option_map (extractor_fn env x.term) (extracted_of k)) x.kind
+
+extracted_alike : (env : Environment) → HasFnNames env → (o p : CalledTerm) (x : IsExtractable env o) (y : IsExtractable env p) (s t : Service) → service_of env o ≡ Some s → service_of env p ≡ Some t → s.callee ≡ t.callee → s ≡ t
+extracted_alike env names o p x y s t a b same =
+    let first : extraction_of env o x ≡ s = the_service (extraction_of env o x) s (sym (extraction_is env o x) ∙ a) in
+    let second : extraction_of env p y ≡ t = the_service (extraction_of env p y) t (sym (extraction_is env p y) ∙ b) in
+    let callees = ap (λ (z : Service). z.callee) first ∙ same ∙ sym (ap (λ (z : Service). z.callee) second) in
+    let place = one_place env (extractor_fn_of env) (of_extractors env) env.terms o.term.0 p.term.0 x.term y.term _ _ names.distinct x.found y.found (extraction_fn env o x) (extraction_fn env p y) (external_name (sym_text env x.func) (sym_text env y.func) (ap Some callees)) in
+    let one : o ≡ p = ap (λ (r : Role). record { term = o.term; role = r }) x.role ∙ ap (λ (n : ℕ). record { term = record { 0 = n }; role = Extractor }) place ∙ sym (ap (λ (r : Role). record { term = p.term; role = r }) y.role) in
+    the_service s t (sym a ∙ ap (service_of env) one ∙ b)
+
+-- no extractor is called as a constructor is
+roles_apart : (env : Environment) → HasFnNames env → (o p : CalledTerm) (x : IsCallable env o) (y : IsExtractable env p) → x.callee ≡ External (sym_text env y.func) → ⊥
+roles_apart env names o p x y same = by x.by x.kind (x.to ∙ ap Some same)
+  where
+    by : (c : ConstructorKind) → x.term.kind ≡ term_kind.Decl false false x.partial x.recursive c x.extractor → callee_by env x.term c ≡ Some (External (sym_text env y.func)) → ⊥
+    by (constructor.External func) e to =
+        extractor_apart env env.terms p.term.0 o.term.0 y.term x.term _ (constructor_fn env x.term func) names.distinct y.found x.found (extraction_fn env p y) (fn_is env x.term x.partial x.recursive func x.extractor e)
+        (sym (external_name (sym_text env func) (sym_text env y.func) to))
+    by constructor.Internal e to = cc
+    by constructor.Absent e to = cc
+
+mixed : (env : Environment) → HasFnNames env → (o p : CalledTerm) (x : IsCallable env o) (y : IsExtractable env p) (s t : Service) → service_of env o ≡ Some s → service_of env p ≡ Some t → s.callee ≡ t.callee → ⊥
+mixed env names o p x y s t a b same =
+    let first : asked_of env o x ≡ s = the_service (asked_of env o x) s (sym (service_is env o x) ∙ a) in
+    let second : extraction_of env p y ≡ t = the_service (extraction_of env p y) t (sym (extraction_is env p y) ∙ b) in
+    roles_apart env names o p x y (ap (λ (z : Service). z.callee) first ∙ same ∙ sym (ap (λ (z : Service). z.callee) second))
+
 -- ---- the law
 
-inhabited : (env : Environment) (o : CalledTerm) (x : IsCallable env o) → AnswersInhabited env o → HasValue env x.term.ret_ty
-inhabited env o x h = of x.role (subst (λ (t : Option Term). IsSomeAnd t (λ (u : Term). AllByRecursion (HasValue env) (result_types o.role u))) x.found h)
-  where
-    of : o.role ≡ Constructor → AllByRecursion (HasValue env) (result_types o.role x.term) → HasValue env x.term.ret_ty
-    of is k = (subst (λ (r : Role). AllByRecursion (HasValue env) (result_types r x.term)) is k).0
+-- the types of what a called term answers have values
+inhabited : (env : Environment) (o : CalledTerm) (t : Term) (role : Role) → slice_get env.terms o.term.0 ≡ Some t → o.role ≡ role → AnswersInhabited env o → AllByRecursion (HasValue env) (result_types role t)
+inhabited env o t role found is h =
+    subst (λ (r : Role). AllByRecursion (HasValue env) (result_types r t)) is (subst (λ (u : Option Term). IsSomeAnd u (λ (v : Term). AllByRecursion (HasValue env) (result_types o.role v))) found h)
+
+served_answer : (env : Environment) (o : CalledTerm) → AnswersInhabited env o → IsServed env o → IsAnswerable env o
+served_answer env o values (inl x) =
+    let v = (inhabited env o x.term Constructor x.found x.role values).0 in
+    let a = answer_fits env x.partial x.term.ret_ty v.0 v.1 in
+    record { service = asked_of env o x; is = service_is env o x; answer = a.0; fits = a.1 }
+served_answer env o values (inr x) =
+    let a = extraction_fits env x.infallible x.term.arg_tys (inhabited env o x.term Extractor x.found x.role values) in
+    record { service = extraction_of env o x; is = extraction_is env o x; answer = a.0; fits = a.1 }
+
+served_alike : (env : Environment) → HasFnNames env → IsDistinct bytes_eq (names_of env) → (o p : CalledTerm) → IsServed env o → IsServed env p → (s t : Service) → service_of env o ≡ Some s → service_of env p ≡ Some t → s.callee ≡ t.callee → s ≡ t
+served_alike env names apart o p (inl x) (inl y) s t a b same = asked_alike env names apart o p x y s t a b same
+served_alike env names apart o p (inr x) (inr y) s t a b same = extracted_alike env names o p x y s t a b same
+served_alike env names apart o p (inl x) (inr y) s t a b same = absurd (mixed env names o p x y s t a b same)
+served_alike env names apart o p (inr x) (inl y) s t a b same = absurd (mixed env names p o y x t s b a (sym same))
 
 -- the terms that built rules call may be answered, where the types of their answers have values
 pub answerable : (env : Environment) (rules : List Rule) → HasFnNames env → IsDistinct bytes_eq (names_of env) → AllByRecursion (IsBuiltRule env.terms) rules → AllByRecursion (CallsBuiltTerms env.terms) rules
     → ((o : CalledTerm) → Contains (called env rules) o → AnswersInhabited env o) → AreAnswerable env (called env rules)
 answerable env rules names apart built terms values = record {
-  each = λ o c.
-      let x = rules_callable env rules built terms o c in
-      let v = inhabited env o x (values o c) in
-      let a = answer_fits env x.partial x.term.ret_ty v.0 v.1 in
-      record { service = asked_of env o x; is = service_is env o x; answer = a.0; fits = a.1 };
-  alike = λ o p s u c d a b same. asked_alike env names apart o p (rules_callable env rules built terms o c) (rules_callable env rules built terms p d) s u a b same;
+  each = λ o c. served_answer env o (values o c) (rules_served env rules built terms o c);
+  alike = λ o p s u c d a b same. served_alike env names apart o p (rules_served env rules built terms o c) (rules_served env rules built terms p d) s u a b same;
 }

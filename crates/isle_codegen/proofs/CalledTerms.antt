@@ -1,5 +1,5 @@
 -- The calls among the bindings of a rule set are of terms that its rules call.
-use Rattle.std.proofs.Common.{◌≡◌, ⊎_elim, ℕ, zero, suc, ◌+◌, List, [], ◌∷◌, ◌++◌, Bool, true, false, cond, Option, Some, None, refl, subst}
+use Rattle.std.proofs.Common.{◌≡◌, ⊎_elim, ℕ, zero, suc, ◌+◌, List, [], ◌∷◌, ◌++◌, Bool, true, false, cond, Option, Some, None, refl, sym, subst}
 use Rattle.std.specs.Prelude.{Contains, IsSome, slice_get}
 use Rattle.std.specs.List.{AllByRecursion}
 use Rattle.std.proofs.lemmas.List.Elements.{Contains-append_left, Contains-append_right, Contains-append_cases}
@@ -10,34 +10,30 @@ use Rattle.isle_core.specs.declared.rule_sets.Binding.TheVariants as binding
 use Rattle.isle_core.specs.declared.rule_sets.RuleSet.{RuleSet}
 use Rattle.isle_core.specs.Having.{const_of}
 use Rattle.isle_core.specs.Meaning.{Meaning}
-use Rattle.isle_core.specs.Calling.{Calling, ByTurns, ByCases, NoCall, calling, is_fallible, impure}
-use Rattle.isle_core.specs.declared.types.Term.{Term}
-use Rattle.isle_core.specs.declared.types.TermKind.{TermKind}
-use Rattle.isle_core.specs.declared.types.TermKind.TheVariants as term_kind
-use Rattle.isle_core.specs.Making.{Making, MakesVariant, MakesStruct, MakesNothing, making_kind, making_of, making}
+use Rattle.isle_core.specs.Calling.{Calling, ByTurns, ByCases, NoCall, calling, extracting, is_fallible, impure}
+use Rattle.isle_core.specs.Making.{Making, MakesVariant, MakesStruct, MakesNothing, making}
 use Rattle.isle_core.specs.OccurringConstants.{TypedConstant, expr_constants}
-use Rattle.isle_core.proofs.OpenedPaths.{IsOpened, IsOpenedPlace, args_opened, args_open}
-use Rattle.isle_core.specs.CalledTerms.{CalledTerm, Constructor, is_made_kind, is_made_term, is_made, called_by, extracted_in, called_in_iflets, called_in, called}
-use Rattle.isle_core.specs.Lawful.{AnswersFit, IsLawful}
+use Rattle.isle_core.proofs.OpenedPaths.{IsOpened, IsOpenedPlace, args_open}
+use Rattle.isle_core.specs.CalledTerms.{CalledTerm, Extractor, is_made, called_by, extracted_in, called_in_iflets, called_in, called}
+use Rattle.isle_core.specs.Lawful.{AnswersFit, RoleFits, IsLawful}
 use Rattle.isle_core.specs.Path.{Path, Called, Inner, MadeVariant, MadeStruct, Paths, paths_of}
-use Rattle.isle_core.specs.Rule.{Environment, Rule, rules_of}
+use Rattle.isle_core.specs.Rule.{Environment, IfLet, Rule, rules_of}
 use Rattle.isle_core.specs.RulePaths.{rules_paths}
 use Rattle.isle_core.specs.StandsFor.{StandsFor}
 use Rattle.isle_core.specs.RightSide.{term_path}
-use Rattle.isle_core.specs.RulePaths.{args_paths, with_inner, expr_paths, rule_paths}
-use Rattle.isle_core.specs.Tests.{Places, no_places, rule_places}
+use Rattle.isle_core.specs.RulePaths.{args_paths, iflets_paths, with_inner, expr_paths, rule_paths}
+use Rattle.isle_core.specs.Tests.{Places, no_places, args_after, rule_places}
 use Rattle.isle_core.proofs.ExprPaths.{constructed, IsPlaceSo, HoldsOfParts, expr_each}
 use Rattle.isle_core.proofs.Contained.{head_contained, tail_contained, contained_cases, none_contained}
 use Rattle.isle_core.proofs.BindingPaths.{path_before}
-use Rattle.isle_core.specs.declared.types.ReturnKind.{ReturnKind}
 use Rattle.isle_core.specs.declared.values.Callee.{Callee}
-use Rattle.isle_core.specs.ExternalCall.{IsCall}
-use Rattle.isle_simulation.proofs.BlockCalls.{IsBoundCall}
+use Rattle.isle_simulation.proofs.BlockCalls.{IsConstructorCall, IsExtractorCall, IsBoundCall}
 use Rattle.isle_simulation.specs.Emitted.{AnswersBindings}
 use Rattle.isle_simulation.specs.Statements.{callee_of}
 use Rattle.isle_core.specs.Terms.{sym_text}
 use Rattle.isle_codegen.specs.CalledBy.{GoesTo, IsCalledBy}
-use Rattle.isle_codegen.proofs.NamedConstants.{rules_named, named_valued}
+use Rattle.isle_codegen.proofs.ExtractedPaths.{extracted, not_made, extractors_called}
+use Rattle.isle_codegen.proofs.NamedConstants.{AreUnconditional, rule_opened, rules_named, named_valued}
 
 -- ---- the calls among paths
 
@@ -69,15 +65,6 @@ place_of : (terms : List CalledTerm) (o : Option Path) → IsOpenedPlace o → I
 place_of terms None h = tt
 place_of terms (Some p) h = λ term qs k e. absurd (opened_apart p h term qs k e)
 
-not_made : (o : Option Term) → making_of o ≡ MakesNothing → is_made_term o ≡ false
-not_made None e = refl
-not_made (Some t) e = of_kind t.kind e
-  where
-    of_kind : (k : TermKind) → making_kind k ≡ MakesNothing → is_made_kind k ≡ false
-    of_kind (term_kind.Decl pure multi partial recursive constructor extractor) h = refl
-    of_kind (term_kind.Variant ty variant) h = cc
-    of_kind (term_kind.Struct ty) h = cc
-
 -- a path and its inner value, which is no call
 inner_of : (b : Bool) (terms : List CalledTerm) (p : Path) → IsOf terms p → AllByRecursion (IsOf terms) (cond b (p ∷ Inner p ∷ []) (p ∷ []))
 inner_of true terms p h = (h, (λ term qs k e. cc, tt))
@@ -103,17 +90,24 @@ opened_of : (terms : List CalledTerm) (ps : List Path) → AllByRecursion IsOpen
 opened_of terms [] h term qs k c = absurd (none_contained (Called term qs k) c)
 opened_of terms (p ∷ ps) h term qs k c = ⊎_elim (λ e. absurd (opened_apart p h.0 term qs k e)) (opened_of terms ps h.1 term qs k) (contained_cases p ps (Called term qs k) c)
 
-rules_of_called : (rules : List Rule) (env : Environment) (n : ℕ) → AreOf (called env rules) (rules_paths env rules n)
-rules_of_called [] env n term qs k c = absurd (none_contained (Called term qs k) c)
-rules_of_called (r ∷ rules) env n term qs k c =
+of_conditions : (terms : List CalledTerm) (env : Environment) (is : List IfLet) (places : Places) → is ≡ [] → AreOf terms (iflets_paths env is places)
+of_conditions terms env is places none = subst (λ ks. AreOf terms (iflets_paths env ks places)) (sym none) (λ term qs k c. absurd (none_contained (Called term qs k) c))
+
+rules_of_called : (rules : List Rule) (env : Environment) (n : ℕ) → AreUnconditional rules → AreOf (called env rules) (rules_paths env rules n)
+rules_of_called [] env n none term qs k c = absurd (none_contained (Called term qs k) c)
+rules_of_called (r ∷ rules) env n none term qs k c =
     let all = called env (r ∷ rules) in
     let before = extracted_in env r.args ++ called_in_iflets env r.iflets in
+    let bound = args_after env r.args 0 no_places in
+    let conditions = iflets_paths env r.iflets bound in
+    let right = expr_paths env r.rhs (rule_places env r) n in
     both_of all (rule_paths env r n) (rules_paths env rules (n + impure env r.rhs))
-    (both_of all (args_paths env r.args 0) (expr_paths env r.rhs (rule_places env r) n) (opened_of all (args_paths env r.args 0) (args_open env r.args 0))
-    (each_of all (expr_paths env r.rhs (rule_places env r) n)
-    (expr_each (IsOf all) env all (expr_constants r.rhs) (parts_of env all (expr_constants r.rhs)) r.rhs (rule_places env r) n (record { by = λ x. place_of all (rule_places env r x) (args_opened env r.args 0 no_places (λ z. tt) x) })
-    (λ t d. Contains-append_left (called_in env r) (called env rules) t (Contains-append_right before (called_by env r.rhs) t d)) (λ c d. d))))
-    (wider (called env rules) all (rules_paths env rules (n + impure env r.rhs)) (λ t d. Contains-append_right (called_in env r) (called env rules) t d) (rules_of_called rules env (n + impure env r.rhs))) term qs k c
+    (both_of all (args_paths env r.args 0) (conditions ++ right) (opened_of all (args_paths env r.args 0) (args_open env r.args 0))
+    (both_of all conditions right (of_conditions all env r.iflets bound none.0)
+    (each_of all right
+    (expr_each (IsOf all) env all (expr_constants r.rhs) (parts_of env all (expr_constants r.rhs)) r.rhs (rule_places env r) n (record { by = λ x. place_of all (rule_places env r x) (rule_opened env r none.0 x) })
+    (λ t d. Contains-append_left (called_in env r) (called env rules) t (Contains-append_right before (called_by env r.rhs) t d)) (λ c d. d)))))
+    (wider (called env rules) all (rules_paths env rules (n + impure env r.rhs)) (λ t d. Contains-append_right (called_in env r) (called env rules) t d) (rules_of_called rules env (n + impure env r.rhs) none.1)) term qs k c
 
 -- ---- bindings
 
@@ -123,36 +117,49 @@ place_contained (q ∷ ps) zero p e = let same : q ≡ p = cc in subst (Contains
 place_contained (q ∷ ps) (suc i) p e = tail_contained q ps p (place_contained ps i p e)
 
 answers_each : (env : Environment) (m : Meaning) (bs : List Binding) → ((i : ℕ) (term : TermId) (parameters : _) (k : ℕ) → slice_get bs i ≡ Some (binding.Constructor term parameters k) → AnswersFit env m term)
-    → ((i : ℕ) (name : Sym) → slice_get bs i ≡ Some (binding.ConstPrim name) → IsSome (const_of m (sym_text env name))) → AnswersBindings env m bs
-answers_each env m [] h k = tt
-answers_each env m (binding.Constructor term parameters n ∷ bs) h k = (h 0 term parameters n refl, answers_each env m bs (λ i x ps j e. h (suc i) x ps j e) (λ i name e. k (suc i) name e))
-answers_each env m (binding.ConstPrim name ∷ bs) h k = (k 0 name refl, answers_each env m bs (λ i x ps j e. h (suc i) x ps j e) (λ i other e. k (suc i) other e))
-answers_each env m (b ∷ bs) h k = answers_each env m bs (λ i x ps j e. h (suc i) x ps j e) (λ i name e. k (suc i) name e)
+    → ((i : ℕ) (term : TermId) (parameter : _) → slice_get bs i ≡ Some (binding.Extractor term parameter) → RoleFits env m term Extractor) → ((i : ℕ) (name : Sym) → slice_get bs i ≡ Some (binding.ConstPrim name) → IsSome (const_of m (sym_text env name))) → AnswersBindings env m bs
+answers_each env m [] h x k = tt
+answers_each env m (binding.Constructor term parameters n ∷ bs) h x k = (h 0 term parameters n refl, answers_each env m bs (λ i t ps j e. h (suc i) t ps j e) (λ i t p e. x (suc i) t p e) (λ i name e. k (suc i) name e))
+answers_each env m (binding.Extractor term parameter ∷ bs) h x k = (x 0 term parameter refl, answers_each env m bs (λ i t ps j e. h (suc i) t ps j e) (λ i t p e. x (suc i) t p e) (λ i name e. k (suc i) name e))
+answers_each env m (binding.ConstPrim name ∷ bs) h x k = (k 0 name refl, answers_each env m bs (λ i t ps j e. h (suc i) t ps j e) (λ i t p e. x (suc i) t p e) (λ i other e. k (suc i) other e))
+answers_each env m (b ∷ bs) h x k = answers_each env m bs (λ i t ps j e. h (suc i) t ps j e) (λ i t p e. x (suc i) t p e) (λ i name e. k (suc i) name e)
 
--- a meaning that is lawful for a term answers the calls of its rule set, and gives its constants values
-pub bindings_answered : (env : Environment) (id : TermId) (m : Meaning) (s : RuleSet) → StandsFor env s (rules_of env id) → IsLawful env id m → AnswersBindings env m s.bindings
-bindings_answered env id m s stands lawful = answers_each env m s.bindings
-    (λ i term parameters k e.
-    let at_i = path_before s.bindings i (binding.Constructor term parameters k) e in
-    lawful.answers (constructed term) (rules_of_called (rules_of env id) env 0 term _ k ((stands.paths _).0 (place_contained (paths_of s.bindings) i _ at_i))))
-    (λ i name e.
-    let at_i = path_before s.bindings i (binding.ConstPrim name) e in
-    let c = rules_named (rules_of env id) env 0 name ((stands.paths _).0 (place_contained (paths_of s.bindings) i _ at_i)) in
-    named_valued env id m c.0 name lawful c.1)
+module _ (env : Environment) (id : TermId) (s : RuleSet) (none : AreUnconditional (rules_of env id)) (stands : StandsFor env s (rules_of env id)) where
+  -- a call among the bindings is of a term that the rules call
+  constructor_called : (i : ℕ) (term : TermId) (parameters : _) (k : ℕ) → slice_get s.bindings i ≡ Some (binding.Constructor term parameters k) → Contains (called env (rules_of env id)) (constructed term)
+  constructor_called i term parameters k e =
+      let at_i = path_before s.bindings i (binding.Constructor term parameters k) e in
+      rules_of_called (rules_of env id) env 0 none term _ k ((stands.paths _).0 (place_contained (paths_of s.bindings) i _ at_i))
 
--- ---- the calls of a function
+  -- so is that of an extractor
+  extractor_called : (i : ℕ) (term : TermId) (parameter : _) → slice_get s.bindings i ≡ Some (binding.Extractor term parameter) → Contains (called env (rules_of env id)) (extracted term)
+  extractor_called i term parameter e =
+      let at_i = path_before s.bindings i (binding.Extractor term parameter) e in
+      extractors_called env (rules_of env id) 0 none term _ ((stands.paths _).0 (place_contained (paths_of s.bindings) i _ at_i))
 
-goes_there : (kind : ReturnKind) (c : Calling) (callee : Callee) → IsCall kind c → callee_of c ≡ Some callee → GoesTo c callee
-goes_there kind (ByTurns to of) callee is e = cc
-goes_there kind (ByCases to of) callee is e = absurd is
-goes_there kind NoCall callee is e = absurd is
+  -- a meaning that is lawful for a term answers the calls of its rule set, and gives its constants values
+  pub bindings_answered : (m : Meaning) → IsLawful env id m → AnswersBindings env m s.bindings
+  bindings_answered m lawful = answers_each env m s.bindings
+      (λ i term parameters k e. lawful.answers (constructed term) (constructor_called i term parameters k e))
+      (λ i term parameter e. lawful.answers (extracted term) (extractor_called i term parameter e))
+      (λ i name e.
+      let at_i = path_before s.bindings i (binding.ConstPrim name) e in
+      let c = rules_named (rules_of env id) env 0 none name ((stands.paths _).0 (place_contained (paths_of s.bindings) i _ at_i)) in
+      named_valued env id m c.0 name lawful c.1)
 
--- a call among the bindings of a rule set that stands for a term's rules is called by one of them
-pub bound_called : (env : Environment) (id : TermId) (s : RuleSet) (callee : Callee) → StandsFor env s (rules_of env id) → IsBoundCall env s.bindings callee → IsCalledBy env id callee
-bound_called env id s callee stands b =
-    let at_place = path_before s.bindings b.place (binding.Constructor b.term b.parameters b.instance) b.bound in
-    record {
-      call = constructed b.term;
-      among = rules_of_called (rules_of env id) env 0 b.term _ b.instance ((stands.paths _).0 (place_contained (paths_of s.bindings) b.place _ at_place));
-      goes = goes_there b.kind (calling env b.term) callee b.external b.is;
-    }
+  -- ---- the calls of a function
+
+  goes_there : (c : Calling) (callee : Callee) → callee_of c ≡ Some callee → GoesTo c callee
+  goes_there (ByTurns to of) callee e = cc
+  goes_there (ByCases to of) callee e = cc
+  goes_there NoCall callee e = cc
+
+  by_constructor : (callee : Callee) → IsConstructorCall env s.bindings callee → IsCalledBy env id callee
+  by_constructor callee b = record { call = constructed b.term; among = constructor_called b.place b.term b.parameters b.instance b.bound; goes = goes_there (calling env b.term) callee b.is }
+
+  by_extractor : (callee : Callee) → IsExtractorCall env s.bindings callee → IsCalledBy env id callee
+  by_extractor callee b = record { call = extracted b.term; among = extractor_called b.place b.term b.parameter b.bound; goes = goes_there (extracting env b.term) callee b.is }
+
+  -- a call among the bindings of a rule set that stands for a term's rules is called by one of them
+  pub bound_called : (callee : Callee) → IsBoundCall env s.bindings callee → IsCalledBy env id callee
+  bound_called callee b = ⊎_elim (by_constructor callee) (by_extractor callee) b

@@ -24,7 +24,7 @@ use Rattle.isle_codegen.specs.Emits.{CanEmit, AreEmitted}
 use Rattle.isle_simulation.specs.Emitted.{IsEmittable}
 use Rattle.isle_simulation.specs.TraitFns.{trait_fns_of, HasFnNames}
 use Rattle.isle_simulation.proofs.TraitFnForms.{IsPlainTerm, fns_are}
-use Rattle.isle_codegen.proofs.PlainTerms.{typed_once, typed_unextracted}
+use Rattle.isle_codegen.proofs.PlainTerms.{typed_once, typed_extractor}
 use Rattle.isle_simulation.specs.OfTerm.{AreDeclared}
 use Rattle.isle_core.specs.declared.TypeId.{TypeId}
 use Rattle.isle_core.specs.BuiltRule.{IsBuiltRule, CallsBuiltTerms}
@@ -36,7 +36,8 @@ use Rattle.isle_codegen.specs.Meant.{HasValue, IsMeant}
 use Rattle.isle_codegen.specs.Names.{has_a_rule}
 use Rattle.isle_codegen.specs.Headline.{FunctionsMean}
 use Rattle.isle_codegen.proofs.EmittedNames.{emitted_names, distinct_names}
-use Rattle.isle_codegen.proofs.MeanRules.{HasFunction, has_function, means_rules, of_term}
+use Rattle.isle_codegen.proofs.MeanRules.{HasFunction, has_function, means_rules, of_term, unconditional}
+use Rattle.isle_codegen.proofs.NamedConstants.{AreUnconditional}
 use Rattle.isle_codegen.proofs.CalledTerms.{bound_called}
 use Rattle.isle_codegen.proofs.InhabitedTypes.{inhabited_valued}
 use Rattle.isle_codegen.proofs.TypedNames.{typed_parts}
@@ -46,7 +47,7 @@ use Rattle.isle_items.proofs.HasRustNames.{has_rust_names}
 use Rattle.isle_items.proofs.ItemLaws.{items_are, items_apart}
 use Rattle.isle_items.proofs.TextLaws.{texts_are}
 use Rattle.isle_sema.proofs.BuiltRules.{typed_built, typed_terms}
-use Rattle.isle_codegen.proofs.Answerable.{answerable}
+use Rattle.isle_codegen.proofs.Answerable.{values_of, answerable}
 use Rattle.isle_simulation.proofs.GivenFunctions.{emitted_well_formed, has_shape, of_its_term, function_calls}
 
 -- each function is of its term
@@ -63,18 +64,11 @@ are_declared files env (s ∷ sets) (f ∷ fs) h = (
 are_declared files env [] (f ∷ fs) h = absurd h
 are_declared files env (s ∷ sets) [] h = absurd h
 
--- arguments of types that have values
-arguments_of : (env : Environment) (tys : List TypeId) → AllByRecursion (HasValue env) tys → (args : List Value) × HaveTypes env args tys
-arguments_of env [] h = ([], tt)
-arguments_of env (ty ∷ tys) h =
-    let vs = arguments_of env tys h.1 in
-    (h.0.0 ∷ vs.0, (h.0.1, vs.1))
-
 -- each function is made from a block
-are_from_blocks : (files : Files) (env : Environment) (sets : List (TermId × RuleSet)) (fs : List Function) → AllByRecursion (λ (s : TermId × RuleSet). StandsFor env s.1 (rules_of env s.0)) sets → AreEmitted files env sets fs
+are_from_blocks : (files : Files) (env : Environment) (sets : List (TermId × RuleSet)) (fs : List Function) → ((id : TermId) → AreUnconditional (rules_of env id)) → AllByRecursion (λ (s : TermId × RuleSet). StandsFor env s.1 (rules_of env s.0)) sets → AreEmitted files env sets fs
     → AreFromBlocks files env (map (λ (s : TermId × RuleSet). s.0) sets) fs
-are_from_blocks files env [] [] stand h = tt
-are_from_blocks files env (s ∷ sets) (f ∷ fs) stand h = (
+are_from_blocks files env [] [] none stand h = tt
+are_from_blocks files env (s ∷ sets) (f ∷ fs) none stand h = (
   record {
     term = h.0.term;
     found = h.0.found;
@@ -85,12 +79,12 @@ are_from_blocks files env (s ∷ sets) (f ∷ fs) stand h = (
     means = h.0.means;
     shape = has_shape files env h.0.term s.1.bindings h.0.block f h.0.lawful h.0.single h.0.once h.0.given;
     statements = h.0.given;
-    calls = λ callee c. bound_called env s.0 s.1 callee stand.0 (function_calls files env h.0.term s.1.bindings h.0.block f h.0.lawful h.0.single h.0.once h.0.given callee c);
+    calls = λ callee c. bound_called env s.0 s.1 (none s.0) stand.0 callee (function_calls files env h.0.term s.1.bindings h.0.block f h.0.lawful h.0.single h.0.once h.0.given callee c);
   },
-  are_from_blocks files env sets fs stand.1 h.1,
+  are_from_blocks files env sets fs none stand.1 h.1,
 )
-are_from_blocks files env [] (f ∷ fs) stand h = absurd h
-are_from_blocks files env (s ∷ sets) [] stand h = absurd h
+are_from_blocks files env [] (f ∷ fs) none stand h = absurd h
+are_from_blocks files env (s ∷ sets) [] none stand h = absurd h
 
 some_same : (a b : Term) → Some a ≡ Some b → a ≡ b
 some_same a b e = cc
@@ -106,9 +100,9 @@ are_well_formed files env p (s ∷ sets) (f ∷ fs) same c h =
 are_well_formed files env p [] (f ∷ fs) same c h = absurd h
 are_well_formed files env p (s ∷ sets) [] same c h = absurd h
 
--- the types of all terms have names of Rust, each answers at most once, and none has an external extractor
+-- the types of all terms have names of Rust, and each answers at most once, also by an external extractor
 plain_terms : (defs : List Def) (env : Environment) → Typed defs env → AreLawful (has_a_rule env.rules) env.types → AllByRecursion (IsPlainTerm env) env.terms
-plain_terms defs env typed lawful = each env.terms (λ i t e. record { types = texts_are (has_a_rule env.rules) env (t.ret_ty ∷ t.arg_tys) lawful (typed_types defs env i t typed e); once = typed_once defs env i t typed e; unextracted = typed_unextracted defs env i t typed e })
+plain_terms defs env typed lawful = each env.terms (λ i t e. record { types = texts_are (has_a_rule env.rules) env (t.ret_ty ∷ t.arg_tys) lawful (typed_types defs env i t typed e); once = typed_once defs env i t typed e; extractor = typed_extractor defs env i t typed e })
   where
     each : (ts : List Term) → ((i : ℕ) (t : Term) → slice_get ts i ≡ Some t → IsPlainTerm env t) → AllByRecursion (IsPlainTerm env) ts
     each [] h = tt
@@ -144,7 +138,7 @@ module _ (defs : List Def) (files : Files) (env : Environment) (typed : Typed de
   meant_of names id t there = record {
     term = t;
     found = there;
-    arguments = arguments_of env t.arg_tys;
+    arguments = values_of env t.arg_tys;
     meanings = λ none values h history. lawful_with env id h (answerable env (rules_of env id) names (typed_names defs env typed) (of_rules (IsBuiltRule env.terms) (typed_built defs env typed)) (of_rules (CallsBuiltTerms env.terms) (typed_terms defs env typed)) values) none history;
   }
     where
@@ -157,8 +151,8 @@ module _ (defs : List Def) (files : Files) (env : Environment) (typed : Typed de
       record {
         names = ap (map (λ (f : Function). f.term)) e ∙ names_of;
         declared = subst (λ (xs : List Function). AreDeclared files env (with_rules env) xs) (sym e) (subst (λ (ids : List TermId). AreDeclared files env ids fs) stand.ids (are_declared files env sets fs emitted));
-        blocks = subst (λ (xs : List Function). AreFromBlocks files env (with_rules env) xs) (sym e) (subst (λ (ids : List TermId). AreFromBlocks files env ids fs) stand.ids (are_from_blocks files env sets fs (recursion_from_All (λ (s : TermId × RuleSet). StandsFor env s.1 (rules_of env s.0)) sets stand.stand) emitted));
-        mean = λ id c. means_rules defs files env p id typed clean (has_rust_names (has_a_rule env.rules) env lawful (typed_parts defs env typed)) c (subst (λ (xs : List Function). HasFunction files env xs id) (sym e) (function_for id c));
+        blocks = subst (λ (xs : List Function). AreFromBlocks files env (with_rules env) xs) (sym e) (subst (λ (ids : List TermId). AreFromBlocks files env ids fs) stand.ids (are_from_blocks files env sets fs (λ id. unconditional defs env id typed) (recursion_from_All (λ (s : TermId × RuleSet). StandsFor env s.1 (rules_of env s.0)) sets stand.stand) emitted));
+        mean = λ id c. means_rules defs files env p id typed clean (has_rust_names (has_a_rule env.rules) env lawful (typed_parts defs env typed)) names c (subst (λ (xs : List Function). HasFunction files env xs id) (sym e) (function_for id c));
         meant = λ id c. meant_of names id (function_for id c).emitted.term (function_for id c).emitted.found;
         values = inhabited_valued env (typed_parts defs env typed).variants;
       }

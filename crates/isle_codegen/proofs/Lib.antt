@@ -3,6 +3,7 @@ pub mod Headers
 pub mod Refusals
 pub mod EmittedNames
 pub mod NamedConstants
+pub mod ExtractedPaths
 pub mod CalledTerms
 pub mod MeanRules
 pub mod TypedNames

@@ -10,10 +10,10 @@ use Rattle.isle_core.specs.declared.files.Files.{Files}
 use Rattle.isle_core.specs.declared.rule_sets.RuleSet.{RuleSet}
 use Rattle.isle_core.specs.declared.types.ReturnKind.{ReturnKind}
 use Rattle.isle_core.specs.declared.types.Term.{Term}
-use Rattle.isle_core.specs.Value.{Value, Made, End, Ran}
+use Rattle.isle_core.specs.Value.{Value, End, Ran}
 use Rattle.isle_core.specs.Meaning.{Meaning}
 use Rattle.isle_core.specs.HasType.{HaveTypes}
-use Rattle.isle_core.specs.Nameless.{nameless_made, nameless_end, nameless_ran}
+use Rattle.isle_core.specs.Nameless.{nameless_end, nameless_ran}
 use Rattle.isle_core.specs.PatternType.{FitsTerm}
 use Rattle.isle_core.specs.Lawful.{IsLawful}
 use Rattle.isle_core.specs.HighestMatch.{outcome_of}
@@ -22,14 +22,13 @@ use Rattle.isle_core.specs.Outcome.{Prescription, Prescribed}
 use Rattle.isle_core.specs.Path.{paths_of}
 use Rattle.isle_core.specs.BlockRun.{block_outcome}
 use Rattle.isle_core.specs.StandsFor.{StandsFor}
-use Rattle.isle_core.specs.Terms.{term_name, with_rules, is_impure}
+use Rattle.isle_core.specs.Terms.{term_name, with_rules}
 use Rattle.isle_core.specs.Rule.{Environment, Rule, rules_of}
 use Rattle.isle_core.specs.BuiltRule.{IsBuiltRule, CallsBuiltTerms}
 use Rattle.isle_core.specs.Scope.{IsScopedRule}
 use Rattle.isle_core.proofs.Contained.{head_contained, tail_contained, contained_cases, none_contained}
 use Rattle.isle_core.proofs.OutcomeOf.{outcome_prescribed, highest_is_one}
 use Rattle.isle_core.proofs.OutcomeOnce.{prescribed_once}
-use Rattle.isle_core.proofs.ImpureCalls.{AreImpure, outcome_impure, all_kept}
 use Rattle.isle_core.proofs.SetMeans.{set_means}
 use Rattle.isle_printer.specs.Bytes.{same_bytes}
 use Rattle.isle_printer.proofs.Bytes.{same_bytes_refl, same_bytes_sound}
@@ -41,14 +40,15 @@ use Rattle.isle_codegen.proofs.RulesApart.{rules_apart}
 use Rattle.isle_tree.specs.Program.{Function, Program}
 use Rattle.isle_tree.specs.Run.{run, function_of}
 use Rattle.isle_codegen.specs.Emits.{IsEmitted, AreEmitted}
-use Rattle.isle_simulation.specs.Emitted.{ran_of, ran_with, AreSameRuns}
+use Rattle.isle_simulation.specs.Emitted.{ran_of, ran_with, impure_ran, AreSameRuns}
 use Rattle.isle_simulation.specs.Ends.{end_of}
 use Rattle.isle_simulation.specs.RustNames.{HasRustNames}
-use Rattle.isle_codegen.specs.Headline.{impure_calls, GivesAs, GivesOutcome, MeansRules}
+use Rattle.isle_simulation.specs.TraitFns.{HasFnNames}
+use Rattle.isle_codegen.specs.Headline.{GivesAs, GivesOutcome, MeansRules}
 use Rattle.isle_simulation.proofs.GivenFunctions.{runs_as_block}
 use Rattle.isle_simulation.proofs.Simulation.{ends_as}
 use Rattle.isle_codegen.proofs.CalledTerms.{bindings_answered}
-use Rattle.isle_codegen.proofs.NamedConstants.{named_valued}
+use Rattle.isle_codegen.proofs.NamedConstants.{AreUnconditional, named_valued}
 use Rattle.isle_codegen.proofs.EmittedNames.{name_of_term, emitted_name}
 
 -- ---- the function of a term is found by its name
@@ -112,33 +112,21 @@ has_function files env (s ∷ sets) [] id e st d c = absurd e
 
 -- ---- it gives what the rules prescribe
 
-kept_if : (b : Bool) (c : Made) (xs ys : List Made) → map nameless_made xs ≡ ys → map nameless_made (cond b (c ∷ xs) xs) ≡ cond b (nameless_made c ∷ ys) ys
-kept_if true c xs ys e = ap (λ zs. nameless_made c ∷ zs) e
-kept_if false c xs ys e = e
-
--- which calls are of impure terms is told by their callees alone
-kept_nameless : (env : Environment) (calls : List Made) → map nameless_made (impure_calls env calls) ≡ impure_calls env (map nameless_made calls)
-kept_nameless env [] = refl
-kept_nameless env (c ∷ calls) = kept_if (is_impure env c.callee) c (impure_calls env calls) (impure_calls env (map nameless_made calls)) (kept_nameless env calls)
-
-same_calls : (env : Environment) (made calls : List Made) → map nameless_made made ≡ map nameless_made calls → AreImpure env calls → map nameless_made (impure_calls env made) ≡ map nameless_made calls
-same_calls env made calls e h = kept_nameless env made ∙ ap (impure_calls env) e ∙ sym (kept_nameless env calls) ∙ ap (map nameless_made) (all_kept env calls h)
-
 one_run : (r q : Ran) → Some r ≡ Some q → r ≡ q
 one_run r q e = cc
 
 -- what a run gives that is one with the outcome, but for names
-gives_as : (env : Environment) (t : Term) (o : Prescription) (r : Option Ran) → AnswersOnce (kind_of t.kind) → AreImpure env o.calls → AreSameRuns r (ran_of t o) → IsSomeAnd r (GivesAs env (kind_of t.kind) o)
-gives_as env t o r once h same = by r (end_of (kind_of t.kind) o.result) _ refl (ends_as (kind_of t.kind) once o.result) same
+gives_as : (env : Environment) (t : Term) (o : Prescription) (r : Option Ran) → AnswersOnce (kind_of t.kind) → AreSameRuns env r (ran_of t o) → IsSomeAnd r (GivesAs env (kind_of t.kind) o)
+gives_as env t o r once same = by r (end_of (kind_of t.kind) o.result) _ refl (ends_as (kind_of t.kind) once o.result) same
   where
-    by : (r : Option Ran) (x : Option End) (e : End) → end_of (kind_of t.kind) o.result ≡ x → x ≡ Some e → option_map nameless_ran r ≡ option_map nameless_ran (option_map (ran_with o.calls) x) → IsSomeAnd r (GivesAs env (kind_of t.kind) o)
+    by : (r : Option Ran) (x : Option End) (e : End) → end_of (kind_of t.kind) o.result ≡ x → x ≡ Some e → AreSameRuns env r (option_map (ran_with o.calls) x) → IsSomeAnd r (GivesAs env (kind_of t.kind) o)
     by r None e is ends same = cc
     by None (Some x) e is ends same = cc
     by (Some q) (Some x) e is ends same =
-        let one : nameless_ran q ≡ nameless_ran (ran_with o.calls x) = one_run (nameless_ran q) (nameless_ran (ran_with o.calls x)) same in
+        let one : nameless_ran (impure_ran env q) ≡ nameless_ran (ran_with o.calls x) = one_run (nameless_ran (impure_ran env q)) (nameless_ran (ran_with o.calls x)) same in
         record {
           end = ap (option_map nameless_end) is ∙ ap (λ (y : Ran). Some y.end) (sym one);
-          calls = same_calls env q.calls o.calls (ap (λ (y : Ran). y.calls) one) h;
+          calls = ap (λ (y : Ran). y.calls) one;
         }
 
 pick_all : (P : Rule → Type 0) (r : Rule) (rs : List Rule) (b : Bool) → P r → AllByRecursion P rs → AllByRecursion P (cond b (r ∷ rs) rs)
@@ -153,7 +141,11 @@ keep_all P keep (r ∷ rs) h = pick_all P r (filter keep rs) (keep r) h.0 (keep_
 pub of_term : (P : Rule → Type 0) (env : Environment) (id : TermId) → All P env.rules → All P (rules_of env id)
 of_term P env id h = All-from_recursion P (rules_of env id) (keep_all P (λ (r : Rule). r.root_term.0 == id.0) env.rules (recursion_from_All P env.rules h))
 
-module _ (defs : List Def) (files : Files) (env : Environment) (p : Program) (id : TermId) (typed : Typed defs env) (clean : IsClean env) (names : HasRustNames env) (listed : Contains (with_rules env) id) (h : HasFunction files env p.fns id) where
+-- the rules of a term have no conditions
+pub unconditional : (defs : List Def) (env : Environment) (id : TermId) → Typed defs env → AreUnconditional (rules_of env id)
+unconditional defs env id typed = recursion_from_All (λ (r : Rule). r.iflets ≡ []) (rules_of env id) (of_term (λ (r : Rule). r.iflets ≡ []) env id (λ k d lt. (typed_built defs env typed k d lt).iflets))
+
+module _ (defs : List Def) (files : Files) (env : Environment) (p : Program) (id : TermId) (typed : Typed defs env) (clean : IsClean env) (names : HasRustNames env) (fns : HasFnNames env) (listed : Contains (with_rules env) id) (h : HasFunction files env p.fns id) where
   abbrev the_term : Term
   the_term = h.emitted.term
 
@@ -177,12 +169,12 @@ module _ (defs : List Def) (files : Files) (env : Environment) (p : Program) (id
       all_of : (P : Rule → Type 0) → All P env.rules → AllByRecursion P (rules_of env id)
       all_of P k = recursion_from_All P (rules_of env id) (of_term P env id k)
 
-  runs : (args : List Value) (m : Meaning) → HaveTypes env args the_term.arg_tys → IsLawful env id m → AreSameRuns (run p (term_name env id) args m) (ran_of the_term (outcome_of env m args (rules_of env id) kind []))
+  runs : (args : List Value) (m : Meaning) → HaveTypes env args the_term.arg_tys → IsLawful env id m → AreSameRuns env (run p (term_name env id) args m) (ran_of the_term (outcome_of env m args (rules_of env id) kind []))
   runs args m types lawful =
       let named = name_of_term env id the_term h.emitted.found in
-      ap (λ (n : List ℕ). option_map nameless_ran (run p n args m)) named
-      ∙ runs_as_block files env the_term h.set.bindings h.emitted.block h.function h.emitted.lawful h.emitted.single h.emitted.once h.emitted.given names p args m
-      (ap (λ (n : List ℕ). function_of n p.fns) (sym named) ∙ h.found) types (bindings_answered env id m h.set h.stands lawful) lawful.declared
+      ap (λ (n : List ℕ). option_map (λ (q : Ran). nameless_ran (impure_ran env q)) (run p n args m)) named
+      ∙ runs_as_block files env the_term h.set.bindings h.emitted.block h.function h.emitted.lawful h.emitted.single h.emitted.once h.emitted.given names fns p args m
+      (ap (λ (n : List ℕ). function_of n p.fns) (sym named) ∙ h.found) types (bindings_answered env id h.set (unconditional defs env id typed) h.stands m lawful) lawful.declared
       ∙ ap (λ (o : Prescription). option_map nameless_ran (ran_of the_term o)) (same_outcome args m types lawful)
 
   gives_outcome : (args : List Value) (m : Meaning) → HaveTypes env args the_term.arg_tys → IsLawful env id m → GivesOutcome env p id the_term args m
@@ -194,7 +186,7 @@ module _ (defs : List Def) (files : Files) (env : Environment) (p : Program) (id
         outcome = outcome;
         prescribed = prescribed;
         only = λ other k. prescribed_once k prescribed;
-        given = gives_as env the_term outcome (run p (term_name env id) args m) h.emitted.once (outcome_impure env m args (rules_of env id) kind [] tt) (runs args m types lawful);
+        given = gives_as env the_term outcome (run p (term_name env id) args m) h.emitted.once (runs args m types lawful);
       }
 
   -- the function of the term means its rules

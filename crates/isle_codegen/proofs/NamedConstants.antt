@@ -1,5 +1,5 @@
 -- The named constants among the paths of rules stand in these rules, and so they have values.
-use Rattle.std.proofs.Common.{◌≡◌, ⊎_elim, ℕ, ◌+◌, List, [], ◌∷◌, ◌++◌, Bool, true, false, cond, Option, Some, None, refl, subst}
+use Rattle.std.proofs.Common.{◌≡◌, ⊎_elim, ℕ, ◌+◌, List, [], ◌∷◌, ◌++◌, Bool, true, false, cond, Option, Some, None, refl, sym, subst}
 use Rattle.std.specs.Prelude.{Contains, IsSome, IsSomeAnd}
 use Rattle.std.specs.List.{AllByRecursion}
 use Rattle.std.proofs.lemmas.List.Elements.{Contains-append_left, Contains-append_right, Contains-append_cases}
@@ -15,13 +15,22 @@ use Rattle.isle_core.specs.OccurringConstants.{TypedConstant, Named, expr_consta
 use Rattle.isle_core.specs.CalledTerms.{CalledTerm, called_by}
 use Rattle.isle_core.specs.Path.{Path, Called, ConstPrim, Inner, MadeVariant, MadeStruct, Paths}
 use Rattle.isle_core.specs.RightSide.{term_path}
-use Rattle.isle_core.specs.Rule.{Environment, Rule, rules_of}
-use Rattle.isle_core.specs.RulePaths.{args_paths, with_inner, expr_paths, rule_paths, rules_paths}
+use Rattle.isle_core.specs.Rule.{Environment, IfLet, Rule, rules_of}
+use Rattle.isle_core.specs.RulePaths.{args_paths, iflets_paths, with_inner, expr_paths, rule_paths, rules_paths}
 use Rattle.isle_core.specs.Terms.{sym_text}
-use Rattle.isle_core.specs.Tests.{Places, no_places, rule_places}
-use Rattle.isle_core.proofs.Contained.{head_contained, contained_cases, none_contained}
-use Rattle.isle_core.proofs.OpenedPaths.{IsOpened, IsOpenedPlace, args_opened, args_open}
+use Rattle.isle_core.specs.Tests.{Places, no_places, args_after, rule_places}
+use Rattle.isle_core.proofs.Contained.{contained_cases, none_contained}
+use Rattle.isle_core.proofs.OpenedPaths.{IsOpened, IsOpenedPlace, AreOpened, args_opened, args_open}
 use Rattle.isle_core.proofs.ExprPaths.{IsPlaceSo, HoldsOfParts, expr_each}
+use Rattle.isle_core.proofs.SetMeans.{places_without}
+
+-- the rules have no conditions
+abbrev pub AreUnconditional : List Rule → Type 0
+AreUnconditional rules = AllByRecursion (λ (r : Rule). r.iflets ≡ []) rules
+
+-- the variables of a rule without conditions stand where its patterns take arguments apart
+pub rule_opened : (env : Environment) (r : Rule) → r.iflets ≡ [] → AreOpened (rule_places env r)
+rule_opened env r none = subst AreOpened (sym (places_without env r none)) (args_opened env r.args 0 no_places (λ z. tt))
 
 -- each constant among paths is named in these
 abbrev AreNamed : List TypedConstant → List Path → Type 0
@@ -75,19 +84,26 @@ opened_named : (cs : List TypedConstant) (ps : List Path) → AllByRecursion IsO
 opened_named cs [] h name c = absurd (none_contained (ConstPrim name) c)
 opened_named cs (p ∷ ps) h name c = ⊎_elim (λ e. absurd (opened_apart p h.0 name e)) (opened_named cs ps h.1 name) (contained_cases p ps (ConstPrim name) c)
 
--- the constants among the paths of rules stand in the rules
-pub rules_named : (rules : List Rule) (env : Environment) (n : ℕ) → AreNamed (rules_constants rules) (rules_paths env rules n)
-rules_named [] env n = λ name c. absurd (none_contained (ConstPrim name) c)
-rules_named (r ∷ rules) env n =
+conditions_named : (cs : List TypedConstant) (env : Environment) (is : List IfLet) (places : Places) → is ≡ [] → AreNamed cs (iflets_paths env is places)
+conditions_named cs env is places none = subst (λ ks. AreNamed cs (iflets_paths env ks places)) (sym none) (λ name c. absurd (none_contained (ConstPrim name) c))
+
+-- the constants among the paths of rules without conditions stand in the rules
+pub rules_named : (rules : List Rule) (env : Environment) (n : ℕ) → AreUnconditional rules → AreNamed (rules_constants rules) (rules_paths env rules n)
+rules_named [] env n none = λ name c. absurd (none_contained (ConstPrim name) c)
+rules_named (r ∷ rules) env n none =
     let all = rules_constants (r ∷ rules) in
     let before = args_constants r.args ++ iflets_constants r.iflets in
     let rest = n + impure env r.rhs in
+    let bound = args_after env r.args 0 no_places in
+    let conditions = iflets_paths env r.iflets bound in
+    let right = expr_paths env r.rhs (rule_places env r) n in
     both_named all (rule_paths env r n) (rules_paths env rules rest)
-    (both_named all (args_paths env r.args 0) (expr_paths env r.rhs (rule_places env r) n) (opened_named all (args_paths env r.args 0) (args_open env r.args 0))
-    (each_named all (expr_paths env r.rhs (rule_places env r) n)
-    (expr_each (IsNamed all) env (called_by env r.rhs) all (parts_named env (called_by env r.rhs) all) r.rhs (rule_places env r) n (record { by = λ x. place_named all (rule_places env r x) (args_opened env r.args 0 no_places (λ z. tt) x) }) (λ t d. d)
-    (λ t d. Contains-append_left (rule_constants r) (rules_constants rules) t (Contains-append_right before (expr_constants r.rhs) t d)))))
-    (wider_named (rules_constants rules) all (rules_paths env rules rest) (λ t d. Contains-append_right (rule_constants r) (rules_constants rules) t d) (rules_named rules env rest))
+    (both_named all (args_paths env r.args 0) (conditions ++ right) (opened_named all (args_paths env r.args 0) (args_open env r.args 0))
+    (both_named all conditions right (conditions_named all env r.iflets bound none.0)
+    (each_named all right
+    (expr_each (IsNamed all) env (called_by env r.rhs) all (parts_named env (called_by env r.rhs) all) r.rhs (rule_places env r) n (record { by = λ x. place_named all (rule_places env r x) (rule_opened env r none.0 x) }) (λ t d. d)
+    (λ t d. Contains-append_left (rule_constants r) (rules_constants rules) t (Contains-append_right before (expr_constants r.rhs) t d))))))
+    (wider_named (rules_constants rules) all (rules_paths env rules rest) (λ t d. Contains-append_right (rule_constants r) (rules_constants rules) t d) (rules_named rules env rest none.1))
 
 some_there : {A : Type 0} (o : Option A) (P : A → Type 0) → IsSomeAnd o P → IsSome o
 some_there None P h = absurd h

@@ -1,39 +1,59 @@
--- The terms of definitions that are typed answer at most once, and have no external extractor.
-use Rattle.std.proofs.Common.{◌≡◌, ℕ, List, Bool, true, false, Some, None, refl, subst}
+-- The terms of definitions that are typed answer at most once, also as extractors.
+use Rattle.std.proofs.Common.{◌≡◌, ℕ, List, [], ◌∷◌, Bool, true, false, Some, None, refl, subst}
 use Rattle.std.specs.Prelude.{slice_get}
+use Rattle.isle_base.specs.declared.ids.Sym.{Sym}
+use Rattle.isle_core.specs.declared.TypeId.{TypeId}
 use Rattle.isle_core.specs.declared.types.ConstructorKind.{ConstructorKind}
-use Rattle.isle_core.specs.declared.types.ExtractorKind.TheVariants as extractor
+use Rattle.isle_core.specs.declared.types.ExtractorKind.{ExtractorKind}
 use Rattle.isle_core.specs.declared.types.TermKind.{TermKind}
 use Rattle.isle_core.specs.declared.types.TermKind.TheVariants as term_kind
 use Rattle.isle_core.specs.declared.types.Term.{Term}
 use Rattle.isle_core.specs.CalledTerms.{is_made_kind}
-use Rattle.isle_core.specs.Calling.{kind_of, AnswersOnce}
+use Rattle.isle_core.specs.declared.types.ExtractorKind.TheVariants as extractor
+use Rattle.isle_core.specs.declared.types.ReturnKind.{ReturnKind}
+use Rattle.isle_core.specs.BuiltRule.{IsExtractorKind}
+use Rattle.isle_core.specs.Calling.{extractor_kind, kind_of, AnswersOnce}
 use Rattle.isle_core.specs.Rule.{Environment}
 use Rattle.isle_ast.specs.Tree.{Def}
 use Rattle.isle_sema.specs.Typing.{Typed}
+use Rattle.isle_sema.proofs.TypedSingle.{typed_single}
 use Rattle.isle_sema.proofs.TypedTerms.{IsPlainKind, typed_kind}
 use Rattle.isle_simulation.specs.TraitFns.{extracted_of}
+use Rattle.isle_simulation.proofs.TraitFnForms.{IsSingleExtractor}
 
--- a kind that answers at most once, with no external extractor
-record IsOncePlain (k : TermKind) : Type 0 where
-  once : AnswersOnce (kind_of k)
-  unextracted : extracted_of k ≡ None
+flag_once : (partial : Bool) (by : ConstructorKind) (how : ExtractorKind) → AnswersOnce (kind_of (term_kind.Decl false false partial false by how))
+flag_once true by how = tt
+flag_once false by how = tt
 
-flag_once : (partial : Bool) (by : ConstructorKind) → AnswersOnce (kind_of (term_kind.Decl false false partial false by extractor.Absent))
-flag_once true by = tt
-flag_once false by = tt
-
-flagged : (k : TermKind) → IsPlainKind k → IsOncePlain k
-flagged k h = subst IsOncePlain h.2 (record { once = flag_once h.0 h.1; unextracted = refl })
-
--- a made term does, and of others typing says it
-plain_kind : (k : TermKind) → (is_made_kind k ≡ false → IsPlainKind k) → IsOncePlain k
-plain_kind (term_kind.Decl pure multi partial recursive by x) h = flagged (term_kind.Decl pure multi partial recursive by x) (h refl)
-plain_kind (term_kind.Variant ty variant) h = record { once = tt; unextracted = refl }
-plain_kind (term_kind.Struct ty) h = record { once = tt; unextracted = refl }
+-- a made term answers once, and of others typing says it
+kind_once : (k : TermKind) → (is_made_kind k ≡ false → IsPlainKind k) → AnswersOnce (kind_of k)
+kind_once (term_kind.Decl pure multi partial recursive by x) h = let plain = h refl in subst (λ k. AnswersOnce (kind_of k)) plain.is (flag_once plain.partial plain.by plain.how)
+kind_once (term_kind.Variant ty variant) h = tt
+kind_once (term_kind.Struct ty) h = tt
 
 pub typed_once : (defs : List Def) (env : Environment) (i : ℕ) (t : Term) → Typed defs env → slice_get env.terms i ≡ Some t → AnswersOnce (kind_of t.kind)
-typed_once defs env i t typed at = (plain_kind t.kind (typed_kind defs env i t typed at)).once
+typed_once defs env i t typed at = kind_once t.kind (typed_kind defs env i t typed at)
 
-pub typed_unextracted : (defs : List Def) (env : Environment) (i : ℕ) (t : Term) → Typed defs env → slice_get env.terms i ≡ Some t → extracted_of t.kind ≡ None
-typed_unextracted defs env i t typed at = (plain_kind t.kind (typed_kind defs env i t typed at)).unextracted
+-- ---- extractors
+
+extractor_once : (infallible : Bool) → AnswersOnce (extractor_kind false infallible)
+extractor_once true = tt
+extractor_once false = tt
+
+-- a kind of one argument that has an external extractor, in a term that is not `multi`
+by_kind : (t : Term) (k : TermKind) (extracted : Sym × ReturnKind) → (IsExtractorKind k → (ty : TypeId) × (t.arg_tys ≡ ty ∷ [])) → (is_made_kind k ≡ false → IsPlainKind k) → extracted_of k ≡ Some extracted → IsSingleExtractor t extracted
+by_kind t (term_kind.Decl pure false partial recursive by (extractor.External func infallible)) extracted single plain e =
+    let is = single tt in
+    record { result = is.0; one = is.1; once = subst AnswersOnce (kind_is func _ extracted e) (extractor_once infallible) }
+  where
+    kind_is : (f : Sym) (k : ReturnKind) (x : Sym × ReturnKind) → Some (f, k) ≡ Some x → k ≡ x.1
+    kind_is f k x same = cc
+by_kind t (term_kind.Decl pure true partial recursive by (extractor.External func infallible)) extracted single plain e = let h = plain refl in let bad : term_kind.Decl false false h.partial false h.by h.how ≡ term_kind.Decl pure true partial recursive by (extractor.External func infallible) = h.is in cc
+by_kind t (term_kind.Decl pure multi partial recursive by extractor.Absent) extracted single plain e = cc
+by_kind t (term_kind.Decl pure multi partial recursive by extractor.Internal) extracted single plain e = cc
+by_kind t (term_kind.Variant ty variant) extracted single plain e = cc
+by_kind t (term_kind.Struct ty) extracted single plain e = cc
+
+-- each external extractor of typed definitions gives one result, and answers at most once
+pub typed_extractor : (defs : List Def) (env : Environment) (i : ℕ) (t : Term) → Typed defs env → slice_get env.terms i ≡ Some t → (extracted : Sym × ReturnKind) → extracted_of t.kind ≡ Some extracted → IsSingleExtractor t extracted
+typed_extractor defs env i t typed at extracted e = by_kind t t.kind extracted (typed_single defs env i t typed at) (typed_kind defs env i t typed at) e

@@ -1,19 +1,19 @@
 -- What an emitted text is to the definitions that it was made from.
-use Rattle.std.specs.Prelude.{◌≡◌, ℕ, List, [], map, filter, Some, Contains, option_map, slice_get, IsSomeAnd}
+use Rattle.std.specs.Prelude.{◌≡◌, ℕ, List, [], map, Some, Contains, option_map, slice_get, IsSomeAnd}
 use Rattle.isle_base.specs.declared.ids.TermId.{TermId}
 use Rattle.isle_base.specs.declared.ids.TypeId.{TypeId}
 use Rattle.isle_core.specs.declared.types.ReturnKind.{ReturnKind}
 use Rattle.isle_core.specs.declared.types.Term.{Term}
 use Rattle.isle_core.specs.declared.options.CodegenOptions.{CodegenOptions}
 use Rattle.isle_core.specs.declared.files.Files.{Files}
-use Rattle.isle_core.specs.Value.{Value, Made, Ran}
+use Rattle.isle_core.specs.Value.{Value, Ran}
 use Rattle.isle_core.specs.Meaning.{Meaning}
 use Rattle.isle_core.specs.HasType.{HaveTypes}
 use Rattle.isle_core.specs.Lawful.{IsLawful}
 use Rattle.isle_core.specs.Nameless.{nameless_made, nameless_end}
 use Rattle.isle_core.specs.Outcome.{Prescription, Prescribed, kind_of}
 use Rattle.isle_core.specs.Rule.{Environment, rules_of}
-use Rattle.isle_core.specs.Terms.{with_rules, term_name, is_impure}
+use Rattle.isle_core.specs.Terms.{with_rules, term_name, impure_calls}
 use Rattle.isle_ast.specs.Tree.{Def}
 use Rattle.isle_sema.specs.Typing.{TypedOnly}
 use Rattle.isle_checks.specs.CheckList.{IsClean}
@@ -26,10 +26,6 @@ use Rattle.isle_simulation.specs.OfTerm.{AreDeclared}
 use Rattle.isle_codegen.specs.FromBlock.{AreFromBlocks}
 use Rattle.isle_codegen.specs.Inhabited.{IsInhabited}
 use Rattle.isle_codegen.specs.Meant.{HasValue, IsMeant}
-
--- the calls of impure terms
-abbrev pub impure_calls : Environment → List Made → List Made
-impure_calls env calls = filter (λ (c : Made). is_impure env c.callee) calls
 
 -- a run gives what is prescribed, but for the type names of opaque numbers: its end, and the calls of impure terms in order
 pub record GivesAs (env : Environment) (kind : ReturnKind) (o : Prescription) (r : Ran) : Type 0 where

@@ -1,5 +1,5 @@
 -- Where a term can be run there are lines, or memory ran out.
-use Rattle.std.proofs.Common.{◌≡◌, ℕ, List, [], ◌∷◌, map, true, false, Some, ⊎_elim, refl, sym, ap, ◌∙◌, subst}
+use Rattle.std.proofs.Common.{◌≡◌, ℕ, List, [], ◌∷◌, ◌++◌, map, true, false, Some, ⊎_elim, refl, sym, ap, ◌∙◌, subst}
 use Rattle.std.specs.Prelude.{Result, Ok, Err, IfErr, IsOkUnless}
 use Rattle.isle_core.specs.declared.TypeId.{TypeId}
 use Rattle.isle_core.specs.declared.files.Files.{Files}
@@ -19,7 +19,7 @@ use Rattle.isle_values.specs.Written.{Writtens}
 use Rattle.isle_tree.specs.declared.tree.Ty.{Ty}
 use Rattle.isle_tree.specs.declared.tree.TypeItem.{TypeItem}
 use Rattle.isle_tree.specs.Program.{Program}
-use Rattle.isle_interpreter.specs.Entries.{Turns, answers_for, gives}
+use Rattle.isle_interpreter.specs.Entries.{Cases, Turns, answers_for, gives}
 use Rattle.isle_interpreter.specs.Refusals as refusal
 use Rattle.isle_interpreter.specs.Refusals.{MayRun, IsRefused}
 use Rattle.isle_places.specs.Signatures.{type_names}
@@ -28,7 +28,7 @@ use Rattle.isle_interpreter.specs.declared.run_error.RunError.TheVariants as err
 use Rattle.isle_interpreter.proofs.OneRefusal.{not_refused}
 use Rattle.isle_simulation.specs.TypeTexts.{parameter, type_text}
 use Rattle.isle_run_inputs.specs.Built.{are_built}
-use Rattle.isle_run_inputs.specs.AnswersAt.{answers_at, constants_at, turns_at}
+use Rattle.isle_run_inputs.specs.AnswersAt.{answers_at, constants_at, cases_at, turns_at}
 use Rattle.isle_codegen.specs.Causes.{IsNotOfIt}
 use Rattle.isle_codegen.specs.Checked.{IsChecked}
 use Rattle.isle_codegen.proofs.Accepted.{accepted_none, checked_accepted}
@@ -45,7 +45,7 @@ use Rattle.isle_run.proofs.LawfulNames.{HasLawfulNames}
 use Rattle.isle_run.proofs.SourceNames.{lawful_names}
 use Rattle.isle_run.proofs.RequestedTerms.{HasFunction, requested_function}
 use Rattle.isle_run.proofs.NamedTypes.{are_named}
-use Rattle.isle_run.proofs.RightEntries.{as_entries, all_front, all_back, all_right, answered_back, given_back}
+use Rattle.isle_run.proofs.RightEntries.{as_entries, all_front, all_back, all_right, cased_back, answered_back, given_back}
 
 -- ---- the source
 
@@ -111,13 +111,17 @@ module _ (options : CodegenOptions) (files : Files) (term : List ℕ) (ws : Writ
   may = record {
     found = the_function.found;
     typed = named;
-    right = all_right options files c.env names p conforms the_function.function answers (constants_at c.env c.forms) (turns_at c.env c.forms) c.constants wanted.stand wanted.fit (wanted.apart the_function.function the_function.found) c.right;
+    right = all_right options files c.env names p conforms the_function.function answers (constants_at c.env c.forms) (cases_at c.env c.forms) (turns_at c.env c.forms) c.constants wanted.stand wanted.fit (wanted.apart the_function.function the_function.found) c.extracted c.right;
     answered = λ callee k none.
+        let cases = cases_at c.env c.forms in
+        let turns = turns_at c.env c.forms in
+        let behind = all_back (λ f. goes_to callee (answers_for f) ≡ false) (as_entries (constants_at c.env c.forms)) (map Cases cases ++ map Turns turns) none in
         c.answered callee (the_function.block.calls callee k)
-        (answered_back callee (turns_at c.env c.forms) (all_back (λ f. goes_to callee (answers_for f) ≡ false) (as_entries (constants_at c.env c.forms)) (map Turns (turns_at c.env c.forms)) none));
+        (cased_back callee cases (all_front (λ f. goes_to callee (answers_for f) ≡ false) (map Cases cases) (map Turns turns) behind))
+        (answered_back callee turns (all_back (λ f. goes_to callee (answers_for f) ≡ false) (map Cases cases) (map Turns turns) behind));
     given = λ name ty k free none.
         wanted.given the_function.function the_function.found name ty k free
-        (given_back name (constants_at c.env c.forms) (all_front (λ f. gives name f ≡ false) (as_entries (constants_at c.env c.forms)) (map Turns (turns_at c.env c.forms)) none));
+        (given_back name (constants_at c.env c.forms) (all_front (λ f. gives name f ≡ false) (as_entries (constants_at c.env c.forms)) (map Cases (cases_at c.env c.forms) ++ map Turns (turns_at c.env c.forms)) none));
   }
 
   -- such a run isn't refused

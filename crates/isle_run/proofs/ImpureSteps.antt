@@ -4,11 +4,10 @@ use Rattle.std.specs.Prelude.{filter, is_some}
 use Rattle.std.proofs.lemmas.List.{drop_more}
 use Rattle.isle_core.specs.declared.values.CallMade.{CallMade}
 use Rattle.isle_core.specs.Rule.{Environment}
-use Rattle.isle_core.specs.Terms.{is_impure}
+use Rattle.isle_core.specs.Terms.{impure_calls, is_impure}
 use Rattle.isle_core.specs.Value.{Made}
 use Rattle.isle_core.specs.ValueViews.{made}
 use Rattle.isle_run_inputs.specs.Requested.{answer_type}
-use Rattle.isle_codegen.specs.Headline.{impure_calls}
 use Rattle.isle_outcomes.specs.Lines.{call_line, call_lines}
 use Rattle.isle_run.proofs.ImpureCalls.{impure_found}
 

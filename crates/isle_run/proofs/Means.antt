@@ -14,7 +14,7 @@ use Rattle.isle_core.specs.Nameless.{nameless_end, nameless_made}
 use Rattle.isle_core.specs.NamesApart.{ValuesConstants}
 use Rattle.isle_core.specs.Calling.{kind_of}
 use Rattle.isle_core.specs.Rule.{Environment}
-use Rattle.isle_core.specs.Terms.{term_name, with_rules}
+use Rattle.isle_core.specs.Terms.{impure_calls, term_name, with_rules}
 use Rattle.isle_tree.specs.Program.{Program, Function}
 use Rattle.isle_tree.specs.Run.{run, function_of, function_run}
 use Rattle.isle_outcomes.specs.Lines.{run_lines}
@@ -23,7 +23,7 @@ use Rattle.isle_interpreter.specs.Refusals.{MayRun}
 use Rattle.isle_interpreter.proofs.Agree.{same_run}
 use Rattle.isle_simulation.specs.Emitted.{ran_with}
 use Rattle.isle_simulation.specs.Ends.{end_of}
-use Rattle.isle_codegen.specs.Headline.{impure_calls, GivesOutcome, GivesAs}
+use Rattle.isle_codegen.specs.Headline.{GivesOutcome, GivesAs}
 use Rattle.isle_run.specs.Attempt.{Attempt}
 use Rattle.isle_run.specs.Conforming.{Conforms}
 use Rattle.isle_run.specs.LeftOut.{leave_out}

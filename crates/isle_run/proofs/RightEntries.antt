@@ -1,4 +1,4 @@
--- Constants and turns that are right at the types of a source are right entries of a program that conforms to it.
+-- Constants, cases and turns that are right at the types of a source are right entries of a program that conforms to it.
 use Rattle.std.proofs.Common.{◌≡◌, List, [], ◌∷◌, ◌++◌, map, true, Option, Some, refl, sym, ap, ◌∙◌, subst, append-nil, append_assoc}
 use Rattle.std.specs.Prelude.{ℕ, IsSomeAnd, option_map}
 use Rattle.std.specs.List.{AllByRecursion, IsDistinct}
@@ -6,11 +6,13 @@ use Rattle.std.specs.Str.{bytes_eq}
 use Rattle.std.proofs.lemmas.List.{map-append}
 use Rattle.isle_core.specs.declared.files.Files.{Files}
 use Rattle.isle_core.specs.declared.options.CodegenOptions.{CodegenOptions}
+use Rattle.isle_core.specs.declared.types.ReturnKind.{ReturnKind}
 use Rattle.isle_core.specs.declared.types.Term.{Term}
 use Rattle.isle_core.specs.declared.values.Callee.{Callee}
+use Rattle.isle_core.specs.declared.Sym.{Sym}
 use Rattle.isle_core.specs.Calling.{kind_of}
 use Rattle.isle_core.specs.Lawful.{Fits}
-use Rattle.isle_core.specs.Meaning.{TurnAnswers, Meaning}
+use Rattle.isle_core.specs.Meaning.{PureAnswers, TurnAnswers, Meaning}
 use Rattle.isle_core.specs.Rule.{Environment}
 use Rattle.isle_core.specs.Terms.{sym_text, with_rules}
 use Rattle.isle_core.specs.Value.{Value, Answer}
@@ -18,19 +20,19 @@ use Rattle.isle_tree.specs.declared.tree.TraitFn.{TraitFn}
 use Rattle.isle_tree.specs.Program.{Function, Program}
 use Rattle.isle_tree.specs.WellFormed.{trait_fn, fn_names}
 use Rattle.isle_interpreter.specs.Apart.{IsApart}
-use Rattle.isle_interpreter.specs.Entries.{Entry, Constant, Turns, IsUnanswered, IsUngiven, EntryFits, has_constant, FitsPlaces, IsRight, AreRight}
+use Rattle.isle_interpreter.specs.Entries.{Entry, Constant, Cases, Turns, IsUnanswered, IsUngiven, CaseFits, EntryFits, has_constant, FitsPlaces, IsRight, AreRight}
 use Rattle.isle_places.specs.Signatures.{Signature, trait_signature, term_signature, signature_of}
 use Rattle.isle_interpreter.specs.Named.{AnswerFits}
 use Rattle.isle_interpreter.proofs.AnswersHold.{no_constants, both_unanswered}
 use Rattle.isle_simulation.specs.TypeTexts.{type_text}
-use Rattle.isle_simulation.specs.TraitFns.{constructor_fn, trait_fns_of}
+use Rattle.isle_simulation.specs.TraitFns.{constructor_fn, extractor_fn, trait_fns_of}
 use Rattle.isle_items.specs.TypeItems.{type_items_of}
 use Rattle.isle_run.specs.Conforming.{Conforms}
-use Rattle.isle_run.specs.Valid.{IsServed, external, internal, HasNoTurns, AreRightTurns, AllRight, HasNoValue, IsRightConstant, AreRightConstants}
+use Rattle.isle_run.specs.Valid.{IsServed, external, internal, IsExtracted, extractor, HasNoCases, HasNoTurns, IsRightCase, AreRightCases, AllCasesRight, AreRightTurns, AllRight, HasNoValue, IsRightConstant, AreRightConstants}
 use Rattle.isle_run.proofs.LawfulNames.{HasLawfulNames}
 use Rattle.isle_run.proofs.RequestedTerms.{requested_function}
-use Rattle.isle_run.proofs.NamedTypes.{answer_named, value_typed}
-use Rattle.isle_run.proofs.ServedCallees.{served_fn}
+use Rattle.isle_run.proofs.NamedTypes.{answer_named, are_named, value_typed}
+use Rattle.isle_run.proofs.ServedCallees.{served_fn, extracted_fn}
 
 -- a signature with the result and the kind of a term
 pub record IsSignatureOf (env : Environment) (t : Term) (s : Signature) : Type 0 where
@@ -50,7 +52,16 @@ pub all_back : {X : Type 0} (P : X → Type 0) (xs ys : List X) → AllByRecursi
 all_back P [] ys h = h
 all_back P (x ∷ xs) ys h = all_back P xs ys h.1
 
--- no turns of a callee is no entry of it
+-- no cases of a callee is no entry of it
+uncased : (c : Callee) (given : List PureAnswers) → HasNoCases c given → IsUnanswered c (map Cases given)
+uncased c [] h = tt
+uncased c (a ∷ given) h = (h.0, uncased c given h.1)
+
+pub cased_back : (c : Callee) (given : List PureAnswers) → IsUnanswered c (map Cases given) → HasNoCases c given
+cased_back c [] h = tt
+cased_back c (a ∷ given) h = (h.0, cased_back c given h.1)
+
+-- no turns of one is none either
 unanswered : (c : Callee) (given : List TurnAnswers) → HasNoTurns c given → IsUnanswered c (map Turns given)
 unanswered c [] h = tt
 unanswered c (a ∷ given) h = (h.0, unanswered c given h.1)
@@ -111,20 +122,62 @@ module _ (options : CodegenOptions) (files : Files) (env : Environment) (names :
       some_same : (a b : Term) → Some a ≡ Some b → a ≡ b
       some_same a b e = cc
 
-  turns_right : (consts : List (List ℕ × Value)) (earlier : List TurnAnswers) (a : TurnAnswers) → AreRightTurns env earlier a → IsRight p f m (as_entries consts ++ map Turns earlier) (Turns a)
-  turns_right consts earlier a h =
-      let s = served_signature a.callee h.term h.served in (
-        both_unanswered a.callee (as_entries consts) (map Turns earlier) (no_constants a.callee consts) (unanswered a.callee earlier h.first),
+  turns_right : (consts : List (List ℕ × Value)) (cases : List PureAnswers) (earlier : List TurnAnswers) (a : TurnAnswers) → AreRightTurns env cases earlier a → IsRight p f m ((as_entries consts ++ map Cases cases) ++ map Turns earlier) (Turns a)
+  turns_right consts cases earlier a h =
+      let s = served_signature a.callee h.term h.served in
+      let front = both_unanswered a.callee (as_entries consts) (map Cases cases) (no_constants a.callee consts) (uncased a.callee cases h.alone) in (
+        both_unanswered a.callee (as_entries consts ++ map Cases cases) (map Turns earlier) front (unanswered a.callee earlier h.first),
         some_with (EntryFits p.types (Turns a)) (signature_of p a.callee) s.0 s.1
             (subst (λ types. AllByRecursion (AnswerFits types s.0) a.turns × AnswerFits types s.0 a.rest) (sym conforms.frame.types) (all_fit h.term s.0 a.turns s.2 h.turns, fits_signature h.term s.0 a.rest s.2 h.rest)),
       )
 
-  all_turns : (consts : List (List ℕ × Value)) (earlier later : List TurnAnswers) → AllRight env earlier later → AreRight p f m (as_entries consts ++ map Turns earlier) (map Turns later)
-  all_turns consts earlier [] h = tt
-  all_turns consts earlier (a ∷ later) h = (
-    turns_right consts earlier a h.0,
-    subst (λ fs. AreRight p f m fs (map Turns later)) (ap (λ fs. as_entries consts ++ fs) (map-append Turns earlier (a ∷ [])) ∙ sym (append_assoc (as_entries consts) (map Turns earlier) (Turns a ∷ [])))
-        (all_turns consts (earlier ++ a ∷ []) later h.1),
+  all_turns : (consts : List (List ℕ × Value)) (cases : List PureAnswers) (earlier later : List TurnAnswers) → AllRight env cases earlier later → AreRight p f m ((as_entries consts ++ map Cases cases) ++ map Turns earlier) (map Turns later)
+  all_turns consts cases earlier [] h = tt
+  all_turns consts cases earlier (a ∷ later) h =
+      let front = as_entries consts ++ map Cases cases in (
+        turns_right consts cases earlier a h.0,
+        subst (λ fs. AreRight p f m fs (map Turns later)) (ap (λ fs. front ++ fs) (map-append Turns earlier (a ∷ [])) ∙ sym (append_assoc front (map Turns earlier) (Turns a ∷ [])))
+            (all_turns consts cases (earlier ++ a ∷ []) later h.1),
+      )
+
+  -- ---- cases
+
+  -- the signature of an extractor
+  extracted_signature : (c : Callee) (t : Term) (kind : ReturnKind) → IsExtracted env c t kind → (func : Sym) × (signature_of p c ≡ Some (trait_signature (extractor_fn env t (func, kind))))
+  extracted_signature _ _ _ (extractor i t func kind at e) = (
+    func,
+    ap (option_map trait_signature) (ap (λ (fs : List TraitFn). trait_fn fs (sym_text env func)) conforms.frame.trait_fns ∙ extracted_fn env env.terms i t (func, kind) distinct_names at e),
+  )
+
+  -- cases and answers fit it
+  case_fits : (t : Term) (func : Sym) (kind : ReturnKind) (c : List Value × Answer) → IsRightCase env t kind c → CaseFits (type_items_of env) (trait_signature (extractor_fn env t (func, kind))) c
+  case_fits t func kind c h = (
+    are_named env names.has_rules names.lawful names.builtins (t.ret_ty ∷ []) c.0 h.0,
+    answer_named env names.has_rules names.lawful names.builtins t.arg_tys kind (type_text env t.ret_ty ∷ []) c.1 h.1,
+  )
+
+  all_cases_fit : (t : Term) (func : Sym) (kind : ReturnKind) (cs : List (List Value × Answer)) → AllByRecursion (IsRightCase env t kind) cs → AllByRecursion (CaseFits (type_items_of env) (trait_signature (extractor_fn env t (func, kind)))) cs
+  all_cases_fit t func kind [] h = tt
+  all_cases_fit t func kind (c ∷ cs) h = (case_fits t func kind c h.0, all_cases_fit t func kind cs h.1)
+
+  cases_right : (consts : List (List ℕ × Value)) (earlier : List PureAnswers) (a : PureAnswers) → AreRightCases env earlier a → IsRight p f m (as_entries consts ++ map Cases earlier) (Cases a)
+  cases_right consts earlier a h =
+      let s = extracted_signature a.callee h.term h.kind h.served in
+      let signature = trait_signature (extractor_fn env h.term (s.0, h.kind)) in (
+        both_unanswered a.callee (as_entries consts) (map Cases earlier) (no_constants a.callee consts) (uncased a.callee earlier h.first),
+        some_with (EntryFits p.types (Cases a)) (signature_of p a.callee) signature s.1
+            (subst (λ types. AllByRecursion (CaseFits types signature) a.cases × AnswerFits types signature a.rest) (sym conforms.frame.types)
+            (all_cases_fit h.term s.0 h.kind a.cases h.cases, answer_named env names.has_rules names.lawful names.builtins h.term.arg_tys h.kind (type_text env h.term.ret_ty ∷ []) a.rest h.rest)),
+      )
+
+  -- cases in front of what is right behind them all
+  all_cases : (consts : List (List ℕ × Value)) (earlier later : List PureAnswers) (rest : List Entry) → AllCasesRight env earlier later → AreRight p f m (as_entries consts ++ map Cases (earlier ++ later)) rest
+      → AreRight p f m (as_entries consts ++ map Cases earlier) (map Cases later ++ rest)
+  all_cases consts earlier [] rest h right = subst (λ cs. AreRight p f m (as_entries consts ++ map Cases cs) rest) (append-nil earlier) right
+  all_cases consts earlier (a ∷ later) rest h right = (
+    cases_right consts earlier a h.0,
+    subst (λ fs. AreRight p f m fs (map Cases later ++ rest)) (ap (λ fs. as_entries consts ++ fs) (map-append Cases earlier (a ∷ [])) ∙ sym (append_assoc (as_entries consts) (map Cases earlier) (Cases a ∷ [])))
+        (all_cases consts (earlier ++ a ∷ []) later rest h.1 (subst (λ cs. AreRight p f m (as_entries consts ++ map Cases cs) rest) (sym (append_assoc earlier (a ∷ []) later)) right)),
   )
 
   -- ---- constants
@@ -149,7 +202,9 @@ module _ (options : CodegenOptions) (files : Files) (env : Environment) (names :
   )
 
   -- all entries
-  pub all_right : (consts : List (List ℕ × Value)) (turns : List TurnAnswers) → AreRightConstants env [] consts → AllByRecursion (λ (c : List ℕ × Value). has_constant p c.0 ≡ true) consts → AllByRecursion (λ (c : List ℕ × Value). FitsPlaces p c.0 c.1) consts → AllByRecursion (λ (c : List ℕ × Value). IsApart p f m c.0) consts → AllRight env [] turns
-      → AreRight p f m [] (as_entries consts ++ map Turns turns)
-  all_right consts turns constants stand fit apart right =
-      constants_right [] consts (map Turns turns) constants stand fit apart (subst (λ fs. AreRight p f m fs (map Turns turns)) (append-nil (as_entries consts)) (all_turns consts [] turns right))
+  pub all_right : (consts : List (List ℕ × Value)) (cases : List PureAnswers) (turns : List TurnAnswers) → AreRightConstants env [] consts → AllByRecursion (λ (c : List ℕ × Value). has_constant p c.0 ≡ true) consts → AllByRecursion (λ (c : List ℕ × Value). FitsPlaces p c.0 c.1) consts → AllByRecursion (λ (c : List ℕ × Value). IsApart p f m c.0) consts → AllCasesRight env [] cases → AllRight env cases [] turns
+      → AreRight p f m [] (as_entries consts ++ (map Cases cases ++ map Turns turns))
+  all_right consts cases turns constants stand fit apart extracted right =
+      let of_turns = subst (λ fs. AreRight p f m fs (map Turns turns)) (append-nil (as_entries consts ++ map Cases cases)) (all_turns consts cases [] turns right) in
+      let of_cases = all_cases consts [] cases (map Turns turns) extracted of_turns in
+      constants_right [] consts (map Cases cases ++ map Turns turns) constants stand fit apart (subst (λ fs. AreRight p f m fs (map Cases cases ++ map Turns turns)) (append-nil (as_entries consts)) of_cases)

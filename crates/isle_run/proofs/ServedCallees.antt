@@ -5,6 +5,7 @@ use Rattle.std.specs.List.{AllByRecursion, IsDistinct, cons_option}
 use Rattle.std.specs.Str.{bytes_eq}
 use Rattle.std.proofs.lemmas.Slice.Eq.{bytes_eq-Decides}
 use Rattle.isle_core.specs.declared.Sym.{Sym}
+use Rattle.isle_core.specs.declared.types.ReturnKind.{ReturnKind}
 use Rattle.isle_core.specs.declared.types.Term.{Term}
 use Rattle.isle_core.specs.Rule.{Environment}
 use Rattle.isle_core.specs.Terms.{sym_text}
@@ -12,7 +13,7 @@ use Rattle.isle_core.proofs.Contained.{head_contained, tail_contained, contained
 use Rattle.isle_tree.specs.declared.tree.TraitFn.{TraitFn}
 use Rattle.isle_tree.specs.WellFormed.{trait_fn, fn_names}
 use Rattle.isle_run.proofs.DeclaredItems.{apart}
-use Rattle.isle_simulation.specs.TraitFns.{constructor_fn, constructor_fn_of, extractor_fn_of, func_of, trait_fns_in}
+use Rattle.isle_simulation.specs.TraitFns.{constructor_fn, constructor_fn_of, extractor_fn, extractor_fn_of, extracted_of, func_of, trait_fns_in}
 
 -- the names of those of terms
 abbrev names_in : Environment → List Term → List (List ℕ)
@@ -65,3 +66,27 @@ served_fn env (u ∷ ts) (suc i) t func d at e =
     let c = among env ts i t func at e in
     found_after (extractor_fn_of env u) (cons_option (constructor_fn_of env u) (trait_fns_in env ts)) f d (after_option (constructor_fn_of env u) (trait_fns_in env ts) f.name c)
     (λ k. found_after (constructor_fn_of env u) (trait_fns_in env ts) f k c (λ l. served_fn env ts i t func l at e))
+
+-- ---- extractors
+
+extractor_among : (env : Environment) (ts : List Term) (i : ℕ) (t : Term) (x : Sym × ReturnKind) → slice_get ts i ≡ Some t → extracted_of t.kind ≡ Some x → Contains (names_in env ts) (sym_text env x.0)
+extractor_among env [] i t x at e = cc
+extractor_among env (u ∷ ts) zero t x at e =
+    let same : u ≡ t = cc in
+    at_option (extractor_fn_of env u) (cons_option (constructor_fn_of env u) (trait_fns_in env ts)) (extractor_fn env t x) (ap (extractor_fn_of env) same ∙ ap (option_map (extractor_fn env t)) e)
+extractor_among env (u ∷ ts) (suc i) t x at e =
+    after_option (extractor_fn_of env u) (cons_option (constructor_fn_of env u) (trait_fns_in env ts)) (sym_text env x.0)
+    (after_option (constructor_fn_of env u) (trait_fns_in env ts) (sym_text env x.0) (extractor_among env ts i t x at e))
+
+-- the function of the first term with this external extractor, where names are distinct
+pub extracted_fn : (env : Environment) (ts : List Term) (i : ℕ) (t : Term) (x : Sym × ReturnKind) → IsDistinct bytes_eq (names_in env ts) → slice_get ts i ≡ Some t → extracted_of t.kind ≡ Some x
+    → trait_fn (trait_fns_in env ts) (sym_text env x.0) ≡ Some (extractor_fn env t x)
+extracted_fn env [] i t x d at e = cc
+extracted_fn env (u ∷ ts) zero t x d at e =
+    let same : u ≡ t = cc in
+    found_here (extractor_fn_of env u) (cons_option (constructor_fn_of env u) (trait_fns_in env ts)) (extractor_fn env t x) (ap (extractor_fn_of env) same ∙ ap (option_map (extractor_fn env t)) e)
+extracted_fn env (u ∷ ts) (suc i) t x d at e =
+    let f = extractor_fn env t x in
+    let c = extractor_among env ts i t x at e in
+    found_after (extractor_fn_of env u) (cons_option (constructor_fn_of env u) (trait_fns_in env ts)) f d (after_option (constructor_fn_of env u) (trait_fns_in env ts) f.name c)
+    (λ k. found_after (constructor_fn_of env u) (trait_fns_in env ts) f k c (λ l. extracted_fn env ts i t x l at e))

@@ -1,5 +1,6 @@
 -- The lines that a run of a compiled term gives.
 use Rattle.std.specs.Prelude.{◌≡◌, ℕ, List, [], true, Option, Some, IsSomeAnd, option_map, slice_get}
+use Rattle.isle_core.specs.Terms.{impure_calls}
 use Rattle.isle_core.specs.declared.TermId.{TermId}
 use Rattle.isle_core.specs.declared.options.CodegenOptions.{CodegenOptions}
 use Rattle.isle_core.specs.declared.files.Files.{Files}
@@ -26,7 +27,6 @@ use Rattle.isle_outcomes.specs.Lines.{run_lines}
 use Rattle.isle_simulation.specs.Ends.{end_of}
 use Rattle.isle_simulation.specs.Emitted.{ran_with}
 use Rattle.isle_codegen.specs.Checked.{IsChecked}
-use Rattle.isle_codegen.specs.Headline.{impure_calls}
 use Rattle.isle_run.specs.Conforming.{Conforms}
 
 -- the arguments: the values as they are written, at the types of the term that has rules and this name

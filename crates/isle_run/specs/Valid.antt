@@ -7,20 +7,21 @@ use Rattle.isle_core.specs.declared.TermId.{TermId}
 use Rattle.isle_core.specs.declared.TypeId.{TypeId}
 use Rattle.isle_core.specs.declared.files.Files.{Files}
 use Rattle.isle_core.specs.declared.options.CodegenOptions.{CodegenOptions}
+use Rattle.isle_core.specs.declared.types.ReturnKind.{ReturnKind}
 use Rattle.isle_core.specs.declared.types.Term.{Term}
 use Rattle.isle_core.specs.declared.values.Callee.{Callee}
 use Rattle.isle_core.specs.declared.values.Callee.TheVariants as callee
 use Rattle.isle_core.specs.Calling.{kind_of}
 use Rattle.isle_core.specs.HasType.{HasType, HaveTypes}
 use Rattle.isle_core.specs.Lawful.{Fits}
-use Rattle.isle_core.specs.Meaning.{TurnAnswers, Meaning}
+use Rattle.isle_core.specs.Meaning.{PureAnswers, TurnAnswers, Meaning}
 use Rattle.isle_core.specs.Rule.{Environment}
 use Rattle.isle_core.specs.Terms.{sym_text, goes_to}
-use Rattle.isle_core.specs.Value.{Value}
+use Rattle.isle_core.specs.Value.{Value, Answer}
 use Rattle.isle_answers.specs.Form.{Form}
 use Rattle.isle_answers.specs.Spelling.{SpellsForms}
 use Rattle.isle_values.specs.Written.{Writtens}
-use Rattle.isle_simulation.specs.TraitFns.{func_of}
+use Rattle.isle_simulation.specs.TraitFns.{func_of, extracted_of}
 use Rattle.isle_tree.specs.Program.{Function, Program}
 use Rattle.isle_tree.specs.Run.{function_of}
 use Rattle.isle_naming.specs.Occurring.{occurs}
@@ -29,7 +30,7 @@ use Rattle.isle_interpreter.specs.Entries.{has_constant, FitsPlaces}
 use Rattle.isle_places.specs.Places.{StandsAt}
 use Rattle.isle_run_inputs.specs.Requested.{requested_term, constant_type}
 use Rattle.isle_run_inputs.specs.Built.{are_built}
-use Rattle.isle_run_inputs.specs.AnswersAt.{constants_at, turns_at, answers_at}
+use Rattle.isle_run_inputs.specs.AnswersAt.{constants_at, cases_at, turns_at, answers_at}
 use Rattle.isle_codegen.specs.CalledBy.{IsCalledBy}
 use Rattle.isle_codegen.specs.Checked.{IsChecked}
 use Rattle.isle_run.specs.Attempt.{Attempt}
@@ -42,22 +43,51 @@ pub data IsServed (env : Environment) : Callee → Term → Type 0 where
   external : (i : ℕ) (t : Term) (func : Sym) → slice_get env.terms i ≡ Some t → func_of t.kind ≡ Some func → IsServed env (callee.External (sym_text env func)) t
   internal : (name : List ℕ) (id : TermId) (t : Term) → requested_term env name ≡ Some id → slice_get env.terms id.0 ≡ Some t → IsServed env (callee.Internal name) t
 
--- no turns of these are the callee's
+-- what calls of a term's external extractor go to, and how often it answers
+pub data IsExtracted (env : Environment) : Callee → Term → ReturnKind → Type 0 where
+  extractor : (i : ℕ) (t : Term) (func : Sym) (kind : ReturnKind) → slice_get env.terms i ≡ Some t → extracted_of t.kind ≡ Some (func, kind) → IsExtracted env (callee.External (sym_text env func)) t kind
+
+-- no cases of these are the callee's
+abbrev pub HasNoCases : Callee → List PureAnswers → Type 0
+HasNoCases c = AllByRecursion (λ (a : PureAnswers). goes_to c (Some a.callee) ≡ false)
+
+-- no turns of these are
 abbrev pub HasNoTurns : Callee → List TurnAnswers → Type 0
 HasNoTurns c = AllByRecursion (λ (a : TurnAnswers). goes_to c (Some a.callee) ≡ false)
 
--- turns behind these are right: their callee is there, none of these is its, and each answer is of its kind and type
-pub record AreRightTurns (env : Environment) (earlier : List TurnAnswers) (a : TurnAnswers) : Type 0 where
+-- a case of an extractor is right: its argument is of the type that the extractor takes, and its answer of the kind and the type of what
+-- that gives
+abbrev pub IsRightCase : Environment → Term → ReturnKind → List Value × Answer → Type 0
+IsRightCase env t kind c = HaveTypes env c.0 (t.ret_ty ∷ []) × Fits env kind t.arg_tys c.1
+
+-- cases behind these are right: their callee is an extractor that is there, none of these is its, and each case and the rest are so
+pub record AreRightCases (env : Environment) (earlier : List PureAnswers) (a : PureAnswers) : Type 0 where
+  pub term : Term
+  pub kind : ReturnKind
+  pub served : IsExtracted env a.callee term kind
+  pub first : HasNoCases a.callee earlier
+  pub cases : AllByRecursion (IsRightCase env term kind) a.cases
+  pub rest : Fits env kind term.arg_tys a.rest
+
+-- so of each
+abbrev pub AllCasesRight : Environment → (earlier later : List PureAnswers) → Type 0
+AllCasesRight env earlier [] = Unit {0}
+AllCasesRight env earlier (a ∷ more) = AreRightCases env earlier a × AllCasesRight env (earlier ++ a ∷ []) more
+
+-- turns behind these, and beside cases, are right: their callee is there, none of these and no cases are its, and each answer is of its
+-- kind and type
+pub record AreRightTurns (env : Environment) (cases : List PureAnswers) (earlier : List TurnAnswers) (a : TurnAnswers) : Type 0 where
   pub term : Term
   pub served : IsServed env a.callee term
+  pub alone : HasNoCases a.callee cases
   pub first : HasNoTurns a.callee earlier
   pub turns : AllByRecursion (Fits env (kind_of term.kind) (term.ret_ty ∷ [])) a.turns
   pub rest : Fits env (kind_of term.kind) (term.ret_ty ∷ []) a.rest
 
 -- so of each
-abbrev pub AllRight : Environment → (earlier later : List TurnAnswers) → Type 0
-AllRight env earlier [] = Unit {0}
-AllRight env earlier (a ∷ more) = AreRightTurns env earlier a × AllRight env (earlier ++ a ∷ []) more
+abbrev pub AllRight : Environment → List PureAnswers → (earlier later : List TurnAnswers) → Type 0
+AllRight env cases earlier [] = Unit {0}
+AllRight env cases earlier (a ∷ more) = AreRightTurns env cases earlier a × AllRight env cases (earlier ++ a ∷ []) more
 
 -- none of these values is of the constant of this name
 abbrev pub HasNoValue : List ℕ → List (List ℕ × Value) → Type 0
@@ -100,5 +130,6 @@ pub record CanRun (files : Files) (term : List ℕ) (ws : Writtens) (text : List
   pub built : are_built forms ≡ true
   pub constants : AreRightConstants env [] (constants_at env forms)
   pub wanted : (options : CodegenOptions) (p : Program) → Conforms options files env p → AreWanted (record { program = p; env = env; term = term; args = args_given env term ws }) (answers_at env forms)
-  pub right : AllRight env [] (turns_at env forms)
-  pub answered : (c : Callee) → IsCalledBy env id c → HasNoTurns c (turns_at env forms) → ⊥
+  pub extracted : AllCasesRight env [] (cases_at env forms)
+  pub right : AllRight env (cases_at env forms) [] (turns_at env forms)
+  pub answered : (c : Callee) → IsCalledBy env id c → HasNoCases c (cases_at env forms) → HasNoTurns c (turns_at env forms) → ⊥

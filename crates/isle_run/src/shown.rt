@@ -2,11 +2,11 @@
 
 ghost use Rattle.std.specs.Prelude.{◌≡◌, ◌++◌, [], IfOk, OnOk, is_some, if◌then◌else◌, map};
 ghost use Rattle.std.specs.String.{string_bytes};
+ghost use Rattle.isle_core.specs.Terms.{impure_calls};
 ghost use Rattle.isle_core.specs.RuleViews.{environment};
 ghost use Rattle.isle_core.specs.ValueViews.{made, ran};
 ghost use Rattle.isle_run_inputs.specs.AnswerTypes.{OfTypes};
 ghost use Rattle.isle_run_inputs.specs.Requested.{answer_type};
-ghost use Rattle.isle_codegen.specs.Headline.{impure_calls};
 ghost use Rattle.isle_outcomes.specs.Lines.{call_line, call_lines, run_lines};
 ghost use Rattle.isle_run.specs.Trial.{shown_run};
 

@@ -7,8 +7,9 @@ mod InFields
 mod AllSeen
 mod FindTypes
 mod FindConstants
+mod FindExtractors
 mod Counted
 mod Rest
 mod FirstNamed
-mod Turns
+mod FormSteps
 pub mod KindPlaces

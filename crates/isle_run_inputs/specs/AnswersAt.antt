@@ -1,13 +1,16 @@
 -- The answers that forms give.
-use Rattle.std.specs.Prelude.{ℕ, List, [], ◌∷◌, map, Option}
+use Rattle.std.specs.Prelude.{ℕ, List, [], ◌∷◌, map, Option, Some, None}
 use Rattle.isle_core.specs.declared.TypeId.{TypeId}
+use Rattle.isle_core.specs.declared.types.Term.{Term}
+use Rattle.isle_core.specs.declared.values.Callee.{Callee}
 use Rattle.isle_core.specs.Rule.{Environment}
 use Rattle.isle_core.specs.Value.{Answer}
 use Rattle.isle_core.specs.Value as value
-use Rattle.isle_core.specs.Meaning.{TurnAnswers, Meaning}
-use Rattle.isle_answers.specs.Form.{ResultForm, One, Tuple, AnswerForm, Plain, Found, Nothing, Several, Form, Held, Max, Const, Answers, Turns}
-use Rattle.isle_run_inputs.specs.ValuesAt.{value_at_any}
-use Rattle.isle_run_inputs.specs.Requested.{answer_type, constant_type}
+use Rattle.isle_core.specs.Meaning.{PureAnswers, TurnAnswers, Meaning}
+use Rattle.isle_answers.specs.Form.{ResultForm, One, Tuple, AnswerForm, Plain, Found, Nothing, Several, CaseForm, Form, Held, Max, Const, Answers, Turns}
+use Rattle.isle_values.specs.Views.{in_order}
+use Rattle.isle_run_inputs.specs.ValuesAt.{value_at_any, values_at}
+use Rattle.isle_run_inputs.specs.Requested.{answer_type, extractor_term, given_type, constant_type}
 
 -- a result at the type of what its callee answers
 abbrev pub result_at : Environment → Option TypeId → ResultForm → List value.Value
@@ -21,15 +24,43 @@ answer_at env ty (Found r) = value.Found (result_at env ty r)
 answer_at env ty Nothing = value.Nothing
 answer_at env ty (Several rs) = value.Several []
 
--- the turns of a form that is built
+-- an answer that fits no function, and so is refused where it stands: it is one of several items, and no function gives those
+abbrev pub unfit : Answer
+unfit = value.Several []
+
+-- turns of a callee whose calls are answered with a value of this type; where it is that of no impure term, they fit no function, so that
+-- the form is refused whatever it says
+abbrev pub turns_by : Environment → Option TypeId → Callee → List AnswerForm → (rest : AnswerForm) → TurnAnswers
+turns_by env None callee turns rest = record { callee = callee; turns = []; rest = unfit }
+turns_by env (Some ty) callee turns rest = record { callee = callee; turns = map (answer_at env (Some ty)) turns; rest = answer_at env (Some ty) rest }
+
+-- the turns of forms that are built
 abbrev pub turns_at : Environment → List Form → List TurnAnswers
 turns_at env [] = []
-turns_at env (Turns callee turns rest at ∷ forms) =
-    record { callee = callee; turns = map (answer_at env (answer_type env callee)) turns; rest = answer_at env (answer_type env callee) rest } ∷ turns_at env forms
+turns_at env (Turns callee turns rest at ∷ forms) = turns_by env (answer_type env callee) callee turns rest ∷ turns_at env forms
 turns_at env (Held count at ∷ forms) = turns_at env forms
 turns_at env (Max count at ∷ forms) = turns_at env forms
 turns_at env (Const name v at ∷ forms) = turns_at env forms
 turns_at env (Answers callee cases rest at ∷ forms) = turns_at env forms
+
+-- a case of the extractor of a term: its argument at what the term gives, and its answer at what the term takes
+abbrev pub case_at : Environment → Term → CaseForm → List value.Value × Answer
+case_at env t c = (values_at env (t.ret_ty ∷ []) (in_order c.args), answer_at env (given_type t) c.answer)
+
+-- cases of a callee to which calls of the term's extractor go; where it is that of no extractor, they fit no function, so that the form is
+-- refused whatever it says
+abbrev pub cases_by : Environment → Option Term → Callee → List CaseForm → (rest : AnswerForm) → PureAnswers
+cases_by env None callee cases rest = record { callee = callee; cases = []; rest = unfit }
+cases_by env (Some t) callee cases rest = record { callee = callee; cases = map (case_at env t) cases; rest = answer_at env (given_type t) rest }
+
+-- the cases of forms that are built
+abbrev pub cases_at : Environment → List Form → List PureAnswers
+cases_at env [] = []
+cases_at env (Answers callee cases rest at ∷ forms) = cases_by env (extractor_term env callee) callee cases rest ∷ cases_at env forms
+cases_at env (Held count at ∷ forms) = cases_at env forms
+cases_at env (Max count at ∷ forms) = cases_at env forms
+cases_at env (Const name v at ∷ forms) = cases_at env forms
+cases_at env (Turns callee turns rest at ∷ forms) = cases_at env forms
 
 -- the values that forms give constants, each at the type of its constant
 abbrev pub constants_at : Environment → List Form → List (List ℕ × value.Value)
@@ -42,4 +73,4 @@ constants_at env (Turns callee turns rest at ∷ forms) = constants_at env forms
 
 -- the answers of forms that are built: nothing is held at entry, and a hundred results are the limit
 abbrev pub answers_at : Environment → List Form → Meaning
-answers_at env forms = record { consts = constants_at env forms; pure = []; turns = turns_at env forms; held = 0; max_returns = 100 }
+answers_at env forms = record { consts = constants_at env forms; pure = cases_at env forms; turns = turns_at env forms; held = 0; max_returns = 100 }

@@ -1,7 +1,7 @@
 -- Which forms are built.
 use Rattle.std.specs.Prelude.{List, Bool, true, false, ◌&&◌}
 use Rattle.std.specs.List.{list_all}
-use Rattle.isle_answers.specs.Form.{ResultForm, One, Tuple, AnswerForm, Plain, Found, Nothing, Several, Form, Held, Max, Const, Answers, Turns}
+use Rattle.isle_answers.specs.Form.{ResultForm, One, Tuple, AnswerForm, Plain, Found, Nothing, Several, CaseForm, Form, Held, Max, Const, Answers, Turns}
 
 -- a result that is built: one value
 abbrev pub is_built_result : ResultForm → Bool
@@ -15,13 +15,17 @@ is_built_answer (Found r) = is_built_result r
 is_built_answer Nothing = true
 is_built_answer (Several rs) = false
 
--- a form that is built: turns, and the value of a constant
+-- a case that is built
+abbrev pub is_built_case : CaseForm → Bool
+is_built_case c = is_built_answer c.answer
+
+-- a form that is built: cases, turns, and the value of a constant
 abbrev pub is_built : Form → Bool
 is_built (Turns callee turns rest at) = list_all is_built_answer turns && is_built_answer rest
 is_built (Held count at) = false
 is_built (Max count at) = false
 is_built (Const name v at) = true
-is_built (Answers callee cases rest at) = false
+is_built (Answers callee cases rest at) = list_all is_built_case cases && is_built_answer rest
 
 -- all of them are
 abbrev pub are_built : List Form → Bool

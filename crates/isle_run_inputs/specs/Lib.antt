@@ -6,6 +6,7 @@ pub mod Requested
 pub mod Built
 pub mod AnswersAt
 pub mod AnswerTypes
+pub mod Extractors
 pub mod ConstantTypes
 pub mod Called
 pub mod Places

@@ -1,11 +1,14 @@
 //! What users give a run: written values and answers, at the types of an environment.
 #![tactic(auto)]
 
+mod answer;
 mod answer_types;
 mod answers;
 mod built;
+mod cases;
 mod constant_types;
 mod constants;
+mod extractors;
 mod field;
 mod made_value;
 mod maker;
@@ -14,6 +17,7 @@ mod number;
 mod places;
 mod requested;
 mod simple_value;
+mod turns;
 mod value;
 mod values;
 

@@ -12,8 +12,8 @@ use isle_core::{OutOfMemory, TypeEnv, TypeId, Value};
 use isle_values::Written;
 use std::alloc::{AllocError, Global};
 
-// Written values in order, each at its type.
-fn each_at(
+/// Returns written values in order, each at its type.
+pub fn each_at(
     alloc: Global,
     makers: &Makers<'_>,
     tys: &[TypeId],

@@ -1,7 +1,7 @@
 use Rattle.std.proofs.Common.{◌≡◌, ◌++◌, drop, map, string_bytes}
+use Rattle.isle_core.specs.Terms.{impure_calls}
 use Rattle.isle_core.specs.Rule.{Environment}
 use Rattle.isle_core.specs.ValueViews.{made}
-use Rattle.isle_codegen.specs.Headline.{impure_calls}
 use Rattle.isle_outcomes.specs.Lines.{call_lines}
 use Rattle.isle_run.proofs.shown.push_calls.Given as goal
 

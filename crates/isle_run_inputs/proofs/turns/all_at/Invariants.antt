@@ -4,7 +4,7 @@ use Rattle.isle_answers.specs.declared.form.AnswerForm.{AnswerForm}
 use Rattle.isle_answers.specs.Views.{answer_seen}
 use Rattle.isle_core.specs.Rule.{Environment}
 use Rattle.isle_run_inputs.specs.AnswersAt.{answer_at}
-use Rattle.isle_run_inputs.proofs.answers.all_at.Given as goal
+use Rattle.isle_run_inputs.proofs.turns.all_at.Given as goal
 
 abbrev pub invariant-loop-form : goal.invariant-loop-form
 invariant-loop-form l =

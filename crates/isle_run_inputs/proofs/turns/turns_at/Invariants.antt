@@ -3,7 +3,7 @@ use Rattle.isle_core.specs.ValueViews.{turn_answers}
 use Rattle.isle_core.specs.RuleViews.{environment}
 use Rattle.isle_answers.specs.Views.{forms_seen}
 use Rattle.isle_run_inputs.specs.AnswersAt.{turns_at}
-use Rattle.isle_run_inputs.proofs.answers.all_turns.Given as goal
+use Rattle.isle_run_inputs.proofs.turns.turns_at.Given as goal
 
 abbrev pub invariant-loop-form : goal.invariant-loop-form
 invariant-loop-form l =
