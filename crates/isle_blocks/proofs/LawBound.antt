@@ -12,7 +12,7 @@ use Rattle.isle_core.specs.declared.types.Term.{Term}
 use Rattle.isle_core.specs.Bindable.{IsBindable, IsCallBound, IsInnerBound, AreBindable, bound_by}
 use Rattle.isle_core.specs.Calling.{calling, may_be_nothing}
 use Rattle.isle_core.specs.ExternalCall.{IsCall}
-use Rattle.isle_core.specs.Path.{Path, Called, Extracted, Inner, VariantField, StructField, MadeVariant, MadeStruct, Paths, NoPath, APath, at, at_all, paths_of}
+use Rattle.isle_core.specs.Path.{Path, Called, Extracted, Inner, VariantField, StructField, MadeVariant, MadeStruct, Part, Paths, NoPath, APath, at, at_all, paths_of}
 use Rattle.isle_core.specs.PathType.{IsOptionOf, ArePathsOf}
 use Rattle.isle_core.specs.Readable.{AreReadable, none_read, one_read, AreReadAs}
 use Rattle.isle_core.specs.Rule.{Environment}
@@ -72,12 +72,12 @@ inner_bound : (env : Environment) (t : Term) (bs : List Binding) (tests : List T
     → slice_get bs b.0 ≡ Some (binding.MatchSome c) → at (paths_of bs) b ≡ Inner (at (paths_of bs) c) → Contains bound c.0 → IsBindable (setting env t bs) bound (at (paths_of bs) b) (slice_get bs b.0)
 inner_bound env t bs tests done bound c b h is there path k =
     let external : IsCall return_kind.Option (calling env h.term) = subst (λ x. IsCall x (calling env h.term)) (option_kind h.kind is) h.external in
-    let typed : IsSomeAnd (slice_get env.terms h.term.0) (λ (x : Term). (x.ret_ty ≡ h.called.ret_ty) × ArePathsOf env t h.parameters x.arg_tys) =
-    subst (λ o. IsSomeAnd o (λ (x : Term). (x.ret_ty ≡ h.called.ret_ty) × ArePathsOf env t h.parameters x.arg_tys)) (sym h.found) (refl, h.args) in
+    let typed : IsSomeAnd (slice_get env.terms h.term.0) (λ (x : Term). (x.ret_ty ∷ [] ≡ h.called.ret_ty ∷ []) × ArePathsOf env t h.parameters x.arg_tys) =
+    subst (λ o. IsSomeAnd o (λ (x : Term). (x.ret_ty ∷ [] ≡ h.called.ret_ty ∷ []) × ArePathsOf env t h.parameters x.arg_tys)) (sym h.found) (refl, h.args) in
     let bound_inner : IsInnerBound (setting env t bs) bound (at (paths_of bs) b) c = record {
       path = path;
-      ty = h.called.ret_ty;
-      option = subst (λ q. IsOptionOf env t q h.called.ret_ty) (sym h.path) (external, typed);
+      tys = h.called.ret_ty ∷ [];
+      option = subst (λ q. IsOptionOf env t q (h.called.ret_ty ∷ [])) (sym h.path) (external, typed);
       bound' = k;
       fits = h.fits is;
     } in
@@ -107,6 +107,7 @@ mutual
   pub stands_more : (tests : List Test) (done more : List Path) → ((p : Path) → Contains done p → Contains more p) → (p : Path) → StandsOn tests done p → StandsOn tests more p
   stands_more tests done more h (Called term ps instance) s = h (Called term ps instance) s
   stands_more tests done more h (Extracted term p) s = stands_more tests done more h p s
+  stands_more tests done more h (Part part p) s = stands_more tests done more h p s
   stands_more tests done more h (Inner p) s = within_more tests done more h p s
   stands_more tests done more h (VariantField variant field p) s = s
   stands_more tests done more h (StructField field p) s = s

@@ -78,12 +78,11 @@ still_bindable s bound more p (Some (binding.Extractor term parameter)) h k = re
   called = k.called;
   found = k.found;
   arg = still_read_as s bound more parameter k.called.ret_ty h k.arg;
-  result = k.result;
-  one = k.one;
   kind = k.kind;
   external = k.external;
 }
-still_bindable s bound more p (Some (binding.MatchSome source)) h k = record { path = k.path; ty = k.ty; option = k.option; bound' = h source.0 k.bound'; fits = k.fits }
+still_bindable s bound more p (Some (binding.MatchSome source)) h k = record { path = k.path; tys = k.tys; option = k.option; bound' = h source.0 k.bound'; fits = k.fits }
+still_bindable s bound more p (Some (binding.MatchTuple source field)) h k = record { path = k.path; tys = k.tys; tuple = k.tuple; ty = k.ty; there = k.there; bound' = h source.0 k.bound' }
 still_bindable s bound more p (Some (binding.MakeVariant ty variant fields)) h k = record { ty = k.ty; path = k.path; parts = all_still_read s bound more h k.parts }
 still_bindable s bound more p (Some (binding.MakeStruct ty fields)) h k = record { ty = k.ty; path = k.path; parts = all_still_read s bound more h k.parts }
 still_bindable s bound more p (Some (binding.Argument index)) h k = k

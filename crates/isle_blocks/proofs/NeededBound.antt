@@ -8,25 +8,26 @@ use Rattle.std.proofs.lemmas.List.Elements.{Contains-push}
 use Rattle.std.proofs.lemmas.Option.{slice_get_within}
 use Rattle.isle_core.specs.declared.BindingId.{BindingId}
 use Rattle.isle_core.specs.declared.TermId.{TermId}
+use Rattle.isle_core.specs.declared.TupleIndex.{TupleIndex}
 use Rattle.isle_core.specs.declared.TypeId.{TypeId}
 use Rattle.isle_core.specs.declared.rule_sets.Binding.{Binding}
 use Rattle.isle_core.specs.declared.rule_sets.Binding.TheVariants as binding
 use Rattle.isle_core.specs.declared.types.ReturnKind.{ReturnKind}
 use Rattle.isle_core.specs.declared.types.ReturnKind.TheVariants as return_kind
 use Rattle.isle_core.specs.declared.types.Term.{Term}
-use Rattle.isle_core.specs.Bindable.{IsBindable, IsExtractorBound, AreBindable, bound_by}
+use Rattle.isle_core.specs.Bindable.{IsBindable, IsExtractorBound, IsPartBound, AreBindable, bound_by}
 use Rattle.isle_core.specs.Calling.{extracting}
 use Rattle.isle_core.specs.ExternalCall.{IsExtraction}
 use Rattle.isle_core.specs.Form.{Form, form, form_types}
 use Rattle.isle_core.specs.Making.{MakesVariant, MakesStruct}
-use Rattle.isle_core.specs.Path.{Path, Nowhere, Called, Extracted, Inner, Paths, at, at_all, path_over, paths_of}
-use Rattle.isle_core.specs.PathType.{IsPathOf, IsOptionOf, ArePathsOf}
+use Rattle.isle_core.specs.Path.{Path, Nowhere, Called, Extracted, Inner, Part, Paths, at, at_all, path_over, paths_of}
+use Rattle.isle_core.specs.PathType.{IsPathOf, IsTupleOf, IsOptionOf, ArePathsOf}
 use Rattle.isle_core.specs.Readable.{IsReadable, is_bound as bound_read, argument, truth, number, named, made_struct, AreReadable, none_read, one_read}
 use Rattle.isle_core.specs.Rule.{Environment}
 use Rattle.isle_core.specs.Serializable.{StandsOn, AllStandOn, StandsWithin}
 use Rattle.isle_core.specs.Setting.{Setting, setting}
 use Rattle.isle_core.specs.Tests.{Test}
-use Rattle.isle_core.proofs.BindingPaths.{IsThere, AreThere, HasParts, at_before, path_at, binding_at, path_there, paths_there, option_there, typed_parts, option_parts}
+use Rattle.isle_core.proofs.BindingPaths.{IsThere, AreThere, HasParts, at_before, path_at, binding_at, path_there, paths_there, option_there, tuple_there, typed_parts, option_parts, tuple_parts}
 use Rattle.isle_blocks.specs.Needed.{parts_of, is_bound, each_needed, with_parts, needed, needs}
 use Rattle.isle_blocks.proofs.Behind.{IsBehind, behind_grows}
 use Rattle.isle_blocks.proofs.MoreBound.{by_kept, still_read, bindable_append}
@@ -84,13 +85,17 @@ bound_is_read s bound b order h = record { binds = h.binds; read = bound_read b 
 pub first_read : {b : BindingId} {more : List BindingId} (s : Setting) (bound : List ℕ) → AreReadable s bound (b ∷ more) → IsReadable s bound b
 first_read s bound (one_read b more r rs) = r
 
+-- what it needs, and then it itself
+then_binds : (s : Setting) (bound : List ℕ) (b : BindingId) (order : List BindingId) → AreBindable s bound order → IsBindable s (bound_by bound order) (at (paths_of s.bindings) b) (slice_get s.bindings b.0) → BindsOne s bound b (order ++ b ∷ [])
+then_binds s bound b order h k = record {
+  binds = bindable_append s order (b ∷ []) bound h (k, tt);
+  there = subst (λ m. Contains m b.0) (sym (bound_append bound order (b ∷ []))) (Contains-push (bound_by bound order) b.0);
+}
+
 -- its parts, and then it itself
 made_binds : (s : Setting) (bound : List ℕ) (b : BindingId) (parts order : List BindingId) → ReadsAll s bound parts order
     → (AreReadable s (bound_by bound order) parts → IsBindable s (bound_by bound order) (at (paths_of s.bindings) b) (slice_get s.bindings b.0)) → BindsOne s bound b (order ++ b ∷ [])
-made_binds s bound b parts order h k = record {
-  binds = bindable_append s order (b ∷ []) bound h.binds (k h.read, tt);
-  there = subst (λ m. Contains m b.0) (sym (bound_append bound order (b ∷ []))) (Contains-push (bound_by bound order) b.0);
-}
+made_binds s bound b parts order h k = then_binds s bound b order h.binds (k h.read)
 
 -- what may be read already needs nothing
 read_already : (s : Setting) (bound : List ℕ) (b : BindingId) (o : Option Binding) (one : List ℕ → BindingId → List BindingId) → slice_get s.bindings b.0 ≡ o → parts_of o ≡ None → IsReadable s bound b
@@ -109,6 +114,10 @@ module _ (env : Environment) (t : Term) (bs : List Binding) (tests : List Test) 
   abbrev MakesRead : ℕ → (List ℕ → BindingId → List BindingId) → Type 0
   MakesRead depth one = (bound : List ℕ) (b : BindingId) (ty : TypeId) → IsBehind (paths_of bs) tests done bound → IsPathOf env t (at (paths_of bs) b) ty → StandsOn tests done (at (paths_of bs) b) → b.0 < depth → ReadsOne (setting env t bs) bound b (one bound b)
 
+  -- what binds a tuple that stands on them
+  abbrev MakesTuple : ℕ → (List ℕ → BindingId → List BindingId) → Type 0
+  MakesTuple depth one = (bound : List ℕ) (b : BindingId) (tys : List TypeId) → IsBehind (paths_of bs) tests done bound → IsTupleOf env t (at (paths_of bs) b) tys → StandsOn tests done (at (paths_of bs) b) → b.0 < depth → BindsOne (setting env t bs) bound b (one bound b)
+
   each_read : (depth : ℕ) (one : List ℕ → BindingId → List BindingId) (bound : List ℕ) (reads : List BindingId) (tys : List TypeId) → MakesRead depth one → IsBehind (paths_of bs) tests done bound
       → ArePathsOf env t (at_all (paths_of bs) reads) tys → AllStandOn tests done (at_all (paths_of bs) reads) → AllByRecursion (λ (b : BindingId). b.0 < depth) reads → ReadsAll (setting env t bs) bound reads (each_needed one bound reads)
   each_read depth one bound [] tys ok k h st below = record { binds = tt; read = none_read }
@@ -126,19 +135,31 @@ module _ (env : Environment) (t : Term) (bs : List Binding) (tests : List Test) 
       }
 
   -- the answer of an extractor
-  extracted_binds : (depth : ℕ) (bound : List ℕ) (b : BindingId) (term : TermId) (parameter : BindingId) (kind : ReturnKind) (ty : TypeId) (o : Option Term) → MakesRead depth (needed bs depth) → IsBehind (paths_of bs) tests done bound
+  extracted_binds : (depth : ℕ) (bound : List ℕ) (b : BindingId) (term : TermId) (parameter : BindingId) (kind : ReturnKind) (tys : List TypeId) (o : Option Term) → MakesRead depth (needed bs depth) → IsBehind (paths_of bs) tests done bound
       → slice_get bs b.0 ≡ Some (binding.Extractor term parameter) → at (paths_of bs) b ≡ Extracted term (at (paths_of bs) parameter) → IsExtraction kind (extracting env term) → slice_get env.terms term.0 ≡ o
-      → IsSomeAnd o (λ (c : Term). (c.arg_tys ≡ ty ∷ []) × IsPathOf env t (at (paths_of bs) parameter) c.ret_ty) → StandsOn tests done (at (paths_of bs) parameter) → parameter.0 < depth
+      → IsSomeAnd o (λ (c : Term). (c.arg_tys ≡ tys) × IsPathOf env t (at (paths_of bs) parameter) c.ret_ty) → StandsOn tests done (at (paths_of bs) parameter) → parameter.0 < depth
       → BindsOne (setting env t bs) bound b (with_parts (needed bs depth) bound b (parts_of (slice_get bs b.0)))
-  extracted_binds depth bound b term parameter kind ty None ok k e p ext found h st below = absurd h
-  extracted_binds depth bound b term parameter kind ty (Some c) ok k e p ext found h st below =
+  extracted_binds depth bound b term parameter kind tys None ok k e p ext found h st below = absurd h
+  extracted_binds depth bound b term parameter kind tys (Some c) ok k e p ext found h st below =
       let s = setting env t bs in
       let order = each_needed (needed bs depth) bound (parameter ∷ []) in
       let r = each_read depth (needed bs depth) bound (parameter ∷ []) (c.ret_ty ∷ []) ok k (h.1, tt) (st, tt) (below, tt) in
       let call : AreReadable s (bound_by bound order) (parameter ∷ []) → IsExtractorBound s (bound_by bound order) (at (paths_of bs) b) term parameter =
-      λ read. record { path = p; called = c; found = found; arg = record { path = h.1; read = first_read s (bound_by bound order) read }; result = ty; one = h.0; kind = kind; external = ext } in
+      λ read. record { path = p; called = c; found = found; arg = record { path = h.1; read = first_read s (bound_by bound order) read }; kind = kind; external = ext } in
       subst (λ q. BindsOne s bound b (with_parts (needed bs depth) bound b q)) (sym (ap parts_of e))
       (made_binds s bound b (parameter ∷ []) order r (λ read. subst (IsBindable s (bound_by bound order) (at (paths_of bs) b)) (sym e) (call read)))
+
+  -- a part of a tuple
+  part_binds : (depth : ℕ) (bound : List ℕ) (b source : BindingId) (field : TupleIndex) (ty : TypeId) → MakesTuple depth (needed bs depth) → IsBehind (paths_of bs) tests done bound
+      → slice_get bs b.0 ≡ Some (binding.MatchTuple source field) → at (paths_of bs) b ≡ Part field.0 (at (paths_of bs) source) → IsPathOf env t (Part field.0 (at (paths_of bs) source)) ty
+      → StandsOn tests done (at (paths_of bs) source) → source.0 < depth → BindsOne (setting env t bs) bound b (with_parts (needed bs depth) bound b (parts_of (slice_get bs b.0)))
+  part_binds depth bound b source field ty ok k e p h st below =
+      let s = setting env t bs in
+      let order = each_needed (needed bs depth) bound (source ∷ []) in
+      let r = subst (BindsOne s bound source) (sym (append-nil (needed bs depth bound source))) (ok bound source h.0 k h.1 st below) in
+      let part : IsPartBound s (bound_by bound order) (at (paths_of bs) b) source field = record { path = p; tys = h.0; tuple = h.1; ty = ty; there = h.2; bound' = r.there } in
+      subst (λ q. BindsOne s bound b (with_parts (needed bs depth) bound b q)) (sym (ap parts_of e))
+      (then_binds s bound b order r.binds (subst (IsBindable s (bound_by bound order) (at (paths_of bs) b)) (sym e) part))
 
   -- a made value over parts
   parts_binds : (depth : ℕ) (bound : List ℕ) (b : BindingId) (x : Binding) (fields : List BindingId) (tys : List TypeId) → MakesRead depth (needed bs depth) → IsBehind (paths_of bs) tests done bound → slice_get bs b.0 ≡ Some x → parts_of (Some x) ≡ Some fields
@@ -152,85 +173,112 @@ module _ (env : Environment) (t : Term) (bs : List Binding) (tests : List Test) 
       (bound_is_read s bound b (order ++ b ∷ []) (made_binds s bound b fields order r (λ read. subst (IsBindable s (bound_by bound order) (at (paths_of bs) b)) (sym e) (made (bound_by bound order) read))))
 
   -- an inner value is bound
-  inner_bound : (bound : List ℕ) (b : BindingId) (q : Path) (ty : TypeId) → IsBehind (paths_of bs) tests done bound → at (paths_of bs) b ≡ Inner q → IsOptionOf env t q ty → StandsWithin tests done q → Contains bound b.0
-  inner_bound bound b (Called term ps instance) ty k p h st = k.inner b (Called term ps instance) p st
-  inner_bound bound b (Extracted term q) ty k p h st = k.opened b (Extracted term q) p st
-  inner_bound bound b q ty k p h st = absurd h
+  inner_bound : (bound : List ℕ) (b : BindingId) (q : Path) (tys : List TypeId) → IsBehind (paths_of bs) tests done bound → at (paths_of bs) b ≡ Inner q → IsOptionOf env t q tys → StandsWithin tests done q → Contains bound b.0
+  inner_bound bound b (Called term ps instance) tys k p h st = k.inner b (Called term ps instance) p st
+  inner_bound bound b (Extracted term q) tys k p h st = k.opened b (Extracted term q) p st
+  inner_bound bound b q tys k p h st = absurd h
 
   -- one that is not bound yet
-  unbound_read : (depth : ℕ) (bound : List ℕ) (b : BindingId) (ty : TypeId) (x : Binding) → MakesRead depth (needed bs depth) → IsBehind (paths_of bs) tests done bound → slice_get bs b.0 ≡ Some x → at (paths_of bs) b ≡ path_over (paths_of bs) x
+  unbound_read : (depth : ℕ) (bound : List ℕ) (b : BindingId) (ty : TypeId) (x : Binding) → MakesRead depth (needed bs depth) → MakesTuple depth (needed bs depth) → IsBehind (paths_of bs) tests done bound → slice_get bs b.0 ≡ Some x → at (paths_of bs) b ≡ path_over (paths_of bs) x
       → HasParts (path_over (take b.0 (paths_of bs)) x) → IsPathOf env t (at (paths_of bs) b) ty → IsPathOf env t (path_over (paths_of bs) x) ty → StandsOn tests done (path_over (paths_of bs) x) → b.0 < suc depth
       → ReadsOne (setting env t bs) bound b (with_parts (needed bs depth) bound b (parts_of (slice_get bs b.0)))
-  unbound_read depth bound b ty (binding.Argument index) ok k e p there typed h st lt = read_already (setting env t bs) bound b (Some (binding.Argument index)) (needed bs depth) e refl (argument b index e)
-  unbound_read depth bound b ty (binding.ConstBool val of) ok k e p there typed h st lt = read_already (setting env t bs) bound b (Some (binding.ConstBool val of)) (needed bs depth) e refl (truth b val of e)
-  unbound_read depth bound b ty (binding.ConstInt val of) ok k e p there typed h st lt = read_already (setting env t bs) bound b (Some (binding.ConstInt val of)) (needed bs depth) e refl (number b val of e)
-  unbound_read depth bound b ty (binding.ConstPrim val) ok k e p there typed h st lt = read_already (setting env t bs) bound b (Some (binding.ConstPrim val)) (needed bs depth) e refl (named b val e)
-  unbound_read depth bound b ty (binding.Constructor term parameters instance) ok k e p there typed h st lt =
+  unbound_read depth bound b ty (binding.Argument index) ok tuple k e p there typed h st lt = read_already (setting env t bs) bound b (Some (binding.Argument index)) (needed bs depth) e refl (argument b index e)
+  unbound_read depth bound b ty (binding.ConstBool val of) ok tuple k e p there typed h st lt = read_already (setting env t bs) bound b (Some (binding.ConstBool val of)) (needed bs depth) e refl (truth b val of e)
+  unbound_read depth bound b ty (binding.ConstInt val of) ok tuple k e p there typed h st lt = read_already (setting env t bs) bound b (Some (binding.ConstInt val of)) (needed bs depth) e refl (number b val of e)
+  unbound_read depth bound b ty (binding.ConstPrim val) ok tuple k e p there typed h st lt = read_already (setting env t bs) bound b (Some (binding.ConstPrim val)) (needed bs depth) e refl (named b val e)
+  unbound_read depth bound b ty (binding.Constructor term parameters instance) ok tuple k e p there typed h st lt =
       read_already (setting env t bs) bound b (Some (binding.Constructor term parameters instance)) (needed bs depth) e refl (bound_read b (k.call b (subst (Contains done) (sym p) st)))
-  unbound_read depth bound b ty (binding.MatchSome source) ok k e p there typed h st lt =
-      read_already (setting env t bs) bound b (Some (binding.MatchSome source)) (needed bs depth) e refl (bound_read b (inner_bound bound b (at (paths_of bs) source) ty k p h st))
-  unbound_read depth bound b ty (binding.MatchVariant source variant field) ok k e p there typed h st lt =
+  unbound_read depth bound b ty (binding.MatchSome source) ok tuple k e p there typed h st lt =
+      read_already (setting env t bs) bound b (Some (binding.MatchSome source)) (needed bs depth) e refl (bound_read b (inner_bound bound b (at (paths_of bs) source) (ty ∷ []) k p h st))
+  unbound_read depth bound b ty (binding.MatchVariant source variant field) ok tuple k e p there typed h st lt =
       read_already (setting env t bs) bound b (Some (binding.MatchVariant source variant field)) (needed bs depth) e refl (bound_read b (k.variant b st.0 variant field.0 (at (paths_of bs) source) p st.1))
-  unbound_read depth bound b ty (binding.ExtractStruct source field) ok k e p there typed h st lt =
+  unbound_read depth bound b ty (binding.ExtractStruct source field) ok tuple k e p there typed h st lt =
       read_already (setting env t bs) bound b (Some (binding.ExtractStruct source field)) (needed bs depth) e refl (bound_read b (k.struct b st.0 field.0 (at (paths_of bs) source) p st.1))
-  unbound_read depth bound b ty (binding.Extractor term parameter) ok k e p there typed h st lt =
+  unbound_read depth bound b ty (binding.Extractor term parameter) ok tuple k e p there typed h st lt =
       let below = below_there (paths_of bs) b.0 parameter.0 there in
       bound_is_read (setting env t bs) bound b (with_parts (needed bs depth) bound b (parts_of (slice_get bs b.0)))
-      (extracted_binds depth bound b term parameter return_kind.Plain ty (slice_get env.terms term.0) ok k e p h.0 refl h.1 st (omega (arith, below, lt)))
-  unbound_read depth bound b ty (binding.MakeVariant of variant fields) ok k e p there typed h st lt =
+      (extracted_binds depth bound b term parameter return_kind.Plain (ty ∷ []) (slice_get env.terms term.0) ok k e p h.0 refl h.1 st (omega (arith, below, lt)))
+  unbound_read depth bound b ty (binding.MakeVariant of variant fields) ok tuple k e p there typed h st lt =
       let parts = parts_typed env t (form env (MakesVariant of variant)) (at_all (paths_of bs) fields) h.1 in
       parts_binds depth bound b (binding.MakeVariant of variant fields) fields parts.0 ok k e refl parts.1 st (all_below (paths_of bs) b.0 depth fields lt there) (λ more read. record { ty = ty; path = typed; parts = read })
-  unbound_read depth bound b ty (binding.MakeStruct of []) ok k e p there typed h st lt = read_already (setting env t bs) bound b (Some (binding.MakeStruct of [])) (needed bs depth) e refl (made_struct b of [] e none_read)
-  unbound_read depth bound b ty (binding.MakeStruct of (f ∷ fs)) ok k e p there typed h st lt =
+  unbound_read depth bound b ty (binding.MakeStruct of []) ok tuple k e p there typed h st lt = read_already (setting env t bs) bound b (Some (binding.MakeStruct of [])) (needed bs depth) e refl (made_struct b of [] e none_read)
+  unbound_read depth bound b ty (binding.MakeStruct of (f ∷ fs)) ok tuple k e p there typed h st lt =
       let parts = parts_typed env t (form env (MakesStruct of)) (at_all (paths_of bs) (f ∷ fs)) h.1 in
       parts_binds depth bound b (binding.MakeStruct of (f ∷ fs)) (f ∷ fs) parts.0 ok k e refl parts.1 st (all_below (paths_of bs) b.0 depth (f ∷ fs) lt there) (λ more read. record { ty = ty; path = typed; parts = read })
-  unbound_read depth bound b ty (binding.Iterator source) ok k e p there typed h st lt = absurd h
-  unbound_read depth bound b ty (binding.MakeSome inner) ok k e p there typed h st lt = absurd h
-  unbound_read depth bound b ty (binding.MatchTuple source field) ok k e p there typed h st lt = absurd h
+  unbound_read depth bound b ty (binding.Iterator source) ok tuple k e p there typed h st lt = absurd h
+  unbound_read depth bound b ty (binding.MakeSome inner) ok tuple k e p there typed h st lt = absurd h
+  unbound_read depth bound b ty (binding.MatchTuple source field) ok tuple k e p there typed h st lt =
+      let below = below_there (paths_of bs) b.0 source.0 there in
+      bound_is_read (setting env t bs) bound b (with_parts (needed bs depth) bound b (parts_of (slice_get bs b.0))) (part_binds depth bound b source field ty tuple k e p h st (omega (arith, below, lt)))
 
-  needed_read : (depth : ℕ) → MakesRead depth (needed bs depth)
-  needed_read zero bound b ty k h st lt = absurd (omega (arith, lt))
-  needed_read (suc depth) bound b ty k h st lt = one (is_bound bound b) refl (needed_read depth)
+  -- a tuple that is not bound yet
+  unbound_tuple : (depth : ℕ) (bound : List ℕ) (b : BindingId) (tys : List TypeId) (x : Binding) → MakesRead depth (needed bs depth) → IsBehind (paths_of bs) tests done bound → slice_get bs b.0 ≡ Some x → at (paths_of bs) b ≡ path_over (paths_of bs) x
+      → HasParts (path_over (take b.0 (paths_of bs)) x) → IsTupleOf env t (path_over (paths_of bs) x) tys → StandsOn tests done (path_over (paths_of bs) x) → b.0 < suc depth
+      → BindsOne (setting env t bs) bound b (with_parts (needed bs depth) bound b (parts_of (slice_get bs b.0)))
+  unbound_tuple depth bound b tys (binding.MatchSome source) ok k e p there h st lt =
+      subst (λ q. BindsOne (setting env t bs) bound b (with_parts (needed bs depth) bound b q)) (sym (ap parts_of e)) (record { binds = tt; there = inner_bound bound b (at (paths_of bs) source) tys k p h.1 st })
+  unbound_tuple depth bound b tys (binding.Extractor term parameter) ok k e p there h st lt =
+      let below = below_there (paths_of bs) b.0 parameter.0 there in
+      extracted_binds depth bound b term parameter return_kind.Plain tys (slice_get env.terms term.0) ok k e p h.1 refl h.2 st (omega (arith, below, lt))
+  unbound_tuple depth bound b tys x ok k e p there h st lt = absurd h
+
+  read_more : (depth : ℕ) → MakesRead depth (needed bs depth) → MakesTuple depth (needed bs depth) → MakesRead (suc depth) (needed bs (suc depth))
+  read_more depth ok tuple bound b ty k h st lt = one (is_bound bound b) refl
     where
-      one : (x : Bool) → is_bound bound b ≡ x → MakesRead depth (needed bs depth) → ReadsOne (setting env t bs) bound b (cond x [] (with_parts (needed bs depth) bound b (parts_of (slice_get bs b.0))))
-      one true is ok = record { binds = tt; read = bound_read b (contained bound b.0 is) }
-      one false is ok =
+      one : (x : Bool) → is_bound bound b ≡ x → ReadsOne (setting env t bs) bound b (cond x [] (with_parts (needed bs depth) bound b (parts_of (slice_get bs b.0))))
+      one true is = record { binds = tt; read = bound_read b (contained bound b.0 is) }
+      one false is =
           let x = binding_at bs b (path_there env t (at (paths_of bs) b) ty h) in
           let parts = typed_parts env t (at (paths_of bs) b) ty h in
           let p = path_at bs b x.0 x.1 parts in
-          unbound_read depth bound b ty x.0 ok k x.1 p (subst HasParts (at_before bs b x.0 x.1) parts) h (subst (λ q. IsPathOf env t q ty) p h) (subst (StandsOn tests done) p st) lt
+          unbound_read depth bound b ty x.0 ok tuple k x.1 p (subst HasParts (at_before bs b x.0 x.1) parts) h (subst (λ q. IsPathOf env t q ty) p h) (subst (StandsOn tests done) p st) lt
 
-  -- what is needed for bindings that stand there
-  pub needs_read : (bound : List ℕ) (reads : List BindingId) (tys : List TypeId) → IsBehind (paths_of bs) tests done bound → ArePathsOf env t (at_all (paths_of bs) reads) tys → AllStandOn tests done (at_all (paths_of bs) reads)
-      → ReadsAll (setting env t bs) bound reads (needs bs bound reads)
-  needs_read bound reads tys k h st = each_read (length bs) (needed bs (length bs)) bound reads tys (needed_read (length bs)) k h st (all_within bs reads (paths_there env t (at_all (paths_of bs) reads) tys h))
-
-  -- ---- options
-
-  unbound_option : (depth : ℕ) (bound : List ℕ) (b : BindingId) (ty : TypeId) (x : Binding) → IsBehind (paths_of bs) tests done bound → slice_get bs b.0 ≡ Some x → at (paths_of bs) b ≡ path_over (paths_of bs) x
-      → HasParts (path_over (take b.0 (paths_of bs)) x) → IsOptionOf env t (path_over (paths_of bs) x) ty → StandsOn tests done (path_over (paths_of bs) x) → b.0 < suc depth
-      → BindsOne (setting env t bs) bound b (with_parts (needed bs depth) bound b (parts_of (slice_get bs b.0)))
-  unbound_option depth bound b ty (binding.Constructor term parameters instance) k e p there h st lt =
-      subst (λ q. BindsOne (setting env t bs) bound b (with_parts (needed bs depth) bound b q)) (sym (ap parts_of e)) (record { binds = tt; there = k.call b (subst (Contains done) (sym p) st) })
-  unbound_option depth bound b ty (binding.Extractor term parameter) k e p there h st lt =
-      let below = below_there (paths_of bs) b.0 parameter.0 there in
-      extracted_binds depth bound b term parameter return_kind.Option ty (slice_get env.terms term.0) (needed_read depth) k e p h.0 refl h.1 st (omega (arith, below, lt))
-  unbound_option depth bound b ty x k e p there h st lt = absurd h
-
-  needed_option : (depth : ℕ) (bound : List ℕ) (b : BindingId) (ty : TypeId) → IsBehind (paths_of bs) tests done bound → IsOptionOf env t (at (paths_of bs) b) ty → StandsOn tests done (at (paths_of bs) b) → b.0 < depth
-      → BindsOne (setting env t bs) bound b (needed bs depth bound b)
-  needed_option zero bound b ty k h st lt = absurd (omega (arith, lt))
-  needed_option (suc depth) bound b ty k h st lt = one (is_bound bound b) refl
+  tuple_more : (depth : ℕ) → MakesRead depth (needed bs depth) → MakesTuple (suc depth) (needed bs (suc depth))
+  tuple_more depth ok bound b tys k h st lt = one (is_bound bound b) refl
     where
       one : (x : Bool) → is_bound bound b ≡ x → BindsOne (setting env t bs) bound b (cond x [] (with_parts (needed bs depth) bound b (parts_of (slice_get bs b.0))))
       one true is = record { binds = tt; there = contained bound b.0 is }
       one false is =
-          let x = binding_at bs b (option_there env t (at (paths_of bs) b) ty h) in
-          let parts = option_parts env t (at (paths_of bs) b) ty h in
+          let x = binding_at bs b (tuple_there env t (at (paths_of bs) b) tys h) in
+          let parts = tuple_parts env t (at (paths_of bs) b) tys h in
           let p = path_at bs b x.0 x.1 parts in
-          unbound_option depth bound b ty x.0 k x.1 p (subst HasParts (at_before bs b x.0 x.1) parts) (subst (λ q. IsOptionOf env t q ty) p h) (subst (StandsOn tests done) p st) lt
+          unbound_tuple depth bound b tys x.0 ok k x.1 p (subst HasParts (at_before bs b x.0 x.1) parts) (subst (λ q. IsTupleOf env t q tys) p h) (subst (StandsOn tests done) p st) lt
+
+  needed_both : (depth : ℕ) → MakesRead depth (needed bs depth) × MakesTuple depth (needed bs depth)
+  needed_both zero = (λ bound b ty k h st lt. absurd (omega (arith, lt)), λ bound b tys k h st lt. absurd (omega (arith, lt)))
+  needed_both (suc depth) = let r = needed_both depth in (read_more depth r.0 r.1, tuple_more depth r.0)
+
+  -- what is needed for bindings that stand there
+  pub needs_read : (bound : List ℕ) (reads : List BindingId) (tys : List TypeId) → IsBehind (paths_of bs) tests done bound → ArePathsOf env t (at_all (paths_of bs) reads) tys → AllStandOn tests done (at_all (paths_of bs) reads)
+      → ReadsAll (setting env t bs) bound reads (needs bs bound reads)
+  needs_read bound reads tys k h st = each_read (length bs) (needed bs (length bs)) bound reads tys (needed_both (length bs)).0 k h st (all_within bs reads (paths_there env t (at_all (paths_of bs) reads) tys h))
+
+  -- ---- options
+
+  unbound_option : (depth : ℕ) (bound : List ℕ) (b : BindingId) (tys : List TypeId) (x : Binding) → IsBehind (paths_of bs) tests done bound → slice_get bs b.0 ≡ Some x → at (paths_of bs) b ≡ path_over (paths_of bs) x
+      → HasParts (path_over (take b.0 (paths_of bs)) x) → IsOptionOf env t (path_over (paths_of bs) x) tys → StandsOn tests done (path_over (paths_of bs) x) → b.0 < suc depth
+      → BindsOne (setting env t bs) bound b (with_parts (needed bs depth) bound b (parts_of (slice_get bs b.0)))
+  unbound_option depth bound b tys (binding.Constructor term parameters instance) k e p there h st lt =
+      subst (λ q. BindsOne (setting env t bs) bound b (with_parts (needed bs depth) bound b q)) (sym (ap parts_of e)) (record { binds = tt; there = k.call b (subst (Contains done) (sym p) st) })
+  unbound_option depth bound b tys (binding.Extractor term parameter) k e p there h st lt =
+      let below = below_there (paths_of bs) b.0 parameter.0 there in
+      extracted_binds depth bound b term parameter return_kind.Option tys (slice_get env.terms term.0) (needed_both depth).0 k e p h.0 refl h.1 st (omega (arith, below, lt))
+  unbound_option depth bound b tys x k e p there h st lt = absurd h
+
+  needed_option : (depth : ℕ) (bound : List ℕ) (b : BindingId) (tys : List TypeId) → IsBehind (paths_of bs) tests done bound → IsOptionOf env t (at (paths_of bs) b) tys → StandsOn tests done (at (paths_of bs) b) → b.0 < depth
+      → BindsOne (setting env t bs) bound b (needed bs depth bound b)
+  needed_option zero bound b tys k h st lt = absurd (omega (arith, lt))
+  needed_option (suc depth) bound b tys k h st lt = one (is_bound bound b) refl
+    where
+      one : (x : Bool) → is_bound bound b ≡ x → BindsOne (setting env t bs) bound b (cond x [] (with_parts (needed bs depth) bound b (parts_of (slice_get bs b.0))))
+      one true is = record { binds = tt; there = contained bound b.0 is }
+      one false is =
+          let x = binding_at bs b (option_there env t (at (paths_of bs) b) tys h) in
+          let parts = option_parts env t (at (paths_of bs) b) tys h in
+          let p = path_at bs b x.0 x.1 parts in
+          unbound_option depth bound b tys x.0 k x.1 p (subst HasParts (at_before bs b x.0 x.1) parts) (subst (λ q. IsOptionOf env t q tys) p h) (subst (StandsOn tests done) p st) lt
 
   -- what is needed for an option is bound with it
-  pub option_needs : (bound : List ℕ) (b : BindingId) (ty : TypeId) → IsBehind (paths_of bs) tests done bound → IsOptionOf env t (at (paths_of bs) b) ty → StandsOn tests done (at (paths_of bs) b) → BindsOne (setting env t bs) bound b (needs bs bound (b ∷ []))
-  option_needs bound b ty k h st =
-      subst (BindsOne (setting env t bs) bound b) (sym (append-nil (needed bs (length bs) bound b))) (needed_option (length bs) bound b ty k h st (within bs b (option_there env t (at (paths_of bs) b) ty h)))
+  pub option_needs : (bound : List ℕ) (b : BindingId) (tys : List TypeId) → IsBehind (paths_of bs) tests done bound → IsOptionOf env t (at (paths_of bs) b) tys → StandsOn tests done (at (paths_of bs) b) → BindsOne (setting env t bs) bound b (needs bs bound (b ∷ []))
+  option_needs bound b tys k h st =
+      subst (BindsOne (setting env t bs) bound b) (sym (append-nil (needed bs (length bs) bound b))) (needed_option (length bs) bound b tys k h st (within bs b (option_there env t (at (paths_of bs) b) tys h)))

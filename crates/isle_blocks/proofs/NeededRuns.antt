@@ -10,7 +10,7 @@ use Rattle.isle_core.specs.BlockRun.{bind_one, bind_all}
 use Rattle.isle_core.specs.CallRun.{Went, Goes, Ends, then_go}
 use Rattle.isle_core.specs.Meaning.{Meaning}
 use Rattle.isle_core.specs.Occurrences.{occurrence_at, occurrences}
-use Rattle.isle_core.specs.Path.{Path, Extracted, MadeVariant, MadeStruct, at, paths_of}
+use Rattle.isle_core.specs.Path.{Path, Extracted, MadeVariant, MadeStruct, Part, at, paths_of}
 use Rattle.isle_core.specs.Rule.{Environment}
 use Rattle.isle_core.specs.Value.{Value, Made}
 use Rattle.isle_core.specs.ValueAt.{Known}
@@ -26,6 +26,7 @@ IsNeeded bs b = IsSome (parts_of (slice_get bs b.0))
 -- the path of one
 abbrev IsStill : Path → Type 0
 IsStill (Extracted term p) = Unit {0}
+IsStill (Part part p) = Unit {0}
 IsStill (MadeVariant ty variant ps) = Unit {0}
 IsStill (MadeStruct ty ps) = Unit {0}
 IsStill p = ⊥
@@ -55,6 +56,7 @@ still_at bs b h = one (slice_get bs b.0) refl h
   where
     one : (o : Option Binding) → slice_get bs b.0 ≡ o → IsSome (parts_of o) → IsStill (at (paths_of bs) b)
     one (Some (binding.Extractor term parameter)) e k = subst IsStill (sym (at_before bs b (binding.Extractor term parameter) e)) tt
+    one (Some (binding.MatchTuple source field)) e k = subst IsStill (sym (at_before bs b (binding.MatchTuple source field) e)) tt
     one (Some (binding.MakeVariant ty variant fields)) e k = subst IsStill (sym (at_before bs b (binding.MakeVariant ty variant fields) e)) tt
     one (Some (binding.MakeStruct ty (f ∷ fs))) e k = subst IsStill (sym (at_before bs b (binding.MakeStruct ty (f ∷ fs)) e)) tt
     one (Some (binding.MakeStruct ty [])) e k = absurd cc
@@ -64,6 +66,7 @@ still_at bs b h = one (slice_get bs b.0) refl h
 
 path_still : (env : Environment) (m : Meaning) (args : List Value) (p : Path) (known : Known) (made : List Made) → IsStill p → bind_one env m args p known made ≡ Goes known made
 path_still env m args (Extracted term p) known made h = refl
+path_still env m args (Part part p) known made h = refl
 path_still env m args (MadeVariant ty variant ps) known made h = refl
 path_still env m args (MadeStruct ty ps) known made h = refl
 path_still env m args p known made h = absurd h
@@ -112,6 +115,7 @@ behind_still env m args bs bound more reads known made =
 
 path_uncalled : (env : Environment) (p : Path) → IsStill p → occurrence_at env p ≡ []
 path_uncalled env (Extracted term p) h = refl
+path_uncalled env (Part part p) h = refl
 path_uncalled env (MadeVariant ty variant ps) h = refl
 path_uncalled env (MadeStruct ty ps) h = refl
 path_uncalled env p h = absurd h

@@ -1,4 +1,4 @@
--- What is bound before bindings are read: the calls of extractors, and the made values on the way to them.
+-- What is bound before bindings are read: the calls of extractors, parts of their answers, and the made values on the way to them.
 use Rattle.std.specs.Prelude.{ℕ, zero, suc, List, [], ◌∷◌, ◌++◌, length, Bool, ◌==◌, Option, Some, None, if◌then◌else◌, slice_get}
 use Rattle.std.specs.List.{list_any}
 use Rattle.isle_core.specs.declared.BindingId.{BindingId}
@@ -6,8 +6,8 @@ use Rattle.isle_core.specs.declared.rule_sets.Binding.{Binding}
 use Rattle.isle_core.specs.declared.rule_sets.Binding.TheVariants as binding
 use Rattle.isle_core.specs.Bindable.{bound_by}
 
--- what a binding is made over that is bound where it is first read: the call of an extractor, or a made value; a struct without
--- fields is read by its name
+-- what a binding is made over that is bound where it is first read: the call of an extractor, a part of a tuple, or a made value; a
+-- struct without fields is read by its name
 abbrev pub parts_of : Option Binding → Option (List BindingId)
 parts_of (Some (binding.Extractor term parameter)) = Some (parameter ∷ [])
 parts_of (Some (binding.MakeVariant ty variant fields)) = Some fields
@@ -23,7 +23,7 @@ parts_of (Some (binding.MatchVariant source variant field)) = None
 parts_of (Some (binding.ExtractStruct source field)) = None
 parts_of (Some (binding.MakeSome inner)) = None
 parts_of (Some (binding.MatchSome source)) = None
-parts_of (Some (binding.MatchTuple source field)) = None
+parts_of (Some (binding.MatchTuple source field)) = Some (source ∷ [])
 parts_of None = None
 
 -- the binding is among those that are bound

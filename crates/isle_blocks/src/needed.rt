@@ -1,4 +1,4 @@
-//! What is bound before bindings are read: the calls of extractors, and the made values on the way to them.
+//! What is bound before bindings are read: the calls of extractors, parts of their answers, and the made values on the way to them.
 
 ghost use Rattle.std.specs.Prelude.{◌≡◌, OnOk, [], ◌∷◌, Some as Is, option_map, slice_get};
 ghost use Rattle.isle_core.specs.declared.TypeId.{TypeId as TypeIdOf};
@@ -41,6 +41,7 @@ fn parts_of<'a>(binding: &'a Binding) -> Option<&'a [BindingId]>
 {
     match binding {
         Binding::Extractor { parameter, .. } => Some(slice::from_ref(parameter)),
+        Binding::MatchTuple { source, .. } => Some(slice::from_ref(source)),
         Binding::MakeVariant { fields, .. } => Some(fields.as_slice()),
         Binding::MakeStruct { fields, .. } => some_parts(fields.as_slice()),
         Binding::ConstBool { .. }
@@ -52,8 +53,7 @@ fn parts_of<'a>(binding: &'a Binding) -> Option<&'a [BindingId]>
         | Binding::MatchVariant { .. }
         | Binding::ExtractStruct { .. }
         | Binding::MakeSome { .. }
-        | Binding::MatchSome { .. }
-        | Binding::MatchTuple { .. } => None,
+        | Binding::MatchSome { .. } => None,
     }
 }
 

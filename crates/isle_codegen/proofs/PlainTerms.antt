@@ -1,8 +1,7 @@
 -- The terms of definitions that are typed answer at most once, also as extractors.
-use Rattle.std.proofs.Common.{◌≡◌, ℕ, List, [], ◌∷◌, Bool, true, false, Some, None, refl, subst}
+use Rattle.std.proofs.Common.{◌≡◌, ℕ, List, Bool, true, false, Some, None, refl, subst}
 use Rattle.std.specs.Prelude.{slice_get}
 use Rattle.isle_base.specs.declared.ids.Sym.{Sym}
-use Rattle.isle_core.specs.declared.TypeId.{TypeId}
 use Rattle.isle_core.specs.declared.types.ConstructorKind.{ConstructorKind}
 use Rattle.isle_core.specs.declared.types.ExtractorKind.{ExtractorKind}
 use Rattle.isle_core.specs.declared.types.TermKind.{TermKind}
@@ -11,15 +10,12 @@ use Rattle.isle_core.specs.declared.types.Term.{Term}
 use Rattle.isle_core.specs.CalledTerms.{is_made_kind}
 use Rattle.isle_core.specs.declared.types.ExtractorKind.TheVariants as extractor
 use Rattle.isle_core.specs.declared.types.ReturnKind.{ReturnKind}
-use Rattle.isle_core.specs.BuiltRule.{IsExtractorKind}
 use Rattle.isle_core.specs.Calling.{extractor_kind, kind_of, AnswersOnce}
 use Rattle.isle_core.specs.Rule.{Environment}
 use Rattle.isle_ast.specs.Tree.{Def}
 use Rattle.isle_sema.specs.Typing.{Typed}
-use Rattle.isle_sema.proofs.TypedSingle.{typed_single}
 use Rattle.isle_sema.proofs.TypedTerms.{IsPlainKind, typed_kind}
 use Rattle.isle_simulation.specs.TraitFns.{extracted_of}
-use Rattle.isle_simulation.proofs.TraitFnForms.{IsSingleExtractor}
 
 flag_once : (partial : Bool) (by : ConstructorKind) (how : ExtractorKind) → AnswersOnce (kind_of (term_kind.Decl false false partial false by how))
 flag_once true by how = tt
@@ -40,20 +36,18 @@ extractor_once : (infallible : Bool) → AnswersOnce (extractor_kind false infal
 extractor_once true = tt
 extractor_once false = tt
 
--- a kind of one argument that has an external extractor, in a term that is not `multi`
-by_kind : (t : Term) (k : TermKind) (extracted : Sym × ReturnKind) → (IsExtractorKind k → (ty : TypeId) × (t.arg_tys ≡ ty ∷ [])) → (is_made_kind k ≡ false → IsPlainKind k) → extracted_of k ≡ Some extracted → IsSingleExtractor t extracted
-by_kind t (term_kind.Decl pure false partial recursive by (extractor.External func infallible)) extracted single plain e =
-    let is = single tt in
-    record { result = is.0; one = is.1; once = subst AnswersOnce (kind_is func _ extracted e) (extractor_once infallible) }
+-- a kind that has an external extractor, in a term that is not `multi`
+by_kind : (k : TermKind) (extracted : Sym × ReturnKind) → (is_made_kind k ≡ false → IsPlainKind k) → extracted_of k ≡ Some extracted → AnswersOnce extracted.1
+by_kind (term_kind.Decl pure false partial recursive by (extractor.External func infallible)) extracted plain e = subst AnswersOnce (kind_is func _ extracted e) (extractor_once infallible)
   where
     kind_is : (f : Sym) (k : ReturnKind) (x : Sym × ReturnKind) → Some (f, k) ≡ Some x → k ≡ x.1
     kind_is f k x same = cc
-by_kind t (term_kind.Decl pure true partial recursive by (extractor.External func infallible)) extracted single plain e = let h = plain refl in let bad : term_kind.Decl false false h.partial false h.by h.how ≡ term_kind.Decl pure true partial recursive by (extractor.External func infallible) = h.is in cc
-by_kind t (term_kind.Decl pure multi partial recursive by extractor.Absent) extracted single plain e = cc
-by_kind t (term_kind.Decl pure multi partial recursive by extractor.Internal) extracted single plain e = cc
-by_kind t (term_kind.Variant ty variant) extracted single plain e = cc
-by_kind t (term_kind.Struct ty) extracted single plain e = cc
+by_kind (term_kind.Decl pure true partial recursive by (extractor.External func infallible)) extracted plain e = let h = plain refl in let bad : term_kind.Decl false false h.partial false h.by h.how ≡ term_kind.Decl pure true partial recursive by (extractor.External func infallible) = h.is in cc
+by_kind (term_kind.Decl pure multi partial recursive by extractor.Absent) extracted plain e = cc
+by_kind (term_kind.Decl pure multi partial recursive by extractor.Internal) extracted plain e = cc
+by_kind (term_kind.Variant ty variant) extracted plain e = cc
+by_kind (term_kind.Struct ty) extracted plain e = cc
 
--- each external extractor of typed definitions gives one result, and answers at most once
-pub typed_extractor : (defs : List Def) (env : Environment) (i : ℕ) (t : Term) → Typed defs env → slice_get env.terms i ≡ Some t → (extracted : Sym × ReturnKind) → extracted_of t.kind ≡ Some extracted → IsSingleExtractor t extracted
-typed_extractor defs env i t typed at extracted e = by_kind t t.kind extracted (typed_single defs env i t typed at) (typed_kind defs env i t typed at) e
+-- each external extractor of typed definitions answers at most once
+pub typed_extractor : (defs : List Def) (env : Environment) (i : ℕ) (t : Term) → Typed defs env → slice_get env.terms i ≡ Some t → (extracted : Sym × ReturnKind) → extracted_of t.kind ≡ Some extracted → AnswersOnce extracted.1
+typed_extractor defs env i t typed at extracted e = by_kind t.kind extracted (typed_kind defs env i t typed at) e

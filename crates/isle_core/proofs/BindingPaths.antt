@@ -15,7 +15,7 @@ use Rattle.isle_core.specs.Path.{Path, Nowhere, Arg, ConstBool, ConstInt, ConstP
 use Rattle.isle_core.specs.Form.{Form, form, form_types}
 use Rattle.isle_core.specs.Making.{MakesVariant, MakesStruct}
 use Rattle.isle_core.specs.StandsFor.{EachOnce}
-use Rattle.isle_core.specs.PathType.{IsPathOf, IsOptionOf, ArePathsOf}
+use Rattle.isle_core.specs.PathType.{IsPathOf, IsTupleOf, IsOptionOf, ArePathsOf}
 use Rattle.isle_core.specs.Rule.{Environment}
 
 -- ---- the paths before a place
@@ -277,19 +277,23 @@ paths_there env t NoPath tys h = tt
 paths_there env t (APath p ps) [] h = absurd h
 paths_there env t (APath p ps) (ty ∷ tys) h = (path_there env t p ty h.0, paths_there env t ps tys h.1)
 
-pub option_there : (env : Environment) (t : Term) (p : Path) (ty : TypeId) → IsOptionOf env t p ty → IsThere p
-option_there env t Nowhere ty h = absurd h
-option_there env t p ty h = tt
+pub option_there : (env : Environment) (t : Term) (p : Path) (tys : List TypeId) → IsOptionOf env t p tys → IsThere p
+option_there env t Nowhere tys h = absurd h
+option_there env t p tys h = tt
+
+pub tuple_there : (env : Environment) (t : Term) (p : Path) (tys : List TypeId) → IsTupleOf env t p tys → IsThere p
+tuple_there env t Nowhere tys h = absurd h
+tuple_there env t p tys h = tt
 
 -- what a call is made over
-called_parts : (env : Environment) (t : Term) (o : Option Term) (ps : Paths) (ty : TypeId) → IsSomeAnd o (λ (c : Term). (c.ret_ty ≡ ty) × ArePathsOf env t ps c.arg_tys) → AreThere ps
-called_parts env t None ps ty h = absurd h
-called_parts env t (Some c) ps ty h = paths_there env t ps c.arg_tys h.1
+called_parts : (env : Environment) (t : Term) (o : Option Term) (ps : Paths) (P : Term → Type 0) → IsSomeAnd o (λ (c : Term). P c × ArePathsOf env t ps c.arg_tys) → AreThere ps
+called_parts env t None ps P h = absurd h
+called_parts env t (Some c) ps P h = paths_there env t ps c.arg_tys h.1
 
 -- what an extractor takes apart
-extracted_there : (env : Environment) (t : Term) (o : Option Term) (q : Path) (ty : TypeId) → IsSomeAnd o (λ (c : Term). (c.arg_tys ≡ ty ∷ []) × IsPathOf env t q c.ret_ty) → IsThere q
-extracted_there env t None q ty h = absurd h
-extracted_there env t (Some c) q ty h = path_there env t q c.ret_ty h.1
+extracted_there : (env : Environment) (t : Term) (o : Option Term) (q : Path) (tys : List TypeId) → IsSomeAnd o (λ (c : Term). (c.arg_tys ≡ tys) × IsPathOf env t q c.ret_ty) → IsThere q
+extracted_there env t None q tys h = absurd h
+extracted_there env t (Some c) q tys h = path_there env t q c.ret_ty h.1
 
 -- what a made value is made of
 made_of_parts : (env : Environment) (t : Term) (o : Option Form) (ps : Paths) → IsSomeAnd o (λ f. ArePathsOf env t ps (form_types env f)) → AreThere ps
@@ -302,9 +306,10 @@ typed_parts env t (Arg i) ty h = tt
 typed_parts env t (ConstBool of b) ty h = tt
 typed_parts env t (ConstInt of n) ty h = tt
 typed_parts env t (ConstPrim name) ty h = tt
-typed_parts env t (Called term ps instance) ty h = called_parts env t (slice_get env.terms term.0) ps ty h.1
-typed_parts env t (Extracted term q) ty h = extracted_there env t (slice_get env.terms term.0) q ty h.1
-typed_parts env t (Inner p) ty h = option_there env t p ty h
+typed_parts env t (Called term ps instance) ty h = called_parts env t (slice_get env.terms term.0) ps (λ (c : Term). c.ret_ty ≡ ty) h.1
+typed_parts env t (Extracted term q) ty h = extracted_there env t (slice_get env.terms term.0) q (ty ∷ []) h.1
+typed_parts env t (Inner p) ty h = option_there env t p (ty ∷ []) h
+typed_parts env t (Part part q) ty h = tuple_there env t q h.0 h.1
 typed_parts env t (MadeVariant of variant ps) ty h = made_of_parts env t (form env (MakesVariant of variant)) ps h.1
 typed_parts env t (MadeStruct of ps) ty h = made_of_parts env t (form env (MakesStruct of)) ps h.1
 typed_parts env t (VariantField variant field q) ty h = path_there env t q h.0 h.1
@@ -312,7 +317,13 @@ typed_parts env t (StructField field q) ty h = path_there env t q h.0 h.1
 typed_parts env t p ty h = absurd h
 
 -- and so is that of an option
-pub option_parts : (env : Environment) (t : Term) (p : Path) (ty : TypeId) → IsOptionOf env t p ty → HasParts p
-option_parts env t (Called term ps instance) ty h = called_parts env t (slice_get env.terms term.0) ps ty h.1
-option_parts env t (Extracted term q) ty h = extracted_there env t (slice_get env.terms term.0) q ty h.1
-option_parts env t p ty h = absurd h
+pub option_parts : (env : Environment) (t : Term) (p : Path) (tys : List TypeId) → IsOptionOf env t p tys → HasParts p
+option_parts env t (Called term ps instance) tys h = called_parts env t (slice_get env.terms term.0) ps (λ (c : Term). c.ret_ty ∷ [] ≡ tys) h.1
+option_parts env t (Extracted term q) tys h = extracted_there env t (slice_get env.terms term.0) q tys h.1
+option_parts env t p tys h = absurd h
+
+-- and so is that of a tuple
+pub tuple_parts : (env : Environment) (t : Term) (p : Path) (tys : List TypeId) → IsTupleOf env t p tys → HasParts p
+tuple_parts env t (Extracted term q) tys h = extracted_there env t (slice_get env.terms term.0) q tys h.2
+tuple_parts env t (Inner p) tys h = option_there env t p tys h.1
+tuple_parts env t p tys h = absurd h

@@ -13,20 +13,20 @@ use Rattle.isle_core.specs.Occurrences.{AreNew, occurrences, after_control}
 use Rattle.isle_core.specs.Readable.{IsReadAs, IsOptionRead}
 use Rattle.isle_core.specs.Setting.{Setting, paths_in}
 
--- what a Match is over: a value of a type, or an option of one
+-- what a Match is over: a value of a type, or an option of what has these types
 pub data Source : Type 0 where
   AValue : TypeId → Source
-  AnOption : TypeId → Source
+  AnOption : List TypeId → Source
 
 -- the binding is read as such
 abbrev pub IsReadIn : Setting → List ℕ → BindingId → Source → Type 0
 IsReadIn s bound b (AValue ty) = IsReadAs s bound b ty
-IsReadIn s bound b (AnOption ty) = IsOptionRead s bound b ty
+IsReadIn s bound b (AnOption tys) = IsOptionRead s bound b tys
 
 -- a constraint over such: one of the value's type, or Some
 abbrev pub IsConstraintOver : Environment → Constraint → Source → Type 0
 IsConstraintOver env c (AValue ty) = IsConstraintOf env c ty
-IsConstraintOver env c (AnOption ty) = c ≡ constraint.Some
+IsConstraintOver env c (AnOption tys) = c ≡ constraint.Some
 
 -- at least one arm
 abbrev pub HasArm : Arms → Type 0

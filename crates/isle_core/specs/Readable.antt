@@ -49,9 +49,9 @@ pub record IsReadAs (s : Setting) (bound : List ℕ) (b : BindingId) (ty : TypeI
   pub path : IsPathOf s.env s.term (at (paths_in s) b) ty
   pub read : IsReadable s bound b
 
--- a bound option of a value of the type
-pub record IsOptionRead (s : Setting) (bound : List ℕ) (b : BindingId) (ty : TypeId) : Type 0 where
-  pub path : IsOptionOf s.env s.term (at (paths_in s) b) ty
+-- a bound option of a value, or of a tuple
+pub record IsOptionRead (s : Setting) (bound : List ℕ) (b : BindingId) (tys : List TypeId) : Type 0 where
+  pub path : IsOptionOf s.env s.term (at (paths_in s) b) tys
   pub bound' : Contains bound b.0
 
 -- as many bindings as types

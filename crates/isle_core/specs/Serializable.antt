@@ -42,7 +42,7 @@ StandsWithin tests done (Inner q) = Unit {0}
 StandsWithin tests done (Part part q) = Unit {0}
 
 -- a path may be read behind these tests and these calls: a field behind the test that shows it, a call behind itself, an
--- extractor's answer where what it takes apart may be read, and a made value where its parts may be
+-- extractor's answer where what it takes apart may be read, a part where its tuple may be, and a made value where its parts may be
 abbrev mutual
   pub StandsOn : (tests : List Test) → (done : List Path) → Path → Type 0
   StandsOn tests done (Called term ps instance) = Contains done (Called term ps instance)
@@ -59,7 +59,7 @@ abbrev mutual
   StandsOn tests done (Extracted term q) = StandsOn tests done q
   StandsOn tests done (Chosen q) = Unit {0}
   StandsOn tests done (Wrapped q) = Unit {0}
-  StandsOn tests done (Part part q) = Unit {0}
+  StandsOn tests done (Part part q) = StandsOn tests done q
 
   -- so of each
   pub AllStandOn : (tests : List Test) → (done : List Path) → Paths → Type 0
@@ -76,7 +76,7 @@ pub record IsValueTest (env : Environment) (t : Term) (p : Path) (c : Constraint
 
 -- what a constraint tests: a value, or whether an answer that may be nothing is something
 abbrev pub IsTest : Environment → Term → Path → Constraint → Type 0
-IsTest env t p constraint.Some = (ty : TypeId) × IsOptionOf env t p ty
+IsTest env t p constraint.Some = (tys : List TypeId) × IsOptionOf env t p tys
 IsTest env t p (constraint.ConstBool val) = IsValueTest env t p (constraint.ConstBool val)
 IsTest env t p (constraint.ConstInt val of) = IsValueTest env t p (constraint.ConstInt val of)
 IsTest env t p (constraint.ConstPrim val) = IsValueTest env t p (constraint.ConstPrim val)

@@ -1,4 +1,4 @@
-//! What bound locals compute: calls, the inner values of options, made values, and what is read in place.
+//! What bound locals compute: calls, the inner values of options, parts of tuples, made values, and what is read in place.
 
 ghost use Rattle.std.specs.Prelude.{◌≡◌, Some as Is, IfOk};
 ghost use Rattle.isle_core.specs.Path.{at, paths_of};
@@ -10,7 +10,7 @@ ghost use Rattle.isle_simulation.specs.Statements as Statements;
 
 use crate::calls::{call_of, extraction_of};
 use crate::made::made_in;
-use isle_core::{Binding, BindingId};
+use isle_core::{Binding, BindingId, TupleIndex};
 use isle_operands::{
     Context, Typed, in_place, is_reference, operand_of, struct_form, variant_form,
 };
@@ -39,6 +39,26 @@ fn inner_in(
 {
     let operand = operand_of(alloc, &typed.context, bound, source)?;
     Ok(inner_of(is_reference(typed, source), operand))
+}
+
+// Makes a part of a tuple.
+fn part_of(field: TupleIndex, source: Option<Operand>) -> Option<TExpr>
+    ensures { result ≡ Statements.part_of field.0 source }
+{
+    Some(TExpr::Tuple(source?, field.index()))
+}
+
+// Makes that of the tuple that a binding is.
+fn part_in(
+    alloc: Global,
+    typed: &Typed<'_>,
+    bound: &Scope,
+    source: BindingId,
+    field: TupleIndex,
+) -> Result<Option<TExpr>, AllocError>
+    ensures { IfOk result (λ e. e ≡ Statements.part_of field.0 (operand_in (setting_in typed.now).env (setting_in typed.now).bindings bound.now source)) }
+{
+    Ok(part_of(field, operand_of(alloc, &typed.context, bound, source)?))
 }
 
 // Makes a read of an operand.
@@ -80,6 +100,7 @@ fn expr_of(
             extraction_of(alloc, typed, bound, *term, *parameter)
         }
         Binding::MatchSome { source } => inner_in(alloc, typed, bound, *source),
+        Binding::MatchTuple { source, field } => part_in(alloc, typed, bound, *source, *field),
         Binding::MakeVariant {
             ty,
             variant,
@@ -99,8 +120,7 @@ fn expr_of(
         Binding::Iterator { .. }
         | Binding::MatchVariant { .. }
         | Binding::ExtractStruct { .. }
-        | Binding::MakeSome { .. }
-        | Binding::MatchTuple { .. } => Ok(None),
+        | Binding::MakeSome { .. } => Ok(None),
     }
 }
 

@@ -148,6 +148,7 @@ fn sources_of<'a>(binding: &'a Binding) -> &'a [BindingId]
         Binding::Constructor { parameters, .. } => parameters.as_slice(),
         Binding::Extractor { parameter, .. } => slice::from_ref(parameter),
         Binding::MatchSome { source } => slice::from_ref(source),
+        Binding::MatchTuple { source, .. } => slice::from_ref(source),
         Binding::MakeVariant { fields, .. } => fields.as_slice(),
         Binding::MakeStruct { fields, .. } => fields.as_slice(),
         Binding::ConstBool { .. }
@@ -157,8 +158,7 @@ fn sources_of<'a>(binding: &'a Binding) -> &'a [BindingId]
         | Binding::Iterator { .. }
         | Binding::MatchVariant { .. }
         | Binding::ExtractStruct { .. }
-        | Binding::MakeSome { .. }
-        | Binding::MatchTuple { .. } => &[],
+        | Binding::MakeSome { .. } => &[],
     }
 }
 

@@ -22,7 +22,7 @@ use Rattle.isle_tree.specs.declared.tree.TPat.TheVariants as pattern
 use Rattle.isle_tree.specs.declared.tree.TExpr.{TExpr}
 use Rattle.isle_tree.specs.declared.tree.TExpr.TheVariants as expr
 use Rattle.isle_tree.specs.Program.{Program, Stmt, Let, LetList, IfEq, IfLet, Match, Loop, Return, Extend, Overflow, Log, Split, Tail, Body, Done, Then, Function}
-use Rattle.isle_tree.specs.Run.{Around, State, nothing_done, one_made, Env, Flow, Goes, Ends, Leaves, Stuck, value_of, name_value, bind, read_value, read_values, field_before, read_fields, on_value, value_in, constant, are_same, fit, fitted, then_run, after_scope, run_bind, run_call, run_try, run_variant, run_struct, run_let, ends_with, run_return, run_stmt, run_body, ended, function_run}
+use Rattle.isle_tree.specs.Run.{Around, State, nothing_done, one_made, Env, Flow, Goes, Ends, Leaves, Stuck, value_of, name_value, bind, read_value, read_values, field_before, read_fields, on_value, value_in, constant, are_same, fit, fitted, then_run, after_scope, run_bind, run_call, run_try, run_variant, run_struct, part_of, run_part, run_let, ends_with, run_return, run_stmt, run_body, ended, function_run}
 use Rattle.isle_interpreter.specs.Entries.{Constant, Cases, Turns, entries, IsUnanswered}
 use Rattle.isle_tree.specs.Calls.{expr_calls, stmt_calls, body_calls}
 use Rattle.isle_naming.specs.Names.{operand_names, read_names, reads_names, fields_names, expr_names, pattern_names, stmt_names, body_names}
@@ -164,7 +164,7 @@ module _ (m given : Meaning) (has : HasAnswers m given) where
     same_let n (expr.Try source as_ref) env s alike same = ap (λ h. run_try n h env s) (same_operand env source same)
     same_let n (expr.Variant ty variant fields) env s alike same = ap (λ o. run_variant n ty variant o env s) (same_fields env fields same)
     same_let n (expr.Struct ty fields) env s alike same = ap (λ o. run_struct n ty o env s) (same_fields env fields same)
-    same_let n (expr.Tuple o k) env s alike same = refl
+    same_let n (expr.Tuple source part) env s alike same = ap (λ h. run_part n (part_of part h) env s) (same_operand env source same)
 
     same_return : (e : TExpr) (env : Env) (s : State) → Same (expr_names e) → run_return one e env s ≡ run_return other e env s
     same_return (expr.Read r) env s same = ap (λ h. ends_with h s) (same_read env r same)

@@ -7,7 +7,7 @@ use Rattle.isle_core.specs.declared.values.Callee.{Callee}
 use Rattle.isle_core.specs.declared.values.Callee.TheVariants.{External, Internal}
 use Rattle.isle_core.specs.Value.{Value, Answer, Plain, Found, Nothing, Several, Made}
 use Rattle.isle_core.specs.Meaning.{PureAnswers, TurnAnswers, Meaning, turns_of, times, cases_of, case_or, case_at, same_values}
-use Rattle.isle_core.specs.Answered.{Item, AValue, ATuple, Held, Absent, One, Optional, Listed, answer_held, answer_by, answer}
+use Rattle.isle_core.specs.Answered.{Item, AValue, ATuple, Held, Absent, One, Optional, Listed, item_of, answer_held, answer_by, answer}
 use Rattle.isle_core.specs.Terms.{goes_to}
 use Rattle.isle_tree.specs.declared.holds.Holds.{Holds}
 use Rattle.isle_tree.specs.declared.holds.Holds.TheVariants as holds
@@ -15,7 +15,7 @@ use Rattle.isle_tree.specs.declared.holds.Item.{Item as ItemHeld}
 use Rattle.isle_tree.specs.declared.holds.Item.TheVariants as item
 use Rattle.isle_tree.specs.declared.tree.TypeItem.{TypeItem}
 use Rattle.isle_tree.specs.Program.{Function, Program}
-use Rattle.isle_tree.specs.WellFormed.{kind_holds, AreResults}
+use Rattle.isle_tree.specs.WellFormed.{results_item, kind_holds}
 use Rattle.isle_places.specs.Signatures.{Signature, signature_of}
 use Rattle.isle_interpreter.specs.Named.{AreNamed, AnswerFits}
 use Rattle.isle_interpreter.specs.Entries.{Entry, Constant, Cases, Turns, entries, IsUnanswered, CaseFits, EntryFits, AreRight}
@@ -151,30 +151,33 @@ answer_fits p f m callee s right some is vs made = by_turns (turns_of m callee) 
         let fit : EntryFits p.types (Turns a) s = subst (λ o. IsSomeAnd o (EntryFits p.types (Turns a))) is (found_turns p f m (consts ++ map Cases m.pure) m.turns callee a (right_rest p f m consts (map Cases m.pure) (map Turns m.turns) later) e) in
         index_fits (AnswerFits p.types s) a.turns (times callee made) a.rest fit.0 fit.1
 
--- ---- and hold what their kind says
+-- ---- and hold what their kind and their results say
 
-plain_holds : (types : List TypeItem) (names : List (List ℕ)) (vs : List Value) → AreResults names → AreNamed types names vs → HoldsIn (holds.One item.Value) (answer_held (Plain vs))
-plain_holds types [] vs h k = absurd h
-plain_holds types (n ∷ []) [] h k = absurd k
-plain_holds types (n ∷ []) (v ∷ []) h k = tt
-plain_holds types (n ∷ []) (v ∷ w ∷ vs) h k = absurd k.1
-plain_holds types (n ∷ m ∷ ns) vs h k = absurd h
+-- as many values as names
+pub named_length : (types : List TypeItem) (names : List (List ℕ)) (vs : List Value) → AreNamed types names vs → length vs ≡ length names
+named_length types [] [] h = refl
+named_length types (n ∷ names) (v ∷ vs) h = ap suc (named_length types names vs h.1)
+named_length types [] (v ∷ vs) h = absurd h
+named_length types (n ∷ names) [] h = absurd h
 
-found_holds : (types : List TypeItem) (names : List (List ℕ)) (vs : List Value) → AreResults names → AreNamed types names vs → HoldsIn (holds.Optional item.Value) (answer_held (Found vs))
-found_holds types [] vs h k = absurd h
-found_holds types (n ∷ []) [] h k = absurd k
-found_holds types (n ∷ []) (v ∷ []) h k = tt
-found_holds types (n ∷ []) (v ∷ w ∷ vs) h k = absurd k.1
-found_holds types (n ∷ m ∷ ns) vs h k = absurd h
+item_holds : (types : List TypeItem) (names : List (List ℕ)) (vs : List Value) → AreNamed types names vs → IsItem (results_item names) (item_of vs)
+item_holds types [] [] h = refl
+item_holds types [] (v ∷ vs) h = absurd h
+item_holds types (n ∷ []) [] h = absurd h
+item_holds types (n ∷ []) (v ∷ []) h = tt
+item_holds types (n ∷ []) (v ∷ w ∷ vs) h = absurd h.1
+item_holds types (n ∷ m ∷ names) [] h = absurd h
+item_holds types (n ∷ m ∷ names) (v ∷ []) h = absurd h.1
+item_holds types (n ∷ m ∷ names) (v ∷ w ∷ vs) h = named_length types (n ∷ m ∷ names) (v ∷ w ∷ vs) h
 
-pub answer_holds : (types : List TypeItem) (s : Signature) (h : Holds) (a : Answer) → AreResults s.results → kind_holds s.kind ≡ Some h → AnswerFits types s a → HoldsIn h (answer_held a)
-answer_holds types s h (Plain vs) one e fit =
-    let is : h ≡ holds.One item.Value = cc in
-    subst (λ x. HoldsIn x (answer_held (Plain vs))) (sym is) (plain_holds types s.results vs one fit.1)
-answer_holds types s h (Found vs) one e fit =
-    let is : h ≡ holds.Optional item.Value = cc in
-    subst (λ x. HoldsIn x (answer_held (Found vs))) (sym is) (found_holds types s.results vs one fit.1)
-answer_holds types s h Nothing one e fit =
-    let is : h ≡ holds.Optional item.Value = cc in
+pub answer_holds : (types : List TypeItem) (s : Signature) (h : Holds) (a : Answer) → kind_holds s.kind (results_item s.results) ≡ Some h → AnswerFits types s a → HoldsIn h (answer_held a)
+answer_holds types s h (Plain vs) e fit =
+    let is : h ≡ holds.One (results_item s.results) = cc in
+    subst (λ x. HoldsIn x (answer_held (Plain vs))) (sym is) (item_holds types s.results vs fit.1)
+answer_holds types s h (Found vs) e fit =
+    let is : h ≡ holds.Optional (results_item s.results) = cc in
+    subst (λ x. HoldsIn x (answer_held (Found vs))) (sym is) (item_holds types s.results vs fit.1)
+answer_holds types s h Nothing e fit =
+    let is : h ≡ holds.Optional (results_item s.results) = cc in
     subst (λ x. HoldsIn x (answer_held Nothing)) (sym is) tt
-answer_holds types s h (Several vss) one e fit = absurd fit
+answer_holds types s h (Several vss) e fit = absurd fit

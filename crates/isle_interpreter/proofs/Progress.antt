@@ -29,8 +29,8 @@ use Rattle.isle_tree.specs.declared.tree.TPat.TheVariants as pattern
 use Rattle.isle_tree.specs.declared.tree.TraitFn.{TraitFn}
 use Rattle.isle_tree.specs.Program.{Stmt, Let, LetList, IfEq, IfLet, Match, Loop, Return, Extend, Overflow, Log, Split, Tail, Body, Done, Then}
 use Rattle.isle_tree.specs.WellFormed as well
-use Rattle.isle_tree.specs.WellFormed.{Locals, IsOperand, IsRead, IsCallee, IsFieldRead, IsExpr, IsStmt, IsBody, local_holds, operand_holds, read_holds, is_value, are_values, are_field_values, made_holds, ReadsPattern, field_locals, inner_locals, pattern_locals, callee_holds, inner_holds, expr_holds, GivesKind, after_let, bound_after, IsStmtScoped, IsBodyScoped, IsReturned, FitsStmt, FitsBody, FitsLast, FitsFunction}
-use Rattle.isle_tree.specs.Run.{Around, State, one_made, Env, Flow, Goes, Ends, Leaves, Stuck, newer, look, bind, value_of, read_value, read_values, field_before, read_fields, value_in, constant, are_same, field_of, local_before, fit_some, fit_fields, fit_variant, fit_struct, fit, fitted, run_variant, run_struct, on_value, then_run, after_scope, run_bind, run_call, run_try, run_let, ends_with, run_return, run_stmt, run_body}
+use Rattle.isle_tree.specs.WellFormed.{Locals, IsOperand, IsRead, IsCallee, IsFieldRead, IsExpr, IsStmt, IsBody, local_holds, operand_holds, read_holds, is_value, are_values, are_field_values, made_holds, ReadsPattern, field_locals, inner_locals, pattern_locals, callee_holds, inner_holds, part_holds, expr_holds, GivesKind, after_let, bound_after, IsStmtScoped, IsBodyScoped, IsReturned, FitsStmt, FitsBody, FitsLast, FitsFunction}
+use Rattle.isle_tree.specs.Run.{Around, State, one_made, Env, Flow, Goes, Ends, Leaves, Stuck, newer, look, bind, value_of, read_value, read_values, field_before, read_fields, value_in, constant, are_same, field_of, local_before, fit_some, fit_fields, fit_variant, fit_struct, fit, fitted, run_variant, run_struct, on_value, then_run, after_scope, run_bind, run_call, run_try, part_of, run_part, run_let, ends_with, run_return, run_stmt, run_body}
 use Rattle.isle_tree.specs.Calls.{expr_calls, stmt_calls, body_calls}
 use Rattle.isle_interpreter.proofs.AnswersHold.{HoldsIn}
 
@@ -259,7 +259,39 @@ well_try n (Some (holds.Optional x)) (One i) bound env st a e t = absurd t
 well_try n (Some (holds.Optional x)) (Listed is) bound env st a e t = absurd t
 well_try n (Some (holds.Optional x)) Absent bound env st a e t = absurd t
 
--- ---- what is called answers with its kind
+-- a part of a tuple of as many values
+record HasPart (o : Option Value) : Type 0 where
+  v : Value
+  is : o ≡ Some v
+
+part_there : (vs : List Value) (part : ℕ) → part < length vs → HasPart (slice_get vs part)
+part_there [] part l = absurd (omega (arith, l))
+part_there (v ∷ vs) zero l = record { v = v; is = refl }
+part_there (v ∷ vs) (suc part) l = part_there vs part (omega (arith, l))
+
+well_part : (n part : ℕ) (o : Option Holds) (g : Held) (bound : Locals) (env : Env) (st : State) → Agree bound env → IsSome (part_holds part o) → HoldsIfKnown o g → Well (after_let (part_holds part o) n bound) (run_part n (part_of part g) env st)
+well_part n part None g bound env st a e t = absurd cc
+well_part n part (Some (holds.One item.Value)) g bound env st a e t = absurd cc
+well_part n part (Some (holds.Optional x)) g bound env st a e t = absurd cc
+well_part n part (Some (holds.Several x)) g bound env st a e t = absurd cc
+well_part n part (Some (holds.One (item.Tuple count))) (One (AValue v)) bound env st a e t = absurd t
+well_part n part (Some (holds.One (item.Tuple count))) (Optional o) bound env st a e t = absurd t
+well_part n part (Some (holds.One (item.Tuple count))) (Listed is) bound env st a e t = absurd t
+well_part n part (Some (holds.One (item.Tuple count))) Absent bound env st a e t = absurd t
+well_part n part (Some (holds.One (item.Tuple count))) (One (ATuple vs)) bound env st a e t = by (nat_lt part count) refl e
+  where
+    below : nat_lt part count ≡ true → part < count
+    below f = grind (arith, nat_tests)
+
+    by : (b : Bool) → nat_lt part count ≡ b → IsSome (if b then Some (holds.One item.Value) else None) → Well (after_let (if b then Some (holds.One item.Value) else None) n bound) (run_part n (slice_get vs part) env st)
+    by true f g =
+        let low = below f in
+        let same : length vs ≡ count = t in
+        let there = part_there vs part (omega (arith, low, same)) in
+        subst (λ o. Well (bound ++ (n, holds.One item.Value) ∷ []) (run_part n o env st)) (sym there.is) (one_more bound env n (holds.One item.Value) (a_value there.v) a tt)
+    by false f g = absurd cc
+
+-- ---- what is called answers with its kind and its results
 
 -- each callee that the program's functions of the trait have answers so
 abbrev pub Answering : List TraitFn → Meaning → List Callee → Type 0
@@ -315,7 +347,7 @@ module _ (fns : List TraitFn) (w : Around) where
           let have = told_fields w bound env fields is.2 a f in
           subst (λ o. Well (bound ++ (n, holds.One item.Value) ∷ []) (run_struct n ty o env st)) (sym have.are) (one_more bound env n (holds.One item.Value) (a_value (Struct ty have.fs)) a tt)
       by false f g = absurd cc
-  well_let n (expr.Tuple o i) bound env st is some answering a = absurd is
+  well_let n (expr.Tuple source part) bound env st is some answering a = well_part n part (operand_holds (length w.args) bound source) (value_of w env source) bound env st a some (known_operand w bound env source is a)
 
   -- a return ends the function
   pub record DoesEnd (flow : Flow) : Type 0 where

@@ -1,8 +1,7 @@
 -- Where nothing is refused the function has a run.
 use Rattle.std.proofs.Common.{◌≡◌, ℕ, List, [], ◌∷◌, length, Bool, true, false, Option, Some, None, refl, sym, ap, ◌∙◌, subst}
-use Rattle.std.specs.Prelude.{◌==◌, cond, suc, Contains, option_map, if◌then◌else◌}
+use Rattle.std.specs.Prelude.{◌==◌, Contains, option_map, if◌then◌else◌}
 use Rattle.std.specs.List.{AllByRecursion}
-use Rattle.std.specs.Str.{bytes_eq}
 use Rattle.std.proofs.lemmas.List.{length-map}
 use Rattle.isle_core.specs.declared.values.Callee.{Callee}
 use Rattle.isle_core.specs.declared.values.Callee.TheVariants as callee
@@ -13,37 +12,20 @@ use Rattle.isle_printer.specs.Bytes.{same_bytes}
 use Rattle.isle_tree.specs.declared.holds.Holds.{Holds}
 use Rattle.isle_tree.specs.declared.tree.Ty.{Ty}
 use Rattle.isle_tree.specs.declared.tree.TraitFn.{TraitFn}
-use Rattle.isle_tree.specs.declared.tree.TypeItem.{TypeItem}
 use Rattle.isle_tree.specs.Program.{Function, Program}
-use Rattle.isle_tree.specs.WellFormed.{IsTraitFn, IsFunction, IsWellFormed, IsBodyScoped, trait_fn, call_holds, kind_holds}
+use Rattle.isle_tree.specs.WellFormed.{IsFunction, IsWellFormed, IsBodyScoped, trait_fn, results_item, kind_holds, call_holds}
 use Rattle.isle_tree.specs.Run.{Around, nothing_done, ended, function_of, function_run, run}
 use Rattle.isle_places.specs.Signatures.{trait_signature, signature_of, type_names}
-use Rattle.isle_interpreter.specs.Named.{AreNamed}
 use Rattle.isle_interpreter.specs.Entries.{entries, IsUnanswered, AreRight}
 use Rattle.isle_tree.specs.Calls.{body_calls}
 use Rattle.isle_interpreter.specs.Refusals.{MayRun}
-use Rattle.isle_interpreter.proofs.AnswersHold.{HoldsIn, answer_fits, answer_holds}
+use Rattle.isle_interpreter.proofs.AnswersHold.{HoldsIn, answer_fits, named_length, answer_holds}
 use Rattle.isle_interpreter.proofs.Progress.{Answering, function_ends}
 
 -- there is a run
 pub record HasRun (p : Program) (term : List ℕ) (args : List Value) (m : Meaning) : Type 0 where
   pub ran : Ran
   pub is : run p term args m ≡ Some ran
-
-named_length : (types : List TypeItem) (names : List (List ℕ)) (vs : List Value) → AreNamed types names vs → length vs ≡ length names
-named_length types [] [] h = refl
-named_length types (n ∷ names) (v ∷ vs) h = ap suc (named_length types names vs h.1)
-named_length types [] (v ∷ vs) h = absurd h
-named_length types (n ∷ names) [] h = absurd h
-
--- what is found is among all
-found_fn : (name : List ℕ) (fs : List TraitFn) (f : TraitFn) → AllByRecursion IsTraitFn fs → trait_fn fs name ≡ Some f → IsTraitFn f
-found_fn name [] f h e = absurd cc
-found_fn name (g ∷ fs) f h e = by (bytes_eq name g.name) (found_fn name fs f h.1) e
-  where
-    by : (b : Bool) → (trait_fn fs name ≡ Some f → IsTraitFn f) → cond b (Some g) (trait_fn fs name) ≡ Some f → IsTraitFn f
-    by true go e = let same : g ≡ f = cc in subst IsTraitFn same h.0
-    by false go e = go e
 
 found_function : (p : Program) (term : List ℕ) (fs : List Function) (f : Function) → AllByRecursion (IsFunction p) fs → function_of term fs ≡ Some f → IsFunction p f
 found_function p term [] f h e = absurd cc
@@ -53,23 +35,23 @@ found_function p term (g ∷ fs) f h e = by (same_bytes term g.term) (found_func
     by true go e = let same : g ≡ f = cc in subst (IsFunction p) same h.0
     by false go e = go e
 
--- a function of the trait that is called answers with its kind
-fn_answers : (p : Program) (k : Function) (m : Meaning) (name : List ℕ) (o : Option TraitFn) → trait_fn p.trait_fns name ≡ o → AllByRecursion IsTraitFn p.trait_fns → AreRight p k m [] (entries m) → (IsUnanswered (callee.External name) (entries m) → ⊥)
+-- a function of the trait that is called answers with its kind and its results
+fn_answers : (p : Program) (k : Function) (m : Meaning) (name : List ℕ) (o : Option TraitFn) → trait_fn p.trait_fns name ≡ o → AreRight p k m [] (entries m) → (IsUnanswered (callee.External name) (entries m) → ⊥)
     → (count : ℕ) (h : Holds) → call_holds o count ≡ Some h → (vs : List Value) (made : List Made) → HoldsIn h (answer_held (answer m (callee.External name) vs made))
-fn_answers p k m name None e all right some count h f vs made = absurd cc
-fn_answers p k m name (Some g) e all right some count h f vs made = by (length g.params == count) f
+fn_answers p k m name None e right some count h f vs made = absurd cc
+fn_answers p k m name (Some g) e right some count h f vs made = by (length g.params == count) f
   where
     is : signature_of p (callee.External name) ≡ Some (trait_signature g)
     is = ap (λ (o : Option TraitFn). option_map trait_signature o) e
 
-    by : (b : Bool) → (if b then kind_holds g.kind else None) ≡ Some h → HoldsIn h (answer_held (answer m (callee.External name) vs made))
-    by true is_so = answer_holds p.types (trait_signature g) h (answer m (callee.External name) vs made) (found_fn name p.trait_fns g all e).results is_so (answer_fits p k m (callee.External name) (trait_signature g) right some is vs made)
+    by : (b : Bool) → (if b then kind_holds g.kind (results_item g.results) else None) ≡ Some h → HoldsIn h (answer_held (answer m (callee.External name) vs made))
+    by true is_so = answer_holds p.types (trait_signature g) h (answer m (callee.External name) vs made) is_so (answer_fits p k m (callee.External name) (trait_signature g) right some is vs made)
     by false is_so = absurd cc
 
-answering : (p : Program) (m : Meaning) (f : Function) → AllByRecursion IsTraitFn p.trait_fns → AreRight p f m [] (entries m) → ((c : Callee) → Contains (body_calls f.body) c → IsUnanswered c (entries m) → ⊥)
+answering : (p : Program) (m : Meaning) (f : Function) → AreRight p f m [] (entries m) → ((c : Callee) → Contains (body_calls f.body) c → IsUnanswered c (entries m) → ⊥)
     → Answering p.trait_fns m (body_calls f.body)
-answering p m f all right some (callee.External name) k count h e vs made = fn_answers p f m name (trait_fn p.trait_fns name) refl all right (some (callee.External name) k) count h e vs made
-answering p m f all right some (callee.Internal term) k count h e vs made = absurd cc
+answering p m f right some (callee.External name) k count h e vs made = fn_answers p f m name (trait_fn p.trait_fns name) refl right (some (callee.External name) k) count h e vs made
+answering p m f right some (callee.Internal term) k count h e vs made = absurd cc
 
 -- in a well-formed program
 pub runs : (p : Program) (term : List ℕ) (args : List Value) (m : Meaning) (f : Function) → IsWellFormed p → MayRun p term args m f → HasRun p term args m
@@ -78,7 +60,7 @@ runs p term args m f well may =
     let count : length args ≡ length f.params = named_length p.types (type_names f.params) args may.typed ∙ length-map f.params (λ (ty : Ty). ty.name) in
     let scoped : IsBodyScoped p.trait_fns f.kind (length args) [] f.body = subst (λ n. IsBodyScoped p.trait_fns f.kind n [] f.body) (sym count) is.scoped in
     let around : Around = record { meaning = m; program = p; function = f; args = args; limit = None } in
-    let ends = function_ends p.trait_fns around f.kind f.body [] [] nothing_done is.forms scoped is.fits (answering p m f well.trait_fns may.right may.answered) tt in
+    let ends = function_ends p.trait_fns around f.kind f.body [] [] nothing_done is.forms scoped is.fits (answering p m f may.right may.answered) tt in
     record {
       ran = record { end = ends.end; calls = ends.left.made };
       is = ap (function_run p m args) may.found ∙ ap ended ends.is;

@@ -1,7 +1,7 @@
 //! What operands hold, and what is computed from them.
 
 ghost use Rattle.std.specs.Prelude.{◌≡◌, ◌↔◌, IsTrue, Some, []};
-ghost use Rattle.isle_tree.specs.WellFormed.{local_holds, operand_holds, read_holds, is_value, are_values, are_field_values, made_holds, kind_holds, call_holds, callee_holds, inner_holds, expr_holds};
+ghost use Rattle.isle_tree.specs.WellFormed.{local_holds, operand_holds, read_holds, is_value, are_values, are_field_values, made_holds, results_item, kind_holds, call_holds, callee_holds, inner_holds, part_holds, expr_holds};
 
 use isle_core::{Callee, ReturnKind, Text};
 use isle_scope::Table;
@@ -71,13 +71,23 @@ fn are_values(bound: &Table<Holds>, params: usize, reads: &[Read]) -> bool
     true
 }
 
+// What an answer has: a value where there is one result, else a tuple.
+fn results_item(results: &[Text]) -> Item
+    ensures { result ≡ results_item results.now }
+{
+    match results {
+        [_] => Item::Value,
+        [] | [_, _, ..] => Item::Tuple(results.len()),
+    }
+}
+
 // What an answer holds.
-fn kind_holds(kind: ReturnKind) -> Option<Holds>
-    ensures { result ≡ kind_holds kind }
+fn kind_holds(kind: ReturnKind, item: Item) -> Option<Holds>
+    ensures { result ≡ kind_holds kind item }
 {
     match kind {
-        ReturnKind::Plain => Some(Holds::One(Item::Value)),
-        ReturnKind::Option => Some(Holds::Optional(Item::Value)),
+        ReturnKind::Plain => Some(Holds::One(item)),
+        ReturnKind::Option => Some(Holds::Optional(item)),
         ReturnKind::Iterator => None,
     }
 }
@@ -87,7 +97,7 @@ fn call_holds(f: &TraitFn, count: usize) -> Option<Holds>
     ensures { result ≡ call_holds (Some f.now) count }
 {
     if f.params.as_slice().len() == count {
-        kind_holds(f.kind)
+        kind_holds(f.kind, results_item(f.results.as_slice()))
     } else {
         None
     }
@@ -144,6 +154,16 @@ fn some_holds(bound: &Table<Holds>, params: usize, read: &Read) -> Option<Holds>
     }
 }
 
+// What a part of a tuple holds, where it has that part.
+fn part_holds(part: usize, holds: Option<Holds>) -> Option<Holds>
+    ensures { result ≡ part_holds part holds }
+{
+    match holds {
+        Some(Holds::One(Item::Tuple(count))) if part < count => Some(Holds::One(Item::Value)),
+        Some(Holds::One(_) | Holds::Optional(_) | Holds::Several(_)) | None => None,
+    }
+}
+
 // Whether each field is of a value.
 fn are_field_values(bound: &Table<Holds>, params: usize, fields: &[(Text, Read)]) -> bool
     ensures { result ≡ are_field_values params bound.now fields.now }
@@ -184,6 +204,6 @@ pub fn expr_holds(
         TExpr::Variant { fields, .. } | TExpr::Struct { fields, .. } => {
             made_holds(bound, params, fields.as_slice())
         }
-        TExpr::Tuple(..) => None,
+        TExpr::Tuple(source, part) => part_holds(*part, operand_holds(bound, params, source)),
     }
 }

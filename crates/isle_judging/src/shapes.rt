@@ -118,14 +118,13 @@ fn is_expr(e: &TExpr) -> bool
     match e {
         TExpr::Read(read) | TExpr::Some(read) => is_read(read),
         TExpr::Call { call, .. } => is_call(call),
-        TExpr::Try { source, .. } => is_operand(source),
+        TExpr::Try { source, .. } | TExpr::Tuple(source, _) => is_operand(source),
         TExpr::Variant {
             ty,
             variant,
             fields,
         } => is_variant_made(ty.as_str(), variant.as_str(), fields.as_slice()),
         TExpr::Struct { ty, fields } => is_struct_made(ty.as_str(), fields.as_slice()),
-        TExpr::Tuple(..) => false,
     }
 }
 

@@ -9,14 +9,16 @@ use isle_core::Text;
 use isle_spelling::is_identifier;
 use isle_tree::TraitFn;
 
-// Whether there is one result, whose type has a name of Rust.
+// Whether each result's type has a name of Rust.
 fn are_results(names: &[Text]) -> bool
     ensures { IsTrue result ↔ AreResults names.now }
 {
-    if names.len() != 1 {
-        return false;
+    for name in names {
+        if !is_identifier(name.as_str()) {
+            return false;
+        }
     }
-    is_identifier(names[0].as_str())
+    true
 }
 
 // Whether the trait may have the function.

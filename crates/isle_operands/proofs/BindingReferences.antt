@@ -10,28 +10,28 @@ use Rattle.isle_core.specs.Path.{Path, path_over, at}
 use Rattle.isle_core.specs.Rule.{Environment}
 use Rattle.isle_core.specs.Setting.{Setting, paths_in}
 use Rattle.isle_simulation.specs.References.{type_at, is_declared, is_reference, is_reference_in}
-use Rattle.isle_operands.specs.BindingTypes.{is_made}
+use Rattle.isle_operands.specs.BindingTypes.{is_owned}
 use Rattle.isle_operands.proofs.PathAt.{path_of, path_none}
 
--- what is made is no reference
-made_no : (env : Environment) (t : Term) (ps : List Path) (b : Binding) → is_made (Some b) ≡ true → false ≡ is_reference env t (path_over ps b)
-made_no env t ps (binding.MakeVariant ty variant fields) e = refl
-made_no env t ps (binding.MakeStruct ty fields) e = refl
-made_no env t ps (binding.ConstBool val ty) e = absurd cc
-made_no env t ps (binding.ConstInt val ty) e = absurd cc
-made_no env t ps (binding.ConstPrim val) e = absurd cc
-made_no env t ps (binding.Argument index) e = absurd cc
-made_no env t ps (binding.Extractor term parameter) e = absurd cc
-made_no env t ps (binding.Constructor term parameters instance) e = absurd cc
-made_no env t ps (binding.Iterator source) e = absurd cc
-made_no env t ps (binding.MatchVariant source variant field) e = absurd cc
-made_no env t ps (binding.ExtractStruct source field) e = absurd cc
-made_no env t ps (binding.MakeSome inner) e = absurd cc
-made_no env t ps (binding.MatchSome source) e = absurd cc
-made_no env t ps (binding.MatchTuple source field) e = absurd cc
+-- what is owned is no reference
+owned_no : (env : Environment) (t : Term) (ps : List Path) (b : Binding) → is_owned (Some b) ≡ true → false ≡ is_reference env t (path_over ps b)
+owned_no env t ps (binding.MakeVariant ty variant fields) e = refl
+owned_no env t ps (binding.MakeStruct ty fields) e = refl
+owned_no env t ps (binding.ConstBool val ty) e = absurd cc
+owned_no env t ps (binding.ConstInt val ty) e = absurd cc
+owned_no env t ps (binding.ConstPrim val) e = absurd cc
+owned_no env t ps (binding.Argument index) e = absurd cc
+owned_no env t ps (binding.Extractor term parameter) e = absurd cc
+owned_no env t ps (binding.Constructor term parameters instance) e = absurd cc
+owned_no env t ps (binding.Iterator source) e = absurd cc
+owned_no env t ps (binding.MatchVariant source variant field) e = absurd cc
+owned_no env t ps (binding.ExtractStruct source field) e = absurd cc
+owned_no env t ps (binding.MakeSome inner) e = absurd cc
+owned_no env t ps (binding.MatchSome source) e = absurd cc
+owned_no env t ps (binding.MatchTuple source field) e = refl
 
 -- of the others the type says it
-typed_so : (env : Environment) (t : Term) (ps : List Path) (b : Binding) → is_made (Some b) ≡ false → option_map_or (is_declared env) (type_at env t (path_over ps b)) false ≡ is_reference env t (path_over ps b)
+typed_so : (env : Environment) (t : Term) (ps : List Path) (b : Binding) → is_owned (Some b) ≡ false → option_map_or (is_declared env) (type_at env t (path_over ps b)) false ≡ is_reference env t (path_over ps b)
 typed_so env t ps (binding.MakeVariant ty variant fields) e = absurd cc
 typed_so env t ps (binding.MakeStruct ty fields) e = absurd cc
 typed_so env t ps (binding.ConstBool val ty) e = refl
@@ -45,18 +45,18 @@ typed_so env t ps (binding.MatchVariant source variant field) e = refl
 typed_so env t ps (binding.ExtractStruct source field) e = refl
 typed_so env t ps (binding.MakeSome inner) e = refl
 typed_so env t ps (binding.MatchSome source) e = refl
-typed_so env t ps (binding.MatchTuple source field) e = refl
+typed_so env t ps (binding.MatchTuple source field) e = absurd cc
 
-pub made_is_none : (s : Setting) (b : BindingId) → is_made (slice_get s.bindings b.0) ≡ true → false ≡ is_reference_in s b
-made_is_none s b e = one (slice_get s.bindings b.0) refl e
+pub owned_is_none : (s : Setting) (b : BindingId) → is_owned (slice_get s.bindings b.0) ≡ true → false ≡ is_reference_in s b
+owned_is_none s b e = one (slice_get s.bindings b.0) refl e
   where
-    one : (o : Option Binding) → slice_get s.bindings b.0 ≡ o → is_made o ≡ true → false ≡ is_reference_in s b
-    one (Some d) at is = let h = path_of s.bindings b.0 d at in made_no s.env s.term h.0 d is ∙ ap (is_reference s.env s.term) (sym h.1)
+    one : (o : Option Binding) → slice_get s.bindings b.0 ≡ o → is_owned o ≡ true → false ≡ is_reference_in s b
+    one (Some d) at is = let h = path_of s.bindings b.0 d at in owned_no s.env s.term h.0 d is ∙ ap (is_reference s.env s.term) (sym h.1)
     one None at is = absurd cc
 
-pub others_by_type : (s : Setting) (b : BindingId) → is_made (slice_get s.bindings b.0) ≡ false → option_map_or (is_declared s.env) (type_at s.env s.term (at (paths_in s) b)) false ≡ is_reference_in s b
+pub others_by_type : (s : Setting) (b : BindingId) → is_owned (slice_get s.bindings b.0) ≡ false → option_map_or (is_declared s.env) (type_at s.env s.term (at (paths_in s) b)) false ≡ is_reference_in s b
 others_by_type s b e = one (slice_get s.bindings b.0) refl e
   where
-    one : (o : Option Binding) → slice_get s.bindings b.0 ≡ o → is_made o ≡ false → option_map_or (is_declared s.env) (type_at s.env s.term (at (paths_in s) b)) false ≡ is_reference_in s b
+    one : (o : Option Binding) → slice_get s.bindings b.0 ≡ o → is_owned o ≡ false → option_map_or (is_declared s.env) (type_at s.env s.term (at (paths_in s) b)) false ≡ is_reference_in s b
     one (Some d) at is = let h = path_of s.bindings b.0 d at in rw (h.1) (typed_so s.env s.term h.0 d is)
     one None at is = rw (path_none s.bindings b.0 at) refl

@@ -10,20 +10,20 @@ use Rattle.isle_simulation.specs.References.{type_at}
 abbrev pub types_in : Setting → List (Option TypeId)
 types_in s = map (type_at s.env s.term) (paths_in s)
 
--- whether a binding is of a value that is made here
-abbrev pub is_made : Option Binding → Bool
-is_made (Some (binding.MakeVariant ty variant fields)) = true
-is_made (Some (binding.MakeStruct ty fields)) = true
-is_made (Some (binding.ConstBool val ty)) = false
-is_made (Some (binding.ConstInt val ty)) = false
-is_made (Some (binding.ConstPrim val)) = false
-is_made (Some (binding.Argument index)) = false
-is_made (Some (binding.Extractor term parameter)) = false
-is_made (Some (binding.Constructor term parameters instance)) = false
-is_made (Some (binding.Iterator source)) = false
-is_made (Some (binding.MatchVariant source variant field)) = false
-is_made (Some (binding.ExtractStruct source field)) = false
-is_made (Some (binding.MakeSome inner)) = false
-is_made (Some (binding.MatchSome source)) = false
-is_made (Some (binding.MatchTuple source field)) = false
-is_made None = false
+-- whether a binding is of a value that is made here, or is a part of a tuple: neither is a reference
+abbrev pub is_owned : Option Binding → Bool
+is_owned (Some (binding.MakeVariant ty variant fields)) = true
+is_owned (Some (binding.MakeStruct ty fields)) = true
+is_owned (Some (binding.ConstBool val ty)) = false
+is_owned (Some (binding.ConstInt val ty)) = false
+is_owned (Some (binding.ConstPrim val)) = false
+is_owned (Some (binding.Argument index)) = false
+is_owned (Some (binding.Extractor term parameter)) = false
+is_owned (Some (binding.Constructor term parameters instance)) = false
+is_owned (Some (binding.Iterator source)) = false
+is_owned (Some (binding.MatchVariant source variant field)) = false
+is_owned (Some (binding.ExtractStruct source field)) = false
+is_owned (Some (binding.MakeSome inner)) = false
+is_owned (Some (binding.MatchSome source)) = false
+is_owned (Some (binding.MatchTuple source field)) = true
+is_owned None = false

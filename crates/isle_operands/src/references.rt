@@ -29,12 +29,14 @@ pub fn is_declared(typed: &Typed<'_>, ty: Option<TypeId>) -> bool
     }
 }
 
-// Returns whether a binding is of a value that is made here.
-fn is_made(context: &Context<'_>, binding: BindingId) -> bool
-    ensures { result ≡ BindingTypes.is_made (slice_get (bindings_in context.now) binding.0) }
+// Returns whether a binding is of a value that is made here, or is a part of a tuple.
+fn is_owned(context: &Context<'_>, binding: BindingId) -> bool
+    ensures { result ≡ BindingTypes.is_owned (slice_get (bindings_in context.now) binding.0) }
 {
     match context.bindings.get(binding.index()) {
-        Some(Binding::MakeVariant { .. }) | Some(Binding::MakeStruct { .. }) => true,
+        Some(Binding::MakeVariant { .. })
+        | Some(Binding::MakeStruct { .. })
+        | Some(Binding::MatchTuple { .. }) => true,
         Some(Binding::ConstBool { .. })
         | Some(Binding::ConstInt { .. })
         | Some(Binding::ConstPrim { .. })
@@ -46,7 +48,6 @@ fn is_made(context: &Context<'_>, binding: BindingId) -> bool
         | Some(Binding::ExtractStruct { .. })
         | Some(Binding::MakeSome { .. })
         | Some(Binding::MatchSome { .. })
-        | Some(Binding::MatchTuple { .. })
         | None => false,
     }
 }
@@ -55,7 +56,7 @@ fn is_made(context: &Context<'_>, binding: BindingId) -> bool
 pub fn is_reference(typed: &Typed<'_>, binding: BindingId) -> bool
     ensures { result ≡ References.is_reference_in (setting_in typed.now) binding }
 {
-    if is_made(&typed.context, binding) {
+    if is_owned(&typed.context, binding) {
         return false;
     }
     is_declared(typed, type_of(typed.types, binding))

@@ -2,12 +2,12 @@
 
 ghost use Rattle.std.specs.Prelude.{◌≡◌, List as ListOf, map, option_map, slice_get, IfOk};
 ghost use Rattle.isle_core.specs.declared.types.Term.{Term as TermOf};
-ghost use Rattle.isle_core.specs.Path.{Path, VariantField, StructField, path_over, at};
+ghost use Rattle.isle_core.specs.Path.{Path, VariantField, StructField, Part, path_over, at};
 ghost use Rattle.isle_core.specs.Rule.{Environment};
 ghost use Rattle.isle_operands.specs.BindingTypes.{types_in};
 ghost use Rattle.isle_operands.specs.Contexts.{env_of, setting_of};
 ghost use Rattle.isle_simulation.specs.References as References;
-ghost use Rattle.isle_simulation.specs.References.{type_at};
+ghost use Rattle.isle_simulation.specs.References.{extractor_at, type_at};
 
 use crate::constants::ConstTypes;
 use crate::context::Context;
@@ -82,15 +82,63 @@ fn struct_field(context: &Context<'_>, source: Option<TypeId>, field: TupleIndex
     }
 }
 
-// Returns the type of a binding over those of the bindings before it.
+// Returns the extractor whose answer the binding of this number has, where these are the extractors.
+fn answered_by(extractors: &[Option<TermId>], binding: BindingId) -> Option<TermId>
+    ensures { (ps : ListOf Path) → extractors.now ≡ map extractor_at ps → result ≡ extractor_at (at ps binding) }
+{
+    match extractors.get(binding.index()) {
+        Some(term) => *term,
+        None => None,
+    }
+}
+
+// Returns the extractor whose answer a binding has, over those of the bindings before it.
+fn extractor_of(extractors: &[Option<TermId>], binding: &Binding) -> Option<TermId>
+    ensures { (ps : ListOf Path) → extractors.now ≡ map extractor_at ps → result ≡ extractor_at (path_over ps binding.now) }
+{
+    match binding {
+        Binding::Extractor { term, .. } => Some(*term),
+        Binding::MatchSome { source } => answered_by(extractors, *source),
+        Binding::ConstBool { .. }
+        | Binding::ConstInt { .. }
+        | Binding::ConstPrim { .. }
+        | Binding::Argument { .. }
+        | Binding::Constructor { .. }
+        | Binding::Iterator { .. }
+        | Binding::MakeVariant { .. }
+        | Binding::MakeStruct { .. }
+        | Binding::MatchVariant { .. }
+        | Binding::ExtractStruct { .. }
+        | Binding::MakeSome { .. }
+        | Binding::MatchTuple { .. } => None,
+    }
+}
+
+// Returns the type of a part of an extractor's answer.
+fn part_type(context: &Context<'_>, extractor: Option<TermId>, field: TupleIndex) -> Option<TypeId>
+    ensures { (p : Path) → extractor ≡ extractor_at p → result ≡ type_at (env_of context.now) context.now.term.now (Part field.0 p) }
+{
+    context
+        .termenv
+        .terms
+        .as_slice()
+        .get(extractor?.index())?
+        .arg_tys
+        .as_slice()
+        .get(field.index())
+        .copied()
+}
+
+// Returns the type of a binding over those of the bindings before it, and their extractors.
 fn binding_type(
     context: &Context<'_>,
     consts: &ConstTypes<'_>,
     types: &[Option<TypeId>],
+    extractors: &[Option<TermId>],
     binding: &Binding,
 ) -> Option<TypeId>
     requires { consts.now ≡ context.now.typeenv.now.consts }
-    ensures { (ps : ListOf Path) → types.now ≡ map (type_at (env_of context.now) context.now.term.now) ps → result ≡ type_at (env_of context.now) context.now.term.now (path_over ps binding.now) }
+    ensures { (ps : ListOf Path) → types.now ≡ map (type_at (env_of context.now) context.now.term.now) ps → extractors.now ≡ map extractor_at ps → result ≡ type_at (env_of context.now) context.now.term.now (path_over ps binding.now) }
 {
     match binding {
         Binding::ConstBool { ty, .. } => Some(*ty),
@@ -110,7 +158,10 @@ fn binding_type(
         }
         Binding::MatchSome { source } => type_of(types, *source),
         Binding::Extractor { term, .. } => extracted_type(context, *term),
-        Binding::Iterator { .. } | Binding::MakeSome { .. } | Binding::MatchTuple { .. } => None,
+        Binding::MatchTuple { source, field } => {
+            part_type(context, answered_by(extractors, *source), *field)
+        }
+        Binding::Iterator { .. } | Binding::MakeSome { .. } => None,
     }
 }
 
@@ -124,9 +175,18 @@ pub fn binding_types(
     ensures { IfOk result (λ types. types.items ≡ types_in (setting_of context.now)) }
 {
     let mut types = Vec::new(alloc);
+    let mut extractors = Vec::new(alloc);
     for binding in context.bindings {
-        let ty = binding_type(context, consts, types.as_slice(), binding);
+        let ty = binding_type(
+            context,
+            consts,
+            types.as_slice(),
+            extractors.as_slice(),
+            binding,
+        );
+        let extractor = extractor_of(extractors.as_slice(), binding);
         types.push(ty)?;
+        extractors.push(extractor)?;
     }
     Ok(types)
 }

@@ -14,7 +14,7 @@ use Rattle.isle_tree.specs.declared.tree.TPat.TheVariants as pattern
 use Rattle.isle_tree.specs.Program.{Stmt, Let, LetList, IfEq, IfLet, Match, Loop, Return, Extend, Overflow, Log, Split, Tail, Body, Done, Then, Arms, NoArm, Arm, Function, Program}
 use Rattle.isle_places.specs.DeclaredTypes.{Asked, variant_asked, struct_asked}
 use Rattle.isle_places.specs.Signatures.{Signature, signature_of}
-use Rattle.isle_places.specs.Told.{Told, AValue, AnOption, Untold, Tells, operand_told, operand_of, read_told, expr_told, field_told, pattern_told}
+use Rattle.isle_places.specs.Told.{Told, AValue, AnOption, ATuple, AnOptionalTuple, Untold, Tells, operand_told, operand_of, read_told, expr_told, field_told, pattern_told}
 
 -- what stands at a place, and the name of its type
 abbrev pub Place : Type 0
@@ -33,6 +33,8 @@ own_or (operand.Name name) t = t
 abbrev pub where_told : Operand → Told → List Place
 where_told o (AValue ty) = (o, ty) ∷ []
 where_told o (AnOption ty) = []
+where_told o (ATuple tys) = []
+where_told o (AnOptionalTuple tys) = []
 where_told o Untold = []
 
 -- an operand at a place of which this is told

@@ -17,32 +17,51 @@ use Rattle.isle_tree.specs.Program.{Program, Function}
 use Rattle.isle_places.specs.DeclaredTypes.{Asked, These, Anything, Nowhere, second_named, variant_asked, struct_asked}
 use Rattle.isle_places.specs.Signatures.{Signature, signature_of}
 
--- a value of the type of this name, an option of one, or something whose type isn't fixed
+-- a value of the type of this name, or a tuple of values of these types, or an option of either, or something whose type isn't fixed
 pub data Told : Type 0 where
   AValue : (ty : List ℕ) → Told
   AnOption : (ty : List ℕ) → Told
+  ATuple : (tys : List (List ℕ)) → Told
+  AnOptionalTuple : (tys : List (List ℕ)) → Told
   Untold : Told
+
+-- a value of a type, where there is one
+abbrev pub typed_told : Option (List ℕ) → Told
+typed_told None = Untold
+typed_told (Some ty) = AValue ty
 
 -- what is within an option
 abbrev pub within : Told → Told
 within (AnOption ty) = AValue ty
+within (AnOptionalTuple tys) = ATuple tys
 within (AValue ty) = Untold
+within (ATuple tys) = Untold
 within Untold = Untold
 
 -- an option of a value
 abbrev pub option_of : Told → Told
 option_of (AValue ty) = AnOption ty
 option_of (AnOption ty) = Untold
+option_of (ATuple tys) = Untold
+option_of (AnOptionalTuple tys) = Untold
 option_of Untold = Untold
 
--- an answer of a kind with these results: several and lists are not told
+-- a part of a tuple
+abbrev pub part_told : ℕ → Told → Told
+part_told part (ATuple tys) = typed_told (slice_get tys part)
+part_told part (AValue ty) = Untold
+part_told part (AnOption ty) = Untold
+part_told part (AnOptionalTuple tys) = Untold
+part_told part Untold = Untold
+
+-- an answer of a kind with these results, of which none and several are a tuple: lists are not told
 abbrev pub answer_told : ReturnKind → List (List ℕ) → Told
 answer_told kind.Plain (ty ∷ []) = AValue ty
 answer_told kind.Option (ty ∷ []) = AnOption ty
-answer_told kind.Plain [] = Untold
-answer_told kind.Plain (ty ∷ other ∷ more) = Untold
-answer_told kind.Option [] = Untold
-answer_told kind.Option (ty ∷ other ∷ more) = Untold
+answer_told kind.Plain [] = ATuple []
+answer_told kind.Plain (ty ∷ other ∷ more) = ATuple (ty ∷ other ∷ more)
+answer_told kind.Option [] = AnOptionalTuple []
+answer_told kind.Option (ty ∷ other ∷ more) = AnOptionalTuple (ty ∷ other ∷ more)
 answer_told kind.Iterator tys = Untold
 
 -- what a call gives
@@ -86,7 +105,7 @@ operand_of (read.Clone o) = o
 abbrev pub read_told : Function → Tells → Read → Told
 read_told f tells r = operand_told f tells (operand_of r)
 
--- what is computed; parts of tuples are not told
+-- what is computed
 abbrev pub expr_told : Program → Function → Tells → TExpr → Told
 expr_told p f tells (expr.Read r) = read_told f tells r
 expr_told p f tells (expr.Call borrow call) = call_told (signature_of p call.callee)
@@ -94,12 +113,7 @@ expr_told p f tells (expr.Variant ty variant fields) = AValue ty
 expr_told p f tells (expr.Struct ty fields) = AValue ty
 expr_told p f tells (expr.Some r) = option_of (read_told f tells r)
 expr_told p f tells (expr.Try source as_ref) = within (operand_told f tells source)
-expr_told p f tells (expr.Tuple source part) = Untold
-
--- what a field of a type holds, where there is one
-abbrev pub typed_told : Option (List ℕ) → Told
-typed_told None = Untold
-typed_told (Some ty) = AValue ty
+expr_told p f tells (expr.Tuple source part) = part_told part (operand_told f tells source)
 
 -- so of the field of this name, of a type that asks so
 abbrev pub field_told : Asked → List ℕ → Told

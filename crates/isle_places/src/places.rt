@@ -26,7 +26,7 @@ fn push_told<'s>(
 {
     match told {
         Told::AValue(ty) => Ok(found.push((operand, ty))?),
-        Told::AnOption(_) | Told::Untold => Ok(()),
+        Told::AnOption(_) | Told::ATuple(_) | Told::AnOptionalTuple(_) | Told::Untold => Ok(()),
     }
 }
 

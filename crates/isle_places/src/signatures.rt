@@ -1,6 +1,7 @@
 //! What the functions of a program take and answer.
 
 ghost use Rattle.std.specs.Prelude.{◌≡◌, IfOk, option_map};
+ghost use Rattle.isle_core.specs.declared.types.ReturnKind.TheVariants as kind;
 ghost use Rattle.isle_tree.specs.Views.{function, program};
 ghost use Rattle.isle_places.specs.Signatures.{trait_signature, term_signature, signature_of};
 ghost use Rattle.isle_places.specs.SignatureViews.{signature};
@@ -22,6 +23,26 @@ pub struct Signature<'p> {
     pub params: &'p [Ty],
     pub results: &'p [Text],
     pub kind: ReturnKind,
+}
+
+// What is told of an answer with these results.
+fn plain_told<'p>(results: &'p [Text]) -> Told<'p>
+    ensures { told result ≡ answer_told kind.Plain results.now }
+{
+    match results {
+        [ty] => Told::AValue(ty.as_str()),
+        [] | [_, _, ..] => Told::ATuple(results),
+    }
+}
+
+// So of an option of them.
+fn option_told<'p>(results: &'p [Text]) -> Told<'p>
+    ensures { told result ≡ answer_told kind.Option results.now }
+{
+    match results {
+        [ty] => Told::AnOption(ty.as_str()),
+        [] | [_, _, ..] => Told::AnOptionalTuple(results),
+    }
 }
 
 impl<'p> Signature<'p> {
@@ -51,13 +72,9 @@ impl<'p> Signature<'p> {
     pub fn answer_told(&self) -> Told<'p>
         ensures { told result ≡ answer_told (signature self.now).kind (signature self.now).results }
     {
-        let ty = match self.results {
-            [ty] => ty.as_str(),
-            _ => return Told::Untold,
-        };
         match self.kind {
-            ReturnKind::Plain => Told::AValue(ty),
-            ReturnKind::Option => Told::AnOption(ty),
+            ReturnKind::Plain => plain_told(self.results),
+            ReturnKind::Option => option_told(self.results),
             ReturnKind::Iterator => Told::Untold,
         }
     }

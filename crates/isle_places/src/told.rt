@@ -6,14 +6,17 @@ ghost use Rattle.isle_places.specs.Told as told_of;
 ghost use Rattle.isle_places.specs.ToldViews.{told, tells};
 
 use crate::signatures::Signatures;
+use isle_core::Text;
 use isle_scope::Table;
 use isle_tree::{Function, Operand, Read, TExpr, Ty};
 
-/// A value of the type of this name, an option of one, or something whose type isn't told.
+/// A value of the type of this name, a tuple of values of these types, an option of either, or something whose type isn't told.
 #[derive(Clone, Copy)]
 pub enum Told<'s> {
     AValue(&'s str),
     AnOption(&'s str),
+    ATuple(&'s [Text]),
+    AnOptionalTuple(&'s [Text]),
     Untold,
 }
 
@@ -23,7 +26,8 @@ pub fn within<'s>(of: Told<'s>) -> Told<'s>
 {
     match of {
         Told::AnOption(ty) => Told::AValue(ty),
-        Told::AValue(_) | Told::Untold => Told::Untold,
+        Told::AnOptionalTuple(tys) => Told::ATuple(tys),
+        Told::AValue(_) | Told::ATuple(_) | Told::Untold => Told::Untold,
     }
 }
 
@@ -33,7 +37,31 @@ fn option_of<'s>(of: Told<'s>) -> Told<'s>
 {
     match of {
         Told::AValue(ty) => Told::AnOption(ty),
-        Told::AnOption(_) | Told::Untold => Told::Untold,
+        Told::AnOption(_) | Told::ATuple(_) | Told::AnOptionalTuple(_) | Told::Untold => {
+            Told::Untold
+        }
+    }
+}
+
+// What is told of a value of the type at an index, where there is one.
+fn type_told<'s>(tys: &'s [Text], index: usize) -> Told<'s>
+    ensures { told result ≡ told_of.typed_told (slice_get tys.now index) }
+{
+    match tys.get(index) {
+        Some(ty) => Told::AValue(ty.as_str()),
+        None => Told::Untold,
+    }
+}
+
+// What is told of a part of a tuple.
+fn part_told<'s>(of: Told<'s>, part: usize) -> Told<'s>
+    ensures { told result ≡ told_of.part_told part (told of.entry) }
+{
+    match of {
+        Told::ATuple(tys) => type_told(tys, part),
+        Told::AValue(_) | Told::AnOption(_) | Told::AnOptionalTuple(_) | Told::Untold => {
+            Told::Untold
+        }
     }
 }
 
@@ -97,6 +125,6 @@ pub fn expr_told<'s>(
         TExpr::Variant { ty, .. } | TExpr::Struct { ty, .. } => Told::AValue(ty.as_str()),
         TExpr::Some(read) => option_of(operand_told(f, bound, operand_of(read))),
         TExpr::Try { source, .. } => within(operand_told(f, bound, source)),
-        TExpr::Tuple(..) => Told::Untold,
+        TExpr::Tuple(source, part) => part_told(operand_told(f, bound, source), *part),
     }
 }

@@ -12,7 +12,6 @@ use Rattle.isle_core.specs.ValueViews.{answer, case, pure_answers, turn_answers}
 use Rattle.isle_values.specs.declared.written.Written.{Written as CodeWritten}
 use Rattle.isle_answers.specs.declared.form.AnswerForm.{AnswerForm as CodeAnswerForm}
 use Rattle.isle_answers.specs.Views.{answer_seen, case_seen}
-use Rattle.isle_run_inputs.specs.Requested.{given_type}
 use Rattle.isle_run_inputs.specs.AnswersAt.{answer_at, turns_by, case_at, cases_by}
 
 -- ---- lists
@@ -41,19 +40,19 @@ all_made f g forms i found le were = sym (append-nil (map f found)) ∙ ap (λ x
 -- ---- turns
 
 -- those of a callee that are answered at a type
-pub turns_made : (env : Environment) (ty : TypeId) (callee copy : Callee) (turns : List CodeAnswerForm) (rest : CodeAnswerForm) (found : List CodeAnswer) (last : CodeAnswer)
-    → copy ≡ callee → map answer found ≡ map (λ (x : CodeAnswerForm). answer_at env (Some ty) (answer_seen x)) turns → answer last ≡ answer_at env (Some ty) (answer_seen rest)
+pub turns_made : (env : Environment) (ty : TypeId) (tys : List TypeId) (callee copy : Callee) (turns : List CodeAnswerForm) (rest : CodeAnswerForm) (found : List CodeAnswer) (last : CodeAnswer)
+    → tys ≡ ty ∷ [] → copy ≡ callee → map answer found ≡ map (λ (x : CodeAnswerForm). answer_at env tys (answer_seen x)) turns → answer last ≡ answer_at env tys (answer_seen rest)
     → turn_answers (record { callee = copy; turns = found; rest = last }) ≡ turns_by env (Some ty) callee (map answer_seen turns) (answer_seen rest)
-turns_made env ty callee copy turns rest found last same all end =
+turns_made env ty tys callee copy turns rest found last one same all end =
     ap (λ c. record { callee = c; turns = map answer found; rest = answer last }) same
-    ∙ ap (λ ts. record { callee = callee; turns = ts; rest = answer last }) (all ∙ seen_first (answer_at env (Some ty)) answer_seen turns)
-    ∙ ap (λ a. record { callee = callee; turns = map (answer_at env (Some ty)) (map answer_seen turns); rest = a }) end
+    ∙ ap (λ ts. record { callee = callee; turns = ts; rest = answer last }) (all ∙ ap (λ xs. map (λ (x : CodeAnswerForm). answer_at env xs (answer_seen x)) turns) one ∙ seen_first (answer_at env (ty ∷ [])) answer_seen turns)
+    ∙ ap (λ a. record { callee = callee; turns = map (answer_at env (ty ∷ [])) (map answer_seen turns); rest = a }) (end ∙ ap (λ xs. answer_at env xs (answer_seen rest)) one)
 
 -- ---- cases
 
 -- those of the extractor of a term
 pub cases_made : (env : Environment) (t : Term) (callee copy : Callee) (cases : List (List CodeWritten × CodeAnswerForm)) (rest : CodeAnswerForm) (found : List (List CodeValue × CodeAnswer)) (last : CodeAnswer)
-    → copy ≡ callee → map case found ≡ map (λ (x : List CodeWritten × CodeAnswerForm). case_at env t (case_seen x)) cases → answer last ≡ answer_at env (given_type t) (answer_seen rest)
+    → copy ≡ callee → map case found ≡ map (λ (x : List CodeWritten × CodeAnswerForm). case_at env t (case_seen x)) cases → answer last ≡ answer_at env t.arg_tys (answer_seen rest)
     → pure_answers (record { callee = copy; cases = found; rest = last }) ≡ cases_by env (Some t) callee (map case_seen cases) (answer_seen rest)
 cases_made env t callee copy cases rest found last same all end =
     ap (λ c. record { callee = c; cases = map case found; rest = answer last }) same

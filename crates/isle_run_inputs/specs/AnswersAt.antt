@@ -9,20 +9,33 @@ use Rattle.isle_core.specs.Value as value
 use Rattle.isle_core.specs.Meaning.{PureAnswers, TurnAnswers, Meaning}
 use Rattle.isle_answers.specs.Form.{ResultForm, One, Tuple, AnswerForm, Plain, Found, Nothing, Several, CaseForm, Form, Held, Max, Const, Answers, Turns}
 use Rattle.isle_values.specs.Views.{in_order}
-use Rattle.isle_run_inputs.specs.ValuesAt.{value_at_any, values_at}
-use Rattle.isle_run_inputs.specs.Requested.{answer_type, extractor_term, given_type, constant_type}
+use Rattle.isle_values.specs.Written.{Written}
+use Rattle.isle_run_inputs.specs.ValuesAt.{misfit, value_at_any, values_at}
+use Rattle.isle_run_inputs.specs.Requested.{answer_type, extractor_term, constant_type}
 
--- a result at the type of what its callee answers
-abbrev pub result_at : Environment → Option TypeId → ResultForm → List value.Value
-result_at env ty (One v) = value_at_any env ty v ∷ []
-result_at env ty (Tuple vs) = []
+-- the type where there is only one
+abbrev pub one_type : List TypeId → Option TypeId
+one_type [] = None
+one_type (ty ∷ []) = Some ty
+one_type (ty ∷ other ∷ tys) = None
 
--- an answer at that type
-abbrev pub answer_at : Environment → Option TypeId → AnswerForm → Answer
-answer_at env ty (Plain r) = value.Plain (result_at env ty r)
-answer_at env ty (Found r) = value.Found (result_at env ty r)
-answer_at env ty Nothing = value.Nothing
-answer_at env ty (Several rs) = value.Several []
+-- a tuple at the types of none or several results; where there is one, it is none of its type
+abbrev pub tuple_at : Environment → List TypeId → List Written → List value.Value
+tuple_at env [] vs = values_at env [] (in_order vs)
+tuple_at env (ty ∷ []) vs = misfit ∷ []
+tuple_at env (ty ∷ other ∷ tys) vs = values_at env (ty ∷ other ∷ tys) (in_order vs)
+
+-- results at the types of what their callee answers
+abbrev pub result_at : Environment → List TypeId → ResultForm → List value.Value
+result_at env tys (One v) = value_at_any env (one_type tys) v ∷ []
+result_at env tys (Tuple vs) = tuple_at env tys vs
+
+-- an answer at these types
+abbrev pub answer_at : Environment → List TypeId → AnswerForm → Answer
+answer_at env tys (Plain r) = value.Plain (result_at env tys r)
+answer_at env tys (Found r) = value.Found (result_at env tys r)
+answer_at env tys Nothing = value.Nothing
+answer_at env tys (Several rs) = value.Several []
 
 -- an answer that fits no function, and so is refused where it stands: it is one of several items, and no function gives those
 abbrev pub unfit : Answer
@@ -32,7 +45,7 @@ unfit = value.Several []
 -- the form is refused whatever it says
 abbrev pub turns_by : Environment → Option TypeId → Callee → List AnswerForm → (rest : AnswerForm) → TurnAnswers
 turns_by env None callee turns rest = record { callee = callee; turns = []; rest = unfit }
-turns_by env (Some ty) callee turns rest = record { callee = callee; turns = map (answer_at env (Some ty)) turns; rest = answer_at env (Some ty) rest }
+turns_by env (Some ty) callee turns rest = record { callee = callee; turns = map (answer_at env (ty ∷ [])) turns; rest = answer_at env (ty ∷ []) rest }
 
 -- the turns of forms that are built
 abbrev pub turns_at : Environment → List Form → List TurnAnswers
@@ -45,13 +58,13 @@ turns_at env (Answers callee cases rest at ∷ forms) = turns_at env forms
 
 -- a case of the extractor of a term: its argument at what the term gives, and its answer at what the term takes
 abbrev pub case_at : Environment → Term → CaseForm → List value.Value × Answer
-case_at env t c = (values_at env (t.ret_ty ∷ []) (in_order c.args), answer_at env (given_type t) c.answer)
+case_at env t c = (values_at env (t.ret_ty ∷ []) (in_order c.args), answer_at env t.arg_tys c.answer)
 
 -- cases of a callee to which calls of the term's extractor go; where it is that of no extractor, they fit no function, so that the form is
 -- refused whatever it says
 abbrev pub cases_by : Environment → Option Term → Callee → List CaseForm → (rest : AnswerForm) → PureAnswers
 cases_by env None callee cases rest = record { callee = callee; cases = []; rest = unfit }
-cases_by env (Some t) callee cases rest = record { callee = callee; cases = map (case_at env t) cases; rest = answer_at env (given_type t) rest }
+cases_by env (Some t) callee cases rest = record { callee = callee; cases = map (case_at env t) cases; rest = answer_at env t.arg_tys rest }
 
 -- the cases of forms that are built
 abbrev pub cases_at : Environment → List Form → List PureAnswers

@@ -1,17 +1,12 @@
 -- Which forms are built.
 use Rattle.std.specs.Prelude.{List, Bool, true, false, ◌&&◌}
 use Rattle.std.specs.List.{list_all}
-use Rattle.isle_answers.specs.Form.{ResultForm, One, Tuple, AnswerForm, Plain, Found, Nothing, Several, CaseForm, Form, Held, Max, Const, Answers, Turns}
+use Rattle.isle_answers.specs.Form.{AnswerForm, Plain, Found, Nothing, Several, CaseForm, Form, Held, Max, Const, Answers, Turns}
 
--- a result that is built: one value
-abbrev pub is_built_result : ResultForm → Bool
-is_built_result (One v) = true
-is_built_result (Tuple vs) = false
-
--- an answer that is built
+-- an answer that is built: no list
 abbrev pub is_built_answer : AnswerForm → Bool
-is_built_answer (Plain r) = is_built_result r
-is_built_answer (Found r) = is_built_result r
+is_built_answer (Plain r) = true
+is_built_answer (Found r) = true
 is_built_answer Nothing = true
 is_built_answer (Several rs) = false
 

@@ -50,10 +50,6 @@ first_extractor env terms callee = find (λ (t : Term). goes_to callee (extracto
 abbrev pub extractor_term : Environment → Callee → Option Term
 extractor_term env callee = first_extractor env env.terms callee
 
--- the type of what an extractor of the term gives: that of its one argument
-abbrev pub given_type : Term → Option TypeId
-given_type t = slice_get t.arg_tys 0
-
 -- the type of the first of these constants that has the name
 abbrev pub first_constant : Environment → List (Sym × TypeId) → List ℕ → Option TypeId
 first_constant env consts name = option_map (λ (c : Sym × TypeId). c.1) (find (λ (c : Sym × TypeId). bytes_eq name (sym_text env c.0)) consts)

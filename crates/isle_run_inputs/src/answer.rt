@@ -1,51 +1,82 @@
-//! One answer, at the type of what its callee gives.
+//! One answer, at the types of what its callee gives.
 
-ghost use Rattle.std.specs.Prelude.{◌≡◌, IfOk};
+ghost use Rattle.std.specs.Prelude.{◌≡◌, IfOk, map};
 ghost use Rattle.isle_core.specs.ValueViews.{answer, values};
 ghost use Rattle.isle_answers.specs.Views.{result_seen, answer_seen};
 ghost use Rattle.isle_core.specs.Rule.{Environment};
-ghost use Rattle.isle_run_inputs.specs.AnswersAt.{result_at, answer_at, unfit};
+ghost use Rattle.isle_values.specs.Views.{written};
+ghost use Rattle.isle_run_inputs.specs.AnswersAt.{one_type, tuple_at, result_at, answer_at, unfit};
 
 use crate::makers::Makers;
-use crate::value::value_at_any;
+use crate::value::{misfit, value_at_any};
+use crate::values::each_at;
 use isle_answers::{AnswerForm, ResultForm};
 use isle_core::{Answer, List, TypeId, Value};
+use isle_values::Written;
 use std::alloc::{AllocError, Global};
 
-// A result at the type of what its callee answers.
-fn result_at(
-    alloc: Global,
-    makers: &Makers<'_>,
-    ty: Option<TypeId>,
-    form: &ResultForm,
-) -> Result<Vec<Value>, AllocError>
-    ensures { IfOk result (λ vs. (env : Environment) → env.types ≡ makers.now → values vs.items ≡ result_at env ty (result_seen form.now)) }
+// The type where there is only one.
+fn one_type(tys: &[TypeId]) -> Option<TypeId>
+    ensures { result ≡ one_type tys.now }
 {
-    match form {
-        ResultForm::One(written) => {
-            let value = value_at_any(alloc, makers, ty, written)?;
-            Ok(vec![in alloc; value]?)
-        }
-        ResultForm::Tuple(_) => Ok(Vec::new(alloc)),
+    match tys {
+        [ty] => Some(*ty),
+        [] | [_, _, ..] => None,
     }
 }
 
-/// Returns an answer at that type.
+// A tuple at the types of none or several results; where there is one, it is none of its type.
+fn tuple_at(
+    alloc: Global,
+    makers: &Makers<'_>,
+    tys: &[TypeId],
+    parts: &[Written],
+) -> Result<Vec<Value>, AllocError>
+    ensures { IfOk result (λ vs. (env : Environment) → env.types ≡ makers.now → values vs.items ≡ tuple_at env tys.now (map written parts.now)) }
+{
+    match tys {
+        [_] => {
+            let value = misfit(alloc);
+            Ok(vec![in alloc; value]?)
+        }
+        [] | [_, _, ..] => each_at(alloc, makers, tys, parts),
+    }
+}
+
+// Results at the types of what their callee answers.
+fn result_at(
+    alloc: Global,
+    makers: &Makers<'_>,
+    tys: &[TypeId],
+    form: &ResultForm,
+) -> Result<Vec<Value>, AllocError>
+    ensures { IfOk result (λ vs. (env : Environment) → env.types ≡ makers.now → values vs.items ≡ result_at env tys.now (result_seen form.now)) }
+{
+    match form {
+        ResultForm::One(written) => {
+            let value = value_at_any(alloc, makers, one_type(tys), written)?;
+            Ok(vec![in alloc; value]?)
+        }
+        ResultForm::Tuple(parts) => tuple_at(alloc, makers, tys, parts.as_slice()),
+    }
+}
+
+/// Returns an answer at these types: one value where there is one, else a tuple.
 pub fn answer_at(
     alloc: Global,
     makers: &Makers<'_>,
-    ty: Option<TypeId>,
+    tys: &[TypeId],
     form: &AnswerForm,
 ) -> Result<Answer, AllocError>
-    ensures { IfOk result (λ a. (env : Environment) → env.types ≡ makers.now → answer a ≡ answer_at env ty (answer_seen form.now)) }
+    ensures { IfOk result (λ a. (env : Environment) → env.types ≡ makers.now → answer a ≡ answer_at env tys.now (answer_seen form.now)) }
 {
     match form {
         AnswerForm::Plain(found) => {
-            let found = result_at(alloc, makers, ty, found)?;
+            let found = result_at(alloc, makers, tys, found)?;
             Ok(Answer::Plain(List::new(found)))
         }
         AnswerForm::Some(found) => {
-            let found = result_at(alloc, makers, ty, found)?;
+            let found = result_at(alloc, makers, tys, found)?;
             Ok(Answer::Some(List::new(found)))
         }
         AnswerForm::Nothing => Ok(Answer::Nothing),

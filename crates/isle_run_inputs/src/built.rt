@@ -2,30 +2,19 @@
 
 ghost use Rattle.std.specs.Prelude.{◌≡◌};
 ghost use Rattle.std.specs.List.{list_all};
-ghost use Rattle.isle_answers.specs.Views.{result_seen, answer_seen, case_seen, form_seen, forms_seen};
-ghost use Rattle.isle_run_inputs.specs.Built.{is_built_result, is_built_answer, is_built_case, is_built, are_built};
+ghost use Rattle.isle_answers.specs.Views.{answer_seen, case_seen, form_seen, forms_seen};
+ghost use Rattle.isle_run_inputs.specs.Built.{is_built_answer, is_built_case, is_built, are_built};
 
-use isle_answers::{AnswerForm, Form, ResultForm};
+use isle_answers::{AnswerForm, Form};
 use isle_core::List;
 use isle_values::Written;
-
-// Whether a result is one value.
-fn is_built_result(result_form: &ResultForm) -> bool
-    ensures { result ≡ is_built_result (result_seen result_form.now) }
-{
-    match result_form {
-        ResultForm::One(_) => true,
-        ResultForm::Tuple(_) => false,
-    }
-}
 
 // Whether an answer is of a form that is built.
 fn is_built_answer(answer: &AnswerForm) -> bool
     ensures { result ≡ is_built_answer (answer_seen answer.now) }
 {
     match answer {
-        AnswerForm::Plain(found) | AnswerForm::Some(found) => is_built_result(found),
-        AnswerForm::Nothing => true,
+        AnswerForm::Plain(_) | AnswerForm::Some(_) | AnswerForm::Nothing => true,
         AnswerForm::List(_) => false,
     }
 }

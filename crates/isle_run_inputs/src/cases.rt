@@ -11,24 +11,16 @@ ghost use Rattle.isle_core.specs.RuleViews.{environment};
 ghost use Rattle.isle_core.specs.Rule.{Environment};
 ghost use Rattle.isle_run_inputs.specs.AnswerTypes.{OfTypes};
 ghost use Rattle.isle_run_inputs.specs.AnswersAt.{case_at, cases_by, cases_at};
-ghost use Rattle.isle_run_inputs.specs.Requested.{given_type};
 
 use crate::answer::{answer_at, unfit};
 use crate::extractors::Extractors;
 use crate::makers::Makers;
 use crate::values::each_at;
 use isle_answers::{AnswerForm, Form};
-use isle_core::{Answer, Callee, List, OutOfMemory, PureAnswers, Term, TermEnv, TypeId, Value};
+use isle_core::{Answer, Callee, List, OutOfMemory, PureAnswers, Term, TermEnv, Value};
 use isle_values::Written;
 use std::alloc::{AllocError, Global};
 use std::slice;
-
-// The type of what an extractor of a term gives.
-fn given_type(term: &Term) -> Option<TypeId>
-    ensures { result ≡ given_type term.now }
-{
-    term.arg_tys.as_slice().get(0).copied()
-}
 
 // A case of the extractor of a term.
 fn case_at(
@@ -45,7 +37,7 @@ fn case_at(
         slice::from_ref(&term.ret_ty),
         form.0.as_slice(),
     )?;
-    let answer = answer_at(alloc, makers, given_type(term), &form.1)?;
+    let answer = answer_at(alloc, makers, term.arg_tys.as_slice(), &form.1)?;
     Ok((List::new(args), answer))
 }
 
@@ -87,7 +79,7 @@ fn cases_by(
         });
     };
     let cases = all_cases(alloc, makers, term, cases)?;
-    let rest = answer_at(alloc, makers, given_type(term), rest)?;
+    let rest = answer_at(alloc, makers, term.arg_tys.as_slice(), rest)?;
     Ok(PureAnswers {
         callee,
         cases: List::new(cases),

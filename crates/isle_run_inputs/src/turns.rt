@@ -17,20 +17,21 @@ use crate::makers::Makers;
 use isle_answers::{AnswerForm, Form};
 use isle_core::{Answer, Callee, List, OutOfMemory, TermEnv, TurnAnswers, TypeId};
 use std::alloc::{AllocError, Global};
+use std::slice;
 
-// Answers at a type, in order.
+// Answers at these types, in order.
 fn all_at(
     alloc: Global,
     makers: &Makers<'_>,
-    ty: Option<TypeId>,
+    tys: &[TypeId],
     forms: &[AnswerForm],
 ) -> Result<Vec<Answer>, AllocError>
     ensures { IfOk result (λ found. (env : Environment) → env.types ≡ makers.now
-        → map answer found.items ≡ map (λ a. answer_at env ty (answer_seen a)) forms.now) }
+        → map answer found.items ≡ map (λ a. answer_at env tys.now (answer_seen a)) forms.now) }
 {
     let mut found = Vec::new(alloc);
     for form in forms {
-        found.push(answer_at(alloc, makers, ty, form)?)?;
+        found.push(answer_at(alloc, makers, tys, form)?)?;
     }
     Ok(found)
 }
@@ -55,8 +56,9 @@ fn turns_by(
             rest: unfit(alloc),
         });
     };
-    let turns = all_at(alloc, makers, Some(ty), turns)?;
-    let rest = answer_at(alloc, makers, Some(ty), rest)?;
+    let tys = slice::from_ref(&ty);
+    let turns = all_at(alloc, makers, tys, turns)?;
+    let rest = answer_at(alloc, makers, tys, rest)?;
     Ok(TurnAnswers {
         callee,
         turns: List::new(turns),

@@ -1,9 +1,9 @@
 //! What places hold in a run.
 
-ghost use Rattle.std.specs.Prelude.{◌≡◌, IfOk, option_map};
+ghost use Rattle.std.specs.Prelude.{◌≡◌, IfOk, option_map, slice_get};
 ghost use Rattle.isle_core.specs.SameInRun.{same_in_run};
-ghost use Rattle.isle_core.specs.ValueViews.{value};
-ghost use Rattle.isle_tree.specs.Run.{value_in};
+ghost use Rattle.isle_core.specs.ValueViews.{value, values};
+ghost use Rattle.isle_tree.specs.Run.{value_in, part_of};
 ghost use Rattle.isle_running.specs.RunViews.{item, held};
 ghost use Rattle.isle_running.specs.Steps.{item_within};
 
@@ -82,6 +82,29 @@ pub fn value_in(holding: Holding) -> Option<Value>
         | Holding::Optional(_)
         | Holding::Listed(_)
         | Holding::Absent => None,
+    }
+}
+
+// Copies the value at an index, where there is one.
+fn value_at(alloc: Global, given: &[Value], index: usize) -> Result<Option<Value>, AllocError>
+    ensures { IfOk result (λ copy. option_map value copy ≡ slice_get (values given.now) index) }
+{
+    match given.get(index) {
+        Some(found) => Ok(Some(copied(alloc, found)?)),
+        None => Ok(None),
+    }
+}
+
+/// Gives the value of a part of a tuple that a place holds, where it has that part.
+pub fn part_of(alloc: Global, holding: Holding, part: usize) -> Result<Option<Value>, AllocError>
+    ensures { IfOk result (λ found. option_map value found ≡ part_of part (held holding)) }
+{
+    match holding {
+        Holding::One(Item::Tuple(values)) => value_at(alloc, values.as_slice(), part),
+        Holding::One(Item::Value(_))
+        | Holding::Optional(_)
+        | Holding::Listed(_)
+        | Holding::Absent => Ok(None),
     }
 }
 

@@ -1,6 +1,6 @@
 //! The run of a function's statements.
 
-ghost use Rattle.std.specs.Prelude.{◌≡◌, Some, IfOk, OnOk};
+ghost use Rattle.std.specs.Prelude.{◌≡◌, Some, IfOk, OnOk, option_map};
 ghost use Rattle.isle_core.specs.Answered.{an_option};
 ghost use Rattle.isle_core.specs.Value.{GivesSome};
 ghost use Rattle.isle_core.specs.ValueViews.{value};
@@ -16,7 +16,7 @@ use crate::around::Around;
 use crate::fit::fit;
 use crate::flow::Flow;
 use crate::frame::Frame;
-use crate::holding::{Holding, Item, is_equal, value_in};
+use crate::holding::{Holding, Item, is_equal, part_of, value_in};
 use crate::making::{struct_made, variant_made};
 use crate::reading::{read_value, read_values, value_of};
 use isle_core::{End, Value};
@@ -97,6 +97,38 @@ fn run_some(frame: &mut Frame<'_>, local: usize, holding: Holding) -> Result<Flo
     }
 }
 
+// Binds a local to a value, where it is there.
+fn bind_value(frame: &mut Frame<'_>, local: usize, found: Option<Value>) -> Result<Flow, AllocError>
+    ensures runs { IfOk result (λ f. run.run_part local (option_map value found) (locals frame.old.locals) (state frame.old) ≡ flow f frame.new) }
+    ensures follows { OnOk result (Follows frame.old frame.new) }
+{
+    match found {
+        Some(value) => {
+            frame.locals.bind(local, Holding::One(Item::Value(value)))?;
+            Ok(Flow::Goes)
+        }
+        None => Ok(Flow::Stuck),
+    }
+}
+
+// Binds a local to a part of a tuple.
+fn run_part(
+    alloc: Global,
+    around: &Around<'_>,
+    frame: &mut Frame<'_>,
+    local: usize,
+    source: &Operand,
+    part: usize,
+) -> Result<Flow, AllocError>
+    ensures runs { IfOk result (RunsSo (λ w env. run.run_part local (run.part_of part (run.value_of w env source.now)) env)
+        around.now frame.old frame.new) }
+    ensures follows { OnOk result (Follows frame.old frame.new) }
+{
+    let holding = value_of(alloc, around, frame, source)?;
+    let found = part_of(alloc, holding, part)?;
+    bind_value(frame, local, found)
+}
+
 // Binds a local to what is computed.
 #[tactic(auto, using(crate::proofs::Makes::variant_bound, crate::proofs::Makes::struct_bound))]
 fn run_let(
@@ -136,7 +168,7 @@ fn run_let(
             let holding = struct_made(alloc, around, frame, ty.as_str(), fields.as_slice())?;
             bind(frame, local, holding)
         }
-        TExpr::Tuple(..) => Ok(Flow::Stuck),
+        TExpr::Tuple(source, part) => run_part(alloc, around, frame, local, source, *part),
     }
 }
 

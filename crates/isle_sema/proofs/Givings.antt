@@ -1,6 +1,6 @@
 -- The environment of definitions that no test refuses.
 use Rattle.std.proofs.Common.{◌≡◌, Bool, true, false, List, [], ◌∷◌, map, Some, None, refl, sym, ap, ◌∙◌, subst}
-use Rattle.std.specs.Prelude.{◌&&◌, ◌||◌, not, option_map, option_and_then}
+use Rattle.std.specs.Prelude.{◌||◌, not, option_map, option_and_then}
 use Rattle.std.specs.List.{list_all, list_any}
 use Rattle.std.proofs.lemmas.Bool.{or_parts, or_from, and_from}
 use Rattle.isle_core.specs.declared.types.Term.{Term}
@@ -14,7 +14,7 @@ use Rattle.isle_types.specs.Fault.{type_fault}
 use Rattle.isle_types.specs.TypeEnvironment.{type_env_of}
 use Rattle.isle_declarations.specs.Heads.{terms_of, extern_terms, extractor_terms}
 use Rattle.isle_declarations.specs.Repeats.{repeats}
-use Rattle.isle_sema.specs.Language.{is_built_def, rules_call_ruled, gives_one}
+use Rattle.isle_sema.specs.Language.{is_built_def, rules_call_ruled}
 use Rattle.isle_sema.specs.Tests.{is_misdeclared, has_undeclared, has_unknown}
 use Rattle.isle_sema.specs.RulePass.{rules_pass}
 use Rattle.isle_sema.specs.Fault.{OfTypes, OfTerms, OfExtractors, OfRules, or_later, fault_in}
@@ -89,10 +89,6 @@ undeclared_untyped ds h env t = both h (kept t).parts.known
 pub unknown_untyped : (ds : List Def) → has_unknown (signatures ds) (extractors ds) ≡ true → (env : Environment) → Typed ds env → ⊥
 unknown_untyped ds h env t = both h (kept t).parts.extracted
 
--- nor those where an external extractor gives several results, or none
-pub several_untyped : (ds : List Def) → list_all (gives_one (signatures ds)) (extractors ds) ≡ false → (env : Environment) → Typed ds env → ⊥
-several_untyped ds h env t = both (typed_in t).single h
-
 pub headless_untyped : (ds : List Def) → list_any (is_headless ds) (rule_defs ds) ≡ true → (env : Environment) → Typed ds env → ⊥
 headless_untyped ds h env t = both h (kept t).parts.heads
 
@@ -116,15 +112,14 @@ parts_of ds declared apart known extracted heads =
 -- ---- the environment
 
 -- definitions that no test refuses give what is made of them
-pub given_typed : (ds : List Def) (t : TermEnv) → list_all is_built_def ds ≡ true → list_all (gives_one (signatures ds)) (extractors ds) ≡ true → type_fault ds ≡ None → TermParts ds [] ds → terms_pass (whole_of ds) (terms ds) ≡ Some t.terms
+pub given_typed : (ds : List Def) (t : TermEnv) → list_all is_built_def ds ≡ true → type_fault ds ≡ None → TermParts ds [] ds → terms_pass (whole_of ds) (terms ds) ≡ Some t.terms
     → taken_rules (whole_of ds) 0 (rule_defs ds) ≡ Some (map elaborated_rule t.rules) → t.converters ≡ [] → Typed ds (environment (type_env_of ds) t)
-given_typed ds t built single types parts given rules none =
+given_typed ds t built types parts given rules none =
     let w = whole_of ds in
     let forms = list_all is_built_def ds in
-    let one = list_all (gives_one (signatures ds)) (extractors ds) in
     let k = taken_are w 0 (rule_defs ds) (map elaborated_rule t.rules) rules in
     record {
-      built = and_from (forms && one) (not (rules_call_ruled (rule_defs ds) (rule_defs ds))) (and_from forms one built single) (ap not k.calls);
+      built = and_from forms (not (rules_call_ruled (rule_defs ds) (rule_defs ds))) built (ap not k.calls);
       sound =
           none_stages (fault_in OfTypes w) (or_later (fault_in OfTerms w) (or_later (fault_in OfExtractors w) (fault_in OfRules w))) types
           (none_stages (fault_in OfTerms w) (or_later (fault_in OfExtractors w) (fault_in OfRules w)) (terms_none ds [] ds built parts) (none_stages (fault_in OfExtractors w) (fault_in OfRules w) (extractors_none w [] ds built) (fault_none w [] ds k.kept)));

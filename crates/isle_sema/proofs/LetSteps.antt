@@ -24,7 +24,7 @@ use Rattle.isle_sema.specs.Locals.{Local, Bound, bound_local, locals_of}
 use Rattle.isle_sema.specs.Site.{Site, PartAt, BoundAt}
 use Rattle.isle_sema.specs.TypeNames.{type_named}
 use Rattle.isle_sema.specs.Whole.{Whole}
-use Rattle.isle_sema.proofs.LocalLaws.{joined_locals, outer_stays, take_all}
+use Rattle.isle_sema.proofs.LocalLaws.{joined_locals, outer_stays}
 
 -- ---- trees in order
 
@@ -104,15 +104,6 @@ pub record AreLetsMade (defs : List Def) (ls : List AstLet) (i : ℕ) (start now
   pub made : LetsMade defs (lets_pass (whole_of defs) (locals_of start) start.next (lets_of (map binding ls))) (lets_left defs (locals_of now) now.next ls i) first judged typed complete
   pub patterns : now.patterns ≡ start.patterns
   pub outer : take (length start.lets) now.lets ≡ start.lets
-
--- before the first
-pub lets_begin : (defs : List Def) (ls : List AstLet) (start : Bound) (first : Judged) → AreLetsMade defs ls 0 start start first first [] true
-lets_begin defs ls start first =
-    record { made = record { trees = none_before (lets_pass (whole_of defs) (locals_of start) start.next (lets_of (map binding ls))).trees; locals = refl; next = refl; sites = refl }; patterns = refl; outer = take_all start.lets }
-  where
-    none_before : (o : Option LetBindings) → o ≡ bindings_before [] o
-    none_before None = refl
-    none_before (Some bs) = refl
 
 -- one variable more
 pub lets_more : (defs : List Def) (ls : List AstLet) (i : ℕ) (start now new : Bound) (first judged after : Judged) (typed more : List LetBinding) (complete whole : Bool) (l d : AstLet) (found : Option LetBinding)

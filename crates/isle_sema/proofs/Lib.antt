@@ -31,9 +31,8 @@ pub mod RulePlaces
 pub mod TypedSides
 pub mod TypedExprs
 pub mod TypedRules
-pub mod TypedSingle
 pub mod BuiltRules
-pub mod SingleExtractors
+pub mod OpenedTypes
 pub mod TestablePatterns
 pub mod SerializableCalls
 pub mod SerializableRules

@@ -1,21 +1,16 @@
 -- External constructors and extractors and heads that are wrong, one after the other: what is left.
-use Rattle.std.proofs.Common.{◌≡◌, ℕ, ◌+◌, ◌<◌, Bool, true, List, ◌∷◌, length, map, get_or, Option, Some, None, sym, ap, ◌∙◌}
-use Rattle.std.specs.Prelude.{◌==◌, ◌&&◌, ◌||◌, not, is_some, option_map, drop, slice_get}
-use Rattle.std.specs.List.{list_all, list_any}
-use Rattle.std.specs.Option.{option_map_or}
+use Rattle.std.proofs.Common.{◌≡◌, ℕ, ◌+◌, ◌<◌, Bool, List, ◌∷◌, length, map, get_or, Option, sym, ap, ◌∙◌}
+use Rattle.std.specs.Prelude.{◌||◌, not, is_some, drop}
+use Rattle.std.specs.List.{list_any}
 use Rattle.std.proofs.lemmas.List.{drop_more}
-use Rattle.std.proofs.lemmas.Option.{slice_get-map}
 use Rattle.isle_declarations.specs.declared.collected.Extern.{Extern as CodeExtern}
 use Rattle.isle_declarations.specs.declared.collected.ExtractorDef.{ExtractorDef as CodeExtractor}
 use Rattle.isle_declarations.specs.declared.collected.RuleDef.{RuleDef as CodeRule}
-use Rattle.isle_declarations.specs.declared.collected.Signature.{Signature as CodeSignature}
 use Rattle.isle_declarations.specs.Symbols.{index_of}
-use Rattle.isle_declarations.specs.Signatures.{Signature, Extern, ExtractorDef, func_named, signature_named}
-use Rattle.isle_declarations.specs.Collected.{signature, extern, extractor, rule}
+use Rattle.isle_declarations.specs.Signatures.{Signature, Extern, func_named, signature_named}
+use Rattle.isle_declarations.specs.Collected.{extern, extractor, rule}
 use Rattle.isle_declarations.specs.Heads.{terms_of, extern_terms}
-use Rattle.isle_declarations.proofs.LookUps.{at_place, named_at}
 use Rattle.isle_declarations.proofs.NumberLaws.{has_func, has_signature}
-use Rattle.isle_sema.specs.Language.{gives_one}
 use Rattle.isle_sema.specs.Tests.{has_undeclared, has_unknown, is_headless}
 
 -- one external constructor more
@@ -31,23 +26,6 @@ pub unknown_more : (sigs : List Signature) (xs : List CodeExtractor) (i : ℕ) (
 unknown_more sigs xs i x d o found lt is at f =
     let known : is_some (signature_named sigs x.term.now) ≡ found = has_signature sigs x.term.now ∙ ap is_some (sym at) ∙ f in
     ap (λ ys. has_unknown sigs (map extractor ys)) (drop_more xs i d lt ∙ ap (λ y. y ∷ drop (i + 1) xs) (sym is)) ∙ ap (λ b. not b || has_unknown sigs (map extractor (drop (i + 1) xs))) known
-
--- where its term is not declared, nothing is asked of an external extractor
-pub single_none : (sigs : List Signature) (x : ExtractorDef) (o : Option ℕ) → o ≡ index_of (terms_of sigs) x.term → o ≡ None → true ≡ gives_one sigs x
-single_none sigs x o at none = sym (ap (λ (q : Option Signature). option_map_or (λ (s : Signature). length s.args == 1) q true) (named_at sigs x.term ∙ ap (at_place sigs) (sym at ∙ none)))
-
--- whether an external extractor gives one result, by what stands at its term's place
-pub single_at : (sigs : List Signature) (given : List CodeSignature) (x : ExtractorDef) (o : Option ℕ) (n : ℕ) (p : Option CodeSignature) → map signature given ≡ sigs → o ≡ index_of (terms_of sigs) x.term → o ≡ Some n → slice_get given n ≡ p
-    → option_map_or (λ (s : Signature). length s.args == 1) (option_map signature p) true ≡ gives_one sigs x
-single_at sigs given x o n p seen at is there =
-    sym (ap (λ (q : Option Signature). option_map_or (λ (s : Signature). length s.args == 1) q true)
-    (named_at sigs x.term ∙ ap (at_place sigs) (sym at ∙ is) ∙ ap (λ (ys : List Signature). slice_get ys n) (sym seen) ∙ slice_get-map signature given n ∙ ap (option_map signature) there))
-
--- one external extractor more that gives one result, or doesn't
-pub single_more : (sigs : List Signature) (xs : List CodeExtractor) (i : ℕ) (x d : CodeExtractor) (one : Bool) → i < length xs → x ≡ get_or xs i d → one ≡ gives_one sigs (extractor x)
-    → list_all (gives_one sigs) (map extractor (drop i xs)) ≡ one && list_all (gives_one sigs) (map extractor (drop (i + 1) xs))
-single_more sigs xs i x d one lt is h =
-    ap (λ ys. list_all (gives_one sigs) (map extractor ys)) (drop_more xs i d lt ∙ ap (λ y. y ∷ drop (i + 1) xs) (sym is)) ∙ ap (λ b. b && list_all (gives_one sigs) (map extractor (drop (i + 1) xs))) (sym h)
 
 -- one rule more
 pub headless_more : (sigs : List Signature) (xs : List Extern) (rs : List CodeRule) (i : ℕ) (r d : CodeRule) (o p : Option ℕ) (found given : Bool) → i < length rs → r ≡ get_or rs i d

@@ -117,7 +117,7 @@ module _ (env : Environment) (t : Term) (allowed : Bool) (tests : List Test) whe
   answer_typed : (kind : ReturnKind) → AnswersOnce kind → (term : TermId) (c : Term) (name : List ℕ) (ps : Paths) (k : ℕ) (ty : TypeId) → calling env term ≡ ByTurns (External name) kind → slice_get env.terms term.0 ≡ Some c → c.ret_ty ≡ ty → ArePathsOf env t ps c.arg_tys
       → IsPathOf env t (answer_path (ByTurns (External name) kind) (Called term ps k)) ty
   answer_typed return_kind.Option once term c name ps k ty is there ret are =
-      (subst (IsCall return_kind.Option) (sym is) (refl, tt, tt), subst (λ o. IsSomeAnd o (λ (x : Term). (x.ret_ty ≡ ty) × ArePathsOf env t ps x.arg_tys)) (sym there) (ret, are))
+      (subst (IsCall return_kind.Option) (sym is) (refl, tt, tt), subst (λ o. IsSomeAnd o (λ (x : Term). (x.ret_ty ∷ [] ≡ ty ∷ []) × ArePathsOf env t ps x.arg_tys)) (sym there) (ap (λ of. of ∷ []) ret, are))
   answer_typed return_kind.Plain once term c name ps k ty is there ret are =
       (subst (IsCall return_kind.Plain) (sym is) (refl, tt, tt), subst (λ o. IsSomeAnd o (λ (x : Term). (x.ret_ty ≡ ty) × ArePathsOf env t ps x.arg_tys)) (sym there) (ret, are))
   answer_typed return_kind.Iterator once term c name ps k ty is there ret are = absurd once

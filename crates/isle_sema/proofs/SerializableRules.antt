@@ -34,7 +34,6 @@ use Rattle.isle_core.proofs.SetMeans.{without_iflets, places_without}
 use Rattle.isle_ast.specs.Tree.{Def}
 use Rattle.isle_sema.specs.TypedRule.{let_variables, IsExprOf, AreExprsOf, AreBindingsOf, all_typed, IsRuleOf}
 use Rattle.isle_sema.specs.Typing.{Typed}
-use Rattle.isle_sema.proofs.SingleExtractors.{SingleExtractors, single_extractors}
 use Rattle.isle_sema.proofs.TestablePatterns.{AreAlso, stands_still, IsTestableAt, AreTestableAt, constraints_testable, rule_testable, HasConstraints, ArePlacedAs, rule_placed, AreComparableAt, rule_compares, AreFieldsTyped, no_fields, one_field, both_fields, inner_fields, rule_fields}
 use Rattle.isle_sema.proofs.SerializableCalls.{some_of, AreTypedPlaces, typed_places, standing_places, path_typed, let_typed, path_stands, calls_serializable, expr_rises, ordered_once}
 use Rattle.isle_sema.proofs.TypedRules.{typed_of}
@@ -195,10 +194,10 @@ term_no_field (MakesVariant ty variant) term ps j h = h
 term_no_field (MakesStruct ty) term ps j h = h
 
 -- where the variables of a rule of a term stand
-placed_variables : (env : Environment) (t : Term) → SingleExtractors env → (all : List Test) (r : Rule) → IsRuleOf env t r → HasConstraints all (args_tests env r.args 0 no_places) → ArePlacedAs env t all (all_typed r.args) (rule_places env r)
-placed_variables env t single all r h among = subst (ArePlacedAs env t all (all_typed r.args)) (sym (places_without env r h.iflets)) (rule_placed env t all r.args single h.args h.variables among)
+placed_variables : (env : Environment) (t : Term) → (all : List Test) (r : Rule) → IsRuleOf env t r → HasConstraints all (args_tests env r.args 0 no_places) → ArePlacedAs env t all (all_typed r.args) (rule_places env r)
+placed_variables env t all r h among = subst (ArePlacedAs env t all (all_typed r.args)) (sym (places_without env r h.iflets)) (rule_placed env t all r.args h.args h.variables among)
 
-module _ (env : Environment) (t : Term) (single : SingleExtractors env) where
+module _ (env : Environment) (t : Term) where
   module _ (allowed : Bool) (tests : List Test) where
     mutual
       -- those of a typed right side
@@ -245,9 +244,9 @@ module _ (env : Environment) (t : Term) (single : SingleExtractors env) where
       let bound = args_after env r.args 0 no_places in
       let conditions = iflets_paths env r.iflets bound in
       let tests = args_tests env r.args 0 no_places in
-      let placed = placed_variables env t single tests r h.0 (λ y e c. c) in
+      let placed = placed_variables env t tests r h.0 (λ y e c. c) in
       both_fields env t (rule_paths env r n) (rules_paths env rs (n + impure env r.rhs))
-      (both_fields env t (args_paths env r.args 0) (conditions ++ expr_paths env r.rhs places n) (rule_fields env t r.args single h.0.args)
+      (both_fields env t (args_paths env r.args 0) (conditions ++ expr_paths env r.rhs places n) (rule_fields env t r.args h.0.args)
       (both_fields env t conditions (expr_paths env r.rhs places n) (iflets_fields r.iflets bound h.0.iflets)
       (expr_fields (may_be_nothing (kind_of t.kind)) tests vars places (typed_places env t tests vars places placed) r.rhs n t.ret_ty h.0.rhs)))
       (rules_fields rs (n + impure env r.rhs) h.1)
@@ -304,7 +303,7 @@ testable env t ps (first seen (Equal p q) xs ys new more) before (b ∷ cs) h e 
 testable env t ps (first seen Never xs ys new more) before [] h e a = absurd cc
 testable env t ps (first seen Never xs ys new more) before (b ∷ cs) h e a = absurd cc
 
-module _ (env : Environment) (t : Term) (single : SingleExtractors env) (ps : List Path) (fit : Fallible env ps) where
+module _ (env : Environment) (t : Term) (ps : List Path) (fit : Fallible env ps) where
   -- an equality of bindings whose paths may be compared is ready
   compared : (qs : List Path) (tests : List Test) (e : BindingId × BindingId) → AreComparableAt env t tests (at qs e.0) (at qs e.1) → AreComparable env t qs tests e
   compared qs tests e k = record { ty = k.ty; left = k.left; left_stands = k.left_stands; right = k.right; right_stands = k.right_stands }
@@ -320,15 +319,15 @@ module _ (env : Environment) (t : Term) (single : SingleExtractors env) (ps : Li
       let conditions = iflets_paths env r.iflets (args_after env r.args 0 no_places) in
       let same_tests : rule_tests env r ≡ put = without_iflets env r h.iflets in
       let firsts : AreFirsts [] (filter is_constraint put) tests = subst (λ ts. AreFirsts [] (filter is_constraint ts) tests) same_tests flat.constraints in
-      let ready : AreTestableAt env t [] (filter is_constraint put) = constraints_testable env t [] put (rule_testable env t r.args single h.args) in
+      let ready : AreTestableAt env t [] (filter is_constraint put) = constraints_testable env t [] put (rule_testable env t r.args h.args) in
       let tested : HasConstraints tests put = λ y e c. ⊎_elim (λ d. absurd (none_contained y d)) (λ d. d) (firsts_hold y firsts (filter_keeps is_constraint put y c e)) in
-      let placed = placed_variables env t single tests r h tested in
+      let placed = placed_variables env t tests r h tested in
       let typed = typed_places env t tests vars places placed in
       let rises = expr_rises env allowed vars places r.rhs n t.ret_ty h.rhs in
       let same : map (at ps) f.ordered ≡ rule_calls env r n = rising_firsts n (rule_calls env r n) (map (at ps) f.ordered) rises flat.ordered in
       record {
         constraints = testable env t ps firsts [] f.constraints ready refl (λ y c. c);
-        equals = each _ f.equals (λ e c. compared ps tests e (rule_compares env t tests r.args single h.args h.variables tested (at ps e.0) (at ps e.1)
+        equals = each _ f.equals (λ e c. compared ps tests e (rule_compares env t tests r.args h.args h.variables tested (at ps e.0) (at ps e.1)
             (subst (λ ts. Contains ts (equal_test ps e)) same_tests (flat.no_other (equal_test ps e) (Contains-append_right (map (is_test ps) f.constraints) (map (equal_test ps) f.equals) (equal_test ps e) (contained_map (equal_test ps) f.equals e c))).0)));
         calls = subst (AreSerializableCalls env t tests ps []) (sym same) (calls_serializable env t allowed tests vars places ps [] typed (standing_places env t tests [] vars places placed) r.rhs n t.ret_ty h.rhs refl fit (λ p c. among p (Contains-append_right (args_paths env r.args 0) (conditions ++ expr_paths env r.rhs places n) p (Contains-append_right conditions (expr_paths env r.rhs places n) p c))));
         once = ordered_once env ps f.ordered n (subst (AreRising n) (sym same) rises);
@@ -352,16 +351,16 @@ unconditioned env t [] h = tt
 unconditioned env t (r ∷ rules) h = (h.0.iflets, unconditioned env t rules h.1)
 
 -- a rule set that stands for typed rules of a term is ready, where each extractor gives one result
-pub rules_serializable : (env : Environment) (id : TermId) (t : Term) (s : RuleSet) → SingleExtractors env → All (IsRuleOf env t) (rules_of env id) → StandsFor env s (rules_of env id) → IsSerializable env t s
-rules_serializable env id t s single h stands =
+pub rules_serializable : (env : Environment) (id : TermId) (t : Term) (s : RuleSet) → All (IsRuleOf env t) (rules_of env id) → StandsFor env s (rules_of env id) → IsSerializable env t s
+rules_serializable env id t s h stands =
     let rules = rules_of env id in
     let typed = recursion_from_All (IsRuleOf env t) rules h in
     record {
       once = stands.once;
-      fields = λ p c f. rules_fields env t single rules 0 typed p ((stands.paths p).0 c) f;
-      rules = flats_serializable env t single (paths_of s.bindings) (λ term qs k c. rules_fallible rules env 0 (unconditioned env t rules typed) term qs k ((stands.paths (Inner (Called term qs k))).0 c)) rules 0 s.rules stands.flat typed (λ p c. (stands.paths p).1 c);
+      fields = λ p c f. rules_fields env t rules 0 typed p ((stands.paths p).0 c) f;
+      rules = flats_serializable env t (paths_of s.bindings) (λ term qs k c. rules_fallible rules env 0 (unconditioned env t rules typed) term qs k ((stands.paths (Inner (Called term qs k))).0 c)) rules 0 s.rules stands.flat typed (λ p c. (stands.paths p).1 c);
     }
 
 -- a rule set that stands for the rules of a term is ready
 pub set_serializable : (defs : List Def) (env : Environment) (id : TermId) (t : Term) (s : RuleSet) → Typed defs env → slice_get env.terms id.0 ≡ Some t → StandsFor env s (rules_of env id) → IsSerializable env t s
-set_serializable defs env id t s h there stands = rules_serializable env id t s (single_extractors defs env h) (typed_of defs env id t h there) stands
+set_serializable defs env id t s h there stands = rules_serializable env id t s (typed_of defs env id t h there) stands

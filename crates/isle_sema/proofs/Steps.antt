@@ -180,15 +180,6 @@ pub record AreExprsMade (defs : List Def) (tys : List TypeId) (es : List AstExpr
   pub patterns : now.patterns ≡ start.patterns
   pub lets : now.lets ≡ start.lets
 
--- before the first
-pub exprs_begin : (defs : List Def) (tys : List TypeId) (es : List AstExpr) (start : Bound) (first : Judged) → AreExprsMade defs tys es 0 start start first first [] true
-exprs_begin defs tys es start first =
-    record { made = record { trees = none_before (exprs_pass (whole_of defs) (locals_of start) start.next (map Some tys) (seen_exprs (map expr es))).trees; next = refl; sites = refl }; patterns = refl; lets = refl }
-  where
-    none_before : (o : Option Exprs) → o ≡ exprs_before [] o
-    none_before None = refl
-    none_before (Some es) = refl
-
 -- one expression more
 pub exprs_more : (defs : List Def) (tys : List TypeId) (es : List AstExpr) (i : ℕ) (start now new : Bound) (first judged after : Judged) (typed more : List CodeExpr) (complete whole : Bool) (e d : AstExpr) (expected : Option TypeId) (found : Option CodeExpr)
     → i < length es → e ≡ get_or es i d → expected ≡ slice_get tys i → IsExprAt (whole_of defs) expected (expr e) now new judged after found

@@ -1,5 +1,5 @@
 -- The tests of typed patterns are ready for a block, and their paths and variables have types.
-use Rattle.std.proofs.Common.{◌≡◌, ⊎_elim, ℕ, zero, suc, ◌+◌, Bool, true, false, cond, eqb, List, [], ◌∷◌, ◌++◌, Option, Some, None, refl, sym, ap, ◌∙◌, subst, arith}
+use Rattle.std.proofs.Common.{◌≡◌, ⊎_elim, ℕ, zero, suc, ◌+◌, Bool, true, false, cond, eqb, List, [], ◌∷◌, ◌++◌, length, Option, Some, None, refl, sym, ap, ◌∙◌, subst, arith}
 use Rattle.std.specs.Prelude.{IsSomeAnd, Contains, filter, option_map, slice_get}
 use Rattle.std.proofs.lemmas.Bool.{eqb-true, eq-eqb}
 use Rattle.std.proofs.lemmas.List.Elements.{Contains-append_left, Contains-append_right, Contains-append_cases}
@@ -8,6 +8,7 @@ use Rattle.isle_core.specs.declared.TermId.{TermId}
 use Rattle.isle_core.specs.declared.TypeId.{TypeId}
 use Rattle.isle_core.specs.declared.rule_sets.Constraint.{Constraint}
 use Rattle.isle_core.specs.declared.rule_sets.Constraint.TheVariants as constraint
+use Rattle.isle_core.specs.declared.types.ReturnKind.{ReturnKind}
 use Rattle.isle_core.specs.declared.types.ReturnKind.TheVariants as return_kind
 use Rattle.isle_core.specs.declared.types.Term.{Term}
 use Rattle.isle_core.specs.Calling.{Calling, answers_often, is_fallible, extracting}
@@ -15,7 +16,7 @@ use Rattle.isle_core.specs.ExternalCall.{IsExtraction}
 use Rattle.isle_core.specs.Form.{form, form_types}
 use Rattle.isle_core.specs.Making.{MakesVariant, MakesStruct, making}
 use Rattle.isle_core.specs.Opening.{Opening, AsVariant, AsStruct, ByExtractor, opening, answer_path, result_path, part_path}
-use Rattle.isle_core.specs.Path.{Path, Arg, Called, Inner, MadeVariant, MadeStruct, VariantField, StructField, Extracted, Paths, NoPath, APath}
+use Rattle.isle_core.specs.Path.{Path, Arg, Called, Inner, MadeVariant, MadeStruct, VariantField, StructField, Extracted, Part, Paths, NoPath, APath}
 use Rattle.isle_core.specs.PathType.{IsPathOf}
 use Rattle.isle_core.specs.Pattern as pattern
 use Rattle.isle_core.specs.Pattern.{Pattern, Patterns, NoPattern, APattern, Var, ConstBool, ConstInt, ConstPrim, Wildcard, BindPattern, And}
@@ -27,7 +28,7 @@ use Rattle.isle_core.specs.Tests.{Test, Is, Equal, Never, is_constraint, Places,
 use Rattle.isle_core.proofs.Contained.{head_contained, tail_contained, contained_cases, none_contained}
 use Rattle.isle_core.proofs.KeptPlaces.{after_keeps, each_keep, parts_keep, args_keep}
 use Rattle.isle_sema.specs.TypedRule.{typed_variables, typed_within, all_typed, HaveOneType}
-use Rattle.isle_sema.proofs.SingleExtractors.{SingleExtractors, IsFinding, finds, may_find, OpensInto, opens_into}
+use Rattle.isle_sema.proofs.OpenedTypes.{IsFinding, finds, may_find, OpensInto, opens_into}
 
 -- ---- types of paths in order
 
@@ -68,31 +69,33 @@ parts_there : (env : Environment) (o : Option (List TypeId)) (qs : Patterns) →
 parts_there env None qs h = absurd h
 parts_there env (Some tys) qs h = (tys, refl, h)
 
--- one of a single type is that
-single_part : (ty : TypeId) (k : ℕ) (part : TypeId) → slice_get (ty ∷ []) k ≡ Some part → ty ≡ part
-single_part ty zero part at = same_Some ty part at
-single_part ty (suc k) part at = absurd cc
-
--- what an extractor finds in a value has its type
-found_typed : {c : Calling} (env : Environment) (t : Term) (term : TermId) (called : Term) (p : Path) (part : TypeId) → IsFinding c → extracting env term ≡ c → slice_get env.terms term.0 ≡ Some called → called.arg_tys ≡ part ∷ [] → IsPathOf env t p called.ret_ty
-    → IsPathOf env t (answer_path c (Extracted term p)) part
-found_typed env t term called p part (finds name) is found gives h =
-    (subst (IsExtraction return_kind.Plain) (sym is) (refl, tt, tt), subst (λ o. IsSomeAnd o (λ (x : Term). (x.arg_tys ≡ part ∷ []) × IsPathOf env t p x.ret_ty)) (sym found) (gives, h))
-found_typed env t term called p part (may_find name) is found gives h =
-    (subst (IsExtraction return_kind.Option) (sym is) (refl, tt, tt), subst (λ o. IsSomeAnd o (λ (x : Term). (x.arg_tys ≡ part ∷ []) × IsPathOf env t p x.ret_ty)) (sym found) (gives, h))
+-- an extractor that is called on what stands at the path gives results of these types, so often
+abbrev Gives : Environment → Term → TermId → Path → List TypeId → ReturnKind → Type 0
+Gives env t term p tys kind = IsExtraction kind (extracting env term) × IsSomeAnd (slice_get env.terms term.0) (λ (x : Term). (x.arg_tys ≡ tys) × IsPathOf env t p x.ret_ty)
 
 -- so where it takes values of the path's type apart
-single_typed : (env : Environment) (t : Term) (term : TermId) (c : Calling) (count : ℕ) (p : Path) (ty : TypeId) (tys : List TypeId) → (into : OpensInto env ty (ByExtractor term c count) tys) → IsPathOf env t p ty → IsPathOf env t (answer_path c (Extracted term p)) into.part
-single_typed env t term c count p ty tys into h = found_typed env t term into.called p into.part into.finding into.is into.found into.gives (subst (IsPathOf env t p) (sym into.taken) h)
+extractor_gives : (env : Environment) (t : Term) (term : TermId) (c : Calling) (count : ℕ) (p : Path) (ty : TypeId) (tys : List TypeId) (kind : ReturnKind) → OpensInto env ty (ByExtractor term c count) tys → IsPathOf env t p ty → IsExtraction kind c → Gives env t term p tys kind
+extractor_gives env t term c count p ty tys kind into h ext =
+    let on : IsPathOf env t p into.called.ret_ty = subst (IsPathOf env t p) (sym into.taken) h in
+    (subst (IsExtraction kind) (sym into.is) ext, subst (λ o. IsSomeAnd o (λ (x : Term). (x.arg_tys ≡ tys) × IsPathOf env t p x.ret_ty)) (sym into.found) (into.gives, on))
+
+-- a result has its type
+result_typed : {c : Calling} (env : Environment) (t : Term) (term : TermId) (p : Path) (tys : List TypeId) (k : ℕ) (part : TypeId) → IsFinding c → ((kind : ReturnKind) → IsExtraction kind c → Gives env t term p tys kind) → slice_get tys k ≡ Some part
+    → IsPathOf env t (result_path (length tys) k (answer_path c (Extracted term p))) part
+result_typed env t term p [] k part f g at = absurd cc
+result_typed env t term p (ty ∷ []) zero part (finds name) g at = subst (IsPathOf env t (Extracted term p)) (same_Some ty part at) (g return_kind.Plain (refl, tt, tt))
+result_typed env t term p (ty ∷ []) zero part (may_find name) g at = subst (IsPathOf env t (Inner (Extracted term p))) (same_Some ty part at) (g return_kind.Option (refl, tt, tt))
+result_typed env t term p (ty ∷ []) (suc k) part f g at = absurd cc
+result_typed env t term p (ty ∷ more ∷ tys) k part (finds name) g at = let given = g return_kind.Plain (refl, tt, tt) in (ty ∷ more ∷ tys, (tt, given.0, given.1), at)
+result_typed env t term p (ty ∷ more ∷ tys) k part (may_find name) g at = (ty ∷ more ∷ tys, (tt, g return_kind.Option (refl, tt, tt)), at)
 
 -- what a term takes values of a type apart into has its types
 part_typed : (env : Environment) (t : Term) (opened : Opening) (p : Path) (ty : TypeId) (tys : List TypeId) → OpensInto env ty opened tys → IsPathOf env t p ty → (k : ℕ) (part : TypeId) → slice_get tys k ≡ Some part → IsPathOf env t (part_path opened k p) part
 part_typed env t (AsVariant of variant) p ty tys into h k part at = (of, subst (IsPathOf env t p) (sym into.0) h, form_at (form env (MakesVariant of variant)) (form_types env) tys k part into.1 at)
 part_typed env t (AsStruct of) p ty tys into h k part at = (of, subst (IsPathOf env t p) (sym into.0) h, form_at (form env (MakesStruct of)) (form_types env) tys k part into.1 at)
 part_typed env t (ByExtractor term c count) p ty tys into h k part at =
-    let answer = answer_path c (Extracted term p) in
-    subst (λ n. IsPathOf env t (result_path n k answer) part) (sym into.one)
-    (subst (IsPathOf env t answer) (single_part into.part k part (subst (λ xs. slice_get xs k ≡ Some part) into.types at)) (single_typed env t term c count p ty tys into h))
+    subst (λ n. IsPathOf env t (result_path n k (answer_path c (Extracted term p))) part) (sym into.many)
+    (result_typed env t term p tys k part into.finding (λ kind. extractor_gives env t term c count p ty tys kind into h) at)
 
 -- so of the parts in order
 parts_are : (env : Environment) (t : Term) (opened : Opening) (p : Path) (ty : TypeId) (tys : List TypeId) → OpensInto env ty opened tys → IsPathOf env t p ty → AreTyped env t (λ k. part_path opened k p) 0 tys
@@ -116,6 +119,7 @@ mutual
   stands_still (Called term ps instance) xs ys done a h = h
   stands_still (Inner p) xs ys done a h = within_still p xs ys done a h
   stands_still (Extracted term q) xs ys done a h = stands_still q xs ys done a h
+  stands_still (Part part q) xs ys done a h = stands_still q xs ys done a h
   stands_still (VariantField variant field q) xs ys done a h = (h.0, a (Is q (constraint.Variant h.0 variant)) h.1)
   stands_still (StructField field q) xs ys done a h = (h.0, a (Is q (constraint.Struct h.0)) h.1)
   stands_still (MadeVariant of variant ps) xs ys done a h = all_stand_still ps xs ys done a h
@@ -136,11 +140,17 @@ found_stands : {c : Calling} (term : TermId) (tests : List Test) (done : List Pa
 found_stands term tests done p (finds name) s among = s
 found_stands term tests done p (may_find name) s among = among (Is (Extracted term p) constraint.Some) refl (head_contained (Is (Extracted term p) constraint.Some) [])
 
+-- a result stands where the answer does
+result_stands : (count i : ℕ) (tests : List Test) (done : List Path) (p : Path) → StandsOn tests done p → StandsOn tests done (result_path count i p)
+result_stands zero i tests done p h = h
+result_stands (suc zero) i tests done p h = h
+result_stands (suc (suc count)) i tests done p h = h
+
 -- a part stands behind the tests of what takes it apart
 part_stands : (env : Environment) (ty : TypeId) (opened : Opening) (tys : List TypeId) (tests : List Test) (done : List Path) (p : Path) (i : ℕ) → OpensInto env ty opened tys → StandsOn tests done p → HasConstraints tests (opening_tests opened p) → StandsOn tests done (part_path opened i p)
 part_stands env ty (AsVariant of variant) tys tests done p i into s among = (of, among (Is p (constraint.Variant of variant)) refl (head_contained (Is p (constraint.Variant of variant)) []))
 part_stands env ty (AsStruct of) tys tests done p i into s among = (of, among (Is p (constraint.Struct of)) refl (head_contained (Is p (constraint.Struct of)) []))
-part_stands env ty (ByExtractor term c count) tys tests done p i into s among = subst (λ n. StandsOn tests done (result_path n i (answer_path c (Extracted term p)))) (sym into.one) (found_stands term tests done p into.finding s among)
+part_stands env ty (ByExtractor term c count) tys tests done p i into s among = result_stands count i tests done (answer_path c (Extracted term p)) (found_stands term tests done p into.finding s among)
 
 -- ---- constraints
 
@@ -163,7 +173,7 @@ constraints_testable env t before (Is p c ∷ ts) h = (h.0, constraints_testable
 constraints_testable env t before (Equal p q ∷ ts) h = constraints_testable env t before ts h
 constraints_testable env t before (Never ∷ ts) h = constraints_testable env t before ts h
 
-module _ (env : Environment) (t : Term) (single : SingleExtractors env) where
+module _ (env : Environment) (t : Term) where
   -- tests behind tests
   testable_more : (before xs ys : List Test) → AreTestableAt env t before xs → ((later : List Test) → AreAlso before later → HasConstraints later xs → AreTestableAt env t later ys) → AreTestableAt env t before (xs ++ ys)
   testable_more before [] ys h go = go before (λ x c. c) (λ y e c. absurd (none_contained y c))
@@ -181,15 +191,15 @@ module _ (env : Environment) (t : Term) (single : SingleExtractors env) where
   met_testable (Some q) p before = tt
 
   -- so is the constraint on what an extractor finds
-  found_testable : {c : Calling} (term : TermId) (p : Path) (part : TypeId) (before : List Test) → IsFinding c → IsPathOf env t (answer_path c (Extracted term p)) part → StandsOn before [] p → AreTestableAt env t before (found_tests c (Extracted term p))
-  found_testable term p part before (finds name) h s = tt
-  found_testable term p part before (may_find name) h s = (record { test = (part, h); stands = s }, tt)
+  found_testable : {c : Calling} (term : TermId) (p : Path) (tys : List TypeId) (before : List Test) → IsFinding c → ((kind : ReturnKind) → IsExtraction kind c → Gives env t term p tys kind) → StandsOn before [] p → AreTestableAt env t before (found_tests c (Extracted term p))
+  found_testable term p tys before (finds name) g s = tt
+  found_testable term p tys before (may_find name) g s = (record { test = (tys, g return_kind.Option (refl, tt, tt)); stands = s }, tt)
 
   -- the constraints of what takes a path of a type apart
   opening_testable : (opened : Opening) (p : Path) (ty : TypeId) (tys : List TypeId) (before : List Test) → OpensInto env ty opened tys → IsPathOf env t p ty → StandsOn before [] p → AreTestableAt env t before (opening_tests opened p)
   opening_testable (AsVariant of variant) p ty tys before into h s = (record { test = record { ty = ty; path = h; constraint = (into.0, form_there (form env (MakesVariant of variant)) (form_types env) tys into.1) }; stands = s }, tt)
   opening_testable (AsStruct of) p ty tys before into h s = (record { test = record { ty = ty; path = h; constraint = (into.0, form_there (form env (MakesStruct of)) (form_types env) tys into.1) }; stands = s }, tt)
-  opening_testable (ByExtractor term c count) p ty tys before into h s = found_testable term p into.part before into.finding (single_typed env t term c count p ty tys into h) s
+  opening_testable (ByExtractor term c count) p ty tys before into h s = found_testable term p tys before into.finding (λ kind. extractor_gives env t term c count p ty tys kind into h) s
 
   mutual
     -- the constraints of a typed pattern on a path of its type
@@ -202,7 +212,7 @@ module _ (env : Environment) (t : Term) (single : SingleExtractors env) where
     pattern_testable (pattern.Term of term qs) p ty places before h typed s =
         let opened = opening env term in
         let k = parts_there env (part_types env (making env term) (slice_get env.terms term.0)) qs h.2 in
-        let into = opens_into env single ty term k.0 h.1 k.1 in
+        let into = opens_into env ty term k.0 h.1 k.1 in
         testable_more before (opening_tests opened p) (parts_tests env opened qs 0 p places) (opening_testable opened p ty k.0 before into typed s)
         (λ later a c. parts_testable qs opened p 0 k.0 places later k.2 (parts_are env t opened p ty k.0 into typed) (λ j. part_stands env ty opened k.0 later [] p j into (stands_still p before later [] a s) c))
     pattern_testable (BindPattern of x q) p ty places before h typed s =
@@ -237,8 +247,8 @@ module _ (env : Environment) (t : Term) (single : SingleExtractors env) where
   args_testable (q ∷ qs) i [] places before h typed = absurd h
 
 -- the constraints of patterns of a term's types are ready
-pub rule_testable : (env : Environment) (t : Term) (qs : List Pattern) → SingleExtractors env → ArePatternsOf env t.arg_tys qs → AreTestableAt env t [] (args_tests env qs 0 no_places)
-rule_testable env t qs single h = args_testable env t single qs 0 t.arg_tys no_places [] h (args_are env t)
+pub rule_testable : (env : Environment) (t : Term) (qs : List Pattern) → ArePatternsOf env t.arg_tys qs → AreTestableAt env t [] (args_tests env qs 0 no_places)
+rule_testable env t qs h = args_testable env t qs 0 t.arg_tys no_places [] h (args_are env t)
 
 -- ---- variables
 
@@ -298,7 +308,7 @@ left_same p q a b e = cc
 right_same : (p q a b : Path) → Equal p q ≡ Equal a b → q ≡ b
 right_same p q a b e = cc
 
-module _ (env : Environment) (t : Term) (single : SingleExtractors env) (all : List Test) (vars : List (TypeId × ℕ)) (one : HaveOneType vars) where
+module _ (env : Environment) (t : Term) (all : List Test) (vars : List (TypeId × ℕ)) (one : HaveOneType vars) where
   -- patterns that put nothing
   none_passed : (places : Places) → AreHeld env t all vars places → IsPassed env t all vars [] [] places
   none_passed places h = record { held = h; equals = λ p q c. absurd (none_contained (Equal p q) c); there = λ v c. absurd (none_contained v c) }
@@ -361,7 +371,7 @@ module _ (env : Environment) (t : Term) (single : SingleExtractors env) (all : L
     pattern_passed (pattern.Term of term qs) p ty places h typed s held among within =
         let opened = opening env term in
         let k = parts_there env (part_types env (making env term) (slice_get env.terms term.0)) qs h.2 in
-        let into = opens_into env single ty term k.0 h.1 k.1 in
+        let into = opens_into env ty term k.0 h.1 k.1 in
         let first = opening_tests opened p in
         let rest = parts_tests env opened qs 0 p places in
         both_passed first rest [] (typed_within qs) places (after_parts env opened qs 0 p places) (opening_passed opened p places held)
@@ -415,20 +425,20 @@ module _ (env : Environment) (t : Term) (single : SingleExtractors env) (all : L
   args_passed (q ∷ qs) i [] places h typed held among within = absurd h
 
 -- the patterns of a term's types, each of whose variables has one type
-rule_passed : (env : Environment) (t : Term) (all : List Test) (qs : List Pattern) → SingleExtractors env → ArePatternsOf env t.arg_tys qs → HaveOneType (all_typed qs) → HasConstraints all (args_tests env qs 0 no_places) → IsPassed env t all (all_typed qs) (args_tests env qs 0 no_places) (all_typed qs) (args_after env qs 0 no_places)
-rule_passed env t all qs single h one among = args_passed env t single all (all_typed qs) one qs 0 t.arg_tys no_places h (args_are env t) (λ ty x p c e. absurd cc) among (λ v c. c)
+rule_passed : (env : Environment) (t : Term) (all : List Test) (qs : List Pattern) → ArePatternsOf env t.arg_tys qs → HaveOneType (all_typed qs) → HasConstraints all (args_tests env qs 0 no_places) → IsPassed env t all (all_typed qs) (args_tests env qs 0 no_places) (all_typed qs) (args_after env qs 0 no_places)
+rule_passed env t all qs h one among = args_passed env t all (all_typed qs) one qs 0 t.arg_tys no_places h (args_are env t) (λ ty x p c e. absurd cc) among (λ v c. c)
 
 -- their variables stand at paths of their types
-pub rule_placed : (env : Environment) (t : Term) (all : List Test) (qs : List Pattern) → SingleExtractors env → ArePatternsOf env t.arg_tys qs → HaveOneType (all_typed qs) → HasConstraints all (args_tests env qs 0 no_places) → ArePlacedAs env t all (all_typed qs) (args_after env qs 0 no_places)
-rule_placed env t all qs single h one among ty x c =
-    let k = rule_passed env t all qs single h one among in
+pub rule_placed : (env : Environment) (t : Term) (all : List Test) (qs : List Pattern) → ArePatternsOf env t.arg_tys qs → HaveOneType (all_typed qs) → HasConstraints all (args_tests env qs 0 no_places) → ArePlacedAs env t all (all_typed qs) (args_after env qs 0 no_places)
+rule_placed env t all qs h one among ty x c =
+    let k = rule_passed env t all qs h one among in
     let at = k.there (ty, x) c in
     let held = k.held ty x at.0 c at.1 in
     record { path = at.0; is = at.1; typed = held.0; stands = held.1 }
 
 -- and what they equate may be compared
-pub rule_compares : (env : Environment) (t : Term) (all : List Test) (qs : List Pattern) → SingleExtractors env → ArePatternsOf env t.arg_tys qs → HaveOneType (all_typed qs) → HasConstraints all (args_tests env qs 0 no_places) → (p q : Path) → Contains (args_tests env qs 0 no_places) (Equal p q) → AreComparableAt env t all p q
-rule_compares env t all qs single h one among p q c = (rule_passed env t all qs single h one among).equals p q c
+pub rule_compares : (env : Environment) (t : Term) (all : List Test) (qs : List Pattern) → ArePatternsOf env t.arg_tys qs → HaveOneType (all_typed qs) → HasConstraints all (args_tests env qs 0 no_places) → (p q : Path) → Contains (args_tests env qs 0 no_places) (Equal p q) → AreComparableAt env t all p q
+rule_compares env t all qs h one among p q c = (rule_passed env t all qs h one among).equals p q c
 
 -- ---- fields
 
@@ -459,7 +469,7 @@ opening_fields env t (AsVariant of variant) p = no_fields env t
 opening_fields env t (AsStruct of) p = no_fields env t
 opening_fields env t (ByExtractor term c count) p = inner_fields env t (is_fallible c) (Extracted term p) (λ f. f)
 
-module _ (env : Environment) (t : Term) (single : SingleExtractors env) where
+module _ (env : Environment) (t : Term) where
   mutual
     -- the fields that a typed pattern takes apart
     pattern_fields : (q : Pattern) (p : Path) (ty : TypeId) → IsPatternOf env ty q → IsPathOf env t p ty → AreFieldsTyped env t (pattern_paths env q p)
@@ -471,7 +481,7 @@ module _ (env : Environment) (t : Term) (single : SingleExtractors env) where
     pattern_fields (pattern.Term of term qs) p ty h typed =
         let opened = opening env term in
         let k = parts_there env (part_types env (making env term) (slice_get env.terms term.0)) qs h.2 in
-        both_fields env t (opening_paths opened p) (parts_paths env opened qs 0 p) (opening_fields env t opened p) (parts_fields qs opened p 0 k.0 k.2 (parts_are env t opened p ty k.0 (opens_into env single ty term k.0 h.1 k.1) typed))
+        both_fields env t (opening_paths opened p) (parts_paths env opened qs 0 p) (opening_fields env t opened p) (parts_fields qs opened p 0 k.0 k.2 (parts_are env t opened p ty k.0 (opens_into env ty term k.0 h.1 k.1) typed))
     pattern_fields (BindPattern of x q) p ty h typed = pattern_fields q p ty h.1 typed
     pattern_fields (And of qs) p ty h typed = each_fields qs p ty h.1 typed
 
@@ -496,5 +506,5 @@ module _ (env : Environment) (t : Term) (single : SingleExtractors env) where
   args_fields (q ∷ qs) i [] h typed = absurd h
 
 -- the fields that patterns of a term's types take apart have types
-pub rule_fields : (env : Environment) (t : Term) (qs : List Pattern) → SingleExtractors env → ArePatternsOf env t.arg_tys qs → AreFieldsTyped env t (args_paths env qs 0)
-rule_fields env t qs single h = args_fields env t single qs 0 t.arg_tys h (args_are env t)
+pub rule_fields : (env : Environment) (t : Term) (qs : List Pattern) → ArePatternsOf env t.arg_tys qs → AreFieldsTyped env t (args_paths env qs 0)
+rule_fields env t qs h = args_fields env t qs 0 t.arg_tys h (args_are env t)

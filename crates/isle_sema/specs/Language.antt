@@ -1,9 +1,8 @@
 -- The definitions that are built.
-use Rattle.std.specs.Prelude.{List, [], ◌∷◌, length, Bool, true, false, ◌==◌, ◌&&◌, not}
-use Rattle.std.specs.Option.{option_map_or}
+use Rattle.std.specs.Prelude.{List, [], ◌∷◌, Bool, true, false, ◌&&◌, not}
 use Rattle.std.specs.List.{list_all, list_any}
 use Rattle.isle_ast.specs.Tree.{IfLet, Def, TypeDecl, Decl, ExternConstructor, ExternExtractor, ExternConst, Extractor, Converter, Rule, Passed}
-use Rattle.isle_declarations.specs.Signatures.{Signature, ExtractorDef, RuleDef, signatures, extractors, rule_defs, signature_named}
+use Rattle.isle_declarations.specs.Signatures.{RuleDef, rule_defs}
 use Rattle.isle_sema.specs.Calls.{calls_ruled}
 
 -- no conditions
@@ -28,10 +27,6 @@ is_built_def (Passed head items pos) = true
 abbrev pub rules_call_ruled : List RuleDef → List RuleDef → Bool
 rules_call_ruled all rules = list_any (λ (r : RuleDef). calls_ruled all r.rhs) rules
 
--- an external extractor gives one result, where its term is declared
-abbrev pub gives_one : List Signature → ExtractorDef → Bool
-gives_one sigs x = option_map_or (λ (s : Signature). length s.args == 1) (signature_named sigs x.term) true
-
--- each is built, each extractor gives one result, and no term that has a rule is called
+-- each is built, and no term that has a rule is called
 abbrev pub are_built : List Def → Bool
-are_built defs = list_all is_built_def defs && list_all (gives_one (signatures defs)) (extractors defs) && not (rules_call_ruled (rule_defs defs) (rule_defs defs))
+are_built defs = list_all is_built_def defs && not (rules_call_ruled (rule_defs defs) (rule_defs defs))

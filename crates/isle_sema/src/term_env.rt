@@ -1,18 +1,16 @@
 //! The terms and rules of definitions.
 
 ghost use Rattle.std.specs.Prelude.{◌≡◌, IfOk, IfErr, Some, None, map, option_map};
-ghost use Rattle.std.specs.List.{list_all, list_any};
+ghost use Rattle.std.specs.List.{list_any};
 ghost use Rattle.isle_core.specs.RuleViews.{rule as elaborated_rule, environment};
 ghost use Rattle.isle_ast.specs.Views.{defs as seen};
-ghost use Rattle.isle_declarations.specs.Signatures.{ExtractorDef, signatures, externs, extractors, rule_defs};
-ghost use Rattle.isle_declarations.specs.Symbols.{index_of, symbols};
+ghost use Rattle.isle_declarations.specs.Signatures.{signatures, externs, extractors, rule_defs};
 ghost use Rattle.isle_declarations.specs.DeclaredTypes.{made_of};
 ghost use Rattle.isle_types.specs.Fault.{type_fault};
 ghost use Rattle.isle_types.specs.Gathered.{IsBefore};
 ghost use Rattle.isle_types.specs.TypeEnvironment.{type_env_of};
 ghost use Rattle.isle_sema.specs.KnownOf.{AreKnown};
 ghost use Rattle.isle_sema.specs.Known.{whole};
-ghost use Rattle.isle_sema.specs.Language.{gives_one};
 ghost use Rattle.isle_sema.specs.Taken.{taken_rules};
 ghost use Rattle.isle_sema.specs.Tests.{has_undeclared, has_unknown, is_headless};
 ghost use Rattle.isle_sema.specs.Typing.{TypedOnly, SomeTyped, IsUntyped};
@@ -50,31 +48,6 @@ fn has_unknown(declarations: &Declarations) -> bool
         }
     }
     false
-}
-
-// Whether an external extractor gives one result, where its term is declared, whose name has this number.
-fn gives_one(declarations: &Declarations, number: usize) -> bool
-    ensures { (x : ExtractorDef) → index_of (symbols (seen declarations.now)) x.term ≡ Some number → result ≡ gives_one (signatures (seen declarations.now)) x }
-{
-    let Some(place) = declarations.declaration(number) else {
-        return true;
-    };
-    match declarations.signatures().get(place) {
-        Some(signature) => signature.args.len() == 1,
-        None => true,
-    }
-}
-
-// Whether each external extractor gives one result, where its term is declared.
-fn all_give_one(declarations: &Declarations) -> bool
-    ensures { result ≡ list_all (gives_one (signatures (seen declarations.now))) (extractors (seen declarations.now)) }
-{
-    for given in declarations.extractors() {
-        if !gives_one(declarations, given.number) {
-            return false;
-        }
-    }
-    true
 }
 
 // Whether a rule's head is not declared, or its term has an external constructor.
@@ -143,9 +116,6 @@ pub fn term_env<'d>(
         return Err(EnvError::NotYet);
     }
     if has_unknown(declarations) {
-        return Err(EnvError::NotYet);
-    }
-    if !all_give_one(declarations) {
         return Err(EnvError::NotYet);
     }
     if has_misfit_head(declarations) {

@@ -1,10 +1,11 @@
 -- The pattern of an arm fits where its constraint is met, and binds the fields of the arm's places, or what is within an option.
-use Rattle.std.proofs.Common.{◌≡◌, ℕ, suc, ◌+◌, ◌≤◌, List, [], ◌∷◌, ◌++◌, length, Bool, true, false, cond, Option, Some, None, refl, sym, ap, ◌∙◌, subst, arith, append_assoc}
+use Rattle.std.proofs.Common.{◌≡◌, ℕ, suc, ◌+◌, ◌≤◌, List, [], ◌∷◌, ◌++◌, length, map, Bool, true, false, cond, Option, Some, None, refl, sym, ap, ◌∙◌, subst, arith, append_assoc}
 use Rattle.std.specs.Prelude.{IsSomeAnd, option_map, option_and_then, slice_get}
 use Rattle.std.specs.Str.{bytes_eq}
 use Rattle.std.proofs.lemmas.List.{append-nil, length-map}
 use Rattle.std.proofs.lemmas.Option.{slice_get-map}
 use Rattle.std.proofs.lemmas.Slice.Eq.{bytes_eq-Decides}
+use Rattle.isle_core.specs.Answered.{item_of}
 use Rattle.isle_core.specs.declared.BindingId.{BindingId}
 use Rattle.isle_core.specs.declared.Sym.{Sym}
 use Rattle.isle_core.specs.declared.TypeId.{TypeId}
@@ -22,19 +23,18 @@ use Rattle.isle_core.specs.declared.types.Variant.{Variant as VariantDef}
 use Rattle.isle_core.specs.ArmPlaces.{field_count, HasFields, IsStructOf, AreParts, ArePlacesOf, bound_within}
 use Rattle.isle_core.specs.ConstraintType.{IsConstraintOf}
 use Rattle.isle_core.specs.Form.{Form, form_of_variant, variant_form, struct_form, form, form_types, is_named, is_of_form}
-use Rattle.isle_core.specs.HasType.{tuple_fields, typed_fields, HasType}
+use Rattle.isle_core.specs.HasType.{tuple_fields, typed_fields, HasType, HaveTypes}
 use Rattle.isle_core.specs.Making.{Making, MakesVariant, MakesStruct}
 use Rattle.isle_core.specs.Nameless.{nameless, nameless_fields}
-use Rattle.isle_core.specs.Path.{Path, VariantField, StructField, at}
-use Rattle.isle_core.specs.PathType.{IsPathOf, IsOptionOf}
+use Rattle.isle_core.specs.Path.{Path, VariantField, StructField, Inner, at}
+use Rattle.isle_core.specs.PathType.{IsPathOf, IsTupleOf, IsOptionOf}
 use Rattle.isle_core.specs.PatternType.{IsOfMaking}
 use Rattle.isle_core.specs.Rule.{Environment}
 use Rattle.isle_core.specs.Setting.{Setting, paths_in}
 use Rattle.isle_core.specs.Terms.{sym_text}
 use Rattle.isle_core.specs.Value.{Value, Truth, Int, Opaque, Variant, Struct, FieldValues}
-use Rattle.isle_core.specs.ValueAt.{Held, Optional, Known, a_value, an_option, held, inner_held, field_held, value_at, is_found, meets}
-use Rattle.isle_core.proofs.BindingPaths.{HasParts, path_at, typed_parts, option_parts}
-use Rattle.isle_core.proofs.TurnKinds.{IsHeldOf}
+use Rattle.isle_core.specs.ValueAt.{Held, One, Optional, Known, a_value, held, inner_held, field_held, value_at, is_found, meets}
+use Rattle.isle_core.proofs.BindingPaths.{HasParts, path_at, typed_parts, option_parts, tuple_parts}
 use Rattle.isle_printer.specs.Bytes.{same_bytes}
 use Rattle.isle_printer.proofs.Bytes.{same_bytes_refl, same_bytes_sound}
 use Rattle.isle_tree.specs.declared.tree.TBind.{TBind}
@@ -43,10 +43,12 @@ use Rattle.isle_tree.specs.declared.tree.TPat.TheVariants as pattern
 use Rattle.isle_tree.specs.Run.{Around, Env, bind, fit_some, field_of, local_before, fit_fields, fit}
 use Rattle.isle_simulation.specs.Patterns.{bind_before, field_binds, leaves_out, pattern_named, form_pattern, pattern_of}
 use Rattle.isle_simulation.specs.References.{is_declared}
-use Rattle.isle_simulation.proofs.LocalsAgree.{IsOptionAt, Stands, Agree, bind_agrees}
+use Rattle.isle_simulation.proofs.LocalsAgree.{Stands, Agree, bind_agrees}
 use Rattle.isle_simulation.proofs.MadeValues.{fields_in, parts_are, fields_nameless, named_nameless, made_fields, AreApart, FieldAt, field_at, field_like}
-use Rattle.isle_simulation.proofs.PathTypes.{one_type, one_within}
+use Rattle.isle_simulation.proofs.OneBind.{within_stands}
+use Rattle.isle_simulation.proofs.PathTypes.{one_type}
 use Rattle.isle_simulation.proofs.PathValues.{Grounds, IsValueAt}
+use Rattle.isle_simulation.proofs.ResultsAt.{IsOptionAt}
 
 -- ---- places have fields
 
@@ -155,13 +157,18 @@ same_type a b e = cc
 record IsFieldOf (s : Setting) (u : Around) (known : Known) (source b : BindingId) (mk : TypeId → Making) (over : Path → Path) (j : ℕ) : Type 0 where
   path : HasParts (at (paths_in s) b) → at (paths_in s) b ≡ over (at (paths_in s) source)
   typed : (ty : TypeId) → IsPathOf s.env s.term (over (at (paths_in s) source)) ty → (of : TypeId) × IsPathOf s.env s.term (at (paths_in s) source) of × IsSomeAnd (form s.env (mk of)) (λ f. slice_get (form_types s.env f) j ≡ Some ty)
-  no_option : (ty : TypeId) → IsOptionOf s.env s.term (over (at (paths_in s) source)) ty → ⊥
+  no_tuple : (tys : List TypeId) → IsTupleOf s.env s.term (over (at (paths_in s) source)) tys → ⊥
+  no_option : (tys : List TypeId) → IsOptionOf s.env s.term (over (at (paths_in s) source)) tys → ⊥
   is : value_at s.env u.meaning u.args known (over (at (paths_in s) source)) ≡ field_held j (value_at s.env u.meaning u.args known (at (paths_in s) source))
 
 field_stands : (s : Setting) (u : Around) (known : Known) (source b : BindingId) (mk : TypeId → Making) (over : Path → Path) (j : ℕ) (ty : TypeId) (f : Form) (field : List ℕ × TypeId) (v r : Value) → IsFieldOf s u known source b mk over j
     → IsPathOf s.env s.term (at (paths_in s) source) ty → form s.env (mk ty) ≡ Some f → slice_get (typed_fields s.env f.fields) j ≡ Some field → value_at s.env u.meaning u.args known (at (paths_in s) source) ≡ a_value v
     → (w : FieldAt s.env (fields_in v) j field) → nameless r ≡ nameless w.v → Stands s.env s.term (at (paths_in s) b) (a_value r) (value_at s.env u.meaning u.args known (at (paths_in s) b))
-field_stands s u known source b mk over j ty f field v r x of e at_j held_v w same = record { value = λ ty' k. one ty' k (x.path (typed_parts s.env s.term (at (paths_in s) b) ty' k)); option = λ ty' k. absurd (x.no_option ty' (subst (λ p. IsOptionOf s.env s.term p ty') (x.path (option_parts s.env s.term (at (paths_in s) b) ty' k)) k)) }
+field_stands s u known source b mk over j ty f field v r x of e at_j held_v w same = record {
+  value = λ ty' k. one ty' k (x.path (typed_parts s.env s.term (at (paths_in s) b) ty' k));
+  tuple = λ tys k. absurd (x.no_tuple tys (subst (λ p. IsTupleOf s.env s.term p tys) (x.path (tuple_parts s.env s.term (at (paths_in s) b) tys k)) k));
+  option = λ tys k. absurd (x.no_option tys (subst (λ p. IsOptionOf s.env s.term p tys) (x.path (option_parts s.env s.term (at (paths_in s) b) tys k)) k));
+}
   where
     type_is : (ty' : TypeId) (o : Option Form) → o ≡ Some f → IsSomeAnd o (λ g. slice_get (form_types s.env g) j ≡ Some ty') → field.1 ≡ ty'
     type_is ty' None k h = absurd h
@@ -297,10 +304,10 @@ pub record ArmFits (s : Setting) (u : Around) (bound : List ℕ) (known : Known)
   pub fits : FitsBy s u bound known locals places pat h (meets s.env u.meaning c g)
 
 variant_field : (s : Setting) (u : Around) (known : Known) (source : BindingId) (variant : VariantId) (j : ℕ) (b : BindingId) → slice_get s.bindings b.0 ≡ Some (binding.MatchVariant source variant (record { 0 = j })) → IsFieldOf s u known source b (λ of. MakesVariant of variant) (VariantField variant j) j
-variant_field s u known source variant j b e = record { path = λ h. path_at s.bindings b (binding.MatchVariant source variant (record { 0 = j })) e h; typed = λ ty k. k; no_option = λ ty k. k; is = refl }
+variant_field s u known source variant j b e = record { path = λ h. path_at s.bindings b (binding.MatchVariant source variant (record { 0 = j })) e h; typed = λ ty k. k; no_tuple = λ tys k. k; no_option = λ tys k. k; is = refl }
 
 struct_field : (s : Setting) (u : Around) (known : Known) (source : BindingId) (j : ℕ) (b : BindingId) → slice_get s.bindings b.0 ≡ Some (binding.ExtractStruct source (record { 0 = j })) → IsFieldOf s u known source b MakesStruct (StructField j) j
-struct_field s u known source j b e = record { path = λ h. path_at s.bindings b (binding.ExtractStruct source (record { 0 = j })) e h; typed = λ ty k. k; no_option = λ ty k. k; is = refl }
+struct_field s u known source j b e = record { path = λ h. path_at s.bindings b (binding.ExtractStruct source (record { 0 = j })) e h; typed = λ ty k. k; no_tuple = λ tys k. k; no_option = λ tys k. k; is = refl }
 
 pub arm_fits : (s : Setting) (u : Around) (bound : List ℕ) (known : Known) (locals : Env) (source : BindingId) (ty : TypeId) (c : Constraint) (places : List (Option BindingId)) (h : Held) → Grounds s u → Agree s u bound known locals
     → IsPathOf s.env s.term (at (paths_in s) source) ty → IsConstraintOf s.env c ty → ArePlacesOf s source c places → IsForm c → (x : IsValueAt s.env h (value_at s.env u.meaning u.args known (at (paths_in s) source)) ty)
@@ -338,57 +345,55 @@ arm_fits s u bound known locals source ty c places h g a path k parts' is x = ab
 -- ---- the arm of an option
 
 -- a binding of what is within stands for it
-inner_stands : (s : Setting) (u : Around) (known : Known) (source b : BindingId) (ty : TypeId) (v r : Value) → slice_get s.bindings b.0 ≡ Some (binding.MatchSome source) → IsOptionOf s.env s.term (at (paths_in s) source) ty
-    → value_at s.env u.meaning u.args known (at (paths_in s) source) ≡ an_option (Some v) → nameless r ≡ nameless v → HasType s.env v ty → Stands s.env s.term (at (paths_in s) b) (a_value r) (value_at s.env u.meaning u.args known (at (paths_in s) b))
-inner_stands s u known source b ty v r e of held_v same typed = record {
-  value = λ ty' k.
-      let p = path_at s.bindings b (binding.MatchSome source) e (typed_parts s.env s.term (at (paths_in s) b) ty' k) in
-      record {
-        v = v;
-        r = r;
-        run = refl;
-        block = ap (value_at s.env u.meaning u.args known) p ∙ ap inner_held held_v;
-        same = same;
-        typed = subst (HasType s.env v) (one_within s.env s.term (at (paths_in s) source) ty ty' of (subst (λ q. IsPathOf s.env s.term q ty') p k)) typed;
-      };
-  option = λ ty' k. absurd (subst (λ q. IsOptionOf s.env s.term q ty') (path_at s.bindings b (binding.MatchSome source) e (option_parts s.env s.term (at (paths_in s) b) ty' k)) k);
+inner_stands : (s : Setting) (u : Around) (known : Known) (source b : BindingId) (tys : List TypeId) (vs rs : List Value) → slice_get s.bindings b.0 ≡ Some (binding.MatchSome source) → IsOptionOf s.env s.term (at (paths_in s) source) tys
+    → value_at s.env u.meaning u.args known (at (paths_in s) source) ≡ Optional (Some (item_of vs)) → map nameless rs ≡ map nameless vs → HaveTypes s.env vs tys → Stands s.env s.term (at (paths_in s) b) (One (item_of rs)) (value_at s.env u.meaning u.args known (at (paths_in s) b))
+inner_stands s u known source b tys vs rs e of held_v same typed = record {
+  value = λ ty k. let p = from (typed_parts s.env s.term (at (paths_in s) b) ty k) in (within p).value ty (subst (λ q. IsPathOf s.env s.term q ty) p k);
+  tuple = λ tys' k. let p = from (tuple_parts s.env s.term (at (paths_in s) b) tys' k) in (within p).tuple tys' (subst (λ q. IsTupleOf s.env s.term q tys') p k);
+  option = λ tys' k. let p = from (option_parts s.env s.term (at (paths_in s) b) tys' k) in (within p).option tys' (subst (λ q. IsOptionOf s.env s.term q tys') p k);
 }
+  where
+    from : HasParts (at (paths_in s) b) → at (paths_in s) b ≡ Inner (at (paths_in s) source)
+    from parts' = path_at s.bindings b (binding.MatchSome source) e parts'
+
+    within : at (paths_in s) b ≡ Inner (at (paths_in s) source) → Stands s.env s.term (Inner (at (paths_in s) source)) (One (item_of rs)) (value_at s.env u.meaning u.args known (at (paths_in s) b))
+    within p = within_stands s.env s.term (at (paths_in s) source) tys vs rs (value_at s.env u.meaning u.args known (at (paths_in s) b)) of same typed (ap (value_at s.env u.meaning u.args known) p ∙ ap inner_held held_v)
 
 nothing_fits : (local : Option ℕ) → fit_some local (Optional None) ≡ None
 nothing_fits None = refl
 nothing_fits (Some n) = refl
 
 -- the pattern of an option fits where that is one of something, and binds it
-pub some_fits : (s : Setting) (u : Around) (bound : List ℕ) (known : Known) (locals : Env) (source : BindingId) (ty : TypeId) (places : List (Option BindingId)) (h : Held) → Agree s u bound known locals
-    → IsOptionOf s.env s.term (at (paths_in s) source) ty → ArePlacesOf s source constraint.Some places → (x : IsOptionAt s.env h (value_at s.env u.meaning u.args known (at (paths_in s) source)) ty)
-    → ArmFits s u bound known locals constraint.Some places h (an_option x.o)
-some_fits s u bound known locals source ty places h a of parts' x = within places parts'.0 parts'.1
+pub some_fits : (s : Setting) (u : Around) (bound : List ℕ) (known : Known) (locals : Env) (source : BindingId) (tys : List TypeId) (places : List (Option BindingId)) (h : Held) → Agree s u bound known locals
+    → IsOptionOf s.env s.term (at (paths_in s) source) tys → ArePlacesOf s source constraint.Some places → (x : IsOptionAt s.env h (value_at s.env u.meaning u.args known (at (paths_in s) source)) tys)
+    → ArmFits s u bound known locals constraint.Some places h (Optional (option_map item_of x.o))
+some_fits s u bound known locals source tys places h a of parts' x = within places parts'.0 parts'.1
   where
     -- the local of what is within, where there is one, agrees
     Binds : List (Option BindingId) → Option ℕ → Type 0
-    Binds ps local = (v r : Value) → value_at s.env u.meaning u.args known (at (paths_in s) source) ≡ an_option (Some v) → nameless r ≡ nameless v → HasType s.env v ty
-        → (more : Env) × (fit_some local (an_option (Some r)) ≡ Some more) × Agree s u (bound_within bound ps) known (locals ++ more)
+    Binds ps local = (vs rs : List Value) → value_at s.env u.meaning u.args known (at (paths_in s) source) ≡ Optional (Some (item_of vs)) → map nameless rs ≡ map nameless vs → HaveTypes s.env vs tys
+        → (more : Env) × (fit_some local (Optional (Some (item_of rs))) ≡ Some more) × Agree s u (bound_within bound ps) known (locals ++ more)
 
-    like : (v r : Value) → option_map nameless (Some r) ≡ option_map nameless (Some v) → nameless r ≡ nameless v
-    like v r e = cc
+    like : (vs rs : List Value) → option_map (map nameless) (Some rs) ≡ option_map (map nameless) (Some vs) → map nameless rs ≡ map nameless vs
+    like vs rs e = cc
 
-    by : (ps : List (Option BindingId)) (local : Option ℕ) (o q : Option Value) → value_at s.env u.meaning u.args known (at (paths_in s) source) ≡ an_option o → h ≡ an_option q → option_map nameless q ≡ option_map nameless o → IsHeldOf s.env ty (an_option o)
-        → Binds ps local → FitsBy s u bound known locals ps (pattern.Some local) h (is_found (an_option o))
+    by : (ps : List (Option BindingId)) (local : Option ℕ) (o q : Option (List Value)) → value_at s.env u.meaning u.args known (at (paths_in s) source) ≡ Optional (option_map item_of o) → h ≡ Optional (option_map item_of q)
+        → option_map (map nameless) q ≡ option_map (map nameless) o → ((vs : List Value) → o ≡ Some vs → HaveTypes s.env vs tys) → Binds ps local → FitsBy s u bound known locals ps (pattern.Some local) h (is_found (Optional (option_map item_of o)))
     by ps local None None e f same typed k = ap (fit_some local) f ∙ nothing_fits local
-    by ps local (Some v) (Some r) e f same typed k = let m = k v r e (like v r same) typed in (m.0, ap (fit_some local) f ∙ m.1, m.2)
-    by ps local None (Some r) e f same typed k = cc
-    by ps local (Some v) None e f same typed k = cc
+    by ps local (Some vs) (Some rs) e f same typed k = let m = k vs rs e (like vs rs same) (typed vs refl) in (m.0, ap (fit_some local) f ∙ m.1, m.2)
+    by ps local None (Some rs) e f same typed k = cc
+    by ps local (Some vs) None e f same typed k = cc
 
     unbound : Agree s u bound known (locals ++ [])
     unbound = subst (Agree s u bound known) (sym (append-nil locals)) a
 
-    within : (ps : List (Option BindingId)) → length ps ≤ 1 → AreParts s (λ i. binding.MatchSome source) 0 ps → ArmFits s u bound known locals constraint.Some ps h (an_option x.o)
-    within [] le k = record { pat = pattern.Some None; spelled = refl; fits = by [] None x.o x.q x.block x.run x.same x.typed (λ v r e same typed. ([], refl, unbound)) }
-    within (None ∷ []) le k = record { pat = pattern.Some None; spelled = refl; fits = by (None ∷ []) None x.o x.q x.block x.run x.same x.typed (λ v r e same typed. ([], refl, unbound)) }
+    within : (ps : List (Option BindingId)) → length ps ≤ 1 → AreParts s (λ i. binding.MatchSome source) 0 ps → ArmFits s u bound known locals constraint.Some ps h (Optional (option_map item_of x.o))
+    within [] le k = record { pat = pattern.Some None; spelled = refl; fits = by [] None x.o x.q x.block x.run x.same x.typed (λ vs rs e same typed. ([], refl, unbound)) }
+    within (None ∷ []) le k = record { pat = pattern.Some None; spelled = refl; fits = by (None ∷ []) None x.o x.q x.block x.run x.same x.typed (λ vs rs e same typed. ([], refl, unbound)) }
     within (Some b ∷ []) le k = record {
       pat = pattern.Some (Some b.0);
       spelled = refl;
       fits = by (Some b ∷ []) (Some b.0) x.o x.q x.block x.run x.same x.typed
-          (λ v r e same typed. ((b.0, a_value r) ∷ [], refl, bind_agrees s u bound known locals b (a_value r) a (inner_stands s u known source b ty v r k.0 of e same typed)));
+          (λ vs rs e same typed. ((b.0, One (item_of rs)) ∷ [], refl, bind_agrees s u bound known locals b (One (item_of rs)) a (inner_stands s u known source b tys vs rs k.0 of e same typed)));
     }
     within (p ∷ q ∷ ps) le k = absurd (omega (arith, le))

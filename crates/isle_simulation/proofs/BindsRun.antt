@@ -8,7 +8,7 @@ use Rattle.isle_core.specs.declared.rule_sets.Binding.{Binding}
 use Rattle.isle_core.specs.declared.rule_sets.Binding.TheVariants as binding
 use Rattle.isle_core.specs.Value.{Made}
 use Rattle.isle_core.specs.Meaning.{Meaning}
-use Rattle.isle_core.specs.Calling.{Calling, ByTurns, ByCases, NoCall, calling, extracting, kind_of}
+use Rattle.isle_core.specs.Calling.{Calling, ByTurns, ByCases, NoCall, AnswersOnce, calling, extracting, kind_of}
 use Rattle.isle_core.specs.CalledTerms.{Extractor}
 use Rattle.isle_core.specs.Making.{MakesVariant, MakesStruct}
 use Rattle.isle_core.specs.Lawful.{RoleFits, AnswersFit}
@@ -32,7 +32,8 @@ use Rattle.isle_simulation.specs.Statements.{callee_of}
 use Rattle.isle_simulation.proofs.LocalsAgree.{Agree, agree_later, bind_agrees}
 use Rattle.isle_simulation.proofs.MadeBinds.{made_binds, variant_over, struct_over}
 use Rattle.isle_simulation.proofs.NamelessLaws.{AreSameCalls}
-use Rattle.isle_simulation.proofs.OneBind.{AreUnanswered, Keeps, once_parts, done, EndsSo, ends_on, ends_as_well, BindsOne, plain_binds, call_binds, extractor_binds, inner_binds}
+use Rattle.isle_simulation.proofs.OneBind.{AreUnanswered, Keeps, once_parts, done, EndsSo, ends_on, ends_as_well, BindsOne, plain_binds, call_binds, extractor_binds, inner_binds, part_binds}
+use Rattle.isle_simulation.proofs.PathTypes.{tuple_many}
 use Rattle.isle_simulation.proofs.PathValues.{Grounds}
 use Rattle.isle_simulation.proofs.Ready.{IsReadyBind, AreReadyBinds}
 use Rattle.isle_simulation.proofs.Written.{bound_expr, lets}
@@ -83,12 +84,15 @@ bound_binds s u bound b (Some (binding.Extractor term parameter)) known made tho
     one : (c : Calling) → extracting s.env term ≡ c → IsExtraction is.kind c → BindsOne s u b.0 (at (paths_in s) b) known locals (run_let u b.0 (bound_expr s bound b (Some (binding.Extractor term parameter))) locals (done those)) (bind_one s.env u.meaning u.args (at (paths_in s) b) known made)
     one (ByCases callee kind) c of =
         subst (λ x. BindsOne s u b.0 x known locals (run_let u b.0 (bound_expr s bound b (Some (binding.Extractor term parameter))) locals (done those)) (bind_one s.env u.meaning u.args x known made)) (sym is.path)
-        (extractor_binds s u bound b.0 term parameter callee kind is.called is.result known made those locals g same a c is.found is.one is.arg (extraction_answers s.env u.meaning s.bindings b.0 term parameter g.answers at_b) (g.pure b.0 term parameter callee at_b (ap callee_of c)))
+        (extractor_binds s u bound b.0 term parameter callee kind is.called known made those locals g same a c (subst AnswersOnce (sym of.0) of.2) is.found is.arg (extraction_answers s.env u.meaning s.bindings b.0 term parameter g.answers at_b) (g.pure b.0 term parameter callee at_b (ap callee_of c)))
     one (ByTurns callee kind) c of = absurd of
     one NoCall c of = absurd of
 bound_binds s u bound b (Some (binding.MatchSome source)) known made those locals at_b g same a new is =
     subst (λ x. BindsOne s u b.0 x known locals (run_let u b.0 (bound_expr s bound b (Some (binding.MatchSome source))) locals (done those)) (bind_one s.env u.meaning u.args x known made)) (sym is.path)
-    (inner_binds s u bound b.0 source is.ty known made those locals (is_reference_in s source) same a is.option is.bound' is.fits)
+    (inner_binds s u bound b.0 source is.tys known made those locals (is_reference_in s source) same a is.option is.bound' is.fits)
+bound_binds s u bound b (Some (binding.MatchTuple source field)) known made those locals at_b g same a new is =
+    subst (λ x. BindsOne s u b.0 x known locals (run_let u b.0 (bound_expr s bound b (Some (binding.MatchTuple source field))) locals (done those)) (bind_one s.env u.meaning u.args x known made)) (sym is.path)
+    (part_binds s u bound b.0 source field.0 is.tys is.ty known made those locals same a is.tuple (tuple_many s.env s.term (at (paths_in s) source) is.tys is.tuple) is.there is.bound')
 bound_binds s u bound b (Some (binding.Argument index)) known made those locals at_b g same a new is = plain_binds s u b known made those locals g same is
 bound_binds s u bound b (Some (binding.ConstBool val ty)) known made those locals at_b g same a new is = plain_binds s u b known made those locals g same is
 bound_binds s u bound b (Some (binding.ConstInt val ty)) known made those locals at_b g same a new is = plain_binds s u b known made those locals g same is

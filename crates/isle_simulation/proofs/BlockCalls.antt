@@ -95,6 +95,7 @@ bound_call s bound b (Some (binding.Extractor term parameter)) callee e is c =
     (λ none. not_called callee none)
     (contained_cases (callee_of (extracting s.env term)) [] callee (subst (λ xs. Contains xs callee) (extraction_calls s bound (slice_get s.env.terms term.0) (callee_of (extracting s.env term)) parameter) c))
 bound_call s bound b (Some (binding.MatchSome source)) callee e is c = not_called callee c
+bound_call s bound b (Some (binding.MatchTuple source field)) callee e is c = not_called callee c
 bound_call s bound b (Some (binding.Argument index)) callee e is c = not_called callee c
 bound_call s bound b (Some (binding.ConstBool val ty)) callee e is c = not_called callee c
 bound_call s bound b (Some (binding.ConstInt val ty)) callee e is c = not_called callee c

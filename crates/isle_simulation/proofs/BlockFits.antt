@@ -63,6 +63,7 @@ bound_fits : (s : Setting) (bound : List ℕ) (b : BindingId) (o : Option Bindin
 bound_fits s bound b (Some (binding.Constructor term parameters k)) is = call_fits s (kind_of s.term.kind) bound (slice_get s.env.terms term.0) _ parameters
 bound_fits s bound b (Some (binding.Extractor term parameter)) is = extraction_fits s (kind_of s.term.kind) bound (slice_get s.env.terms term.0) _ parameter
 bound_fits s bound b (Some (binding.MatchSome source)) is = option_kind (kind_of s.term.kind) is.fits
+bound_fits s bound b (Some (binding.MatchTuple source field)) is = tt
 bound_fits s bound b (Some (binding.Argument index)) is = tt
 bound_fits s bound b (Some (binding.ConstBool val ty)) is = tt
 bound_fits s bound b (Some (binding.ConstInt val ty)) is = tt

@@ -156,6 +156,7 @@ bound_is s bound b (Some (binding.Extractor term parameter)) names fns is =
     extraction_is s bound (slice_get s.env.terms term.0) is.called (callee_of (extracting s.env term)) parameter is.found
     (record { callee = extracted_is s.env term is.called is.kind fns is.found is.external; args = reads_are s bound (is.called.ret_ty ∷ []) (parameter ∷ []) names (is.arg, tt) })
 bound_is s bound b (Some (binding.MatchSome source)) names fns is = source_is s bound source (found bound source.0 is.bound')
+bound_is s bound b (Some (binding.MatchTuple source field)) names fns is = source_is s bound source (found bound source.0 is.bound')
 bound_is s bound b (Some (binding.Argument index)) names fns is = plain_is s b names is
 bound_is s bound b (Some (binding.ConstBool val ty)) names fns is = plain_is s b names is
 bound_is s bound b (Some (binding.ConstInt val ty)) names fns is = plain_is s b names is

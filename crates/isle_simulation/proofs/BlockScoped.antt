@@ -1,6 +1,6 @@
 -- What the statements of a block read is there, and holds what is asked of it.
-use Rattle.std.proofs.Common.{◌≡◌, ⊎_elim, ℕ, suc, List, [], ◌∷◌, ◌++◌, length, Bool, true, false, cond, eqb, Option, Some, None, map, slice_get, refl, sym, ap, ◌∙◌, subst, append_assoc}
-use Rattle.std.specs.Prelude.{◌||◌, IsSome, IsTrue, option_map}
+use Rattle.std.proofs.Common.{◌≡◌, ⊎_elim, ℕ, suc, List, [], ◌∷◌, ◌++◌, length, take, ◌<◌, Bool, true, false, cond, eqb, Option, Some, None, map, slice_get, refl, sym, ap, ◌∙◌, subst, append_assoc}
+use Rattle.std.specs.Prelude.{◌||◌, IsSome, IsSomeAnd, IsTrue, option_map}
 use Rattle.std.specs.Option.{option_map_or}
 use Rattle.std.proofs.lemmas.Bool.{eqb-true, eq-eqb, lt-ltb}
 use Rattle.std.proofs.lemmas.List.{append-nil, length-map}
@@ -23,20 +23,21 @@ use Rattle.isle_core.specs.ConstraintType.{IsConstraintOf}
 use Rattle.isle_core.specs.Form.{Form, form}
 use Rattle.isle_core.specs.HasType.{typed_fields}
 use Rattle.isle_core.specs.Making.{Making, MakesVariant, MakesStruct}
-use Rattle.isle_core.specs.Path.{Path, Paths, Arg, ConstBool, ConstInt, ConstPrim, MadeStruct, NoPath, APath, at}
+use Rattle.isle_core.specs.Path.{Path, Paths, Arg, ConstBool, ConstInt, ConstPrim, Extracted, Called, MadeStruct, VariantField, StructField, Inner, NoPath, APath, at, at_all}
 use Rattle.isle_core.specs.Block as block
 use Rattle.isle_core.specs.Block.{Block, Stop, Step, Control, Arm, NoArm}
 use Rattle.isle_core.specs.Bindable.{IsPlain, bound_by}
 use Rattle.isle_core.specs.ExternalCall.{IsCall, IsExtraction}
-use Rattle.isle_core.specs.PathType.{IsPathOf, IsOptionOf}
+use Rattle.isle_core.specs.PathType.{AreTuple, IsPathOf, IsTupleOf, IsOptionOf, ArePathsOf}
 use Rattle.isle_core.specs.Rule.{Environment}
 use Rattle.isle_core.specs.SingleArms.{HasSingleArms, IsSingle}
 use Rattle.isle_core.specs.Setting.{Setting, paths_in}
 use Rattle.isle_core.specs.Terms.{sym_text}
 use Rattle.isle_core.specs.Value.{Value, Truth, Int, Opaque, Variant, Struct}
-use Rattle.isle_core.proofs.BindingPaths.{at_before}
+use Rattle.isle_core.proofs.BindingPaths.{HasParts, at_before, path_at, typed_parts, option_parts, tuple_parts}
 use Rattle.isle_tree.specs.declared.holds.Holds.{Holds}
 use Rattle.isle_tree.specs.declared.holds.Holds.TheVariants as holds
+use Rattle.isle_tree.specs.declared.holds.Item.{Item}
 use Rattle.isle_tree.specs.declared.holds.Item.TheVariants as item
 use Rattle.isle_tree.specs.declared.tree.Operand.{Operand}
 use Rattle.isle_tree.specs.declared.tree.Operand.TheVariants as operand
@@ -47,19 +48,20 @@ use Rattle.isle_tree.specs.declared.tree.TPat.TheVariants as pattern
 use Rattle.isle_tree.specs.declared.tree.TExpr.TheVariants as expr
 use Rattle.isle_tree.specs.declared.tree.TraitFn.{TraitFn}
 use Rattle.isle_tree.specs.Program.{IfLet, Body, Done, Then}
-use Rattle.isle_tree.specs.WellFormed.{Locals, newer, local_holds, operand_holds, read_holds, is_value, are_values, kind_holds, call_holds, callee_holds, inner_holds, are_field_values, made_holds, expr_holds, GivesKind, after_let, ReadsPattern, field_locals, inner_locals, pattern_locals, IsBodyScoped}
+use Rattle.isle_tree.specs.WellFormed.{Locals, newer, local_holds, operand_holds, read_holds, is_value, are_values, results_item, kind_holds, call_holds, part_holds, callee_holds, inner_holds, are_field_values, made_holds, expr_holds, GivesKind, after_let, ReadsPattern, field_locals, inner_locals, pattern_locals, IsBodyScoped}
 use Rattle.isle_simulation.specs.Operands.{constant, in_place, is_bound}
 use Rattle.isle_simulation.specs.Patterns.{bind_before, field_binds, leaves_out, pattern_named, some_pattern, pattern_of}
 use Rattle.isle_simulation.specs.References.{is_declared, result_type, is_reference_in, read_as}
 use Rattle.isle_simulation.specs.Statements.{made_named}
 use Rattle.isle_simulation.specs.TraitFns.{trait_fns_of, HasFnNames}
-use Rattle.isle_simulation.specs.TypeTexts.{parameter}
+use Rattle.isle_simulation.specs.TypeTexts.{type_text, parameter}
 use Rattle.isle_simulation.proofs.ArmsRun.{same_binds, IsForm, ArmPattern, arm_pattern}
-use Rattle.isle_simulation.proofs.OneBind.{no_option, spelled}
+use Rattle.isle_simulation.proofs.OneBind.{no_option, no_tuple, results_are, spelled}
 use Rattle.isle_simulation.proofs.BoundTests.{found}
 use Rattle.isle_simulation.proofs.CompletedRuns.{bound_push}
 use Rattle.isle_simulation.proofs.ExternalTerms.{external_term, external_extractor, term_fn_found, extractor_found}
 use Rattle.isle_simulation.proofs.Made.{over_value, over_option, some_made}
+use Rattle.isle_simulation.proofs.PathTypes.{one_within, tuple_many}
 use Rattle.isle_simulation.proofs.PathValues.{IsConstant}
 use Rattle.isle_simulation.proofs.Ready.{IsSpelled, IsReady, IsOptionReady, AreReady, IsMadeReady, IsReadyBind, AreReadyBinds, IsReadyFrom, IsReadyControl}
 use Rattle.isle_simulation.proofs.Written.{written, written_operand, written_read, written_place, written_test, written_pattern, callee_of, reads, call_expr, extraction_expr, field_reads, made_expr, bound_expr, block_body, control_stmt, lets, returned}
@@ -98,10 +100,15 @@ tested_holds env (constraint.ConstInt val of) params locals h = constant_holds (
 tested_holds env (constraint.ConstPrim val) params locals h = refl
 tested_holds env c params locals h = absurd h
 
--- a value where a path is of a type, an option where it is an option's
+-- what results of these types are
+abbrev items : Environment → List TypeId → Item
+items env tys = results_item (map (type_text env) tys)
+
+-- a value where a path is of a type, a tuple where it is one, and an option where it is an option's
 record HoldsAs (env : Environment) (t : Term) (p : Path) (o : Option Holds) : Type 0 where
   value : (ty : TypeId) → IsPathOf env t p ty → o ≡ one_value
-  option : (ty : TypeId) → IsOptionOf env t p ty → o ≡ Some (holds.Optional item.Value)
+  tuple : (tys : List TypeId) → IsTupleOf env t p tys → o ≡ Some (holds.One (items env tys))
+  option : (tys : List TypeId) → IsOptionOf env t p tys → o ≡ Some (holds.Optional (items env tys))
 
 -- each that is bound holds what its path is
 record LocalsHold (s : Setting) (bound : List ℕ) (locals : Locals) : Type 0 where
@@ -133,8 +140,8 @@ operand_one s bound locals b ty l h = one (is_bound bound b) refl
     one false is = rw is (⊎_elim (λ k. absurd (let bad : false ≡ true = sym is ∙ k in cc)) (λ k. place_holds s.env s.term b.0 (at (paths_in s) b) ty locals h.path k) h.place)
 
 -- an option that is bound
-operand_option : (s : Setting) (bound : List ℕ) (locals : Locals) (b : BindingId) (ty : TypeId) → LocalsHold s bound locals → IsOptionReady s bound b ty → operand_holds (length s.term.arg_tys) locals (written_operand s bound b) ≡ Some (holds.Optional item.Value)
-operand_option s bound locals b ty l h = rw h.bound' ((l.by b h.bound').option ty h.path)
+operand_option : (s : Setting) (bound : List ℕ) (locals : Locals) (b : BindingId) (tys : List TypeId) → LocalsHold s bound locals → IsOptionReady s bound b tys → operand_holds (length s.term.arg_tys) locals (written_operand s bound b) ≡ Some (holds.Optional (items s.env tys))
+operand_option s bound locals b tys l h = rw h.bound' ((l.by b h.bound').option tys h.path)
 
 read_same : (params : ℕ) (locals : Locals) (wanted is : Bool) (o : Operand) → read_holds params locals (read_as wanted is o) ≡ operand_holds params locals o
 read_same params locals true true o = refl
@@ -177,14 +184,14 @@ plain_let : (s : Setting) (bound : List ℕ) (locals : Locals) (b : BindingId) �
     → (operand_holds (length s.term.arg_tys) locals (written_place s b) ≡ one_value) × HoldsAs s.env s.term (at (paths_in s) b) one_value
 plain_let s bound locals b k = (
   place_holds s.env s.term b.0 (at (paths_in s) b) k.1.0 locals k.1.1 (spelled (at (paths_in s) b) k.0),
-  record { value = λ ty h. refl; option = λ ty h. absurd (no_option s.env s.term (at (paths_in s) b) ty k.0 h) },
+  record { value = λ ty h. refl; tuple = λ tys h. absurd (no_tuple s.env s.term (at (paths_in s) b) tys k.0 h); option = λ tys h. absurd (no_option s.env s.term (at (paths_in s) b) tys k.0 h) },
 )
 
 -- what an answer holds
-abbrev answer_holds : (of : ReturnKind) → AnswersOnce of → (h : Holds) × (kind_holds of ≡ Some h)
-answer_holds return_kind.Plain once = ((holds.One item.Value), refl)
-answer_holds return_kind.Option once = ((holds.Optional item.Value), refl)
-answer_holds return_kind.Iterator once = absurd once
+abbrev answer_holds : (of : ReturnKind) (x : Item) → AnswersOnce of → (h : Holds) × (kind_holds of x ≡ Some h)
+answer_holds return_kind.Plain x once = ((holds.One x), refl)
+answer_holds return_kind.Option x once = ((holds.Optional x), refl)
+answer_holds return_kind.Iterator x once = absurd once
 
 called_once : (of : ReturnKind) (c : Calling) → IsCall of c → AnswersOnce of
 called_once of (ByTurns callee p) h = h.2
@@ -207,35 +214,41 @@ one_extraction a b (ByCases callee p) h k = sym h.0 ∙ k.0
 one_extraction a b (ByTurns callee p) h k = absurd h
 one_extraction a b NoCall h k = absurd h
 
--- an answer of the kind that the path's type says
-answer_as : (env : Environment) (t : Term) (p : Path) (of : ReturnKind) (once : AnswersOnce of) → ((ty : TypeId) → IsPathOf env t p ty → of ≡ return_kind.Plain) → ((ty : TypeId) → IsOptionOf env t p ty → of ≡ return_kind.Option)
-    → HoldsAs env t p (Some (answer_holds of once).0)
-answer_as env t p return_kind.Plain once plain option = record { value = λ ty h. refl; option = λ ty h. absurd (let bad = option ty h in cc) }
-answer_as env t p return_kind.Option once plain option = record { value = λ ty h. absurd (let bad = plain ty h in cc); option = λ ty h. refl }
-answer_as env t p return_kind.Iterator once plain option = absurd once
+-- the one result of a call
+one_item : (env : Environment) (o : Option Term) (tys : List TypeId) (P : Term → Type 0) → IsSomeAnd o (λ (c : Term). (c.ret_ty ∷ [] ≡ tys) × P c) → item.Value ≡ items env tys
+one_item env None tys P h = absurd h
+one_item env (Some c) tys P h = ap (items env) h.0
+
+-- an answer of the kind, and with what, that the path's type says
+answer_as : (env : Environment) (t : Term) (p : Path) (of : ReturnKind) (x : Item) (once : AnswersOnce of) → ((ty : TypeId) → IsPathOf env t p ty → (of ≡ return_kind.Plain) × (x ≡ item.Value))
+    → ((tys : List TypeId) → IsTupleOf env t p tys → (of ≡ return_kind.Plain) × (x ≡ items env tys)) → ((tys : List TypeId) → IsOptionOf env t p tys → (of ≡ return_kind.Option) × (x ≡ items env tys))
+    → HoldsAs env t p (Some (answer_holds of x once).0)
+answer_as env t p return_kind.Plain x once plain tuple option = record { value = λ ty h. ap (λ y. Some (holds.One y)) (plain ty h).1; tuple = λ tys h. ap (λ y. Some (holds.One y)) (tuple tys h).1; option = λ tys h. absurd (let bad = (option tys h).0 in cc) }
+answer_as env t p return_kind.Option x once plain tuple option = record { value = λ ty h. absurd (let bad = (plain ty h).0 in cc); tuple = λ tys h. absurd (let bad = (tuple tys h).0 in cc); option = λ tys h. ap (λ y. Some (holds.Optional y)) (option tys h).1 }
+answer_as env t p return_kind.Iterator x once plain tuple option = absurd once
 
 same_count : (n m : ℕ) → n ≡ m → eqb n m ≡ true
 same_count n m e = eq-eqb n m e
 
 -- a call of what takes as many
-called_holds : (s : Setting) (bound : List ℕ) (locals : Locals) (borrow : Bool) (callee : _) (tys : List TypeId) (parameters : List BindingId) (of : ReturnKind) → LocalsHold s bound locals → AreReady s bound parameters tys
-    → callee_holds (trait_fns_of s.env) callee (length tys) ≡ kind_holds of → expr_holds (trait_fns_of s.env) (length s.term.arg_tys) locals (expr.Call borrow (record { callee = callee; args = reads s bound tys parameters })) ≡ kind_holds of
-called_holds s bound locals borrow callee tys parameters of l args k =
+called_holds : (s : Setting) (bound : List ℕ) (locals : Locals) (borrow : Bool) (callee : _) (tys : List TypeId) (parameters : List BindingId) (of : ReturnKind) (x : Item) → LocalsHold s bound locals → AreReady s bound parameters tys
+    → callee_holds (trait_fns_of s.env) callee (length tys) ≡ kind_holds of x → expr_holds (trait_fns_of s.env) (length s.term.arg_tys) locals (expr.Call borrow (record { callee = callee; args = reads s bound tys parameters })) ≡ kind_holds of x
+called_holds s bound locals borrow callee tys parameters of x l args k =
     let r = reads_hold s bound locals tys parameters l args in
     ap (λ y. cond y (callee_holds (trait_fns_of s.env) callee (length (reads s bound tys parameters))) None) r.0
     ∙ ap (callee_holds (trait_fns_of s.env) callee) r.1 ∙ k
 
-call_let : (s : Setting) (bound : List ℕ) (locals : Locals) (o : Option Term) (called : Term) (callee : _) (parameters : List BindingId) (of : ReturnKind) → o ≡ Some called → LocalsHold s bound locals → AreReady s bound parameters called.arg_tys
-    → callee_holds (trait_fns_of s.env) callee (length called.arg_tys) ≡ kind_holds of → expr_holds (trait_fns_of s.env) (length s.term.arg_tys) locals (call_expr s bound o callee parameters) ≡ kind_holds of
-call_let s bound locals o called callee parameters of e l args k =
+call_let : (s : Setting) (bound : List ℕ) (locals : Locals) (o : Option Term) (called : Term) (callee : _) (parameters : List BindingId) (of : ReturnKind) (x : Item) → o ≡ Some called → LocalsHold s bound locals → AreReady s bound parameters called.arg_tys
+    → callee_holds (trait_fns_of s.env) callee (length called.arg_tys) ≡ kind_holds of x → expr_holds (trait_fns_of s.env) (length s.term.arg_tys) locals (call_expr s bound o callee parameters) ≡ kind_holds of x
+call_let s bound locals o called callee parameters of x e l args k =
     ap (λ x. expr_holds (trait_fns_of s.env) (length s.term.arg_tys) locals (call_expr s bound x callee parameters)) e
-    ∙ called_holds s bound locals (is_declared s.env called.ret_ty) callee called.arg_tys parameters of l args k
+    ∙ called_holds s bound locals (is_declared s.env called.ret_ty) callee called.arg_tys parameters of x l args k
 
-extraction_let : (s : Setting) (bound : List ℕ) (locals : Locals) (o : Option Term) (called : Term) (callee : _) (parameter : BindingId) (of : ReturnKind) → o ≡ Some called → LocalsHold s bound locals → IsReady s bound parameter called.ret_ty
-    → callee_holds (trait_fns_of s.env) callee 1 ≡ kind_holds of → expr_holds (trait_fns_of s.env) (length s.term.arg_tys) locals (extraction_expr s bound o callee parameter) ≡ kind_holds of
-extraction_let s bound locals o called callee parameter of e l arg k =
+extraction_let : (s : Setting) (bound : List ℕ) (locals : Locals) (o : Option Term) (called : Term) (callee : _) (parameter : BindingId) (of : ReturnKind) (x : Item) → o ≡ Some called → LocalsHold s bound locals → IsReady s bound parameter called.ret_ty
+    → callee_holds (trait_fns_of s.env) callee 1 ≡ kind_holds of x → expr_holds (trait_fns_of s.env) (length s.term.arg_tys) locals (extraction_expr s bound o callee parameter) ≡ kind_holds of x
+extraction_let s bound locals o called callee parameter of x e l arg k =
     ap (λ x. expr_holds (trait_fns_of s.env) (length s.term.arg_tys) locals (extraction_expr s bound x callee parameter)) e
-    ∙ called_holds s bound locals (option_map_or (is_declared s.env) (result_type (Some called)) false) callee (called.ret_ty ∷ []) (parameter ∷ []) of l (arg, tt) k
+    ∙ called_holds s bound locals (option_map_or (is_declared s.env) (result_type (Some called)) false) callee (called.ret_ty ∷ []) (parameter ∷ []) of x l (arg, tt) k
 
 named_holds : (fns : List TraitFn) (env : Environment) (params : ℕ) (locals : Locals) (ty : Sym) (variant : Option Sym) (fs : List (List ℕ × Read)) → are_field_values params locals fs ≡ true → expr_holds fns params locals (made_named env ty variant fs) ≡ one_value
 named_holds fns env params locals ty (Some variant) fs e = ap made_holds e
@@ -248,44 +261,79 @@ made_let s bound locals p over mk fields l is =
     ap (λ o. expr_holds (trait_fns_of s.env) (length s.term.arg_tys) locals (made_expr s bound o fields)) is.found
     ∙ named_holds (trait_fns_of s.env) s.env (length s.term.arg_tys) locals is.f.ty is.f.variant (field_reads s bound (typed_fields s.env is.f.fields) fields) (fields_hold s bound locals (typed_fields s.env is.f.fields) fields l is.parts)
 
+-- what is within an option holds its results
+within_holds : (s : Setting) (p : Path) (tys : List TypeId) → IsOptionOf s.env s.term p tys → HoldsAs s.env s.term (Inner p) (Some (holds.One (items s.env tys)))
+within_holds s p tys of = record {
+  value = λ ty h. ap (λ (xs : List TypeId). Some (holds.One (items s.env xs))) (one_within s.env s.term p tys (ty ∷ []) of h);
+  tuple = λ tys' h. ap (λ (xs : List TypeId). Some (holds.One (items s.env xs))) (one_within s.env s.term p tys tys' of h.1);
+  option = λ tys' h. absurd h;
+}
+
+-- a part of a tuple is there
+part_there : (env : Environment) (part : ℕ) (tys : List TypeId) (ty : TypeId) → AreTuple tys → slice_get tys part ≡ Some ty → part_holds part (Some (holds.One (items env tys))) ≡ one_value
+part_there env part [] ty several at' = cc
+part_there env part (of ∷ []) ty several at' = absurd several
+part_there env part (of ∷ more ∷ tys) ty several at' =
+    let same : length (map (type_text env) (of ∷ more ∷ tys)) ≡ length (of ∷ more ∷ tys) = length-map (of ∷ more ∷ tys) (type_text env) in
+    let low : part < length (of ∷ more ∷ tys) = slice_get_within (of ∷ more ∷ tys) part ty at' in
+    ap (λ b. cond b one_value None) (lt-ltb part (length (map (type_text env) (of ∷ more ∷ tys))) (subst (λ n. part < n) (sym same) low))
+
 let_holds : (s : Setting) (bound : List ℕ) (locals : Locals) (b : BindingId) (o : Option Binding) → HasFnNames s.env → LocalsHold s bound locals → IsReadyBind s bound (at (paths_in s) b) o → LetHolds s bound locals b o
 let_holds s bound locals b (Some (binding.Constructor term parameters k)) names l is =
     let x = external_term s.env term is.called is.kind is.found is.external in
     let once = called_once is.kind (calling s.env term) is.external in
-    let answered = answer_holds is.kind once in
+    let answered = answer_holds is.kind item.Value once in
     let n = length is.called.arg_tys in
     record {
       h = answered.0;
       is =
-          call_let s bound locals (slice_get s.env.terms term.0) is.called (callee_of (calling s.env term)) parameters is.kind is.found l is.args
+          call_let s bound locals (slice_get s.env.terms term.0) is.called (callee_of (calling s.env term)) parameters is.kind item.Value is.found l is.args
           (
           ap (λ y. callee_holds (trait_fns_of s.env) y n) x.callee
           ∙ ap (λ y. call_holds y n) (term_fn_found s.env term is.called is.kind names is.found x)
-          ∙ ap (λ y. cond y (kind_holds (kind_of is.called.kind)) None) (same_count (length (map (parameter s.env) is.called.arg_tys)) n (length-map is.called.arg_tys (parameter s.env)))
-          ∙ ap kind_holds x.answers
+          ∙ ap (λ y. cond y (kind_holds (kind_of is.called.kind) item.Value) None) (same_count (length (map (parameter s.env) is.called.arg_tys)) n (length-map is.called.arg_tys (parameter s.env)))
+          ∙ ap (λ y. kind_holds y item.Value) x.answers
           )
           ∙ answered.1;
       kept = subst (λ q. HoldsAs s.env s.term q (Some answered.0)) (sym is.path)
-          (answer_as s.env s.term _ is.kind once (λ ty h. one_call is.kind return_kind.Plain (calling s.env term) is.external h.0) (λ ty h. one_call is.kind return_kind.Option (calling s.env term) is.external h.0));
+          (
+          answer_as s.env s.term (Called term (at_all (paths_in s) parameters) k) is.kind item.Value once (λ ty h. (one_call is.kind return_kind.Plain (calling s.env term) is.external h.0, refl)) (λ tys h. absurd h)
+          (λ tys h. (one_call is.kind return_kind.Option (calling s.env term) is.external h.0, one_item s.env (slice_get s.env.terms term.0) tys (λ (c : Term). ArePathsOf s.env s.term (at_all (paths_in s) parameters) c.arg_tys) h.1))
+          );
     }
 let_holds s bound locals b (Some (binding.Extractor term parameter)) names l is =
     let x = external_extractor s.env term is.called is.kind is.found is.external in
     let once = extracted_once is.kind (extracting s.env term) is.external in
-    let answered = answer_holds is.kind once in
+    let given = items s.env is.called.arg_tys in
+    let answered = answer_holds is.kind given once in
+    let p = at (paths_in s) parameter in
+    let same : (tys : List TypeId) → IsSomeAnd (slice_get s.env.terms term.0) (λ (c : Term). (c.arg_tys ≡ tys) × IsPathOf s.env s.term p c.ret_ty) → given ≡ items s.env tys =
+    λ tys h. ap (items s.env) (results_are (slice_get s.env.terms term.0) is.called tys (λ (c : Term). IsPathOf s.env s.term p c.ret_ty) is.found h) in
     record {
       h = answered.0;
       is =
-          extraction_let s bound locals (slice_get s.env.terms term.0) is.called (callee_of (extracting s.env term)) parameter is.kind is.found l is.arg
+          extraction_let s bound locals (slice_get s.env.terms term.0) is.called (callee_of (extracting s.env term)) parameter is.kind given is.found l is.arg
           (ap (λ y. callee_holds (trait_fns_of s.env) y 1) x.callee ∙ ap (λ y. call_holds y 1) (extractor_found s.env term is.called is.kind names is.found x))
           ∙ answered.1;
       kept = subst (λ q. HoldsAs s.env s.term q (Some answered.0)) (sym is.path)
-          (answer_as s.env s.term _ is.kind once (λ ty h. one_extraction is.kind return_kind.Plain (extracting s.env term) is.external h.0) (λ ty h. one_extraction is.kind return_kind.Option (extracting s.env term) is.external h.0));
+          (
+          answer_as s.env s.term (Extracted term p) is.kind given once (λ ty h. (one_extraction is.kind return_kind.Plain (extracting s.env term) is.external h.0, same (ty ∷ []) h.1))
+          (λ tys h. (one_extraction is.kind return_kind.Plain (extracting s.env term) is.external h.1, same tys h.2)) (λ tys h. (one_extraction is.kind return_kind.Option (extracting s.env term) is.external h.0, same tys h.1))
+          );
     }
 let_holds s bound locals b (Some (binding.MatchSome source)) names l is =
+    let here = found bound source.0 is.bound' in
+    record {
+      h = holds.One (items s.env is.tys);
+      is = rw here (ap inner_holds ((l.by source here).option is.tys is.option));
+      kept = subst (λ q. HoldsAs s.env s.term q (Some (holds.One (items s.env is.tys)))) (sym is.path) (within_holds s (at (paths_in s) source) is.tys is.option);
+    }
+let_holds s bound locals b (Some (binding.MatchTuple source field)) names l is =
+    let here = found bound source.0 is.bound' in
     record {
       h = holds.One item.Value;
-      is = rw (found bound source.0 is.bound') (ap inner_holds ((l.by source (found bound source.0 is.bound')).option is.ty is.option));
-      kept = subst (λ q. HoldsAs s.env s.term q one_value) (sym is.path) (record { value = λ ty h. refl; option = λ ty h. absurd h });
+      is = rw here (ap (part_holds field.0) ((l.by source here).tuple is.tys is.tuple) ∙ part_there s.env field.0 is.tys is.ty (tuple_many s.env s.term (at (paths_in s) source) is.tys is.tuple) is.there);
+      kept = subst (λ q. HoldsAs s.env s.term q one_value) (sym is.path) (record { value = λ ty h. refl; tuple = λ tys h. absurd h; option = λ tys h. absurd h });
     }
 let_holds s bound locals b (Some (binding.Argument index)) names l is = let k = plain_let s bound locals b is in record { h = holds.One item.Value; is = k.0; kept = k.1 }
 let_holds s bound locals b (Some (binding.ConstBool val ty)) names l is = let k = plain_let s bound locals b is in record { h = holds.One item.Value; is = k.0; kept = k.1 }
@@ -294,12 +342,12 @@ let_holds s bound locals b (Some (binding.ConstPrim val)) names l is = let k = p
 let_holds s bound locals b (Some (binding.MakeVariant of variant fields)) names l is = record {
   h = holds.One item.Value;
   is = made_let s bound locals (at (paths_in s) b) _ (MakesVariant of variant) fields l is;
-  kept = subst (λ q. HoldsAs s.env s.term q one_value) (sym is.path) (record { value = λ ty h. refl; option = λ ty h. absurd h });
+  kept = subst (λ q. HoldsAs s.env s.term q one_value) (sym is.path) (record { value = λ ty h. refl; tuple = λ tys h. absurd h; option = λ tys h. absurd h });
 }
 let_holds s bound locals b (Some (binding.MakeStruct of fields)) names l is = record {
   h = holds.One item.Value;
   is = made_let s bound locals (at (paths_in s) b) _ (MakesStruct of) fields l is;
-  kept = subst (λ q. HoldsAs s.env s.term q one_value) (sym is.path) (record { value = λ ty h. refl; option = λ ty h. absurd h });
+  kept = subst (λ q. HoldsAs s.env s.term q one_value) (sym is.path) (record { value = λ ty h. refl; tuple = λ tys h. absurd h; option = λ tys h. absurd h });
 }
 let_holds s bound locals b o names l is = absurd is
 
@@ -316,9 +364,10 @@ lets_scoped s bound locals (b ∷ binds) more names l k h =
 
 -- ---- the places of arms
 
--- a path that is no option's
-abbrev IsNoOption : Setting → BindingId → Type 0
-IsNoOption s b = (ty : TypeId) → IsOptionOf s.env s.term (at (paths_in s) b) ty → ⊥
+-- a path that is no tuple's and no option's
+record IsNoOption (s : Setting) (b : BindingId) : Type 0 where
+  tuple : (tys : List TypeId) → IsTupleOf s.env s.term (at (paths_in s) b) tys → ⊥
+  option : (tys : List TypeId) → IsOptionOf s.env s.term (at (paths_in s) b) tys → ⊥
 
 places_hold : (s : Setting) (part : ℕ → Binding) (i : ℕ) (fields : List (List ℕ × TypeId)) (places : List (Option BindingId)) (bound : List ℕ) (locals : Locals) (binds : List TBind) → ((j : ℕ) (b : BindingId) → slice_get s.bindings b.0 ≡ Some (part j) → IsNoOption s b)
     → field_binds s.env fields places ≡ Some binds → AreParts s part i places → LocalsHold s bound locals → LocalsHold s (bound_within bound places) (locals ++ field_locals binds)
@@ -327,7 +376,7 @@ places_hold s part i [] (p ∷ places) bound locals binds none e k l = cc
 places_hold s part i (f ∷ fields) (None ∷ places) bound locals binds none e k l = places_hold s part (suc i) fields places bound locals binds none e k.1 l
 places_hold s part i (f ∷ fields) (Some b ∷ places) bound locals binds none e k l =
     one (field_binds s.env fields places) refl e (λ rest r. places_hold s part (suc i) fields places (bound ++ b.0 ∷ []) (locals ++ (b.0, holds.One item.Value) ∷ []) rest none r k.1
-    (more_hold s bound locals b (holds.One item.Value) l (record { value = λ ty h. refl; option = λ ty h. absurd (none i b k.0 ty h) })))
+    (more_hold s bound locals b (holds.One item.Value) l (record { value = λ ty h. refl; tuple = λ tys h. absurd ((none i b k.0).tuple tys h); option = λ tys h. absurd ((none i b k.0).option tys h) })))
   where
     here : TBind
     here = record { field = f.0; by_ref = is_declared s.env f.1; local = b.0 }
@@ -341,16 +390,22 @@ places_hold s part i (f ∷ fields) (Some b ∷ places) bound locals binds none 
     one (Some rest) r e' h =
         subst (λ bs. LocalsHold s inner (locals ++ field_locals bs)) (same_binds (here ∷ rest) binds e') (subst (LocalsHold s inner) (append_assoc locals ((b.0, holds.One item.Value) ∷ []) (field_locals rest)) (h rest r))
 
--- a field is no option
+-- a field is none
 variant_none : (s : Setting) (source : BindingId) (variant : _) (j : ℕ) (b : BindingId) → slice_get s.bindings b.0 ≡ Some (binding.MatchVariant source variant (record { 0 = j })) → IsNoOption s b
-variant_none s source variant j b e ty h = none (subst (λ p. IsOptionOf s.env s.term p ty) (at_before s.bindings b (binding.MatchVariant source variant (record { 0 = j })) e) h)
+variant_none s source variant j b e = record { tuple = λ tys h. none (subst (λ p. IsTupleOf s.env s.term p tys) path h); option = λ tys h. none (subst (λ p. IsOptionOf s.env s.term p tys) path h) }
   where
+    path : at (paths_in s) b ≡ VariantField variant j (at (take b.0 (paths_in s)) source)
+    path = at_before s.bindings b (binding.MatchVariant source variant (record { 0 = j })) e
+
     none : ⊥ → ⊥
     none x = x
 
 struct_none : (s : Setting) (source : BindingId) (j : ℕ) (b : BindingId) → slice_get s.bindings b.0 ≡ Some (binding.ExtractStruct source (record { 0 = j })) → IsNoOption s b
-struct_none s source j b e ty h = none (subst (λ p. IsOptionOf s.env s.term p ty) (at_before s.bindings b (binding.ExtractStruct source (record { 0 = j })) e) h)
+struct_none s source j b e = record { tuple = λ tys h. none (subst (λ p. IsTupleOf s.env s.term p tys) path h); option = λ tys h. none (subst (λ p. IsOptionOf s.env s.term p tys) path h) }
   where
+    path : at (paths_in s) b ≡ StructField j (at (take b.0 (paths_in s)) source)
+    path = at_before s.bindings b (binding.ExtractStruct source (record { 0 = j })) e
+
     none : ⊥ → ⊥
     none x = x
 
@@ -362,25 +417,27 @@ form_hold s source ty (constraint.Struct of) places bound locals p k is l =
     places_hold s (λ i. binding.ExtractStruct source (record { 0 = i })) 0 (typed_fields s.env p.f.fields) places bound locals p.binds (λ j b e. struct_none s source j b e) p.spelled k.1 l
 form_hold s source ty c places bound locals p k is l = absurd is
 
--- what is within an option is no option
-inner_none : (s : Setting) (source b : BindingId) → slice_get s.bindings b.0 ≡ Some (binding.MatchSome source) → IsNoOption s b
-inner_none s source b e ty h = none (subst (λ p. IsOptionOf s.env s.term p ty) (at_before s.bindings b (binding.MatchSome source) e) h)
-  where
-    none : ⊥ → ⊥
-    none x = x
-
 same_local : (a b : Option ℕ) → Some (pattern.Some a) ≡ Some (pattern.Some b) → a ≡ b
 same_local a b e = cc
 
 -- the place of an option binds what is within
-some_hold : (s : Setting) (source : BindingId) (places : List (Option BindingId)) (bound : List ℕ) (locals : Locals) (local : Option ℕ) → some_pattern places ≡ Some (pattern.Some local) → ArePlacesOf s source constraint.Some places → LocalsHold s bound locals
-    → LocalsHold s (bound_within bound places) (locals ++ inner_locals local one_value)
-some_hold s source [] bound locals local e k l = subst (λ x. LocalsHold s bound (locals ++ inner_locals x one_value)) (same_local None local e) (subst (LocalsHold s bound) (sym (append-nil locals)) l)
-some_hold s source (None ∷ []) bound locals local e k l = subst (λ x. LocalsHold s bound (locals ++ inner_locals x one_value)) (same_local None local e) (subst (LocalsHold s bound) (sym (append-nil locals)) l)
-some_hold s source (Some b ∷ []) bound locals local e k l =
-    subst (λ x. LocalsHold s (bound ++ b.0 ∷ []) (locals ++ inner_locals x one_value)) (same_local (Some b.0) local e)
-    (more_hold s bound locals b (holds.One item.Value) l (record { value = λ ty h. refl; option = λ ty h. absurd (inner_none s source b k.1.0 ty h) }))
-some_hold s source (p ∷ q ∷ places) bound locals local e k l = cc
+some_hold : (s : Setting) (source : BindingId) (tys : List TypeId) (places : List (Option BindingId)) (bound : List ℕ) (locals : Locals) (local : Option ℕ) → some_pattern places ≡ Some (pattern.Some local) → IsOptionOf s.env s.term (at (paths_in s) source) tys
+    → ArePlacesOf s source constraint.Some places → LocalsHold s bound locals → LocalsHold s (bound_within bound places) (locals ++ inner_locals local (Some (holds.One (items s.env tys))))
+some_hold s source tys [] bound locals local e of k l = subst (λ x. LocalsHold s bound (locals ++ inner_locals x (Some (holds.One (items s.env tys))))) (same_local None local e) (subst (LocalsHold s bound) (sym (append-nil locals)) l)
+some_hold s source tys (None ∷ []) bound locals local e of k l = subst (λ x. LocalsHold s bound (locals ++ inner_locals x (Some (holds.One (items s.env tys))))) (same_local None local e) (subst (LocalsHold s bound) (sym (append-nil locals)) l)
+some_hold s source tys (Some b ∷ []) bound locals local e of k l =
+    subst (λ x. LocalsHold s (bound ++ b.0 ∷ []) (locals ++ inner_locals x (Some (holds.One (items s.env tys))))) (same_local (Some b.0) local e) (more_hold s bound locals b (holds.One (items s.env tys)) l (record {
+      value = λ ty h. (within (typed_parts s.env s.term (at (paths_in s) b) ty h)).value ty (subst (λ q. IsPathOf s.env s.term q ty) (path (typed_parts s.env s.term (at (paths_in s) b) ty h)) h);
+      tuple = λ tys' h. (within (tuple_parts s.env s.term (at (paths_in s) b) tys' h)).tuple tys' (subst (λ q. IsTupleOf s.env s.term q tys') (path (tuple_parts s.env s.term (at (paths_in s) b) tys' h)) h);
+      option = λ tys' h. (within (option_parts s.env s.term (at (paths_in s) b) tys' h)).option tys' (subst (λ q. IsOptionOf s.env s.term q tys') (path (option_parts s.env s.term (at (paths_in s) b) tys' h)) h);
+    }))
+  where
+    path : HasParts (at (paths_in s) b) → at (paths_in s) b ≡ Inner (at (paths_in s) source)
+    path parts = path_at s.bindings b (binding.MatchSome source) k.1.0 parts
+
+    within : HasParts (at (paths_in s) b) → HoldsAs s.env s.term (Inner (at (paths_in s) source)) (Some (holds.One (items s.env tys)))
+    within parts = within_holds s (at (paths_in s) source) tys of
+some_hold s source tys (p ∷ q ∷ places) bound locals local e of k l = cc
 
 named_pattern : (env : Environment) (ty : Sym) (variant : Option Sym) (more : Bool) (binds : List TBind) (h : Option Holds) → IsTrue (is_value h) → ReadsPattern (pattern_named env ty variant more binds) h × (pattern_locals (pattern_named env ty variant more binds) h ≡ field_locals binds)
 named_pattern env ty (Some variant) more binds h k = (k, refl)
@@ -394,18 +451,18 @@ returned_scoped return_kind.Option once r fns params locals e = rw e tt
 returned_scoped return_kind.Iterator once r fns params locals e = absurd once
 
 -- the body of an arm that tests whether an option is something
-some_scoped : (s : Setting) (bound : List ℕ) (locals : Locals) (source : BindingId) (ty : TypeId) (places : List (Option BindingId)) (inside ss : Body) → LocalsHold s bound locals → IsOptionReady s bound source ty → ArePlacesOf s source constraint.Some places
+some_scoped : (s : Setting) (bound : List ℕ) (locals : Locals) (source : BindingId) (tys : List TypeId) (places : List (Option BindingId)) (inside ss : Body) → LocalsHold s bound locals → IsOptionReady s bound source tys → ArePlacesOf s source constraint.Some places
     → ((after : Locals) → LocalsHold s (bound_within bound places) after → IsBodyScoped (trait_fns_of s.env) (kind_of s.term.kind) (length s.term.arg_tys) after inside)
     → IsBodyScoped (trait_fns_of s.env) (kind_of s.term.kind) (length s.term.arg_tys) locals ss
     → IsBodyScoped (trait_fns_of s.env) (kind_of s.term.kind) (length s.term.arg_tys) locals (Then (IfLet (written_pattern (some_pattern places)) (read.Plain (written_operand s bound source)) inside) ss)
-some_scoped s bound locals source ty places inside ss l ready parts h rest =
+some_scoped s bound locals source tys places inside ss l ready parts h rest =
     let p = some_made places parts.0 in
-    let held = operand_option s bound locals source ty l ready in
+    let held = operand_option s bound locals source tys l ready in
     subst (λ o. IsBodyScoped (trait_fns_of s.env) (kind_of s.term.kind) (length s.term.arg_tys) locals (Then (IfLet (written_pattern o) (read.Plain (written_operand s bound source)) inside) ss)) (sym p.1) (
       (
         subst (λ x. IsSome (inner_holds x)) (sym held) refl,
         subst (λ x. IsBodyScoped (trait_fns_of s.env) (kind_of s.term.kind) (length s.term.arg_tys) (locals ++ inner_locals p.0 (inner_holds x)) inside) (sym held)
-            (h (locals ++ inner_locals p.0 one_value) (some_hold s source places bound locals p.0 p.1 parts l)),
+            (h (locals ++ inner_locals p.0 (Some (holds.One (items s.env tys)))) (some_hold s source tys places bound locals p.0 p.1 ready.path parts l)),
       ),
       rest,
     )

@@ -232,11 +232,15 @@ bind_ready s bound more b (Some (binding.Constructor term parameters instance)) 
     (λ ready. subst (IsReadyBind s (bound_by more (needs s more parameters)) (at (paths_in s) b)) (sym e) (record { path = is.path; called = is.called; found = is.found; args = ready; kind = is.kind; external = is.external }))
 bind_ready s bound more b (Some (binding.Extractor term parameter)) e a is =
     with_ready s more b (parameter ∷ []) (is.called.ret_ty ∷ []) (read_ready s bound more (parameter ∷ []) (is.called.ret_ty ∷ []) a (is.arg, tt))
-    (λ ready. subst (IsReadyBind s (bound_by more (needs s more (parameter ∷ []))) (at (paths_in s) b)) (sym e) (record { path = is.path; called = is.called; found = is.found; arg = ready.0; result = is.result; one = is.one; kind = is.kind; external = is.external }))
+    (λ ready. subst (IsReadyBind s (bound_by more (needs s more (parameter ∷ []))) (at (paths_in s) b)) (sym e) (record { path = is.path; called = is.called; found = is.found; arg = ready.0; kind = is.kind; external = is.external }))
 bind_ready s bound more b (Some (binding.MatchSome source)) e a is =
     let there = a.keeps source (found bound source.0 is.bound') in
     subst (λ ns. AreReadyBinds s more (ns ++ b ∷ [])) (sym (source_needs s more source there))
-    (subst (IsReadyBind s more (at (paths_in s) b)) (sym e) (record { path = is.path; ty = is.ty; option = is.option; bound' = contained more source.0 there; fits = is.fits }), tt)
+    (subst (IsReadyBind s more (at (paths_in s) b)) (sym e) (record { path = is.path; tys = is.tys; option = is.option; bound' = contained more source.0 there; fits = is.fits }), tt)
+bind_ready s bound more b (Some (binding.MatchTuple source field)) e a is =
+    let there = a.keeps source (found bound source.0 is.bound') in
+    subst (λ ns. AreReadyBinds s more (ns ++ b ∷ [])) (sym (source_needs s more source there))
+    (subst (IsReadyBind s more (at (paths_in s) b)) (sym e) (record { path = is.path; tys = is.tys; tuple = is.tuple; ty = is.ty; there = is.there; bound' = contained more source.0 there }), tt)
 bind_ready s bound more b (Some (binding.Argument index)) e a is = (subst (IsReadyBind s more (at (paths_in s) b)) (sym e) is, tt)
 bind_ready s bound more b (Some (binding.ConstBool val ty)) e a is = (subst (IsReadyBind s more (at (paths_in s) b)) (sym e) is, tt)
 bind_ready s bound more b (Some (binding.ConstInt val ty)) e a is = (subst (IsReadyBind s more (at (paths_in s) b)) (sym e) is, tt)
@@ -260,7 +264,7 @@ source_ready : (s : Setting) (bound more : List ℕ) (source : BindingId) (over 
 source_ready s bound more source (AValue ty) a k =
     let h = read_ready s bound more (source ∷ []) (ty ∷ []) a (k, tt) in
     (h.binds, h.ready.0)
-source_ready s bound more source (AnOption ty) a k =
+source_ready s bound more source (AnOption tys) a k =
     let there = a.keeps source (found bound source.0 k.bound') in
     let ns = needs s more (source ∷ []) in
     (subst (AreReadyBinds s more) (sym (source_needs s more source there)) tt, record { path = k.path; bound' = still_bound ns more source there })

@@ -7,7 +7,6 @@ use Rattle.std.proofs.lemmas.List.Elements.{All-contains, All-from_recursion}
 use Rattle.std.proofs.lemmas.Slice.Eq.{bytes_eq-Decides}
 use Rattle.isle_base.specs.declared.ids.Sym.{Sym}
 use Rattle.isle_core.specs.declared.rule_sets.Binding.{Binding}
-use Rattle.isle_core.specs.declared.types.ConstructorKind.{ConstructorKind}
 use Rattle.isle_core.specs.declared.types.ConstructorKind.TheVariants as constructor
 use Rattle.isle_core.specs.declared.types.ExtractorKind.TheVariants as extractor
 use Rattle.isle_core.specs.declared.types.Term.{Term}
@@ -17,7 +16,7 @@ use Rattle.isle_core.specs.declared.values.Callee.{Callee}
 use Rattle.isle_core.specs.declared.values.Callee.TheVariants.{External}
 use Rattle.isle_core.specs.Calling.{extracting_of, extracting_kind}
 use Rattle.isle_core.specs.Rule.{Environment}
-use Rattle.isle_core.specs.Terms.{sym_text, callee_by, impure_callee, goes_to, is_impure}
+use Rattle.isle_core.specs.Terms.{sym_text, impure_callee, goes_to, is_impure}
 use Rattle.isle_tree.specs.declared.tree.TraitFn.{TraitFn}
 use Rattle.isle_tree.specs.WellFormed.{fn_names}
 use Rattle.isle_simulation.specs.Emitted.{HasPureExtractors}

@@ -6,10 +6,11 @@ pub mod BoundTests
 pub mod Written
 pub mod Ready
 pub mod PathValues
+pub mod ResultsAt
 pub mod HeldStays
 pub mod LocalsAgree
-pub mod ArmsRun
 pub mod OneBind
+pub mod ArmsRun
 pub mod MadeBinds
 pub mod BindsRun
 pub mod CompletedRuns

@@ -1,6 +1,6 @@
 -- The locals that are bound hold what stands at the paths of their bindings, but for the type names of opaque numbers.
-use Rattle.std.proofs.Common.{◌≡◌, ⊎_elim, ℕ, List, [], ◌∷◌, ◌++◌, map, Bool, true, false, cond, eqb, Option, Some, refl, sym, ap, ◌∙◌, subst}
-use Rattle.std.specs.Prelude.{◌||◌, option_map}
+use Rattle.std.proofs.Common.{◌≡◌, ⊎_elim, ℕ, List, [], ◌∷◌, ◌++◌, map, Bool, true, false, cond, eqb, Some, refl, sym, ap, ◌∙◌, subst}
+use Rattle.std.specs.Prelude.{◌||◌}
 use Rattle.std.proofs.lemmas.Bool.{eqb-true}
 use Rattle.std.proofs.lemmas.List.Folds.{list_any-append}
 use Rattle.std.proofs.lemmas.List.Sums.{fold_push}
@@ -11,12 +11,11 @@ use Rattle.isle_core.specs.HasType.{AreFieldsOf}
 use Rattle.isle_core.specs.Form.{field_values}
 use Rattle.isle_core.specs.Nameless.{nameless, nameless_fields}
 use Rattle.isle_core.specs.Path.{Path, at, at_all}
-use Rattle.isle_core.specs.PathType.{IsPathOf, IsOptionOf}
+use Rattle.isle_core.specs.PathType.{IsPathOf, IsTupleOf, IsOptionOf}
 use Rattle.isle_core.specs.Rule.{Environment}
 use Rattle.isle_core.specs.Setting.{Setting, paths_in}
 use Rattle.isle_core.specs.Value.{Value, FieldValues, NoField, Field}
-use Rattle.isle_core.specs.ValueAt.{Held, Absent, Known, a_value, an_option, value_before, value_at, values_at}
-use Rattle.isle_core.proofs.TurnKinds.{IsHeldOf}
+use Rattle.isle_core.specs.ValueAt.{Held, Absent, Known, a_value, value_before, value_at, values_at}
 use Rattle.isle_tree.specs.declared.tree.Operand.{Operand}
 use Rattle.isle_tree.specs.Run.{Around, Env, newer, look, bind, value_of, read_value, read_values, read_fields, field_before}
 use Rattle.isle_simulation.specs.Operands.{is_bound}
@@ -24,21 +23,14 @@ use Rattle.isle_simulation.specs.References.{is_declared, is_reference_in, read_
 use Rattle.isle_simulation.proofs.HeldStays.{IsThere, Grows, held_stays}
 use Rattle.isle_simulation.proofs.PathValues.{Grounds, IsValueAt, constant_valued, path_reads}
 use Rattle.isle_simulation.proofs.Ready.{IsSpelled, IsReady, AreReady}
+use Rattle.isle_simulation.proofs.ResultsAt.{AreResultsAt, IsOptionAt}
 use Rattle.isle_simulation.proofs.Written.{written_operand, written_read, reads, field_reads}
-
--- a place holds in the run what another one holds where a block runs, an option of a value of the type, but for names
-pub record IsOptionAt (env : Environment) (h g : Held) (ty : TypeId) : Type 0 where
-  pub o : Option Value
-  pub q : Option Value
-  pub run : h ≡ an_option q
-  pub block : g ≡ an_option o
-  pub same : option_map nameless q ≡ option_map nameless o
-  pub typed : IsHeldOf env ty (an_option o)
 
 -- a local holds in the run what stands at a path of a type
 pub record Stands (env : Environment) (t : Term) (p : Path) (h g : Held) : Type 0 where
   pub value : (ty : TypeId) → IsPathOf env t p ty → IsValueAt env h g ty
-  pub option : (ty : TypeId) → IsOptionOf env t p ty → IsOptionAt env h g ty
+  pub tuple : (tys : List TypeId) → IsTupleOf env t p tys → AreResultsAt env h g tys
+  pub option : (tys : List TypeId) → IsOptionOf env t p tys → IsOptionAt env h g tys
 
 -- so of each that is bound
 pub record Agree (s : Setting) (u : Around) (bound : List ℕ) (known : Known) (locals : Env) : Type 0 where
@@ -50,7 +42,7 @@ none_agree s u known = record { by = λ c e. cc }
 
 -- still so while later calls are answered
 pub agree_later : (s : Setting) (u : Around) (bound : List ℕ) (known later : Known) (locals : Env) → Grows known later → Agree s u bound known locals → Agree s u bound later locals
-agree_later s u bound known later locals g a = record { by = λ c e. record { value = λ ty k. still c ty ((a.by c e).value ty k); option = λ ty k. still_option c ty ((a.by c e).option ty k) } }
+agree_later s u bound known later locals g a = record { by = λ c e. record { value = λ ty k. still c ty ((a.by c e).value ty k); tuple = λ tys k. still_results c tys ((a.by c e).tuple tys k); option = λ tys k. still_option c tys ((a.by c e).option tys k) } }
   where
     at_path : Known → BindingId → Held
     at_path k c = value_at s.env u.meaning u.args k (at (paths_in s) c)
@@ -58,8 +50,11 @@ agree_later s u bound known later locals g a = record { by = λ c e. record { va
     still : (c : BindingId) (ty : TypeId) → IsValueAt s.env (look locals c.0) (at_path known c) ty → IsValueAt s.env (look locals c.0) (at_path later c) ty
     still c ty x = record { v = x.v; r = x.r; run = x.run; block = held_stays (at (paths_in s) c) s.env u.meaning u.args known later g (subst IsThere (sym x.block) tt) ∙ x.block; same = x.same; typed = x.typed }
 
-    still_option : (c : BindingId) (ty : TypeId) → IsOptionAt s.env (look locals c.0) (at_path known c) ty → IsOptionAt s.env (look locals c.0) (at_path later c) ty
-    still_option c ty x = record { o = x.o; q = x.q; run = x.run; block = held_stays (at (paths_in s) c) s.env u.meaning u.args known later g (subst IsThere (sym x.block) tt) ∙ x.block; same = x.same; typed = x.typed }
+    still_results : (c : BindingId) (tys : List TypeId) → AreResultsAt s.env (look locals c.0) (at_path known c) tys → AreResultsAt s.env (look locals c.0) (at_path later c) tys
+    still_results c tys x = record { vs = x.vs; rs = x.rs; run = x.run; block = held_stays (at (paths_in s) c) s.env u.meaning u.args known later g (subst IsThere (sym x.block) tt) ∙ x.block; same = x.same; typed = x.typed }
+
+    still_option : (c : BindingId) (tys : List TypeId) → IsOptionAt s.env (look locals c.0) (at_path known c) tys → IsOptionAt s.env (look locals c.0) (at_path later c) tys
+    still_option c tys x = record { o = x.o; q = x.q; run = x.run; block = held_stays (at (paths_in s) c) s.env u.meaning u.args known later g (subst IsThere (sym x.block) tt) ∙ x.block; same = x.same; typed = x.typed }
 
 older : (x : Bool) → (x || (false || false)) ≡ true → x ≡ true
 older true e = refl
@@ -99,9 +94,14 @@ operand_reads s u bound known locals b ty g a r = one (is_bound bound b) refl
     one false is = ⊎_elim (λ k. absurd (let bad : false ≡ true = sym is ∙ k in cc)) (λ k. spelled is k) r.place
 
 -- the option that a local holds
-pub option_reads : (s : Setting) (u : Around) (bound : List ℕ) (known : Known) (locals : Env) (b : BindingId) (ty : TypeId) → Agree s u bound known locals → is_bound bound b ≡ true → IsOptionOf s.env s.term (at (paths_in s) b) ty
-    → IsOptionAt s.env (value_of u locals (written_operand s bound b)) (value_at s.env u.meaning u.args known (at (paths_in s) b)) ty
-option_reads s u bound known locals b ty a is of = rw is ((a.by b is).option ty of)
+pub option_reads : (s : Setting) (u : Around) (bound : List ℕ) (known : Known) (locals : Env) (b : BindingId) (tys : List TypeId) → Agree s u bound known locals → is_bound bound b ≡ true → IsOptionOf s.env s.term (at (paths_in s) b) tys
+    → IsOptionAt s.env (value_of u locals (written_operand s bound b)) (value_at s.env u.meaning u.args known (at (paths_in s) b)) tys
+option_reads s u bound known locals b tys a is of = rw is ((a.by b is).option tys of)
+
+-- the tuple that a local holds
+pub tuple_reads : (s : Setting) (u : Around) (bound : List ℕ) (known : Known) (locals : Env) (b : BindingId) (tys : List TypeId) → Agree s u bound known locals → is_bound bound b ≡ true → IsTupleOf s.env s.term (at (paths_in s) b) tys
+    → AreResultsAt s.env (value_of u locals (written_operand s bound b)) (value_at s.env u.meaning u.args known (at (paths_in s) b)) tys
+tuple_reads s u bound known locals b tys a is of = rw is ((a.by b is).tuple tys of)
 
 -- a reference is read as its value
 pub read_is : (u : Around) (locals : Env) (wanted is : Bool) (o : Operand) → read_value u locals (read_as wanted is o) ≡ value_of u locals o

@@ -67,12 +67,12 @@ pub record IsOverValue (s : Setting) (bound : List ℕ) (source : BindingId) (c 
 -- another constraint than Some is on a value
 pub over_value : (s : Setting) (bound : List ℕ) (source : BindingId) (c : Constraint) (over : Source) → (c ≡ constraint.Some → ⊥) → IsReadyIn s bound source over → IsConstraintOver s.env c over → IsOverValue s bound source c
 over_value s bound source c (AValue ty) apart ready is = record { ty = ty; ready = ready; is = is }
-over_value s bound source c (AnOption ty) apart ready is = absurd (apart is)
+over_value s bound source c (AnOption tys) apart ready is = absurd (apart is)
 
 -- Some is on an option
-pub over_option : (s : Setting) (bound : List ℕ) (source : BindingId) (over : Source) → IsReadyIn s bound source over → IsConstraintOver s.env constraint.Some over → (ty : TypeId) × IsOptionReady s bound source ty
+pub over_option : (s : Setting) (bound : List ℕ) (source : BindingId) (over : Source) → IsReadyIn s bound source over → IsConstraintOver s.env constraint.Some over → (tys : List TypeId) × IsOptionReady s bound source tys
 over_option s bound source (AValue ty) ready is = absurd is
-over_option s bound source (AnOption ty) ready is = (ty, ready)
+over_option s bound source (AnOption tys) ready is = (tys, ready)
 
 -- ---- operands that are there
 
@@ -114,8 +114,8 @@ operand_there s bound b ty h = one (is_bound bound b) refl
     one false is = rw is (⊎_elim (λ k. absurd (let bad : false ≡ true = sym is ∙ k in cc)) (λ k. place_there s.env s.term b.0 (at (paths_in s) b) ty h.path k) h.place)
 
 -- of an option
-pub option_there : (s : Setting) (bound : List ℕ) (b : BindingId) (ty : TypeId) → IsOptionReady s bound b ty → operand_of s.env s.bindings bound b ≡ Some (written_operand s bound b)
-option_there s bound b ty h = rw h.bound' refl
+pub option_there : (s : Setting) (bound : List ℕ) (b : BindingId) (tys : List TypeId) → IsOptionReady s bound b tys → operand_of s.env s.bindings bound b ≡ Some (written_operand s bound b)
+option_there s bound b tys h = rw h.bound' refl
 
 pub read_there : (s : Setting) (bound : List ℕ) (wanted : Bool) (b : BindingId) (ty : TypeId) → IsReady s bound b ty → read_in s bound wanted b ≡ Some (written_read s bound wanted b)
 read_there s bound wanted b ty h = ap (option_map (read_as wanted (is_reference_in s b))) (operand_there s bound b ty h)
@@ -168,6 +168,7 @@ bound_made s bound b (Some (binding.Constructor term parameters k)) is =
 bound_made s bound b (Some (binding.Extractor term parameter)) is =
     extraction_made s bound (slice_get s.env.terms term.0) is.called (callee_of (extracting s.env term)) (written.callee_of (extracting s.env term)) parameter is.found (extractor_made is.kind (extracting s.env term) is.external) is.arg
 bound_made s bound b (Some (binding.MatchSome source)) is = rw (found bound source.0 is.bound') refl
+bound_made s bound b (Some (binding.MatchTuple source field)) is = rw (found bound source.0 is.bound') refl
 bound_made s bound b (Some (binding.Argument index)) is = plain_made s b is
 bound_made s bound b (Some (binding.ConstBool val ty)) is = plain_made s b is
 bound_made s bound b (Some (binding.ConstInt val ty)) is = plain_made s b is

@@ -20,7 +20,7 @@ use Rattle.isle_core.specs.ValueAt.{Known, a_value, made_held, value_at, values_
 use Rattle.isle_core.specs.CallRun as went
 use Rattle.isle_core.specs.CallRun.{Went, then_go, take_turn, make_call, unless_nothing}
 use Rattle.isle_core.specs.BlockRun.{bind_one}
-use Rattle.isle_core.specs.PathType.{IsPathOf, IsOptionOf}
+use Rattle.isle_core.specs.PathType.{IsPathOf, IsTupleOf, IsOptionOf}
 use Rattle.isle_core.specs.Rule.{Environment}
 use Rattle.isle_core.specs.Setting.{Setting, paths_in}
 use Rattle.isle_core.specs.Terms.{sym_text}
@@ -50,7 +50,8 @@ pub record IsMadeOver (s : Setting) (u : Around) (known : Known) (made : List Ma
   pub run : (ps : Paths) → bind_one s.env u.meaning u.args (over ps) known made ≡ went.Goes known made
   pub block : (ps : Paths) → value_at s.env u.meaning u.args known (over ps) ≡ made_held s.env mk (values_at s.env u.meaning u.args known ps)
   pub typed : (ps : Paths) (ty : TypeId) → IsPathOf s.env s.term (over ps) ty → IsOfMaking ty mk
-  pub no_option : (ps : Paths) (ty : TypeId) → IsOptionOf s.env s.term (over ps) ty → ⊥
+  pub no_tuple : (ps : Paths) (tys : List TypeId) → IsTupleOf s.env s.term (over ps) tys → ⊥
+  pub no_option : (ps : Paths) (tys : List TypeId) → IsOptionOf s.env s.term (over ps) tys → ⊥
   pub unnamed : (f : Form) → form s.env mk ≡ Some f → f.variant ≡ None → const_of u.meaning (sym_text s.env f.ty) ≡ None
 
 pub made_binds : (s : Setting) (u : Around) (bound : List ℕ) (n : ℕ) (p : Path) (over : Paths → Path) (mk : Making) (fields : List BindingId) (known : Known) (made those : List Made) (locals : Env)
@@ -73,7 +74,8 @@ made_binds s u bound n p over mk fields known made those locals g same a x is =
       made = same;
       stands = record {
         value = λ ty of. record { v = w; r = r; run = refl; block = held; same = like; typed = made_typed s.env ty mk f (field_values (typed_fields s.env f.fields) l.vs) g.names.apart.variants (x.typed ps ty of) is.found l.typed };
-        option = λ ty of. absurd (x.no_option ps ty of);
+        tuple = λ tys of. absurd (x.no_tuple ps tys of);
+        option = λ tys of. absurd (x.no_option ps tys of);
       };
       grows = same_known known;
       keeps = λ j c. refl;
@@ -92,7 +94,7 @@ variant_there (Some (def.Primitive name rust place)) variant f e k = cc
 variant_there (Some (def.Struct name is_extern is_nodebug fields place)) variant f e k = cc
 
 pub variant_over : (s : Setting) (u : Around) (known : Known) (made : List Made) (ty : TypeId) (variant : VariantId) → IsMadeOver s u known made (MadeVariant ty variant) (MakesVariant ty variant)
-variant_over s u known made ty variant = record { run = λ ps. refl; block = λ ps. refl; typed = λ ps of k. k.0; no_option = λ ps of k. k; unnamed = λ f e k. absurd (variant_there (slice_get s.env.types.types ty.0) variant f e k) }
+variant_over s u known made ty variant = record { run = λ ps. refl; block = λ ps. refl; typed = λ ps of k. k.0; no_tuple = λ ps of k. k; no_option = λ ps of k. k; unnamed = λ f e k. absurd (variant_there (slice_get s.env.types.types ty.0) variant f e k) }
 
 pub struct_over : (s : Setting) (u : Around) (known : Known) (made : List Made) (ty : TypeId) → Grounds s u → IsMadeOver s u known made (MadeStruct ty) (MakesStruct ty)
-struct_over s u known made ty g = record { run = λ ps. refl; block = λ ps. refl; typed = λ ps of k. k.0; no_option = λ ps of k. k; unnamed = λ f e k. struct_unnamed s.env u.meaning ty f g.names g.constants e }
+struct_over s u known made ty g = record { run = λ ps. refl; block = λ ps. refl; typed = λ ps of k. k.0; no_tuple = λ ps of k. k; no_option = λ ps of k. k; unnamed = λ f e k. struct_unnamed s.env u.meaning ty f g.names g.constants e }

@@ -3,6 +3,7 @@ use Rattle.std.proofs.Common.{◌≡◌, ◌⊎◌, inl, inr, ℕ, List, [], ◌
 use Rattle.std.specs.Prelude.{Contains, IsSomeAnd, option_map, slice_get}
 use Rattle.std.proofs.lemmas.Bool.{eq-eqb, eqb-true}
 use Rattle.std.proofs.lemmas.List.Elements.{Contains-append_right}
+use Rattle.std.proofs.lemmas.Option.{same_Some}
 use Rattle.isle_core.specs.declared.types.ReturnKind.{ReturnKind}
 use Rattle.isle_core.specs.declared.types.ReturnKind.TheVariants as return_kind
 use Rattle.isle_core.specs.declared.BindingId.{BindingId}
@@ -12,16 +13,16 @@ use Rattle.isle_core.specs.declared.types.Term.{Term}
 use Rattle.isle_core.specs.declared.values.Callee.{Callee}
 use Rattle.isle_core.specs.Value.{Value, Answer, Made, End, GivesNone}
 use Rattle.isle_core.specs.Meaning.{turn, case}
-use Rattle.isle_core.specs.Answered.{answer_held}
+use Rattle.isle_core.specs.Answered.{answer_held, item_of}
 use Rattle.isle_core.specs.CalledTerms.{Extractor}
-use Rattle.isle_core.specs.Calling.{ByTurns, ByCases, calling, extracting, kind_of, may_be_nothing}
+use Rattle.isle_core.specs.Calling.{ByTurns, ByCases, AnswersOnce, calling, extracting, kind_of, may_be_nothing}
 use Rattle.isle_core.specs.Match.{with}
 use Rattle.isle_core.specs.Nameless.{nameless, nameless_made, nameless_end}
 use Rattle.isle_core.specs.Outcome.{Failure, Prescription}
-use Rattle.isle_core.specs.HasType.{HasType}
+use Rattle.isle_core.specs.HasType.{HasType, HaveTypes}
 use Rattle.isle_core.specs.Lawful.{RoleFits, AnswersFit}
-use Rattle.isle_core.specs.Path.{Path, Paths, Arg, ConstBool, ConstInt, ConstPrim, Extracted, Called, Inner, at, at_all}
-use Rattle.isle_core.specs.ValueAt.{Held, Absent, One, Optional, Listed, Known, a_value, an_option, case_held, extracted_held, inner_held, value_at, values_at}
+use Rattle.isle_core.specs.Path.{Path, Paths, Arg, ConstBool, ConstInt, ConstPrim, Extracted, Called, Inner, Part, at, at_all}
+use Rattle.isle_core.specs.ValueAt.{Held, Absent, One, Optional, Listed, Known, a_value, an_option, case_held, extracted_held, held as held_value, inner_held, part_held, value_at, values_at}
 use Rattle.isle_core.specs.CallRun as went
 use Rattle.isle_core.specs.CallRun.{Went, then_go, take_turn, make_call, unless_nothing}
 use Rattle.isle_core.specs.BlockRun.{bind_one}
@@ -29,7 +30,7 @@ use Rattle.isle_core.specs.StandsFor.{EachOnce}
 use Rattle.isle_core.specs.Bindable.{IsPlain}
 use Rattle.isle_core.specs.ExternalCall.{IsCall, IsExtraction}
 use Rattle.isle_core.specs.Occurrences.{occurrence, occurrence_at}
-use Rattle.isle_core.specs.PathType.{IsPathOf, IsOptionOf, ArePathsOf}
+use Rattle.isle_core.specs.PathType.{AreTuple, IsPathOf, IsTupleOf, IsOptionOf, ArePathsOf}
 use Rattle.isle_core.specs.Readable.{IsInPlace}
 use Rattle.isle_core.specs.Rule.{Environment}
 use Rattle.isle_core.specs.Setting.{Setting, paths_in}
@@ -41,15 +42,16 @@ use Rattle.isle_core.proofs.TurnKinds.{IsHeldOf}
 use Rattle.isle_tree.specs.declared.tree.Read.TheVariants as read
 use Rattle.isle_tree.specs.declared.tree.TExpr.{TExpr}
 use Rattle.isle_tree.specs.declared.tree.TExpr.TheVariants as expr
-use Rattle.isle_tree.specs.Run.{Around, State, Env, Flow, look, bind, value_of, read_values, Goes, Ends, then_run, run_bind, run_call, run_try, run_let}
-use Rattle.isle_simulation.proofs.AnsweredByCase.{extractor_answers}
+use Rattle.isle_tree.specs.Run.{Around, State, Env, Flow, bind, value_of, read_values, Goes, Ends, then_run, run_bind, run_call, run_try, part_of, run_part, run_let}
+use Rattle.isle_simulation.proofs.AnsweredByCase.{HoldsResults, extractor_answers}
 use Rattle.isle_simulation.proofs.BoundTests.{found}
 use Rattle.isle_simulation.proofs.HeldStays.{IsThere, Grows}
-use Rattle.isle_simulation.proofs.LocalsAgree.{IsOptionAt, Stands, Agree, option_reads, operands_read}
+use Rattle.isle_simulation.proofs.LocalsAgree.{Stands, Agree, option_reads, tuple_reads, operands_read}
 use Rattle.isle_simulation.proofs.NamelessLaws.{AreSameCalls, turn_like, impure_push, pure_push, turned_impure}
-use Rattle.isle_simulation.proofs.PathTypes.{one_type}
+use Rattle.isle_simulation.proofs.PathTypes.{one_type, one_within}
 use Rattle.isle_simulation.proofs.PathValues.{Grounds, IsValueAt, constant_valued, path_reads}
 use Rattle.isle_simulation.proofs.Ready.{IsSpelled, IsReady, AreReady}
+use Rattle.isle_simulation.proofs.ResultsAt.{AreResultsAt, value_of_one, are_tuples, part_is}
 use Rattle.isle_simulation.proofs.Written.{written_operand, written_place, callee_of, reads, call_expr, extraction_expr, end_of}
 
 -- ---- occurrences
@@ -120,12 +122,19 @@ plain_run env u (ConstInt ty n) known made h = refl
 plain_run env u (ConstPrim name) known made h = refl
 plain_run env u p known made h = absurd h
 
-pub no_option : (env : Environment) (t : Term) (p : Path) (ty : TypeId) → IsInPlace p → IsOptionOf env t p ty → ⊥
-no_option env t (Arg i) ty h k = k
-no_option env t (ConstBool of b) ty h k = k
-no_option env t (ConstInt of n) ty h k = k
-no_option env t (ConstPrim name) ty h k = k
-no_option env t p ty h k = absurd h
+pub no_option : (env : Environment) (t : Term) (p : Path) (tys : List TypeId) → IsInPlace p → IsOptionOf env t p tys → ⊥
+no_option env t (Arg i) tys h k = k
+no_option env t (ConstBool of b) tys h k = k
+no_option env t (ConstInt of n) tys h k = k
+no_option env t (ConstPrim name) tys h k = k
+no_option env t p tys h k = absurd h
+
+pub no_tuple : (env : Environment) (t : Term) (p : Path) (tys : List TypeId) → IsInPlace p → IsTupleOf env t p tys → ⊥
+no_tuple env t (Arg i) tys h k = k
+no_tuple env t (ConstBool of b) tys h k = k
+no_tuple env t (ConstInt of n) tys h k = k
+no_tuple env t (ConstPrim name) tys h k = k
+no_tuple env t p tys h k = absurd h
 
 pub spelled : (p : Path) → IsInPlace p → IsSpelled p
 spelled (Arg i) h = tt
@@ -151,7 +160,7 @@ plain_binds s u b known made those locals g same k =
       those = those;
       is = ap (λ y. run_bind b.0 y locals (done those)) x.run;
       made = same;
-      stands = record { value = λ ty of. of_types s.env s.term p (value_of u locals (written_place s b)) (value_at s.env u.meaning u.args known p) k.1.0 k.1.1 x ty of; option = λ ty of. absurd (no_option s.env s.term p ty k.0 of) };
+      stands = record { value = λ ty of. of_types s.env s.term p (value_of u locals (written_place s b)) (value_at s.env u.meaning u.args known p) k.1.0 k.1.1 x ty of; tuple = λ tys of. absurd (no_tuple s.env s.term p tys k.0 of); option = λ tys of. absurd (no_option s.env s.term p tys k.0 of) };
       grows = same_known known;
       keeps = no_occurrence s.env p known;
     })
@@ -179,17 +188,38 @@ typed_as : (env : Environment) (o : Option Term) (h : Held) (ty : TypeId) (P : T
 typed_as env None h ty P a b = absurd a
 typed_as env (Some c) h ty P a b = subst (λ x. IsHeldOf env x h) b.0 a
 
+-- results of one value of the type of a term that is there
+typed_within : (env : Environment) (o : Option Term) (h : Held) (tys : List TypeId) (P : Term → Type 0) (v : Value) → h ≡ an_option (Some v) → IsSomeAnd o (λ (c : Term). IsHeldOf env c.ret_ty h) → IsSomeAnd o (λ (c : Term). (c.ret_ty ∷ [] ≡ tys) × P c) → HaveTypes env (v ∷ []) tys
+typed_within env None h tys P v is a b = absurd a
+typed_within env (Some c) h tys P v is a b = subst (HaveTypes env (v ∷ [])) b.0 (subst (IsHeldOf env c.ret_ty) is a, tt)
+
+-- a value as the one result
+abbrev one_result : Option Value → Option (List Value)
+one_result o = option_map (λ v. v ∷ []) o
+
+one_held : (o : Option Value) → an_option o ≡ Optional (option_map item_of (one_result o))
+one_held None = refl
+one_held (Some v) = refl
+
 -- a place that holds what a call of the kind is answered
 held_kind : (kind : ReturnKind) (h g : Held) → g ≡ h → turn_kind.IsOfKind kind h → (env : Environment) (t : Term) (term : TermId) (callee : Callee) → calling env term ≡ ByTurns callee kind → IsSomeAnd (slice_get env.terms term.0) (λ (c : Term). IsHeldOf env c.ret_ty h) → (ps : Paths) (k : ℕ) → Stands env t (Called term ps k) h g
 held_kind return_kind.Iterator h g there is env t term callee c typed ps k = absurd is
 held_kind return_kind.Plain h g there is env t term callee c typed ps k = record {
   value = λ ty of. record { v = is.0; r = is.0; run = is.1; block = there ∙ is.1; same = refl; typed = subst (IsHeldOf env ty) is.1 (typed_as env (slice_get env.terms term.0) h ty (λ (x : Term). ArePathsOf env t ps x.arg_tys) typed of.1) };
-  option = λ ty of. absurd (let call : IsCall return_kind.Option (ByTurns callee return_kind.Plain) = subst (IsCall return_kind.Option) c of.0 in let q = call.0 in cc);
+  tuple = λ tys of. absurd of;
+  option = λ tys of. absurd (let call : IsCall return_kind.Option (ByTurns callee return_kind.Plain) = subst (IsCall return_kind.Option) c of.0 in let q = call.0 in cc);
 }
 held_kind return_kind.Option h g there is env t term callee c typed ps k = record {
   value = λ ty of. absurd (let call : IsCall return_kind.Plain (ByTurns callee return_kind.Option) = subst (IsCall return_kind.Plain) c of.0 in let q = call.0 in cc);
-  option = λ ty of. record { o = is.0; q = is.0; run = is.1; block = there ∙ is.1; same = refl; typed = subst (IsHeldOf env ty) is.1 (typed_as env (slice_get env.terms term.0) h ty (λ (x : Term). ArePathsOf env t ps x.arg_tys) typed of.1) };
+  tuple = λ tys of. absurd of;
+  option = λ tys of. record { o = one_result is.0; q = one_result is.0; run = is.1 ∙ one_held is.0; block = there ∙ is.1 ∙ one_held is.0; same = refl; typed = λ vs e. each tys of.1 is.0 refl vs e };
 }
+  where
+    each : (tys : List TypeId) → IsSomeAnd (slice_get env.terms term.0) (λ (x : Term). (x.ret_ty ∷ [] ≡ tys) × ArePathsOf env t ps x.arg_tys) → (o : Option Value) → is.0 ≡ o → (vs : List Value) → one_result is.0 ≡ Some vs → HaveTypes env vs tys
+    each tys of None same vs e = let bad : None ≡ Some vs = ap one_result (sym same) ∙ e in cc
+    each tys of (Some v) same vs e =
+        let there' : v ∷ [] ≡ vs = same_Some (v ∷ []) vs (ap one_result (sym same) ∙ e) in
+        subst (λ xs. HaveTypes env xs tys) there' (typed_within env (slice_get env.terms term.0) h tys (λ (x : Term). ArePathsOf env t ps x.arg_tys) v (is.1 ∙ ap an_option same) typed of)
 
 kind_there : (kind : ReturnKind) (h : Held) → turn_kind.IsOfKind kind h → IsThere h
 kind_there return_kind.Plain h is = subst IsThere (sym is.1) tt
@@ -239,39 +269,45 @@ call_binds s u bound n term parameters k callee kind called known made those loc
 
 -- ---- a call of an extractor
 
--- the one result of a term that is there
-result_is : (o : Option Term) (called : Term) (result ty : TypeId) (P : Term → Type 0) → o ≡ Some called → called.arg_tys ≡ result ∷ [] → IsSomeAnd o (λ (c : Term). (c.arg_tys ≡ ty ∷ []) × P c) → result ≡ ty
-result_is None called result ty P e f h = absurd h
-result_is (Some c) called result ty P e f h =
-    let is : c ≡ called = cc in
-    let same : result ∷ [] ≡ ty ∷ [] = sym f ∙ ap (λ (x : Term). x.arg_tys) (sym is) ∙ h.0 in
-    cc
+-- the results of a term that is there
+pub results_are : (o : Option Term) (called : Term) (tys : List TypeId) (P : Term → Type 0) → o ≡ Some called → IsSomeAnd o (λ (c : Term). (c.arg_tys ≡ tys) × P c) → called.arg_tys ≡ tys
+results_are None called tys P e h = absurd h
+results_are (Some c) called tys P e h = ap (λ (x : Term). x.arg_tys) (sym (same_Some c called e)) ∙ h.0
 
 -- a place that holds what an extractor of the kind answers
-held_extracted : (kind : ReturnKind) (h g : Held) → g ≡ h → turn_kind.IsOfKind kind h → (env : Environment) (t : Term) (term : TermId) (callee : Callee) (called : Term) (result : TypeId)
-    → extracting env term ≡ ByCases callee kind → slice_get env.terms term.0 ≡ Some called → called.arg_tys ≡ result ∷ [] → IsHeldOf env result h → (q : Path) → Stands env t (Extracted term q) h g
-held_extracted return_kind.Iterator h g there is env t term callee called result c found one typed q = absurd is
-held_extracted return_kind.Plain h g there is env t term callee called result c found one typed q = record {
-  value = λ ty of.
-      let same = result_is (slice_get env.terms term.0) called result ty (λ (x : Term). IsPathOf env t q x.ret_ty) found one of.1 in
-      record { v = is.0; r = is.0; run = is.1; block = there ∙ is.1; same = refl; typed = subst (IsHeldOf env ty) is.1 (subst (λ x. IsHeldOf env x h) same typed) };
-  option = λ ty of. absurd (let call : IsExtraction return_kind.Option (ByCases callee return_kind.Plain) = subst (IsExtraction return_kind.Option) c of.0 in let k = call.0 in cc);
+held_extracted : (kind : ReturnKind) (h g : Held) → g ≡ h → (env : Environment) (t : Term) (term : TermId) (callee : Callee) (called : Term)
+    → extracting env term ≡ ByCases callee kind → slice_get env.terms term.0 ≡ Some called → HoldsResults env kind called.arg_tys h → (q : Path) → Stands env t (Extracted term q) h g
+held_extracted return_kind.Iterator h g there env t term callee called c found is q = absurd is
+held_extracted return_kind.Plain h g there env t term callee called c found is q = record {
+  value = λ ty of. value_of_one env h g ty (results (ty ∷ []) of.1);
+  tuple = λ tys of. results tys of.2;
+  option = λ tys of. absurd (let call : IsExtraction return_kind.Option (ByCases callee return_kind.Plain) = subst (IsExtraction return_kind.Option) c of.0 in let k = call.0 in cc);
 }
-held_extracted return_kind.Option h g there is env t term callee called result c found one typed q = record {
+  where
+    results : (tys : List TypeId) → IsSomeAnd (slice_get env.terms term.0) (λ (x : Term). (x.arg_tys ≡ tys) × IsPathOf env t q x.ret_ty) → AreResultsAt env h g tys
+    results tys of = record { vs = is.0; rs = is.0; run = is.1; block = there ∙ is.1; same = refl; typed = subst (HaveTypes env is.0) (results_are (slice_get env.terms term.0) called tys (λ (x : Term). IsPathOf env t q x.ret_ty) found of) is.2 }
+held_extracted return_kind.Option h g there env t term callee called c found is q = record {
   value = λ ty of. absurd (let call : IsExtraction return_kind.Plain (ByCases callee return_kind.Option) = subst (IsExtraction return_kind.Plain) c of.0 in let k = call.0 in cc);
-  option = λ ty of.
-      let same = result_is (slice_get env.terms term.0) called result ty (λ (x : Term). IsPathOf env t q x.ret_ty) found one of.1 in
-      record { o = is.0; q = is.0; run = is.1; block = there ∙ is.1; same = refl; typed = subst (IsHeldOf env ty) is.1 (subst (λ x. IsHeldOf env x h) same typed) };
+  tuple = λ tys of. absurd (let call : IsExtraction return_kind.Plain (ByCases callee return_kind.Option) = subst (IsExtraction return_kind.Plain) c of.1 in let k = call.0 in cc);
+  option = λ tys of.
+      let same = results_are (slice_get env.terms term.0) called tys (λ (x : Term). IsPathOf env t q x.ret_ty) found of.1 in
+      record { o = is.0; q = is.0; run = is.1; block = there ∙ is.1; same = refl; typed = λ vs e. subst (HaveTypes env vs) same (is.2 vs e) };
 }
 
-pub extractor_binds : (s : Setting) (u : Around) (bound : List ℕ) (n : ℕ) (term : TermId) (parameter : BindingId) (callee : Callee) (kind : ReturnKind) (called : Term) (result : TypeId) (known : Known) (made those : List Made) (locals : Env)
-    → Grounds s u → AreSameCalls s.env those made → Agree s u bound known locals → extracting s.env term ≡ ByCases callee kind → slice_get s.env.terms term.0 ≡ Some called → called.arg_tys ≡ result ∷ [] → IsReady s bound parameter called.ret_ty
+-- something stands there
+results_there : (env : Environment) (kind : ReturnKind) (tys : List TypeId) (h : Held) → HoldsResults env kind tys h → IsThere h
+results_there env return_kind.Plain tys h is = subst IsThere (sym is.1) tt
+results_there env return_kind.Option tys h is = subst IsThere (sym is.1) tt
+results_there env return_kind.Iterator tys h is = absurd is
+
+pub extractor_binds : (s : Setting) (u : Around) (bound : List ℕ) (n : ℕ) (term : TermId) (parameter : BindingId) (callee : Callee) (kind : ReturnKind) (called : Term) (known : Known) (made those : List Made) (locals : Env)
+    → Grounds s u → AreSameCalls s.env those made → Agree s u bound known locals → extracting s.env term ≡ ByCases callee kind → AnswersOnce kind → slice_get s.env.terms term.0 ≡ Some called → IsReady s bound parameter called.ret_ty
     → RoleFits s.env u.meaning term Extractor → is_impure s.env callee ≡ false
     → BindsOne s u n (Extracted term (at (paths_in s) parameter)) known locals (run_let u n (extraction_expr s bound (slice_get s.env.terms term.0) (callee_of (extracting s.env term)) parameter) locals (done those)) (bind_one s.env u.meaning u.args (Extracted term (at (paths_in s) parameter)) known made)
-extractor_binds s u bound n term parameter callee kind called result known made those locals g same a c found' one r fit pure =
+extractor_binds s u bound n term parameter callee kind called known made those locals g same a c once found' r fit pure =
     let l = operands_read s u bound known locals (called.ret_ty ∷ []) (parameter ∷ []) g a (r, tt) in
     let p = at (paths_in s) parameter in
-    let x = extractor_answers s.env u.meaning term callee kind called result fit c found' one in
+    let x = extractor_answers s.env u.meaning term callee kind called fit c once found' in
     let answered = answer_held (case u.meaning callee l.vs) in
     let held : value_at s.env u.meaning u.args known (Extracted term p) ≡ answered = ap (λ d. extracted_held u.meaning d (value_at s.env u.meaning u.args known p)) c ∙ ap (case_held u.meaning (ByCases callee kind)) l.block in
     let here : List Made = those ++ record { callee = callee; args = l.rs } ∷ [] in
@@ -283,9 +319,9 @@ extractor_binds s u bound n term parameter callee kind called result known made 
           ∙ ap (λ d. run_call u n (callee_of d) (read_values u locals (reads s bound (called.ret_ty ∷ []) (parameter ∷ []))) locals (done those)) c
           ∙ ap (λ vs. run_call u n callee vs locals (done those)) l.run
           ∙ ap (λ y. run_bind n (answer_held y) locals (done here)) (x.is l.rs l.vs those l.same)
-          ∙ bind_there n answered locals (done here) (kind_there kind answered (x.held l.vs));
+          ∙ bind_there n answered locals (done here) (results_there s.env kind called.arg_tys answered (x.holds l.vs));
       made = pure_push s.env those made (record { callee = callee; args = l.rs }) pure same;
-      stands = held_extracted kind answered (value_at s.env u.meaning u.args known (Extracted term p)) held (x.held l.vs) s.env s.term term callee called result c found' one (x.typed l.vs) p;
+      stands = held_extracted kind answered (value_at s.env u.meaning u.args known (Extracted term p)) held s.env s.term term callee called c found' (x.holds l.vs) p;
       grows = same_known known;
       keeps = λ j not_j. refl;
     }
@@ -298,20 +334,30 @@ nothing_ends return_kind.Plain e = refl
 nothing_ends return_kind.Option e = refl
 nothing_ends return_kind.Iterator e = refl
 
-both_options : (q o : Option Value) → option_map nameless q ≡ option_map nameless o → (P : Option Value → Option Value → Type 0) → P None None → ((r v : Value) → nameless r ≡ nameless v → P (Some r) (Some v)) → P q o
+both_options : (q o : Option (List Value)) → option_map (map nameless) q ≡ option_map (map nameless) o → (P : Option (List Value) → Option (List Value) → Type 0) → P None None → ((rs vs : List Value) → map nameless rs ≡ map nameless vs → P (Some rs) (Some vs)) → P q o
 both_options None None e P n h = n
-both_options (Some r) (Some v) e P n h = h r v cc
-both_options None (Some v) e P n h = cc
-both_options (Some r) None e P n h = cc
+both_options (Some rs) (Some vs) e P n h = h rs vs cc
+both_options None (Some vs) e P n h = cc
+both_options (Some rs) None e P n h = cc
 
-pub inner_binds : (s : Setting) (u : Around) (bound : List ℕ) (n : ℕ) (source : BindingId) (ty : TypeId) (known : Known) (made those : List Made) (locals : Env) (as_ref : Bool)
-    → AreSameCalls s.env those made → Agree s u bound known locals → IsOptionOf s.env s.term (at (paths_in s) source) ty → Contains bound source.0 → may_be_nothing (kind_of s.term.kind) ≡ true
+-- what is within an option of results stands for its inner value
+pub within_stands : (env : Environment) (t : Term) (p : Path) (tys : List TypeId) (vs rs : List Value) (g : Held) → IsOptionOf env t p tys → map nameless rs ≡ map nameless vs → HaveTypes env vs tys → g ≡ One (item_of vs) → Stands env t (Inner p) (One (item_of rs)) g
+within_stands env t p tys vs rs g of same typed there = record {
+  value = λ ty k. value_of_one env (One (item_of rs)) g ty (results (ty ∷ []) k);
+  tuple = λ tys' k. results tys' k.1;
+  option = λ tys' k. absurd k;
+}
+  where
+    results : (tys' : List TypeId) → IsOptionOf env t p tys' → AreResultsAt env (One (item_of rs)) g tys'
+    results tys' k = record { vs = vs; rs = rs; run = refl; block = there; same = same; typed = subst (HaveTypes env vs) (one_within env t p tys tys' of k) typed }
+
+pub inner_binds : (s : Setting) (u : Around) (bound : List ℕ) (n : ℕ) (source : BindingId) (tys : List TypeId) (known : Known) (made those : List Made) (locals : Env) (as_ref : Bool)
+    → AreSameCalls s.env those made → Agree s u bound known locals → IsOptionOf s.env s.term (at (paths_in s) source) tys → Contains bound source.0 → may_be_nothing (kind_of s.term.kind) ≡ true
     → BindsOne s u n (Inner (at (paths_in s) source)) known locals (run_let u n (expr.Try (written_operand s bound source) as_ref) locals (done those)) (bind_one s.env u.meaning u.args (Inner (at (paths_in s) source)) known made)
-inner_binds s u bound n source ty known made those locals as_ref same a of c fits =
-    let is = found bound source.0 c in
-    let x = option_reads s u bound known locals source ty a is of in
-    both_options x.q x.o x.same (λ q o. value_at s.env u.meaning u.args known path ≡ an_option o → value_of u locals (written_operand s bound source) ≡ an_option q → BindsOne s u n (Inner path) known locals (run_let u n e locals (done those)) (bind_one s.env u.meaning u.args (Inner path) known made))
-    none some x.block x.run
+inner_binds s u bound n source tys known made those locals as_ref same a of c fits =
+    let x = option_reads s u bound known locals source tys a (found bound source.0 c) of in
+    both_options x.q x.o x.same (λ q o. Held' o → Place q → ((vs : List Value) → o ≡ Some vs → HaveTypes s.env vs tys) → BindsOne s u n (Inner path) known locals (run_let u n e locals (done those)) (bind_one s.env u.meaning u.args (Inner path) known made))
+    (λ held place typed. none held place) (λ rs vs like held place typed. some rs vs like held place (typed vs refl)) x.block x.run x.typed
   where
     path : Path
     path = at (paths_in s) source
@@ -319,7 +365,13 @@ inner_binds s u bound n source ty known made those locals as_ref same a of c fit
     e : TExpr
     e = expr.Try (written_operand s bound source) as_ref
 
-    none : value_at s.env u.meaning u.args known path ≡ an_option None → value_of u locals (written_operand s bound source) ≡ an_option None → BindsOne s u n (Inner path) known locals (run_let u n e locals (done those)) (bind_one s.env u.meaning u.args (Inner path) known made)
+    Held' : Option (List Value) → Type 0
+    Held' o = value_at s.env u.meaning u.args known path ≡ Optional (option_map item_of o)
+
+    Place : Option (List Value) → Type 0
+    Place q = value_of u locals (written_operand s bound source) ≡ Optional (option_map item_of q)
+
+    none : Held' None → Place None → BindsOne s u n (Inner path) known locals (run_let u n e locals (done those)) (bind_one s.env u.meaning u.args (Inner path) known made)
     none held place =
         subst (BindsOne s u n (Inner path) known locals (run_let u n e locals (done those))) (sym (ap (λ h. unless_nothing h known made) held)) (record {
           end = GivesNone;
@@ -329,22 +381,44 @@ inner_binds s u bound n source ty known made those locals as_ref same a of c fit
           calls = same;
         })
 
-    some : (r v : Value) → nameless r ≡ nameless v → value_at s.env u.meaning u.args known path ≡ an_option (Some v) → value_of u locals (written_operand s bound source) ≡ an_option (Some r)
+    some : (rs vs : List Value) → map nameless rs ≡ map nameless vs → Held' (Some vs) → Place (Some rs) → HaveTypes s.env vs tys
         → BindsOne s u n (Inner path) known locals (run_let u n e locals (done those)) (bind_one s.env u.meaning u.args (Inner path) known made)
-    some r v like held place =
+    some rs vs like held place typed =
         subst (BindsOne s u n (Inner path) known locals (run_let u n e locals (done those))) (sym (ap (λ h. unless_nothing h known made) held)) (record {
-          h = a_value r;
+          h = One (item_of rs);
           those = those;
           is = ap (λ h. run_try n h locals (done those)) place;
           made = same;
-          stands = record { value = λ of' k. record { v = v; r = r; run = refl; block = ap inner_held held; same = like; typed = typed of' ((a.by source (found bound source.0 c)).option of' k) held }; option = λ of' k. absurd k };
+          stands = within_stands s.env s.term path tys vs rs (value_at s.env u.meaning u.args known (Inner path)) of like typed (ap inner_held held);
           grows = same_known known;
           keeps = λ j not_j. refl;
         })
-      where
-        one_option : (o : Option Value) (w : Value) → an_option o ≡ an_option (Some w) → o ≡ Some w
-        one_option None w k = cc
-        one_option (Some y) w k = cc
 
-        typed : (of' : TypeId) → (y : IsOptionAt s.env (look locals source.0) (value_at s.env u.meaning u.args known path) of') → value_at s.env u.meaning u.args known path ≡ an_option (Some v) → HasType s.env v of'
-        typed of' y held' = subst (λ o. IsHeldOf s.env of' (an_option o)) (one_option y.o v (sym y.block ∙ held')) y.typed
+-- ---- a part of a tuple
+
+-- a part has one type
+part_types : (env : Environment) (t : Term) (p : Path) (part : ℕ) (ty of : TypeId) → IsPathOf env t (Part part p) ty → IsPathOf env t (Part part p) of → ty ≡ of
+part_types env t p part ty of h k = one_type env t (Part part p) ty of h k
+
+pub part_binds : (s : Setting) (u : Around) (bound : List ℕ) (n : ℕ) (source : BindingId) (part : ℕ) (tys : List TypeId) (ty : TypeId) (known : Known) (made those : List Made) (locals : Env)
+    → AreSameCalls s.env those made → Agree s u bound known locals → IsTupleOf s.env s.term (at (paths_in s) source) tys → AreTuple tys → slice_get tys part ≡ Some ty → Contains bound source.0
+    → BindsOne s u n (Part part (at (paths_in s) source)) known locals (run_let u n (expr.Tuple (written_operand s bound source) part) locals (done those)) (bind_one s.env u.meaning u.args (Part part (at (paths_in s) source)) known made)
+part_binds s u bound n source part tys ty known made those locals same a of several at' c =
+    let path = at (paths_in s) source in
+    let x = tuple_reads s u bound known locals source tys a (found bound source.0 c) of in
+    let tuples = are_tuples s.env tys x.vs x.rs several x.same x.typed in
+    let y = part_is s.env tys x.vs x.rs part ty x.same x.typed at' in
+    let held : value_at s.env u.meaning u.args known (Part part path) ≡ a_value y.v = ap (part_held part) (x.block ∙ ap One tuples.1) ∙ ap held_value y.block in
+    record {
+      h = a_value y.r;
+      those = those;
+      is = ap (λ h. run_part n (part_of part h) locals (done those)) (x.run ∙ ap One tuples.0) ∙ ap (λ o. run_part n o locals (done those)) y.run;
+      made = same;
+      stands = record {
+        value = λ of' k. record { v = y.v; r = y.r; run = refl; block = held; same = y.same; typed = subst (HasType s.env y.v) (part_types s.env s.term path part ty of' (tys, of, at') k) y.typed };
+        tuple = λ tys' k. absurd k;
+        option = λ tys' k. absurd k;
+      };
+      grows = same_known known;
+      keeps = λ j not_j. refl;
+    }

@@ -8,7 +8,7 @@ use Rattle.isle_core.specs.declared.rule_sets.Binding.TheVariants as binding
 use Rattle.isle_core.specs.declared.types.ReturnKind.{ReturnKind}
 use Rattle.isle_core.specs.declared.types.Term.{Term}
 use Rattle.isle_core.specs.ArmPlaces.{ArePlacesOf, bound_within}
-use Rattle.isle_core.specs.Bindable.{IsInnerBound, IsPlain, bound_by}
+use Rattle.isle_core.specs.Bindable.{IsInnerBound, IsPartBound, IsPlain, bound_by}
 use Rattle.isle_core.specs.Block.{Block, Stop, Step, Control, Match, Equal, Loop, Return, Arms, NoArm, Arm}
 use Rattle.isle_core.specs.BlockLawful.{Source, AValue, AnOption, IsConstraintOver, HasArm}
 use Rattle.isle_core.specs.Calling.{calling, extracting}
@@ -35,15 +35,15 @@ pub record IsReady (s : Setting) (bound : List ℕ) (b : BindingId) (ty : TypeId
   pub path : IsPathOf s.env s.term (at (paths_in s) b) ty
   pub place : (is_bound bound b ≡ true) ⊎ IsSpelled (at (paths_in s) b)
 
--- an option of a value of the type that has a local
-pub record IsOptionReady (s : Setting) (bound : List ℕ) (b : BindingId) (ty : TypeId) : Type 0 where
-  pub path : IsOptionOf s.env s.term (at (paths_in s) b) ty
+-- an option of what has these types that has a local
+pub record IsOptionReady (s : Setting) (bound : List ℕ) (b : BindingId) (tys : List TypeId) : Type 0 where
+  pub path : IsOptionOf s.env s.term (at (paths_in s) b) tys
   pub bound' : is_bound bound b ≡ true
 
 -- what a match is over is ready
 abbrev pub IsReadyIn : Setting → List ℕ → BindingId → Source → Type 0
 IsReadyIn s bound b (AValue ty) = IsReady s bound b ty
-IsReadyIn s bound b (AnOption ty) = IsOptionReady s bound b ty
+IsReadyIn s bound b (AnOption tys) = IsOptionReady s bound b tys
 
 -- as many bindings as types
 abbrev pub AreReady : Setting → List ℕ → List BindingId → List TypeId → Type 0
@@ -61,14 +61,12 @@ pub record IsCallReady (s : Setting) (bound : List ℕ) (p : Path) (term : TermI
   pub kind : ReturnKind
   pub external : IsCall kind (calling s.env term)
 
--- a call of an extractor of one result, on what is ready
+-- a call of an extractor, on what is ready
 pub record IsExtractorReady (s : Setting) (bound : List ℕ) (p : Path) (term : TermId) (parameter : BindingId) : Type 0 where
   pub path : p ≡ Extracted term (at (paths_in s) parameter)
   pub called : Term
   pub found : slice_get s.env.terms term.0 ≡ Some called
   pub arg : IsReady s bound parameter called.ret_ty
-  pub result : TypeId
-  pub one : called.arg_tys ≡ result ∷ []
   pub kind : ReturnKind
   pub external : IsExtraction kind (extracting s.env term)
 
@@ -84,6 +82,7 @@ abbrev pub IsReadyBind : Setting → List ℕ → Path → Option Binding → Ty
 IsReadyBind s bound p (Some (binding.Constructor term parameters instance)) = IsCallReady s bound p term parameters instance
 IsReadyBind s bound p (Some (binding.Extractor term parameter)) = IsExtractorReady s bound p term parameter
 IsReadyBind s bound p (Some (binding.MatchSome source)) = IsInnerBound s bound p source
+IsReadyBind s bound p (Some (binding.MatchTuple source field)) = IsPartBound s bound p source field
 IsReadyBind s bound p (Some (binding.Argument index)) = IsPlain s.env s.term p
 IsReadyBind s bound p (Some (binding.ConstBool val ty)) = IsPlain s.env s.term p
 IsReadyBind s bound p (Some (binding.ConstInt val ty)) = IsPlain s.env s.term p

@@ -53,8 +53,8 @@ read_shape : (s : Setting) (bound more : List ℕ) (wanted : Bool) (b : BindingI
 read_shape s bound more wanted b ty a h = ap (option_map (read_as wanted (is_reference_in s b))) (operand_shape s bound more b ty a h)
 
 -- so of an option, which is read as it is
-option_shape : (s : Setting) (bound more : List ℕ) (b : BindingId) (ty : TypeId) → Adds s bound more → IsOptionReady s more b ty → plain_read (operand_of s.env s.bindings bound b) ≡ Some (read.Plain (written_operand s more b))
-option_shape s bound more b ty a h = ap plain_read (sym (operands_same s bound more b a) ∙ option_there s more b ty h)
+option_shape : (s : Setting) (bound more : List ℕ) (b : BindingId) (tys : List TypeId) → Adds s bound more → IsOptionReady s more b tys → plain_read (operand_of s.env s.bindings bound b) ≡ Some (read.Plain (written_operand s more b))
+option_shape s bound more b tys a h = ap plain_read (sym (operands_same s bound more b a) ∙ option_there s more b tys h)
 
 -- a variant or a struct is taken apart behind a reference
 form_tested : (s : Setting) (bound : List ℕ) (b : BindingId) (ty : Sym) (variant : Option Sym) (more : Bool) (binds : List TBind) (r : Read) → IsReadOf s bound true b r → IsTestedBy s bound b (pattern_named s.env ty variant more binds) r

@@ -2,6 +2,7 @@
 use Rattle.std.proofs.Common.{◌≡◌, ℕ, List, [], ◌++◌, map, Bool, true, false, cond, Option, Some, None, refl, sym, ap, ◌∙◌, subst}
 use Rattle.std.specs.Prelude.{Contains, option_map}
 use Rattle.std.proofs.lemmas.List.Elements.{Contains-append_left, Contains-append_right}
+use Rattle.isle_core.specs.Answered.{item_of}
 use Rattle.isle_core.specs.Calling.{kind_of, AnswersOnce}
 use Rattle.isle_core.specs.declared.BindingId.{BindingId}
 use Rattle.isle_core.specs.declared.TypeId.{TypeId}
@@ -20,7 +21,7 @@ use Rattle.isle_core.specs.Meaning.{Meaning}
 use Rattle.isle_core.specs.Nameless.{nameless, nameless_made, nameless_end, nameless_ran}
 use Rattle.isle_core.specs.Outcome.{Result, Value', Failure, Unmatched, Prescription}
 use Rattle.isle_core.specs.Path.{at, paths_of}
-use Rattle.isle_core.specs.ValueAt.{Held, Known, a_value, an_option, nothing_known, value_at, meets, equal_held}
+use Rattle.isle_core.specs.ValueAt.{Held, Optional, Known, a_value, nothing_known, value_at, meets, equal_held}
 use Rattle.isle_core.specs.Places.{place_in}
 use Rattle.isle_core.specs.Block as block
 use Rattle.isle_core.specs.Block.{Block, Stop, Step, Control, Arm, NoArm}
@@ -284,14 +285,14 @@ module _ (s : Setting) (u : Around) (g : Grounds s u) where
       pattern_does bound made source c places body locals known calls those q (a_value v.v) only same v.block (arm_fits s u bound known locals source ty c places (read_value u locals q) g a ready.path is parts form v) runs
 
   -- and of an option
-  some_does : (bound made : List ℕ) (source : BindingId) (ty : TypeId) (places : List (Option BindingId)) (body : Block) (locals : Env) (known : Known) (calls those : List Made) → KnowsOnly made known → AreSameCalls s.env those calls → Agree s u bound known locals
-      → IsOptionReady s bound source ty → ArePlacesOf s source constraint.Some places → ((inner : Env) → Agree s u (bound_within bound places) known inner → Runs (bound_within bound places) made body inner known calls those)
+  some_does : (bound made : List ℕ) (source : BindingId) (tys : List TypeId) (places : List (Option BindingId)) (body : Block) (locals : Env) (known : Known) (calls those : List Made) → KnowsOnly made known → AreSameCalls s.env those calls → Agree s u bound known locals
+      → IsOptionReady s bound source tys → ArePlacesOf s source constraint.Some places → ((inner : Env) → Agree s u (bound_within bound places) known inner → Runs (bound_within bound places) made body inner known calls those)
       → Does s.env (kind_of s.term.kind) locals known (after_control s.env (paths_in s) made (block.Match source (Arm constraint.Some places body NoArm))) (run_stmt u (IfLet (written_pattern (pattern_of s.env constraint.Some places)) (read.Plain (written_operand s bound source)) (block_body s (bound_within bound places) body Done)) locals (done those))
       (control_run s.env u.meaning u.args (paths_in s) (block.Match source (Arm constraint.Some places body NoArm)) known calls)
-  some_does bound made source ty places body locals known calls those only same a ready parts runs =
-      let o = option_reads s u bound known locals source ty a ready.bound' ready.path in
+  some_does bound made source tys places body locals known calls those only same a ready parts runs =
+      let o = option_reads s u bound known locals source tys a ready.bound' ready.path in
       let h = value_of u locals (written_operand s bound source) in
-      pattern_does bound made source constraint.Some places body locals known calls those (read.Plain (written_operand s bound source)) (an_option o.o) only same o.block (some_fits s u bound known locals source ty places h a ready.path parts o) runs
+      pattern_does bound made source constraint.Some places body locals known calls those (read.Plain (written_operand s bound source)) (Optional (option_map item_of o.o)) only same o.block (some_fits s u bound known locals source tys places h a ready.path parts o) runs
 
   -- an arm of a constant binds nothing
   within_agrees : (bound : List ℕ) (places : List (Option BindingId)) (known : Known) (locals : Env) → places ≡ [] → Agree s u bound known locals → Agree s u (bound_within bound places) known locals

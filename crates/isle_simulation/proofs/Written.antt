@@ -98,6 +98,7 @@ abbrev pub bound_expr : Setting → List ℕ → BindingId → Option Binding �
 bound_expr s bound b (Some (binding.Constructor term parameters instance)) = call_expr s bound (slice_get s.env.terms term.0) (callee_of (calling s.env term)) parameters
 bound_expr s bound b (Some (binding.Extractor term parameter)) = extraction_expr s bound (slice_get s.env.terms term.0) (callee_of (extracting s.env term)) parameter
 bound_expr s bound b (Some (binding.MatchSome source)) = expr.Try (written_operand s bound source) (is_reference_in s source)
+bound_expr s bound b (Some (binding.MatchTuple source field)) = expr.Tuple (written_operand s bound source) field.0
 bound_expr s bound b (Some (binding.MakeVariant ty variant fields)) = made_expr s bound (form s.env (MakesVariant ty variant)) fields
 bound_expr s bound b (Some (binding.MakeStruct ty fields)) = made_expr s bound (form s.env (MakesStruct ty)) fields
 bound_expr s bound b other = expr.Read (read.Plain (written_place s b))

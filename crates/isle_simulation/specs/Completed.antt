@@ -66,7 +66,7 @@ read_for (Some (binding.Iterator source)) = []
 read_for (Some (binding.MatchVariant source variant field)) = []
 read_for (Some (binding.ExtractStruct source field)) = []
 read_for (Some (binding.MakeSome inner)) = []
-read_for (Some (binding.MatchTuple source field)) = []
+read_for (Some (binding.MatchTuple source field)) = source ∷ []
 read_for None = []
 
 -- what a step reads after its bindings

@@ -82,6 +82,11 @@ abbrev pub inner_of : (as_ref : Bool) → Option Operand → Option TExpr
 inner_of as_ref (Some o) = Some (expr.Try o as_ref)
 inner_of as_ref None = None
 
+-- a part of a tuple
+abbrev pub part_of : ℕ → Option Operand → Option TExpr
+part_of part (Some o) = Some (expr.Tuple o part)
+part_of part None = None
+
 -- what is read
 abbrev pub read_of : Option Operand → Option TExpr
 read_of (Some o) = Some (expr.Read (read.Plain o))
@@ -115,7 +120,8 @@ abbrev pub made_in : Setting → List ℕ → Option Form → List BindingId →
 made_in s bound None parts = None
 made_in s bound (Some f) parts = option_map (made_of s.env f) (field_reads s bound (typed_fields s.env f.fields) parts)
 
--- what is computed for a binding: a call, also of an extractor, the inner value of an option, a made value, or what is read in place; the others are not built
+-- what is computed for a binding: a call, also of an extractor, the inner value of an option, a part of a tuple, a made value, or what is read
+-- in place; the others are not built
 abbrev pub computed : Setting → List ℕ → BindingId → Option Binding → Option TExpr
 computed s bound b (Some (binding.Constructor term parameters instance)) = call_of s bound (slice_get s.env.terms term.0) (callee_of (calling s.env term)) parameters
 computed s bound b (Some (binding.MatchSome source)) = inner_of (is_reference_in s source) (operand_of s.env s.bindings bound source)
@@ -130,7 +136,7 @@ computed s bound b (Some (binding.Iterator source)) = None
 computed s bound b (Some (binding.MatchVariant source variant field)) = None
 computed s bound b (Some (binding.ExtractStruct source field)) = None
 computed s bound b (Some (binding.MakeSome inner)) = None
-computed s bound b (Some (binding.MatchTuple source field)) = None
+computed s bound b (Some (binding.MatchTuple source field)) = part_of field.0 (operand_of s.env s.bindings bound source)
 computed s bound b None = None
 
 -- what a bound local computes

@@ -1,5 +1,5 @@
 -- What a program is spelled as is read as that program, and as no other.
-use Rattle.std.proofs.Common.{◌≡◌, ℕ, zero, suc, ◌+◌, ◌<◌, ◌≤◌, List, [], ◌∷◌, ◌++◌, length, length-append, Bool, true, false, Some, None, refl, sym, ap, ◌∙◌, append_assoc, arith}
+use Rattle.std.proofs.Common.{◌≡◌, ℕ, zero, suc, ◌+◌, ◌<◌, ◌≤◌, List, [], ◌∷◌, ◌++◌, length, length-append, Bool, true, false, Some, None, refl, ap, ◌∙◌, append_assoc, arith}
 use Rattle.std.specs.Prelude.{codes}
 use Rattle.std.specs.List.{AllByRecursion, list_all}
 use Rattle.isle_printer.specs.Token.{Token, Word, Mark, is_read, without_comments, step, begun, tokens_of}
@@ -13,11 +13,11 @@ use Rattle.isle_core.specs.declared.types.ReturnKind.TheVariants as kind
 use Rattle.isle_tree.specs.declared.tree.Ty.{Ty}
 use Rattle.isle_tree.specs.declared.tree.TraitFn.{TraitFn}
 use Rattle.isle_tree.specs.declared.tree.TypeItem.{TypeItem}
-use Rattle.isle_target.specs.Spelling.{operand_tokens, read_tokens, borrow_part, expr_tokens, pattern_tokens, stmt_tokens, body_tokens, constructor_word, no_rule, typed_tokens, param_tokens, params_tokens, result_tokens, if_eq_head, if_let_head, function_head, function_tokens, functions_tokens, allow_part, close, program_tokens, joined_tokens, results_tokens, trait_fn_head, trait_fn_tokens, trait_fns_tokens, trait_tokens, types_tokens}
+use Rattle.isle_target.specs.Spelling.{operand_tokens, read_tokens, borrow_part, expr_tokens, pattern_tokens, stmt_tokens, body_tokens, constructor_word, no_rule, typed_tokens, param_tokens, params_tokens, result_tokens, if_eq_head, if_let_head, function_head, function_tokens, functions_tokens, allow_part, close, program_tokens, joined_tokens, joined_types, item_tokens, results_tokens, trait_fn_head, trait_fn_tokens, trait_fns_tokens, trait_tokens, types_tokens}
 use Rattle.isle_tree.specs.Program.{Stmt, Let, IfEq, IfLet, Return, Tail, Body, Done, Then, Function, Program}
-use Rattle.isle_tree.specs.WellFormed.{IsStmt, IsBody, IsKind, AreResults, IsTraitFn, IsFunction, IsWellFormed}
+use Rattle.isle_tree.specs.WellFormed.{IsStmt, IsBody, IsKind, IsTraitFn, IsFunction, IsWellFormed}
 use Rattle.isle_target.specs.Tokens.{phrase, at}
-use Rattle.isle_target.specs.Reading.{begins, read_stmt, read_body, read_ty, read_params, read_result, read_function, read_functions, read_joined, read_trait_fn, read_trait_fns, read_trait, read_items, read_program, program_of, SpellsOnly}
+use Rattle.isle_target.specs.Reading.{begins, read_stmt, read_body, read_ty, read_params, read_result, read_function, read_functions, read_joined, read_joined_types, if_tuple, read_tuple_types, read_item, read_results, read_trait_fn, read_trait_fns, read_trait, read_items, read_program, program_of, SpellsOnly}
 use Rattle.isle_target.proofs.Words.{operand_again, operand_no_let}
 use Rattle.isle_target.proofs.ReadsAgain.{second_apart, read_again}
 use Rattle.isle_target.proofs.ExprsAgain.{expr_again}
@@ -172,12 +172,46 @@ length-joined n [] = omega arith
 length-joined zero (ty ∷ tys) = omega (arith, length-append (typed_tokens 0 ty) (joined_tokens 1 tys), length-joined 1 tys)
 length-joined (suc n) (ty ∷ tys) = omega (arith, length-append (typed_tokens (suc n) ty) (joined_tokens (suc n + 1) tys), length-joined (suc n + 1) tys)
 
--- one result is read again
-results_again : (how : ReturnKind) (names : List (List ℕ)) (ts : List Token) → IsKind how → AreResults names → at (Mark (codes "<")) ts ≡ false
-    → (name : List ℕ) × (names ≡ name ∷ []) × (read_result (results_tokens how names ++ ts) ≡ Some ((how, name), ts))
-results_again how [] ts h b e = absurd b
-results_again how (name ∷ []) ts h b e = (name, refl, result_again how name ts h e)
-results_again how (name ∷ more ∷ names) ts h b e = absurd b
+-- the types of a tuple are read again
+joined_types_again : (k n : ℕ) (tys : List (List ℕ)) (ts : List Token) → length tys < k → read_joined_types k n (joined_types n tys ++ ts) ≡ Some (tys, ts)
+unfolding read_joined_types
+joined_types_again zero n tys ts lt = absurd (omega arith)
+joined_types_again (suc k) n [] ts lt = refl
+joined_types_again (suc k) zero (ty ∷ tys) ts lt = rw (joined_types_again k 1 tys ts (omega arith)) refl
+joined_types_again (suc k) (suc n) (ty ∷ tys) ts lt = rw (joined_types_again k (suc n + 1) tys ts (omega arith)) refl
+
+length-joined_types : (n : ℕ) (tys : List (List ℕ)) → length tys < length (joined_types n tys)
+length-joined_types n [] = omega arith
+length-joined_types zero (ty ∷ tys) = omega (arith, length-joined_types 1 tys)
+length-joined_types (suc n) (ty ∷ tys) = omega (arith, length-joined_types (suc n + 1) tys)
+
+-- from behind its ( on
+tuple_again : (tys : List (List ℕ)) (ts : List Token) → read_tuple_types (joined_types 0 tys ++ ts) ≡ if_tuple tys ts
+tuple_again tys ts =
+    let inside = joined_types 0 tys ++ ts in
+    let fuel : length tys < length inside = omega (arith, length-append (joined_types 0 tys) ts, length-joined_types 0 tys) in
+    rw (joined_types_again (length inside) 0 tys ts fuel) refl
+
+-- the types of an answer's results are read again
+item_again : (tys : List (List ℕ)) (ts : List Token) → read_item (item_tokens tys ++ ts) ≡ Some (tys, ts)
+unfolding read_item
+item_again [] ts = tuple_again [] ts
+item_again (ty ∷ []) ts = refl
+item_again (ty ∷ more ∷ tys) ts = tuple_again (ty ∷ more ∷ tys) ts
+
+-- a plain answer's types don't begin as an option's, where no < stands behind them
+plain_again : (tys : List (List ℕ)) (ts : List Token) → at (Mark (codes "<")) ts ≡ false → read_results (item_tokens tys ++ ts) ≡ Some ((kind.Plain, tys), ts)
+unfolding read_results
+plain_again [] ts e = rw (item_again [] ts) refl
+plain_again (ty ∷ []) ts e = rw (second_apart (Word (codes "Option")) (Mark (codes "<")) (Word ty) ts e, item_again (ty ∷ []) ts) refl
+plain_again (ty ∷ more ∷ tys) ts e = rw (item_again (ty ∷ more ∷ tys) ts) refl
+
+-- results are read again, where no < stands behind them
+results_again : (how : ReturnKind) (tys : List (List ℕ)) (ts : List Token) → IsKind how → at (Mark (codes "<")) ts ≡ false → read_results (results_tokens how tys ++ ts) ≡ Some ((how, tys), ts)
+unfolding read_results
+results_again kind.Plain tys ts h e = plain_again tys ts e
+results_again kind.Option tys ts h e = rw (append_assoc (item_tokens tys) (Mark (codes ">") ∷ []) ts, item_again tys (Mark (codes ">") ∷ ts)) refl
+results_again kind.Iterator tys ts h e = absurd h
 
 -- a function of the trait is read again
 trait_fn_again : (f : TraitFn) (ts : List Token) → IsTraitFn f → read_trait_fn (trait_fn_tokens f ++ ts) ≡ Some (f, ts)
@@ -187,9 +221,8 @@ trait_fn_again f ts h =
     let arrow = Mark (codes "->") ∷ (results_tokens f.kind f.results ++ ended) in
     let flat : trait_fn_tokens f ++ ts ≡ trait_fn_head f.name ++ (joined_tokens 0 f.params ++ arrow) = simp append_assoc in
     let fuel : length f.params < length (joined_tokens 0 f.params ++ arrow) = omega (arith, length-append (joined_tokens 0 f.params) arrow, length-joined 0 f.params) in
-    let r = results_again f.kind f.results ended h.kind h.results refl in
     ap read_trait_fn flat
-    ∙ rw (joined_again (length (joined_tokens 0 f.params ++ arrow)) 0 f.params arrow fuel, r.2) (ap (λ (names : List (List ℕ)). Some (record { name = f.name; params = f.params; results = names; kind = f.kind }, ts)) (sym r.1))
+    ∙ rw (joined_again (length (joined_tokens 0 f.params ++ arrow)) 0 f.params arrow fuel, results_again f.kind f.results ended h.kind refl) refl
 
 trait_fn_some : (f : TraitFn) → 0 < length (trait_fn_tokens f)
 unfolding trait_fn_tokens

@@ -3,6 +3,7 @@ use Rattle.std.proofs.Common.{◌≡◌, ℕ, zero, suc, ◌<◌, ◌≤◌, Lis
 use Rattle.std.specs.Prelude.{codes, if◌then◌else◌}
 use Rattle.std.specs.List.{AllByRecursion}
 use Rattle.isle_printer.specs.Token.{Token, Word, Mark}
+use Rattle.isle_printer.specs.Number.{numeral}
 use Rattle.isle_core.specs.declared.values.Callee.{Callee}
 use Rattle.isle_core.specs.declared.values.Callee.TheVariants as callee
 use Rattle.isle_tree.specs.declared.tree.Operand.{Operand}
@@ -16,7 +17,7 @@ use Rattle.isle_target.specs.Tokens.{◌>>=◌, at}
 use Rattle.isle_target.specs.OperandReading.{goes_on, read_suffixed}
 use Rattle.isle_target.specs.Reading.{read_args, called_name, called, read_field_reads, read_made_fields, read_expr}
 use Rattle.isle_target.proofs.Words.{operand_again, operand_no_mark, operand_second}
-use Rattle.isle_target.proofs.ReadsAgain.{second_apart, operand_apart, bare_again, tried_again, cloned_again, read_again}
+use Rattle.isle_target.proofs.ReadsAgain.{second_apart, operand_apart, bare_again, tried_again, cloned_again, part_again, read_again}
 
 -- ---- calls
 
@@ -145,4 +146,7 @@ expr_again (expr.Try o as_ref) ts h =
 expr_again (expr.Variant ty variant fs) ts h = variant_again ty variant fs ts h.2
 expr_again (expr.Struct ty []) ts h = absurd (omega (arith, h.1))
 expr_again (expr.Struct ty (f ∷ fs)) ts h = struct_again ty f fs ts h.2
-expr_again (expr.Tuple o n) ts h = absurd h
+expr_again (expr.Tuple o part) ts h =
+    let after = Mark (codes ";") ∷ ts in
+    let behind = Mark (codes ".") ∷ Word (numeral 10 part) ∷ after in
+    rw (append_assoc (operand_tokens o) (Mark (codes ".") ∷ Word (numeral 10 part) ∷ []) after, suffixed_again o behind refl refl refl) (part_again o part after h)

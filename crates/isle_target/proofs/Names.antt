@@ -1,5 +1,5 @@
 -- The names of types, functions, constants and fields are words.
-use Rattle.std.proofs.Common.{◌≡◌, ℕ, List, [], ◌∷◌, Bool, true, false, get_or, refl, sym, subst, arith}
+use Rattle.std.proofs.Common.{◌≡◌, ℕ, List, [], ◌∷◌, Bool, true, false, refl, arith}
 use Rattle.std.specs.Prelude.{MatchBool}
 use Rattle.std.specs.List.{list_all}
 use Rattle.std.proofs.lemmas.Bool.{and_parts, and_from}
@@ -7,13 +7,6 @@ use Rattle.std.proofs.lemmas.Bool.Decides.{nat_tests}
 use Rattle.isle_printer.specs.Token.{is_word_byte, is_word}
 use Rattle.isle_spelling.specs.Identifier.{IsIdentifier}
 use Rattle.isle_spelling.specs.Names.{is_digit, is_decimal, IsName, IsFieldName}
-use Rattle.isle_tree.specs.WellFormed.{AreResults}
-
--- the type of the one result
-pub only_result : (names : List (List ℕ)) (name : List ℕ) → AreResults names → name ≡ get_or names 0 name → IsIdentifier name
-only_result [] name h is = absurd h
-only_result (n ∷ []) name h is = subst IsIdentifier (sym is) h
-only_result (n ∷ m ∷ names) name h is = absurd h
 
 -- an item
 pub identifier_is_word : (name : List ℕ) → IsIdentifier name → is_word name ≡ true

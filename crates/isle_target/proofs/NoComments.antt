@@ -3,6 +3,7 @@ use Rattle.std.proofs.Common.{◌≡◌, ℕ, zero, suc, List, [], ◌∷◌, �
 use Rattle.std.specs.Prelude.{codes, ℤ, pos, negsuc, ◌+◌}
 use Rattle.std.specs.List.{list_all}
 use Rattle.isle_printer.specs.Token.{Token, Word, Mark, is_read, step, begun}
+use Rattle.isle_printer.specs.Number.{numeral}
 use Rattle.isle_printer.proofs.Comments.{both_read}
 use Rattle.isle_core.specs.Int.{wrapped}
 use Rattle.isle_core.specs.declared.types.IntType.{IntType}
@@ -30,7 +31,7 @@ use Rattle.isle_tree.specs.declared.tree.TBind.{TBind}
 use Rattle.isle_tree.specs.declared.tree.TPat.{TPat}
 use Rattle.isle_tree.specs.declared.tree.TPat.TheVariants as pattern
 use Rattle.isle_tree.specs.Program.{Stmt, Let, LetList, IfEq, IfLet, Match, Loop, Return, Extend, Overflow, Log, Split, Tail, Body, Done, Then, Function, Program}
-use Rattle.isle_target.specs.Spelling.{local_token, truth_token, operand_tokens, clone_part, read_tokens, borrow_part, args_tokens, call_tokens, field_read_tokens, field_reads_tokens, made_tokens, as_ref_part, expr_tokens, ref_part, bind_tokens, binds_tokens, braced_tokens, pattern_tokens, close, if_eq_head, if_let_head, param_tokens, tail_tokens, stmt_tokens, body_tokens, params_tokens, result_tokens, result_part, function_tokens, functions_tokens, allow_part, comma, typed_tokens, joined_tokens, results_tokens, trait_result, trait_fn_tokens, trait_fns_tokens, trait_tokens, named_tokens, places_tokens, visible, fields_tokens, variant_tokens, variants_tokens, struct_end, type_body_tokens, derive_tokens, type_tokens, types_tokens, program_tokens}
+use Rattle.isle_target.specs.Spelling.{local_token, truth_token, operand_tokens, clone_part, read_tokens, borrow_part, args_tokens, call_tokens, field_read_tokens, field_reads_tokens, made_tokens, as_ref_part, expr_tokens, ref_part, bind_tokens, binds_tokens, braced_tokens, pattern_tokens, close, if_eq_head, if_let_head, param_tokens, tail_tokens, stmt_tokens, body_tokens, params_tokens, result_tokens, result_part, function_tokens, functions_tokens, allow_part, comma, typed_tokens, joined_tokens, joined_types, item_tokens, results_tokens, trait_result, trait_fn_tokens, trait_fns_tokens, trait_tokens, named_tokens, places_tokens, visible, fields_tokens, variant_tokens, variants_tokens, struct_end, type_body_tokens, derive_tokens, type_tokens, types_tokens, program_tokens}
 
 -- none of the tokens is a comment
 abbrev AreRead : List Token → Type 0
@@ -89,7 +90,7 @@ expr_read (expr.Variant ty variant fields) = made_read fields
 expr_read (expr.Struct ty fields) = made_read fields
 expr_read (expr.Some r) = both_read (read_tokens r) (Mark (codes ")") ∷ []) (read_read r) refl
 expr_read (expr.Try source as_ref) = both_read (operand_tokens source) (as_ref_part as_ref ++ Mark (codes "?") ∷ []) (operand_read source) (as_ref_read as_ref)
-expr_read (expr.Tuple o n) = refl
+expr_read (expr.Tuple source part) = both_read (operand_tokens source) (Mark (codes ".") ∷ Word (numeral 10 part) ∷ []) (operand_read source) refl
 
 head_read : (a b : Operand) → AreRead (if_eq_head a b)
 head_read a b = both_read (operand_tokens a) _ (operand_read a) (both_read (operand_tokens b) (Mark (codes "{") ∷ []) (operand_read b) refl)
@@ -177,10 +178,19 @@ joined_read n [] = refl
 joined_read n (ty ∷ tys) =
     both_read (comma n) (typed_tokens n ty ++ joined_tokens (n + 1) tys) (comma_read n) (both_read (typed_tokens n ty) (joined_tokens (n + 1) tys) (typed_read n ty) (joined_read (n + 1) tys))
 
+joined_types_read : (n : ℕ) (tys : List (List ℕ)) → AreRead (joined_types n tys)
+joined_types_read n [] = refl
+joined_types_read n (ty ∷ tys) = both_read (comma n) (Word ty ∷ joined_types (n + 1) tys) (comma_read n) (joined_types_read (n + 1) tys)
+
+item_read : (tys : List (List ℕ)) → AreRead (item_tokens tys)
+item_read [] = refl
+item_read (ty ∷ []) = refl
+item_read (ty ∷ more ∷ tys) = joined_types_read 0 (ty ∷ more ∷ tys)
+
 results_read : (how : ReturnKind) (tys : List (List ℕ)) → AreRead (results_tokens how tys)
-results_read how [] = refl
-results_read how (ty ∷ []) = result_read how ty
-results_read how (ty ∷ more ∷ tys) = refl
+results_read kind.Plain tys = item_read tys
+results_read kind.Option tys = both_read (item_tokens tys) (Mark (codes ">") ∷ []) (item_read tys) refl
+results_read kind.Iterator tys = refl
 
 trait_fn_read : (f : TraitFn) → AreRead (trait_fn_tokens f)
 unfolding trait_fn_tokens

@@ -1,9 +1,11 @@
 -- Operands are read as what they were spelled from, with what goes on them.
-use Rattle.std.proofs.Common.{◌≡◌, ℕ, List, [], ◌∷◌, ◌++◌, Bool, true, false, Some, None, refl, append_assoc}
+use Rattle.std.proofs.Common.{◌≡◌, ℕ, List, [], ◌∷◌, ◌++◌, Bool, true, false, Some, None, refl, append_assoc, arith}
 use Rattle.std.specs.Prelude.{codes, ℤ, pos, negsuc, ◌||◌, if◌then◌else◌}
 use Rattle.isle_core.specs.Int.{wrapped}
 use Rattle.isle_core.specs.declared.types.IntType.{IntType}
 use Rattle.isle_printer.specs.Token.{Token, Word, Mark}
+use Rattle.isle_printer.specs.Number.{numeral}
+use Rattle.isle_printer.proofs.Readback.{numeral_again}
 use Rattle.isle_tree.specs.declared.tree.Operand.{Operand}
 use Rattle.isle_tree.specs.declared.tree.Operand.TheVariants as operand
 use Rattle.isle_tree.specs.declared.tree.Read.{Read}
@@ -14,8 +16,8 @@ use Rattle.isle_spelling.specs.Literal.{literal_tokens, literal_word}
 use Rattle.isle_spelling.specs.Raw.{raw_word}
 use Rattle.isle_target.specs.Spelling.{local_token, param_token, truth_token, operand_tokens, clone_part, as_ref_part, read_tokens}
 use Rattle.isle_target.specs.Tokens.{same_token, phrase, at, rest}
-use Rattle.isle_target.specs.OperandReading.{goes_on, dotted, read_suffixed, read_read}
-use Rattle.isle_target.proofs.Words.{operand_again, operand_no_mark}
+use Rattle.isle_target.specs.OperandReading.{is_number, goes_on, dotted, read_suffixed, read_read}
+use Rattle.isle_target.proofs.Words.{numeral_number, apart_by, operand_again, operand_no_mark}
 
 -- two tokens stand nowhere that the second is another
 pub second_apart : (p q t : Token) (ts : List Token) → at q ts ≡ false → phrase (p ∷ q ∷ []) (t ∷ ts) ≡ None
@@ -63,6 +65,13 @@ tried_again o false ts h = rw (operand_again o (Mark (codes "?") ∷ ts) h) refl
 pub cloned_again : (o : Operand) (ts : List Token) → IsOperand o → read_suffixed (operand_tokens o ++ (clone_part ++ ts)) ≡ Some (expr.Read (read.Clone o), ts)
 unfolding read_suffixed
 cloned_again o ts h = rw (operand_again o (clone_part ++ ts) h) refl
+
+-- and with the number of a part behind it
+pub part_again : (o : Operand) (part : ℕ) (ts : List Token) → IsOperand o → read_suffixed (operand_tokens o ++ Mark (codes ".") ∷ Word (numeral 10 part) ∷ ts) ≡ Some (expr.Tuple o part, ts)
+unfolding read_suffixed
+part_again o part ts h =
+    let apart = λ (w : List ℕ) (e : is_number w ≡ false). apart_by is_number w (numeral 10 part) e (numeral_number part) in
+    rw (operand_again o (Mark (codes ".") ∷ Word (numeral 10 part) ∷ ts) h, apart (codes "clone") refl, apart (codes "as_ref") refl, numeral_again 10 part (omega arith) (omega arith)) refl
 
 -- what is read is read again, where nothing goes on it
 pub read_again : (r : Read) (ts : List Token) → IsRead r → goes_on ts ≡ false → read_read (read_tokens r ++ ts) ≡ Some (r, ts)

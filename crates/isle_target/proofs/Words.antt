@@ -7,7 +7,7 @@ use Rattle.std.specs.Int.{w128}
 use Rattle.std.specs.Int.RustNames.{FitsSigned}
 use Rattle.std.specs.Int.Digits.{digits_of, AllBelowBase}
 use Rattle.std.proofs.lemmas.Int.Digits.{all_below_base_digits_of, first_digits_of}
-use Rattle.std.proofs.lemmas.Bool.{and_from}
+use Rattle.std.proofs.lemmas.Bool.{and_parts, and_from}
 use Rattle.std.proofs.lemmas.Bool.Decides.{nat_tests, Decides-int_eq}
 use borrow.Author.Differences.{same_in, same_out, sum_is_lem, product_is, neg_is}
 use lib.IntN.{neg_ℤ}
@@ -116,6 +116,14 @@ some_digits (b ∷ bs) some h = h
 -- a number's digits are digits, and there are some
 numeral_is_digits : (n : ℕ) → are_digits (numeral 10 n) ≡ true
 numeral_is_digits n = some_digits (numeral 10 n) (numeral_not_empty 10 n (omega arith)) (numeral_digits n)
+
+digits_number : (w : List ℕ) → are_digits w ≡ true → is_number w ≡ true
+digits_number [] h = h
+digits_number (b ∷ bs) h = (and_parts (is_digit b) _ h).0
+
+-- a number begins as one does
+pub numeral_number : (n : ℕ) → is_number (numeral 10 n) ≡ true
+numeral_number n = digits_number (numeral 10 n) (numeral_is_digits n)
 
 -- two words are apart where one passes a test and the other doesn't
 pub apart_by : (p : List ℕ → Bool) (v w : List ℕ) → p v ≡ false → p w ≡ true → same_bytes v w ≡ false

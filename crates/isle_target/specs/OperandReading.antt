@@ -115,9 +115,16 @@ read_as_ref o ts = do
   ts2 ← after (Mark (codes "?")) ts1
   Some (expr.Try o true, ts2)
 
--- what stands behind an operand's .; a part's number is not built
+-- the number of a part of a tuple from behind its . on
+abbrev pub read_part : Operand → List Token → Reads TExpr
+read_part o ts = do
+  w ← any_word ts
+  part ← numeral_of 10 w.0
+  Some (expr.Tuple o part, w.1)
+
+-- what stands behind an operand's .
 abbrev pub dotted : Operand → List Token → Reads TExpr
-dotted o ts = if at (Word (codes "clone")) ts then read_clone o ts else (if at (Word (codes "as_ref")) ts then read_as_ref o ts else None)
+dotted o ts = if at (Word (codes "clone")) ts then read_clone o ts else (if at (Word (codes "as_ref")) ts then read_as_ref o ts else read_part o ts)
 
 -- an operand with what goes on it: ?, .clone(), .as_ref()?, or nothing
 abbrev pub suffixed : Operand → List Token → Reads TExpr

@@ -304,6 +304,63 @@ unfoldable pub read_joined : ℕ → ℕ → List Token → Reads (List Ty)
 read_joined zero n ts = None
 read_joined (suc k) n ts = if at (Mark (codes ")")) ts then Some ([], rest ts) else read_joined_param n (read_joined k (n + 1)) ts
 
+-- one type more of a tuple, given how to read those behind it
+abbrev pub read_joined_type : ℕ → (List Token → Reads (List (List ℕ))) → List Token → Reads (List (List ℕ))
+read_joined_type n tys ts = do
+  ts1 ← phrase (comma n) ts
+  ty ← any_word ts1
+  more ← tys ty.1
+  Some (ty.0 ∷ more.0, more.1)
+
+-- those from number n on, and the ) behind them, at most so many
+unfoldable pub read_joined_types : ℕ → ℕ → List Token → Reads (List (List ℕ))
+read_joined_types zero n ts = None
+read_joined_types (suc k) n ts = if at (Mark (codes ")")) ts then Some ([], rest ts) else read_joined_type n (read_joined_types k (n + 1)) ts
+
+-- a tuple has none or several
+abbrev pub if_tuple : List (List ℕ) → List Token → Reads (List (List ℕ))
+if_tuple [] ts = Some ([], ts)
+if_tuple (ty ∷ []) ts = None
+if_tuple (ty ∷ more ∷ tys) ts = Some (ty ∷ more ∷ tys, ts)
+
+-- the types of a tuple from behind its ( on
+abbrev pub read_tuple_types : List Token → Reads (List (List ℕ))
+read_tuple_types ts = do
+  tys ← read_joined_types (length ts) 0 ts
+  if_tuple tys.0 tys.1
+
+-- the one type of an answer
+abbrev pub read_one_type : List Token → Reads (List (List ℕ))
+read_one_type ts = do
+  w ← any_word ts
+  Some (w.0 ∷ [], w.1)
+
+-- the types of an answer's results
+unfoldable pub read_item : List Token → Reads (List (List ℕ))
+read_item ts = if at (Mark (codes "(")) ts then read_tuple_types (rest ts) else read_one_type ts
+
+-- those of a plain answer
+abbrev pub read_plain_results : List Token → Reads (ReturnKind × List (List ℕ))
+read_plain_results ts = do
+  tys ← read_item ts
+  Some ((kind.Plain, tys.0), tys.1)
+
+-- those of an option, from behind its < on
+abbrev pub read_option_results : List Token → Reads (ReturnKind × List (List ℕ))
+read_option_results ts = do
+  tys ← read_item ts
+  ts1 ← after (Mark (codes ">")) tys.1
+  Some ((kind.Option, tys.0), ts1)
+
+-- those of an option where one begins, and else those of a plain answer
+abbrev pub read_either_results : Option (List Token) → List Token → Reads (ReturnKind × List (List ℕ))
+read_either_results None ts = read_plain_results ts
+read_either_results (Some inner) ts = read_option_results inner
+
+-- how often a function of the trait answers, and with what
+unfoldable pub read_results : List Token → Reads (ReturnKind × List (List ℕ))
+read_results ts = read_either_results (phrase (Word (codes "Option") ∷ Mark (codes "<") ∷ []) ts) ts
+
 -- a function of the trait
 unfoldable pub read_trait_fn : List Token → Reads TraitFn
 read_trait_fn ts = do
@@ -312,9 +369,9 @@ read_trait_fn ts = do
   ts2 ← phrase self_param name.1
   params ← read_joined (length ts2) 0 ts2
   ts3 ← after (Mark (codes "->")) params.1
-  r ← read_result ts3
+  r ← read_results ts3
   ts4 ← after (Mark (codes ";")) r.1
-  Some (record { name = name.0; params = params.0; results = r.0.1 ∷ []; kind = r.0.0 }, ts4)
+  Some (record { name = name.0; params = params.0; results = r.0.1; kind = r.0.0 }, ts4)
 
 -- one function of the trait more, given how to read those behind it
 abbrev pub read_trait_more : (List Token → Reads (List TraitFn)) → List Token → Reads (List TraitFn)

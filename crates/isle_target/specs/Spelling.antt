@@ -113,7 +113,7 @@ expr_tokens (expr.Variant ty variant fields) = Word ty ∷ Mark (codes "::") ∷
 expr_tokens (expr.Struct ty fields) = Word ty ∷ made_tokens fields
 expr_tokens (expr.Some r) = Word (codes "Some") ∷ Mark (codes "(") ∷ (read_tokens r ++ Mark (codes ")") ∷ [])
 expr_tokens (expr.Try source as_ref) = operand_tokens source ++ (as_ref_part as_ref ++ Mark (codes "?") ∷ [])
-expr_tokens (expr.Tuple source part) = not_built
+expr_tokens (expr.Tuple source part) = operand_tokens source ++ Mark (codes ".") ∷ Word (numeral 10 part) ∷ []
 
 -- ---- patterns
 
@@ -291,11 +291,22 @@ abbrev pub joined_tokens : ℕ → List Ty → List Token
 joined_tokens n [] = Mark (codes ")") ∷ []
 joined_tokens n (ty ∷ tys) = comma n ++ (typed_tokens n ty ++ joined_tokens (n + 1) tys)
 
--- what a function of the trait gives: one result; none and several are not built
+-- the types of a tuple from number n on, and what closes them
+abbrev pub joined_types : ℕ → List (List ℕ) → List Token
+joined_types n [] = Mark (codes ")") ∷ []
+joined_types n (ty ∷ tys) = comma n ++ Word ty ∷ joined_types (n + 1) tys
+
+-- the type of an answer's results: the one, or a tuple of none or several
+abbrev pub item_tokens : List (List ℕ) → List Token
+item_tokens [] = Mark (codes "(") ∷ joined_types 0 []
+item_tokens (ty ∷ []) = Word ty ∷ []
+item_tokens (ty ∷ more ∷ tys) = Mark (codes "(") ∷ joined_types 0 (ty ∷ more ∷ tys)
+
+-- what a function of the trait gives
 abbrev pub results_tokens : ReturnKind → List (List ℕ) → List Token
-results_tokens kind [] = not_built
-results_tokens kind (ty ∷ []) = result_tokens kind ty
-results_tokens kind (ty ∷ more ∷ tys) = not_built
+results_tokens kind.Plain tys = item_tokens tys
+results_tokens kind.Option tys = Word (codes "Option") ∷ Mark (codes "<") ∷ (item_tokens tys ++ Mark (codes ">") ∷ [])
+results_tokens kind.Iterator tys = not_built
 
 -- -> RESULT;
 abbrev pub trait_result : ReturnKind → List (List ℕ) → List Token

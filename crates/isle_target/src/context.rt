@@ -1,12 +1,13 @@
 //! The text of the trait.
 
-ghost use Rattle.std.specs.Prelude.{◌≡◌, ◌++◌, OnOk};
+ghost use Rattle.std.specs.Prelude.{◌≡◌, ◌++◌, ◌∷◌, OnOk, codes};
 ghost use Rattle.std.specs.List.{AllByRecursion};
+ghost use Rattle.isle_printer.specs.Token.{Mark};
 ghost use Rattle.isle_spelling.specs.Identifier.{IsIdentifier};
 ghost use Rattle.isle_tree.specs.WellFormed.{AreResults, IsTy, IsTraitFn};
-ghost use Rattle.isle_target.specs.Spelling.{trait_head, self_param, trait_fn_head, comma, joined_tokens, results_tokens, trait_result, trait_fn_tokens, trait_fns_tokens, trait_tokens};
+ghost use Rattle.isle_target.specs.Spelling.{trait_head, self_param, trait_fn_head, comma, joined_tokens, joined_types, item_tokens, results_tokens, trait_result, trait_fn_tokens, trait_fns_tokens, trait_tokens};
 
-use crate::function::{print_gives, print_result, print_typed};
+use crate::function::{print_gives, print_typed};
 use isle_core::{ReturnKind, Text};
 use isle_printer::Printer;
 use isle_tree::{TraitFn, Ty};
@@ -54,12 +55,55 @@ fn print_joined(out: &mut Printer, params: &[Ty]) -> Result<(), AllocError>
     out.mark(")")
 }
 
-// Prints the type of the one result.
+// Prints the types of a tuple, and what closes them.
+#[tactic(auto, using(crate::proofs::Names::identifier_is_word))]
+fn print_joined_types(out: &mut Printer, tys: &[Text]) -> Result<(), AllocError>
+    requires { AreResults tys.now }
+    ensures { OnOk result (out.new ≡ out.old ++ joined_types 0 tys.now) }
+{
+    for (i, ty) in tys.iter().enumerate() {
+        print_comma(out, i)?;
+        out.word(ty.as_str())?;
+    }
+    out.mark(")")
+}
+
+// Prints a tuple of the types.
+fn print_tuple(out: &mut Printer, tys: &[Text]) -> Result<(), AllocError>
+    requires { AreResults tys.now }
+    ensures { OnOk result (out.new ≡ out.old ++ Mark (codes "(") ∷ joined_types 0 tys.now) }
+{
+    out.mark("(")?;
+    print_joined_types(out, tys)
+}
+
+// Prints the type of an answer's results: the one, or a tuple of none or several.
+#[tactic(auto, using(crate::proofs::Names::identifier_is_word))]
+fn print_item(out: &mut Printer, tys: &[Text]) -> Result<(), AllocError>
+    requires { AreResults tys.now }
+    ensures { OnOk result (out.new ≡ out.old ++ item_tokens tys.now) }
+{
+    match tys {
+        [ty] => out.word(ty.as_str()),
+        [] | [_, _, ..] => print_tuple(out, tys),
+    }
+}
+
+// Prints what a function of the trait gives.
 fn print_results(out: &mut Printer, kind: ReturnKind, tys: &[Text]) -> Result<(), AllocError>
     requires { AreResults tys.now }
     ensures { OnOk result (out.new ≡ out.old ++ results_tokens kind tys.now) }
 {
-    print_result(out, kind, tys[0].as_str())
+    match kind {
+        ReturnKind::Plain => print_item(out, tys),
+        ReturnKind::Option => {
+            out.word("Option")?;
+            out.mark("<")?;
+            print_item(out, tys)?;
+            out.mark(">")
+        }
+        ReturnKind::Iterator => Ok(()),
+    }
 }
 
 // Prints `-> RESULT;`.

@@ -53,6 +53,16 @@ fn print_try(out: &mut Printer, o: &Operand, as_ref: bool) -> Result<(), AllocEr
     out.mark("?")
 }
 
+// Prints a part of a tuple.
+fn print_part(out: &mut Printer, source: &Operand, part: usize) -> Result<(), AllocError>
+    requires { IsOperand source.now }
+    ensures { OnOk result (out.new ≡ out.old ++ expr_tokens (TExpr.Tuple source.now part)) }
+{
+    print_operand(out, source)?;
+    out.mark(".")?;
+    out.numbered("", part)
+}
+
 /// Prints what a `let` or a `return` computes. What is printed after an error is left open.
 pub fn print_expr(out: &mut Printer, e: &TExpr) -> Result<(), AllocError>
     requires { IsExpr e.now }
@@ -69,6 +79,6 @@ pub fn print_expr(out: &mut Printer, e: &TExpr) -> Result<(), AllocError>
             fields,
         } => print_variant_made(out, ty.as_str(), variant.as_str(), fields.as_slice()),
         TExpr::Struct { ty, fields } => print_struct_made(out, ty.as_str(), fields.as_slice()),
-        TExpr::Tuple(..) => Ok(()),
+        TExpr::Tuple(source, part) => print_part(out, source, *part),
     }
 }

@@ -91,9 +91,9 @@ fn print_params(out: &mut Printer, params: &[Ty]) -> Result<(), AllocError>
     out.mark(")")
 }
 
-/// Prints what a function gives. What is printed after an error is left open.
+// Prints what a function gives.
 #[tactic(auto, using(crate::proofs::Names::identifier_is_word))]
-pub fn print_result(out: &mut Printer, kind: ReturnKind, ty: &str) -> Result<(), AllocError>
+fn print_result(out: &mut Printer, kind: ReturnKind, ty: &str) -> Result<(), AllocError>
     requires { IsIdentifier ty.now }
     ensures { OnOk result (out.new ≡ out.old ++ result_tokens kind ty.now) }
 {

@@ -244,7 +244,20 @@ abbrev pub run_struct : ℕ → List ℕ → Option FieldValues → Env → Stat
 run_struct n ty None env s = Stuck
 run_struct n ty (Some fs) env s = Goes (bind env n (a_value (Struct ty fs))) s
 
--- a let binds what is computed; a & means the value. Parts of tuples are not built
+-- the value of a part of a tuple, where it has that part
+abbrev pub part_of : ℕ → Held → Option Value
+part_of part (One (AValue v)) = None
+part_of part (One (ATuple vs)) = slice_get vs part
+part_of part Absent = None
+part_of part (Optional o) = None
+part_of part (Listed is) = None
+
+-- a local bound to a value, where it is there
+abbrev pub run_part : ℕ → Option Value → Env → State → Flow
+run_part n None env s = Stuck
+run_part n (Some v) env s = Goes (bind env n (a_value v)) s
+
+-- a let binds what is computed; a & means the value
 abbrev pub run_let : Around → ℕ → TExpr → Env → State → Flow
 run_let w n (expr.Read r) env s = run_bind n (read_value w env r) env s
 run_let w n (expr.Some r) env s = on_value (read_value w env r) (λ v. Goes (bind env n (an_option (Some v))) s)
@@ -252,7 +265,7 @@ run_let w n (expr.Call borrow call) env s = run_call w n call.callee (read_value
 run_let w n (expr.Try source as_ref) env s = run_try n (value_of w env source) env s
 run_let w n (expr.Variant ty variant fields) env s = run_variant n ty variant (read_fields w env fields) env s
 run_let w n (expr.Struct ty fields) env s = run_struct n ty (read_fields w env fields) env s
-run_let w n (expr.Tuple source part) env s = Stuck
+run_let w n (expr.Tuple source part) env s = run_part n (part_of part (value_of w env source)) env s
 
 -- the function ends with the value or the option of one that a place holds
 abbrev pub ends_with : Held → State → Flow

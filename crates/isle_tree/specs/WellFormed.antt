@@ -12,6 +12,7 @@ use Rattle.isle_core.specs.declared.types.ReturnKind.TheVariants as kind
 use Rattle.isle_printer.specs.Token.{is_word_byte}
 use Rattle.isle_tree.specs.declared.holds.Holds.{Holds}
 use Rattle.isle_tree.specs.declared.holds.Holds.TheVariants as holds
+use Rattle.isle_tree.specs.declared.holds.Item.{Item}
 use Rattle.isle_tree.specs.declared.holds.Item.TheVariants as item
 use Rattle.isle_tree.specs.declared.tree.Ty.{Ty}
 use Rattle.isle_tree.specs.declared.tree.TCall.{TCall}
@@ -65,8 +66,7 @@ pub record IsCall (call : TCall) : Type 0 where
 abbrev pub IsFieldRead : List ℕ × Read → Type 0
 IsFieldRead f = IsFieldName f.0 × IsRead f.1
 
--- what is computed: a read, a call, a made value, an option, or the inner value of one; a struct without fields is a name, and parts
--- of tuples are not built
+-- what is computed: a read, a call, a made value, an option, the inner value of one, or a part of a tuple; a struct without fields is a name
 abbrev pub IsExpr : TExpr → Type 0
 IsExpr (expr.Read r) = IsRead r
 IsExpr (expr.Call borrow call) = IsCall call
@@ -74,7 +74,7 @@ IsExpr (expr.Some r) = IsRead r
 IsExpr (expr.Try source as_ref) = IsOperand source
 IsExpr (expr.Variant ty variant fields) = IsIdentifier ty × IsIdentifier variant × AllByRecursion IsFieldRead fields
 IsExpr (expr.Struct ty fields) = IsIdentifier ty × (0 < length fields) × AllByRecursion IsFieldRead fields
-IsExpr (expr.Tuple o n) = ⊥
+IsExpr (expr.Tuple source part) = IsOperand source
 
 -- a constant of a pattern: an operand that is no local and no argument
 abbrev pub IsConstant : Operand → Type 0
@@ -157,11 +157,17 @@ is_value (Some (holds.Several x)) = false
 abbrev pub are_values : ℕ → Locals → List Read → Bool
 are_values params bound rs = list_all (λ r. is_value (read_holds params bound r)) rs
 
+-- what an answer has: a value where there is one result, else a tuple
+abbrev pub results_item : List (List ℕ) → Item
+results_item [] = item.Tuple 0
+results_item (ty ∷ []) = item.Value
+results_item (ty ∷ more ∷ tys) = item.Tuple (length (ty ∷ more ∷ tys))
+
 -- what the answer of a function of the kind holds; several answers are not built
-abbrev pub kind_holds : ReturnKind → Option Holds
-kind_holds kind.Plain = Some (holds.One item.Value)
-kind_holds kind.Option = Some (holds.Optional item.Value)
-kind_holds kind.Iterator = None
+abbrev pub kind_holds : ReturnKind → Item → Option Holds
+kind_holds kind.Plain x = Some (holds.One x)
+kind_holds kind.Option x = Some (holds.Optional x)
+kind_holds kind.Iterator x = None
 
 -- the function of the trait of this name
 abbrev pub trait_fn : List TraitFn → List ℕ → Option TraitFn
@@ -170,7 +176,7 @@ trait_fn fns name = find (λ (f : TraitFn). bytes_eq name f.name) fns
 -- the answer of a function of the trait, called with as many arguments as it has parameters
 abbrev pub call_holds : Option TraitFn → ℕ → Option Holds
 call_holds None count = None
-call_holds (Some f) count = if length f.params == count then kind_holds f.kind else None
+call_holds (Some f) count = if length f.params == count then kind_holds f.kind (results_item f.results) else None
 
 -- the answer of what is called; calls of functions of the text are not built
 abbrev pub callee_holds : List TraitFn → Callee → ℕ → Option Holds
@@ -192,7 +198,15 @@ are_field_values params bound fs = list_all (λ (f : List ℕ × Read). is_value
 abbrev pub made_holds : Bool → Option Holds
 made_holds good = if good then Some (holds.One item.Value) else None
 
--- what is computed holds, where each operand holds what is asked of it; parts of tuples are not built
+-- a part of a tuple with that part
+abbrev pub part_holds : ℕ → Option Holds → Option Holds
+part_holds part None = None
+part_holds part (Some (holds.One item.Value)) = None
+part_holds part (Some (holds.One (item.Tuple count))) = if nat_lt part count then Some (holds.One item.Value) else None
+part_holds part (Some (holds.Optional x)) = None
+part_holds part (Some (holds.Several x)) = None
+
+-- what is computed holds, where each operand holds what is asked of it
 abbrev pub expr_holds : List TraitFn → ℕ → Locals → TExpr → Option Holds
 expr_holds fns params bound (expr.Read r) = read_holds params bound r
 expr_holds fns params bound (expr.Call borrow call) = if are_values params bound call.args then callee_holds fns call.callee (length call.args) else None
@@ -200,7 +214,7 @@ expr_holds fns params bound (expr.Some r) = if is_value (read_holds params bound
 expr_holds fns params bound (expr.Try source as_ref) = inner_holds (operand_holds params bound source)
 expr_holds fns params bound (expr.Variant ty variant fields) = made_holds (are_field_values params bound fields)
 expr_holds fns params bound (expr.Struct ty fields) = made_holds (are_field_values params bound fields)
-expr_holds fns params bound (expr.Tuple o n) = None
+expr_holds fns params bound (expr.Tuple source part) = part_holds part (operand_holds params bound source)
 
 -- ---- each operand of a statement is in scope
 
@@ -379,11 +393,9 @@ IsKind kind.Plain = Unit {0}
 IsKind kind.Option = Unit {0}
 IsKind kind.Iterator = ⊥
 
--- the results of a function of the trait: one
+-- the results of a function of the trait: one, several or none
 abbrev pub AreResults : List (List ℕ) → Type 0
-AreResults [] = ⊥
-AreResults (name ∷ []) = IsIdentifier name
-AreResults (name ∷ more ∷ names) = ⊥
+AreResults names = AllByRecursion IsIdentifier names
 
 -- a function of the trait
 pub record IsTraitFn (f : TraitFn) : Type 0 where

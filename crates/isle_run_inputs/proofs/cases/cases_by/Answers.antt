@@ -10,5 +10,5 @@ pub returns : goal.returns
 returns c = λ env e.
     let made : c.new-2.result ≡ c.in_ok-cases.cases.items = search rules in
     cases_made env c.in-Some.term.now c.args.callee.now c.in_ok-callee.callee c.args.cases.now c.args.rest.now c.new-2.result c.in_ok-rest.rest c.in_ok-callee.ensures (ap (map case) made ∙ c.in_ok-cases.ensures env e)
-    (c.in_ok-rest.ensures env e ∙ ap (λ ty. answer_at env ty (answer_seen c.args.rest.now)) c.given_type.ensures)
+    (c.in_ok-rest.ensures env e ∙ ap (λ tys. answer_at env tys (answer_seen c.args.rest.now)) c.as_slice.ensures)
     ∙ ap (λ t. cases_by env (option_copied t) c.args.callee.now (map case_seen c.args.cases.now) (answer_seen c.args.rest.now)) (sym c.in-Some.is)

@@ -9,4 +9,4 @@ use Rattle.isle_run_inputs.proofs.turns.all_at.Given as goal
 abbrev pub invariant-loop-form : goal.invariant-loop-form
 invariant-loop-form l =
     (env : Environment) → env.types ≡ l.fn.makers
-    → map (λ (a : AnswerForm). answer_at env l.fn.ty (answer_seen a)) l.fn.forms ≡ map answer l.found.items ++ map (λ (a : AnswerForm). answer_at env l.fn.ty (answer_seen a)) (drop l.form-index l.fn.forms)
+    → map (λ (a : AnswerForm). answer_at env l.fn.tys (answer_seen a)) l.fn.forms ≡ map answer l.found.items ++ map (λ (a : AnswerForm). answer_at env l.fn.tys (answer_seen a)) (drop l.form-index l.fn.forms)

@@ -6,10 +6,10 @@ use Rattle.isle_declarations.specs.Signatures.{signatures, externs, extractors, 
 use Rattle.isle_declarations.specs.Tables.{any_repeat}
 use Rattle.isle_declarations.specs.Terms.{terms}
 use Rattle.isle_sema.specs.Environment.{whole_of, terms_pass}
-use Rattle.isle_sema.specs.Language.{is_built_def, gives_one}
+use Rattle.isle_sema.specs.Language.{is_built_def}
 use Rattle.isle_sema.specs.Tests.{is_misdeclared, has_undeclared, has_unknown, is_headless}
 use Rattle.isle_sema.specs.Taken.{taken_rules}
-use Rattle.isle_sema.proofs.Givings.{unformed_untyped, misdeclared_untyped, repeated_untyped, undeclared_untyped, unknown_untyped, several_untyped, headless_untyped, unmade_untyped, untaken_untyped, parts_of, given_typed, over_types}
+use Rattle.isle_sema.proofs.Givings.{unformed_untyped, misdeclared_untyped, repeated_untyped, undeclared_untyped, unknown_untyped, headless_untyped, unmade_untyped, untaken_untyped, parts_of, given_typed, over_types}
 use Rattle.isle_sema.proofs.term_env.term_env.Goals as goal
 
 pub returns-then-not-are_built_forms-clause-err : goal.returns-then-not-are_built_forms-clause-err
@@ -42,12 +42,6 @@ returns-then-has_unknown-clause-err c =
     let wrong : has_unknown (signatures defs) (extractors defs) ≡ true = search rules in
     (c.requires.sound, λ t. unknown_untyped defs wrong t.0 t.1)
 
-pub returns-then-not-all_give_one-clause-err : goal.returns-then-not-all_give_one-clause-err
-returns-then-not-all_give_one-clause-err c =
-    let defs = seen c.args.declarations.now in
-    let several : list_all (gives_one (signatures defs)) (extractors defs) ≡ false = search rules in
-    (c.requires.sound, λ t. several_untyped defs several t.0 t.1)
-
 pub returns-then-has_misfit_head-clause-err : goal.returns-then-has_misfit_head-clause-err
 returns-then-has_misfit_head-clause-err c =
     let defs = seen c.args.declarations.now in
@@ -74,13 +68,12 @@ returns-clause-ok c =
     let apart : any_repeat defs ≡ false = search rules in
     let known : has_undeclared (signatures defs) (externs defs) ≡ false = search rules in
     let extracted : has_unknown (signatures defs) (extractors defs) ≡ false = search rules in
-    let single : list_all (gives_one (signatures defs)) (extractors defs) ≡ true = search rules in
     let heads : list_any (is_headless (signatures defs) (externs defs)) (rule_defs defs) ≡ false = search rules in
     let made : Some c.new.result ≡ terms_pass (whole_of defs) (terms defs) = search rules in
     let given : Some (map elaborated_rule c.in-Some-2.rules.items) ≡ taken_rules (whole_of defs) 0 (rule_defs defs) = search rules in
     let items : c.new-2.result ≡ c.in-Some-2.rules.items = search rules in
     over_types _ c.requires.types
-    (given_typed defs _ forms single c.requires.sound (parts_of defs declared apart known extracted heads) (sym made) (sym (ap (λ rs. Some (map elaborated_rule rs)) items ∙ given)) (search rules))
+    (given_typed defs _ forms c.requires.sound (parts_of defs declared apart known extracted heads) (sym made) (sym (ap (λ rs. Some (map elaborated_rule rs)) items ∙ given)) (search rules))
 
 pub rules_of-requires : goal.rules_of-requires
 rules_of-requires c =

@@ -1,5 +1,5 @@
--- Each extractor of typed definitions gives one result, so that their patterns take apart what types make, or look at one result.
-use Rattle.std.proofs.Common.{◌≡◌, ℕ, List, [], ◌∷◌, length, true, false, Option, Some, None, refl, sym, ap, ◌∙◌, subst}
+-- What a typed pattern's term takes values apart into: the fields of what a type makes, or what an extractor gives.
+use Rattle.std.proofs.Common.{◌≡◌, ℕ, List, length, true, false, Option, Some, None, refl, sym, ap, ◌∙◌, subst}
 use Rattle.std.specs.Prelude.{option_map, slice_get}
 use Rattle.std.proofs.lemmas.Option.{same_Some}
 use Rattle.isle_core.specs.declared.TermId.{TermId}
@@ -18,13 +18,6 @@ use Rattle.isle_core.specs.Opening.{Opening, AsVariant, AsStruct, ByExtractor, o
 use Rattle.isle_core.specs.PatternType.{OpensType, part_types}
 use Rattle.isle_core.specs.Rule.{Environment}
 use Rattle.isle_core.specs.Terms.{sym_text}
-use Rattle.isle_ast.specs.Tree.{Def}
-use Rattle.isle_sema.specs.Typing.{Typed}
-use Rattle.isle_sema.proofs.TypedSingle.{typed_single}
-
--- each extractor of the environment gives one result
-abbrev pub SingleExtractors : Environment → Type 0
-SingleExtractors env = (i : ℕ) (t : Term) → slice_get env.terms i ≡ Some t → IsExtractorKind t.kind → (ty : TypeId) × (t.arg_tys ≡ ty ∷ [])
 
 -- a call of an external extractor that always finds something, or that may find nothing
 pub data IsFinding : Calling → Type 0 where
@@ -37,49 +30,39 @@ finding_kind env (kind.Decl pure false partial recursive by (extractor.External 
 finding_kind env (kind.Decl pure false partial recursive by (extractor.External func false)) h = may_find (sym_text env func)
 finding_kind env k h = absurd h
 
--- an extractor that takes values of the type apart into one result
-pub record IsSingle (env : Environment) (ty : TypeId) (term : TermId) (c : Calling) (count : ℕ) (tys : List TypeId) : Type 0 where
+-- an extractor that takes values of the type apart into results of these types
+pub record IsExtracting (env : Environment) (ty : TypeId) (term : TermId) (c : Calling) (count : ℕ) (tys : List TypeId) : Type 0 where
   pub called : Term
   pub found : slice_get env.terms term.0 ≡ Some called
   pub taken : called.ret_ty ≡ ty
-  pub part : TypeId
-  pub gives : called.arg_tys ≡ part ∷ []
-  pub types : tys ≡ part ∷ []
-  pub one : count ≡ 1
+  pub gives : called.arg_tys ≡ tys
+  pub many : count ≡ length tys
   pub is : extracting env term ≡ c
   pub finding : IsFinding c
 
--- values of the type are taken apart into parts of these types: the fields of a form, or one result
+-- values of the type are taken apart into parts of these types: the fields of a form, or results
 abbrev pub OpensInto : Environment → TypeId → Opening → List TypeId → Type 0
 OpensInto env ty (AsVariant of variant) tys = (of ≡ ty) × (option_map (form_types env) (form env (MakesVariant of variant)) ≡ Some tys)
 OpensInto env ty (AsStruct of) tys = (of ≡ ty) × (option_map (form_types env) (form env (MakesStruct of)) ≡ Some tys)
-OpensInto env ty (ByExtractor term c count) tys = IsSingle env ty term c count tys
+OpensInto env ty (ByExtractor term c count) tys = IsExtracting env ty term c count tys
 
-opens_by : (env : Environment) → SingleExtractors env → (ty : TypeId) (term : TermId) (mk : Making) (c : Calling) (o : Option Term) (tys : List TypeId) → slice_get env.terms term.0 ≡ o → extracting env term ≡ c → OpensType ty mk o → part_types env mk o ≡ Some tys
+opens_by : (env : Environment) (ty : TypeId) (term : TermId) (mk : Making) (c : Calling) (o : Option Term) (tys : List TypeId) → slice_get env.terms term.0 ≡ o → extracting env term ≡ c → OpensType ty mk o → part_types env mk o ≡ Some tys
     → OpensInto env ty (opening_by term mk c o) tys
-opens_by env single ty term (MakesVariant of variant) c o tys at called is e = (is, e)
-opens_by env single ty term (MakesStruct of) c o tys at called is e = (is, e)
-opens_by env single ty term MakesNothing c None tys at called is e = absurd is
-opens_by env single ty term MakesNothing c (Some t) tys at called is e =
-    let one = single term.0 t at is.0 in
+opens_by env ty term (MakesVariant of variant) c o tys at called is e = (is, e)
+opens_by env ty term (MakesStruct of) c o tys at called is e = (is, e)
+opens_by env ty term MakesNothing c None tys at called is e = absurd is
+opens_by env ty term MakesNothing c (Some t) tys at called is e =
+    let gives = same_Some t.arg_tys tys e in
     record {
       called = t;
       found = at;
       taken = is.1;
-      part = one.0;
-      gives = one.1;
-      types = sym (same_Some t.arg_tys tys e) ∙ one.1;
-      one = ap length one.1;
+      gives = gives;
+      many = ap length gives;
       is = called;
       finding = subst IsFinding (sym (ap (extracting_of env) at) ∙ called) (finding_kind env t.kind is.0);
     }
 
 -- so a typed pattern's term takes values apart
-pub opens_into : (env : Environment) → SingleExtractors env → (ty : TypeId) (term : TermId) (tys : List TypeId) → OpensType ty (making env term) (slice_get env.terms term.0) → part_types env (making env term) (slice_get env.terms term.0) ≡ Some tys → OpensInto env ty (opening env term) tys
-opens_into env single ty term tys is e = opens_by env single ty term (making env term) (extracting env term) (slice_get env.terms term.0) tys refl refl is e
-
--- ---- where definitions are typed
-
--- each of their extractors gives one result
-pub single_extractors : (defs : List Def) (env : Environment) → Typed defs env → SingleExtractors env
-single_extractors defs env h i t at k = typed_single defs env i t h at k
+pub opens_into : (env : Environment) (ty : TypeId) (term : TermId) (tys : List TypeId) → OpensType ty (making env term) (slice_get env.terms term.0) → part_types env (making env term) (slice_get env.terms term.0) ≡ Some tys → OpensInto env ty (opening env term) tys
+opens_into env ty term tys is e = opens_by env ty term (making env term) (extracting env term) (slice_get env.terms term.0) tys refl refl is e
